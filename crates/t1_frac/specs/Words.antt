@@ -1,0 +1,23 @@
+-- Blanks and words of a line.
+use Rattle.std.specs.Prelude.{ℕ, Bool, false, not, ◌||◌, ◌==◌, if◌then◌else◌, List, [], ◌∷◌, drop}
+use Rattle.std.specs.List.{onto_first, prefix_len}
+
+-- profile, lines: blanks are the bytes 0, 9, 12 and 32
+abbrev pub is_blank : ℕ → Bool
+is_blank c = c == 0 || c == 9 || c == 12 || c == 32
+
+-- profile, lines: without the blanks at the front
+abbrev pub trimmed_front : List ℕ → List ℕ
+trimmed_front l = drop (prefix_len is_blank l) l
+
+-- whether a word that has come this far goes on
+abbrev pub word_goes_on : List ℕ → Bool
+word_goes_on [] = false
+word_goes_on (c ∷ rest) = not (is_blank c)
+
+-- profile, words: the longest runs of bytes that aren't blanks
+abbrev pub words : List ℕ → List (List ℕ)
+words [] = []
+words (c ∷ rest) =
+    if is_blank c then words rest
+    else (if word_goes_on rest then onto_first c (words rest) else (c ∷ []) ∷ words rest)

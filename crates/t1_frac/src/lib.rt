@@ -1,0 +1,10 @@
+//! What all layers of the assembler share: bytes and words as contracts see them, and the faults they tell.
+#![tactic(auto)]
+
+mod bytes;
+mod fault;
+mod words;
+
+pub use bytes::Bytes;
+pub use fault::{Code, Fault, Place, Refusal};
+pub use words::{Words, is_blank, next_word, skip_blanks};

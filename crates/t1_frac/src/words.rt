@@ -1,0 +1,95 @@
+ghost use Rattle.std.specs.Prelude.{◌≡◌, ◌≤◌, ◌<◌, [], ◌∷◌, ◌++◌, length, IfSome, MatchOption, OnOk};
+ghost use Rattle.std.specs.List.{prefix_len, position_or_len};
+ghost use Rattle.t1_frac.specs.Words.{is_blank, trimmed_front, words};
+
+use std::alloc::{AllocError, Global};
+use std::marker::Model;
+
+/// The words of an entry's body, kept as one run of bytes with blanks between them. Contracts see the list of
+/// the words.
+#[derive(Debug, Drop)]
+pub struct Words {
+    bytes: Vec<u8>,
+}
+
+impl Model for Words {
+    ghost use Rattle.std.specs.Prelude.{List, ℕ};
+    ghost use Rattle.t1_frac.specs.Words.{words};
+
+    ghost Value = { List (List ℕ) };
+
+    ghost view = { λ run. words run.bytes.items };
+}
+
+impl Words {
+    /// No words.
+    pub fn new(alloc: Global) -> Self
+        ensures { result ≡ [] }
+    {
+        Words {
+            bytes: Vec::new(alloc),
+        }
+    }
+
+    /// Bytes whose words these are, with blanks between them.
+    pub fn as_bytes(&self) -> &[u8]
+        ensures { words result.now ≡ self.now }
+    {
+        self.bytes.as_slice()
+    }
+
+    /// Adds the words of a line.
+    pub fn push_line(&mut self, line: &[u8]) -> Result<(), AllocError>
+        ensures { OnOk result (self.new ≡ self.old ++ words line.now) }
+    {
+        self.bytes.push(b' ')?;
+        self.bytes.extend_from_slice(line)?;
+        Ok(())
+    }
+}
+
+/// Whether a byte is a blank: 0, a tab, a form feed or a space.
+pub fn is_blank(byte: u8) -> bool
+    ensures { result ≡ is_blank byte }
+{
+    matches!(byte, 0 | 9 | 12 | 32)
+}
+
+/// How many blanks stand at the front.
+fn blank_len(line: &[u8]) -> usize
+    ensures within { result ≤ length line.now }
+    ensures value { result ≡ prefix_len is_blank line.now }
+{
+    line.iter().take_while(|byte| is_blank(**byte)).count()
+}
+
+/// A line without the blanks at its front.
+pub fn skip_blanks(line: &[u8]) -> &[u8]
+    ensures { result.now ≡ trimmed_front line.now }
+{
+    line.split_at(blank_len(line)).1
+}
+
+/// How many bytes stand before the first blank.
+fn word_len(line: &[u8]) -> usize
+    ensures within { result ≤ length line.now }
+    ensures value { result ≡ position_or_len is_blank line.now }
+{
+    line.iter().take_while(|byte| !is_blank(**byte)).count()
+}
+
+/// The first word of a line, and the bytes after it; nothing where the line has no word.
+#[tactic(auto, using(crate::proofs::WordLaws::word_at, crate::proofs::WordLaws::word_shortens, crate::proofs::WordLaws::no_word_at))]
+pub fn next_word(line: &[u8]) -> Option<(&[u8], &[u8])>
+    ensures shorter { IfSome result (λ found. length found.1.now < length line.now) }
+    ensures value { MatchOption
+        result
+        (words line.now ≡ [])
+        (λ found. words line.now ≡ found.0.now ∷ words found.1.now) }
+{
+    let rest = skip_blanks(line);
+    if rest.is_empty() {
+        return None;
+    }
+    Some(rest.split_at(word_len(rest)))
+}
