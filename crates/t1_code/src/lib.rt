@@ -22,3 +22,6 @@ pub use encoding::standard_name;
 pub use parts::{OutError, Parts, Piece};
 pub use pfb::write_pfb;
 pub use words::compile;
+
+#[cfg(test)]
+mod tests;
