@@ -11,6 +11,7 @@ use command_line::command;
 use input::read_file;
 use status::{USAGE, ending};
 use std::env;
+use std::io;
 use std::process::ExitCode;
 use t1_code::Counted;
 use t1_session::{ServeError, assemble_source};
@@ -62,8 +63,12 @@ fn run(rt: &HostRuntime, words: &[String]) -> ExitCode {
 }
 
 fn main(rt: HostRuntime) -> ExitCode {
-    let Ok(args) = env::args(&rt) else {
-        return ExitCode::from(USAGE);
+    let args = match env::args(&rt) {
+        Ok(args) => args,
+        Err(error) if error.kind() == io::ErrorKind::OutOfMemory => {
+            return told(&rt, &ServeError::Memory);
+        }
+        Err(_) => return ExitCode::from(USAGE),
     };
     let Ok(words) = args.collect::<Vec<String>>(rt.alloc()) else {
         return told(&rt, &ServeError::Memory);
