@@ -1,0 +1,10 @@
+pub mod Counting
+pub mod Encrypting
+pub mod Fitting
+pub mod Framing
+pub mod Grammar
+pub mod Numbers
+pub mod Places
+pub mod Reading
+pub mod Rows
+pub mod Writing

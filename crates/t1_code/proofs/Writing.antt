@@ -1,0 +1,129 @@
+-- One write after another.
+use Rattle.std.proofs.Common.{◌≡◌, ℕ, ◌≤◌, List, [], ◌++◌, Option, take, drop, refl, sym, ap, ◌∙◌, append_assoc, append-nil, subst, Result, Ok, Err}
+use Rattle.std.specs.Result.{OnErr, OnOk}
+use Rattle.std.proofs.lemmas.List.{take-append-drop, take-take}
+use Rattle.std.proofs.KnownBytes.{Appends-trans, Appends-nil}
+use Rattle.std.specs.Io.KnownBytes.{Appends}
+use Rattle.t1_code.specs.Counted.{Tally, WritesAll, WritesFront, Outlet, outlet, Passes, Stops, one_more}
+
+-- The laws of a way to write, with All for a call that wrote all its bytes and Front for one that failed after a beginning of them.
+pub record IsWriting {S : Type 0} (All Front : S → S → List ℕ → Type 0) : Type 0 where
+  pub none : (a : S) → All a a []
+  pub join : (a b c : S) (xs ys : List ℕ) → All a b xs → All b c ys → All a c (xs ++ ys)
+  pub fails : (a b c : S) (xs ys : List ℕ) → All a b xs → Front b c ys → Front a c (xs ++ ys)
+  pub longer : (a b : S) (xs ys : List ℕ) → Front a b xs → Front a b (xs ++ ys)
+
+module _ {W : Type 0} (contents : W → Option (List ℕ)) where
+  WritesAll-nil : (w : Tally W) → WritesAll contents w w []
+  WritesAll-nil w = record { appends = Appends-nil (contents w.inner); failures = refl; turns = refl }
+
+  pub WritesAll-append : (a b c : Tally W) (xs ys : List ℕ) → WritesAll contents a b xs → WritesAll contents b c ys → WritesAll contents a c (xs ++ ys)
+  WritesAll-append a b c xs ys p q = record {
+    appends = Appends-trans _ _ _ xs ys p.appends q.appends;
+    failures = q.failures ∙ p.failures;
+    turns = q.turns ∙ p.turns;
+  }
+
+  -- what goes out first, and then a beginning of the next
+  pub WritesFront-append : (a b c : Tally W) (xs ys : List ℕ) → WritesAll contents a b xs → WritesFront contents b c ys → WritesFront contents a c (xs ++ ys)
+  WritesFront-append a b c xs ys p q = record {
+    appends = (xs ++ q.appends.0, q.appends.1, ap (λ l. xs ++ l) q.appends.2 ∙ sym (append_assoc xs q.appends.0 q.appends.1), Appends-trans _ _ _ xs q.appends.0 p.appends q.appends.3);
+    failures = q.failures ∙ ap one_more p.failures;
+    turns = q.turns ∙ p.turns;
+  }
+
+  -- a beginning of the bytes begins what they begin
+  pub WritesFront-longer : (a b : Tally W) (xs ys : List ℕ) → WritesFront contents a b xs → WritesFront contents a b (xs ++ ys)
+  WritesFront-longer a b xs ys p = record {
+    appends = (p.appends.0, p.appends.1 ++ ys, ap (λ l. l ++ ys) p.appends.2 ∙ append_assoc p.appends.0 p.appends.1 ys, p.appends.3);
+    failures = p.failures;
+    turns = p.turns;
+  }
+
+  -- straight to the writer
+  pub writing : IsWriting (WritesAll contents) (WritesFront contents)
+  writing = record { none = WritesAll-nil; join = WritesAll-append; fails = WritesFront-append; longer = WritesFront-longer }
+
+  Passes-nil : (a : Outlet W) → Passes contents a a []
+  Passes-nil a = record { sent = []; parts = append-nil a.waiting; writes = WritesAll-nil a.tally }
+
+  Passes-append : (a b c : Outlet W) (xs ys : List ℕ) → Passes contents a b xs → Passes contents b c ys → Passes contents a c (xs ++ ys)
+  Passes-append a b c xs ys p q = record {
+    sent = p.sent ++ q.sent;
+    parts = sym (append_assoc a.waiting xs ys) ∙ ap (λ l. l ++ ys) p.parts ∙ append_assoc p.sent b.waiting ys ∙ ap (λ l. p.sent ++ l) q.parts ∙ sym (append_assoc p.sent q.sent c.waiting);
+    writes = WritesAll-append a.tally b.tally c.tally p.sent q.sent p.writes q.writes;
+  }
+
+  Stops-append : (a b c : Outlet W) (xs ys : List ℕ) → Passes contents a b xs → Stops contents b c ys → Stops contents a c (xs ++ ys)
+  Stops-append a b c xs ys p q =
+      let same : p.sent ++ (b.waiting ++ ys) ≡ a.waiting ++ (xs ++ ys) = sym (append_assoc p.sent b.waiting ys) ∙ ap (λ l. l ++ ys) (sym p.parts) ∙ append_assoc a.waiting xs ys in
+      subst (WritesFront contents a.tally c.tally) same (WritesFront-append a.tally b.tally c.tally p.sent (b.waiting ++ ys) p.writes q)
+
+  Stops-longer : (a b : Outlet W) (xs ys : List ℕ) → Stops contents a b xs → Stops contents a b (xs ++ ys)
+  Stops-longer a b xs ys p =
+      subst (WritesFront contents a.tally b.tally) (append_assoc a.waiting xs ys) (WritesFront-longer a.tally b.tally (a.waiting ++ xs) ys p)
+
+  -- by way of a chunk that waits
+  pub passing : IsWriting (Passes contents) (Stops contents)
+  passing = record { none = Passes-nil; join = Passes-append; fails = Stops-append; longer = Stops-longer }
+
+  -- at the end what waits goes out too, and its call's result is handed on
+  pub Passes-sent : {T E : Type 0} (r : Result T E) (old : Tally W) (b : Outlet W) (new : Tally W) (bytes : List ℕ) → Passes contents (outlet old []) b bytes → OnOk r (WritesAll contents b.tally new b.waiting) → OnOk r (WritesAll contents old new bytes)
+  Passes-sent (Ok x) old b new bytes p q = subst (WritesAll contents old new) (sym p.parts) (WritesAll-append old b.tally new p.sent b.waiting p.writes q)
+  Passes-sent (Err e) old b new bytes p q = tt
+
+  pub Passes-unsent : {T E : Type 0} (r : Result T E) (old : Tally W) (b : Outlet W) (new : Tally W) (bytes : List ℕ) → Passes contents (outlet old []) b bytes → OnErr r (WritesFront contents b.tally new b.waiting) → OnErr r (WritesFront contents old new bytes)
+  Passes-unsent (Ok x) old b new bytes p q = tt
+  Passes-unsent (Err e) old b new bytes p q = subst (WritesFront contents old new) (sym p.parts) (WritesFront-append old b.tally new p.sent b.waiting p.writes q)
+
+module _ {S : Type 0} {All Front : S → S → List ℕ → Type 0} (laws : IsWriting All Front) where
+  -- a beginning of the bytes went out, and the rest is left
+  abbrev pub Written : S → S → List ℕ → List ℕ → Type 0
+  Written start now bytes rest = (done : List ℕ) × (bytes ≡ done ++ rest) × All start now done
+
+  pub Written-none : (w : S) (bytes : List ℕ) → Written w w bytes bytes
+  Written-none w bytes = ([], refl, laws.none w)
+
+  pub Written-from : (w : S) (bytes parts : List ℕ) → bytes ≡ parts → Written w w bytes parts
+  Written-from w bytes parts e = ([], e, laws.none w)
+
+  -- the front of the rest goes out too
+  pub Written-step : (start old new : S) (bytes front rest : List ℕ) → Written start old bytes (front ++ rest) → All old new front → Written start new bytes rest
+  Written-step start old new bytes front rest p q =
+      (p.0 ++ front, p.1 ∙ sym (append_assoc p.0 front rest), laws.join start old new p.0 front p.2 q)
+
+  -- a call fails within the front of the rest
+  pub Written-fails : (start old new : S) (bytes front rest : List ℕ) → Written start old bytes (front ++ rest) → Front old new front → Front start new bytes
+  Written-fails start old new bytes front rest p q =
+      subst (Front start new) (append_assoc p.0 front rest ∙ sym p.1)
+      (laws.longer start new (p.0 ++ front) rest (laws.fails start old new p.0 front p.2 q))
+
+  -- nothing is left
+  pub Written-all : (start new : S) (bytes : List ℕ) → Written start new bytes [] → All start new bytes
+  Written-all start new bytes p = subst (All start new) (sym (append-nil p.0) ∙ sym p.1) p.2
+
+  -- the last part goes out, and its call's result is handed on
+  pub Written-ends : {T E : Type 0} (r : Result T E) (start old new : S) (bytes last : List ℕ) → Written start old bytes last → OnOk r (All old new last) → OnOk r (All start new bytes)
+  Written-ends (Ok x) start old new bytes last p q =
+      Written-all start new bytes (Written-step start old new bytes last [] (subst (Written start old bytes) (sym (append-nil last)) p) q)
+  Written-ends (Err e) start old new bytes last p q = tt
+
+  pub Written-ends_failing : {T E : Type 0} (r : Result T E) (start old new : S) (bytes last : List ℕ) → Written start old bytes last → OnErr r (Front old new last) → OnErr r (Front start new bytes)
+  Written-ends_failing (Ok x) start old new bytes last p q = tt
+  Written-ends_failing (Err e) start old new bytes last p q =
+      Written-fails start old new bytes last [] (subst (Written start old bytes) (sym (append-nil last)) p) q
+
+-- one call took a beginning of what it was handed, which was a beginning of the rest
+pub Written-more : {W : Type 0} (contents : W → Option (List ℕ)) (start old new : Tally W) (bytes rest : List ℕ) (handed count : ℕ) → Written (writing contents) start old bytes rest
+    → count ≤ handed → Appends (contents old.inner) (contents new.inner) (take count (take handed rest)) → new.failures ≡ old.failures → new.turns ≡ old.turns
+    → Written (writing contents) start new bytes (drop count rest)
+Written-more contents start old new bytes rest handed count p within appends failures turns = (
+  p.0 ++ take count rest,
+  p.1 ∙ ap (λ l. p.0 ++ l) (sym (take-append-drop count rest)) ∙ sym (append_assoc p.0 (take count rest) (drop count rest)),
+  WritesAll-append contents start old new p.0 (take count rest) p.2 (record { appends = rw take-take at appends; failures = failures; turns = turns }),
+)
+
+-- a fact at an error
+pub at_error : {T E Q : Type 0} (r : Result T E) → Q → OnErr r Q
+at_error (Ok x) q = tt
+at_error (Err e) q = q

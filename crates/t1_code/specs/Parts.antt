@@ -1,0 +1,40 @@
+-- What contracts see of the parts of a PFB file, and of a text that is written.
+use Rattle.std.specs.Prelude.{length, ◌≡◌, ℕ, List, Option, Result, Ok, Err}
+use Rattle.std.specs.List.{flat_map}
+use Rattle.std.specs.Borrow.{Bor}
+use Rattle.t1_frac.specs.declared.fault.Fault.{Fault}
+use Rattle.t1_code.specs.declared.parts.OutError.{OutError}
+use Rattle.t1_code.specs.declared.parts.OutError.TheVariants as out
+use Rattle.t1_code.specs.declared.parts.Parts.{Parts}
+use Rattle.t1_code.specs.declared.parts.Piece.{Piece}
+use Rattle.t1_code.specs.declared.parts.Piece.TheVariants.{Plain, Entry}
+use Rattle.t1_code.specs.Counted.{Tally, WritesAll, WritesFront}
+use Rattle.t1_code.specs.Pfb.{entry_text, pfb_of, whole_file}
+
+-- Type 1 Font Format, Chapter 2: the bytes of a piece of the private text
+abbrev pub piece_text : Piece → List ℕ
+piece_text (Plain bytes) = bytes.now
+piece_text (Entry head operator charstring closing) = entry_text head.now operator.now charstring.now closing.now
+
+abbrev pub charstring_length : Piece → ℕ
+charstring_length (Plain bytes) = 0
+charstring_length (Entry head operator charstring closing) = length charstring.now
+
+-- the bytes of slices, one after another
+abbrev pub bytes_of : List (Bor (List ℕ)) → List ℕ
+bytes_of slices = flat_map (λ slice. slice.now) slices
+
+-- profile: the private text is its pieces, one after another
+abbrev pub private_text : Parts → List ℕ
+private_text parts = flat_map piece_text parts.pieces.now
+
+-- the PFB file of the parts, each part in one segment
+abbrev pub file_of : Parts → Result (List ℕ) Fault
+file_of parts = pfb_of whole_file parts.clear.now (private_text parts) parts.trailer.now
+
+-- A call that writes a text: the whole text at Ok; a beginning of it and a failed call at Write; nothing at a fault, which is the text's own; and nothing where memory ran out.
+abbrev pub Prints : {W T : Type 0} → (W → Option (List ℕ)) → Tally W → Tally W → Result (List ℕ) Fault → Result T OutError → Type 0
+Prints contents old new text (Ok done) = (whole : List ℕ) × (text ≡ Ok whole) × WritesAll contents old new whole
+Prints contents old new text (Err out.Write) = (whole : List ℕ) × (text ≡ Ok whole) × WritesFront contents old new whole
+Prints contents old new text (Err (out.Fault fault)) = (text ≡ Err fault) × (new ≡ old)
+Prints contents old new text (Err out.Memory) = new ≡ old

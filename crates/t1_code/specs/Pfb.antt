@@ -1,0 +1,55 @@
+-- The PFB file of a font program (Adobe Technical Note 5040, 3.3).
+use Rattle.std.specs.Prelude.{ℕ, zero, suc, ◌-◌, ◌^◌, Bool, ◌||◌, nat_lt, if◌then◌else◌, List, [], ◌∷◌, ◌++◌, length, decimal, Result, Ok, Err}
+use Rattle.std.specs.Int.{w32, to_le_bytes}
+use Rattle.std.specs.List.{flat_map, onto_first}
+use Rattle.t1_frac.specs.declared.fault.Code.TheVariants.{F23}
+use Rattle.t1_frac.specs.declared.fault.Fault.{Fault}
+use Rattle.t1_frac.specs.declared.fault.Place.TheVariants.{Nowhere}
+use Rattle.t1_frac.specs.Outcome.{fault_at}
+use Rattle.t1_code.specs.Cipher.{eexec}
+
+-- profile: a closing text stands behind a space
+abbrev pub closing_text : List ℕ → List ℕ
+closing_text [] = []
+closing_text (byte ∷ bytes) = 32 ∷ byte ∷ bytes
+
+-- Type 1 Font Format, Chapter 2: the line of an entry: its number or name, the length of its binary data, the operator that reads them, the data, the closing text
+abbrev pub entry_text : List ℕ → List ℕ → List ℕ → List ℕ → List ℕ
+entry_text head operator charstring closing =
+    head ++ 32 ∷ decimal (length charstring) ++ 32 ∷ operator ++ 32 ∷ charstring ++ closing_text closing ++ 10 ∷ []
+
+-- Technical Note 5040, 3.3: a segment is 128, its type, its length with the low byte first, and its bytes
+abbrev pub segment_head : ℕ → ℕ → List ℕ
+segment_head kind count = 128 ∷ kind ∷ to_le_bytes w32 count
+
+unfoldable pub segment : ℕ → List ℕ → List ℕ
+segment kind bytes = segment_head kind (length bytes) ++ bytes
+
+-- the bytes in blocks of this size, the last with the rest, where the first block has this much room left
+abbrev pub blocks_from : ℕ → ℕ → List ℕ → List (List ℕ)
+blocks_from size room [] = [] ∷ []
+blocks_from size zero (byte ∷ bytes) = [] ∷ onto_first byte (blocks_from size (size - 1) bytes)
+blocks_from size (suc room) (byte ∷ bytes) = onto_first byte (blocks_from size room bytes)
+
+-- profile: a part is cut into segments of its type with blocks of one size
+unfoldable pub segments : ℕ → ℕ → List ℕ → List ℕ
+segments size kind bytes = flat_map (segment kind) (blocks_from size size bytes)
+
+-- Technical Note 5040, 3.3: ASCII segments, binary segments, ASCII segments, and the end of the file
+unfoldable pub pfb : ℕ → List ℕ → List ℕ → List ℕ → List ℕ
+pfb size clear private trailer = segments size 1 clear ++ segments size 2 (eexec private) ++ segments size 1 trailer ++ 128 ∷ 3 ∷ []
+
+-- profile: the largest block, which holds each part whole
+abbrev pub whole_file : ℕ
+whole_file = 2 ^ 31 - 1
+
+-- profile: a part has at most 2^31 - 1 bytes
+abbrev pub is_too_long : List ℕ → Bool
+is_too_long bytes = nat_lt (2 ^ 31 - 1) (length bytes)
+
+-- the file of the three parts in blocks of this size, or why there is none
+abbrev pub pfb_of : ℕ → List ℕ → List ℕ → List ℕ → Result (List ℕ) Fault
+pfb_of size clear private trailer =
+    if is_too_long clear || is_too_long (eexec private) || is_too_long trailer
+    then Err (fault_at Nowhere F23)
+    else Ok (pfb size clear private trailer)

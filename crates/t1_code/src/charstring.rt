@@ -1,0 +1,128 @@
+//! Charstring code from commands.
+ghost use Rattle.std.specs.Prelude.{◌≡◌, ◌≤◌, ◌<◌, ◌+◌, ◌++◌, pos, ◌≤ℤ◌, neg_ℤ, IfOk, OnOk};
+ghost use Rattle.t1_frac.specs.Outcome.{Gives, told_at};
+ghost use Rattle.t1_frac.specs.declared.fault.Place.TheVariants.{Nowhere};
+ghost use Rattle.t1_code.specs.Cipher.{encrypted_charstring as encrypted};
+ghost use Rattle.t1_code.specs.Charstring.{two_bytes, number_bytes, command_bytes, operator_bytes, charstring, charstring_of_words};
+
+use crate::cipher::{CHARSTRING_KEY, Cipher};
+use crate::command::Command;
+use crate::words::compile;
+use std::alloc::{AllocError, Global};
+use t1_frac::{Refusal, Words};
+
+/// The two bytes of a size, behind the first byte of its kind.
+fn two_bytes_of(first: u8, size: u16) -> [u8; 2]
+    requires first { first ≤ 251 }
+    requires low { 108 ≤ size }
+    requires high { size ≤ 1131 }
+    ensures { result ≡ two_bytes first size }
+{
+    let rest = size - 108;
+    [first + (rest / 256) as u8, (rest % 256) as u8]
+}
+
+/// Adds the shortest spelling of a number.
+fn push_number(code: &mut Vec<u8>, number: i32) -> Result<(), AllocError>
+    ensures { OnOk result (code.new.items ≡ code.old.items ++ number_bytes number) }
+{
+    match number {
+        -107..=107 => code.extend_from_slice(&[(number + 139) as u8]),
+        108..=1131 => code.extend_from_slice(&two_bytes_of(247, number as u16)),
+        -1131..=-108 => code.extend_from_slice(&two_bytes_of(251, -number as u16)),
+        _ => {
+            code.extend_from_slice(&[255])?;
+            code.extend_from_slice(&number.to_be_bytes())
+        }
+    }
+}
+
+impl Command {
+    /// The bytes of a command. A number has none here.
+    fn operator(self) -> &'static [u8]
+        ensures { result.now ≡ operator_bytes self }
+    {
+        match self {
+            Command::Num(_) => &[],
+            Command::HStem => &[1],
+            Command::VStem => &[3],
+            Command::VMoveTo => &[4],
+            Command::RLineTo => &[5],
+            Command::HLineTo => &[6],
+            Command::VLineTo => &[7],
+            Command::RRCurveTo => &[8],
+            Command::ClosePath => &[9],
+            Command::CallSubr => &[10],
+            Command::Return => &[11],
+            Command::DotSection => &[12, 0],
+            Command::VStem3 => &[12, 1],
+            Command::HStem3 => &[12, 2],
+            Command::Seac => &[12, 6],
+            Command::Sbw => &[12, 7],
+            Command::Div => &[12, 12],
+            Command::CallOtherSubr => &[12, 16],
+            Command::Pop => &[12, 17],
+            Command::SetCurrentPoint => &[12, 33],
+            Command::Hsbw => &[13],
+            Command::EndChar => &[14],
+            Command::RMoveTo => &[21],
+            Command::HMoveTo => &[22],
+            Command::VHCurveTo => &[30],
+            Command::HVCurveTo => &[31],
+        }
+    }
+}
+
+/// Adds the bytes of a command.
+fn push_command(code: &mut Vec<u8>, command: Command) -> Result<(), AllocError>
+    ensures { OnOk result (code.new.items ≡ code.old.items ++ command_bytes command) }
+{
+    match command {
+        Command::Num(number) => push_number(code, number),
+        operator => code.extend_from_slice(operator.operator()),
+    }
+}
+
+/// Adds the charstring of commands.
+fn push_commands(code: &mut Vec<u8>, commands: &[Command]) -> Result<(), AllocError>
+    ensures { OnOk result (code.new.items ≡ code.old.items ++ charstring commands.now) }
+{
+    for command in commands {
+        push_command(code, *command)?;
+    }
+    Ok(())
+}
+
+/// The charstring of commands, not encrypted.
+pub fn charstring_of(alloc: Global, commands: &[Command]) -> Result<Vec<u8>, AllocError>
+    ensures { IfOk result (λ code. code.items ≡ charstring commands.now) }
+{
+    let mut code = Vec::new(alloc);
+    push_commands(&mut code, commands)?;
+    Ok(code)
+}
+
+/// The charstring of commands behind its leading bytes, encrypted as a font's private text holds it.
+pub fn encrypted_charstring(
+    alloc: Global,
+    lead: u8,
+    commands: &[Command],
+) -> Result<Vec<u8>, AllocError>
+    ensures { IfOk result (λ code. code.items ≡ encrypted lead (charstring commands.now)) }
+{
+    let mut code = vec![in alloc; 0; usize::from(lead)]?;
+    push_commands(&mut code, commands)?;
+    Cipher {
+        key: CHARSTRING_KEY,
+    }
+    .encrypt(&mut code);
+    Ok(code)
+}
+
+/// The charstring of a body's words, not encrypted, or the fault of the words as `compile` tells it.
+pub fn assemble(alloc: Global, words: &Words) -> Result<Vec<u8>, Refusal>
+    ensures { Gives (λ code. code.items) result (told_at Nowhere (charstring_of_words words.now)) }
+{
+    let body = compile(alloc, words)?;
+    Ok(charstring_of(alloc, body.commands())?)
+}

@@ -1,0 +1,56 @@
+//! The parts of a PFB file, and the file.
+
+use std::io;
+use t1_frac::Fault;
+use thiserror::Error;
+
+/// A piece of the private text.
+#[derive(Clone, Copy, Debug)]
+pub enum Piece<'a> {
+    /// Bytes as they stand.
+    Plain(&'a [u8]),
+    /// A line of its own: `head LEN operator charstring closing`.
+    Entry {
+        /// `dup N` or `/NAME`.
+        head: &'a [u8],
+        /// The name of the operator that reads the charstring.
+        operator: &'a [u8],
+        /// The encrypted charstring, its leading bytes included.
+        charstring: &'a [u8],
+        /// What stands behind the charstring; it may be empty.
+        closing: &'a [u8],
+    },
+}
+
+/// What a PFB file is made of. The parts are borrowed.
+#[derive(Clone, Copy, Debug)]
+pub struct Parts<'a> {
+    /// The text up to the line that ends in `eexec`.
+    pub clear: &'a [u8],
+    /// The private text, before it is encrypted.
+    pub pieces: &'a [Piece<'a>],
+    /// The text behind the encrypted part: the zeros and the lines after them.
+    pub trailer: &'a [u8],
+}
+
+/// Why a text wasn't written, or not to its end.
+#[derive(Debug, Drop, Error)]
+pub enum OutError {
+    #[error("refused")]
+    Fault(Fault),
+    #[error("write failed")]
+    Write,
+    #[error("out of memory")]
+    Memory,
+}
+
+impl From<io::Error> for OutError {
+    ghost use Rattle.std.specs.Prelude.{◌≡◌};
+    ghost use Rattle.t1_code.specs.declared.parts.OutError.TheVariants.{Write};
+
+    ghost from_gives = { λ _ error. error ≡ Write };
+
+    fn from(_error: io::Error) -> OutError {
+        OutError::Write
+    }
+}
