@@ -23,3 +23,6 @@ pub use encoding::standard_name;
 pub use parts::{OutError, Parts, Piece};
 pub use pfb::{put_plain, write_pfb};
 pub use words::compile;
+
+#[cfg(test)]
+mod tests;

@@ -105,10 +105,11 @@ impl Frac {
         self.num
     }
 
-    /// The denominator, at least 1.
+    /// The denominator, from 1 to 1,048,576.
     pub fn den(&self) -> i64
         ensures value { result ≡ pos self.now.den }
         ensures above { 0 < self.now.den }
+        ensures fine { self.now.den ≤ 2 ^ 20 }
     {
         i64::from(self.den)
     }

@@ -1,0 +1,11 @@
+pub mod DemoRows
+pub mod EncodingLaws
+pub mod ItemLaws
+pub mod KeyLaws
+pub mod LineLaws
+pub mod PlaceLaws
+pub mod ReadingRows
+pub mod TailLaws
+pub mod TextPlaceLaws
+pub mod TokenLaws
+pub mod TrimLaws

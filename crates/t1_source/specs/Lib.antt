@@ -1,0 +1,14 @@
+pub mod Counts
+pub mod Encoding
+pub mod Entries
+pub mod Form
+pub mod Gathered
+pub mod LenIV
+pub mod Lines
+pub mod Names
+pub mod Operator
+pub mod Parts
+pub mod Private
+pub mod Reading
+pub mod Sections
+pub mod Tokens
