@@ -156,7 +156,14 @@ fn line_of<'a>(
             subr_line(alloc, lead, operator, *number, words, closing.as_slice())
         }
         Item::Glyph(name, words, closing) => {
-            glyph_line(alloc, lead, operator, name.as_slice(), words, closing.as_slice())
+            glyph_line(
+                alloc,
+                lead,
+                operator,
+                name.as_slice(),
+                words,
+                closing.as_slice(),
+            )
         }
     }
 }
@@ -198,10 +205,7 @@ fn piece<'a>(line: &'a Line<'a>) -> Piece<'a>
 }
 
 /// The private text as the PFB's writer takes it.
-pub fn pieces_of<'a>(
-    alloc: Global,
-    lines: &'a [Line<'a>],
-) -> Result<Vec<Piece<'a>>, AllocError>
+pub fn pieces_of<'a>(alloc: Global, lines: &'a [Line<'a>]) -> Result<Vec<Piece<'a>>, AllocError>
     ensures { IfOk result (λ pieces. flat_map piece_text pieces.items ≡ flat_map line_text lines.now) }
 {
     let mut pieces = Vec::with_capacity(alloc, lines.len())?;

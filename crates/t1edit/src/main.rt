@@ -10,9 +10,8 @@ use clap::{ArgMatches, Error};
 use command_line::command;
 use input::read_file;
 use status::{USAGE, ending};
-use std::env;
-use std::io;
 use std::process::ExitCode;
+use std::{env, io};
 use t1_code::Counted;
 use t1_session::{ServeError, assemble_source};
 
