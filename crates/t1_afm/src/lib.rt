@@ -3,10 +3,15 @@
 
 mod afm;
 mod bbox;
+mod cubic;
 mod line;
+mod measuring;
 mod metrics;
 mod part;
+mod ratio;
+mod span;
 
 pub use afm::write_afm;
 pub use bbox::BBox;
+pub use measuring::measure;
 pub use metrics::{CharMetric, CompositeMetric, Header, KernPair, Metrics};
