@@ -1,3 +1,4 @@
+pub mod Between
 pub mod Boxes
 pub mod Convex
 pub mod Rows

@@ -4,11 +4,11 @@ ghost use Rattle.std.specs.Prelude.{◌≡◌, ◌≤◌, ◌^◌};
 ghost use Rattle.std.specs.Int.RustNames.{unsigned_abs};
 ghost use Rattle.t1_frac.specs.Limits.{IsCoordinate};
 ghost use Rattle.t1_afm.specs.Points.{cubic_at as cubic_value, cubic_values};
-ghost use Rattle.t1_afm.specs.Spans.{span_of, span_around_one};
+ghost use Rattle.t1_afm.specs.Spans.{span_of, span_around_one, ends_of, hull_of};
 ghost use Rattle.t1_afm.specs.Bounds.{IsInRange, fraction_of};
 
 use crate::ratio::{Ratio, pair, sum};
-use crate::span::Span;
+use crate::span::{Span, line_span};
 use t1_frac::Frac;
 
 /// The value at k/64.
@@ -59,8 +59,8 @@ fn span_at(a: &Frac, b: &Frac, c: &Frac, d: &Frac, k: u32) -> Span
     }
 }
 
-/// The span around the 65 values of a cubic.
-pub(crate) fn cubic_span(a: &Frac, b: &Frac, c: &Frac, d: &Frac) -> Span
+/// The span around the 65 values of a cubic, value by value.
+fn sampled_span(a: &Frac, b: &Frac, c: &Frac, d: &Frac) -> Span
     requires a { IsCoordinate a.now }
     requires b { IsCoordinate b.now }
     requires c { IsCoordinate c.now }
@@ -73,4 +73,43 @@ pub(crate) fn cubic_span(a: &Frac, b: &Frac, c: &Frac, d: &Frac) -> Span
         span = span.around(&next);
     }
     span
+}
+
+/// The span around the values at both ends.
+fn ends_span(a: &Frac, b: &Frac, c: &Frac, d: &Frac) -> Span
+    requires a { IsCoordinate a.now }
+    requires b { IsCoordinate b.now }
+    requires c { IsCoordinate c.now }
+    requires d { IsCoordinate d.now }
+    ensures { result ≡ ends_of a.now b.now c.now d.now }
+{
+    span_at(a, b, c, d, 0).around(&span_at(a, b, c, d, 64))
+}
+
+/// The span around the four points.
+fn hull_span(a: &Frac, b: &Frac, c: &Frac, d: &Frac) -> Span
+    requires a { IsCoordinate a.now }
+    requires b { IsCoordinate b.now }
+    requires c { IsCoordinate c.now }
+    requires d { IsCoordinate d.now }
+    ensures { result ≡ hull_of a.now b.now c.now d.now }
+{
+    line_span(a, b).around(&line_span(c, d))
+}
+
+/// The span around the 65 values of a cubic. Where its four points reach no further than its ends, as in most
+/// curves of a font, neither do the values between.
+pub(crate) fn cubic_span(a: &Frac, b: &Frac, c: &Frac, d: &Frac) -> Span
+    requires a { IsCoordinate a.now }
+    requires b { IsCoordinate b.now }
+    requires c { IsCoordinate c.now }
+    requires d { IsCoordinate d.now }
+    ensures { result ≡ span_of (cubic_values a.now b.now c.now d.now) }
+{
+    let ends = ends_span(a, b, c, d);
+    let hull = hull_span(a, b, c, d);
+    if ends.low <= hull.low && hull.high <= ends.high {
+        return ends;
+    }
+    sampled_span(a, b, c, d)
 }

@@ -1,15 +1,10 @@
-use Rattle.std.proofs.Common.{subst, sym, ap, ◌∙◌, arith}
-use Rattle.t1_afm.specs.Points.{cubic_at, cubic_values}
-use Rattle.t1_afm.specs.Spans.{span_of, span_around}
-use Rattle.t1_afm.specs.declared.span.Span.{Span}
-use Rattle.t1_afm.proofs.Spans.{Spans, Spans-first, Spans-next}
+use Rattle.std.proofs.Common.{arith}
+use Rattle.std.proofs.lemmas.Int.{ints}
+use Rattle.t1_afm.proofs.Between.{between}
 use Rattle.t1_afm.proofs.cubic.cubic_span.Goals as goal
 
-pub loop-k-init : goal.loop-k-init
-loop-k-init c = rw c.span_at-span.ensures (Spans-first (cubic_at c.args.a.now c.args.b.now c.args.c.now c.args.d.now))
-
-pub loop-k-preserved : goal.loop-k-preserved
-loop-k-preserved c =
-    let f = cubic_at c.args.a.now c.args.b.now c.args.c.now c.args.d.now in
-    let e = c.around-span.ensures ∙ ap (λ (t : Span). span_around c.loop-k.span t) c.span_at-next.ensures in
-    rw e (Spans-next f c.loop-k.k c.loop-k.span _ (omega arith) c.loop-k.invariant)
+pub returns-then-hull-ends : goal.returns-then-hull-ends
+returns-then-hull-ends c =
+    between c.ends_span-ends.result c.hull_span-hull.result _ _ _ _ c.requires.a c.requires.b c.requires.c c.requires.d c.ends_span-ends.ensures c.hull_span-hull.ensures
+    (record { below = omega (arith, ints, c.if-ends-hull.true) })
+    (record { below = omega (arith, ints, c.if-hull-ends.true) })
