@@ -75,11 +75,11 @@ abbrev pub extent : List Point → Option BBox
 extent [] = None
 extent (p ∷ ps) = Some (box (p ∷ ps))
 
-unite_none : (e : Option BBox) → unite e None ≡ e
+pub unite_none : (e : Option BBox) → unite e None ≡ e
 unite_none None = refl
 unite_none (Some a) = refl
 
-unite_assoc : (a b c : Option BBox) → unite (unite a b) c ≡ unite a (unite b c)
+pub unite_assoc : (a b c : Option BBox) → unite (unite a b) c ≡ unite a (unite b c)
 unite_assoc None b c = refl
 unite_assoc (Some a) None c = refl
 unite_assoc (Some a) (Some b) None = refl
@@ -94,7 +94,7 @@ extent-append (p ∷ ps) (q ∷ qs) = ap Some (box-append p ps q qs)
 from_first : (f : ℕ → Point) (ks : List ℕ) (k : ℕ) (ls : List ℕ) → ks ≡ k ∷ ls → extent (map f ks) ≡ Some (box (map f ks))
 from_first f ks k ls e = rw e refl
 
-sixty_is : sixty_fourths ≡ 0 ∷ range_with_len 1 64
+pub sixty_is : sixty_fourths ≡ 0 ∷ range_with_len 1 64
 unfolding sixty_fourths
 sixty_is = refl
 
@@ -130,7 +130,7 @@ pub Rest-fault : (by : Point) (s : Segment) (ss : List Segment) (e : Option BBox
     → Rest (moved_outline by (s ∷ ss)) e whole → ⊥
 Rest-fault by s ss e whole fault is h = subst (λ r. Rest (r >>= (λ t. moved_outline by ss >>= (λ ts. Ok (t ∷ ts)))) e whole) is h
 
-box_of_extent : (ps : List Point) → unwrap_or (extent ps) (record { left = pos 0; bottom = pos 0; right = pos 0; top = pos 0 }) ≡ box ps
+pub box_of_extent : (ps : List Point) → unwrap_or (extent ps) (record { left = pos 0; bottom = pos 0; right = pos 0; top = pos 0 }) ≡ box ps
 box_of_extent [] = refl
 box_of_extent (p ∷ ps) = refl
 

@@ -1,5 +1,5 @@
 -- Bounding boxes.
-use Rattle.std.specs.Prelude.{List, [], ◌∷◌, map, flat_map, unwrap_or, Option, Some, None, ℤ, pos}
+use Rattle.std.specs.Prelude.{◌≡◌, List, [], ◌∷◌, ◌++◌, map, fold, flat_map, unwrap_or, Option, Some, None, ℤ, pos}
 use Rattle.std.specs.Int.{int_min, int_max}
 use Rattle.std.specs.List.{reduce}
 use Rattle.t1_frac.specs.Fraction.{floor_of, ceiling_of}
@@ -46,3 +46,20 @@ outline_box outline = box (points outline)
 -- AFM 4.1, FontBBox: the font's box, around the points of all outlines together
 abbrev pub font_box : List (List Segment) → BBox
 font_box outlines = box (flat_map points outlines)
+
+-- profile: the box of an outline that draws
+abbrev pub drawn_box : List Segment → Option BBox
+drawn_box [] = None
+drawn_box (segment ∷ outline) = Some (outline_box (segment ∷ outline))
+
+-- profile: the box around all that draw; 0 0 0 0 where none does
+abbrev pub united : List (Option BBox) → BBox
+united boxes = unwrap_or (fold unite None boxes) (record { left = pos 0; bottom = pos 0; right = pos 0; top = pos 0 })
+
+-- the font's box is the box around the boxes of the outlines that draw
+abbrev pub FontBoxOfBoxes : Type 0
+FontBoxOfBoxes = (outlines : List (List Segment)) → font_box outlines ≡ united (map drawn_box outlines)
+
+-- the box of two outlines in one is the box around both, of those that draw
+abbrev pub BoxOfBoth : Type 0
+BoxOfBoth = (a b : List Segment) → drawn_box (a ++ b) ≡ unite (drawn_box a) (drawn_box b)

@@ -9,6 +9,7 @@ ghost use Rattle.t1_afm.specs.Bounds.{IsInRange, fraction_of};
 
 use crate::ratio::{Ratio, pair, sum};
 use crate::span::{Span, line_span};
+use crate::whole::{is_whole, whole_span, whole_sum};
 use t1_frac::Frac;
 
 /// The value at k/64.
@@ -52,6 +53,9 @@ fn span_at(a: &Frac, b: &Frac, c: &Frac, d: &Frac, k: u32) -> Span
     requires d { IsCoordinate d.now }
     ensures { result ≡ span_around_one (cubic_value a.now b.now c.now d.now k) }
 {
+    if is_whole(a) && is_whole(b) && is_whole(c) && is_whole(d) {
+        return whole_span(whole_sum(a, b, c, d, k));
+    }
     let value = cubic_at(a, b, c, d, k);
     Span {
         low: value.floor(),

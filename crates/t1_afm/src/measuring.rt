@@ -1,11 +1,11 @@
 //! A glyph's box.
 
-ghost use Rattle.std.specs.Prelude.{◌≡◌, Some, IfOk, IsOk};
+ghost use Rattle.std.specs.Prelude.{◌≡◌, IfOk, IsOk};
 ghost use Rattle.t1_run.specs.Composite.{moved_outline, IsWithin};
 ghost use Rattle.t1_afm.specs.Points.{points_of};
-ghost use Rattle.t1_afm.specs.Box.{box as box_of, outline_box, unite};
+ghost use Rattle.t1_afm.specs.Box.{box as box_of, outline_box};
 
-use crate::bbox::{BBox, spanned};
+use crate::bbox::{BBox, spanned, unite};
 use crate::cubic::cubic_span;
 use crate::span::line_span;
 use t1_run::{Point, Segment, moved_segment};
@@ -25,16 +25,6 @@ fn segment_box(segment: &Segment) -> BBox
     }
 }
 
-/// The box around what was found before, and a box.
-fn united(found: Option<BBox>, next: BBox) -> Option<BBox>
-    ensures { result ≡ unite found (Some next) }
-{
-    match found {
-        None => Some(next),
-        Some(found) => Some(found.around(&next)),
-    }
-}
-
 /// The box around an outline, moved. Each moved point is within the limits.
 pub fn measure(segments: &[Segment], offset: &Point) -> BBox
     requires { IsOk (moved_outline offset.now segments.now) }
@@ -46,7 +36,7 @@ pub fn measure(segments: &[Segment], offset: &Point) -> BBox
             unreachable!()
         };
         let next = segment_box(&segment);
-        extent = united(extent, next);
+        extent = unite(extent, Some(next));
     }
     extent.unwrap_or(BBox::EMPTY)
 }

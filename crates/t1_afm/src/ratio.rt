@@ -17,7 +17,7 @@ pub(crate) struct Ratio {
 }
 
 /// A weight's multiple of a numerator.
-fn times(weight: u32, num: i64) -> i64
+pub(crate) fn times(weight: u32, num: i64) -> i64
     requires weight { weight ≤ 2 ^ 18 }
     requires num { unsigned_abs num ≤ 2 ^ 40 }
     ensures value { result ≡ pos weight *ℤ num }
