@@ -1,16 +1,15 @@
 //! Judging the encoding of a clear part.
 
-ghost use Rattle.std.specs.Prelude.{◌≡◌, ◌+◌, ◌≤◌, ◌<◌, ◌^◌, ◌∷◌, IfOk, length, is_some, nat_le, ◌&&◌};
+ghost use Rattle.std.specs.Prelude.{◌≡◌, ◌+◌, ◌≤◌, ◌<◌, ◌^◌, ◌∷◌, length, nat_le, option_map, IfSome, ◌&&◌};
 ghost use Rattle.std.specs.List.{list_any, position_or_len};
 ghost use Rattle.t1_frac.specs.Outcome.{Gives};
 ghost use Rattle.t1_source.specs.Tokens.{tokens};
 ghost use Rattle.t1_source.specs.Names.{up_to};
-ghost use Rattle.t1_source.specs.Encoding.{opens_encoding, ends_array, is_standard, is_array, is_bad_slot, array_lines, opening_check, later_check, later_checks, clear_check, chooses_standard, code_of_token, slot_of_tokens, octal_of};
+ghost use Rattle.t1_source.specs.Encoding.{opens_encoding, ends_array, is_standard, is_array, is_bad_slot, array_lines, from_encoding, opening_check, later_check, later_checks, clear_check, chooses_standard, code_of_token, slot_of_tokens, octal_of};
 
-use crate::lines::{Line, fault_on};
+use crate::lines::fault_on;
 use crate::names::{decimal_up_to, is_decimal, name_of_token};
-use crate::tokens::{first_is, last_is, next_token, same, tokens_of};
-use std::alloc::{AllocError, Global};
+use crate::tokens::{first_is, last_is, next_token, same};
 use t1_frac::{Bytes, Code, Refusal};
 
 /// Whether a line opens the encoding.
@@ -40,18 +39,24 @@ fn is_standard(line: &[u8]) -> bool
     same(kind, b"StandardEncoding")
 }
 
-/// Whether the tokens open an array.
-fn is_array(tokens: &[Bytes]) -> bool
-    ensures { result ≡ is_array tokens.now }
+/// Whether a line's second and third tokens are a size and `array`.
+fn is_array(line: &[u8]) -> bool
+    ensures { result ≡ is_array (tokens line.now) }
 {
-    match tokens {
-        [_, size, array, ..] => is_decimal(size.as_slice()) && same(array.as_slice(), b"array"),
-        _ => false,
-    }
+    let Some((_, after)) = next_token(line) else {
+        return false;
+    };
+    let Some((size, after)) = next_token(after) else {
+        return false;
+    };
+    let Some((array, _)) = next_token(after) else {
+        return false;
+    };
+    is_decimal(size) && same(array, b"array")
 }
 
 /// How many lines stand before the first one that opens the encoding.
-fn encoding_start(clear: &[Line]) -> usize
+fn encoding_start(clear: &[Bytes]) -> usize
     ensures within { result ≤ length clear.now }
     ensures value { result ≡ position_or_len opens_encoding clear.now }
 {
@@ -62,7 +67,7 @@ fn encoding_start(clear: &[Line]) -> usize
 }
 
 /// How many lines stand before the first one that ends an array.
-fn array_end(later: &[Line]) -> usize
+fn array_end(later: &[Bytes]) -> usize
     ensures within { result ≤ length later.now }
     ensures value { result ≡ position_or_len ends_array later.now }
 {
@@ -73,15 +78,16 @@ fn array_end(later: &[Line]) -> usize
 }
 
 /// Whether one of the lines ends an array.
-fn has_end(later: &[Line]) -> bool
+fn has_end(later: &[Bytes]) -> bool
     ensures { result ≡ list_any ends_array later.now }
 {
     later.iter().any(|line| ends_array(line.as_slice()))
 }
 
 /// How many of the later lines are those of the array that a line opens.
-fn array_len(opening: &[u8], later: &[Line]) -> usize
-    ensures { result ≡ length (array_lines (opening.now ∷ later.now)) }
+fn array_len(opening: &[u8], later: &[Bytes]) -> usize
+    ensures within { result ≤ length later.now }
+    ensures value { result ≡ length (array_lines (opening.now ∷ later.now)) }
 {
     if is_standard(opening) {
         return 0;
@@ -91,11 +97,10 @@ fn array_len(opening: &[u8], later: &[Line]) -> usize
 
 /// Judges the line that opens the encoding.
 #[tactic(auto, unfolding(crate::specs::Encoding::opening_check))]
-fn check_opening(alloc: Global, number: u64, opening: &[u8], later: &[Line]) -> Result<(), Refusal>
+fn check_opening(number: u64, opening: &[u8], later: &[Bytes]) -> Result<(), Refusal>
     ensures { Gives (λ x. x) result (opening_check number opening.now later.now) }
 {
-    let tokens = tokens_of(alloc, opening)?;
-    if is_standard(opening) || (is_array(&tokens) && has_end(later)) {
+    if is_standard(opening) || (is_array(opening) && has_end(later)) {
         return Ok(());
     }
     Err(fault_on(number, Code::F5))
@@ -129,51 +134,67 @@ fn octal_code(digits: &[u8]) -> Option<u8>
     }
 }
 
-/// Whether a token is a code from 0 to 255.
-fn is_code(token: &[u8]) -> bool
-    ensures { result ≡ is_some (code_of_token token.now) }
+/// The code from 0 to 255 that a token is.
+fn code_of_token(token: &[u8]) -> Option<u8>
+    ensures { result ≡ code_of_token token.now }
 {
     match token {
-        [b'8', b'#', digits @ ..] => octal_code(digits).is_some(),
-        _ => decimal_up_to(255, token).is_some(),
+        [b'8', b'#', digits @ ..] => octal_code(digits),
+        _ => match decimal_up_to(255, token) {
+            Some(code) => Some(code as u8),
+            None => None,
+        },
     }
 }
 
-/// Whether the tokens are a slot.
-fn is_slot(tokens: &[Bytes]) -> bool
-    ensures { result ≡ is_some (slot_of_tokens tokens.now) }
+/// The code and the name of a slot.
+pub fn slot_of(line: &[u8]) -> Option<(u8, &[u8])>
+    ensures value { option_map (λ slot. (slot.0, slot.1.now)) result ≡ slot_of_tokens (tokens line.now) }
+    ensures byte { IfSome result (λ slot. slot.0 < 256) }
 {
-    match tokens {
-        [dup, code, name, put] => {
-            same(dup.as_slice(), b"dup")
-                && same(put.as_slice(), b"put")
-                && is_code(code.as_slice())
-                && name_of_token(name.as_slice()).is_some()
-        }
-        _ => false,
+    let Some((dup, after)) = next_token(line) else {
+        return None;
+    };
+    let Some((code, after)) = next_token(after) else {
+        return None;
+    };
+    let Some((name, after)) = next_token(after) else {
+        return None;
+    };
+    let Some((put, after)) = next_token(after) else {
+        return None;
+    };
+    if let Some(_more) = next_token(after) {
+        return None;
     }
+    if !same(dup, b"dup") || !same(put, b"put") {
+        return None;
+    }
+    let Some(code) = code_of_token(code) else {
+        return None;
+    };
+    let Some(name) = name_of_token(name) else {
+        return None;
+    };
+    Some((code, name))
 }
 
 /// Whether a line begins with `dup` and is no slot.
-fn is_bad_slot(alloc: Global, line: &[u8]) -> Result<bool, AllocError>
-    ensures { IfOk result (λ b. b ≡ is_bad_slot (tokens line.now)) }
+fn is_bad_slot(line: &[u8]) -> bool
+    ensures { result ≡ is_bad_slot (tokens line.now) }
 {
-    if !first_is(b"dup", line) {
-        return Ok(false);
-    }
-    let tokens = tokens_of(alloc, line)?;
-    Ok(!is_slot(&tokens))
+    first_is(b"dup", line) && slot_of(line).is_none()
 }
 
 /// Judges a line after the one that opens the encoding.
 #[tactic(auto, unfolding(crate::specs::Encoding::later_check))]
-fn check_later(alloc: Global, number: u64, in_array: usize, line: &[u8]) -> Result<(), Refusal>
+fn check_later(number: u64, in_array: usize, line: &[u8]) -> Result<(), Refusal>
     ensures { Gives (λ x. x) result (later_check number in_array line.now) }
 {
     if opens_encoding(line) {
         return Err(fault_on(number, Code::F5));
     }
-    if 1 <= in_array && is_bad_slot(alloc, line)? {
+    if 1 <= in_array && is_bad_slot(line) {
         return Err(fault_on(number, Code::F6));
     }
     Ok(())
@@ -181,19 +202,14 @@ fn check_later(alloc: Global, number: u64, in_array: usize, line: &[u8]) -> Resu
 
 /// Judges the lines after the one that opens the encoding.
 #[tactic(auto, using(crate::proofs::EncodingLaws::later_step, crate::proofs::EncodingLaws::later_stop))]
-fn check_all_later(
-    alloc: Global,
-    number: u64,
-    in_array: usize,
-    lines: &[Line],
-) -> Result<(), Refusal>
+fn check_all_later(number: u64, in_array: usize, lines: &[Bytes]) -> Result<(), Refusal>
     requires { number + length lines.now < 2 ^ 64 }
     ensures { Gives (λ x. x) result (later_checks number in_array lines.now) }
 {
     let mut number = number;
     let mut in_array = in_array;
     for line in lines {
-        check_later(alloc, number, in_array, line.as_slice())?;
+        check_later(number, in_array, line.as_slice())?;
         number += 1;
         in_array = in_array.saturating_sub(1);
     }
@@ -202,7 +218,7 @@ fn check_all_later(
 
 /// Judges the clear lines.
 #[tactic(auto, unfolding(crate::specs::Encoding::clear_check), using(crate::proofs::EncodingLaws::opening_passes, crate::proofs::EncodingLaws::opening_stops))]
-pub fn check_clear(alloc: Global, clear: &[Line]) -> Result<(), Refusal>
+pub fn check_clear(clear: &[Bytes]) -> Result<(), Refusal>
     ensures { Gives (λ x. x) result (clear_check clear.now) }
 {
     let start = encoding_start(clear);
@@ -210,9 +226,20 @@ pub fn check_clear(alloc: Global, clear: &[Line]) -> Result<(), Refusal>
         return Err(Refusal::from(Code::F5));
     };
     let number = start as u64 + 1;
-    check_opening(alloc, number, opening.as_slice(), later)?;
+    check_opening(number, opening.as_slice(), later)?;
     let in_array = array_len(opening.as_slice(), later);
-    check_all_later(alloc, number + 1, in_array, later)
+    check_all_later(number + 1, in_array, later)
+}
+
+/// The lines of the array among the clear lines.
+pub fn array_of(clear: &[Bytes]) -> &[Bytes]
+    ensures { result.now ≡ array_lines (from_encoding clear.now) }
+{
+    let from = clear.split_at(encoding_start(clear)).1;
+    let Some((opening, later)) = from.split_first() else {
+        return from;
+    };
+    later.split_at(array_len(opening.as_slice(), later)).0
 }
 
 /// Whether a line chooses the standard encoding.

@@ -95,7 +95,7 @@ fn after_end(bytes: &[u8]) -> &[u8]
 
 /// The first line of some bytes, and the bytes after its end.
 #[tactic(auto, using(crate::proofs::LineLaws::first_line_lem))]
-fn first_line(bytes: &[u8]) -> (&[u8], &[u8])
+pub fn first_line(bytes: &[u8]) -> (&[u8], &[u8])
     requires { 0 < length bytes.now }
     ensures lines { lines bytes.now ≡ result.0.now ∷ lines result.1.now }
     ensures shorter { length result.1.now < length bytes.now }

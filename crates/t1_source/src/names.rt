@@ -3,7 +3,7 @@
 ghost use Rattle.std.specs.Prelude.{◌≡◌, ◌+◌, ◌*◌, ◌<◌, ◌≤◌, ◌^◌, length, is_some, option_map, IsTrue};
 ghost use Rattle.std.specs.List.{list_all};
 ghost use Rattle.t1_source.specs.Tokens.{is_regular};
-ghost use Rattle.t1_source.specs.Names.{is_name, is_name_byte, name_of_token, is_digit, decimal_of, decimal_value, up_to};
+ghost use Rattle.t1_source.specs.Names.{is_name, is_name_byte, name_of_token, is_digit, decimal_of, decimal_value, up_to, is_number_word};
 ghost use Rattle.t1_source.specs.Sections.{is_count};
 
 use crate::tokens::is_regular;
@@ -58,6 +58,16 @@ pub fn is_decimal(bytes: &[u8]) -> bool
     ensures { result ≡ is_some (decimal_of bytes.now) }
 {
     !bytes.is_empty() && are_digits(bytes)
+}
+
+/// Whether a word is an optional `-` and one or more digits.
+pub fn is_number_word(word: &[u8]) -> bool
+    ensures { result ≡ is_number_word word.now }
+{
+    match word {
+        [b'-', digits @ ..] => is_decimal(digits),
+        _ => is_decimal(word),
+    }
 }
 
 /// The number of some decimal digits, where it is at most the limit.

@@ -1,20 +1,24 @@
 //! A source that was read.
 
+use crate::codes::{array_code, standard_code};
 use crate::counts::raised;
 use crate::encoding::{check_clear, has_standard};
 use crate::gathered::Gathered;
+use crate::header::header_of;
 use crate::item::Item;
 use crate::len_iv::{check_lead, lead_of};
 use crate::lines::{Line, copied_lines, cut_lines};
 use crate::operator::operator_of;
 use crate::parts::{parts_of, tail_of};
+use crate::printing::{push_items, push_lines};
 use crate::private::private_items;
-use std::alloc::Global;
+use crate::tokens::same;
+use std::alloc::{AllocError, Global};
 use std::marker::Model;
 use t1_frac::{Bytes, Code, Refusal};
 
 /// The readable source of a font: its clear lines, the items of its private part and its tail.
-#[derive(Drop)]
+#[derive(Debug, Drop)]
 pub struct Source {
     alloc: Global,
     clear: Vec<Bytes>,
@@ -30,11 +34,14 @@ impl Model for Source {
     ghost view = { λ source. record { clear = source.clear.items; items = source.items.items; tail = source.tail.items } };
 }
 
-ghost use Rattle.std.specs.Prelude.{◌≡◌};
+ghost use Rattle.std.specs.Prelude.{◌≡◌, IfOk, option_map};
 ghost use Rattle.t1_frac.specs.Outcome.{Gives};
 ghost use Rattle.t1_source.specs.Reading.{whole_check, reads_lines, reads, standard};
 ghost use Rattle.t1_source.specs.LenIV.{lead};
 ghost use Rattle.t1_source.specs.Operator.{operator};
+ghost use Rattle.t1_source.specs.Header.{header};
+ghost use Rattle.t1_source.specs.Codes.{code_of};
+ghost use Rattle.t1_source.specs.Printing.{text};
 
 /// Judges the items of a private part as a whole.
 #[tactic(auto, unfolding(crate::specs::Reading::whole_check))]
@@ -54,11 +61,11 @@ fn read_lines(alloc: Global, lines: &[Line]) -> Result<Source, Refusal>
     ensures { Gives (λ source. source) result (reads_lines lines.now) }
 {
     let parts = parts_of(lines)?;
-    check_clear(alloc, parts.clear)?;
+    let clear = copied_lines(alloc, parts.clear)?;
+    check_clear(&clear)?;
     let items = private_items(alloc, parts.clear.len() as u64 + 1, parts.private)?;
     check_whole(&items)?;
     let items = raised(alloc, items.into_items())?;
-    let clear = copied_lines(alloc, parts.clear)?;
     let tail = tail_of(alloc, parts.tail)?;
     Ok(Source {
         alloc,
@@ -113,6 +120,38 @@ impl Source {
         ensures { result.now ≡ operator self.now }
     {
         operator_of(self.items.as_slice())
+    }
+
+    /// The printed form: its lines, each with LF.
+    pub fn text(&self) -> Result<Vec<u8>, AllocError>
+        ensures { IfOk result (λ printed. printed.items ≡ text self.now) }
+    {
+        let mut text = Vec::new(self.alloc);
+        push_lines(&mut text, self.clear.as_slice())?;
+        push_items(&mut text, self.items.as_slice())?;
+        push_lines(&mut text, self.tail.as_slice())?;
+        Ok(text)
+    }
+
+    /// The value of a header key: `FontName`, `FullName`, `FamilyName`, `Weight`, `version`, `Notice`, `ItalicAngle`,
+    /// `isFixedPitch`, `UnderlinePosition` or `UnderlineThickness`. Any other key has none.
+    pub fn header(&self, key: &str) -> Option<&[u8]>
+        ensures { option_map (λ value. value.now) result ≡ header self.now key.now }
+    {
+        header_of(self.clear.as_slice(), key.as_bytes())
+    }
+
+    /// The lowest code that the encoding gives a name; none for `.notdef`.
+    pub fn code_of(&self, name: &[u8]) -> Option<u8>
+        ensures { result ≡ code_of self.now name.now }
+    {
+        if same(name, b".notdef") {
+            return None;
+        }
+        if self.standard() {
+            return standard_code(name);
+        }
+        array_code(self.clear.as_slice(), name)
     }
 
     /// Whether the encoding is the standard one.

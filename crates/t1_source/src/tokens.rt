@@ -1,13 +1,12 @@
 //! Cutting a line into tokens.
 
-ghost use Rattle.std.specs.Prelude.{◌≡◌, ◌+◌, ◌^◌, ◌<◌, ◌≤◌, [], ◌∷◌, length, IfOk, IfSome, MatchOption, option_map};
+ghost use Rattle.std.specs.Prelude.{◌≡◌, ◌+◌, ◌^◌, ◌<◌, ◌≤◌, [], ◌∷◌, length, IfSome, MatchOption, option_map};
 ghost use Rattle.std.specs.List.{prefix_len};
 ghost use Rattle.std.specs.Str.{bytes_eq};
 ghost use Rattle.t1_frac.specs.Words.{is_blank};
 ghost use Rattle.t1_source.specs.Tokens.{is_bracket, is_regular, token_len, tokens, first_token, first_is, last_is, after_token, places_from};
 
-use std::alloc::{AllocError, Global};
-use t1_frac::{Bytes, is_blank, skip_blanks};
+use t1_frac::{is_blank, skip_blanks};
 
 /// Whether a byte is a token by itself.
 fn is_bracket(byte: u8) -> bool
@@ -95,19 +94,6 @@ pub fn same(left: &[u8], right: &[u8]) -> bool
     ensures { result ≡ bytes_eq left.now right.now }
 {
     left == right
-}
-
-/// The tokens of a line.
-pub fn tokens_of(alloc: Global, line: &[u8]) -> Result<Vec<Bytes>, AllocError>
-    ensures { IfOk result (λ found. found.items ≡ tokens line.now) }
-{
-    let mut found = Vec::new(alloc);
-    let mut rest = line;
-    while let Some((token, after)) = next_token(rest) {
-        found.push(Bytes::copied(alloc, token)?)?;
-        rest = after;
-    }
-    Ok(found)
 }
 
 /// The first token of a line.
