@@ -1,3 +1,10 @@
+pub mod Between
+pub mod Boxes
+pub mod Convex
+pub mod Fonts
+pub mod Rows
 pub mod Sections
 pub mod Sheets
+pub mod Spans
 pub mod TextRows
+pub mod Wholes

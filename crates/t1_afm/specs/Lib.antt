@@ -1,2 +1,6 @@
 pub mod Afm
+pub mod Bounds
+pub mod Box
 pub mod Lines
+pub mod Points
+pub mod Spans

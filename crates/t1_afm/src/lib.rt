@@ -3,10 +3,17 @@
 
 mod afm;
 mod bbox;
+mod cubic;
+pub mod laws;
 mod line;
+mod measuring;
 mod metrics;
 mod part;
+mod ratio;
+mod span;
+mod whole;
 
 pub use afm::write_afm;
-pub use bbox::BBox;
+pub use bbox::{BBox, unite};
+pub use measuring::measure;
 pub use metrics::{CharMetric, CompositeMetric, Header, KernPair, Metrics};

@@ -1,0 +1,42 @@
+//! A glyph's box.
+
+ghost use Rattle.std.specs.Prelude.{◌≡◌, IfOk, IsOk};
+ghost use Rattle.t1_run.specs.Composite.{moved_outline, IsWithin};
+ghost use Rattle.t1_afm.specs.Points.{points_of};
+ghost use Rattle.t1_afm.specs.Box.{box as box_of, outline_box};
+
+use crate::bbox::{BBox, spanned, unite};
+use crate::cubic::cubic_span;
+use crate::span::line_span;
+use t1_run::{Point, Segment, moved_segment};
+
+/// The box around a segment's points.
+#[tactic(auto, using(crate::proofs::Boxes::line_box, crate::proofs::Boxes::curve_box))]
+fn segment_box(segment: &Segment) -> BBox
+    requires { IsWithin segment.now }
+    ensures { result ≡ box_of (points_of segment.now) }
+{
+    match segment {
+        Segment::Line(a, b) => spanned(line_span(&a.x, &b.x), line_span(&a.y, &b.y)),
+        Segment::Curve(a, b, c, d) => spanned(
+            cubic_span(&a.x, &b.x, &c.x, &d.x),
+            cubic_span(&a.y, &b.y, &c.y, &d.y),
+        ),
+    }
+}
+
+/// The box around an outline, moved. Each moved point is within the limits.
+pub fn measure(segments: &[Segment], offset: &Point) -> BBox
+    requires { IsOk (moved_outline offset.now segments.now) }
+    ensures { IfOk (moved_outline offset.now segments.now) (λ outline. result ≡ outline_box outline) }
+{
+    let mut extent: Option<BBox> = None;
+    for segment in segments {
+        let Ok(segment) = moved_segment(segment, offset) else {
+            unreachable!()
+        };
+        let next = segment_box(&segment);
+        extent = unite(extent, Some(next));
+    }
+    extent.unwrap_or(BBox::EMPTY)
+}

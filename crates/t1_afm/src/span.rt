@@ -1,0 +1,63 @@
+//! The whole numbers around coordinates of one axis.
+
+ghost use Rattle.std.specs.Prelude.{◌≡◌, [], ◌∷◌};
+ghost use Rattle.t1_frac.specs.Fraction.{floor_of, ceiling_of};
+ghost use Rattle.t1_frac.specs.Limits.{IsCoordinate};
+ghost use Rattle.t1_afm.specs.Spans.{span_of, span_around, span_around_one};
+
+use t1_frac::Frac;
+
+/// The whole numbers around values.
+#[derive(Clone, Copy, Debug, PartialEq, Eq)]
+pub(crate) struct Span {
+    pub(crate) low: i32,
+    pub(crate) high: i32,
+}
+
+impl Span {
+    /// The span around both.
+    pub(crate) fn around(&self, other: &Span) -> Span
+        ensures { result ≡ span_around self.now other.now }
+    {
+        Span {
+            low: self.low.min(other.low),
+            high: self.high.max(other.high),
+        }
+    }
+}
+
+/// A coordinate rounded down.
+fn rounded_down(a: &Frac) -> i32
+    requires { IsCoordinate a.now }
+    ensures { result ≡ floor_of a.now }
+{
+    a.floor() as i32
+}
+
+/// A coordinate rounded up.
+fn rounded_up(a: &Frac) -> i32
+    requires { IsCoordinate a.now }
+    ensures { result ≡ ceiling_of a.now }
+{
+    a.ceil() as i32
+}
+
+/// The span around a coordinate.
+pub(crate) fn coordinate_span(a: &Frac) -> Span
+    requires { IsCoordinate a.now }
+    ensures { result ≡ span_around_one a.now }
+{
+    Span {
+        low: rounded_down(a),
+        high: rounded_up(a),
+    }
+}
+
+/// The span around two coordinates.
+pub(crate) fn line_span(a: &Frac, b: &Frac) -> Span
+    requires a { IsCoordinate a.now }
+    requires b { IsCoordinate b.now }
+    ensures { result ≡ span_of (a.now ∷ b.now ∷ []) }
+{
+    coordinate_span(a).around(&coordinate_span(b))
+}
