@@ -4,3 +4,7 @@ pub mod Continuing
 pub mod Moved
 pub mod Outlines
 pub mod Steps
+pub mod Within
+pub mod WithinOutlines
+pub mod WithinRuns
+pub mod WithinSteps

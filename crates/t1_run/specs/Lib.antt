@@ -6,4 +6,5 @@ pub mod OtherSubrs
 pub mod Run
 pub mod State
 pub mod Step
+pub mod Within
 pub mod Words

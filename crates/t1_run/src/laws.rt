@@ -1,6 +1,7 @@
 //! Laws of runs.
 
 ghost use Rattle.t1_run.specs.Footprint.{FootprintLaw, OutlineFootprintLaw, ExactLaw, PartsLaw, StepsLaw};
+ghost use Rattle.t1_run.specs.Within.{DrawnWithinLaw};
 
 /// What a glyph's own body draws, or its fault, and its footprint are the same in all fonts that agree on the
 /// footprint. The keys of a footprint are Subr numbers, also computed ones, and glyph names.
@@ -28,4 +29,10 @@ pub fn parts()
 /// were made before it.
 pub fn steps()
     ensures { StepsLaw }
+{}
+
+/// Each point that is drawn is a coordinate in lowest terms: what a glyph's own body draws, and its outline, moved by
+/// zero, stay as they are.
+pub fn drawn_within()
+    ensures { DrawnWithinLaw }
 {}
