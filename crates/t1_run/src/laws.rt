@@ -31,8 +31,8 @@ pub fn steps()
     ensures { StepsLaw }
 {}
 
-/// Each point that is drawn is a coordinate in lowest terms: what a glyph's own body draws, and its outline, moved by
-/// zero, stay as they are.
+/// What a glyph's own body draws, and a glyph's outline, are themselves when moved by zero: no limit of coordinates or
+/// denominators refuses any of their points.
 pub fn drawn_within()
     ensures { DrawnWithinLaw }
 {}
