@@ -1,2 +1,10 @@
+pub mod Agreeing
+pub mod Asked
 pub mod Continuing
 pub mod Moved
+pub mod Outlines
+pub mod Steps
+pub mod Within
+pub mod WithinOutlines
+pub mod WithinRuns
+pub mod WithinSteps

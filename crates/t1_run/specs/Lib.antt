@@ -1,8 +1,10 @@
 pub mod Composite
+pub mod Footprint
 pub mod Machine
 pub mod Operands
 pub mod OtherSubrs
 pub mod Run
 pub mod State
 pub mod Step
+pub mod Within
 pub mod Words

@@ -1,0 +1,99 @@
+-- Outlines, also of composites, are within the limits.
+use Rattle.std.proofs.Common.{◌≡◌, ℕ, zero, suc, List, [], ◌∷◌, ◌++◌, subst, Option, Some, None}
+use Rattle.std.specs.Prelude.{Result, Ok, Err, IfOk, IfSome}
+use Rattle.t1_frac.specs.Limits.{coordinate_sum, coordinate_difference}
+use Rattle.t1_frac.specs.declared.fault.Code.{Code}
+use Rattle.t1_frac.specs.declared.fault.Code.TheVariants.{F46}
+use Rattle.t1_run.specs.declared.outline.Composite.{Composite}
+use Rattle.t1_run.specs.declared.outline.Point.{Point}
+use Rattle.t1_run.specs.declared.outline.Segment.{Segment}
+use Rattle.t1_run.specs.declared.outline.Segment.TheVariants.{Line, Curve}
+use Rattle.t1_run.specs.Composite.{accent_move, moved_point, moved_segment, moved_outline, joined, joined_with, with_parts, drawn, outline_within, outline}
+use Rattle.t1_run.specs.Run.{Maps, Drawing, own}
+use Rattle.t1_run.specs.Within.{DrawnWithinLaw}
+use Rattle.t1_run.proofs.Within.{IsValue, IsPlace, IsPlaced, IsDrawn, AllDrawn, bind-ok, each-append, sum-place, difference-place, moved-placed, outline-stays}
+use Rattle.t1_run.proofs.WithinRuns.{PartsWithin, DrawingWithin, OwnWithin, own-within}
+
+-- a distance in lowest terms
+record IsMove (by : Point) : Type 0 where
+  x : IsValue by.x
+  y : IsValue by.y
+
+accent_move-is : (bearing : Point) (c : Composite) → IsPlaced bearing → PartsWithin c → IfOk (accent_move bearing c) IsMove
+accent_move-is bearing c h k =
+    bind-ok IsPlace IsMove (coordinate_sum bearing.x c.adx) _ (sum-place bearing.x c.adx h.x.value k.adx) (λ right placed.
+    bind-ok IsPlace IsMove (coordinate_difference right c.asb) _ (difference-place right c.asb placed.value k.asb) (λ x placed_x.
+    record { x = placed_x.value; y = k.ady }))
+
+-- ---- moved outlines
+
+point-moved : (by p : Point) → IsMove by → IsPlaced p → IfOk (moved_point by p) IsPlaced
+point-moved by p k h = moved-placed p by.x by.y h k.x k.y
+
+segment-moved : (by : Point) (s : Segment) → IsMove by → IsDrawn s → IfOk (moved_segment by s) IsDrawn
+segment-moved by (Line start end) k h =
+    bind-ok IsPlaced IsDrawn (moved_point by start) _ (point-moved by start k h.0) (λ start' placed_start.
+    bind-ok IsPlaced IsDrawn (moved_point by end) _ (point-moved by end k h.1) (λ end' placed_end.
+    (placed_start, placed_end)))
+segment-moved by (Curve start first second end) k h =
+    bind-ok IsPlaced IsDrawn (moved_point by start) _ (point-moved by start k h.0) (λ start' placed_start.
+    bind-ok IsPlaced IsDrawn (moved_point by first) _ (point-moved by first k h.1) (λ first' placed_first.
+    bind-ok IsPlaced IsDrawn (moved_point by second) _ (point-moved by second k h.2) (λ second' placed_second.
+    bind-ok IsPlaced IsDrawn (moved_point by end) _ (point-moved by end k h.3) (λ end' placed_end.
+    (placed_start, placed_first, placed_second, placed_end)))))
+
+outline-moved : (by : Point) (segments : List Segment) → IsMove by → AllDrawn segments → IfOk (moved_outline by segments) AllDrawn
+outline-moved by [] k h = tt
+outline-moved by (s ∷ ss) k h =
+    bind-ok IsDrawn AllDrawn (moved_segment by s) _ (segment-moved by s k h.0) (λ s' drawn_s.
+    bind-ok AllDrawn AllDrawn (moved_outline by ss) _ (outline-moved by ss k h.1) (λ ss' drawn_ss.
+    (drawn_s, drawn_ss)))
+
+-- ---- composites
+
+joined_with-drawn : (composite : Option Composite) (d : Drawing) (base accent : List Segment)
+    → IfSome composite PartsWithin → DrawingWithin d → AllDrawn base → AllDrawn accent → IfOk (joined_with composite d base accent) AllDrawn
+joined_with-drawn None d base accent c h b a = h.segments
+joined_with-drawn (Some composite) d base accent c h b a =
+    bind-ok IsMove AllDrawn (accent_move d.bearing composite) _ (accent_move-is d.bearing composite h.bearing c) (λ by k.
+    bind-ok AllDrawn AllDrawn (moved_outline by accent) _ (outline-moved by accent k a) (λ accent' a'.
+    each-append IsDrawn (d.segments ++ base) accent' (each-append IsDrawn d.segments base h.segments b) a'))
+
+joined-drawn : (d : Drawing) (base accent : List Segment) → DrawingWithin d → AllDrawn base → AllDrawn accent → IfOk (joined d base accent) AllDrawn
+unfolding joined
+joined-drawn d base accent h b a = joined_with-drawn d.composite d base accent h.parts h b a
+
+abbrev PartsDrawn : (List ℕ → Result (List Segment) Code) → Type 0
+PartsDrawn part = (g : List ℕ) → IfOk (part g) AllDrawn
+
+with_parts-drawn : (part : List ℕ → Result (List Segment) Code) → PartsDrawn part → (composite : Option Composite) (d : Drawing)
+    → DrawingWithin d → IfOk (with_parts part composite d) AllDrawn
+with_parts-drawn part parts None d h = h.segments
+with_parts-drawn part parts (Some c) d h =
+    bind-ok AllDrawn AllDrawn (part c.base) _ (parts c.base) (λ base b.
+    bind-ok AllDrawn AllDrawn (part c.accent) _ (parts c.accent) (λ accent a.
+    joined-drawn d base accent h b a))
+
+drawn-drawn : (part : List ℕ → Result (List Segment) Code) → PartsDrawn part → (r : Option (Result Drawing Code)) → OwnWithin r → IfOk (drawn part r) AllDrawn
+drawn-drawn part parts None h = tt
+drawn-drawn part parts (Some (Err fault)) h = tt
+drawn-drawn part parts (Some (Ok d)) h = with_parts-drawn part parts d.composite d h
+
+outline_within-drawn : (m : Maps) (depth : ℕ) → PartsDrawn (outline_within (own m) depth)
+outline_within-drawn m zero g = drawn-drawn (λ part. Err F46) (λ part. tt) (own m g) (own-within m g)
+outline_within-drawn m (suc depth) g = drawn-drawn (outline_within (own m) depth) (outline_within-drawn m depth) (own m g) (own-within m g)
+
+outline-drawn : (m : Maps) (g : List ℕ) → IfOk (outline m g) AllDrawn
+unfolding outline
+outline-drawn m g = outline_within-drawn m 4 g
+
+-- ---- the law
+
+own-drawn : (m : Maps) (g : List ℕ) (d : Drawing) → own m g ≡ Some (Ok d) → DrawingWithin d
+own-drawn m g d e = subst OwnWithin e (own-within m g)
+
+pub drawn_within : DrawnWithinLaw
+drawn_within = record {
+  own_segments = λ m g d e. outline-stays d.segments (own-drawn m g d e).segments;
+  outlines = λ m g segments e. outline-stays segments (subst (λ r. IfOk r AllDrawn) e (outline-drawn m g));
+}
