@@ -17,3 +17,6 @@ pub use afm::write_afm;
 pub use bbox::{BBox, unite};
 pub use measuring::{bounding_box, measure};
 pub use metrics::{CharMetric, CompositeMetric, Header, KernPair, Metrics};
+
+#[cfg(test)]
+mod tests;
