@@ -1,6 +1,6 @@
 -- Boxes of lists of points, one list after another.
-use Rattle.std.proofs.Common.{◌≡◌, ℕ, zero, suc, ◌+◌, ◌<◌, length, get_or, drop, drop-cons, add-one, List, [], ◌∷◌, ◌++◌, map, refl, ap, ◌∙◌, sym, subst, append-nil, arith, Option, Some, None, ℤ, pos}
-use Rattle.std.specs.Prelude.{fold, unwrap_or, Result, Ok, Err, IsOk, IfOk, flat_map}
+use Rattle.std.proofs.Common.{◌≡◌, ℕ, suc, ◌+◌, ◌<◌, length, get_or, drop, drop-cons, add-one, List, [], ◌∷◌, ◌++◌, map, refl, ap, ◌∙◌, sym, subst, append-nil, arith, Option, Some, None, ℤ, pos}
+use Rattle.std.specs.Prelude.{fold, unwrap_or, Result, Ok, Err, IsOk, IfOk}
 use Rattle.std.specs.Int.{int_min, int_max}
 use Rattle.std.proofs.lemmas.Int.{int_min_is, int_max_is}
 use Rattle.std.specs.List.{range_with_len}
@@ -13,7 +13,6 @@ use Rattle.t1_run.specs.declared.outline.Segment.TheVariants.{Line, Curve}
 use Rattle.t1_frac.specs.Outcome.{◌>>=◌}
 use Rattle.t1_run.specs.Composite.{moved_segment, moved_outline}
 use Rattle.t1_afm.specs.declared.bbox.BBox.{BBox}
-use Rattle.t1_afm.specs.declared.span.Span.{Span}
 use Rattle.t1_afm.specs.Points.{points, points_of, cubic_at, cubic_values, curve_at, sixty_fourths}
 use Rattle.t1_afm.specs.Box.{box, around, unite, outline_box}
 use Rattle.t1_afm.specs.Spans.{span_of, spans_box}

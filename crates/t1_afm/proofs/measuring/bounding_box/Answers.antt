@@ -1,4 +1,4 @@
-use Rattle.std.proofs.Common.{◌∷◌, ◌+◌, ◌<◌, List, drop, length, subst, sym, ap, ◌∙◌, arith, Ok}
+use Rattle.std.proofs.Common.{◌+◌, ◌<◌, List, drop, length, subst, sym, ap, ◌∙◌, arith, Ok}
 use Rattle.std.specs.Prelude.{Option, Some}
 use Rattle.std.proofs.lemmas.List.Elements.{All-get_or}
 use Rattle.t1_run.specs.declared.outline.Segment.{Segment}
