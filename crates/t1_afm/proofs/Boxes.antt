@@ -1,6 +1,6 @@
 -- Boxes of lists of points, one list after another.
-use Rattle.std.proofs.Common.{◌≡◌, ℕ, zero, suc, List, [], ◌∷◌, ◌++◌, map, refl, ap, ◌∙◌, sym, subst, append-nil, arith, Option, Some, None, ℤ, pos}
-use Rattle.std.specs.Prelude.{fold, unwrap_or, Result, Ok, Err, IsOk, IfOk, flat_map}
+use Rattle.std.proofs.Common.{◌≡◌, ℕ, suc, ◌+◌, ◌<◌, length, get_or, drop, drop-cons, add-one, List, [], ◌∷◌, ◌++◌, map, refl, ap, ◌∙◌, sym, subst, append-nil, arith, Option, Some, None, ℤ, pos}
+use Rattle.std.specs.Prelude.{fold, unwrap_or, Result, Ok, Err, IsOk, IfOk}
 use Rattle.std.specs.Int.{int_min, int_max}
 use Rattle.std.proofs.lemmas.Int.{int_min_is, int_max_is}
 use Rattle.std.specs.List.{range_with_len}
@@ -13,7 +13,6 @@ use Rattle.t1_run.specs.declared.outline.Segment.TheVariants.{Line, Curve}
 use Rattle.t1_frac.specs.Outcome.{◌>>=◌}
 use Rattle.t1_run.specs.Composite.{moved_segment, moved_outline}
 use Rattle.t1_afm.specs.declared.bbox.BBox.{BBox}
-use Rattle.t1_afm.specs.declared.span.Span.{Span}
 use Rattle.t1_afm.specs.Points.{points, points_of, cubic_at, cubic_values, curve_at, sixty_fourths}
 use Rattle.t1_afm.specs.Box.{box, around, unite, outline_box}
 use Rattle.t1_afm.specs.Spans.{span_of, spans_box}
@@ -138,3 +137,10 @@ pub Rest-end : (e : Option BBox) (whole : Result (List Segment) Code) → Rest (
     → IfOk whole (λ outline. unwrap_or e (record { left = pos 0; bottom = pos 0; right = pos 0; top = pos 0 }) ≡ outline_box outline)
 Rest-end e (Ok whole) h = ap (λ x. unwrap_or x (record { left = pos 0; bottom = pos 0; right = pos 0; top = pos 0 })) (sym (unite_none e) ∙ h) ∙ box_of_extent (points whole)
 Rest-end e (Err fault) h = absurd h
+
+-- the rest begins with its item
+pub outline_is : (xs : List Segment) (i : ℕ) (x : Segment) → i < length xs → x ≡ get_or xs i x → drop i xs ≡ x ∷ drop (i + 1) xs
+outline_is xs i x h e = rw (add-one, drop-cons xs i x) (ap (λ y. y ∷ drop (suc i) xs) (sym e))
+
+pub Rest-unmoved : (s : Segment) (ss : List Segment) (e : Option BBox) (whole : List Segment) → Rest (Ok (s ∷ ss)) e (Ok whole) → Rest (Ok ss) (unite e (Some (box (points_of s)))) (Ok whole)
+Rest-unmoved s ss e whole h = step_at (Ok ss) s e (Ok whole) h

@@ -11,7 +11,7 @@ use Rattle.t1_afm.specs.declared.metrics.CharMetric.{CharMetric}
 use Rattle.t1_afm.specs.declared.metrics.KernPair.{KernPair}
 use Rattle.t1_afm.specs.declared.metrics.CompositeMetric.{CompositeMetric}
 use Rattle.t1_afm.specs.declared.part.Value.{Value}
-use Rattle.t1_afm.specs.Afm.{Line, line_text, lines_text, value_line, value_lines, header_lines, heights, sides, scheme, values_before_box, values_after_box, section, char_line, pair_line, composite_line, kerning_lines, composite_lines, lines_of, afm}
+use Rattle.t1_afm.specs.Afm.{Line, line_text, lines_text, value_line, value_lines, header_lines, heights, sides, scheme, values_before_box, values_after_box, section, char_line, pair_line, composite_line, kerning_lines, composite_lines, afm}
 use Rattle.t1_afm.specs.Lines.{value_of, values_of}
 
 -- values, put as parts

@@ -1,11 +1,11 @@
 -- The span of a cubic's values, one after another.
-use Rattle.std.proofs.Common.{◌≡◌, ℕ, zero, suc, ◌+◌, ◌-◌, ◌≤◌, ◌<◌, List, [], ◌∷◌, map, arith, refl, ap, ◌∙◌, sym, add-one}
+use Rattle.std.proofs.Common.{◌≡◌, ℕ, suc, ◌+◌, ◌-◌, ◌≤◌, ◌<◌, List, ◌∷◌, map, arith, refl}
 use Rattle.std.specs.Prelude.{fold}
 use Rattle.std.specs.Int.{int_min, int_max}
 use Rattle.std.specs.List.{range_with_len}
 use Rattle.t1_frac.specs.Fraction.{Fraction, floor_of, ceiling_of}
 use Rattle.t1_afm.specs.declared.span.Span.{Span}
-use Rattle.t1_afm.specs.Points.{cubic_at, cubic_values, sixty_fourths}
+use Rattle.t1_afm.specs.Points.{sixty_fourths}
 use Rattle.t1_afm.specs.Spans.{span_of, span_around, span_around_one}
 
 -- the span around a span and fractions

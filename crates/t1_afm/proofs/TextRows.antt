@@ -6,7 +6,6 @@ use Rattle.std.specs.Fmt.{digits}
 use Rattle.t1_afm.specs.declared.bbox.BBox.{BBox}
 use Rattle.t1_afm.specs.declared.metrics.Header.{Header}
 use Rattle.t1_afm.specs.declared.metrics.CharMetric.{CharMetric}
-use Rattle.t1_afm.specs.declared.metrics.KernPair.{KernPair}
 use Rattle.t1_afm.specs.declared.metrics.CompositeMetric.{CompositeMetric}
 use Rattle.t1_afm.specs.Afm.{lines_of, lines_text, line_text, char_line}
 

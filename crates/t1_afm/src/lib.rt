@@ -15,5 +15,8 @@ mod whole;
 
 pub use afm::write_afm;
 pub use bbox::{BBox, unite};
-pub use measuring::measure;
+pub use measuring::{bounding_box, measure};
 pub use metrics::{CharMetric, CompositeMetric, Header, KernPair, Metrics};
+
+#[cfg(test)]
+mod tests;

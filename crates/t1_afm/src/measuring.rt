@@ -1,6 +1,6 @@
 //! A glyph's box.
 
-ghost use Rattle.std.specs.Prelude.{◌≡◌, IfOk, IsOk};
+ghost use Rattle.std.specs.Prelude.{◌≡◌, All, IfOk, IsOk};
 ghost use Rattle.t1_run.specs.Composite.{moved_outline, IsWithin};
 ghost use Rattle.t1_afm.specs.Points.{points_of};
 ghost use Rattle.t1_afm.specs.Box.{box as box_of, outline_box};
@@ -25,7 +25,21 @@ fn segment_box(segment: &Segment) -> BBox
     }
 }
 
-/// The box around an outline, moved. Each moved point is within the limits.
+/// The box around an outline: over both ends of each line and 65 points of each curve, rounded outward; 0 0 0 0 where
+/// it has no segment. Each point is within the limits.
+pub fn bounding_box(segments: &[Segment]) -> BBox
+    requires { All IsWithin segments.now }
+    ensures { result ≡ outline_box segments.now }
+{
+    let mut extent: Option<BBox> = None;
+    for segment in segments {
+        let next = segment_box(segment);
+        extent = unite(extent, Some(next));
+    }
+    extent.unwrap_or(BBox::EMPTY)
+}
+
+/// The box around an outline, moved before it is rounded. Each moved point is within the limits.
 pub fn measure(segments: &[Segment], offset: &Point) -> BBox
     requires { IsOk (moved_outline offset.now segments.now) }
     ensures { IfOk (moved_outline offset.now segments.now) (λ outline. result ≡ outline_box outline) }

@@ -1,4 +1,4 @@
-use Rattle.std.proofs.Common.{[], ◌∷◌, ◌++◌, length, refl}
+use Rattle.std.proofs.Common.{[], ◌∷◌, length, refl}
 use Rattle.std.specs.Prelude.{flat_map, decimal}
 use Rattle.t1_afm.specs.Afm.{line_text}
 use Rattle.t1_code.specs.Counted.{outlet}

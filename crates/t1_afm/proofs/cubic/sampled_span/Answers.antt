@@ -1,8 +1,8 @@
-use Rattle.std.proofs.Common.{subst, sym, ap, ◌∙◌, arith}
-use Rattle.t1_afm.specs.Points.{cubic_at, cubic_values}
-use Rattle.t1_afm.specs.Spans.{span_of, span_around}
+use Rattle.std.proofs.Common.{ap, ◌∙◌, arith}
+use Rattle.t1_afm.specs.Points.{cubic_at}
+use Rattle.t1_afm.specs.Spans.{span_around}
 use Rattle.t1_afm.specs.declared.span.Span.{Span}
-use Rattle.t1_afm.proofs.Spans.{Spans, Spans-first, Spans-next}
+use Rattle.t1_afm.proofs.Spans.{Spans-first, Spans-next}
 use Rattle.t1_afm.proofs.cubic.sampled_span.Goals as goal
 
 pub loop-k-init : goal.loop-k-init

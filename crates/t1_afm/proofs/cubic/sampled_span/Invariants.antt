@@ -1,4 +1,3 @@
-use Rattle.std.proofs.Common.{◌≤◌}
 use Rattle.t1_afm.specs.Points.{cubic_at, cubic_values}
 use Rattle.t1_afm.specs.Spans.{span_of}
 use Rattle.t1_afm.proofs.Spans.{Spans}

@@ -1,9 +1,8 @@
-use Rattle.std.proofs.Common.{◌<◌, ◌≤◌, ◌+◌, ◌∷◌, [], drop, get_or, length, arith}
+use Rattle.std.proofs.Common.{◌<◌, ◌∷◌, [], get_or, length, arith}
 use Rattle.std.proofs.lemmas.List.{drop_all}
 use Rattle.t1_code.specs.Counted.{outlet}
 use Rattle.t1_code.proofs.Writing.{passing, Written-step, Written-fails, Written-ends, Written-ends_failing, at_error}
-use Rattle.t1_afm.specs.Afm.{rest_text}
-use Rattle.t1_afm.specs.Lines.{words_of, word_text}
+use Rattle.t1_afm.specs.Lines.{word_text}
 use Rattle.t1_afm.proofs.Sheets.{rest_is, no_word}
 use Rattle.t1_afm.proofs.line.put_rest.Goals as goal
 

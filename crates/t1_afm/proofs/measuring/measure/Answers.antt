@@ -1,15 +1,11 @@
-use Rattle.std.proofs.Common.{◌≡◌, ℕ, ◌∷◌, ◌+◌, ◌<◌, suc, List, drop, drop-cons, add-one, length, get_or, subst, sym, ap, ◌∙◌, arith}
+use Rattle.std.proofs.Common.{◌+◌, List, drop, subst, sym, ap, ◌∙◌, arith}
 use Rattle.std.specs.Prelude.{Option, Some}
 use Rattle.t1_run.specs.declared.outline.Segment.{Segment}
 use Rattle.t1_run.specs.Composite.{moved_outline}
 use Rattle.t1_afm.specs.declared.bbox.BBox.{BBox}
 use Rattle.t1_afm.specs.Box.{unite}
-use Rattle.t1_afm.proofs.Boxes.{Rest, Rest-step}
+use Rattle.t1_afm.proofs.Boxes.{Rest, Rest-step, outline_is}
 use Rattle.t1_afm.proofs.measuring.measure.Goals as goal
-
--- the rest begins with its item
-rest_is : (xs : List Segment) (i : ℕ) (x : Segment) → i < length xs → x ≡ get_or xs i x → drop i xs ≡ x ∷ drop (i + 1) xs
-rest_is xs i x h e = rw (add-one, drop-cons xs i x) (ap (λ y. y ∷ drop (suc i) xs) (sym e))
 
 pub loop-segment-preserved : goal.loop-segment-preserved
 loop-segment-preserved c =
@@ -19,7 +15,7 @@ loop-segment-preserved c =
     let item = c.segment-item.result in
     let whole = moved_outline by segments in
     let found = c.loop-segment.extent in
-    let split = rest_is segments i item (omega arith) c.segment-item.is in
+    let split = outline_is segments i item (omega arith) c.segment-item.is in
     let rest = subst (λ (l : List Segment). Rest (moved_outline by l) found whole) split c.loop-segment.invariant in
     let next = Rest-step by item c.in-Ok.segment (drop (i + 1) segments) found whole (sym c.moved_segment.ensures.moved ∙ c.in-Ok.is) rest in
     let is = c.unite-extent.ensures ∙ ap (λ (b : BBox). unite found (Some b)) c.segment_box-next.ensures in
