@@ -1,0 +1,4 @@
+pub mod LineLaws
+pub mod Conversations
+pub mod Sessions
+pub mod Parsing
