@@ -8,7 +8,7 @@ use std::marker::Model;
 
 /// Bytes that wait until a whole chunk of them goes out.
 #[derive(Drop)]
-pub(crate) struct Chunk {
+pub struct Chunk {
     bytes: [u8; MAX_PUT],
     len: usize,
 }
@@ -25,7 +25,7 @@ impl Model for Chunk {
 
 impl Chunk {
     /// No byte waits.
-    pub(crate) fn new() -> Self
+    pub fn new() -> Self
         ensures { result ≡ [] }
     {
         Chunk {
@@ -62,7 +62,7 @@ impl Chunk {
     }
 
     /// Hands all that waits to the writer.
-    pub(crate) fn send<W: Write>(&mut self, out: &mut Counted<W>) -> io::Result<()>
+    pub fn send<W: Write>(&mut self, out: &mut Counted<W>) -> io::Result<()>
         ensures ok { OnOk result (WritesAll W.contents out.old out.new self.old) }
         ensures empty { OnOk result (self.new ≡ []) }
         ensures err { OnErr result (WritesFront W.contents out.old out.new self.old) }
@@ -73,7 +73,7 @@ impl Chunk {
     }
 
     /// Takes a byte, after it made room where it was full.
-    pub(crate) fn pass<W: Write>(&mut self, out: &mut Counted<W>, byte: u8) -> io::Result<()>
+    pub fn pass<W: Write>(&mut self, out: &mut Counted<W>, byte: u8) -> io::Result<()>
         ensures ok { OnOk result (Passes W.contents (outlet out.old self.old) (outlet out.new self.new) (byte ∷ [])) }
         ensures err { OnErr result (Stops W.contents (outlet out.old self.old) (outlet out.new self.new) (byte ∷ [])) }
     {

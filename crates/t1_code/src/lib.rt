@@ -15,10 +15,14 @@ mod words;
 
 pub use body::Body;
 pub use charstring::{assemble, charstring_of, encrypted_charstring};
+pub use chunk::Chunk;
 pub use cipher::encrypt;
 pub use command::Command;
 pub use counted::{Counted, MAX_PUT};
 pub use encoding::standard_name;
 pub use parts::{OutError, Parts, Piece};
-pub use pfb::write_pfb;
+pub use pfb::{put_plain, write_pfb};
 pub use words::compile;
+
+#[cfg(test)]
+mod tests;

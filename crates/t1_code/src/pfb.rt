@@ -76,7 +76,7 @@ fn private_len(pieces: &[Piece]) -> usize
 }
 
 /// Passes bytes on as they are.
-fn put_plain<W: Write>(out: &mut Counted<W>, chunk: &mut Chunk, bytes: &[u8]) -> io::Result<()>
+pub fn put_plain<W: Write>(out: &mut Counted<W>, chunk: &mut Chunk, bytes: &[u8]) -> io::Result<()>
     ensures ok { OnOk result (Passes W.contents (outlet out.old chunk.old) (outlet out.new chunk.new) bytes.now) }
     ensures err { OnErr result (Stops W.contents (outlet out.old chunk.old) (outlet out.new chunk.new) bytes.now) }
 {

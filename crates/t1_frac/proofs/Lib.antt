@@ -1,2 +1,7 @@
 pub mod AppendLaws
+pub mod Coordinates
+pub mod Divisors
+pub mod Exact
+pub mod Rounded
+pub mod Rows
 pub mod WordLaws

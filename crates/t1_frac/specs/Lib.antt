@@ -1,2 +1,5 @@
+pub mod Fraction
+pub mod Limits
 pub mod Outcome
+pub mod Rounding
 pub mod Words

@@ -1,10 +1,14 @@
-//! What all layers of the assembler share: bytes and words as contracts see them, and the faults they tell.
+//! What all layers of the assembler share: exact fractions, bytes and words as contracts see them, and the faults they tell.
 #![tactic(auto)]
 
 mod bytes;
 mod fault;
+mod frac;
+mod gcd;
+pub mod laws;
 mod words;
 
 pub use bytes::Bytes;
 pub use fault::{Code, Fault, Place, Refusal};
+pub use frac::Frac;
 pub use words::{Words, is_blank, next_word, skip_blanks};

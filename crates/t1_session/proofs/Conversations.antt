@@ -1,19 +1,20 @@
 -- How a conversation goes on, by one byte, by one line and by one piece.
 use Rattle.std.proofs.Common.{◌≡◌, ◌∙◌, ℕ, Bool, true, false, List, [], ◌∷◌, ◌++◌, append_assoc, append-nil, refl, sym, ap, length}
 use Rattle.std.specs.Prelude.{Option, Some, None, ◌==◌, Result, Ok, Err}
-use Rattle.t1_code.specs.Counted.{Tally, WritesAll, WritesFront}
+use Rattle.t1_code.specs.Counted.{Tally, WritesAll}
 use Rattle.t1_code.proofs.Writing.{writing, WritesAll-append, WritesFront-append, WritesFront-longer}
 use Rattle.t1_frac.specs.Words.{words}
 use Rattle.t1_session.specs.declared.error.ServeError.{ServeError}
 use Rattle.t1_session.specs.declared.error.ServeError.TheVariants as errors
 use Rattle.t1_session.specs.declared.request.Request.{Request}
-use Rattle.t1_session.specs.Lines.{lines_so_far, is_unbroken, unified, behind_return, ends_line}
+use Rattle.t1_source.specs.Lines.{unified}
+use Rattle.t1_session.specs.Lines.{lines_so_far, is_unbroken, behind_return, ends_line}
 use Rattle.t1_session.specs.Requests.{Opening, requests_of, open_request}
 use Rattle.t1_session.specs.Replies.{reply_text}
-use Rattle.t1_session.specs.Answers.{Conversation, answers, answers_from, reply_to}
+use Rattle.t1_session.specs.Answers.{Conversation, answers_from, reply_to}
 use Rattle.t1_session.specs.Machine.{machine}
 use Rattle.t1_session.specs.State.{State}
-use Rattle.t1_session.specs.Dialogues.{Goes, IsQuiet, Reaches, StopsForMemory, StopsForWrite, Answered, Feeds, LineGoes, LineAnswered, LineStops, EndsLine, Performs, EndAnswered, EndStops, Ends, EndsBody}
+use Rattle.t1_session.specs.Dialogues.{Goes, IsQuiet, StopsForMemory, Feeds, LineGoes, LineAnswered, EndsLine, Performs, EndAnswered, Ends, EndsBody}
 use Rattle.t1_session.proofs.LineLaws.{lines_so_far-line, lines_so_far-unbroken, lines_so_far-last, last_line_of, unified-byte, unified-end}
 
 -- a body that is open is no command before the input ends

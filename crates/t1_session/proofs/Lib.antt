@@ -1,4 +1,6 @@
-pub mod LineLaws
 pub mod Conversations
-pub mod Sessions
+pub mod Delivering
+pub mod Gathering
+pub mod LineLaws
 pub mod Parsing
+pub mod Sessions

@@ -1,10 +1,11 @@
 -- How the lines of an input grow, byte by byte.
-use Rattle.std.proofs.Common.{◌≡◌, ◌∙◌, ℕ, zero, suc, ◌+◌, Bool, true, false, cond, List, [], ◌∷◌, ◌++◌, length, take, refl, sym, ap, ◌&&◌, arith, subst}
-use Rattle.std.specs.Prelude.{◌==◌, ◌||◌, not, sum_by}
+use Rattle.std.proofs.Common.{◌≡◌, ◌∙◌, ℕ, suc, Bool, true, false, cond, List, [], ◌∷◌, ◌++◌, length, refl, ap, ◌&&◌, arith}
+use Rattle.std.specs.Prelude.{◌==◌, ◌||◌, not}
 use Rattle.std.specs.List.{onto_first}
 use Rattle.std.proofs.lemmas.Bool.{eqb-true, and_parts}
 use Rattle.std.proofs.lemmas.List.Sums.{sum_by-cons}
-use Rattle.t1_session.specs.Lines.{begins_with, unified, split_lines, ended_lines, lines_so_far, behind_return, ends_line, is_unbroken}
+use Rattle.t1_source.specs.Lines.{unified, split_lines}
+use Rattle.t1_session.specs.Lines.{ended_lines, lines_so_far, behind_return, ends_line, is_unbroken}
 
 pub not_false : (q : Bool) → not q ≡ true → q ≡ false
 not_false true h = cc

@@ -1,7 +1,7 @@
 -- A whole session, from its parts.
 use Rattle.std.proofs.Common.{◌≡◌, ◌∙◌, ℕ, Bool, true, false, List, [], ◌++◌, append_assoc, append-nil, refl, sym, ap}
 use Rattle.std.specs.Prelude.{Option, Result, Ok, Err}
-use Rattle.std.specs.Io.KnownBytes.{Consumes, IsAtEnd}
+use Rattle.std.specs.Io.KnownBytes.{IsAtEnd}
 use Rattle.std.proofs.KnownBytes.{Consumes-nil}
 use Rattle.t1_frac.specs.declared.fault.Fault.{Fault}
 use Rattle.t1_code.specs.Counted.{Tally, WritesAll}
@@ -12,7 +12,7 @@ use Rattle.t1_session.specs.Answers.{Conversation, answer, answers_from, fresh}
 use Rattle.t1_session.specs.Machine.{machine}
 use Rattle.t1_session.specs.State.{State}
 use Rattle.t1_session.specs.Dialogues.{Goes, IsQuiet, Feeds, Ends}
-use Rattle.t1_session.specs.Serving.{Streams, streams, Reads, ReadsAndFails, StopsAtRead, StopsForMemory, Converses, Serves}
+use Rattle.t1_session.specs.Serving.{Streams, Reads, ReadsAndFails, StopsAtRead, StopsForMemory, Converses, Serves}
 use Rattle.t1_session.proofs.Conversations.{Goes-both, quiet}
 
 -- what was written so far is the answer to what was read, as input that goes on

@@ -9,7 +9,7 @@ use Rattle.t1_session.specs.declared.request.Request.{Request}
 use Rattle.t1_session.specs.declared.reply.Reply.{Reply}
 use Rattle.t1_session.specs.Requests.{Opening, requests_of, may_want_memory}
 use Rattle.t1_session.specs.Replies.{reply_text}
-use Rattle.t1_session.specs.Answers.{Conversation, Performed, answers, answers_from, reply_to}
+use Rattle.t1_session.specs.Answers.{Conversation, answers, answers_from, reply_to}
 use Rattle.t1_session.specs.Machine.{machine}
 use Rattle.t1_session.specs.State.{State}
 

@@ -1,22 +1,7 @@
 -- The lines of a session's input.
-use Rattle.std.specs.Prelude.{ℕ, Bool, false, not, ◌==◌, ◌&&◌, ◌||◌, if◌then◌else◌, List, [], ◌∷◌, drop, take, count_by}
-use Rattle.std.specs.List.{onto_first, list_all}
-
--- whether the list begins with this byte
-abbrev pub begins_with : ℕ → List ℕ → Bool
-begins_with b [] = false
-begins_with b (c ∷ rest) = b == c
-
--- profile, lines: each line end, LF, CR LF or CR, as one LF
-abbrev pub unified : List ℕ → List ℕ
-unified [] = []
-unified (c ∷ rest) =
-    if c == 13 then (if begins_with 10 rest then unified rest else 10 ∷ unified rest) else c ∷ unified rest
-
--- the lines of a text whose line ends are LF; a last line without an end counts where it isn't empty
-abbrev pub split_lines : List ℕ → List (List ℕ)
-split_lines [] = []
-split_lines (c ∷ rest) = if c == 10 then [] ∷ split_lines rest else onto_first c (split_lines rest)
+use Rattle.std.specs.Prelude.{ℕ, Bool, not, ◌==◌, ◌&&◌, ◌||◌, if◌then◌else◌, List, drop, take, count_by}
+use Rattle.std.specs.List.{list_all}
+use Rattle.t1_source.specs.Lines.{begins_with, split_lines}
 
 -- how many lines of a text have their end
 abbrev pub ended_lines : List ℕ → ℕ

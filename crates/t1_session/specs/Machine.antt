@@ -1,12 +1,14 @@
--- The commands of a session, whose state is a source and its pairs.
-use Rattle.std.specs.Prelude.{ℕ, Bool, nat_lt, if◌then◌else◌, List, ◌++◌, length, Result, Ok, Err}
-use Rattle.t1_frac.specs.declared.fault.Code.TheVariants.{F1, F22}
+-- The commands of a session.
+use Rattle.std.specs.Prelude.{ℕ, List, Result, Ok, Err}
 use Rattle.t1_frac.specs.declared.fault.Fault.{Fault}
-use Rattle.t1_frac.specs.declared.fault.Place.TheVariants.{Nowhere, Glyph}
-use Rattle.t1_frac.specs.Outcome.{fault_at}
-use Rattle.t1_session.specs.declared.edit.Edit.{Edit}
-use Rattle.t1_session.specs.declared.edit.Edit.TheVariants.{ReplaceGlyph, RemoveGlyph}
-use Rattle.t1_session.specs.declared.edit.Rule.TheVariants.{E1}
+use Rattle.t1_frac.specs.Outcome.{◌>>=◌}
+use Rattle.t1_source.specs.declared.pairs.Pair.{Pair}
+use Rattle.t1_source.specs.Form.{Form}
+use Rattle.t1_source.specs.Reading.{reads}
+use Rattle.t1_source.specs.Kerning.{pairs, kern}
+use Rattle.t1_source.specs.Printing.{text}
+use Rattle.t1_code.specs.Pfb.{whole_file}
+use Rattle.t1_session.specs.declared.edit.Rule.{Rule}
 use Rattle.t1_session.specs.declared.print.Print.{Print}
 use Rattle.t1_session.specs.declared.print.Print.TheVariants as prints
 use Rattle.t1_session.specs.declared.reply.Reply.{Reply}
@@ -14,37 +16,46 @@ use Rattle.t1_session.specs.declared.reply.Reply.TheVariants.{Accepted, Broken, 
 use Rattle.t1_session.specs.declared.request.Request.{Request}
 use Rattle.t1_session.specs.declared.request.Request.TheVariants as requests
 use Rattle.t1_session.specs.Answers.{Performed, Machine}
-use Rattle.t1_session.specs.State.{State}
+use Rattle.t1_session.specs.Assembly.{source_file}
+use Rattle.t1_session.specs.Editing.{edited}
 use Rattle.t1_session.specs.Requests.{may_want_memory}
+use Rattle.t1_session.specs.State.{State}
 
--- the state after an edit, or why it is refused
-unfoldable pub edited : State → Edit → Result State Reply
-edited s (ReplaceGlyph name body) =
-    if nat_lt 20 (length body) then Err (Faulty (fault_at (Glyph name) F22))
-    else Ok (record s { source = s.source ++ body })
-edited s (RemoveGlyph name) = Err (Broken E1)
-edited s _ = Ok s
+-- profile, edits: the edited source is refused by the first fault of its bodies, or by F23
+abbrev pub judged_file : State → State → Result (List ℕ) Fault → Performed State
+judged_file old new (Ok file) = record { reply = Accepted; next = new }
+judged_file old new (Err fault) = record { reply = Faulty fault; next = old }
 
--- profile, answers: an edit that is refused leaves the state as it was
-abbrev pub judged : State → Result State Reply → Performed State
-judged old (Ok new) = record { reply = Accepted; next = new }
-judged old (Err refused) = record { reply = refused; next = old }
+-- profile, edits: an edit that is refused leaves the state as it was
+abbrev pub judged : State → Result (Form × List Pair) Rule → Performed State
+judged old (Ok made) = judged_file old (record { source = made.0; pairs = made.1 }) (source_file whole_file made.0)
+judged old (Err rule) = record { reply = Broken rule; next = old }
 
--- what a print shows
-unfoldable pub printed : State → Print → List ℕ
-printed s prints.Source = s.source
-printed s prints.Kern = s.pairs
-printed s prints.Pfb = s.source ++ s.pairs
+-- what a print of the PFB file is answered; the source of a session has no fault
+abbrev pub file_reply : Result (List ℕ) Fault → Reply
+file_reply (Ok file) = Data file
+file_reply (Err fault) = Faulty fault
+
+-- profile, session commands: what a print shows
+abbrev pub printed : State → Print → Reply
+printed s prints.Source = Data (text s.source)
+printed s prints.Kern = Data (kern s.pairs)
+printed s prints.Pfb = file_reply (source_file whole_file s.source)
 
 -- profile, session commands: what a command is answered, and the state after it
 unfoldable pub perform : State → Request → Performed State
-perform s (requests.Edit edit) = judged s (edited s edit)
-perform s (requests.Print print) = record { reply = Data (printed s print); next = s }
+perform s (requests.Edit edit) = judged s (edited s.source s.pairs edit)
+perform s (requests.Print print) = record { reply = printed s print; next = s }
 perform s (requests.Broken rule) = record { reply = Broken rule; next = s }
 
+-- profile, answers: a command that met want of memory leaves the state as it was
 abbrev pub machine : Machine State
 machine = record { perform = perform; may_want_memory = λ s r. may_want_memory r; after_want = λ s r. s }
 
--- the state that a session opens with, or the fault of its source or pairs
+-- the state that a session opens with, or the first fault of the source, of the pairs, of the source's bodies
 unfoldable pub scratch : List ℕ → List ℕ → Result State Fault
-scratch source pairs = if nat_lt 0 (length source) then Ok (record { source = source; pairs = pairs }) else Err (fault_at Nowhere F1)
+scratch source pair_lines = do
+  form ← reads source
+  kerning ← pairs pair_lines
+  file ← source_file whole_file form
+  Ok (record { source = form; pairs = kerning })

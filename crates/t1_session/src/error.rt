@@ -1,20 +1,51 @@
 use std::alloc::{AllocError, AllocFailed};
 use std::io;
-use t1_frac::Fault;
+use t1_code::OutError;
+use t1_frac::{Fault, Refusal};
 use thiserror::Error;
 
-/// Why a call that serves a whole source ended early.
+/// Why a call over whole files stopped before its end.
 #[derive(Debug, Drop, Error)]
 pub enum ServeError {
-    /// The source or its pairs are refused by this fault. Nothing was read or written.
+    /// The source or the pairs have a fault; nothing was written.
     #[error("refused")]
     Load(Fault),
     #[error("read failed")]
     Read,
+    /// A write failed; what was written is a beginning of what was to be written.
     #[error("write failed")]
     Write,
     #[error("out of memory")]
     Memory,
+}
+
+impl From<Refusal> for ServeError {
+    ghost use Rattle.std.specs.Prelude.{◌≡◌};
+    ghost use Rattle.t1_session.specs.Delivery.{told_by_refusal};
+
+    ghost from_gives = { λ refused error. error ≡ told_by_refusal refused };
+
+    fn from(refused: Refusal) -> ServeError {
+        match refused {
+            Refusal::Fault(fault) => ServeError::Load(fault),
+            Refusal::Memory => ServeError::Memory,
+        }
+    }
+}
+
+impl From<OutError> for ServeError {
+    ghost use Rattle.std.specs.Prelude.{◌≡◌};
+    ghost use Rattle.t1_session.specs.Delivery.{told_by_writing};
+
+    ghost from_gives = { λ failed error. error ≡ told_by_writing failed };
+
+    fn from(failed: OutError) -> ServeError {
+        match failed {
+            OutError::Fault(fault) => ServeError::Load(fault),
+            OutError::Write => ServeError::Write,
+            OutError::Memory => ServeError::Memory,
+        }
+    }
 }
 
 impl From<AllocError> for ServeError {

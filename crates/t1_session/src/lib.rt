@@ -1,18 +1,20 @@
-//! A session over a font: commands in, answers out.
+//! Whole fonts: a readable source assembled to its PFB file, and a session that edits and prints one.
 #![tactic(auto)]
 
 mod answering;
+mod assembly;
 mod dialogue;
 mod edit;
 mod error;
 mod numbers;
 mod print;
+mod private;
 mod reply;
 mod request;
 mod serving;
 mod session;
 
+pub use assembly::assemble_source;
 pub use edit::{Edit, Rule};
 pub use error::ServeError;
-pub use reply::put_fault;
 pub use serving::serve;

@@ -130,7 +130,7 @@ fn place_slices<'a>(
 
 /// Writes a fault by its code and place, between two texts.
 #[tactic(auto, unfolding(crate::specs::Replies::fault_text))]
-pub fn put_fault<W: Write>(
+fn put_fault<W: Write>(
     writer: &mut Counted<W>,
     before: &[u8],
     fault: &Fault,

@@ -2,12 +2,13 @@
 
 use std::alloc::{AllocError, Global};
 use std::marker::Model;
+use t1_source::{Pairs, Source, read_pairs, read_source};
 
-/// A session over a source and its pairs.
+/// A session over a source and its kerning pairs. Its source has no fault that its PFB file would tell.
 #[derive(Drop)]
 pub struct Session {
-    source: Bytes,
-    pairs: Bytes,
+    source: Source,
+    pairs: Pairs,
 }
 
 impl Model for Session {
@@ -18,40 +19,59 @@ impl Model for Session {
     ghost view = { λ session. record { source = session.source; pairs = session.pairs } };
 }
 
-ghost use Rattle.std.specs.Prelude.{◌≡◌, ◌++◌, IfOk, OnErr, true, OnOk, MatchResult};
+ghost use Rattle.std.specs.Prelude.{◌≡◌, true, IfOk, OnOk, OnErr};
 ghost use Rattle.t1_frac.specs.Outcome.{Gives};
+ghost use Rattle.t1_source.specs.Kerning.{kern};
+ghost use Rattle.t1_source.specs.Printing.{text};
+ghost use Rattle.t1_session.specs.Editing.{edited};
+ghost use Rattle.t1_session.specs.Machine.{perform, printed, judged, judged_file, file_reply, scratch};
+ghost use Rattle.t1_session.specs.Assembly.{source_file};
 ghost use Rattle.t1_session.specs.Requests.{may_want_memory};
-ghost use Rattle.t1_session.specs.Machine.{perform, printed, edited, judged, scratch};
+ghost use Rattle.t1_code.specs.Pfb.{whole_file};
 
-use crate::edit::{Edit, Rule};
+use crate::assembly::write_source;
+use crate::edit::{Cause, Edit, edited};
+use crate::error::ServeError;
 use crate::print::Print;
 use crate::reply::Reply;
 use crate::request::Request;
-use t1_frac::{Bytes, Code, Fault, Place, Refusal};
+use t1_code::Counted;
+use t1_frac::{Bytes, Refusal};
 
-/// The longest body of the stand-in.
-const LONGEST_BODY: usize = 20;
-
-/// The bytes of both, one after another.
-fn joined(alloc: Global, front: &[u8], rest: &[u8]) -> Result<Bytes, AllocError>
-    ensures { IfOk result (λ both. both ≡ front.now ++ rest.now) }
+/// The PFB file of a source, or the first fault of its bodies, or F23.
+fn file_of(alloc: Global, source: &Source) -> Result<Vec<u8>, Refusal>
+    ensures { Gives (λ file. file.items) result (source_file whole_file source.now) }
 {
-    let mut bytes = Vec::from_slice(alloc, front)?;
-    bytes.extend_from_slice(rest)?;
-    Ok(Bytes::new(bytes))
+    let mut out = Counted::new(Vec::new(alloc));
+    match write_source(alloc, source, &mut out) {
+        Ok(()) => Ok(out.into_inner()),
+        Err(ServeError::Load(fault)) => Err(Refusal::Fault(fault)),
+        // A vector fails to take bytes only where it can't grow.
+        Err(_) => Err(Refusal::Memory),
+    }
+}
+
+/// The answer to a print of the PFB file.
+fn file_reply(alloc: Global, source: &Source) -> Result<Reply, AllocError>
+    ensures { IfOk result (λ reply. reply ≡ file_reply (source_file whole_file source.now)) }
+{
+    match file_of(alloc, source) {
+        Ok(file) => Ok(Reply::Data(Bytes::new(file))),
+        Err(Refusal::Fault(fault)) => Ok(Reply::Faulty(fault)),
+        Err(Refusal::Memory) => Err(AllocError),
+    }
 }
 
 impl Session {
-    /// The session of a source and its pairs, or the fault of either.
+    /// The session of a source and its pairs, or the first fault: of reading the source, of the pairs, of the
+    /// source's bodies, F23.
     #[tactic(auto, unfolding(crate::specs::Machine::scratch))]
     pub fn open(alloc: Global, source: &[u8], pairs: &[u8]) -> Result<Session, Refusal>
         ensures { Gives (λ session. session) result (scratch source.now pairs.now) }
     {
-        if source.is_empty() {
-            return Err(Refusal::from(Code::F1));
-        }
-        let source = Bytes::copied(alloc, source)?;
-        let pairs = Bytes::copied(alloc, pairs)?;
+        let source = read_source(alloc, source)?;
+        let pairs = read_pairs(alloc, pairs)?;
+        let _file = file_of(alloc, &source)?;
         Ok(Session { source, pairs })
     }
 
@@ -65,43 +85,50 @@ impl Session {
     {
         match request {
             Request::Edit(edit) => self.edit(alloc, &edit),
-            Request::Print(print) => Ok(Reply::Data(self.printed(alloc, print)?)),
+            Request::Print(print) => self.print(alloc, print),
             Request::Broken(rule) => Ok(Reply::Broken(rule)),
         }
     }
 
     /// Takes an edit, or refuses it and stays as it is.
-    #[tactic(auto, unfolding(crate::specs::Machine::edited))]
     fn edit(&mut self, alloc: Global, edit: &Edit) -> Result<Reply, AllocError>
-        ensures reply { IfOk result (λ reply. reply ≡ (judged self.old (edited self.old edit.now)).reply) }
-        ensures next { OnOk result (self.new ≡ (judged self.old (edited self.old edit.now)).next) }
+        ensures reply { IfOk result (λ reply. reply ≡ (judged self.old (edited self.old.source self.old.pairs edit.now)).reply) }
+        ensures next { OnOk result (self.new ≡ (judged self.old (edited self.old.source self.old.pairs edit.now)).next) }
         ensures err { OnErr result (self.new ≡ self.old) }
     {
-        match edit {
-            Edit::ReplaceGlyph(name, body) => {
-                if body.as_slice().len() > LONGEST_BODY {
-                    return Ok(Reply::Faulty(Fault {
-                        code: Code::F22,
-                        place: Place::Glyph(Bytes::copied(alloc, name.as_slice())?),
-                    }));
-                }
-                self.source = joined(alloc, self.source.as_slice(), body.as_slice())?;
-                Ok(Reply::Accepted)
-            }
-            Edit::RemoveGlyph(_) => Ok(Reply::Broken(Rule::E1)),
-            _ => Ok(Reply::Accepted),
+        match edited(&self.source, &self.pairs, edit) {
+            Ok((source, pairs)) => self.take(alloc, source, pairs),
+            Err(Cause::Rule(rule)) => Ok(Reply::Broken(rule)),
+            Err(Cause::Fault(fault)) => Ok(Reply::Faulty(fault)),
+            Err(Cause::Memory) => Err(AllocError),
         }
     }
 
-    /// What a print shows.
-    #[tactic(auto, unfolding(crate::specs::Machine::printed))]
-    fn printed(&self, alloc: Global, print: Print) -> Result<Bytes, AllocError>
-        ensures { IfOk result (λ shown. shown ≡ printed self.now print) }
+    /// Takes an edited source with its pairs, unless the source has a fault.
+    fn take(&mut self, alloc: Global, source: Source, pairs: Pairs) -> Result<Reply, AllocError>
+        ensures reply { IfOk result (λ reply. reply ≡ (judged_file self.old (record { source = source; pairs = pairs }) (source_file whole_file source)).reply) }
+        ensures next { OnOk result (self.new ≡ (judged_file self.old (record { source = source; pairs = pairs }) (source_file whole_file source)).next) }
+        ensures err { OnErr result (self.new ≡ self.old) }
+    {
+        match file_of(alloc, &source) {
+            Ok(_file) => {
+                self.source = source;
+                self.pairs = pairs;
+                Ok(Reply::Accepted)
+            }
+            Err(Refusal::Fault(fault)) => Ok(Reply::Faulty(fault)),
+            Err(Refusal::Memory) => Err(AllocError),
+        }
+    }
+
+    /// Answers a print. The whole text is there before any of it is written.
+    fn print(&self, alloc: Global, print: Print) -> Result<Reply, AllocError>
+        ensures { IfOk result (λ reply. reply ≡ printed self.now print) }
     {
         match print {
-            Print::Source => Bytes::copied(alloc, self.source.as_slice()),
-            Print::Kern => Bytes::copied(alloc, self.pairs.as_slice()),
-            Print::Pfb => joined(alloc, self.source.as_slice(), self.pairs.as_slice()),
+            Print::Source => Ok(Reply::Data(Bytes::new(self.source.text()?))),
+            Print::Kern => Ok(Reply::Data(Bytes::new(self.pairs.text()?))),
+            Print::Pfb => file_reply(alloc, &self.source),
         }
     }
 }

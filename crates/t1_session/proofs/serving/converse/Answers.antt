@@ -1,13 +1,13 @@
-use Rattle.std.proofs.Common.{◌≡◌, ◌∙◌, ◌++◌, [], List, ℕ, ◌<◌, ap, append-nil, length, take, arith}
+use Rattle.std.proofs.Common.{◌∙◌, ◌++◌, [], List, ℕ, ◌<◌, ap, append-nil, length, arith}
 use Rattle.std.proofs.KnownBytes.{Consumes-trans, Consumes-kept}
 use Rattle.std.proofs.lemmas.Result.{err_from_is_err_and}
 use Rattle.std.specs.Io.KnownBytes.{Consumes}
 use Rattle.t1_code.specs.Counted.{one_more}
-use Rattle.t1_code.proofs.Writing.{writing, WritesAll-append}
+use Rattle.t1_code.proofs.Writing.{WritesAll-append}
 use Rattle.t1_session.specs.Answers.{fresh}
 use Rattle.t1_session.specs.Dialogues.{conversation_of}
 use Rattle.t1_session.specs.Serving.{streams}
-use Rattle.t1_session.proofs.Conversations.{Goes-none, Goes-both, quiet}
+use Rattle.t1_session.proofs.Conversations.{Goes-both, quiet}
 use Rattle.t1_session.proofs.Sessions.{stopped_at_read, Converses-ended, Converses-fed}
 use Rattle.t1_session.proofs.serving.converse.Goals as goal
 

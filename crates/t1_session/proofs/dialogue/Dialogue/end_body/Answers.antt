@@ -1,5 +1,4 @@
-use Rattle.std.proofs.Common.{◌≡◌, ◌∙◌, sym, ap, option_map, None, Some}
-use Rattle.std.specs.Prelude.{Option}
+use Rattle.std.proofs.Common.{◌∙◌, sym, ap, option_map}
 use Rattle.t1_frac.specs.Words.{words}
 use Rattle.t1_session.specs.Requests.{Opening, open_request}
 use Rattle.t1_session.specs.Dialogues.{conversation_of, opening_of}

@@ -2,7 +2,7 @@ use Rattle.std.proofs.Common.{◌≡◌, ◌∙◌, sym, ap, false, length}
 use Rattle.std.specs.Prelude.{◌==◌}
 use Rattle.std.proofs.lemmas.Result.{err_from_is_err_and}
 use Rattle.t1_session.specs.Dialogues.{conversation_of}
-use Rattle.t1_session.proofs.Conversations.{Ends-failed, Ends-behind, Ends-unlined}
+use Rattle.t1_session.proofs.Conversations.{Ends-failed, Ends-behind}
 use Rattle.t1_session.proofs.dialogue.Dialogue.finish.Goals as goal
 
 pub returns-in_err-end_line : goal.returns-in_err-end_line

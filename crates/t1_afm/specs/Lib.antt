@@ -1,0 +1,2 @@
+pub mod Afm
+pub mod Lines

@@ -1,0 +1,21 @@
+-- What contracts see of the words and entries that the code puts into lines.
+use Rattle.std.specs.Prelude.{ℕ, List, map, decimal, Option, option_map}
+use Rattle.std.specs.Fmt.{signed_decimal}
+use Rattle.t1_afm.specs.declared.part.Value.{Value}
+use Rattle.t1_afm.specs.declared.line.Word.{Word}
+use Rattle.t1_afm.specs.declared.line.Word.TheVariants.{Text, Number, Count}
+use Rattle.t1_afm.specs.Afm.{Line}
+
+abbrev pub word_text : Word → List ℕ
+word_text (Text bytes) = bytes.now
+word_text (Number number) = signed_decimal number
+word_text (Count count) = decimal count
+
+abbrev pub words_of : List Word → Line
+words_of words = map word_text words
+
+abbrev pub value_of : Value → List ℕ × Option (List ℕ)
+value_of v = (v.key.now, option_map word_text v.value)
+
+abbrev pub values_of : List Value → List (List ℕ × Option (List ℕ))
+values_of values = map value_of values

@@ -1,0 +1,212 @@
+//! The AFM file, section by section.
+ghost use Rattle.std.specs.Prelude.{◌≡◌, ◌≢◌, [], ◌∷◌, ◌++◌, OnOk, OnErr, Ok, Err, length, flat_map, map, codes, decimal, option_map};
+ghost use Rattle.std.specs.Fmt.{signed_decimal};
+ghost use Rattle.t1_code.specs.Counted.{WritesAll, WritesFront, Passes, Stops, outlet};
+ghost use Rattle.t1_code.specs.Parts.{Prints};
+ghost use Rattle.t1_afm.specs.Afm.{line_text, lines_text, value_lines, bytes_in, values_before_box as names, values_after_box as others, scheme as scheme_of, header_lines, heights as heights_of, char_named, char_line, section, kerning_lines, composite_lines, afm};
+ghost use Rattle.t1_afm.specs.Lines.{word_text, value_of, values_of};
+
+use crate::bbox::BBox;
+use crate::line::{Word, put_line};
+use crate::metrics::{CharMetric, CompositeMetric, Header, KernPair, Metrics};
+use crate::part::{Part, Value, put_parts, sides};
+use std::io::{self, Write};
+use t1_code::{Chunk, Counted, OutError};
+
+/// A key with the text of its value.
+fn text<'a>(key: &'a [u8], value: Option<&'a [u8]>) -> Value<'a>
+    ensures { value_of result ≡ (key.now, bytes_in value.entry) }
+{
+    Value {
+        key,
+        value: value.map(|bytes| Word::Text(bytes)),
+    }
+}
+
+/// A key with its number.
+fn number(key: &[u8], value: Option<i32>) -> Value<'_>
+    ensures { value_of result ≡ (key.now, option_map signed_decimal value) }
+{
+    Value {
+        key,
+        value: value.map(|number| Word::Number(i64::from(number))),
+    }
+}
+
+/// The values that stand before the font's box.
+fn values_before_box<'a>(header: &Header<'a>) -> [Value<'a>; 6]
+    ensures { values_of result ≡ names header.now }
+{
+    [
+        text(b"FontName", header.font_name),
+        text(b"FullName", header.full_name),
+        text(b"FamilyName", header.family_name),
+        text(b"Weight", header.weight),
+        text(b"ItalicAngle", header.italic_angle),
+        text(b"IsFixedPitch", header.is_fixed_pitch),
+    ]
+}
+
+/// The values that stand behind the font's box.
+fn values_after_box<'a>(header: &Header<'a>) -> [Value<'a>; 4]
+    ensures { values_of result ≡ others header.now }
+{
+    [
+        text(b"UnderlinePosition", header.underline_position),
+        text(b"UnderlineThickness", header.underline_thickness),
+        text(b"Version", header.version),
+        text(b"Notice", header.notice),
+    ]
+}
+
+/// The box of the glyph of a name, where there is that glyph.
+fn box_named(chars: &[CharMetric], name: &[u8]) -> Option<BBox>
+    ensures { result ≡ option_map (λ c. c.bbox) (char_named name.now chars.now) }
+{
+    chars
+        .iter()
+        .find(|glyph| glyph.name == name)
+        .map(|glyph| glyph.bbox)
+}
+
+/// The heights that are read off glyphs.
+fn heights(chars: &[CharMetric]) -> [Value<'static>; 4]
+    ensures { values_of result ≡ heights_of chars.now }
+{
+    [
+        number(b"CapHeight", box_named(chars, b"H").map(|b| b.top)),
+        number(b"XHeight", box_named(chars, b"x").map(|b| b.top)),
+        number(b"Ascender", box_named(chars, b"d").map(|b| b.top)),
+        number(b"Descender", box_named(chars, b"p").map(|b| b.bottom)),
+    ]
+}
+
+fn put_values<W: Write>(out: &mut Counted<W>, chunk: &mut Chunk, values: &[Value]) -> io::Result<()>
+    ensures ok { OnOk result (Passes W.contents (outlet out.old chunk.old) (outlet out.new chunk.new) (lines_text (value_lines (values_of values.now)))) }
+    ensures err { OnErr result (Stops W.contents (outlet out.old chunk.old) (outlet out.new chunk.new) (lines_text (value_lines (values_of values.now)))) }
+{
+    put_parts(out, chunk, values)
+}
+
+/// The name of the encoding.
+fn scheme(standard: bool) -> &'static [u8]
+    ensures { result.now ≡ scheme_of standard }
+{
+    if standard {
+        b"AdobeStandardEncoding"
+    } else {
+        b"FontSpecific"
+    }
+}
+
+/// Puts the lines about the whole font.
+fn put_header<W: Write>(
+    out: &mut Counted<W>,
+    chunk: &mut Chunk,
+    metrics: &Metrics,
+) -> io::Result<()>
+    ensures ok { OnOk result (Passes W.contents (outlet out.old chunk.old) (outlet out.new chunk.new) (lines_text (header_lines metrics.now.header metrics.now.standard metrics.now.font_box))) }
+    ensures err { OnErr result (Stops W.contents (outlet out.old chunk.old) (outlet out.new chunk.new) (lines_text (header_lines metrics.now.header metrics.now.standard metrics.now.font_box))) }
+{
+    put_line(out, chunk, b"StartFontMetrics", &[Word::Text(b"4.1")])?;
+    put_values(out, chunk, &values_before_box(&metrics.header))?;
+    put_line(out, chunk, b"FontBBox", &sides(&metrics.font_box))?;
+    put_values(out, chunk, &values_after_box(&metrics.header))?;
+    put_line(
+        out,
+        chunk,
+        b"EncodingScheme",
+        &[Word::Text(scheme(metrics.standard))],
+    )
+}
+
+/// Puts parts between a line that counts them and a line that ends them.
+fn put_section<W: Write, P: Part>(
+    out: &mut Counted<W>,
+    chunk: &mut Chunk,
+    start: &[u8],
+    end: &[u8],
+    parts: &[P],
+) -> io::Result<()>
+    ensures ok { OnOk result (Passes W.contents (outlet out.old chunk.old) (outlet out.new chunk.new) (line_text (start.now ∷ decimal (length parts.now) ∷ []) ++ (flat_map P.text parts.now ++ line_text (end.now ∷ [])))) }
+    ensures err { OnErr result (Stops W.contents (outlet out.old chunk.old) (outlet out.new chunk.new) (line_text (start.now ∷ decimal (length parts.now) ∷ []) ++ (flat_map P.text parts.now ++ line_text (end.now ∷ [])))) }
+{
+    put_line(out, chunk, start, &[Word::Count(parts.len())])?;
+    put_parts(out, chunk, parts)?;
+    put_line(out, chunk, end, &[])
+}
+
+/// Puts the heights and the lines of the glyphs.
+fn put_glyphs<W: Write>(
+    out: &mut Counted<W>,
+    chunk: &mut Chunk,
+    chars: &[CharMetric],
+) -> io::Result<()>
+    ensures ok { OnOk result (Passes W.contents (outlet out.old chunk.old) (outlet out.new chunk.new) (lines_text (value_lines (heights_of chars.now) ++ section (codes "StartCharMetrics") (codes "EndCharMetrics") (map char_line chars.now)))) }
+    ensures err { OnErr result (Stops W.contents (outlet out.old chunk.old) (outlet out.new chunk.new) (lines_text (value_lines (heights_of chars.now) ++ section (codes "StartCharMetrics") (codes "EndCharMetrics") (map char_line chars.now)))) }
+{
+    put_values(out, chunk, &heights(chars))?;
+    put_section(out, chunk, b"StartCharMetrics", b"EndCharMetrics", chars)
+}
+
+/// Puts the kerning data, where there is a pair.
+fn put_kerning<W: Write>(
+    out: &mut Counted<W>,
+    chunk: &mut Chunk,
+    pairs: &[KernPair],
+) -> io::Result<()>
+    ensures ok { OnOk result (Passes W.contents (outlet out.old chunk.old) (outlet out.new chunk.new) (lines_text (kerning_lines pairs.now))) }
+    ensures err { OnErr result (Stops W.contents (outlet out.old chunk.old) (outlet out.new chunk.new) (lines_text (kerning_lines pairs.now))) }
+{
+    if pairs.is_empty() {
+        return Ok(());
+    }
+    put_line(out, chunk, b"StartKernData", &[])?;
+    put_section(out, chunk, b"StartKernPairs", b"EndKernPairs", pairs)?;
+    put_line(out, chunk, b"EndKernData", &[])
+}
+
+/// Puts the composites, where there is one.
+fn put_composites<W: Write>(
+    out: &mut Counted<W>,
+    chunk: &mut Chunk,
+    composites: &[CompositeMetric],
+) -> io::Result<()>
+    ensures ok { OnOk result (Passes W.contents (outlet out.old chunk.old) (outlet out.new chunk.new) (lines_text (composite_lines composites.now))) }
+    ensures err { OnErr result (Stops W.contents (outlet out.old chunk.old) (outlet out.new chunk.new) (lines_text (composite_lines composites.now))) }
+{
+    if composites.is_empty() {
+        return Ok(());
+    }
+    put_section(out, chunk, b"StartComposites", b"EndComposites", composites)
+}
+
+fn put_file<W: Write>(out: &mut Counted<W>, chunk: &mut Chunk, metrics: &Metrics) -> io::Result<()>
+    ensures ok { OnOk result (Passes W.contents (outlet out.old chunk.old) (outlet out.new chunk.new) (afm metrics.now)) }
+    ensures err { OnErr result (Stops W.contents (outlet out.old chunk.old) (outlet out.new chunk.new) (afm metrics.now)) }
+{
+    put_header(out, chunk, metrics)?;
+    put_glyphs(out, chunk, &metrics.chars)?;
+    put_kerning(out, chunk, &metrics.pairs)?;
+    put_composites(out, chunk, &metrics.composites)?;
+    put_line(out, chunk, b"EndFontMetrics", &[])
+}
+
+/// Writes the file by way of a chunk.
+fn send_file<W: Write>(out: &mut Counted<W>, metrics: &Metrics) -> io::Result<()>
+    ensures ok { OnOk result (WritesAll W.contents out.old out.new (afm metrics.now)) }
+    ensures err { OnErr result (WritesFront W.contents out.old out.new (afm metrics.now)) }
+{
+    let mut chunk = Chunk::new();
+    put_file(out, &mut chunk, metrics)?;
+    chunk.send(out)
+}
+
+/// Writes the AFM file, at most 4,096 bytes a call of the writer. It takes no memory.
+pub fn write_afm<W: Write>(metrics: &Metrics, out: &mut Counted<W>) -> Result<(), OutError>
+    ensures prints { Prints W.contents out.old out.new (Ok (afm metrics.now)) result }
+    ensures no_memory { result ≢ Err OutError.Memory }
+{
+    send_file(out, metrics)?;
+    Ok(())
+}

@@ -1,0 +1,215 @@
+//! Exact fractions within the limits of a run.
+
+ghost use Rattle.std.specs.Prelude.{◌≡◌, ◌≢◌, ◌*ℤ◌, pos, ◌*◌, ◌^◌, ◌≤◌, ◌<◌, IfOk};
+ghost use Rattle.std.specs.Int.RustNames.{unsigned_abs};
+ghost use Rattle.t1_frac.specs.Fraction.{whole as whole_of, lowest, plus, negated as negated_of, over, compared, floor_of, ceiling_of, nearest_of};
+ghost use Rattle.t1_frac.specs.Limits.{IsCoordinate, coordinate_sum, coordinate_difference, quotient, within};
+
+use crate::fault::Code;
+use crate::gcd::gcd;
+use std::cmp::Ordering;
+use std::marker::Model;
+
+/// A fraction in lowest terms, of size at most 2^31 and with a denominator of at most 1,048,576.
+#[derive(Clone, Copy, Debug, PartialEq, Eq)]
+pub struct Frac {
+    num: i64,
+    den: u32,
+}
+
+impl Model for Frac {
+    ghost use Rattle.std.specs.Prelude.{◌*◌, ◌^◌, ◌≤◌, ◌<◌};
+    ghost use Rattle.std.specs.Int.RustNames.{unsigned_abs};
+    ghost use Rattle.t1_frac.specs.Fraction.{Fraction};
+
+    ghost Value = { Fraction };
+
+    ghost view = { λ f. record { num = f.num; den = f.den } };
+
+    ghost invariant = { λ f. (0 < f.den) × (f.den ≤ 2 ^ 20) × (unsigned_abs f.num ≤ 2 ^ 31 * f.den) };
+
+    ghost inverse = { λ v. record { num = v.num; den = v.den } };
+}
+
+/// A numerator and a denominator over their greatest common divisor. A whole number has nothing to divide.
+#[tactic(auto, using(crate::proofs::Divisors::gcd_above, crate::proofs::Divisors::gcd_below, crate::proofs::Exact::lowest_whole), unfolding(crate::specs::Fraction::lowest))]
+fn in_lowest_terms(num: i128, den: u128) -> (i128, u128)
+    requires den_above { 0 < den }
+    requires den_below { den ≤ 2 ^ 72 }
+    ensures lowest { record { num = result.0; den = result.1 } ≡ lowest (record { num = num; den = den }) }
+    ensures den_above { 0 < result.1 }
+    ensures den_below { result.1 ≤ den }
+{
+    if den == 1 {
+        return (num, den);
+    }
+    let divisor = gcd(num.unsigned_abs(), den);
+    (num / divisor as i128, den / divisor)
+}
+
+/// The fraction, or this fault where its size is past the limit, or F39 where it is too fine.
+fn limited(fault: Code, limit: u64, num: i128, den: u128) -> Result<Frac, Code>
+    requires limit { limit ≤ 2 ^ 31 }
+    requires den_above { 0 < den }
+    requires den_below { den ≤ 2 ^ 72 }
+    ensures { result ≡ within fault limit (record { num = num; den = den }) }
+{
+    if num.unsigned_abs() > u128::from(limit) * den {
+        return Err(fault);
+    }
+    if den > 1 << 20 {
+        return Err(Code::F39);
+    }
+    Ok(Frac {
+        num: num as i64,
+        den: den as u32,
+    })
+}
+
+/// The fraction in lowest terms, or this fault where its size is past the limit, or F39 where it is too fine.
+fn reduced(fault: Code, limit: u64, num: i128, den: u128) -> Result<Frac, Code>
+    requires limit { limit ≤ 2 ^ 31 }
+    requires den_above { 0 < den }
+    requires den_below { den ≤ 2 ^ 72 }
+    ensures { result ≡ within fault limit (lowest (record { num = num; den = den })) }
+{
+    let (num, den) = in_lowest_terms(num, den);
+    limited(fault, limit, num, den)
+}
+
+/// A numerator over a denominator's multiple.
+fn scaled(num: i64, den: u32) -> i128
+    requires num { unsigned_abs num ≤ 2 ^ 51 }
+    requires den { den ≤ 2 ^ 31 }
+    ensures value { result ≡ num *ℤ pos den }
+    ensures size { unsigned_abs result ≤ 2 ^ 82 }
+{
+    i128::from(num) * i128::from(den)
+}
+
+impl Frac {
+    /// The whole number n.
+    pub fn whole(n: i32) -> Frac
+        ensures { result ≡ whole_of n }
+    {
+        Frac {
+            num: i64::from(n),
+            den: 1,
+        }
+    }
+
+    /// The numerator, which has the sign.
+    pub fn num(&self) -> i64
+        ensures { result ≡ self.now.num }
+    {
+        self.num
+    }
+
+    /// The denominator, from 1 to 1,048,576.
+    pub fn den(&self) -> i64
+        ensures value { result ≡ pos self.now.den }
+        ensures above { 0 < self.now.den }
+        ensures fine { self.now.den ≤ 2 ^ 20 }
+    {
+        i64::from(self.den)
+    }
+
+    /// The sum's numerator and denominator, not in lowest terms.
+    fn sum_terms(&self, other: &Frac) -> (i128, u128)
+        ensures sum { record { num = result.0; den = result.1 } ≡ plus self.now other.now }
+        ensures den_above { 0 < result.1 }
+        ensures den_below { result.1 ≤ 2 ^ 72 }
+    {
+        let left = scaled(self.num, other.den);
+        let right = scaled(other.num, self.den);
+        let den = u128::from(self.den) * u128::from(other.den);
+        (left + right, den)
+    }
+
+    /// The quotient's numerator and denominator, not in lowest terms.
+    fn quotient_terms(&self, other: &Frac) -> (i128, u128)
+        requires { unsigned_abs other.now.num ≢ 0 }
+        ensures quotient { record { num = result.0; den = result.1 } ≡ over self.now other.now }
+        ensures den_above { 0 < result.1 }
+        ensures den_below { result.1 ≤ 2 ^ 72 }
+    {
+        let num = scaled(self.num, other.den);
+        let den = u128::from(self.den) * u128::from(other.num.unsigned_abs());
+        if other.num < 0 {
+            (-num, den)
+        } else {
+            (num, den)
+        }
+    }
+
+    fn negated(&self) -> Frac
+        ensures { result ≡ negated_of self.now }
+    {
+        Frac {
+            num: -self.num,
+            den: self.den,
+        }
+    }
+
+    /// The sum of two coordinates. It is F40 past 1,048,576 in size, and then F39 where its denominator is past
+    /// 1,048,576.
+    #[tactic(auto, unfolding(crate::specs::Limits::coordinate_sum))]
+    pub fn add(&self, other: &Frac) -> Result<Frac, Code>
+        ensures sum { result ≡ coordinate_sum self.now other.now }
+        ensures within { IfOk result IsCoordinate }
+    {
+        let (num, den) = self.sum_terms(other);
+        reduced(Code::F40, 1 << 20, num, den)
+    }
+
+    /// The difference of two coordinates, refused as their sum is.
+    #[tactic(auto, unfolding(crate::specs::Limits::coordinate_difference))]
+    pub fn sub(&self, other: &Frac) -> Result<Frac, Code>
+        ensures difference { result ≡ coordinate_difference self.now other.now }
+        ensures within { IfOk result IsCoordinate }
+    {
+        let (num, den) = self.sum_terms(&other.negated());
+        reduced(Code::F40, 1 << 20, num, den)
+    }
+
+    /// The quotient. It is F38 by 0, F37 past 2^31 in size, and then F39 where its denominator is past 1,048,576.
+    #[tactic(auto, unfolding(crate::specs::Limits::quotient))]
+    pub fn div(&self, other: &Frac) -> Result<Frac, Code>
+        ensures { result ≡ quotient self.now other.now }
+    {
+        if other.num == 0 {
+            return Err(Code::F38);
+        }
+        let (num, den) = self.quotient_terms(other);
+        reduced(Code::F37, 1 << 31, num, den)
+    }
+
+    /// The greatest whole number that isn't above it.
+    pub fn floor(&self) -> i64
+        ensures { result ≡ floor_of self.now }
+    {
+        self.num.div_euclid(i64::from(self.den))
+    }
+
+    /// The least whole number that isn't below it.
+    pub fn ceil(&self) -> i64
+        ensures { result ≡ ceiling_of self.now }
+    {
+        -(-self.num).div_euclid(i64::from(self.den))
+    }
+
+    /// The nearest whole number, halves upward.
+    pub fn nearest(&self) -> i64
+        ensures { result ≡ nearest_of self.now }
+    {
+        let den = i64::from(self.den);
+        (self.num * 2 + den).div_euclid(2 * den)
+    }
+
+    /// How the two stand as numbers.
+    pub fn cmp(&self, other: &Frac) -> Ordering
+        ensures { result ≡ compared self.now other.now }
+    {
+        scaled(self.num, other.den).cmp(&scaled(other.num, self.den))
+    }
+}

@@ -1,0 +1,18 @@
+//! The greatest common divisor.
+
+ghost use Rattle.std.specs.Prelude.{◌≡◌};
+ghost use Rattle.t1_frac.specs.Fraction.{gcd as gcd_of};
+
+/// The greatest common divisor, by Euclid's algorithm.
+pub(crate) fn gcd(a: u128, b: u128) -> u128
+    ensures { result ≡ gcd_of a b }
+{
+    let mut x = a;
+    let mut y = b;
+    while y != 0 {
+        let rest = x % y;
+        x = y;
+        y = rest;
+    }
+    x
+}

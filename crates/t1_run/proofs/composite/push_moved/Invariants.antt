@@ -1,0 +1,8 @@
+use Rattle.std.proofs.Common.{◌≡◌, ◌++◌, drop, List, [], length}
+use Rattle.t1_run.proofs.Moved.{Leads}
+use Rattle.t1_run.specs.Composite.{moved_outline}
+use Rattle.t1_run.proofs.composite.push_moved.Given as goal
+
+-- what is left, moved, makes the whole
+abbrev pub invariant-loop-segment : goal.invariant-loop-segment
+invariant-loop-segment l = Leads (moved_outline l.by (drop l.segment-index l.segments)) l.outline.items (moved_outline l.by l.fn.segments) l.fn.outline.items

@@ -1,0 +1,73 @@
+-- How the definitions see the runner's state and its answers.
+use Rattle.std.specs.Prelude.{◌≡◌, ℕ, List, [], ◌∷◌, ◌++◌, map, reverse, take, Option, Some, None, Result, Ok, Err}
+use Rattle.std.specs.Option.{option_map}
+use Rattle.std.specs.Borrow.{Bor}
+use Rattle.t1_frac.specs.Outcome.{fault_at, told_at, Gives}
+use Rattle.t1_frac.specs.declared.fault.Code.{Code}
+use Rattle.t1_frac.specs.declared.fault.Place.TheVariants.{Nowhere}
+use Rattle.t1_frac.specs.declared.fault.Refusal.{Refusal}
+use Rattle.t1_frac.specs.declared.fault.Refusal.TheVariants as refusals
+use Rattle.t1_code.specs.declared.command.Command.{Command}
+use Rattle.t1_run.specs.declared.outline.Segment.{Segment}
+use Rattle.t1_run.specs.declared.state.State.{State as StateFields}
+use Rattle.t1_run.specs.declared.state.Control.{Control}
+use Rattle.t1_run.specs.declared.state.Control.TheVariants as controls
+use Rattle.t1_run.specs.State.{State, Flex}
+use Rattle.t1_run.specs.Step.{Step, Next, Call, Back, End, Compose, Fault}
+use Rattle.t1_run.specs.OtherSubrs.{end_flex, start_flex, add_flex}
+use Rattle.t1_run.specs.Run.{Drawing, Numbered}
+use Rattle.t1_run.specs.declared.othersubrs.Effect.{Effect}
+use Rattle.t1_run.specs.declared.othersubrs.Effect.TheVariants.{EndFlex, StartFlex, RecordPoint, Leave, Discard}
+
+-- the state that the fields hold
+abbrev pub state_of : StateFields → State
+state_of s = record {
+  stack = s.operands;
+  results = s.results;
+  current = s.current;
+  metric = s.metric;
+  flex = option_map (λ before. record { before = before; recorded = s.recorded }) s.flex;
+  segments = s.segments.items;
+  steps = s.steps;
+  entered = s.entered.items;
+}
+
+-- the step that an answer tells, with the state after it
+abbrev pub told : Control → State → Step
+told controls.Next s = Next s
+told (controls.Call n) s = Call n s
+told controls.Back s = Back s
+told controls.End s = End s
+told (controls.Compose a) s = Compose a s
+
+-- a step is refused by its fault, or for want of memory
+abbrev pub RefusesStep : Refusal → Step → Type 0
+RefusesStep refusals.Memory step = Unit {0}
+RefusesStep (refusals.Fault fault) step = (fault ≡ fault_at Nowhere fault.code) × (step ≡ Fault fault.code)
+
+-- a call makes this step: its answer and the state that it leaves tell it, or it refuses as the step does
+abbrev pub Tells : Step → Result Control Refusal → StateFields → Type 0
+Tells step (Ok control) now = step ≡ told control (state_of now)
+Tells step (Err refused) now = RefusesStep refused step
+
+-- a call answers what the own body of a glyph of the maps draws, or its fault at no place, unless memory ran out
+abbrev pub GivesOwn : Result Numbered Refusal → Option (Result Drawing Code) → Type 0
+GivesOwn result None = ⊥
+GivesOwn result (Some outcome) = Gives (λ run. run.drawing) result (told_at Nowhere outcome)
+
+-- the othersubr's effect, as the code names it
+abbrev pub effect_of : Effect → State → Step
+effect_of (EndFlex height x y) s = end_flex s.flex (height ∷ x ∷ y ∷ []) s
+effect_of StartFlex s = start_flex s.flex s
+effect_of RecordPoint s = add_flex s.flex s
+effect_of (Leave value) s = Next (record s { results = value ∷ [] })
+effect_of Discard s = Next (record s { results = [] })
+
+-- the first so many rests of bodies, the last one first
+abbrev pub waiting : ℕ → List (Bor (List Command)) → List (List Command)
+waiting n rests = reverse (map (λ r. r.now) (take n rests))
+
+-- the outline grew by the moved segments
+abbrev pub AppendsMoved : Result (List Segment) Code → List Segment → List Segment → Type 0
+AppendsMoved (Ok moved) old new = new ≡ old ++ moved
+AppendsMoved (Err fault) old new = ⊥

@@ -1,0 +1,180 @@
+-- The run of a glyph's own body, and what it asks of the font.
+use Rattle.std.specs.Prelude.{ℕ, zero, suc, nat_lt, ◌==◌, if◌then◌else◌, List, [], ◌∷◌, Option, Some, None, Result, Ok, Err, ℤ, pos, negsuc}
+use Rattle.std.specs.Option.{ok_or, option_map}
+use Rattle.t1_frac.specs.Outcome.{◌>>=◌}
+use Rattle.t1_frac.specs.declared.fault.Code.{Code}
+use Rattle.t1_frac.specs.declared.fault.Code.TheVariants.{F32, F33, F34, F35, F36, F44, F45}
+use Rattle.t1_code.specs.Encoding.{standard_name}
+use Rattle.t1_code.specs.declared.command.Command.{Command}
+use Rattle.t1_run.specs.declared.outline.Accent.{Accent}
+use Rattle.t1_run.specs.declared.outline.Composite.{Composite}
+use Rattle.t1_run.specs.declared.outline.Metric.{Metric}
+use Rattle.t1_run.specs.declared.outline.Point.{Point}
+use Rattle.t1_run.specs.declared.outline.Segment.{Segment}
+use Rattle.t1_run.specs.State.{State, initial}
+use Rattle.t1_run.specs.Step.{Step, Next, Call, Back, End, Compose, Fault}
+use Rattle.t1_run.specs.Words.{step}
+
+-- profile: the compiled bodies of a font, by Subr number and by glyph name
+pub record Maps : Type 0 where
+  pub subrs : ℕ → Option (List Command)
+  pub glyphs : List ℕ → Option (List Command)
+
+abbrev pub font : (ℕ → Option (List Command)) → (List ℕ → Option (List Command)) → Maps
+font subrs glyphs = record { subrs = subrs; glyphs = glyphs }
+
+-- profile: what may be asked of the maps
+pub data Key : Type 0 where
+  Subr : ℕ → Key
+  Glyph : List ℕ → Key
+
+-- profile: how a list of commands ends, with the keys asked so far, the newest first
+pub data Ending : Type 0 where
+  -- after its last word
+  Finished : State → List Key → Ending
+  Returned : State → List Key → Ending
+  Ended : Option Composite → State → List Key → Ending
+  Failed : Code → List Key → Ending
+
+-- what a list of commands does from a state
+abbrev pub Runner : Type 0
+Runner = State → List Key → Ending
+
+-- what a call of a Subr does from a state
+abbrev pub Caller : Type 0
+Caller = ℕ → Runner
+
+-- ---- Subrs entered
+
+-- profile: a number among others, ascending and each once
+abbrev pub entered_with : ℕ → List ℕ → List ℕ
+entered_with n [] = n ∷ []
+entered_with n (m ∷ ms) = if nat_lt n m then n ∷ m ∷ ms else (if n == m then m ∷ ms else m ∷ entered_with n ms)
+
+abbrev pub entering : ℕ → State → State
+entering n s = record s { entered = entered_with n s.entered }
+
+-- ---- composites
+
+-- Type 1 Font Format, chapter 6 (seac): the glyph name of a code of StandardEncoding
+abbrev pub encoded : ℤ → Option (List ℕ)
+encoded (pos code) = if nat_lt code 256 then standard_name code else None
+encoded (negsuc code) = None
+
+-- profile: F44 where the base's code, then the accent's, has no name; F45 where the font lacks the base, then the accent
+abbrev pub composite_of : (List ℕ → Option (List Command)) → Accent → Result Composite Code
+composite_of glyphs a =
+    ok_or (encoded a.base) F44 >>= (λ base.
+    ok_or (encoded a.accent) F44 >>= (λ accent.
+    ok_or (glyphs base) F45 >>= (λ _.
+    ok_or (glyphs accent) F45 >>= (λ _.
+    Ok (record { base = base; accent = accent; asb = a.asb; adx = a.adx; ady = a.ady })))))
+
+-- profile: the base is asked for where both codes have names, and then the accent where the font has the base
+abbrev pub asking_accent : Option (List Command) → List ℕ → List Key → List Key
+asking_accent None accent asked = asked
+asking_accent (Some _) accent asked = Glyph accent ∷ asked
+
+abbrev pub asking_parts : Option (List ℕ) → Option (List ℕ) → (List ℕ → Option (List Command)) → List Key → List Key
+asking_parts (Some base) (Some accent) glyphs asked = asking_accent (glyphs base) accent (Glyph base ∷ asked)
+asking_parts _ _ glyphs asked = asked
+
+abbrev pub composed : Result Composite Code → Runner
+composed (Ok composite) s asked = Ended (Some composite) s asked
+composed (Err fault) s asked = Failed fault asked
+
+-- ---- words and calls
+
+-- Type 1 Font Format, chapter 6 (return): where a Subr is over, the caller goes on
+abbrev pub go_on : Runner → Ending → Ending
+go_on next (Finished s asked) = next s asked
+go_on next (Returned s asked) = next s asked
+go_on next (Ended composite s asked) = Ended composite s asked
+go_on next (Failed fault asked) = Failed fault asked
+
+-- what a word's step does to the run
+abbrev pub act : Maps → Caller → Runner → Step → List Key → Ending
+act m caller next (Next s) asked = next s asked
+act m caller next (Call n s) asked = go_on next (caller n s (Subr n ∷ asked))
+act m caller next (Back s) asked = Returned s asked
+act m caller next (End s) asked = Ended None s asked
+act m caller next (Compose a s) asked = composed (composite_of m.glyphs a) s (asking_parts (encoded a.base) (encoded a.accent) m.glyphs asked)
+act m caller next (Fault fault) asked = Failed fault asked
+
+-- Type 1 Font Format, chapter 6: the words one after another
+abbrev pub words : Maps → Caller → List Command → Runner
+words m caller [] s asked = Finished s asked
+words m caller (c ∷ cs) s asked = act m caller (words m caller cs) (step c s) asked
+
+-- Type 1 Font Format, chapter 6 (callsubr): a Subr's body, run by this runner; F32 where there is no such Subr
+abbrev pub called : (List Command → Runner) → Option (List Command) → Caller
+called run None n s asked = Failed F32 asked
+called run (Some body) n s asked = run body (entering n s) asked
+
+-- profile, limits: a call, where so many Subrs more may be active at once
+abbrev pub call_within : Maps → ℕ → Caller
+call_within m zero n s asked = called (λ body s' asked'. Failed F33 asked') (m.subrs n) n s asked
+call_within m (suc levels) n s asked = called (words m (call_within m levels)) (m.subrs n) n s asked
+
+abbrev pub runs : Maps → ℕ → List Command → Runner
+runs m levels = words m (call_within m levels)
+
+-- profile, limits: a glyph's own body, in which ten Subrs may be active
+unfoldable pub ending : Maps → List Command → Ending
+ending m body = runs m 10 body initial []
+
+-- ---- what a run tells
+
+pub record Drawing : Type 0 where
+  pub width : Point
+  pub bearing : Point
+  pub segments : List Segment
+  pub composite : Option Composite
+  pub entered : List ℕ
+  pub steps : ℕ
+
+-- what a run tells, with its number among the runs
+pub record Numbered : Type 0 where
+  pub drawing : Drawing
+  pub serial : ℕ
+
+-- endchar and seac ask for the side bearing, so it is set where a run ends by them
+abbrev pub drawing_of : Option Metric → Option Composite → State → Result Drawing Code
+drawing_of None composite s = Err F36
+drawing_of (Some metric) composite s =
+    Ok (record {
+      width = metric.width;
+      bearing = metric.bearing;
+      segments = s.segments;
+      composite = composite;
+      entered = s.entered;
+      steps = s.steps;
+    })
+
+-- Type 1 Font Format, chapter 6 (endchar): a glyph's own body ends by endchar or seac
+abbrev pub outcome_of : Ending → Result Drawing Code
+outcome_of (Finished s asked) = Err F35
+outcome_of (Returned s asked) = Err F34
+outcome_of (Ended composite s asked) = drawing_of s.metric composite s
+outcome_of (Failed fault asked) = Err fault
+
+abbrev pub asked_by : Ending → List Key
+asked_by (Finished s asked) = asked
+asked_by (Returned s asked) = asked
+asked_by (Ended composite s asked) = asked
+asked_by (Failed fault asked) = asked
+
+abbrev pub own_of : Maps → Option (List Command) → Option (Result Drawing Code)
+own_of m body = option_map (λ cs. outcome_of (ending m cs)) body
+
+abbrev pub asked_of : Maps → Option (List Command) → List Key
+asked_of m None = []
+asked_of m (Some body) = asked_by (ending m body)
+
+-- profile: what the own body of a glyph of the maps draws, or its first fault
+unfoldable pub own : Maps → List ℕ → Option (Result Drawing Code)
+own m glyph = own_of m (m.glyphs glyph)
+
+-- profile: the glyph, and what the run of its own body asks of the maps, whether it is there or not
+unfoldable pub foot : Maps → List ℕ → List Key
+foot m glyph = Glyph glyph ∷ asked_of m (m.glyphs glyph)

@@ -1,0 +1,164 @@
+//! Moves, lines, curves and metrics.
+
+ghost use Rattle.std.specs.Prelude.{◌≡◌, ◌≤◌, true, length};
+ghost use Rattle.t1_run.specs.Machine.{state_of, Tells};
+ghost use Rattle.t1_run.specs.Operands.{takes, topmost};
+ghost use Rattle.t1_run.specs.Step.{moved as moved_by, move_by as move_of, line_by as line_of, curve_by as curve_of, set_metric as metric_of, Next, cleared, at_point};
+ghost use Rattle.t1_run.specs.Words.{rule, draws as draws_of, places as places_of};
+
+use crate::outline::{Metric, Point, Segment};
+use crate::state::{Control, State};
+use t1_code::Command;
+use t1_frac::{Code, Frac, Refusal};
+
+/// The point at this distance from another.
+pub fn moved(point: &Point, dx: &Frac, dy: &Frac) -> Result<Point, Code>
+    ensures { result ≡ moved_by point.now dx.now dy.now }
+{
+    let x = point.x.add(dx)?;
+    let y = point.y.add(dy)?;
+    Ok(Point { x, y })
+}
+
+impl State {
+    /// Moves the current point, and draws nothing.
+    fn move_by(&mut self, dx: Frac, dy: Frac) -> Result<Control, Refusal>
+        ensures told { Tells (move_of dx dy (state_of self.old)) result self.new }
+        ensures steps { self.new.steps ≡ self.old.steps }
+    {
+        self.current = moved(&self.current, &dx, &dy)?;
+        self.operands.clear();
+        Ok(Control::Next)
+    }
+
+    /// Draws a line from the current point.
+    fn line_by(&mut self, dx: Frac, dy: Frac) -> Result<Control, Refusal>
+        ensures told { Tells (line_of dx dy (state_of self.old)) result self.new }
+        ensures steps { self.new.steps ≡ self.old.steps }
+    {
+        let start = self.current;
+        self.current = moved(&start, &dx, &dy)?;
+        self.segments.push(Segment::Line(start, self.current))?;
+        self.operands.clear();
+        Ok(Control::Next)
+    }
+
+    /// Draws a curve from the current point, by the steps to its other points.
+    fn curve_by(
+        &mut self,
+        first: (Frac, Frac),
+        second: (Frac, Frac),
+        third: (Frac, Frac),
+    ) -> Result<Control, Refusal>
+        ensures told { Tells (curve_of first.0 first.1 second.0 second.1 third.0 third.1 (state_of self.old)) result self.new }
+        ensures steps { self.new.steps ≡ self.old.steps }
+    {
+        let start = self.current;
+        let one = moved(&start, &first.0, &first.1)?;
+        let two = moved(&one, &second.0, &second.1)?;
+        self.current = moved(&two, &third.0, &third.1)?;
+        self.segments
+            .push(Segment::Curve(start, one, two, self.current))?;
+        self.operands.clear();
+        Ok(Control::Next)
+    }
+
+    /// Sets the side bearing and the width.
+    fn set_metric(&mut self, sbx: Frac, sby: Frac, wx: Frac, wy: Frac) -> Result<Control, Refusal>
+        ensures told { Tells (metric_of sbx sby wx wy (state_of self.old)) result self.new }
+        ensures steps { self.new.steps ≡ self.old.steps }
+    {
+        self.current = Point { x: sbx, y: sby };
+        let width = Point { x: wx, y: wy };
+        self.metric = Some(Metric {
+            bearing: self.current,
+            width,
+        });
+        self.operands.clear();
+        Ok(Control::Next)
+    }
+
+    /// Sets the current point.
+    fn set_point(&mut self, x: Frac, y: Frac) -> Result<Control, Refusal>
+        ensures told { Tells (Next (cleared (at_point (record { x = x; y = y }) (state_of self.old)))) result self.new }
+        ensures steps { self.new.steps ≡ self.old.steps }
+    {
+        self.current = Point { x, y };
+        self.operands.clear();
+        Ok(Control::Next)
+    }
+
+    /// A line or a curve.
+    pub fn draw(&mut self, command: Command) -> Result<Control, Refusal>
+        requires kind { draws_of command ≡ true }
+        requires enough { takes command ≤ length self.old.operands }
+        ensures told { Tells (rule command (topmost (takes command) self.old.operands) (state_of self.old)) result self.new }
+        ensures steps { self.new.steps ≡ self.old.steps }
+    {
+        let zero = Frac::whole(0);
+        match command {
+            Command::RLineTo => {
+                let (dx, dy) = self.operands.top_two();
+                self.line_by(dx, dy)
+            }
+            Command::HLineTo => {
+                let dx = self.operands.top();
+                self.line_by(dx, zero)
+            }
+            Command::VLineTo => {
+                let dy = self.operands.top();
+                self.line_by(zero, dy)
+            }
+            Command::RRCurveTo => {
+                let [dx1, dy1, dx2, dy2, dx3, dy3] = self.operands.top_six();
+                self.curve_by((dx1, dy1), (dx2, dy2), (dx3, dy3))
+            }
+            Command::VHCurveTo => {
+                let [dy1, dx2, dy2, dx3] = self.operands.top_four();
+                self.curve_by((zero, dy1), (dx2, dy2), (dx3, zero))
+            }
+            Command::HVCurveTo => {
+                let [dx1, dx2, dy2, dy3] = self.operands.top_four();
+                self.curve_by((dx1, zero), (dx2, dy2), (zero, dy3))
+            }
+            _ => unreachable!(),
+        }
+    }
+
+    /// A command that sets the current point and draws nothing.
+    pub fn place(&mut self, command: Command) -> Result<Control, Refusal>
+        requires kind { places_of command ≡ true }
+        requires enough { takes command ≤ length self.old.operands }
+        ensures told { Tells (rule command (topmost (takes command) self.old.operands) (state_of self.old)) result self.new }
+        ensures steps { self.new.steps ≡ self.old.steps }
+    {
+        let zero = Frac::whole(0);
+        match command {
+            Command::RMoveTo => {
+                let (dx, dy) = self.operands.top_two();
+                self.move_by(dx, dy)
+            }
+            Command::HMoveTo => {
+                let dx = self.operands.top();
+                self.move_by(dx, zero)
+            }
+            Command::VMoveTo => {
+                let dy = self.operands.top();
+                self.move_by(zero, dy)
+            }
+            Command::Hsbw => {
+                let (sbx, wx) = self.operands.top_two();
+                self.set_metric(sbx, zero, wx, zero)
+            }
+            Command::Sbw => {
+                let [sbx, sby, wx, wy] = self.operands.top_four();
+                self.set_metric(sbx, sby, wx, wy)
+            }
+            Command::SetCurrentPoint => {
+                let (x, y) = self.operands.top_two();
+                self.set_point(x, y)
+            }
+            _ => unreachable!(),
+        }
+    }
+}

@@ -1,0 +1,30 @@
+//! Exact execution of a glyph's charstring, and the outlines of composites.
+#![tactic(auto)]
+
+mod bodies;
+mod checks;
+mod composite;
+mod drawing;
+mod meter;
+mod moving;
+mod operands;
+mod othersubrs;
+mod outline;
+mod plain;
+mod recorded;
+mod results;
+mod returns;
+mod runner;
+mod seac;
+mod state;
+mod step;
+mod told;
+
+pub use bodies::Bodies;
+pub use composite::{accent_move, join};
+pub use meter::Meter;
+pub use moving::{moved_point, moved_segment};
+pub use outline::{Composite, Point, Segment};
+pub use plain::Plain;
+pub use runner::run;
+pub use told::Run;

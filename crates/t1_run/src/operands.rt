@@ -1,0 +1,117 @@
+//! The operand stack.
+
+ghost use Rattle.std.specs.Prelude.{◌≡◌, [], ◌∷◌, ◌++◌, ◌≤◌, ◌<◌, length, take};
+ghost use Rattle.t1_run.specs.Operands.{topmost};
+
+use std::marker::Model;
+use t1_frac::Frac;
+
+/// The operand stack, the lowest value first.
+#[derive(Drop)]
+pub struct Operands {
+    values: [Frac; 24],
+    len: usize,
+}
+
+impl Model for Operands {
+    ghost use Rattle.std.specs.Prelude.{List, take, ◌≤◌};
+    ghost use Rattle.t1_frac.specs.Fraction.{Fraction};
+
+    ghost Value = { List Fraction };
+
+    ghost view = { λ o. take o.len o.values };
+
+    ghost invariant = { λ o. o.len ≤ 24 };
+}
+
+impl Operands {
+    pub fn new() -> Operands
+        ensures { result ≡ [] }
+    {
+        Operands {
+            values: [Frac::whole(0); 24],
+            len: 0,
+        }
+    }
+
+    pub fn as_slice(&self) -> &[Frac]
+        ensures value { result.now ≡ self.now }
+        ensures bound { length self.now ≤ 24 }
+    {
+        &self.values[..self.len]
+    }
+
+    /// The topmost value.
+    pub fn top(&self) -> Frac
+        requires { 1 ≤ length self.now }
+        ensures { topmost 1 self.now ≡ result ∷ [] }
+    {
+        self.values[self.len - 1]
+    }
+
+    /// The two topmost values, the lower one first.
+    pub fn top_two(&self) -> (Frac, Frac)
+        requires { 2 ≤ length self.now }
+        ensures { topmost 2 self.now ≡ result.0 ∷ result.1 ∷ [] }
+    {
+        (self.values[self.len - 2], self.values[self.len - 1])
+    }
+
+    /// The four topmost values, the lowest first.
+    pub fn top_four(&self) -> [Frac; 4]
+        requires { 4 ≤ length self.now }
+        ensures { topmost 4 self.now ≡ result }
+    {
+        let values = self.as_slice();
+        match &values[values.len() - 4..] {
+            [a, b, c, d] => [*a, *b, *c, *d],
+            _ => unreachable!(),
+        }
+    }
+
+    /// The five topmost values, the lowest first.
+    pub fn top_five(&self) -> [Frac; 5]
+        requires { 5 ≤ length self.now }
+        ensures { topmost 5 self.now ≡ result }
+    {
+        let values = self.as_slice();
+        match &values[values.len() - 5..] {
+            [a, b, c, d, e] => [*a, *b, *c, *d, *e],
+            _ => unreachable!(),
+        }
+    }
+
+    /// The six topmost values, the lowest first.
+    pub fn top_six(&self) -> [Frac; 6]
+        requires { 6 ≤ length self.now }
+        ensures { topmost 6 self.now ≡ result }
+    {
+        let values = self.as_slice();
+        match &values[values.len() - 6..] {
+            [a, b, c, d, e, f] => [*a, *b, *c, *d, *e, *f],
+            _ => unreachable!(),
+        }
+    }
+
+    pub fn push(&mut self, value: Frac)
+        requires { length self.old < 24 }
+        ensures { self.new ≡ self.old ++ value ∷ [] }
+    {
+        self.values[self.len] = value;
+        self.len += 1;
+    }
+
+    /// Keeps the lowest values alone.
+    pub fn truncate(&mut self, len: usize)
+        requires { len ≤ length self.old }
+        ensures { self.new ≡ take len self.old }
+    {
+        self.len = len;
+    }
+
+    pub fn clear(&mut self)
+        ensures { self.new ≡ [] }
+    {
+        self.len = 0;
+    }
+}

@@ -1,0 +1,154 @@
+//! callothersubr: flex, hint replacement and counter hints.
+
+ghost use Rattle.std.specs.Prelude.{◌≡◌, ◌≤◌, ◌+◌, pos, true, length, take, [], ◌∷◌};
+ghost use Rattle.t1_frac.specs.Fraction.{Fraction};
+ghost use Rattle.t1_run.specs.Machine.{state_of, Tells, effect_of};
+ghost use Rattle.t1_run.specs.OtherSubrs.{is_supported as is_supported_of, start_flex as start_of, add_flex as add_of, end_flex as end_of, other_effect, other_with as with_of, other_subr as other_of};
+ghost use Rattle.t1_run.specs.State.{State as States};
+
+use crate::checks::{check_operand, check_sizes};
+use crate::state::{Control, State};
+use t1_frac::{Code, Frac, Refusal};
+
+/// What an othersubr does with its arguments.
+#[derive(Clone, Copy, Debug, PartialEq, Eq)]
+pub enum Effect {
+    /// Ends the flex, with its height and the point that it ends at.
+    EndFlex(Frac, Frac, Frac),
+    StartFlex,
+    RecordPoint,
+    /// Leaves a value for pop, as hint replacement does.
+    Leave(Frac),
+    /// Leaves nothing, as counter hints do.
+    Discard,
+}
+
+/// Whether an othersubr of this number takes so many arguments.
+fn is_supported(number: i64, count: i64) -> bool
+    ensures { result ≡ is_supported_of number count }
+{
+    matches!(
+        (number, count),
+        (0, 3) | (1 | 2, 0) | (3, 1) | (12 | 13, 0..=22)
+    )
+}
+
+/// The effect of an othersubr on these arguments.
+fn effect_on(number: usize, arguments: &[Frac]) -> Effect
+    requires { is_supported_of (pos number) (pos (length arguments.now)) ≡ true }
+    ensures { (s : States) → effect_of result s ≡ other_effect number arguments.now s }
+{
+    match (number, arguments) {
+        (0, [height, x, y]) => Effect::EndFlex(*height, *x, *y),
+        (1, _) => Effect::StartFlex,
+        (2, _) => Effect::RecordPoint,
+        (3, [value]) => Effect::Leave(*value),
+        _ => Effect::Discard,
+    }
+}
+
+impl State {
+    /// Opens a flex at the current point.
+    fn start_flex(&mut self) -> Result<Control, Refusal>
+        ensures told { Tells (start_of (state_of self.old).flex (state_of self.old)) result self.new }
+        ensures steps { self.new.steps ≡ self.old.steps }
+    {
+        if self.flex.is_some() {
+            return Err(Refusal::from(Code::F41));
+        }
+        self.flex = Some(self.current);
+        self.recorded.clear();
+        self.results.clear();
+        Ok(Control::Next)
+    }
+
+    /// Records the current point for the flex.
+    fn record_point(&mut self) -> Result<Control, Refusal>
+        ensures told { Tells (add_of (state_of self.old).flex (state_of self.old)) result self.new }
+        ensures steps { self.new.steps ≡ self.old.steps }
+    {
+        if self.flex.is_none() || self.recorded.is_full() {
+            return Err(Refusal::from(Code::F41));
+        }
+        self.recorded.push(self.current);
+        self.results.clear();
+        Ok(Control::Next)
+    }
+
+    /// Draws the flex and closes it.
+    fn end_flex(&mut self, height: Frac, x: Frac, y: Frac) -> Result<Control, Refusal>
+        ensures told { Tells (end_of (state_of self.old).flex (height ∷ x ∷ y ∷ []) (state_of self.old)) result self.new }
+        ensures steps { self.new.steps ≡ self.old.steps }
+    {
+        let Some(before) = self.flex else {
+            return Err(Refusal::from(Code::F41));
+        };
+        let Some(curves) = self.recorded.curves(before) else {
+            return Err(Refusal::from(Code::F41));
+        };
+        self.segments.extend_from_slice(&curves)?;
+        self.flex = None;
+        self.results.clear();
+        self.results.push(y);
+        self.results.push(x);
+        Ok(Control::Next)
+    }
+}
+
+impl State {
+    /// The othersubr's effect.
+    fn perform(&mut self, effect: Effect) -> Result<Control, Refusal>
+        ensures told { Tells (effect_of effect (state_of self.old)) result self.new }
+        ensures steps { self.new.steps ≡ self.old.steps }
+    {
+        match effect {
+            Effect::EndFlex(height, x, y) => self.end_flex(height, x, y),
+            Effect::StartFlex => self.start_flex(),
+            Effect::RecordPoint => self.record_point(),
+            Effect::Leave(value) => {
+                self.results.clear();
+                self.results.push(value);
+                Ok(Control::Next)
+            }
+            Effect::Discard => {
+                self.results.clear();
+                Ok(Control::Next)
+            }
+        }
+    }
+
+    /// The othersubr of this number, with so many arguments.
+    fn call_with(&mut self, number: usize, count: usize) -> Result<Control, Refusal>
+        requires small { count ≤ 22 }
+        requires supported { is_supported_of (pos number) (pos count) ≡ true }
+        ensures told { Tells (with_of number count (state_of self.old)) result self.new }
+        ensures steps { self.new.steps ≡ self.old.steps }
+    {
+        let values = self.operands.as_slice();
+        if values.len() < 2 + count {
+            return Err(Refusal::from(Code::F30));
+        }
+        let bottom = values.len() - (2 + count);
+        let taken = &values[bottom..];
+        let arguments = &taken[..count];
+        check_sizes(arguments)?;
+        let effect = effect_on(number, arguments);
+        self.operands.truncate(bottom);
+        self.perform(effect)
+    }
+
+    /// callothersubr, by the count of its arguments and its number.
+    pub fn call_other(&mut self, count: Frac, number: Frac) -> Result<Control, Refusal>
+        ensures told { Tells (other_of count number (state_of self.old)) result self.new }
+        ensures steps { self.new.steps ≡ self.old.steps }
+    {
+        check_operand(true, &number)?;
+        check_operand(true, &count)?;
+        let number = number.num();
+        let count = count.num();
+        if !is_supported(number, count) {
+            return Err(Refusal::from(Code::F42));
+        }
+        self.call_with(number as usize, count as usize)
+    }
+}

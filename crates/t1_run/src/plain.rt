@@ -1,0 +1,33 @@
+//! Bodies in two maps.
+
+ghost use Rattle.std.specs.Prelude.{◌≡◌, ℕ, List, Option};
+ghost use Rattle.t1_code.specs.declared.command.Command.{Command};
+
+use crate::bodies::Bodies;
+use indexmap::IndexMap;
+use t1_code::Body;
+
+/// Bodies in two maps, from the number of a Subr and from the name of a glyph.
+#[derive(Drop)]
+pub struct Plain {
+    pub subrs: IndexMap<u16, Body>,
+    pub glyphs: IndexMap<Vec<u8>, Body>,
+}
+
+impl Bodies for Plain {
+    ghost use Rattle.std.specs.Prelude.{nat_eq};
+    ghost use Rattle.std.specs.Map.{lookup};
+    ghost use Rattle.std.specs.Str.{bytes_eq};
+
+    ghost subrs = { λ plain n. lookup (nat_eq n) plain.subrs.entries };
+
+    ghost glyphs = { λ plain name. lookup (λ key. bytes_eq name key.items) plain.glyphs.entries };
+
+    fn subr(&self, n: u16) -> Option<&Body> {
+        self.subrs.get(&n)
+    }
+
+    fn glyph(&self, name: &[u8]) -> Option<&Body> {
+        self.glyphs.get(name)
+    }
+}

@@ -1,0 +1,45 @@
+//! The parts that seac names.
+
+ghost use Rattle.std.specs.Prelude.{◌≡◌};
+ghost use Rattle.std.specs.Option.{option_map};
+ghost use Rattle.t1_frac.specs.Outcome.{Gives, told_at};
+ghost use Rattle.t1_run.specs.Run.{encoded as encoded_of, composite_of};
+
+use crate::bodies::Bodies;
+use crate::outline::{Accent, Composite};
+use std::alloc::Global;
+use t1_code::standard_name;
+use t1_frac::{Bytes, Code, Place, Refusal};
+
+/// The glyph name of a code of StandardEncoding.
+fn encoded(code: i64) -> Option<&'static str>
+    ensures { option_map (λ name. name.now) result ≡ encoded_of code }
+{
+    if code < 0 || code > 255 {
+        return None;
+    }
+    standard_name(code as u8)
+}
+
+/// The parts of a composite. It is F44 where the base's code, then the accent's, has no name, and F45 where the font
+/// lacks the base, then the accent.
+pub fn find_parts<B: Bodies>(
+    alloc: Global,
+    bodies: &B,
+    accent: &Accent,
+) -> Result<Composite, Refusal>
+    ensures { Gives (λ parts. parts) result (told_at Place.Nowhere (composite_of (B.glyphs bodies.now) accent.now)) }
+{
+    let base_name = encoded(accent.base).ok_or(Code::F44)?.as_bytes();
+    let accent_name = encoded(accent.accent).ok_or(Code::F44)?.as_bytes();
+    if bodies.glyph(base_name).is_none() || bodies.glyph(accent_name).is_none() {
+        return Err(Refusal::from(Code::F45));
+    }
+    Ok(Composite {
+        base: Bytes::copied(alloc, base_name)?,
+        accent: Bytes::copied(alloc, accent_name)?,
+        asb: accent.asb,
+        adx: accent.adx,
+        ady: accent.ady,
+    })
+}

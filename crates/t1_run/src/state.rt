@@ -1,0 +1,82 @@
+//! The state of a run.
+
+ghost use Rattle.std.specs.Prelude.{◌≡◌, OnOk, IfErr};
+ghost use Rattle.t1_run.specs.Machine.{state_of};
+ghost use Rattle.t1_run.specs.Run.{entering, entered_with};
+ghost use Rattle.t1_run.specs.State.{initial};
+
+use crate::operands::Operands;
+use crate::outline::{Accent, Metric, Point, Segment};
+use crate::recorded::Recorded;
+use crate::results::Results;
+use std::alloc::{AllocError, Global};
+use t1_frac::{Frac, Refusal};
+
+/// What a word asks of the run.
+#[derive(Clone, Copy, Debug, PartialEq, Eq)]
+pub enum Control {
+    Next,
+    Call(u16),
+    Back,
+    End,
+    Compose(Accent),
+}
+
+/// The state of a run.
+#[derive(Drop)]
+pub struct State {
+    pub operands: Operands,
+    pub results: Results,
+    pub current: Point,
+    pub metric: Option<Metric>,
+    /// The current point before the flex that is open.
+    pub flex: Option<Point>,
+    pub recorded: Recorded,
+    pub segments: Vec<Segment>,
+    pub steps: u32,
+    pub entered: Vec<u16>,
+}
+
+impl State {
+    pub fn new(alloc: Global) -> State
+        ensures { state_of result ≡ initial }
+    {
+        let zero = Frac::whole(0);
+        State {
+            operands: Operands::new(),
+            results: Results::new(),
+            current: Point { x: zero, y: zero },
+            metric: None,
+            flex: None,
+            recorded: Recorded::new(),
+            segments: Vec::new(alloc),
+            steps: 0,
+            entered: Vec::new(alloc),
+        }
+    }
+
+    /// Counts a Subr among those entered.
+    pub fn enter(&mut self, n: u16) -> Result<(), Refusal>
+        ensures entered { OnOk result (state_of self.new ≡ entering n (state_of self.old)) }
+        ensures steps { OnOk result (self.new.steps ≡ self.old.steps) }
+        ensures memory { IfErr result (λ refusal. refusal ≡ Refusal.Memory) }
+    {
+        add_number(&mut self.entered, n)?;
+        Ok(())
+    }
+}
+
+/// Adds a number to numbers that are ascending and each once.
+fn add_number(numbers: &mut Vec<u16>, n: u16) -> Result<(), AllocError>
+    ensures { OnOk result (numbers.new.items ≡ entered_with n numbers.old.items) }
+{
+    let mut place = 0;
+    'smaller: while place < numbers.len() && numbers[place] < n {
+        place += 1;
+    }
+    if place < numbers.len() && numbers[place] == n {
+        return Ok(());
+    }
+    numbers.insert(place, n)?;
+    Ok(())
+}

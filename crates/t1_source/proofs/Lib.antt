@@ -1,0 +1,15 @@
+pub mod CodeLaws
+pub mod DemoRows
+pub mod EncodingLaws
+pub mod GroupLaws
+pub mod ItemLaws
+pub mod KeyLaws
+pub mod LineLaws
+pub mod PairLaws
+pub mod PlaceLaws
+pub mod PrintingRows
+pub mod ReadingRows
+pub mod TailLaws
+pub mod TextPlaceLaws
+pub mod TokenLaws
+pub mod TrimLaws

@@ -1,0 +1,97 @@
+-- Kerning files, header values, codes and printed forms of small sources.
+use Rattle.std.specs.Prelude.{◌≡◌, ℕ, pos, negsuc, List, [], ◌∷◌, ◌++◌, Some, None, Ok, Err, codes, refl, length}
+use Rattle.std.specs.Fmt.{digits}
+use Rattle.t1_frac.specs.declared.fault.Code.TheVariants.{F12, F13}
+use Rattle.t1_frac.specs.declared.fault.Place.TheVariants.{Line}
+use Rattle.t1_frac.specs.Outcome.{fault_at}
+use Rattle.t1_code.specs.Encoding.{standard_names, standard_name}
+use Rattle.t1_source.specs.declared.pairs.Pair.{Pair}
+use Rattle.t1_source.specs.Form.{Form}
+use Rattle.t1_source.specs.Lines.{joined}
+use Rattle.t1_source.specs.Kerning.{line_pairs, pairs, kern}
+use Rattle.t1_source.specs.Header.{header, header_among}
+use Rattle.t1_source.specs.Codes.{lowest_code, code_of}
+use Rattle.t1_source.specs.Printing.{text}
+use Rattle.t1_source.proofs.ReadingRows.{space_lines, space_form}
+use Rattle.t1_source.proofs.DemoRows.{demo_lines, demo_form}
+
+abbrev pub kern_av : Pair
+kern_av = record { left = codes "A"; right = codes "V"; value = negsuc 91 }
+
+pub fraction_kern : pairs (codes "KPX A V -9.5") ≡ Err (fault_at (Line 1) F12)
+unfolding pairs line_pairs
+fraction_kern = refl
+
+pub long_kern : pairs (joined (codes "x" ∷ codes "KPX A V 1 2" ∷ [])) ≡ Err (fault_at (Line 2) F12)
+unfolding pairs line_pairs
+long_kern = refl
+
+pub other_kern : pairs (codes "KP A V 1 2") ≡ Err (fault_at (Line 1) F13)
+unfolding pairs line_pairs
+other_kern = refl
+
+-- the later line counts; the printed order is that of the names
+pub later_kern : pairs (joined (codes "KPX A V 7" ∷ codes "KPX A A 0" ∷ codes "Comment" ∷ codes " KPX A V -092 " ∷ []))
+    ≡ Ok (record { left = codes "A"; right = codes "A"; value = pos 0 } ∷ kern_av ∷ [])
+unfolding pairs line_pairs
+later_kern = refl
+
+pub kern_text : kern (kern_av ∷ []) ≡ joined (codes "KPX A V -92" ∷ [])
+unfolding digits
+kern_text = refl
+
+pub space_text : text space_form ≡ joined (space_lines ++ codes "cleartomark" ∷ [])
+unfolding digits
+space_text = refl
+
+pub space_text_length : length (text space_form) ≡ 161
+unfolding digits
+space_text_length = refl
+
+pub demo_text : text demo_form ≡ joined demo_lines
+unfolding digits
+demo_text = refl
+
+pub demo_name : header demo_form (codes "FontName") ≡ Some (codes "Demo")
+demo_name = refl
+
+pub demo_full_name : header demo_form (codes "FullName") ≡ Some (codes "Demo Roman")
+demo_full_name = refl
+
+pub demo_angle : header demo_form (codes "ItalicAngle") ≡ Some (codes "0")
+demo_angle = refl
+
+pub demo_notice : header demo_form (codes "Notice") ≡ None
+demo_notice = refl
+
+-- a key that isn't among the ten
+pub demo_box : header demo_form (codes "FontBBox") ≡ None
+demo_box = refl
+
+-- a text with parentheses, one that nothing balances, an empty one, and a key that goes on
+pub nested_text : header_among (codes " /Notice (a (b) \\) c) x" ∷ []) (codes "Notice") ≡ Some (codes "a (b) \\) c")
+nested_text = refl
+
+pub open_text : header_among (codes "/Weight (bold  " ∷ []) (codes "Weight") ≡ Some (codes "bold  ")
+open_text = refl
+
+pub empty_text : header_among (codes "/WeightVector (a)" ∷ codes "/Weight ()" ∷ codes "/Weight (b)" ∷ []) (codes "Weight") ≡ None
+empty_text = refl
+
+pub standard_code : code_of demo_form (codes "acute") ≡ Some 194
+unfolding lowest_code standard_name standard_names
+standard_code = refl
+
+pub notdef_code : code_of demo_form (codes ".notdef") ≡ None
+notdef_code = refl
+
+-- an array with these slots
+abbrev pub array_form : List (List ℕ) → Form
+array_form slots = record space_form {
+  clear = codes "%!" ∷ codes "/Encoding 256 array" ∷ codes "0 1 255 {1 index exch /.notdef put} for" ∷ (slots ++ codes "readonly def" ∷ codes "currentfile eexec" ∷ []);
+}
+
+-- the lowest code, where the later slot of a code counts
+pub array_code : code_of (array_form (codes "dup 8#101/space put" ∷ codes "dup 32 /space put" ∷ codes "dup 32 /A put" ∷ [])) (codes "space") ≡ Some 65
+unfolding lowest_code
+array_code = refl

@@ -1,0 +1,163 @@
+//! A source that was read.
+
+use crate::codes::{array_code, standard_code};
+use crate::counts::raised;
+use crate::encoding::{check_clear, has_standard};
+use crate::gathered::Gathered;
+use crate::header::header_of;
+use crate::item::Item;
+use crate::len_iv::{check_lead, lead_of};
+use crate::lines::{Line, copied_lines, cut_lines};
+use crate::operator::operator_of;
+use crate::parts::{parts_of, tail_of};
+use crate::printing::{push_items, push_lines};
+use crate::private::private_items;
+use crate::tokens::same;
+use std::alloc::{AllocError, Global};
+use std::marker::Model;
+use t1_frac::{Bytes, Code, Refusal};
+
+/// The readable source of a font: its clear lines, the items of its private part and its tail.
+#[derive(Debug, Drop)]
+pub struct Source {
+    alloc: Global,
+    clear: Vec<Bytes>,
+    items: Vec<Item>,
+    tail: Vec<Bytes>,
+}
+
+impl Model for Source {
+    ghost use Rattle.t1_source.specs.Form.{Form};
+
+    ghost Value = { Form };
+
+    ghost view = { λ source. record { clear = source.clear.items; items = source.items.items; tail = source.tail.items } };
+}
+
+ghost use Rattle.std.specs.Prelude.{◌≡◌, IfOk, option_map};
+ghost use Rattle.t1_frac.specs.Outcome.{Gives};
+ghost use Rattle.t1_source.specs.Reading.{whole_check, reads_lines, reads, standard};
+ghost use Rattle.t1_source.specs.LenIV.{lead};
+ghost use Rattle.t1_source.specs.Operator.{operator};
+ghost use Rattle.t1_source.specs.Header.{header};
+ghost use Rattle.t1_source.specs.Codes.{code_of};
+ghost use Rattle.t1_source.specs.Printing.{text};
+
+/// Judges the items of a private part as a whole.
+#[tactic(auto, unfolding(crate::specs::Reading::whole_check))]
+fn check_whole(items: &Gathered) -> Result<(), Refusal>
+    ensures { Gives (λ x. x) result (whole_check items.now) }
+{
+    if !items.has_glyphs_line() {
+        return Err(Refusal::from(Code::F3));
+    }
+    let _lead = check_lead(items.as_slice())?;
+    Ok(())
+}
+
+/// The source of some lines, or the first fault.
+#[tactic(auto, unfolding(crate::specs::Reading::reads_lines))]
+fn read_lines(alloc: Global, lines: &[Line]) -> Result<Source, Refusal>
+    ensures { Gives (λ source. source) result (reads_lines lines.now) }
+{
+    let parts = parts_of(lines)?;
+    let clear = copied_lines(alloc, parts.clear)?;
+    check_clear(&clear)?;
+    let items = private_items(alloc, parts.clear.len() as u64 + 1, parts.private)?;
+    check_whole(&items)?;
+    let items = raised(alloc, items.into_items())?;
+    let tail = tail_of(alloc, parts.tail)?;
+    Ok(Source {
+        alloc,
+        clear,
+        items,
+        tail,
+    })
+}
+
+/// The source of some bytes. The first fault refuses it: F1 where no line ends the clear part, F2 where none ends the
+/// private part, then F5 and F6 of the clear lines, F4 and F7 to F10 of the private lines, each from the top and
+/// with its line, then F3 and F11.
+#[tactic(auto, unfolding(crate::specs::Reading::reads))]
+pub fn read_source(alloc: Global, bytes: &[u8]) -> Result<Source, Refusal>
+    ensures { Gives (λ source. source) result (reads bytes.now) }
+{
+    let lines = cut_lines(alloc, bytes)?;
+    read_lines(alloc, &lines)
+}
+
+impl Source {
+    /// The lines of the clear part.
+    pub fn clear(&self) -> &[Bytes]
+        ensures { result.now ≡ self.now.clear }
+    {
+        self.clear.as_slice()
+    }
+
+    /// The items of the private part.
+    pub fn items(&self) -> &[Item]
+        ensures { result.now ≡ self.now.items }
+    {
+        self.items.as_slice()
+    }
+
+    /// The lines of the tail.
+    pub fn tail(&self) -> &[Bytes]
+        ensures { result.now ≡ self.now.tail }
+    {
+        self.tail.as_slice()
+    }
+
+    /// The number of bytes that stand in front of a charstring: lenIV, 4 where no plain line says it.
+    pub fn lead(&self) -> u8
+        ensures { result ≡ lead self.now }
+    {
+        lead_of(self.items.as_slice())
+    }
+
+    /// The operator that reads a charstring, usually `RD`.
+    pub fn operator(&self) -> &[u8]
+        ensures { result.now ≡ operator self.now }
+    {
+        operator_of(self.items.as_slice())
+    }
+
+    /// The printed form: its lines, each with LF.
+    pub fn text(&self) -> Result<Vec<u8>, AllocError>
+        ensures { IfOk result (λ printed. printed.items ≡ text self.now) }
+    {
+        let mut text = Vec::new(self.alloc);
+        push_lines(&mut text, self.clear.as_slice())?;
+        push_items(&mut text, self.items.as_slice())?;
+        push_lines(&mut text, self.tail.as_slice())?;
+        Ok(text)
+    }
+
+    /// The value of a header key: `FontName`, `FullName`, `FamilyName`, `Weight`, `version`, `Notice`, `ItalicAngle`,
+    /// `isFixedPitch`, `UnderlinePosition` or `UnderlineThickness`. Any other key has none.
+    pub fn header(&self, key: &str) -> Option<&[u8]>
+        ensures { option_map (λ value. value.now) result ≡ header self.now key.now }
+    {
+        header_of(self.clear.as_slice(), key.as_bytes())
+    }
+
+    /// The lowest code that the encoding gives a name; none for `.notdef`.
+    pub fn code_of(&self, name: &[u8]) -> Option<u8>
+        ensures { result ≡ code_of self.now name.now }
+    {
+        if same(name, b".notdef") {
+            return None;
+        }
+        if self.standard() {
+            return standard_code(name);
+        }
+        array_code(self.clear.as_slice(), name)
+    }
+
+    /// Whether the encoding is the standard one.
+    pub fn standard(&self) -> bool
+        ensures { result ≡ standard self.now }
+    {
+        has_standard(self.clear.as_slice())
+    }
+}

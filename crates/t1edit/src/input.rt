@@ -1,0 +1,41 @@
+//! Files, read whole.
+ghost use Rattle.std.specs.Prelude.{◌≡◌, Err, IfOk};
+ghost use Rattle.std.specs.Io.KnownBytes.{Consumes, IsAtEnd};
+ghost use Rattle.t1_code.specs.Counted.{one_more};
+
+use std::alloc::Global;
+use std::fs::File;
+use std::io::Read;
+use t1_code::Counted;
+use t1_session::ServeError;
+
+/// How many bytes a reader is asked for at a time.
+const BUFFER_LEN: usize = 4_096;
+
+/// All bytes that a reader gives up to its end.
+fn read_whole<R: Read>(alloc: Global, reader: &mut Counted<R>) -> Result<Vec<u8>, ServeError>
+    ensures ok { IfOk result (λ bytes. Consumes (R.remaining reader.old.inner) (R.remaining reader.new.inner) bytes.items) }
+    ensures at_end { IfOk result (λ _. IsAtEnd (R.remaining reader.new.inner)) }
+    ensures read_failed { result ≡ Err ServeError.Read → reader.new.failures ≡ one_more reader.old.failures }
+{
+    let mut bytes = Vec::new(alloc);
+    let mut buffer = [0; BUFFER_LEN];
+    'pieces: loop {
+        let count = match reader.take(&mut buffer) {
+            Ok(count) => count,
+            Err(_) => return Err(ServeError::Read),
+        };
+        if count == 0 {
+            return Ok(bytes);
+        }
+        bytes.extend_from_slice(buffer.split_at(count).0)?;
+    }
+}
+
+/// The bytes of a file.
+pub fn read_file(rt: &HostRuntime, path: &str) -> Result<Vec<u8>, ServeError> {
+    match File::open(rt, path) {
+        Ok(file) => read_whole(rt.alloc(), &mut Counted::new(file)),
+        Err(_) => Err(ServeError::Read),
+    }
+}

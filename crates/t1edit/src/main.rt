@@ -1,0 +1,77 @@
+//! `t1edit`: the command line over whole fonts.
+#![tactic(auto)]
+
+mod command_line;
+mod input;
+mod status;
+
+use clap::error::ErrorKind;
+use clap::{ArgMatches, Error};
+use command_line::command;
+use input::read_file;
+use status::{USAGE, ending};
+use std::env;
+use std::io;
+use std::process::ExitCode;
+use t1_code::Counted;
+use t1_session::{ServeError, assemble_source};
+
+/// Writes the PFB file of a source to standard output.
+fn assemble(rt: &HostRuntime, matches: &ArgMatches<'_>) -> Result<(), ServeError> {
+    let source = read_file(rt, matches.get_str("SOURCE").unwrap_or(""))?;
+    let mut out = Counted::new(rt.stdout());
+    assemble_source(rt.alloc(), &source, &mut out)
+}
+
+/// The status of an error, with its line on standard error.
+fn told(rt: &HostRuntime, error: &ServeError) -> ExitCode {
+    ExitCode::from(ending(error, &mut rt.stderr()))
+}
+
+/// The status of a command line that clap doesn't accept, with clap's text.
+fn refused(rt: &HostRuntime, error: &Error) -> ExitCode {
+    if error.kind() == ErrorKind::OutOfMemory {
+        return told(rt, &ServeError::Memory);
+    }
+    let printed = error.print(rt);
+    if error.use_stderr() {
+        ExitCode::from(USAGE)
+    } else if printed.is_err() {
+        told(rt, &ServeError::Write)
+    } else {
+        ExitCode::SUCCESS
+    }
+}
+
+/// Runs the command that the words spell.
+fn run(rt: &HostRuntime, words: &[String]) -> ExitCode {
+    let Ok(command) = command(rt.alloc()) else {
+        return told(rt, &ServeError::Memory);
+    };
+    let matches = match command.try_get_matches_from(words) {
+        Ok(matches) => matches,
+        Err(error) => return refused(rt, &error),
+    };
+    let result = match matches.subcommand() {
+        Some(("assemble", matches)) => assemble(rt, matches),
+        _ => Ok(()),
+    };
+    match result {
+        Ok(()) => ExitCode::SUCCESS,
+        Err(error) => told(rt, &error),
+    }
+}
+
+fn main(rt: HostRuntime) -> ExitCode {
+    let args = match env::args(&rt) {
+        Ok(args) => args,
+        Err(error) if error.kind() == io::ErrorKind::OutOfMemory => {
+            return told(&rt, &ServeError::Memory);
+        }
+        Err(_) => return ExitCode::from(USAGE),
+    };
+    let Ok(words) = args.collect::<Vec<String>>(rt.alloc()) else {
+        return told(&rt, &ServeError::Memory);
+    };
+    run(&rt, &words)
+}

@@ -1,0 +1,130 @@
+# Independent implementation that computes the tests' expected values; no part of the product.
+"""Boxes, the AFM and the usage table."""
+
+import math
+from fractions import Fraction
+
+from charstrings import STANDARD
+
+PIECES = 64
+ZERO = (0, 0, 0, 0)
+
+
+def points(segments):
+    """Both ends of each line, and 65 points of each curve."""
+    found = []
+    for segment in segments:
+        if len(segment) == 2:
+            found += segment
+        else:
+            found += [curve_point(segment, step) for step in range(PIECES + 1)]
+    return found
+
+
+def curve_point(curve, step):
+    rest = PIECES - step
+    weights = (rest**3, 3 * rest**2 * step, 3 * rest * step**2, step**3)
+    return tuple(
+        Fraction(sum(weight * point[axis] for weight, point in zip(weights, curve))) / PIECES**3 for axis in (0, 1)
+    )
+
+
+def box(segments):
+    found = points(segments)
+    if not found:
+        return ZERO
+    low = [math.floor(min(point[axis] for point in found)) for axis in (0, 1)]
+    high = [math.ceil(max(point[axis] for point in found)) for axis in (0, 1)]
+    return (*low, *high)
+
+
+def joined_box(boxes):
+    """The box round the boxes of glyphs that draw."""
+    if not boxes:
+        return ZERO
+    sides = list(zip(*boxes))
+    return (min(sides[0]), min(sides[1]), max(sides[2]), max(sides[3]))
+
+
+def nearest(value):
+    """Halves upward."""
+    return math.floor(value + Fraction(1, 2))
+
+
+def codes(source):
+    """Each name's lowest code."""
+    array = source.encoding()
+    slots = STANDARD if array is None else dict(slot for _, slot in sorted(array.slots.items()))
+    found = {name: code for code, name in sorted(slots.items(), reverse=True)}
+    found.pop(b".notdef", None)
+    return found
+
+
+def numbers(values):
+    return b" ".join(b"%d" % it for it in values)
+
+
+def header_lines(source, keys):
+    found = []
+    for key in keys:
+        value = source.header(key)
+        if value is not None:
+            found.append(key[:1].upper().encode() + key[1:].encode() + b" " + value)
+    return found
+
+
+def afm(source, pairs, font):
+    outlines = {name: font.outline(name) for name in font.glyphs}
+    boxes = {name: box(outline) for name, outline in outlines.items()}
+    found = [b"StartFontMetrics 4.1"]
+    found += header_lines(source, ("FontName", "FullName", "FamilyName", "Weight", "ItalicAngle", "isFixedPitch"))
+    found.append(b"FontBBox " + numbers(joined_box([boxes[name] for name in boxes if outlines[name]])))
+    found += header_lines(source, ("UnderlinePosition", "UnderlineThickness", "version", "Notice"))
+    scheme = b"AdobeStandardEncoding" if source.encoding() is None else b"FontSpecific"
+    found.append(b"EncodingScheme " + scheme)
+    for key, name, side in (b"CapHeight", b"H", 3), (b"XHeight", b"x", 3), (b"Ascender", b"d", 3), (b"Descender", b"p", 1):
+        if name in boxes:
+            found.append(key + b" %d" % boxes[name][side])
+    found += char_lines(codes(source), boxes, font)
+    found += kern_lines(pairs, boxes)
+    found += composite_lines(font)
+    found.append(b"EndFontMetrics")
+    return b"".join(line + b"\n" for line in found)
+
+
+def char_lines(code_of, boxes, font):
+    coded = sorted((name for name in boxes if name in code_of), key=code_of.get)
+    found = [b"StartCharMetrics %d" % len(boxes)]
+    for name in coded + [name for name in boxes if name not in code_of]:
+        x, y = (nearest(it) for it in font.own(name).width)
+        width = b"W %d %d" % (x, y) if y else b"WX %d" % x
+        found.append(b"C %d ; %s ; N %s ; B %s ;" % (code_of.get(name, -1), width, name, numbers(boxes[name])))
+    return found + [b"EndCharMetrics"]
+
+
+def kern_lines(pairs, boxes):
+    found = [b"KPX %s %s %d" % (*key, pairs[key]) for key in sorted(pairs) if key[0] in boxes and key[1] in boxes]
+    if not found:
+        return []
+    return [b"StartKernData", b"StartKernPairs %d" % len(found), *found, b"EndKernPairs", b"EndKernData"]
+
+
+def composite_lines(font):
+    found = []
+    for name in font.glyphs:
+        parts = font.own(name).composite
+        if parts:
+            move = numbers(nearest(it) for it in font.offset(name))
+            found.append(b"CC %s 2 ; PCC %s 0 0 ; PCC %s %s ;" % (name, parts.base, parts.accent, move))
+    return [b"StartComposites %d" % len(found), *found, b"EndComposites"] if found else []
+
+
+def uses(font):
+    found = b""
+    for name in font.glyphs:
+        run = font.own(name)
+        found += b"U " + name + b" ;" + b"".join(b" S %d ;" % number for number in sorted(run.entered))
+        if run.composite:
+            found += b" P " + run.composite.base + b" ; P " + run.composite.accent + b" ;"
+        found += b"\n"
+    return found

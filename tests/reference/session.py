@@ -1,0 +1,106 @@
+# Independent implementation that computes the tests' expected values; no part of the product.
+"""A session: the answers to an input."""
+
+from edits import Edit, edited, form_of, in_range, takes_body
+from faults import Broken, Fault
+from metrics import afm, uses
+from pfb import LARGEST, assembly_fault, pfa, pfb
+from runs import Font
+from source import joined, kern_text, lines, trimmed, words
+
+PRINTS = (b"pfb", b"afm", b"source", b"kern", b"uses", b"pfa")
+
+
+def judged(source):
+    """The font of a source without a fault; raises the first fault."""
+    fault = assembly_fault(source)
+    if fault is None:
+        font = Font(source)
+        fault = font.fault()
+    if fault:
+        raise fault
+    return font
+
+
+def commands(text):
+    """The commands of an input: the words of the line, the body or None, and whether the body was left open."""
+    found, rest = [], iter(lines(text))
+    for line in rest:
+        these = tuple(words(line))
+        if takes_body(these):
+            body, is_open = [], True
+            for inner in rest:
+                if trimmed(inner) == b".":
+                    is_open = False
+                    break
+                body.append(inner)
+            found.append((these, joined(body), is_open))
+        elif these:
+            found.append((these, b"", False))
+    return found
+
+
+class Session:
+    def __init__(self, source, pairs):
+        self.source, self.pairs, self.batch = source, pairs, None
+        self.font = judged(source)
+
+    def answers(self, text):
+        return b"".join(self.answer(*command) for command in commands(text))
+
+    def answer(self, these, body, is_open):
+        try:
+            return self.perform(these, body, is_open)
+        except Broken as broken:
+            return b"refused " + broken.rule.encode() + b"\n"
+        except Fault as fault:
+            return b"refused " + fault.text() + b"\n"
+
+    def perform(self, these, body, is_open):
+        if these[0] == b"print" and these[1:2] and these[1] in PRINTS and len(these) <= 2 + (these[1] == b"pfb"):
+            text = self.printed(these[1], these[2:])
+            return b"data %d\n%s\n" % (len(text), text)
+        if these in ((b"begin",), (b"commit",), (b"abort",)):
+            return self.change_batch(these[0])
+        if form_of(these) is None:
+            raise Broken("E8")
+        if is_open:
+            raise Broken("E7")
+        edit = Edit(these, body)
+        if self.batch is not None:
+            self.batch = edited(*self.batch, edit)
+        else:
+            self.take(*edited(self.source, self.pairs, edit))
+        return b"ok\n"
+
+    def take(self, source, pairs):
+        if source != self.source:
+            self.font = judged(source)
+        self.source, self.pairs = source, pairs
+
+    def change_batch(self, verb):
+        if verb == b"begin":
+            if self.batch is not None:
+                raise Broken("E11")
+            self.batch = self.source, self.pairs
+            return b"ok\n"
+        if self.batch is None:
+            raise Broken("E12")
+        batch, self.batch = self.batch, None
+        if verb == b"commit":
+            self.take(*batch)
+        return b"ok\n"
+
+    def printed(self, what, more):
+        if what == b"pfb":
+            block = in_range(more[0], 1, LARGEST) if more else LARGEST
+            if block is None:
+                raise Broken("E4")
+            return pfb(self.source, block)
+        if what == b"afm":
+            return afm(self.source, self.pairs, self.font)
+        if what == b"pfa":
+            return pfa(self.source)
+        if what == b"uses":
+            return uses(self.font)
+        return self.source.text() if what == b"source" else kern_text(self.pairs)
