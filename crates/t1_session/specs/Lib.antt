@@ -2,7 +2,6 @@ pub mod Answers
 pub mod Assembly
 pub mod Delivery
 pub mod Dialogues
-pub mod Editing
 pub mod Lines
 pub mod Machine
 pub mod Replies

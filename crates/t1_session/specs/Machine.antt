@@ -8,7 +8,7 @@ use Rattle.t1_source.specs.Reading.{reads}
 use Rattle.t1_source.specs.Kerning.{pairs, kern}
 use Rattle.t1_source.specs.Printing.{text}
 use Rattle.t1_code.specs.Pfb.{whole_file}
-use Rattle.t1_session.specs.declared.edit.Rule.{Rule}
+use Rattle.t1_source.specs.declared.edit.Rule.{Rule}
 use Rattle.t1_session.specs.declared.print.Print.{Print}
 use Rattle.t1_session.specs.declared.print.Print.TheVariants as prints
 use Rattle.t1_session.specs.declared.reply.Reply.{Reply}
@@ -17,7 +17,7 @@ use Rattle.t1_session.specs.declared.request.Request.{Request}
 use Rattle.t1_session.specs.declared.request.Request.TheVariants as requests
 use Rattle.t1_session.specs.Answers.{Performed, Machine}
 use Rattle.t1_session.specs.Assembly.{source_file}
-use Rattle.t1_session.specs.Editing.{edited}
+use Rattle.t1_source.specs.Editing.{edited}
 use Rattle.t1_session.specs.Requests.{may_want_memory}
 use Rattle.t1_session.specs.State.{State}
 

@@ -5,8 +5,8 @@ use Rattle.t1_frac.specs.declared.fault.Code.TheVariants.{F1, F2, F3, F4, F5, F6
 use Rattle.t1_frac.specs.declared.fault.Fault.{Fault}
 use Rattle.t1_frac.specs.declared.fault.Place.{Place}
 use Rattle.t1_frac.specs.declared.fault.Place.TheVariants.{Nowhere, Line, Subr, Glyph}
-use Rattle.t1_session.specs.declared.edit.Rule.{Rule}
-use Rattle.t1_session.specs.declared.edit.Rule.TheVariants.{E1, E2, E3, E4, E5, E6, E7, E8, E9, E10}
+use Rattle.t1_source.specs.declared.edit.Rule.{Rule}
+use Rattle.t1_source.specs.declared.edit.Rule.TheVariants.{E1, E2, E3, E4, E5, E6, E7, E8, E9, E10}
 use Rattle.t1_session.specs.declared.reply.Reply.{Reply}
 use Rattle.t1_session.specs.declared.reply.Reply.TheVariants.{Accepted, Broken, Faulty, OutOfMemory, Data}
 

@@ -4,7 +4,6 @@
 mod answering;
 mod assembly;
 mod dialogue;
-mod edit;
 mod error;
 mod numbers;
 mod print;
@@ -15,6 +14,5 @@ mod serving;
 mod session;
 
 pub use assembly::assemble_source;
-pub use edit::{Edit, Rule};
 pub use error::ServeError;
 pub use serving::serve;

@@ -4,11 +4,11 @@ ghost use Rattle.t1_code.specs.Counted.{WritesAll, WritesFront};
 ghost use Rattle.t1_code.specs.Parts.{bytes_of};
 ghost use Rattle.t1_session.specs.Replies.{rule_name, code_name, place_number, place_text, fault_text, data_text, reply_text};
 
-use crate::edit::Rule;
 use itoa::Buffer;
 use std::io::{self, Write};
 use t1_code::Counted;
 use t1_frac::{Bytes, Code, Fault, Place};
+use t1_source::Rule;
 
 /// What a command is answered.
 #[derive(Debug, Drop)]

@@ -3,13 +3,13 @@ ghost use Rattle.std.specs.Str.{bytes_eq};
 ghost use Rattle.std.specs.Prelude.{◌≡◌, ◌||◌, option_map, length, ◌<◌, IfOk, IfSome, MatchOption, ◌∷◌, []};
 ghost use Rattle.t1_frac.specs.Words.{words};
 ghost use Rattle.t1_session.specs.Requests.{one_word, two_words, three_words, removal, print_of, line_request, body_request, bodied_edit, open_request, takes_body, ends_body, edit_of, is_wordless, number_of, Makes};
-ghost use Rattle.t1_session.specs.declared.edit.Edit.TheVariants as edits;
+ghost use Rattle.t1_source.specs.declared.edit.Edit.TheVariants as edits;
 
-use crate::edit::{Edit, Rule};
 use crate::numbers::number_of;
 use crate::print::Print;
 use std::alloc::{AllocError, Global};
 use t1_frac::{Bytes, next_word};
+use t1_source::{Edit, Rule};
 
 /// One command.
 #[derive(Debug, Drop)]

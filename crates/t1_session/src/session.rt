@@ -2,7 +2,7 @@
 
 use std::alloc::{AllocError, Global};
 use std::marker::Model;
-use t1_source::{Pairs, Source, read_pairs, read_source};
+use t1_source::{Cause, Edit, Pairs, Source, read_pairs, read_source};
 
 /// A session over a source and its kerning pairs. Its source has no fault that its PFB file would tell.
 #[derive(Drop)]
@@ -23,14 +23,13 @@ ghost use Rattle.std.specs.Prelude.{◌≡◌, true, IfOk, OnOk, OnErr};
 ghost use Rattle.t1_frac.specs.Outcome.{Gives};
 ghost use Rattle.t1_source.specs.Kerning.{kern};
 ghost use Rattle.t1_source.specs.Printing.{text};
-ghost use Rattle.t1_session.specs.Editing.{edited};
+ghost use Rattle.t1_source.specs.Editing.{edited};
 ghost use Rattle.t1_session.specs.Machine.{perform, printed, judged, judged_file, file_reply, scratch};
 ghost use Rattle.t1_session.specs.Assembly.{source_file};
 ghost use Rattle.t1_session.specs.Requests.{may_want_memory};
 ghost use Rattle.t1_code.specs.Pfb.{whole_file};
 
 use crate::assembly::write_source;
-use crate::edit::{Cause, Edit, edited};
 use crate::error::ServeError;
 use crate::print::Print;
 use crate::reply::Reply;
@@ -96,7 +95,7 @@ impl Session {
         ensures next { OnOk result (self.new ≡ (judged self.old (edited self.old.source self.old.pairs edit.now)).next) }
         ensures err { OnErr result (self.new ≡ self.old) }
     {
-        match edited(&self.source, &self.pairs, edit) {
+        match self.source.edited(&self.pairs, edit) {
             Ok((source, pairs)) => self.take(alloc, source, pairs),
             Err(Cause::Rule(rule)) => Ok(Reply::Broken(rule)),
             Err(Cause::Fault(fault)) => Ok(Reply::Faulty(fault)),

@@ -1,5 +1,6 @@
 pub mod Codes
 pub mod Counts
+pub mod Editing
 pub mod Encoding
 pub mod Entries
 pub mod Form

@@ -19,7 +19,7 @@ pub struct Body {
 }
 
 /// A line without its comment.
-fn uncommented(line: &[u8]) -> &[u8]
+pub fn uncommented(line: &[u8]) -> &[u8]
     ensures { result.now ≡ uncommented line.now }
 {
     line.split_at(comment_start(line)).0
@@ -49,7 +49,7 @@ fn brace_start(line: &[u8]) -> usize
 }
 
 /// Whether a line has a brace outside its comment.
-fn has_brace(line: &[u8]) -> bool
+pub fn has_brace(line: &[u8]) -> bool
     ensures { result ≡ has_brace line.now }
 {
     has_any_brace(uncommented(line))

@@ -2,20 +2,19 @@
 
 ghost use Rattle.std.specs.Prelude.{◌≡◌, IfOk};
 ghost use Rattle.t1_source.specs.Counts.{subrs_needed, glyphs_needed, raised, raised_item};
-ghost use Rattle.t1_source.specs.Reading.{unnumbered};
 
 use crate::item::Item;
 use crate::tokens::last_is;
 use std::alloc::{AllocError, Global};
 
 /// The highest Subr number plus one.
-fn subrs_needed(items: &[(u64, Item)]) -> u64
-    ensures { result ≡ subrs_needed (unnumbered items.now) }
+fn subrs_needed(items: &[Item]) -> u64
+    ensures { result ≡ subrs_needed items.now }
 {
     let mut needed = 0;
     let mut rest = items;
     while let Some((item, after)) = rest.split_first() {
-        if let Item::Subr(number, _, _) = &item.1 {
+        if let Item::Subr(number, _, _) = item {
             needed = (u64::from(*number) + 1).max(needed);
         }
         rest = after;
@@ -24,13 +23,13 @@ fn subrs_needed(items: &[(u64, Item)]) -> u64
 }
 
 /// The number of glyphs.
-fn glyphs_needed(items: &[(u64, Item)]) -> u64
-    ensures { result ≡ glyphs_needed (unnumbered items.now) }
+fn glyphs_needed(items: &[Item]) -> u64
+    ensures { result ≡ glyphs_needed items.now }
 {
     let mut needed = 0;
     let mut rest = items;
     while let Some((item, after)) = rest.split_first() {
-        if let Item::Glyph(_, _, _) = &item.1 {
+        if let Item::Glyph(_, _, _) = item {
             needed += 1;
         }
         rest = after;
@@ -56,13 +55,13 @@ fn raised_item(subrs: u64, glyphs: u64, item: Item) -> Item
 }
 
 /// The items with the counts of their section lines raised to what is needed.
-pub fn raised(alloc: Global, items: Vec<(u64, Item)>) -> Result<Vec<Item>, AllocError>
-    ensures { IfOk result (λ raised_items. raised_items.items ≡ raised (unnumbered items.items)) }
+pub fn raised(alloc: Global, items: Vec<Item>) -> Result<Vec<Item>, AllocError>
+    ensures { IfOk result (λ raised_items. raised_items.items ≡ raised items.items) }
 {
     let subrs = subrs_needed(&items);
     let glyphs = glyphs_needed(&items);
     let mut found = Vec::new(alloc);
-    for (_number, item) in items {
+    for item in items {
         found.push(raised_item(subrs, glyphs, item))?;
     }
     Ok(found)

@@ -1,7 +1,7 @@
 //! Judging the encoding of a clear part.
 
 ghost use Rattle.std.specs.Prelude.{◌≡◌, ◌+◌, ◌≤◌, ◌<◌, ◌^◌, ◌∷◌, length, nat_le, option_map, IfSome, ◌&&◌};
-ghost use Rattle.std.specs.List.{list_any, position_or_len};
+ghost use Rattle.std.specs.List.{list_any, position, position_or_len};
 ghost use Rattle.t1_frac.specs.Outcome.{Gives};
 ghost use Rattle.t1_source.specs.Tokens.{tokens};
 ghost use Rattle.t1_source.specs.Names.{up_to};
@@ -66,6 +66,16 @@ fn encoding_start(clear: &[Bytes]) -> usize
         .count()
 }
 
+/// Where the first line stands that opens the encoding.
+pub fn encoding_at(clear: &[Bytes]) -> Option<usize>
+    ensures value { result ≡ position opens_encoding clear.now }
+    ensures within { IfSome result (λ at. at < length clear.now) }
+{
+    clear
+        .iter()
+        .position(|line| opens_encoding(line.as_slice()))
+}
+
 /// How many lines stand before the first one that ends an array.
 fn array_end(later: &[Bytes]) -> usize
     ensures within { result ≤ length later.now }
@@ -85,7 +95,7 @@ fn has_end(later: &[Bytes]) -> bool
 }
 
 /// How many of the later lines are those of the array that a line opens.
-fn array_len(opening: &[u8], later: &[Bytes]) -> usize
+pub fn array_len(opening: &[u8], later: &[Bytes]) -> usize
     ensures within { result ≤ length later.now }
     ensures value { result ≡ length (array_lines (opening.now ∷ later.now)) }
 {

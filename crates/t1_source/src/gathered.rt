@@ -3,6 +3,7 @@
 ghost use Rattle.std.specs.Prelude.{◌≡◌, ◌∷◌, [], ◌++◌, IfOk};
 ghost use Rattle.t1_source.specs.Sections.{is_subrs_line, is_glyphs_line};
 ghost use Rattle.t1_source.specs.Entries.{has, is_subr, is_glyph};
+ghost use Rattle.t1_source.specs.Reading.{unnumbered};
 
 use crate::item::Item;
 use crate::sections::{is_glyphs_line, is_subrs_line};
@@ -87,11 +88,15 @@ impl Gathered {
         self.items.as_slice()
     }
 
-    /// The items, taking no memory.
-    pub fn into_items(self) -> Vec<(u64, Item)>
-        ensures { result.items ≡ self }
+    /// The items without their numbers.
+    pub fn into_items(self, alloc: Global) -> Result<Vec<Item>, AllocError>
+        ensures { IfOk result (λ items. items.items ≡ unnumbered self) }
     {
-        self.items
+        let mut items = Vec::new(alloc);
+        for (_number, item) in self.items {
+            items.push(item)?;
+        }
+        Ok(items)
     }
 
     /// The items and a further one, which begins on the line of this number.

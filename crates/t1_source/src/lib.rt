@@ -6,11 +6,14 @@
 mod body;
 mod codes;
 mod counts;
+mod edit;
+mod editing;
 mod encoding;
 mod entries;
 mod gathered;
 mod header;
 mod item;
+mod kerning;
 mod len_iv;
 mod lines;
 mod names;
@@ -19,10 +22,13 @@ mod pairs;
 mod parts;
 mod printing;
 mod private;
+mod rules;
 mod sections;
+mod slots;
 mod source;
 mod tokens;
 
+pub use edit::{Cause, Edit, Rule};
 pub use item::Item;
 pub use pairs::{Pair, Pairs, read_pairs};
 pub use source::{Source, read_source};

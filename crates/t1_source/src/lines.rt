@@ -68,6 +68,17 @@ pub fn copied_lines(alloc: Global, lines: &[Line]) -> Result<Vec<Bytes>, AllocEr
     Ok(copies)
 }
 
+/// Copies of some runs of bytes.
+pub fn copied_bytes(alloc: Global, lines: &[Bytes]) -> Result<Vec<Bytes>, AllocError>
+    ensures { IfOk result (λ copies. copies.items ≡ lines.now) }
+{
+    let mut copies = Vec::new(alloc);
+    for line in lines {
+        copies.push(Bytes::copied(alloc, line.as_slice())?)?;
+    }
+    Ok(copies)
+}
+
 /// Whether a byte ends a line.
 fn is_line_end(byte: u8) -> bool
     ensures { result ≡ is_line_end byte }

@@ -237,7 +237,59 @@ fn push_pair(text: &mut Vec<u8>, pair: &Pair) -> Result<(), AllocError>
     Ok(())
 }
 
+impl Pair {
+    /// A copy.
+    pub fn copied(&self, alloc: Global) -> Result<Pair, AllocError>
+        ensures { IfOk result (λ copy. copy ≡ self.now) }
+    {
+        self.with_value(alloc, self.value)
+    }
+
+    /// A copy with another value.
+    pub(crate) fn with_value(&self, alloc: Global, value: i32) -> Result<Pair, AllocError>
+        ensures { IfOk result (λ made. made ≡ record { left = self.now.left; right = self.now.right; value = value }) }
+    {
+        let left = Bytes::copied(alloc, self.left.as_slice())?;
+        let right = Bytes::copied(alloc, self.right.as_slice())?;
+        Ok(Pair { left, right, value })
+    }
+}
+
+/// Copies of some pairs.
+fn copied_pairs(alloc: Global, pairs: &[Pair]) -> Result<Vec<Pair>, AllocError>
+    ensures { IfOk result (λ copies. copies.items ≡ pairs.now) }
+{
+    let mut copies = Vec::new(alloc);
+    for pair in pairs {
+        copies.push(pair.copied(alloc)?)?;
+    }
+    Ok(copies)
+}
+
 impl Pairs {
+    /// The allocator of the call that made them.
+    pub(crate) fn alloc(&self) -> Global {
+        self.alloc
+    }
+
+    /// A copy.
+    pub fn copied(&self) -> Result<Pairs, AllocError>
+        ensures { IfOk result (λ copy. copy ≡ self.now) }
+    {
+        let pairs = copied_pairs(self.alloc, self.pairs.as_slice())?;
+        Ok(self.with_list(pairs))
+    }
+
+    /// Other pairs, with the same allocator.
+    pub(crate) fn with_list(&self, pairs: Vec<Pair>) -> Pairs
+        ensures { result ≡ pairs.items }
+    {
+        Pairs {
+            alloc: self.alloc,
+            pairs,
+        }
+    }
+
     /// The pairs in printed order.
     pub fn list(&self) -> &[Pair]
         ensures { result.now ≡ self.now }

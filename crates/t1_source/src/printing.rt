@@ -33,7 +33,7 @@ pub fn push_lines(text: &mut Vec<u8>, lines: &[Bytes]) -> Result<(), AllocError>
 }
 
 /// Adds a number in decimal to a text.
-fn push_decimal(text: &mut Vec<u8>, number: u64) -> Result<(), AllocError>
+pub fn push_decimal(text: &mut Vec<u8>, number: u64) -> Result<(), AllocError>
     ensures { OnOk result (text.new.items ≡ text.old.items ++ decimal number) }
 {
     let mut buffer = Buffer::new();

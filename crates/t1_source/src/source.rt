@@ -2,16 +2,23 @@
 
 use crate::codes::{array_code, standard_code};
 use crate::counts::raised;
+use crate::edit::{Cause, Edit};
+use crate::editing::{
+    added_glyph, added_subr, removed_glyph, removed_subr, replaced_glyph, replaced_subr,
+};
 use crate::encoding::{check_clear, has_standard};
 use crate::gathered::Gathered;
 use crate::header::header_of;
-use crate::item::Item;
+use crate::item::{Item, copied_items};
+use crate::kerning::{kerned, unkerned};
 use crate::len_iv::{check_lead, lead_of};
-use crate::lines::{Line, copied_lines, cut_lines};
+use crate::lines::{Line, copied_bytes, copied_lines, cut_lines};
 use crate::operator::operator_of;
+use crate::pairs::Pairs;
 use crate::parts::{parts_of, tail_of};
 use crate::printing::{push_items, push_lines};
 use crate::private::private_items;
+use crate::slots::{encoded, unencoded};
 use crate::tokens::same;
 use std::alloc::{AllocError, Global};
 use std::marker::Model;
@@ -42,6 +49,7 @@ ghost use Rattle.t1_source.specs.Operator.{operator};
 ghost use Rattle.t1_source.specs.Header.{header};
 ghost use Rattle.t1_source.specs.Codes.{code_of};
 ghost use Rattle.t1_source.specs.Printing.{text};
+ghost use Rattle.t1_source.specs.Editing.{Edits, edited, with_items, with_clear};
 
 /// Judges the items of a private part as a whole.
 #[tactic(auto, unfolding(crate::specs::Reading::whole_check))]
@@ -65,7 +73,7 @@ fn read_lines(alloc: Global, lines: &[Line]) -> Result<Source, Refusal>
     check_clear(&clear)?;
     let items = private_items(alloc, parts.clear.len() as u64 + 1, parts.private)?;
     check_whole(&items)?;
-    let items = raised(alloc, items.into_items())?;
+    let items = raised(alloc, items.into_items(alloc)?)?;
     let tail = tail_of(alloc, parts.tail)?;
     Ok(Source {
         alloc,
@@ -87,6 +95,47 @@ pub fn read_source(alloc: Global, bytes: &[u8]) -> Result<Source, Refusal>
 }
 
 impl Source {
+    /// The allocator of the call that made it.
+    pub(crate) fn alloc(&self) -> Global {
+        self.alloc
+    }
+
+    /// A copy.
+    pub fn copied(&self) -> Result<Source, AllocError>
+        ensures { IfOk result (λ copy. copy ≡ self.now) }
+    {
+        Ok(Source {
+            alloc: self.alloc,
+            clear: copied_bytes(self.alloc, self.clear.as_slice())?,
+            items: copied_items(self.alloc, self.items.as_slice())?,
+            tail: copied_bytes(self.alloc, self.tail.as_slice())?,
+        })
+    }
+
+    /// The source with these items, and with its counts raised to what they need.
+    pub(crate) fn with_items(&self, items: Vec<Item>) -> Result<Source, AllocError>
+        ensures { IfOk result (λ made. made ≡ with_items self.now items.items) }
+    {
+        Ok(Source {
+            alloc: self.alloc,
+            clear: copied_bytes(self.alloc, self.clear.as_slice())?,
+            items: raised(self.alloc, items)?,
+            tail: copied_bytes(self.alloc, self.tail.as_slice())?,
+        })
+    }
+
+    /// The source with these clear lines.
+    pub(crate) fn with_clear(&self, clear: Vec<Bytes>) -> Result<Source, AllocError>
+        ensures { IfOk result (λ made. made ≡ with_clear self.now clear.items) }
+    {
+        Ok(Source {
+            alloc: self.alloc,
+            clear,
+            items: copied_items(self.alloc, self.items.as_slice())?,
+            tail: copied_bytes(self.alloc, self.tail.as_slice())?,
+        })
+    }
+
     /// The lines of the clear part.
     pub fn clear(&self) -> &[Bytes]
         ensures { result.now ≡ self.now.clear }
@@ -159,5 +208,33 @@ impl Source {
         ensures { result ≡ standard self.now }
     {
         has_standard(self.clear.as_slice())
+    }
+
+    /// The source and the pairs after an edit, or the first rule that it breaks. Nothing handed in is changed.
+    #[tactic(auto, unfolding(crate::specs::Editing::edited))]
+    pub fn edited(&self, pairs: &Pairs, edit: &Edit) -> Result<(Source, Pairs), Cause>
+        ensures { Edits (λ made. made) result (edited self.now pairs.now edit.now) }
+    {
+        let source = match edit {
+            Edit::ReplaceGlyph(name, body) => {
+                replaced_glyph(self, name.as_slice(), body.as_slice())?
+            }
+            Edit::AddGlyph(name, body) => added_glyph(self, name.as_slice(), body.as_slice())?,
+            Edit::RemoveGlyph(name) => removed_glyph(self, name.as_slice())?,
+            Edit::ReplaceSubr(number, body) => replaced_subr(self, *number, body.as_slice())?,
+            Edit::AddSubr(number, body) => added_subr(self, *number, body.as_slice())?,
+            Edit::RemoveSubr(number) => removed_subr(self, *number)?,
+            Edit::Encode(code, name) => encoded(self, *code, name.as_slice())?,
+            Edit::Unencode(code) => unencoded(self, *code)?,
+            Edit::Kern(left, right, value) => {
+                let pairs = kerned(pairs, left.as_slice(), right.as_slice(), *value)?;
+                return Ok((self.copied()?, pairs));
+            }
+            Edit::Unkern(left, right) => {
+                let pairs = unkerned(pairs, left.as_slice(), right.as_slice())?;
+                return Ok((self.copied()?, pairs));
+            }
+        };
+        Ok((source, pairs.copied()?))
     }
 }

@@ -1,12 +1,11 @@
 use Rattle.std.proofs.Common.{◌≡◌, ◌+◌, ◌≤◌, length}
 use Rattle.t1_source.specs.Counts.{glyphs_needed}
-use Rattle.t1_source.specs.Reading.{unnumbered}
 use Rattle.t1_source.proofs.counts.glyphs_needed.Given as goal
 
 -- the glyphs so far, and those of the rest
 abbrev pub invariant-loop-item : goal.invariant-loop-item
 invariant-loop-item l =
-    (l.needed + glyphs_needed (unnumbered l.rest) ≡ glyphs_needed (unnumbered l.items)) × (l.needed + length l.rest ≤ length l.items)
+    (l.needed + glyphs_needed l.rest ≡ glyphs_needed l.items) × (l.needed + length l.rest ≤ length l.items)
 
 abbrev pub decreases-loop-item : goal.decreases-loop-item
 decreases-loop-item l = length l.rest
