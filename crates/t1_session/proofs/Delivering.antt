@@ -1,5 +1,5 @@
 -- From a text that is printed to the file that is delivered.
-use Rattle.std.proofs.Common.{◌≡◌, ℕ, List, Option, Result, Ok, Err, refl, sym, ◌∙◌}
+use Rattle.std.proofs.Common.{◌≡◌, ℕ, List, Option, Result, Ok, Err, refl, ◌∙◌}
 use Rattle.t1_frac.specs.declared.fault.Fault.{Fault}
 use Rattle.t1_source.specs.declared.item.Item.{Item}
 use Rattle.t1_source.specs.Form.{Form}

@@ -1,2 +1,10 @@
+pub mod Answers
 pub mod Assembly
 pub mod Delivery
+pub mod Dialogues
+pub mod Lines
+pub mod Machine
+pub mod Replies
+pub mod Requests
+pub mod Serving
+pub mod State

@@ -70,7 +70,7 @@ fn write_parts<W: Write>(
 
 /// Writes the PFB file of a source, or tells the first fault of its bodies, or F23, with nothing written.
 #[tactic(auto, unfolding(crate::specs::Assembly::source_file))]
-fn write_source<W: Write>(
+pub fn write_source<W: Write>(
     alloc: Global,
     source: &Source,
     out: &mut Counted<W>,

@@ -1,4 +1,5 @@
-use std::alloc::AllocError;
+use std::alloc::{AllocError, AllocFailed};
+use std::io;
 use t1_code::OutError;
 use t1_frac::{Fault, Refusal};
 use thiserror::Error;
@@ -55,5 +56,28 @@ impl From<AllocError> for ServeError {
 
     fn from(_error: AllocError) -> ServeError {
         ServeError::Memory
+    }
+}
+
+impl<T: Drop> From<AllocFailed<T>> for ServeError {
+    ghost use Rattle.std.specs.Prelude.{◌≡◌};
+    ghost use Rattle.t1_session.specs.declared.error.ServeError.TheVariants.{Memory};
+
+    ghost from_gives = { λ _ error. error ≡ Memory };
+
+    fn from(_error: AllocFailed<T>) -> ServeError {
+        ServeError::Memory
+    }
+}
+
+impl From<io::Error> for ServeError {
+    ghost use Rattle.std.specs.Prelude.{◌≡◌};
+    ghost use Rattle.t1_session.specs.declared.error.ServeError.TheVariants.{Write};
+
+    ghost from_gives = { λ _ error. error ≡ Write };
+
+    /// The error of a writer.
+    fn from(_error: io::Error) -> ServeError {
+        ServeError::Write
     }
 }

@@ -1,9 +1,18 @@
-//! Whole fonts: a readable source assembled to its PFB file.
+//! Whole fonts: a readable source assembled to its PFB file, and a session that edits and prints one.
 #![tactic(auto)]
 
+mod answering;
 mod assembly;
+mod dialogue;
 mod error;
+mod numbers;
+mod print;
 mod private;
+mod reply;
+mod request;
+mod serving;
+mod session;
 
 pub use assembly::assemble_source;
 pub use error::ServeError;
+pub use serving::serve;

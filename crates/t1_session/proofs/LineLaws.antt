@@ -1,0 +1,127 @@
+-- How the lines of an input grow, byte by byte.
+use Rattle.std.proofs.Common.{◌≡◌, ◌∙◌, ℕ, suc, Bool, true, false, cond, List, [], ◌∷◌, ◌++◌, length, refl, ap, ◌&&◌, arith}
+use Rattle.std.specs.Prelude.{◌==◌, ◌||◌, not}
+use Rattle.std.specs.List.{onto_first}
+use Rattle.std.proofs.lemmas.Bool.{eqb-true, and_parts}
+use Rattle.std.proofs.lemmas.List.Sums.{sum_by-cons}
+use Rattle.t1_source.specs.Lines.{unified, split_lines}
+use Rattle.t1_session.specs.Lines.{ended_lines, lines_so_far, behind_return, ends_line, is_unbroken}
+
+pub not_false : (q : Bool) → not q ≡ true → q ≡ false
+not_false true h = cc
+not_false false h = refl
+
+not_equal : (q : Bool) → (q ≡ true → ⊥) → q ≡ false
+not_equal true h = absurd (h refl)
+not_equal false h = refl
+
+-- two numbers that differ don't compare as equal
+pub differs : (a b : ℕ) → (a ≡ b → ⊥) → (a == b) ≡ false
+differs a b h = not_equal (a == b) (λ e. h (eqb-true a b e))
+
+other_ten : (b : ℕ) → (b == 10) ≡ false → (10 == b) ≡ false
+other_ten b h = not_equal (10 == b) (λ e. let s : 10 ≡ b = eqb-true 10 b e in let t : true ≡ false = ap (λ n. n == 10) s ∙ h in cc)
+
+-- the last line, where it isn't empty
+abbrev pub last_line : List ℕ → List (List ℕ)
+last_line [] = []
+last_line (b ∷ bs) = (b ∷ bs) ∷ []
+
+onto_last : (b : ℕ) (bs : List ℕ) → onto_first b (last_line bs) ≡ (b ∷ bs) ∷ []
+onto_last b [] = refl
+onto_last b (c ∷ cs) = refl
+
+-- a line goes up to its LF
+split-line : (xs rest : List ℕ) → is_unbroken xs ≡ true → split_lines (xs ++ 10 ∷ rest) ≡ xs ∷ split_lines rest
+split-line [] rest h = refl
+split-line (b ∷ bs) rest h =
+    let s = and_parts (not (b == 10)) (is_unbroken bs) h in
+    rw (not_false (b == 10) s.0, split-line bs rest s.1) refl
+
+split-unbroken : (xs : List ℕ) → is_unbroken xs ≡ true → split_lines xs ≡ last_line xs
+split-unbroken [] h = refl
+split-unbroken (b ∷ bs) h =
+    let s = and_parts (not (b == 10)) (is_unbroken bs) h in
+    rw (not_false (b == 10) s.0, split-unbroken bs s.1) (onto_last b bs)
+
+ended-line : (xs rest : List ℕ) → is_unbroken xs ≡ true → ended_lines (xs ++ 10 ∷ rest) ≡ suc (ended_lines rest)
+ended-line [] rest h = sum_by-cons (λ c. cond (c == 10) 1 0) 10 rest ∙ omega arith
+ended-line (b ∷ bs) rest h =
+    let s = and_parts (not (b == 10)) (is_unbroken bs) h in
+    sum_by-cons (λ c. cond (c == 10) 1 0) b (bs ++ 10 ∷ rest) ∙ rw (not_false (b == 10) s.0) (omega (arith, ended-line bs rest s.1))
+
+ended-unbroken : (xs : List ℕ) → is_unbroken xs ≡ true → ended_lines xs ≡ 0
+ended-unbroken [] h = refl
+ended-unbroken (b ∷ bs) h =
+    let s = and_parts (not (b == 10)) (is_unbroken bs) h in
+    sum_by-cons (λ c. cond (c == 10) 1 0) b bs ∙ rw (not_false (b == 10) s.0) (omega (arith, ended-unbroken bs s.1))
+
+pub lines_so_far-line : (ended : Bool) (xs rest : List ℕ) → is_unbroken xs ≡ true → lines_so_far ended (xs ++ 10 ∷ rest) ≡ xs ∷ lines_so_far ended rest
+lines_so_far-line true xs rest h = split-line xs rest h
+lines_so_far-line false xs rest h = rw (ended-line xs rest h, split-line xs rest h) refl
+
+pub lines_so_far-unbroken : (xs : List ℕ) → is_unbroken xs ≡ true → lines_so_far false xs ≡ []
+lines_so_far-unbroken xs h = rw (ended-unbroken xs h) refl
+
+pub lines_so_far-last : (xs : List ℕ) → is_unbroken xs ≡ true → lines_so_far true xs ≡ last_line xs
+lines_so_far-last xs h = split-unbroken xs h
+
+pub last_line_of : (line : List ℕ) → (length line == 0) ≡ false → last_line line ≡ line ∷ []
+last_line_of [] h = cc
+last_line_of (b ∷ bs) h = refl
+
+-- a line without its end stays so as a byte that ends no line comes to it
+is_unbroken-push : (xs : List ℕ) (b : ℕ) → is_unbroken xs ≡ true → (b == 10) ≡ false → is_unbroken (xs ++ b ∷ []) ≡ true
+is_unbroken-push [] b h n = rw n refl
+is_unbroken-push (x ∷ xs) b h n =
+    let s = and_parts (not (x == 10)) (is_unbroken xs) h in
+    rw s.0 (is_unbroken-push xs b s.1 n)
+
+pub unbroken_pushed : (q : Bool) (xs : List ℕ) (b : ℕ) → is_unbroken xs ≡ true → (b == 10) ≡ false → is_unbroken (cond q (xs ++ b ∷ []) xs) ≡ true
+unbroken_pushed true xs b h n = is_unbroken-push xs b h n
+unbroken_pushed false xs b h n = h
+
+-- a byte that isn't an LF belongs to no CR before it
+behind-other : (a : Bool) (b : ℕ) (rest : List ℕ) → (b == 10) ≡ false → behind_return a (b ∷ rest) ≡ b ∷ rest
+behind-other true b rest h = rw (other_ten b h) refl
+behind-other false b rest h = refl
+
+-- a byte of a line
+pub unified-byte : (a : Bool) (b : ℕ) (rest : List ℕ) → (b == 13) ≡ false → (b == 10) ≡ false
+    → unified (behind_return a (b ∷ rest)) ≡ b ∷ unified rest
+unified-byte a b rest n13 n10 = rw (behind-other a b rest n10, n13) refl
+
+-- a CR takes the LF behind it along
+unified-return : (rest : List ℕ) → unified (13 ∷ rest) ≡ 10 ∷ unified (behind_return true rest)
+unified-return [] = refl
+unified-return (c ∷ rest) = return_cases (10 == c) c rest refl where
+  return_cases : (q : Bool) (c : ℕ) (rest : List ℕ) → (10 == c) ≡ q → unified (13 ∷ c ∷ rest) ≡ 10 ∷ unified (behind_return true (c ∷ rest))
+  return_cases true c rest e = let is : 10 ≡ c = eqb-true 10 c e in rw (← is) refl
+  return_cases false c rest e = rw e refl
+
+end_cases : (p q a : Bool) (b : ℕ) (rest : List ℕ) → (b == 13) ≡ p → (b == 10) ≡ q → p || (q && not a) ≡ true
+    → unified (behind_return a (b ∷ rest)) ≡ 10 ∷ unified (behind_return p rest)
+end_cases true q a b rest e f h = let is : b ≡ 13 = eqb-true b 13 e in rw (is, behind-other a 13 rest refl) (unified-return rest)
+end_cases false true true b rest e f h = cc
+end_cases false true false b rest e f h = let is : b ≡ 10 = eqb-true b 10 f in rw is refl
+end_cases false false a b rest e f h = cc
+
+-- a byte that ends a line is read as its LF
+pub unified-end : (a : Bool) (b : ℕ) (rest : List ℕ) → ends_line a b ≡ true → unified (behind_return a (b ∷ rest)) ≡ 10 ∷ unified (behind_return (b == 13) rest)
+unified-end a b rest h = end_cases (b == 13) (b == 10) a b rest refl refl h
+
+not_end_cases : (p q a : Bool) → p || (q && not a) ≡ false → q ≡ false → p ≡ false
+not_end_cases true q a h k = h
+not_end_cases false q a h k = refl
+
+-- a byte that ends no line, and isn't an LF, is no CR
+pub not_return : (a : Bool) (b : ℕ) → ends_line a b ≡ false → (b == 10) ≡ false → (b == 13) ≡ false
+not_return a b h k = not_end_cases (b == 13) (b == 10) a h k
+
+swallowed_cases : (a : Bool) → not a ≡ false → a ≡ true
+swallowed_cases true h = refl
+swallowed_cases false h = cc
+
+-- an LF that ends no line stands behind a CR
+pub behind_a_return : (a : Bool) → ends_line a 10 ≡ false → a ≡ true
+behind_a_return a h = swallowed_cases a h

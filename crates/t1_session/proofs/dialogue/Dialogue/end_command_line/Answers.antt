@@ -1,0 +1,38 @@
+use Rattle.std.proofs.Common.{◌≡◌, ◌∙◌, sym, ap, refl, List, [], ℕ, true, false}
+use Rattle.t1_frac.specs.Words.{words}
+use Rattle.t1_session.specs.Requests.{takes_body, is_wordless, line_request}
+use Rattle.t1_session.specs.Answers.{Conversation}
+use Rattle.t1_session.specs.State.{State}
+use Rattle.t1_session.specs.Dialogues.{conversation_of}
+use Rattle.t1_session.proofs.Conversations.{EndsLine-performed, LineGoes-silent}
+use Rattle.t1_code.proofs.Writing.{writing}
+use Rattle.t1_session.proofs.dialogue.Dialogue.end_command_line.Goals as goal
+
+-- a line without words is skipped
+pub returns-then-is_blank_line : goal.returns-then-is_blank_line
+returns-then-is_blank_line g c =
+    let kept = ap (λ v. v.items) c.replace-line.ensures.value in
+    let cleared = ap (λ v. v.items) c.replace-line.ensures.after ∙ c.new.ensures.items in
+    let text : List ℕ = c.args.self.now.line.items in
+    let plain : takes_body (words text) ≡ false = ap (λ l. takes_body (words l)) (sym kept ∙ sym c.deref.ensures.value) ∙ sym c.takes_body.ensures ∙ c.if-takes_body.false in
+    let none : is_wordless (words text) ≡ true = ap (λ l. is_wordless (words l)) (sym kept ∙ sym c.deref-2.ensures.value) ∙ sym c.is_blank_line.ensures ∙ c.if-is_blank_line.true in
+    let old : Conversation State = conversation_of c.args.self.now in
+    let new : Conversation State = record old { line = c.replace-line.new.dest.items } in
+    record {
+      text = [];
+      goes = LineGoes-silent old new (λ lines ended. rw (c.requires, plain, none) refl) refl cleared refl;
+      written = (writing g.W.Write.contents).none c.args.writer.now;
+    }
+
+pub returns : goal.returns
+returns g c =
+    let kept = ap (λ v. v.items) c.replace-line.ensures.value in
+    let cleared = ap (λ v. v.items) c.replace-line.ensures.after ∙ c.new.ensures.items in
+    let text : List ℕ = c.args.self.now.line.items in
+    let plain : takes_body (words text) ≡ false = ap (λ l. takes_body (words l)) (sym kept ∙ sym c.deref.ensures.value) ∙ sym c.takes_body.ensures ∙ c.if-takes_body.false in
+    let some : is_wordless (words text) ≡ false = ap (λ l. is_wordless (words l)) (sym kept ∙ sym c.deref-2.ensures.value) ∙ sym c.is_blank_line.ensures ∙ c.if-is_blank_line.false in
+    let old : Conversation State = conversation_of c.args.self.now in
+    let new : Conversation State = record old { state = c.answer.new.session; line = c.replace-line.new.dest.items } in
+    EndsLine-performed g.W.Write.contents old new c.args.writer.now c.answer.new.writer (line_request (words text)) c.answer.result
+    (λ lines ended. rw (c.requires, plain, some) refl) cleared refl
+    (c.answer.ensures (line_request (words text)) (rw (← kept, ← c.deref-3.ensures.value) c.line_request-made.ensures))

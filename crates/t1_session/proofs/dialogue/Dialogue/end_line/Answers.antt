@@ -1,0 +1,7 @@
+use Rattle.std.proofs.Common.{◌≡◌, ◌∙◌, sym, Some}
+use Rattle.t1_session.proofs.dialogue.Dialogue.end_line.Goals as goal
+
+pub returns-in-Some : goal.returns-in-Some
+returns-in-Some g c =
+    let is : c.args.self.now.opening ≡ Some c.in-Some.opening = sym c.take.ensures.value ∙ c.in-Some.is in
+    rw is c.end_body_line.ensures

@@ -1,0 +1,61 @@
+-- The commands of a session.
+use Rattle.std.specs.Prelude.{ℕ, List, Result, Ok, Err}
+use Rattle.t1_frac.specs.declared.fault.Fault.{Fault}
+use Rattle.t1_frac.specs.Outcome.{◌>>=◌}
+use Rattle.t1_source.specs.declared.pairs.Pair.{Pair}
+use Rattle.t1_source.specs.Form.{Form}
+use Rattle.t1_source.specs.Reading.{reads}
+use Rattle.t1_source.specs.Kerning.{pairs, kern}
+use Rattle.t1_source.specs.Printing.{text}
+use Rattle.t1_code.specs.Pfb.{whole_file}
+use Rattle.t1_source.specs.declared.edit.Rule.{Rule}
+use Rattle.t1_session.specs.declared.print.Print.{Print}
+use Rattle.t1_session.specs.declared.print.Print.TheVariants as prints
+use Rattle.t1_session.specs.declared.reply.Reply.{Reply}
+use Rattle.t1_session.specs.declared.reply.Reply.TheVariants.{Accepted, Broken, Faulty, Data}
+use Rattle.t1_session.specs.declared.request.Request.{Request}
+use Rattle.t1_session.specs.declared.request.Request.TheVariants as requests
+use Rattle.t1_session.specs.Answers.{Performed, Machine}
+use Rattle.t1_session.specs.Assembly.{source_file}
+use Rattle.t1_source.specs.Editing.{edited}
+use Rattle.t1_session.specs.Requests.{may_want_memory}
+use Rattle.t1_session.specs.State.{State}
+
+-- profile, edits: the edited source is refused by the first fault of its bodies, or by F23
+abbrev pub judged_file : State → State → Result (List ℕ) Fault → Performed State
+judged_file old new (Ok file) = record { reply = Accepted; next = new }
+judged_file old new (Err fault) = record { reply = Faulty fault; next = old }
+
+-- profile, edits: an edit that is refused leaves the state as it was
+abbrev pub judged : State → Result (Form × List Pair) Rule → Performed State
+judged old (Ok made) = judged_file old (record { source = made.0; pairs = made.1 }) (source_file whole_file made.0)
+judged old (Err rule) = record { reply = Broken rule; next = old }
+
+-- what a print of the PFB file is answered; the source of a session has no fault
+abbrev pub file_reply : Result (List ℕ) Fault → Reply
+file_reply (Ok file) = Data file
+file_reply (Err fault) = Faulty fault
+
+-- profile, session commands: what a print shows
+abbrev pub printed : State → Print → Reply
+printed s prints.Source = Data (text s.source)
+printed s prints.Kern = Data (kern s.pairs)
+printed s prints.Pfb = file_reply (source_file whole_file s.source)
+
+-- profile, session commands: what a command is answered, and the state after it
+unfoldable pub perform : State → Request → Performed State
+perform s (requests.Edit edit) = judged s (edited s.source s.pairs edit)
+perform s (requests.Print print) = record { reply = printed s print; next = s }
+perform s (requests.Broken rule) = record { reply = Broken rule; next = s }
+
+-- profile, answers: a command that met want of memory leaves the state as it was
+abbrev pub machine : Machine State
+machine = record { perform = perform; may_want_memory = λ s r. may_want_memory r; after_want = λ s r. s }
+
+-- the state that a session opens with, or the first fault of the source, of the pairs, of the source's bodies
+unfoldable pub scratch : List ℕ → List ℕ → Result State Fault
+scratch source pair_lines = do
+  form ← reads source
+  kerning ← pairs pair_lines
+  file ← source_file whole_file form
+  Ok (record { source = form; pairs = kerning })

@@ -1,0 +1,145 @@
+-- The commands that the lines of a session spell.
+use Rattle.std.specs.Prelude.{ℕ, ℤ, pos, negsuc, ◌-◌, ◌^◌, Bool, true, false, ◌&&◌, ◌||◌, nat_lt, if◌then◌else◌, List, [], ◌∷◌, ◌++◌, Option, Some, None, Result, Ok, Err, ◌≡◌, codes}
+use Rattle.std.specs.Str.{bytes_eq}
+use Rattle.t1_frac.specs.Words.{words}
+use Rattle.t1_code.specs.Words.{is_number_word, number_written}
+use Rattle.t1_source.specs.declared.edit.Edit.{Edit}
+use Rattle.t1_source.specs.declared.edit.Edit.TheVariants.{ReplaceGlyph, AddGlyph, RemoveGlyph, ReplaceSubr, AddSubr, RemoveSubr, Encode, Unencode, Kern, Unkern}
+use Rattle.t1_source.specs.declared.edit.Rule.TheVariants.{E7, E8}
+use Rattle.t1_session.specs.declared.print.Print.TheVariants as prints
+use Rattle.t1_session.specs.declared.request.Request.{Request}
+use Rattle.t1_session.specs.declared.request.Request.TheVariants as requests
+
+-- a command whose body is being read: the line that opened it, and its body so far
+pub record Opening : Type 0 where
+  pub heading : List ℕ
+  pub body : List ℕ
+
+-- profile, session commands: a number that fits 64 bits
+abbrev pub fits_64_bits : ℤ → Bool
+fits_64_bits (pos n) = nat_lt n (2 ^ 63)
+fits_64_bits (negsuc n) = nat_lt n (2 ^ 63)
+
+-- a number past every range stands for one that doesn't fit
+abbrev pub capped : ℤ → ℤ
+capped n = if fits_64_bits n then n else pos (2 ^ 63 - 1)
+
+-- profile, session commands: the number of a word, and one past every range for a word that isn't a number
+unfoldable pub number_of : List ℕ → ℤ
+number_of word = if is_number_word word then capped (number_written word) else pos (2 ^ 63 - 1)
+
+-- the only word, the only two, the only three
+abbrev pub one_word : List (List ℕ) → Option (List ℕ)
+one_word (a ∷ []) = Some a
+one_word _ = None
+
+abbrev pub two_words : List (List ℕ) → Option (List ℕ × List ℕ)
+two_words (a ∷ b ∷ []) = Some (a, b)
+two_words _ = None
+
+abbrev pub three_words : List (List ℕ) → Option (List ℕ × List ℕ × List ℕ)
+three_words (a ∷ b ∷ c ∷ []) = Some (a, b, c)
+three_words _ = None
+
+-- profile, edit rules: E8, an unknown command or a wrong number of words
+abbrev pub unknown : Request
+unknown = requests.Broken E8
+
+-- the edit of these words, where they are as many as it takes
+abbrev pub edit_of : {X : Type 0} → (X → Edit) → Option X → Request
+edit_of f None = unknown
+edit_of f (Some x) = requests.Edit (f x)
+
+-- profile, session commands: `remove glyph NAME`, `remove subr N`
+unfoldable pub removal : List (List ℕ) → Request
+removal [] = unknown
+removal (kind ∷ rest) =
+    if bytes_eq kind (codes "glyph") then edit_of RemoveGlyph (one_word rest)
+    else if bytes_eq kind (codes "subr") then edit_of (λ n. RemoveSubr (number_of n)) (one_word rest)
+    else unknown
+
+-- profile, session commands: `print source`, `print kern`, `print pfb`
+unfoldable pub print_of : Option (List ℕ) → Request
+print_of None = unknown
+print_of (Some word) =
+    if bytes_eq word (codes "source") then requests.Print prints.Source
+    else if bytes_eq word (codes "kern") then requests.Print prints.Kern
+    else if bytes_eq word (codes "pfb") then requests.Print prints.Pfb
+    else unknown
+
+-- profile, session commands: those that take no body
+unfoldable pub line_request : List (List ℕ) → Request
+line_request [] = unknown
+line_request (verb ∷ rest) =
+    if bytes_eq verb (codes "remove") then removal rest
+    else if bytes_eq verb (codes "encode") then edit_of (λ w. Encode (number_of w.0) w.1) (two_words rest)
+    else if bytes_eq verb (codes "unencode") then edit_of (λ code. Unencode (number_of code)) (one_word rest)
+    else if bytes_eq verb (codes "kern") then edit_of (λ w. Kern w.0 w.1 (number_of w.2)) (three_words rest)
+    else if bytes_eq verb (codes "unkern") then edit_of (λ w. Unkern w.0 w.1) (two_words rest)
+    else if bytes_eq verb (codes "print") then print_of (one_word rest)
+    else unknown
+
+-- profile, session commands: `replace glyph NAME`, `replace subr N`, `add glyph NAME`, `add subr N`, with their body
+unfoldable pub bodied_edit : List ℕ × List ℕ × List ℕ → List ℕ → Edit
+bodied_edit w body =
+    if bytes_eq w.1 (codes "glyph")
+    then (if bytes_eq w.0 (codes "replace") then ReplaceGlyph w.2 body else AddGlyph w.2 body)
+    else (if bytes_eq w.0 (codes "replace") then ReplaceSubr (number_of w.2) body else AddSubr (number_of w.2) body)
+
+-- a command with its whole body
+unfoldable pub body_request : List (List ℕ) → List ℕ → Request
+body_request heading body = edit_of (λ w. bodied_edit w body) (three_words heading)
+
+-- profile, edit rules: E7, the input ended inside a body; it comes behind E8
+abbrev pub left_open : Option (List ℕ × List ℕ × List ℕ) → Request
+left_open None = unknown
+left_open (Some w) = requests.Broken E7
+
+unfoldable pub open_request : List (List ℕ) → Request
+open_request heading = left_open (three_words heading)
+
+-- profile, session commands: a line takes a body by its first two words, whatever follows
+unfoldable pub takes_body : List (List ℕ) → Bool
+takes_body (verb ∷ kind ∷ rest) =
+    (bytes_eq verb (codes "replace") || bytes_eq verb (codes "add")) && (bytes_eq kind (codes "glyph") || bytes_eq kind (codes "subr"))
+takes_body _ = false
+
+-- profile, session commands: a line that is `.`, apart from blanks, ends a body
+abbrev pub is_dot : Option (List ℕ) → Bool
+is_dot None = false
+is_dot (Some word) = bytes_eq word (codes ".")
+
+unfoldable pub ends_body : List ℕ → Bool
+ends_body line = is_dot (one_word (words line))
+
+-- profile, session commands: a line without words is skipped
+abbrev pub is_wordless : List (List ℕ) → Bool
+is_wordless [] = true
+is_wordless (word ∷ rest) = false
+
+-- the command of a line that takes no body
+abbrev pub alone : List (List ℕ) → List Request
+alone line = if is_wordless line then [] else line_request line ∷ []
+
+-- the commands of the lines, where the body of an opened one comes first; once the input has ended, a body that it
+-- leaves open makes a command too
+abbrev pub requests_of : Bool → Option Opening → List (List ℕ) → List Request
+requests_of ended None [] = []
+requests_of ended (Some o) [] = if ended then open_request (words o.heading) ∷ [] else []
+requests_of ended None (line ∷ lines) =
+    if takes_body (words line) then requests_of ended (Some (record { heading = line; body = [] })) lines
+    else alone (words line) ++ requests_of ended None lines
+requests_of ended (Some o) (line ∷ lines) =
+    if ends_body line then body_request (words o.heading) o.body ∷ requests_of ended None lines
+    else requests_of ended (Some (record { heading = o.heading; body = o.body ++ line ++ 10 ∷ [] })) lines
+
+-- which commands may meet want of memory
+abbrev pub may_want_memory : Request → Bool
+may_want_memory (requests.Edit edit) = true
+may_want_memory (requests.Print print) = true
+may_want_memory (requests.Broken rule) = false
+
+-- a call makes this command, or wants memory for one that may
+abbrev pub Makes : {E : Type 0} → Result Request E → Request → Type 0
+Makes (Ok request) wanted = request ≡ wanted
+Makes (Err e) wanted = may_want_memory wanted ≡ true

@@ -1,0 +1,81 @@
+-- What a whole session reads and writes.
+use Rattle.std.specs.Prelude.{◌≡◌, ℕ, Bool, true, false, List, ◌++◌, Option, Result, Ok, Err}
+use Rattle.std.specs.Io.KnownBytes.{Consumes, IsAtEnd}
+use Rattle.t1_frac.specs.declared.fault.Fault.{Fault}
+use Rattle.t1_code.specs.Counted.{Tally, WritesAll, WritesFront, one_more}
+use Rattle.t1_session.specs.declared.error.ServeError.{ServeError}
+use Rattle.t1_session.specs.declared.error.ServeError.TheVariants as errors
+use Rattle.t1_session.specs.Answers.{answer}
+use Rattle.t1_session.specs.Machine.{machine}
+use Rattle.t1_session.specs.State.{State}
+
+-- a reader and a writer, and what contracts know of the bytes that they have
+pub record Streams (R W : Type 0) : Type 0 where
+  pub reader : Tally R
+  pub writer : Tally W
+
+abbrev pub streams : {R W : Type 0} → Tally R → Tally W → Streams R W
+streams reader writer = record { reader = reader; writer = writer }
+
+module _ {R : Type 0} (remaining : R → Option (List ℕ)) where
+  -- this input was read, and no read failed
+  pub record Reads (old new : Tally R) (input : List ℕ) : Type 0 where
+    pub consumes : Consumes (remaining old.inner) (remaining new.inner) input
+    pub failures : new.failures ≡ old.failures
+
+  -- this input was read, and then a read failed
+  pub record ReadsAndFails (old new : Tally R) (input : List ℕ) : Type 0 where
+    pub consumes : Consumes (remaining old.inner) (remaining new.inner) input
+    pub failures : new.failures ≡ one_more old.failures
+
+module _ {R W : Type 0} (remaining : R → Option (List ℕ)) (contents : W → Option (List ℕ)) where
+  -- Ok: the input was read to its end, and the answer to it written
+  pub record Finishes (state : State) (old new : Streams R W) : Type 0 where
+    pub input : List ℕ
+    pub marks : List Bool
+    pub reads : Reads remaining old.reader new.reader input
+    pub at_end : IsAtEnd (remaining new.reader.inner)
+    pub writes : WritesAll contents old.writer new.writer (answer machine state input true marks)
+
+  -- Read: the answer to what was read, as input that goes on, was written
+  pub record StopsAtRead (state : State) (old new : Streams R W) : Type 0 where
+    pub input : List ℕ
+    pub marks : List Bool
+    pub reads : ReadsAndFails remaining old.reader new.reader input
+    pub writes : WritesAll contents old.writer new.writer (answer machine state input false marks)
+
+  -- Memory: the answer to a beginning of what was read, as input that goes on, was written
+  pub record StopsForMemory (state : State) (old new : Streams R W) : Type 0 where
+    pub front : List ℕ
+    pub rest : List ℕ
+    pub marks : List Bool
+    pub reads : Reads remaining old.reader new.reader (front ++ rest)
+    pub writes : WritesAll contents old.writer new.writer (answer machine state front false marks)
+
+  -- Write: a beginning of the answer to what was read, as whole input, was written
+  pub record StopsAtWrite (state : State) (old new : Streams R W) : Type 0 where
+    pub input : List ℕ
+    pub marks : List Bool
+    pub reads : Reads remaining old.reader new.reader input
+    pub writes : WritesFront contents old.writer new.writer (answer machine state input true marks)
+
+  -- a session from the state that it opened with
+  abbrev pub Converses : {T : Type 0} → State → Streams R W → Streams R W → Result T ServeError → Type 0
+  Converses state old new (Ok done) = Finishes state old new
+  Converses state old new (Err errors.Read) = StopsAtRead state old new
+  Converses state old new (Err errors.Memory) = StopsForMemory state old new
+  Converses state old new (Err errors.Write) = StopsAtWrite state old new
+  Converses state old new (Err (errors.Load fault)) = ⊥
+
+  -- the refusal of what no session can be opened on: its fault, or want of memory
+  abbrev pub Refuses : {T : Type 0} → Fault → Result T ServeError → Type 0
+  Refuses fault (Ok done) = ⊥
+  Refuses fault (Err errors.Read) = ⊥
+  Refuses fault (Err errors.Memory) = Unit {0}
+  Refuses fault (Err errors.Write) = ⊥
+  Refuses fault (Err (errors.Load told)) = told ≡ fault
+
+  -- a whole session: from the state that it opens with; or nothing is read or written, and the refusal is told
+  abbrev pub Serves : {T : Type 0} → Result State Fault → Streams R W → Streams R W → Result T ServeError → Type 0
+  Serves (Ok state) old new result = Converses state old new result
+  Serves (Err fault) old new result = (new ≡ old) × Refuses fault result

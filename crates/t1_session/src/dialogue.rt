@@ -1,0 +1,186 @@
+//! A session in the midst of its input.
+ghost use Rattle.std.specs.Prelude.{◌≡◌, true, ◌∷◌, [], None, Some};
+ghost use Rattle.t1_session.specs.Lines.{is_unbroken, ends_line};
+
+use crate::answering::answer;
+use crate::error::ServeError;
+use crate::request::{
+    body_request, ends_body, is_blank_line, line_request, open_request, takes_body,
+};
+use crate::session::Session;
+use std::alloc::Global;
+use std::io::Write;
+use std::mem;
+use t1_code::Counted;
+use t1_frac::Bytes;
+
+/// A command whose body is being read: the line that opened it, and its body so far.
+#[derive(Drop)]
+struct Opened {
+    heading: Vec<u8>,
+    body: Vec<u8>,
+}
+
+/// A session in the midst of its input: fed pieces of it, it answers each command as soon as its last line ends.
+#[derive(Drop)]
+pub struct Dialogue {
+    session: Session,
+    opening: Option<Opened>,
+    line: Vec<u8>,
+    after_return: bool,
+    ghost unbroken: { is_unbroken line.items ≡ true },
+}
+
+/// Whether a byte ends a line. An LF behind a CR belongs to it.
+fn ends_line(after_return: bool, byte: u8) -> bool
+    ensures { result ≡ ends_line after_return byte }
+{
+    byte == b'\r' || (byte == b'\n' && !after_return)
+}
+
+impl Dialogue {
+    ghost use Rattle.t1_session.specs.Answers.{fresh};
+    ghost use Rattle.t1_session.specs.Dialogues.{conversation_of, opening_of, EndsLine, Feeds, Ends, EndsBody};
+
+    /// A session before its first byte.
+    pub fn new(alloc: Global, session: Session) -> Dialogue
+        ensures { conversation_of result ≡ fresh session }
+    {
+        Dialogue {
+            session,
+            opening: None,
+            line: Vec::new(alloc),
+            after_return: false,
+        }
+    }
+
+    /// Takes a piece of the input, and answers each command that it ends.
+    pub fn feed<W: Write>(
+        &mut self,
+        alloc: Global,
+        piece: &[u8],
+        writer: &mut Counted<W>,
+    ) -> Result<(), ServeError>
+        ensures { Feeds W.contents (conversation_of self.old) (conversation_of self.new) writer.old writer.new piece.now result }
+    {
+        for byte in piece {
+            self.push(alloc, *byte, writer)?;
+        }
+        Ok(())
+    }
+
+    /// Takes one byte of the input.
+    fn push<W: Write>(
+        &mut self,
+        alloc: Global,
+        byte: u8,
+        writer: &mut Counted<W>,
+    ) -> Result<(), ServeError>
+        ensures { Feeds W.contents (conversation_of self.old) (conversation_of self.new) writer.old writer.new (byte ∷ []) result }
+    {
+        let is_end = ends_line(self.after_return, byte);
+        self.after_return = byte == b'\r';
+        if is_end {
+            return self.end_line(alloc, writer);
+        }
+        if byte == b'\n' {
+            return Ok(());
+        }
+        self.line.push(byte)?;
+        Ok(())
+    }
+
+    /// Ends the line.
+    fn end_line<W: Write>(
+        &mut self,
+        alloc: Global,
+        writer: &mut Counted<W>,
+    ) -> Result<(), ServeError>
+        ensures { EndsLine W.contents (conversation_of self.old) (conversation_of self.new) writer.old writer.new result }
+    {
+        match self.opening.take() {
+            None => self.end_command_line(alloc, writer),
+            Some(opening) => self.end_body_line(alloc, opening, writer),
+        }
+    }
+
+    /// Ends a line that begins a command, or that has no words.
+    fn end_command_line<W: Write>(
+        &mut self,
+        alloc: Global,
+        writer: &mut Counted<W>,
+    ) -> Result<(), ServeError>
+        requires { self.old.opening ≡ None }
+        ensures { EndsLine W.contents (conversation_of self.old) (conversation_of self.new) writer.old writer.new result }
+    {
+        let line = mem::replace(&mut self.line, Vec::new(alloc));
+        if takes_body(&line) {
+            self.opening = Some(Opened {
+                heading: line,
+                body: Vec::new(alloc),
+            });
+            return Ok(());
+        }
+        if is_blank_line(&line) {
+            return Ok(());
+        }
+        let made = line_request(alloc, &line);
+        answer(alloc, &mut self.session, made, writer)
+    }
+
+    /// Ends a line of a body.
+    fn end_body_line<W: Write>(
+        &mut self,
+        alloc: Global,
+        opening: Opened,
+        writer: &mut Counted<W>,
+    ) -> Result<(), ServeError>
+        requires { self.old.opening ≡ None }
+        ensures { EndsLine W.contents (record (conversation_of self.old) { opening = Some (opening_of opening) }) (conversation_of self.new) writer.old writer.new result }
+    {
+        let Opened { heading, mut body } = opening;
+        if ends_body(&self.line) {
+            self.line.clear();
+            let made = body_request(alloc, &heading, Bytes::new(body));
+            return answer(alloc, &mut self.session, made, writer);
+        }
+        body.extend_from_slice(&self.line)?;
+        body.push(b'\n')?;
+        self.line.clear();
+        self.opening = Some(Opened { heading, body });
+        Ok(())
+    }
+
+    /// Ends the input. A last line without its end counts where it isn't empty.
+    pub fn finish<W: Write>(
+        mut self,
+        alloc: Global,
+        writer: &mut Counted<W>,
+    ) -> Result<(), ServeError>
+        ensures { Ends W.contents (conversation_of self) writer.old writer.new result }
+    {
+        if self.line.is_empty() {
+            return self.end_body(alloc, writer);
+        }
+        self.end_line(alloc, writer)?;
+        self.end_body(alloc, writer)
+    }
+
+    /// Ends the input behind its last line.
+    fn end_body<W: Write>(
+        &mut self,
+        alloc: Global,
+        writer: &mut Counted<W>,
+    ) -> Result<(), ServeError>
+        requires { self.old.line.items ≡ [] }
+        ensures { EndsBody W.contents (conversation_of self.old) writer.old writer.new result }
+    {
+        match self.opening.take() {
+            None => Ok(()),
+            Some(opening) => {
+                let made = Ok(open_request(&opening.heading));
+                answer(alloc, &mut self.session, made, writer)
+            }
+        }
+    }
+}

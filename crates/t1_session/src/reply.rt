@@ -1,0 +1,180 @@
+//! What commands are answered, and how it is written.
+ghost use Rattle.std.specs.Prelude.{◌≡◌, OnOk, OnErr, ◌++◌, decimal, length};
+ghost use Rattle.t1_code.specs.Counted.{WritesAll, WritesFront};
+ghost use Rattle.t1_code.specs.Parts.{bytes_of};
+ghost use Rattle.t1_session.specs.Replies.{rule_name, code_name, place_number, place_text, fault_text, data_text, reply_text};
+
+use itoa::Buffer;
+use std::io::{self, Write};
+use t1_code::Counted;
+use t1_frac::{Bytes, Code, Fault, Place};
+use t1_source::Rule;
+
+/// What a command is answered.
+#[derive(Debug, Drop)]
+pub enum Reply {
+    /// The edit was taken.
+    Accepted,
+    /// The command broke a rule.
+    Broken(Rule),
+    /// The edited source has a fault.
+    Faulty(Fault),
+    /// Memory ran out, and nothing changed.
+    OutOfMemory,
+    /// What a print shows.
+    Data(Bytes),
+}
+
+/// The printed code of a rule.
+fn rule_name(rule: Rule) -> &'static [u8]
+    ensures { result.now ≡ rule_name rule }
+{
+    match rule {
+        Rule::E1 => b"E1",
+        Rule::E2 => b"E2",
+        Rule::E3 => b"E3",
+        Rule::E4 => b"E4",
+        Rule::E5 => b"E5",
+        Rule::E6 => b"E6",
+        Rule::E7 => b"E7",
+        Rule::E8 => b"E8",
+        Rule::E9 => b"E9",
+        Rule::E10 => b"E10",
+    }
+}
+
+/// The printed code of a fault.
+fn code_name(code: Code) -> &'static [u8]
+    ensures { result.now ≡ code_name code }
+{
+    match code {
+        Code::F1 => b"F1",
+        Code::F2 => b"F2",
+        Code::F3 => b"F3",
+        Code::F4 => b"F4",
+        Code::F5 => b"F5",
+        Code::F6 => b"F6",
+        Code::F7 => b"F7",
+        Code::F8 => b"F8",
+        Code::F9 => b"F9",
+        Code::F10 => b"F10",
+        Code::F11 => b"F11",
+        Code::F12 => b"F12",
+        Code::F13 => b"F13",
+        Code::F20 => b"F20",
+        Code::F21 => b"F21",
+        Code::F22 => b"F22",
+        Code::F23 => b"F23",
+        Code::F30 => b"F30",
+        Code::F31 => b"F31",
+        Code::F32 => b"F32",
+        Code::F33 => b"F33",
+        Code::F34 => b"F34",
+        Code::F35 => b"F35",
+        Code::F36 => b"F36",
+        Code::F37 => b"F37",
+        Code::F38 => b"F38",
+        Code::F39 => b"F39",
+        Code::F40 => b"F40",
+        Code::F41 => b"F41",
+        Code::F42 => b"F42",
+        Code::F43 => b"F43",
+        Code::F44 => b"F44",
+        Code::F45 => b"F45",
+        Code::F46 => b"F46",
+        Code::F47 => b"F47",
+        Code::F48 => b"F48",
+    }
+}
+
+/// Writes slices, one after another.
+fn put_slices<W: Write>(writer: &mut Counted<W>, slices: &[&[u8]]) -> io::Result<()>
+    ensures ok { OnOk result (WritesAll W.contents writer.old writer.new (bytes_of slices.now)) }
+    ensures err { OnErr result (WritesFront W.contents writer.old writer.new (bytes_of slices.now)) }
+{
+    for slice in slices {
+        writer.put_all(slice)?;
+    }
+    Ok(())
+}
+
+/// The number that stands in a place.
+fn place_number(place: &Place) -> u64
+    ensures { result ≡ place_number place.now }
+{
+    match place {
+        Place::Line(number) => *number,
+        Place::Subr(number) => u64::from(*number),
+        Place::Nowhere | Place::Glyph(_) => 0,
+    }
+}
+
+/// A code and a place, in slices between two texts. The number is that of the place.
+fn place_slices<'a>(
+    before: &'a [u8],
+    code: &'a [u8],
+    place: &'a Place,
+    number: &'a str,
+    after: &'a [u8],
+) -> [&'a [u8]; 5]
+    requires { number.now ≡ decimal (place_number place.now) }
+    ensures { bytes_of result ≡ before.now ++ (code.now ++ place_text place.now) ++ after.now }
+{
+    match place {
+        Place::Nowhere => [before, code, b"", b"", after],
+        Place::Line(_) => [before, code, b" line ", number.as_bytes(), after],
+        Place::Subr(_) => [before, code, b" subr ", number.as_bytes(), after],
+        Place::Glyph(name) => [before, code, b" glyph ", name.as_slice(), after],
+    }
+}
+
+/// Writes a fault by its code and place, between two texts.
+#[tactic(auto, unfolding(crate::specs::Replies::fault_text))]
+fn put_fault<W: Write>(
+    writer: &mut Counted<W>,
+    before: &[u8],
+    fault: &Fault,
+    after: &[u8],
+) -> io::Result<()>
+    ensures ok { OnOk result (WritesAll W.contents writer.old writer.new (before.now ++ fault_text fault.now ++ after.now)) }
+    ensures err { OnErr result (WritesFront W.contents writer.old writer.new (before.now ++ fault_text fault.now ++ after.now)) }
+{
+    let code = code_name(fault.code);
+    let mut buffer = Buffer::new();
+    let number = buffer.format(place_number(&fault.place));
+    let slices = place_slices(before, code, &fault.place, number, after);
+    put_slices(writer, &slices)
+}
+
+/// What a print shows, in slices behind its length.
+fn data_slices<'a>(bytes: &'a [u8], digits: &'a str) -> [&'a [u8]; 5]
+    requires { digits.now ≡ decimal (length bytes.now) }
+    ensures { bytes_of result ≡ data_text bytes.now }
+{
+    [b"data ", digits.as_bytes(), b"\n", bytes, b"\n"]
+}
+
+/// Writes what a print shows, behind its length.
+fn put_data<W: Write>(writer: &mut Counted<W>, bytes: &[u8]) -> io::Result<()>
+    ensures ok { OnOk result (WritesAll W.contents writer.old writer.new (data_text bytes.now)) }
+    ensures err { OnErr result (WritesFront W.contents writer.old writer.new (data_text bytes.now)) }
+{
+    let mut buffer = Buffer::new();
+    let digits = buffer.format(bytes.len());
+    put_slices(writer, &data_slices(bytes, digits))
+}
+
+/// Writes a reply. It takes no memory.
+#[tactic(auto, unfolding(crate::specs::Replies::reply_text))]
+pub fn put_reply<W: Write>(writer: &mut Counted<W>, reply: &Reply) -> io::Result<()>
+    ensures ok { OnOk result (WritesAll W.contents writer.old writer.new (reply_text reply.now)) }
+    ensures err { OnErr result (WritesFront W.contents writer.old writer.new (reply_text reply.now)) }
+{
+    match reply {
+        Reply::Accepted => writer.put_all(b"ok\n"),
+        Reply::Broken(rule) => put_slices(writer, &[b"refused ", rule_name(*rule), b"\n"]),
+        Reply::Faulty(fault) => put_fault(writer, b"refused ", fault, b"\n"),
+        Reply::OutOfMemory => writer.put_all(b"refused memory\n"),
+        Reply::Data(bytes) => put_data(writer, bytes.as_slice()),
+    }
+}

@@ -1,0 +1,238 @@
+//! The commands of a session, by the words of their lines.
+ghost use Rattle.std.specs.Str.{bytes_eq};
+ghost use Rattle.std.specs.Prelude.{◌≡◌, ◌||◌, option_map, length, ◌<◌, IfOk, IfSome, MatchOption, ◌∷◌, []};
+ghost use Rattle.t1_frac.specs.Words.{words};
+ghost use Rattle.t1_session.specs.Requests.{one_word, two_words, three_words, removal, print_of, line_request, body_request, bodied_edit, open_request, takes_body, ends_body, edit_of, is_wordless, number_of, Makes};
+ghost use Rattle.t1_source.specs.declared.edit.Edit.TheVariants as edits;
+
+use crate::numbers::number_of;
+use crate::print::Print;
+use std::alloc::{AllocError, Global};
+use t1_frac::{Bytes, next_word};
+use t1_source::{Edit, Rule};
+
+/// One command.
+#[derive(Debug, Drop)]
+pub enum Request {
+    Edit(Edit),
+    Print(Print),
+    /// No command, or one whose body the input left open.
+    Broken(Rule),
+}
+
+/// A line that is no command.
+const UNKNOWN: Request = Request::Broken(Rule::E8);
+
+/// The only word of a line.
+fn one_word(line: &[u8]) -> Option<&[u8]>
+    ensures { option_map (λ word. word.now) result ≡ one_word (words line.now) }
+{
+    let (word, rest) = next_word(line)?;
+    match next_word(rest) {
+        None => Some(word),
+        Some(_) => None,
+    }
+}
+
+/// The only two words of a line.
+fn two_words(line: &[u8]) -> Option<(&[u8], &[u8])>
+    ensures { option_map (λ w. (w.0.now, w.1.now)) result ≡ two_words (words line.now) }
+{
+    let (first, rest) = next_word(line)?;
+    let second = one_word(rest)?;
+    Some((first, second))
+}
+
+/// The only three words of a line.
+fn three_words(line: &[u8]) -> Option<(&[u8], &[u8], &[u8])>
+    ensures { option_map (λ w. (w.0.now, w.1.now, w.2.now)) result ≡ three_words (words line.now) }
+{
+    let (first, rest) = next_word(line)?;
+    let (second, third) = two_words(rest)?;
+    Some((first, second, third))
+}
+
+/// `remove glyph NAME`, `remove subr N`, behind the first word.
+#[tactic(auto, unfolding(crate::specs::Requests::removal))]
+fn removal(alloc: Global, line: &[u8]) -> Result<Request, AllocError>
+    ensures { Makes result (removal (words line.now)) }
+{
+    let Some((kind, rest)) = next_word(line) else {
+        return Ok(UNKNOWN);
+    };
+    match (kind, one_word(rest)) {
+        (b"glyph", Some(name)) => Ok(Request::Edit(Edit::RemoveGlyph(Bytes::copied(alloc, name)?))),
+        (b"subr", Some(number)) => Ok(Request::Edit(Edit::RemoveSubr(number_of(number)))),
+        _ => Ok(UNKNOWN),
+    }
+}
+
+/// `print source`, `print kern`, `print pfb`, behind the first word.
+#[tactic(auto, unfolding(crate::specs::Requests::print_of))]
+fn print_of(line: &[u8]) -> Request
+    ensures { result ≡ print_of (one_word (words line.now)) }
+{
+    match one_word(line) {
+        Some(b"source") => Request::Print(Print::Source),
+        Some(b"kern") => Request::Print(Print::Kern),
+        Some(b"pfb") => Request::Print(Print::Pfb),
+        _ => UNKNOWN,
+    }
+}
+
+/// `encode CODE NAME`, behind the first word.
+fn encoding(alloc: Global, line: &[u8]) -> Result<Request, AllocError>
+    ensures { Makes result (edit_of (λ w. edits.Encode (number_of w.0) w.1) (two_words (words line.now))) }
+{
+    let Some((code, name)) = two_words(line) else {
+        return Ok(UNKNOWN);
+    };
+    let name = Bytes::copied(alloc, name)?;
+    Ok(Request::Edit(Edit::Encode(number_of(code), name)))
+}
+
+/// `unencode CODE`, behind the first word.
+fn unencoding(line: &[u8]) -> Request
+    ensures { result ≡ edit_of (λ code. edits.Unencode (number_of code)) (one_word (words line.now)) }
+{
+    match one_word(line) {
+        Some(code) => Request::Edit(Edit::Unencode(number_of(code))),
+        None => UNKNOWN,
+    }
+}
+
+/// `kern LEFT RIGHT N`, behind the first word.
+fn kerning(alloc: Global, line: &[u8]) -> Result<Request, AllocError>
+    ensures { Makes result (edit_of (λ w. edits.Kern w.0 w.1 (number_of w.2)) (three_words (words line.now))) }
+{
+    let Some((left, right, value)) = three_words(line) else {
+        return Ok(UNKNOWN);
+    };
+    let left = Bytes::copied(alloc, left)?;
+    let right = Bytes::copied(alloc, right)?;
+    Ok(Request::Edit(Edit::Kern(left, right, number_of(value))))
+}
+
+/// `unkern LEFT RIGHT`, behind the first word.
+fn unkerning(alloc: Global, line: &[u8]) -> Result<Request, AllocError>
+    ensures { Makes result (edit_of (λ w. edits.Unkern w.0 w.1) (two_words (words line.now))) }
+{
+    let Some((left, right)) = two_words(line) else {
+        return Ok(UNKNOWN);
+    };
+    let left = Bytes::copied(alloc, left)?;
+    let right = Bytes::copied(alloc, right)?;
+    Ok(Request::Edit(Edit::Unkern(left, right)))
+}
+
+/// The command of a line that takes no body. An unknown one takes no memory.
+#[tactic(auto, unfolding(crate::specs::Requests::line_request))]
+pub fn line_request(alloc: Global, line: &[u8]) -> Result<Request, AllocError>
+    ensures { Makes result (line_request (words line.now)) }
+{
+    let Some((verb, rest)) = next_word(line) else {
+        return Ok(UNKNOWN);
+    };
+    if verb == b"remove".as_slice() {
+        removal(alloc, rest)
+    } else if verb == b"encode".as_slice() {
+        encoding(alloc, rest)
+    } else if verb == b"unencode".as_slice() {
+        Ok(unencoding(rest))
+    } else if verb == b"kern".as_slice() {
+        kerning(alloc, rest)
+    } else if verb == b"unkern".as_slice() {
+        unkerning(alloc, rest)
+    } else if verb == b"print".as_slice() {
+        Ok(print_of(rest))
+    } else {
+        Ok(UNKNOWN)
+    }
+}
+
+/// The edit of the three words of a heading, and its body.
+#[tactic(auto, unfolding(crate::specs::Requests::bodied_edit))]
+fn bodied_edit(
+    alloc: Global,
+    verb: &[u8],
+    kind: &[u8],
+    subject: &[u8],
+    body: Bytes,
+) -> Result<Edit, AllocError>
+    ensures { IfOk result (λ edit. edit ≡ bodied_edit (verb.now, kind.now, subject.now) body) }
+{
+    let replaces = verb == b"replace".as_slice();
+    if kind == b"glyph".as_slice() {
+        let name = Bytes::copied(alloc, subject)?;
+        Ok(if replaces {
+            Edit::ReplaceGlyph(name, body)
+        } else {
+            Edit::AddGlyph(name, body)
+        })
+    } else {
+        let number = number_of(subject);
+        Ok(if replaces {
+            Edit::ReplaceSubr(number, body)
+        } else {
+            Edit::AddSubr(number, body)
+        })
+    }
+}
+
+/// The command of a line that takes a body, and its whole body.
+#[tactic(auto, unfolding(crate::specs::Requests::body_request))]
+pub fn body_request(alloc: Global, heading: &[u8], body: Bytes) -> Result<Request, AllocError>
+    ensures { Makes result (body_request (words heading.now) body) }
+{
+    let Some((verb, kind, subject)) = three_words(heading) else {
+        return Ok(UNKNOWN);
+    };
+    Ok(Request::Edit(bodied_edit(alloc, verb, kind, subject, body)?))
+}
+
+/// The command of a line whose body the input left open.
+#[tactic(auto, unfolding(crate::specs::Requests::open_request))]
+pub fn open_request(heading: &[u8]) -> Request
+    ensures { result ≡ open_request (words heading.now) }
+{
+    match three_words(heading) {
+        Some(_) => Request::Broken(Rule::E7),
+        None => UNKNOWN,
+    }
+}
+
+/// Whether a word is one of two.
+fn is_either(word: &[u8], one: &[u8], other: &[u8]) -> bool
+    ensures { result ≡ bytes_eq word.now one.now || bytes_eq word.now other.now }
+{
+    word == one || word == other
+}
+
+/// Whether a line has no words.
+pub fn is_blank_line(line: &[u8]) -> bool
+    ensures { result ≡ is_wordless (words line.now) }
+{
+    next_word(line).is_none()
+}
+
+/// Whether a line takes a body, by its first two words.
+#[tactic(auto, unfolding(crate::specs::Requests::takes_body))]
+pub fn takes_body(line: &[u8]) -> bool
+    ensures { result ≡ takes_body (words line.now) }
+{
+    let Some((verb, rest)) = next_word(line) else {
+        return false;
+    };
+    let Some((kind, _)) = next_word(rest) else {
+        return false;
+    };
+    is_either(verb, b"replace", b"add") && is_either(kind, b"glyph", b"subr")
+}
+
+/// Whether a line ends a body: it is `.`, apart from blanks.
+#[tactic(auto, unfolding(crate::specs::Requests::ends_body))]
+pub fn ends_body(line: &[u8]) -> bool
+    ensures { result ≡ ends_body line.now }
+{
+    matches!(one_word(line), Some(b"."))
+}

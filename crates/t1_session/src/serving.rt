@@ -1,0 +1,53 @@
+//! A whole session, over a reader and a writer.
+ghost use Rattle.std.specs.Prelude.{◌≡◌};
+ghost use Rattle.t1_session.specs.Serving.{streams, Serves, Converses};
+ghost use Rattle.t1_session.specs.Machine.{scratch};
+
+use crate::dialogue::Dialogue;
+use crate::error::ServeError;
+use crate::session::Session;
+use std::alloc::Global;
+use std::io::{Read, Write};
+use t1_code::Counted;
+use t1_frac::Refusal;
+
+/// Runs a session over a source and its pairs: reads commands to the end of the input, and answers each before the
+/// next read.
+pub fn serve<R: Read, W: Write>(
+    alloc: Global,
+    source: &[u8],
+    pairs: &[u8],
+    reader: &mut Counted<R>,
+    writer: &mut Counted<W>,
+) -> Result<(), ServeError>
+    ensures { Serves R.remaining W.contents (scratch source.now pairs.now) (streams reader.old writer.old) (streams reader.new writer.new) result }
+{
+    match Session::open(alloc, source, pairs) {
+        Ok(session) => converse(alloc, session, reader, writer),
+        Err(Refusal::Fault(fault)) => Err(ServeError::Load(fault)),
+        Err(Refusal::Memory) => Err(ServeError::Memory),
+    }
+}
+
+/// Answers the input to its end.
+fn converse<R: Read, W: Write>(
+    alloc: Global,
+    session: Session,
+    reader: &mut Counted<R>,
+    writer: &mut Counted<W>,
+) -> Result<(), ServeError>
+    ensures { Converses R.remaining W.contents session (streams reader.old writer.old) (streams reader.new writer.new) result }
+{
+    let mut dialogue = Dialogue::new(alloc, session);
+    let mut buffer = [0; 4096];
+    'pieces: loop {
+        let count = match reader.take(&mut buffer) {
+            Ok(count) => count,
+            Err(_) => return Err(ServeError::Read),
+        };
+        if count == 0 {
+            return dialogue.finish(alloc, writer);
+        }
+        dialogue.feed(alloc, buffer.split_at(count).0, writer)?;
+    }
+}
