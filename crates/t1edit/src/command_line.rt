@@ -3,17 +3,35 @@
 use clap::{Arg, ArgAction, Command};
 use std::alloc::{AllocError, Global};
 
-/// The commands of the program.
-pub fn command<'a>(alloc: Global) -> Result<Command<'a>, AllocError> {
-    let source = Arg::new(alloc, "SOURCE")
+/// The argument that names the source.
+fn source<'a>(alloc: Global) -> Arg<'a> {
+    Arg::new(alloc, "SOURCE")
         .help("The readable source of a Type 1 font")
         .required(true)
-        .action(ArgAction::Set);
+        .action(ArgAction::Set)
+}
+
+/// The option that names a kerning file.
+fn kern<'a>(alloc: Global) -> Arg<'a> {
+    Arg::new(alloc, "kern")
+        .long("kern")
+        .value_name("FILE")
+        .help("A file with the kerning pairs, of which the KPX lines count")
+        .action(ArgAction::Set)
+}
+
+/// The commands of the program.
+pub fn command<'a>(alloc: Global) -> Result<Command<'a>, AllocError> {
     let assemble = Command::new(alloc, "assemble")
         .about("Writes the PFB file of a source to standard output")
-        .arg(source)?;
+        .arg(source(alloc))?;
+    let session = Command::new(alloc, "session")
+        .about("Edits and prints a source by commands from standard input")
+        .arg(kern(alloc))?
+        .arg(source(alloc))?;
     Command::new(alloc, "t1edit")
         .about("An assembler for Adobe Type 1 fonts")
         .subcommand_required(true)
-        .subcommand(assemble)
+        .subcommand(assemble)?
+        .subcommand(session)
 }

@@ -13,13 +13,35 @@ use status::{USAGE, ending};
 use std::process::ExitCode;
 use std::{env, io};
 use t1_code::Counted;
-use t1_session::{ServeError, assemble_source};
+use t1_session::{ServeError, assemble_source, serve};
+
+/// The bytes of the source that the command line names.
+fn source_of(rt: &HostRuntime, matches: &ArgMatches<'_>) -> Result<Vec<u8>, ServeError> {
+    read_file(rt, matches.get_str("SOURCE").unwrap_or(""))
+}
+
+/// The bytes of the kerning file, none where the command line names no file.
+fn pairs_of(rt: &HostRuntime, matches: &ArgMatches<'_>) -> Result<Vec<u8>, ServeError> {
+    match matches.get_str("kern") {
+        Some(path) => read_file(rt, path),
+        None => Ok(Vec::new(rt.alloc())),
+    }
+}
 
 /// Writes the PFB file of a source to standard output.
 fn assemble(rt: &HostRuntime, matches: &ArgMatches<'_>) -> Result<(), ServeError> {
-    let source = read_file(rt, matches.get_str("SOURCE").unwrap_or(""))?;
+    let source = source_of(rt, matches)?;
     let mut out = Counted::new(rt.stdout());
     assemble_source(rt.alloc(), &source, &mut out)
+}
+
+/// Serves the commands of standard input on a source.
+fn session(rt: &HostRuntime, matches: &ArgMatches<'_>) -> Result<(), ServeError> {
+    let source = source_of(rt, matches)?;
+    let pairs = pairs_of(rt, matches)?;
+    let mut input = Counted::new(rt.stdin());
+    let mut out = Counted::new(rt.stdout());
+    serve(rt.alloc(), &source, &pairs, &mut input, &mut out)
 }
 
 /// The status of an error, with its line on standard error.
@@ -53,6 +75,7 @@ fn run(rt: &HostRuntime, words: &[String]) -> ExitCode {
     };
     let result = match matches.subcommand() {
         Some(("assemble", matches)) => assemble(rt, matches),
+        Some(("session", matches)) => session(rt, matches),
         _ => Ok(()),
     };
     match result {
