@@ -10,31 +10,28 @@ PIECES = 64
 ZERO = (0, 0, 0, 0)
 
 
-def points(segments):
-    """Both ends of each line, and 65 points of each curve."""
-    found = []
-    for segment in segments:
-        if len(segment) == 2:
-            found += segment
-        else:
-            found += [curve_point(segment, step) for step in range(PIECES + 1)]
-    return found
+WEIGHTS = [
+    ((PIECES - step) ** 3, 3 * (PIECES - step) ** 2 * step, 3 * (PIECES - step) * step**2, step**3)
+    for step in range(PIECES + 1)
+]
 
 
-def curve_point(curve, step):
-    rest = PIECES - step
-    weights = (rest**3, 3 * rest**2 * step, 3 * rest * step**2, step**3)
-    return tuple(
-        Fraction(sum(weight * point[axis] for weight, point in zip(weights, curve))) / PIECES**3 for axis in (0, 1)
-    )
+def along(segment, axis):
+    """The coordinates, times PIECES ** 3, of both ends of a line or of the 65 points of a curve."""
+    values = [point[axis] for point in segment]
+    if all(value.denominator == 1 for value in values):
+        values = [value.numerator for value in values]
+    if len(values) == 2:
+        return [value * PIECES**3 for value in values]
+    return [sum(weight * value for weight, value in zip(weights, values)) for weights in WEIGHTS]
 
 
 def box(segments):
-    found = points(segments)
-    if not found:
+    if not segments:
         return ZERO
-    low = [math.floor(min(point[axis] for point in found)) for axis in (0, 1)]
-    high = [math.ceil(max(point[axis] for point in found)) for axis in (0, 1)]
+    found = [[value for segment in segments for value in along(segment, axis)] for axis in (0, 1)]
+    low = [math.floor(min(values) / Fraction(PIECES**3)) for values in found]
+    high = [math.ceil(max(values) / Fraction(PIECES**3)) for values in found]
     return (*low, *high)
 
 
@@ -64,6 +61,9 @@ def numbers(values):
     return b" ".join(b"%d" % it for it in values)
 
 
+HEIGHTS = ((b"CapHeight", b"H", 3), (b"XHeight", b"x", 3), (b"Ascender", b"d", 3), (b"Descender", b"p", 1))
+
+
 def header_lines(source, keys):
     found = []
     for key in keys:
@@ -82,7 +82,7 @@ def afm(source, pairs, font):
     found += header_lines(source, ("UnderlinePosition", "UnderlineThickness", "version", "Notice"))
     scheme = b"AdobeStandardEncoding" if source.encoding() is None else b"FontSpecific"
     found.append(b"EncodingScheme " + scheme)
-    for key, name, side in (b"CapHeight", b"H", 3), (b"XHeight", b"x", 3), (b"Ascender", b"d", 3), (b"Descender", b"p", 1):
+    for key, name, side in HEIGHTS:
         if name in boxes:
             found.append(key + b" %d" % boxes[name][side])
     found += char_lines(codes(source), boxes, font)

@@ -9,7 +9,7 @@ LARGEST = 2**31 - 1
 
 
 def assembly_fault(source):
-    """The first fault over Subrs in entry order, then glyphs; else a part that is too long. None where there is none."""
+    """The first fault over Subrs in entry order, then glyphs; else a part that is too long; or None."""
     for entry in source.entries():
         try:
             compiled(entry.words)

@@ -52,6 +52,7 @@ class Run:
     width: tuple = None
     flex: tuple = None  # the point before it, and the recorded points
     segments: list = field(default_factory=list)
+    moves: list = field(default_factory=list)  # where moves led, for tests/real alone
     steps: int = 0
     entered: set = field(default_factory=set)
     composite: Composite = None
@@ -119,6 +120,7 @@ class Run:
             self.point = self.bearing
         elif name in MOVES:
             self.point = moved(self.point, *along(name, operands))
+            self.moves.append(self.point)
         elif name in LINES:
             self.line(*along(name, operands))
         elif name == b"rrcurveto":
@@ -181,7 +183,8 @@ class Run:
         for value in arguments:
             judge_operand(value, False)
         recorded = None if self.flex is None else len(self.flex[1])
-        if number == 1 and recorded is not None or number == 2 and recorded in (None, 7) or number == 0 and recorded != 7:
+        is_in_order = {0: recorded == 7, 1: recorded is None, 2: recorded not in (None, 7)}
+        if not is_in_order.get(int(number), True):
             raise Fault("F41")
         del self.stack[below:]
         self.results = []

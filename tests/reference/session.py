@@ -9,6 +9,7 @@ from runs import Font
 from source import joined, kern_text, lines, trimmed, words
 
 PRINTS = (b"pfb", b"afm", b"source", b"kern", b"uses", b"pfa")
+BATCHES = ((b"begin",), (b"commit",), (b"abort",))
 
 
 def judged(source):
@@ -41,9 +42,28 @@ def commands(text):
 
 
 class Session:
-    def __init__(self, source, pairs):
-        self.source, self.pairs, self.batch = source, pairs, None
-        self.font = judged(source)
+    """With runs=False no glyph is run, and only edits and the prints of source, pairs and PFB are known."""
+
+    def __init__(self, source, pairs, runs=True):
+        self.source, self.pairs, self.batch, self.runs = source, pairs, None, runs
+        self.font = self.judged(source)
+
+    def judged(self, source):
+        if self.runs:
+            return judged(source)
+        fault = assembly_fault(source)
+        if fault:
+            raise fault
+        return None
+
+    def knows(self, these):
+        """Whether the words are a command of this session."""
+        if these[0] == b"print":
+            prints = PRINTS if self.runs else (b"pfb", b"source", b"kern")
+            return these[1:2] and these[1] in prints and len(these) <= 2 + (these[1] == b"pfb" and self.runs)
+        if these in BATCHES or these[:2] == (b"set", b"leniv"):
+            return self.runs and (these in BATCHES or len(these) == 3)
+        return form_of(these) is not None
 
     def answers(self, text):
         return b"".join(self.answer(*command) for command in commands(text))
@@ -57,13 +77,13 @@ class Session:
             return b"refused " + fault.text() + b"\n"
 
     def perform(self, these, body, is_open):
-        if these[0] == b"print" and these[1:2] and these[1] in PRINTS and len(these) <= 2 + (these[1] == b"pfb"):
+        if not self.knows(these):
+            raise Broken("E8")
+        if these[0] == b"print":
             text = self.printed(these[1], these[2:])
             return b"data %d\n%s\n" % (len(text), text)
-        if these in ((b"begin",), (b"commit",), (b"abort",)):
+        if these in BATCHES:
             return self.change_batch(these[0])
-        if form_of(these) is None:
-            raise Broken("E8")
         if is_open:
             raise Broken("E7")
         edit = Edit(these, body)
@@ -75,7 +95,7 @@ class Session:
 
     def take(self, source, pairs):
         if source != self.source:
-            self.font = judged(source)
+            self.font = self.judged(source)
         self.source, self.pairs = source, pairs
 
     def change_batch(self, verb):
