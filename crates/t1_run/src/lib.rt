@@ -29,3 +29,6 @@ pub use outline::{Composite, Point, Segment};
 pub use plain::Plain;
 pub use runner::run;
 pub use told::Run;
+
+#[cfg(test)]
+mod tests;
