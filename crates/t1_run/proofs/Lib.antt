@@ -5,4 +5,5 @@ pub mod Continuing
 pub mod Moved
 pub mod Outlines
 pub mod Rows
+pub mod Searched
 pub mod Steps
