@@ -1,7 +1,7 @@
 -- Worked rows of composites, computed by the definitions.
-use Rattle.std.proofs.Common.{◌≡◌, ℕ, zero, suc, ◌++◌, List, [], ◌∷◌, map, refl, Option, Some, None, ℤ, pos, negsuc}
+use Rattle.std.proofs.Common.{◌≡◌, ℕ, ◌++◌, List, [], ◌∷◌, map, refl, Option, Some, None, ℤ, pos}
 use Rattle.std.specs.Prelude.{Result, Ok, Err, codes}
-use Rattle.t1_frac.specs.Fraction.{Fraction, whole, gcd, lowest, nearest_of}
+use Rattle.t1_frac.specs.Fraction.{whole, gcd, lowest, nearest_of}
 use Rattle.t1_frac.specs.Limits.{coordinate_sum, coordinate_difference, quotient}
 use Rattle.t1_frac.specs.declared.fault.Code.{Code}
 use Rattle.t1_frac.specs.declared.fault.Code.TheVariants.{F38, F39, F40, F45, F46}
@@ -9,9 +9,9 @@ use Rattle.t1_code.specs.Encoding.{standard_name, standard_names}
 use Rattle.t1_code.specs.Words.{commands, command_of_word, operator_named, operator_words, is_number_word, number_of_word}
 use Rattle.t1_run.specs.declared.outline.Point.{Point}
 use Rattle.t1_run.specs.declared.outline.Segment.{Segment}
-use Rattle.t1_run.specs.declared.outline.Segment.TheVariants.{Line, Curve}
+use Rattle.t1_run.specs.declared.outline.Segment.TheVariants.{Line}
 use Rattle.t1_run.specs.Composite.{accent_move, joined, outline, outline_foot}
-use Rattle.t1_run.specs.Run.{Maps, Key, Subr, Glyph, own, foot, ending}
+use Rattle.t1_run.specs.Run.{Maps, Subr, Glyph, own, foot, ending}
 use Rattle.t1_run.proofs.Rows.{font_of, demo_subrs, pt}
 
 -- the demo font's letter and accent, and a composite of both with this body

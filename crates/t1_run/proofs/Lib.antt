@@ -5,6 +5,7 @@ pub mod Continuing
 pub mod Moved
 pub mod Outlines
 pub mod Rows
+pub mod Searched
 pub mod Steps
 pub mod Within
 pub mod WithinOutlines

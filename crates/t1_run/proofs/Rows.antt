@@ -1,10 +1,10 @@
 -- Worked rows of runs, computed by the definitions from the words of the bodies.
-use Rattle.std.proofs.Common.{◌≡◌, ℕ, zero, suc, ◌++◌, List, [], ◌∷◌, map, refl, Option, Some, None, ℤ, pos, negsuc}
+use Rattle.std.proofs.Common.{◌≡◌, ℕ, ◌++◌, List, [], ◌∷◌, map, refl, Option, Some, None, ℤ, pos, negsuc}
 use Rattle.std.specs.Prelude.{Result, Ok, Err, codes, nat_eq, flat_map, replicate}
 use Rattle.std.specs.Map.{lookup}
 use Rattle.std.specs.Option.{option_map}
 use Rattle.std.specs.Str.{bytes_eq}
-use Rattle.t1_frac.specs.Fraction.{Fraction, whole, gcd, lowest}
+use Rattle.t1_frac.specs.Fraction.{whole, gcd, lowest}
 use Rattle.t1_frac.specs.Limits.{coordinate_sum, quotient}
 use Rattle.t1_frac.specs.Words.{words}
 use Rattle.t1_frac.specs.declared.fault.Code.{Code}
@@ -15,7 +15,7 @@ use Rattle.t1_code.specs.declared.command.Command.{Command}
 use Rattle.t1_run.specs.declared.outline.Point.{Point}
 use Rattle.t1_run.specs.declared.outline.Segment.{Segment}
 use Rattle.t1_run.specs.declared.outline.Segment.TheVariants.{Line, Curve}
-use Rattle.t1_run.specs.Run.{Maps, Drawing, Key, Subr, Glyph, own, foot, ending}
+use Rattle.t1_run.specs.Run.{Maps, Drawing, Subr, Glyph, own, foot, ending}
 
 -- ---- fonts by the texts of their bodies
 

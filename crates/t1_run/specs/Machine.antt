@@ -29,7 +29,7 @@ state_of s = record {
   flex = option_map (λ before. record { before = before; recorded = s.recorded }) s.flex;
   segments = s.segments.items;
   steps = s.steps;
-  entered = s.entered.items;
+  entered = s.entered;
 }
 
 -- the step that an answer tells, with the state after it

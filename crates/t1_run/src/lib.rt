@@ -5,6 +5,7 @@ mod bodies;
 mod checks;
 mod composite;
 mod drawing;
+mod entered;
 pub mod laws;
 mod meter;
 mod moving;

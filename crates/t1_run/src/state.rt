@@ -2,14 +2,15 @@
 
 ghost use Rattle.std.specs.Prelude.{◌≡◌, OnOk, IfErr};
 ghost use Rattle.t1_run.specs.Machine.{state_of};
-ghost use Rattle.t1_run.specs.Run.{entering, entered_with};
+ghost use Rattle.t1_run.specs.Run.{entering};
 ghost use Rattle.t1_run.specs.State.{initial};
 
+use crate::entered::Entered;
 use crate::operands::Operands;
 use crate::outline::{Accent, Metric, Point, Segment};
 use crate::recorded::Recorded;
 use crate::results::Results;
-use std::alloc::{AllocError, Global};
+use std::alloc::Global;
 use t1_frac::{Frac, Refusal};
 
 /// What a word asks of the run.
@@ -34,7 +35,7 @@ pub struct State {
     pub recorded: Recorded,
     pub segments: Vec<Segment>,
     pub steps: u32,
-    pub entered: Vec<u16>,
+    pub entered: Entered,
 }
 
 impl State {
@@ -51,7 +52,7 @@ impl State {
             recorded: Recorded::new(),
             segments: Vec::new(alloc),
             steps: 0,
-            entered: Vec::new(alloc),
+            entered: Entered::new(alloc),
         }
     }
 
@@ -61,22 +62,7 @@ impl State {
         ensures steps { OnOk result (self.new.steps ≡ self.old.steps) }
         ensures memory { IfErr result (λ refusal. refusal ≡ Refusal.Memory) }
     {
-        add_number(&mut self.entered, n)?;
+        self.entered.add(n)?;
         Ok(())
     }
-}
-
-/// Adds a number to numbers that are ascending and each once.
-fn add_number(numbers: &mut Vec<u16>, n: u16) -> Result<(), AllocError>
-    ensures { OnOk result (numbers.new.items ≡ entered_with n numbers.old.items) }
-{
-    let mut place = 0;
-    'smaller: while place < numbers.len() && numbers[place] < n {
-        place += 1;
-    }
-    if place < numbers.len() && numbers[place] == n {
-        return Ok(());
-    }
-    numbers.insert(place, n)?;
-    Ok(())
 }

@@ -64,7 +64,7 @@ impl Run {
             metric,
             segments,
             composite,
-            entered,
+            entered: entered.into_vec(),
             steps,
             serial,
         })
