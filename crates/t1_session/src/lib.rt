@@ -12,6 +12,8 @@ mod reply;
 mod request;
 mod serving;
 mod session;
+#[cfg(test)]
+mod tests;
 
 pub use assembly::assemble_source;
 pub use error::ServeError;
