@@ -5,6 +5,7 @@ mod answering;
 mod assembly;
 mod dialogue;
 mod error;
+pub mod laws;
 mod numbers;
 mod print;
 mod private;
