@@ -1,6 +1,8 @@
 pub mod Conversations
 pub mod Delivering
+pub mod FileLaws
 pub mod Gathering
 pub mod LineLaws
 pub mod Parsing
+pub mod Rows
 pub mod Sessions

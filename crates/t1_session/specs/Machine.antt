@@ -1,5 +1,5 @@
 -- The commands of a session.
-use Rattle.std.specs.Prelude.{ℕ, List, Result, Ok, Err}
+use Rattle.std.specs.Prelude.{◌≡◌, ℕ, List, Result, Ok, Err}
 use Rattle.t1_frac.specs.declared.fault.Fault.{Fault}
 use Rattle.t1_frac.specs.Outcome.{◌>>=◌}
 use Rattle.t1_source.specs.declared.pairs.Pair.{Pair}
@@ -59,3 +59,15 @@ scratch source pair_lines = do
   kerning ← pairs pair_lines
   file ← source_file whole_file form
   Ok (record { source = form; pairs = kerning })
+
+-- the source of a state has its PFB file
+abbrev pub HasFile : State → Type 0
+HasFile s = (file : List ℕ) × (source_file whole_file s.source ≡ Ok file)
+
+-- the source that a session opens with has its file
+abbrev pub OpensWithFile : Type 0
+OpensWithFile = (source pair_lines : List ℕ) (s : State) → scratch source pair_lines ≡ Ok s → HasFile s
+
+-- so has the source after a command
+abbrev pub KeepsFile : Type 0
+KeepsFile = (s : State) (r : Request) → HasFile s → HasFile (perform s r).next

@@ -5,6 +5,7 @@ mod answering;
 mod assembly;
 mod dialogue;
 mod error;
+pub mod laws;
 mod numbers;
 mod print;
 mod private;
@@ -12,6 +13,8 @@ mod reply;
 mod request;
 mod serving;
 mod session;
+#[cfg(test)]
+mod tests;
 
 pub use assembly::assemble_source;
 pub use error::ServeError;
