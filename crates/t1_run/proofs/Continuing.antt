@@ -11,10 +11,10 @@ use Rattle.t1_code.specs.declared.command.Command.{Command}
 use Rattle.t1_run.specs.declared.outline.Accent.{Accent}
 use Rattle.t1_run.specs.declared.outline.Composite.{Composite}
 use Rattle.t1_run.specs.State.{State, initial}
-use Rattle.t1_run.specs.Step.{Step, Next, Call, Back, End, Compose, Fault}
+use Rattle.t1_run.specs.Step.{Next, Call, Back, End, Compose, Fault}
 use Rattle.t1_run.specs.Words.{step}
 use Rattle.t1_run.specs.Machine.{RefusesStep}
-use Rattle.t1_run.specs.Run.{Maps, Key, Subr, Ending, Finished, Returned, Ended, Failed, Runner, go_on, act, words, call_within, called, composed, composite_of, asking_parts, encoded, runs, entering, ending, Drawing, drawing_of, outcome_of}
+use Rattle.t1_run.specs.Run.{Maps, Key, Subr, Ending, Ended, Failed, go_on, act, words, call_within, called, composed, composite_of, asking_parts, encoded, runs, entering, ending, drawing_of, outcome_of}
 
 -- an ending goes on through the bodies that wait, the innermost first; `levels` is what is left where it ended
 abbrev pub resume : Maps → ℕ → List (List Command) → Ending → Ending

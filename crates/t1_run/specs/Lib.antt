@@ -1,4 +1,5 @@
 pub mod Composite
+pub mod Footprint
 pub mod Machine
 pub mod Operands
 pub mod OtherSubrs

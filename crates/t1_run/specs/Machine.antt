@@ -12,7 +12,7 @@ use Rattle.t1_run.specs.declared.outline.Segment.{Segment}
 use Rattle.t1_run.specs.declared.state.State.{State as StateFields}
 use Rattle.t1_run.specs.declared.state.Control.{Control}
 use Rattle.t1_run.specs.declared.state.Control.TheVariants as controls
-use Rattle.t1_run.specs.State.{State, Flex}
+use Rattle.t1_run.specs.State.{State}
 use Rattle.t1_run.specs.Step.{Step, Next, Call, Back, End, Compose, Fault}
 use Rattle.t1_run.specs.OtherSubrs.{end_flex, start_flex, add_flex}
 use Rattle.t1_run.specs.Run.{Drawing, Numbered}

@@ -6,8 +6,6 @@ use Rattle.t1_frac.specs.Outcome.{◌>>=◌}
 use Rattle.t1_frac.specs.declared.fault.Code.{Code}
 use Rattle.t1_frac.specs.declared.fault.Code.TheVariants.{F30, F31, F32, F43}
 use Rattle.t1_run.specs.declared.outline.Point.{Point}
-use Rattle.t1_run.specs.declared.outline.Metric.{Metric}
-use Rattle.t1_run.specs.declared.outline.Segment.{Segment}
 use Rattle.t1_run.specs.declared.outline.Segment.TheVariants.{Line, Curve}
 use Rattle.t1_run.specs.declared.outline.Accent.{Accent}
 use Rattle.t1_run.specs.State.{State}

@@ -1,5 +1,5 @@
 -- One word of a charstring: the order of its tests, and each command's own rule.
-use Rattle.std.specs.Prelude.{ℕ, ◌+◌, Bool, true, false, ◌&&◌, ◌||◌, not, nat_lt, nat_le, List, length, Option, is_some}
+use Rattle.std.specs.Prelude.{◌+◌, Bool, true, false, ◌&&◌, ◌||◌, not, nat_lt, nat_le, List, length, is_some}
 use Rattle.t1_frac.specs.Fraction.{Fraction, whole}
 use Rattle.t1_frac.specs.declared.fault.Code.TheVariants.{F30, F36, F41, F47}
 use Rattle.t1_code.specs.declared.command.Command.{Command}

@@ -5,6 +5,7 @@ mod bodies;
 mod checks;
 mod composite;
 mod drawing;
+pub mod laws;
 mod meter;
 mod moving;
 mod operands;
@@ -28,3 +29,6 @@ pub use outline::{Composite, Point, Segment};
 pub use plain::Plain;
 pub use runner::run;
 pub use told::Run;
+
+#[cfg(test)]
+mod tests;

@@ -1,4 +1,4 @@
-use Rattle.std.proofs.Common.{◌≡◌, ◌++◌, drop, List, [], length}
+use Rattle.std.proofs.Common.{drop}
 use Rattle.t1_run.proofs.Moved.{Leads}
 use Rattle.t1_run.specs.Composite.{moved_outline}
 use Rattle.t1_run.proofs.composite.push_moved.Given as goal

@@ -1,12 +1,12 @@
-use Rattle.std.proofs.Common.{◌≡◌, ◌∷◌, List, length, sym, ◌∙◌, ap, subst, ◌<◌, ◌≤◌, arith, rules, refl}
+use Rattle.std.proofs.Common.{◌≡◌, List, length, sym, ◌∙◌, ap, subst, ◌<◌, rules, refl}
 use Rattle.std.proofs.lemmas.Result.{err_from_is_err_and}
-use Rattle.t1_frac.specs.Outcome.{Gives, Refuses, told_at}
+use Rattle.t1_frac.specs.Outcome.{told_at}
 use Rattle.t1_frac.specs.declared.fault.Place.TheVariants.{Nowhere}
 use Rattle.t1_code.specs.declared.command.Command.{Command}
 use Rattle.t1_run.specs.Machine.{state_of, told}
-use Rattle.t1_run.specs.Run.{font, Maps, composite_of}
+use Rattle.t1_run.specs.Run.{Maps}
 use Rattle.t1_run.specs.State.{State}
-use Rattle.t1_run.proofs.Continuing.{Continues, Continues-start, Continues-call, Continues-back, outcome-end, outcome-fault, outcome-missing, outcome-full, outcome-compose, refused-step, refused-parts, found-parts}
+use Rattle.t1_run.proofs.Continuing.{Continues, Continues-start, Continues-call, Continues-back, outcome-end, outcome-missing, outcome-full, outcome-compose, refused-step, refused-parts, found-parts}
 use Rattle.t1_run.proofs.runner.run_body.Goals as goal
 
 at_rest : {m : Maps} {body rest rest' : List Command} {waiting : List (List Command)} {s : State}
