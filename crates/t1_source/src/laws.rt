@@ -1,0 +1,11 @@
+//! What printing and reading have to do with each other.
+
+ghost use Rattle.std.specs.Prelude.{◌≡◌, List, true, Ok};
+ghost use Rattle.t1_source.specs.declared.pairs.Pair.{Pair};
+ghost use Rattle.t1_source.specs.Kerning.{are_pairs, pairs, kern};
+
+/// Kerning pairs that are printed are read as they were.
+#[tactic(auto, using(crate::proofs::KernLaws::kern_again))]
+pub fn printed_pairs_read()
+    ensures { (ps : List Pair) → are_pairs ps ≡ true → pairs (kern ps) ≡ Ok ps }
+{}
