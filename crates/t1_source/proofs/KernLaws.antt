@@ -103,7 +103,7 @@ value_again (pos n) h =
     let small = leb-true n 32000 h in
     digits_value (decimal n) n (decimal_spells n (omega arith)) small
 value_again (negsuc n) h =
-    let small = leb-true n 31999 h in
+    let small = leb-true n 31999 (and_parts (nat_le n 31999) true h).0 in
     let read = spelled (decimal (suc n)) (suc n) (decimal_spells (suc n) (omega arith)) in
     rw read (rw (le-leb (suc n) 32000 (omega arith)) refl)
 
@@ -113,7 +113,7 @@ value_high (pos n) h =
     let s = decimal_spells n (omega arith) in
     (s.2, digit_high (decimal n) s.0)
 value_high (negsuc n) h =
-    let small = leb-true n 31999 h in
+    let small = leb-true n 31999 (and_parts (nat_le n 31999) true h).0 in
     let s = decimal_spells (suc n) (omega arith) in
     (omega arith, digit_high (decimal (suc n)) s.0)
 

@@ -10,6 +10,7 @@ pub mod LastLaws
 pub mod LineLaws
 pub mod NumberLaws
 pub mod PairLaws
+pub mod PairsKeptLaws
 pub mod PlaceLaws
 pub mod PrintingRows
 pub mod PutLaws

@@ -21,10 +21,11 @@ spells_one n h = (and_from (is_digit (48 + n)) true (digit_of n h) refl, omega a
 spells_more : (n : ℕ) (ds : List ℕ) → 10 ≤ n → Spells (n / 10) ds → Spells n (ds ++ (48 + n % 10) ∷ [])
 spells_more n ds h before =
     let last = 48 + n % 10 in
-    let digit = digit_of (n % 10) (omega arith) in
-    (list_all-append is_digit ds (last ∷ []) ∙ and_from _ _ before.0 (and_from (is_digit last) true digit refl),
-    fold-append (λ m d. 10 * m + (d - 48)) 0 ds (last ∷ []) ∙ omega (arith, before.1),
-    omega (arith, before.2, length-append ds (last ∷ [])))
+    let digit = digit_of (n % 10) (omega arith) in (
+      list_all-append is_digit ds (last ∷ []) ∙ and_from _ _ before.0 (and_from (is_digit last) true digit refl),
+      fold-append (λ m d. 10 * m + (d - 48)) 0 ds (last ∷ []) ∙ omega (arith, before.1),
+      omega (arith, before.2, length-append ds (last ∷ [])),
+    )
 
 pub decimal_spells : (n : ℕ) → n < 2 ^ 64 → Spells n (decimal n)
 decimal_spells n h = decimal_by_steps Spells spells_one spells_more n h

@@ -1,5 +1,5 @@
 -- Kerning files.
-use Rattle.std.specs.Prelude.{ℕ, Bool, true, ◌+◌, ◌&&◌, ◌==◌, nat_le, ℤ, pos, negsuc, neg_ℤ, if◌then◌else◌, Option, Some, None, Result, Ok, Err, ok_or, option_map, List, [], ◌∷◌, ◌++◌, fold, codes, flat_map}
+use Rattle.std.specs.Prelude.{ℕ, Bool, true, ◌+◌, ◌&&◌, ◌==◌, ℤ, pos, negsuc, neg_ℤ, int_le, if◌then◌else◌, Option, Some, None, Result, Ok, Err, ok_or, option_map, List, [], ◌∷◌, ◌++◌, fold, codes, flat_map}
 use Rattle.std.specs.Fmt.{signed_decimal}
 use Rattle.std.specs.List.{list_all, list_any}
 use Rattle.std.specs.Ordering.{nat_cmp, is_lt, match_ordering, ordering_then}
@@ -79,8 +79,7 @@ kern ps = flat_map (λ p. kpx_line p ++ 10 ∷ []) ps
 
 -- profile, kerning files: a value from -32000 to 32000
 abbrev pub is_kerning_value : ℤ → Bool
-is_kerning_value (pos n) = nat_le n 32000
-is_kerning_value (negsuc n) = nat_le n 31999
+is_kerning_value v = int_le (negsuc 31999) v && int_le v (pos 32000)
 
 -- profile, kerning files: two names and such a value
 abbrev pub is_kerning_pair : Pair → Bool
