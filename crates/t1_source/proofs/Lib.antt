@@ -1,7 +1,10 @@
+pub mod BodyLaws
 pub mod CodeLaws
+pub mod CountLaws
 pub mod DemoRows
 pub mod EditingRows
 pub mod EncodingLaws
+pub mod EntryLaws
 pub mod GroupLaws
 pub mod ItemLaws
 pub mod KernLaws
