@@ -19,7 +19,7 @@ regular_parts c h =
     (d.0, d.1, a.1)
 
 -- a token that begins with a regular byte
-regular_first : (c : ℕ) (rest : List ℕ) → is_regular c ≡ true → tokens (c ∷ rest) ≡ joins c rest (tokens rest)
+pub regular_first : (c : ℕ) (rest : List ℕ) → is_regular c ≡ true → tokens (c ∷ rest) ≡ joins c rest (tokens rest)
 regular_first c rest h = let parts = regular_parts c h in rw (parts.0, parts.2, parts.1) refl
 
 -- blanks before a token count for nothing

@@ -1,5 +1,5 @@
 -- Edits of a source and its kerning pairs.
-use Rattle.std.specs.Prelude.{◌≡◌, ℕ, Bool, true, false, not, ◌+◌, ◌-◌, ◌||◌, ◌&&◌, ◌==◌, nat_le, nat_abs, ℤ, pos, negsuc, int_le, if◌then◌else◌, Option, Some, None, Result, Ok, Err, ok_or, option_map, unwrap_or, List, [], ◌∷◌, ◌++◌, length, take, drop, reverse, filter, codes, flat_map, decimal}
+use Rattle.std.specs.Prelude.{◌≡◌, ℕ, Bool, true, false, not, ◌+◌, ◌-◌, ◌||◌, ◌&&◌, ◌==◌, nat_le, nat_abs, ℤ, pos, negsuc, if◌then◌else◌, Option, Some, None, Result, Ok, Err, ok_or, option_map, unwrap_or, List, [], ◌∷◌, ◌++◌, length, take, drop, reverse, filter, codes, flat_map, decimal}
 use Rattle.std.specs.List.{list_any, find, position, position_or_len, insert, remove, slice_set, slice_index_or}
 use Rattle.std.specs.Str.{bytes_eq}
 use Rattle.t1_frac.specs.Outcome.{◌>>=◌}
@@ -21,7 +21,7 @@ use Rattle.t1_source.specs.Encoding.{opens_encoding, chooses_standard, array_lin
 use Rattle.t1_source.specs.Sections.{is_subrs_line, is_glyphs_line}
 use Rattle.t1_source.specs.Entries.{has_brace, is_subr, is_glyph}
 use Rattle.t1_source.specs.Counts.{is_glyph_entry, raised}
-use Rattle.t1_source.specs.Kerning.{put_pair}
+use Rattle.t1_source.specs.Kerning.{is_kerning_value, put_pair}
 
 -- a rule that is broken where the test fails
 abbrev pub keeps : Rule → Bool → Result (Unit {0}) Rule
@@ -196,7 +196,7 @@ unencoded s number = do
 
 -- profile, edits: a kerning value from -32000 to 32000
 abbrev pub kerning_number : ℤ → Result ℤ Rule
-kerning_number v = if int_le (negsuc 31999) v && int_le v (pos 32000) then Ok v else Err E4
+kerning_number v = if is_kerning_value v then Ok v else Err E4
 
 -- profile, edits: a pair put in, or given another value
 unfoldable pub kerned : List Pair → List ℕ → List ℕ → ℤ → Result (List Pair) Rule

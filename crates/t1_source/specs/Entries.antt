@@ -1,11 +1,11 @@
 -- Entries of a private part: Subrs and glyphs.
-use Rattle.std.specs.Prelude.{slice_index, ℕ, Bool, false, ◌+◌, ◌||◌, ◌&&◌, ◌==◌, if◌then◌else◌, Option, Some, None, Result, Err, ok_or, option_map, List, [], ◌∷◌, ◌++◌, codes}
-use Rattle.std.specs.List.{list_any, before_first, after_first, position_or_len}
+use Rattle.std.specs.Prelude.{slice_index, ℕ, Bool, false, not, ◌+◌, ◌||◌, ◌&&◌, ◌==◌, if◌then◌else◌, Option, Some, None, Result, Err, ok_or, option_map, List, [], ◌∷◌, ◌++◌, codes}
+use Rattle.std.specs.List.{list_all, list_any, before_first, after_first, position_or_len}
 use Rattle.std.specs.Str.{bytes_eq}
 use Rattle.t1_frac.specs.declared.fault.Code.{Code}
 use Rattle.t1_frac.specs.declared.fault.Code.TheVariants.{F7, F8, F9, F10}
 use Rattle.t1_frac.specs.Outcome.{◌>>=◌}
-use Rattle.t1_frac.specs.Words.{words}
+use Rattle.t1_frac.specs.Words.{is_blank, words}
 use Rattle.t1_source.specs.declared.item.Item.{Item}
 use Rattle.t1_source.specs.declared.item.Item.TheVariants.{Subr, Glyph}
 use Rattle.t1_source.specs.declared.body.Body.{Body}
@@ -16,6 +16,18 @@ use Rattle.t1_source.specs.Names.{decimal_of, up_to, name_of_token}
 -- profile, entries: `{` and `}`
 abbrev pub is_brace : ℕ → Bool
 is_brace c = c == 123 || c == 125
+
+-- profile, entries: a byte that may stand in a word: no blank, no brace, and not the `%` of a comment
+abbrev pub is_safe : ℕ → Bool
+is_safe c = not (is_brace c || c == 37)
+
+abbrev pub is_word_byte : ℕ → Bool
+is_word_byte c = not (is_blank c) && is_safe c
+
+-- profile, entries: a word, one or more such bytes
+abbrev pub is_word : List ℕ → Bool
+is_word [] = false
+is_word (c ∷ rest) = list_all is_word_byte (c ∷ rest)
 
 -- whether the line has a brace outside its comment
 abbrev pub has_brace : List ℕ → Bool

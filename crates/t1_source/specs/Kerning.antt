@@ -1,8 +1,8 @@
 -- Kerning files.
-use Rattle.std.specs.Prelude.{ℕ, Bool, ◌+◌, ◌&&◌, ◌==◌, ℤ, pos, neg_ℤ, if◌then◌else◌, Option, Some, None, Result, Ok, Err, ok_or, option_map, List, [], ◌∷◌, ◌++◌, fold, codes, flat_map}
+use Rattle.std.specs.Prelude.{ℕ, Bool, true, ◌+◌, ◌&&◌, ◌==◌, ℤ, pos, negsuc, neg_ℤ, int_le, if◌then◌else◌, Option, Some, None, Result, Ok, Err, ok_or, option_map, List, [], ◌∷◌, ◌++◌, fold, codes, flat_map}
 use Rattle.std.specs.Fmt.{signed_decimal}
-use Rattle.std.specs.List.{list_any}
-use Rattle.std.specs.Ordering.{nat_cmp, match_ordering, ordering_then}
+use Rattle.std.specs.List.{list_all, list_any}
+use Rattle.std.specs.Ordering.{nat_cmp, is_lt, match_ordering, ordering_then}
 use Rattle.std.specs.Cmp.Lexicographic.{slice_cmp}
 use Rattle.std.specs.declared.cmp.Ordering.{Ordering}
 use Rattle.t1_frac.specs.declared.fault.Code.{Code}
@@ -71,8 +71,29 @@ pairs bytes = pairs_with [] 1 (lines bytes)
 
 -- AFM 4.1, kerning data: the line `KPX LEFT RIGHT N`
 abbrev pub kpx_line : Pair → List ℕ
-kpx_line p = codes "KPX " ++ p.left ++ 32 ∷ p.right ++ 32 ∷ signed_decimal p.value
+kpx_line p = codes "KPX " ++ (p.left ++ 32 ∷ (p.right ++ 32 ∷ signed_decimal p.value))
 
 -- profile, kerning files: one line a pair
 abbrev pub kern : List Pair → List ℕ
 kern ps = flat_map (λ p. kpx_line p ++ 10 ∷ []) ps
+
+-- profile, kerning files: a value from -32000 to 32000
+abbrev pub is_kerning_value : ℤ → Bool
+is_kerning_value v = int_le (negsuc 31999) v && int_le v (pos 32000)
+
+-- profile, kerning files: two names and such a value
+abbrev pub is_kerning_pair : Pair → Bool
+is_kerning_pair p = is_name p.left && is_name p.right && is_kerning_value p.value
+
+-- whether a pair stands before another in printed order
+abbrev pub precedes : Pair → Pair → Bool
+precedes p q = is_lt (pair_cmp p q)
+
+-- whether the pairs are in printed order, each once
+abbrev pub are_ordered : List Pair → Bool
+are_ordered [] = true
+are_ordered (p ∷ ps) = list_all (precedes p) ps && are_ordered ps
+
+-- profile, kerning files: pairs as a kerning file has them
+unfoldable pub are_pairs : List Pair → Bool
+are_pairs ps = list_all is_kerning_pair ps && are_ordered ps

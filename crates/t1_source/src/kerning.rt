@@ -64,7 +64,7 @@ fn with_pair(alloc: Global, pairs: &[Pair], pair: &Pair) -> Result<Vec<Pair>, Al
 }
 
 /// The pairs with a pair put in, or given another value.
-#[tactic(auto, unfolding(crate::specs::Editing::kerned))]
+#[tactic(auto, unfolding(crate::specs::Editing::kerned), using(crate::proofs::PairsKeptLaws::put_pairs, crate::proofs::PairsKeptLaws::named_pair))]
 pub fn kerned(pairs: &Pairs, left: &[u8], right: &[u8], value: i64) -> Result<Pairs, Cause>
     ensures { Edits (λ made. made) result (kerned pairs.now left.now right.now value) }
 {
@@ -95,7 +95,7 @@ fn pair_at(pairs: &[Pair], left: &[u8], right: &[u8]) -> Option<usize>
 }
 
 /// The pairs without that of these names.
-#[tactic(auto, unfolding(crate::specs::Editing::unkerned))]
+#[tactic(auto, unfolding(crate::specs::Editing::unkerned), using(crate::proofs::PairsKeptLaws::removed_pairs))]
 pub fn unkerned(pairs: &Pairs, left: &[u8], right: &[u8]) -> Result<Pairs, Cause>
     ensures { Edits (λ made. made) result (unkerned pairs.now left.now right.now) }
 {

@@ -14,6 +14,7 @@ mod gathered;
 mod header;
 mod item;
 mod kerning;
+pub mod laws;
 mod len_iv;
 mod lines;
 mod names;

@@ -31,6 +31,11 @@ impl Model for Pairs {
     ghost Value = { List Pair };
 
     ghost view = { λ p. p.pairs.items };
+
+    ghost use Rattle.std.specs.Prelude.{◌≡◌, true};
+    ghost use Rattle.t1_source.specs.Kerning.{are_pairs};
+
+    ghost invariant = { λ p. are_pairs p.pairs.items ≡ true };
 }
 
 /// The pairs so far. Contracts see them in printed order.
@@ -49,14 +54,14 @@ impl Model for Sorted {
     ghost view = { λ s. pairs_of_entries s.values.entries };
 }
 
-ghost use Rattle.std.specs.Prelude.{◌≡◌, ◌∷◌, ◌+◌, ◌<◌, ◌^◌, [], ◌++◌, IfOk, OnOk, length, option_to_list, None, MatchOption};
+ghost use Rattle.std.specs.Prelude.{◌≡◌, ◌∷◌, ◌+◌, ◌<◌, ◌^◌, [], ◌++◌, IfOk, OnOk, length, option_to_list, true, None, MatchOption};
 ghost use Rattle.std.specs.List.{list_any};
 ghost use Rattle.t1_frac.specs.declared.fault.Place.TheVariants as places;
 ghost use Rattle.t1_frac.specs.Outcome.{Gives, told_at};
 ghost use Rattle.t1_frac.specs.Words.{words};
 ghost use Rattle.t1_source.specs.Lines.{lines};
 ghost use Rattle.t1_source.specs.Tokens.{first_is};
-ghost use Rattle.t1_source.specs.Kerning.{kerning_value, kpx_of, pair_of, is_left_out, line_pairs, put_pair, pairs_with, pairs, kern, kpx_line};
+ghost use Rattle.t1_source.specs.Kerning.{kerning_value, kpx_of, pair_of, is_left_out, line_pairs, put_pair, pairs_with, pairs, kern, kpx_line, are_pairs};
 
 impl Sorted {
     /// No pairs.
@@ -214,7 +219,7 @@ fn gathered(alloc: Global, text: &[u8]) -> Result<Sorted, Refusal>
 
 /// The pairs of a kerning file, or its first fault, with its line: F12 for a `KPX` line that isn't understood, F13
 /// for a line of a form that is left out.
-#[tactic(auto, unfolding(crate::specs::Kerning::pairs))]
+#[tactic(auto, unfolding(crate::specs::Kerning::pairs), using(crate::proofs::PairsKeptLaws::lines_good))]
 pub fn read_pairs(alloc: Global, bytes: &[u8]) -> Result<Pairs, Refusal>
     ensures { Gives (λ pairs. pairs) result (pairs bytes.now) }
 {
@@ -276,12 +281,13 @@ impl Pairs {
     pub fn copied(&self) -> Result<Pairs, AllocError>
         ensures { IfOk result (λ copy. copy ≡ self.now) }
     {
-        let pairs = copied_pairs(self.alloc, self.pairs.as_slice())?;
+        let pairs = copied_pairs(self.alloc, self.list())?;
         Ok(self.with_list(pairs))
     }
 
     /// Other pairs, with the same allocator.
     pub(crate) fn with_list(&self, pairs: Vec<Pair>) -> Pairs
+        requires { are_pairs pairs.items ≡ true }
         ensures { result ≡ pairs.items }
     {
         Pairs {
@@ -292,7 +298,8 @@ impl Pairs {
 
     /// The pairs in printed order.
     pub fn list(&self) -> &[Pair]
-        ensures { result.now ≡ self.now }
+        ensures value { result.now ≡ self.now }
+        ensures kept { are_pairs result.now ≡ true }
     {
         self.pairs.as_slice()
     }

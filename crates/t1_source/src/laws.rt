@@ -1,0 +1,73 @@
+//! What printing and reading have to do with each other.
+
+ghost use Rattle.std.specs.Prelude.{◌≡◌, ◌≤◌, ◌+◌, ℕ, List, ◌∷◌, ◌++◌, Some, true, false, Ok, codes, decimal, length, map};
+ghost use Rattle.std.specs.List.{list_all};
+ghost use Rattle.t1_source.specs.Lines.{lines, joined, is_line, trimmed};
+ghost use Rattle.t1_source.specs.declared.item.Item.{Item};
+ghost use Rattle.t1_source.specs.declared.item.Item.TheVariants.{Subr, Glyph};
+ghost use Rattle.t1_source.specs.Counts.{raised};
+ghost use Rattle.t1_source.specs.Parts.{tail_of};
+ghost use Rattle.t1_source.specs.Names.{is_name};
+ghost use Rattle.t1_source.specs.Sections.{is_subrs_line, is_glyphs_line};
+ghost use Rattle.t1_source.specs.Entries.{Numbered, has, is_subr, is_glyph, is_word, body_of};
+ghost use Rattle.t1_source.specs.Private.{item_at};
+ghost use Rattle.t1_source.specs.Printing.{body_line, last_line, word_groups};
+ghost use Rattle.t1_source.specs.declared.pairs.Pair.{Pair};
+ghost use Rattle.t1_source.specs.Kerning.{are_pairs, pairs, kern};
+
+use crate::pairs::Pairs;
+
+/// Lines that are joined are cut as they were.
+pub fn joined_lines_cut()
+    ensures { (ls : List (List ℕ)) → list_all is_line ls ≡ true → lines (joined ls) ≡ ls }
+{}
+
+/// A printed body is read as it was, whatever follows it.
+pub fn printed_body_read()
+    ensures { (ws : List (List ℕ)) (closing : List ℕ) (ls : List (List ℕ)) → list_all is_word ws ≡ true
+        → trimmed closing ≡ closing
+        → body_of (map body_line (word_groups ws) ++ last_line closing ∷ ls)
+        ≡ Some (record { words = ws; closing = closing; more = length (word_groups ws) }) }
+{}
+
+/// A Subr that is printed is read as it was, whatever follows it, where no earlier one has its number.
+pub fn printed_subr_read()
+    ensures { (earlier : List Numbered) (n : ℕ) (ws : List (List ℕ)) (closing : List ℕ) (ls : List (List ℕ))
+        → has is_glyphs_line earlier ≡ false → has is_subrs_line earlier ≡ true → has (is_subr n) earlier ≡ false
+        → n ≤ 32000 → list_all is_word ws ≡ true → trimmed closing ≡ closing
+        → item_at earlier (codes "dup " ++ (decimal n ++ codes " {")) (map body_line (word_groups ws) ++ last_line closing ∷ ls)
+        ≡ Ok (Subr n ws closing, 1 + length (word_groups ws)) }
+{}
+
+/// A glyph that is printed is read as it was, whatever follows it, where no earlier one has its name.
+pub fn printed_glyph_read()
+    ensures { (earlier : List Numbered) (g : List ℕ) (ws : List (List ℕ)) (closing : List ℕ) (ls : List (List ℕ))
+        → has is_glyphs_line earlier ≡ true → has (is_glyph g) earlier ≡ false → is_name g ≡ true
+        → list_all is_word ws ≡ true → trimmed closing ≡ closing
+        → item_at earlier (47 ∷ (g ++ codes " {")) (map body_line (word_groups ws) ++ last_line closing ∷ ls)
+        ≡ Ok (Glyph g ws closing, 1 + length (word_groups ws)) }
+{}
+
+/// Counts that are raised to what is needed need no further raising.
+pub fn raised_counts_stay()
+    ensures { (items : List Item) → raised (raised items) ≡ raised items }
+{}
+
+/// A tail that was kept is kept as it is.
+pub fn kept_tail_stays()
+    ensures { (ls : List (List ℕ)) → tail_of (tail_of ls) ≡ tail_of ls }
+{}
+
+/// Kerning pairs that are printed are read as they were.
+#[tactic(auto, using(crate::proofs::KernLaws::kern_again))]
+pub fn printed_pairs_read()
+    ensures { (ps : List Pair) → are_pairs ps ≡ true → pairs (kern ps) ≡ Ok ps }
+{}
+
+/// The text of some pairs is read as the pairs.
+#[tactic(auto, using(crate::proofs::KernLaws::kern_again))]
+pub fn text_of_pairs_read(kept: &Pairs)
+    ensures { pairs (kern kept.now) ≡ Ok kept.now }
+{
+    let _list = kept.list();
+}
