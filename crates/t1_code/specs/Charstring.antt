@@ -8,7 +8,7 @@ use Rattle.t1_code.specs.Words.{commands}
 use Rattle.t1_code.specs.declared.command.Command.{Command}
 use Rattle.t1_code.specs.declared.command.Command.TheVariants.{Num, HStem, VStem, VMoveTo, RLineTo, HLineTo, VLineTo, RRCurveTo, ClosePath, CallSubr, Return, DotSection, VStem3, HStem3, Seac, Sbw, Div, CallOtherSubr, Pop, SetCurrentPoint, Hsbw, EndChar, RMoveTo, HMoveTo, VHCurveTo, HVCurveTo}
 
--- Type 1 Font Format, Chapter 6 (charstring number encoding): the bytes of a size from 108 to 1131 behind the first byte of its kind
+-- Type 1 Font Format, Chapter 6 (charstring number encoding): the two bytes of a size from 108 to 1131, of which the first is so far past the first byte of its kind
 abbrev pub two_bytes : ℕ → ℕ → List ℕ
 two_bytes first size = (first + (size - 108) / 256) ∷ ((size - 108) % 256) ∷ []
 

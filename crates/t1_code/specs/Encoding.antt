@@ -1,9 +1,9 @@
--- StandardEncoding (Type 1 Font Format, Chapter 2; the standard Latin character set's encoding).
+-- StandardEncoding (PostScript Language Reference, Appendix E).
 use Rattle.std.specs.Prelude.{ℕ, map, List, [], ◌∷◌, codes, nat_eq, Option}
 use Rattle.std.specs.Map.{lookup}
 use Rattle.std.specs.Borrow.{Bor}
 
--- Type 1 Font Format, Chapter 2: each code of StandardEncoding that has a name, and the name
+-- PostScript Language Reference, Appendix E (StandardEncoding): each code that has a name, and the name
 unfoldable pub standard_names : List (ℕ × List ℕ)
 standard_names =
     (32, codes "space") ∷

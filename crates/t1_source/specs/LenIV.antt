@@ -20,7 +20,7 @@ plain_line _ = None
 abbrev pub said_lead : Item → Option (Option (List ℕ))
 said_lead i = option_and_then (λ l. after_token (codes "/lenIV") (tokens l)) (plain_line i)
 
--- Type 1 Font Format, lenIV: a number from 0 to 64
+-- profile, lenIV: a number from 0 to 64
 abbrev pub lead_of_token : Option (List ℕ) → Option ℕ
 lead_of_token t = up_to 64 (option_and_then decimal_of t)
 

@@ -41,7 +41,7 @@ abbrev pub holds : List ℕ → List ℕ → Bool
 holds text [] = false
 holds text (c ∷ rest) = starts_with (λ x y. x == y) (c ∷ rest) text || holds text rest
 
--- profile, tail: a line of blanks and `0` alone, of which at least one
+-- profile, tail: a line that, trimmed, has at least one byte, each of them `0`
 abbrev pub is_zeros : List ℕ → Bool
 is_zeros l = nat_le 1 (length (trimmed l)) && list_all (λ c. c == 48) (trimmed l)
 
