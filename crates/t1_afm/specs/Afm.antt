@@ -36,7 +36,7 @@ value_line (key, Some value) = (key ∷ value ∷ []) ∷ []
 abbrev pub value_lines : List (List ℕ × Option (List ℕ)) → List Line
 value_lines values = flat_map value_line values
 
--- the bytes that a value borrows
+-- profile: the bytes that a value borrows
 abbrev pub bytes_in : Option (Bor (List ℕ)) → Option (List ℕ)
 bytes_in value = option_map (λ bytes. bytes.now) value
 
@@ -78,11 +78,11 @@ header_lines header standard font_box =
     ∷ value_lines (values_after_box header)
     ++ (codes "EncodingScheme" ∷ scheme standard ∷ []) ∷ []
 
--- the first glyph of a name
+-- profile: the first glyph of a name
 abbrev pub char_named : List ℕ → List CharMetric → Option CharMetric
 char_named name chars = find (λ c. bytes_eq c.name.now name) chars
 
--- a side of the box of the glyph of this name, where there is that glyph
+-- profile: a side of the box of the glyph of this name, where there is that glyph
 abbrev pub side_of : (BBox → ℤ) → List ℕ → List CharMetric → Option (List ℕ)
 side_of side name chars = option_map (λ c. signed_decimal (side c.bbox)) (char_named name chars)
 
