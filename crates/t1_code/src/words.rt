@@ -1,15 +1,16 @@
 //! The words of a body, read as numbers and commands.
-ghost use Rattle.std.specs.Prelude.{◌≡◌, ◌^◌, IsTrue, length, min};
+ghost use Rattle.std.specs.Prelude.{◌≡◌, ◌≤◌, IsTrue, length, min};
 ghost use Rattle.std.specs.List.{list_all};
 ghost use Rattle.std.specs.Char.{is_ascii_digit};
 ghost use Rattle.t1_frac.specs.Outcome.{Gives, told_at};
 ghost use Rattle.t1_frac.specs.Words.{words};
 ghost use Rattle.t1_frac.specs.declared.fault.Place.TheVariants.{Nowhere};
-ghost use Rattle.t1_code.specs.Words.{digits_of_word, is_number_word, number_of_word, decimal_value, command_of_word, commands_of_words, commands};
+ghost use Rattle.t1_code.specs.Words.{digits_of_word, is_number_word, number_of_word, command_of_word, commands_of_words, commands};
 
 use crate::body::Body;
 use crate::command::Command;
 use std::alloc::Global;
+use std::str;
 use t1_frac::{Code, Refusal, Words, next_word};
 
 /// The most words of a body.
@@ -40,30 +41,15 @@ fn are_digits(bytes: &[u8]) -> bool
     bytes.iter().all(|byte| byte.is_ascii_digit())
 }
 
-/// The number that digits write, or 2^32 where it is more.
-fn magnitude(digits: &[u8]) -> u64
-    requires { IsTrue (list_all is_ascii_digit digits.now) }
-    ensures { result ≡ min (decimal_value digits.now) (2 ^ 32) }
-{
-    let mut value: u64 = 0;
-    for digit in digits {
-        value = (10 * value + u64::from(*digit - 48)).min(1 << 32);
-    }
-    value
-}
-
 /// The number that a number word writes.
-#[tactic(auto, using(crate::proofs::Numbers::digits_are), unfolding(crate::specs::Words::number_of_word))]
 fn number(word: &[u8]) -> Result<i32, Code>
     requires { IsTrue (is_number_word word.now) }
     ensures { result ≡ number_of_word word.now }
 {
-    let magnitude = magnitude(digits(word)) as i64;
-    let number = match word {
-        [b'-', ..] => -magnitude,
-        _ => magnitude,
+    let Ok(text) = str::from_utf8(word) else {
+        unreachable!()
     };
-    match i32::try_from(number) {
+    match text.parse::<i32>() {
         Ok(number) => Ok(number),
         Err(_) => Err(Code::F21),
     }

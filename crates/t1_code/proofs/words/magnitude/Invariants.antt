@@ -1,7 +1,0 @@
-use Rattle.std.proofs.Common.{◌≡◌, ◌^◌, min, take}
-use Rattle.t1_code.specs.Words.{decimal_value}
-use Rattle.t1_code.proofs.words.magnitude.Given as goal
-
--- the value of the digits so far, kept at 2^32
-abbrev pub invariant-loop-digit : goal.invariant-loop-digit
-invariant-loop-digit l = l.value ≡ min (decimal_value (take l.digit-index l.digits)) (2 ^ 32)
