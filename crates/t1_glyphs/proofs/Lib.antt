@@ -1,2 +1,3 @@
+pub mod Compiling
 pub mod Drawing
 pub mod Keeping
