@@ -1,11 +1,11 @@
 -- The words of a charstring: numbers and commands.
-use Rattle.std.specs.Prelude.{map, ℕ, ◌^◌, ℤ, pos, negsuc, neg_ℤ, Bool, ◌&&◌, nat_lt, if◌then◌else◌, List, [], ◌∷◌, drop, length, codes, Option, None, Some, Result, Ok, Err}
+use Rattle.std.specs.Prelude.{map, fold, ℕ, ◌+◌, ◌-◌, ◌*◌, ◌^◌, ℤ, pos, negsuc, neg_ℤ, Bool, ◌&&◌, nat_lt, if◌then◌else◌, List, [], ◌∷◌, drop, length, codes, Option, None, Some, Result, Ok, Err}
 use Rattle.std.specs.Map.{lookup}
 use Rattle.std.specs.Borrow.{Bor}
 use Rattle.std.specs.Str.{bytes_eq}
 use Rattle.std.specs.Char.{is_ascii_digit}
 use Rattle.std.specs.List.{list_all}
-use Rattle.std.specs.Str.Parse.{starts_with_minus, digits_value}
+use Rattle.std.specs.Str.Parse.{starts_with_minus}
 use Rattle.t1_frac.specs.declared.fault.Code.{Code}
 use Rattle.t1_frac.specs.declared.fault.Code.TheVariants.{F20, F21, F22}
 use Rattle.t1_code.specs.declared.command.Command.{Command}
@@ -26,12 +26,28 @@ fits_32_bits (negsuc n) = nat_lt n (2 ^ 31)
 abbrev pub in_32_bits : ℤ → Result ℤ Code
 in_32_bits n = if fits_32_bits n then Ok n else Err F21
 
+-- profile: the value of decimal digits, the highest first
+abbrev pub decimal_value : List ℕ → ℕ
+decimal_value digits = fold (λ value digit. 10 * value + (digit - 48)) 0 digits
+
 -- the number that a number word writes
 abbrev pub number_written : List ℕ → ℤ
-number_written word = if starts_with_minus word then neg_ℤ (pos (digits_value 10 (digits_of_word word))) else pos (digits_value 10 (digits_of_word word))
+number_written word = if starts_with_minus word then neg_ℤ (pos (decimal_value (digits_of_word word))) else pos (decimal_value (digits_of_word word))
 
 unfoldable pub number_of_word : List ℕ → Result ℤ Code
 number_of_word word = in_32_bits (number_written word)
+
+-- profile: a number that fits 64 bits, or 2^63 - 1 for one that doesn't
+abbrev pub fits_64_bits : ℤ → Bool
+fits_64_bits (pos n) = nat_lt n (2 ^ 63)
+fits_64_bits (negsuc n) = nat_lt n (2 ^ 63)
+
+abbrev pub capped : ℤ → ℤ
+capped n = if fits_64_bits n then n else pos (2 ^ 63 - 1)
+
+-- profile: the number of a number word, as far as it fits 64 bits
+unfoldable pub number_word : List ℕ → Option ℤ
+number_word word = if is_number_word word then Some (capped (number_written word)) else None
 
 -- Type 1 Font Format, Chapter 6 (charstring commands): each command and the word that names it
 unfoldable pub operator_words : List (List ℕ × Command)

@@ -1,75 +1,40 @@
-//! The words of a body, read as numbers and commands.
-ghost use Rattle.std.specs.Prelude.{◌≡◌, ◌≤◌, IsTrue, length, min};
-ghost use Rattle.std.specs.List.{list_all};
-ghost use Rattle.std.specs.Char.{is_ascii_digit};
+//! The words of a body, read as commands.
+ghost use Rattle.std.specs.Prelude.{◌≡◌, ◌≤◌, length};
 ghost use Rattle.t1_frac.specs.Outcome.{Gives, told_at};
 ghost use Rattle.t1_frac.specs.Words.{words};
 ghost use Rattle.t1_frac.specs.declared.fault.Place.TheVariants.{Nowhere};
-ghost use Rattle.t1_code.specs.Words.{digits_of_word, is_number_word, number_of_word, command_of_word, commands_of_words, commands};
+ghost use Rattle.t1_code.specs.Words.{number_command, in_32_bits, command_of_word, commands_of_words, commands};
 
 use crate::body::Body;
 use crate::command::Command;
+use crate::number::number_word;
 use std::alloc::Global;
-use std::str;
 use t1_frac::{Code, Refusal, Words, next_word};
 
 /// The most words of a body.
 const MAX_WORDS: usize = 65_535;
 
-/// A word without the minus that it may begin with.
-fn digits(word: &[u8]) -> &[u8]
-    ensures { result.now ≡ digits_of_word word.now }
+/// The command of a number.
+fn number_command(number: i64) -> Result<Command, Code>
+    ensures { result ≡ number_command (in_32_bits number) }
 {
-    match word {
-        [b'-', digits @ ..] => digits,
-        _ => word,
-    }
-}
-
-/// Whether a word is an optional minus and one digit or more.
-#[tactic(auto, unfolding(crate::specs::Words::is_number_word))]
-fn is_number(word: &[u8]) -> bool
-    ensures { result ≡ is_number_word word.now }
-{
-    let digits = digits(word);
-    !digits.is_empty() && are_digits(digits)
-}
-
-fn are_digits(bytes: &[u8]) -> bool
-    ensures { result ≡ list_all is_ascii_digit bytes.now }
-{
-    bytes.iter().all(|byte| byte.is_ascii_digit())
-}
-
-/// The number that a number word writes.
-fn number(word: &[u8]) -> Result<i32, Code>
-    requires { IsTrue (is_number_word word.now) }
-    ensures { result ≡ number_of_word word.now }
-{
-    let Ok(text) = str::from_utf8(word) else {
-        unreachable!()
-    };
-    match text.parse::<i32>() {
-        Ok(number) => Ok(number),
+    match i32::try_from(number) {
+        Ok(number) => Ok(Command::Num(number)),
         Err(_) => Err(Code::F21),
     }
 }
 
 /// What a word says.
-#[tactic(auto, unfolding(crate::specs::Words::command_of_word))]
+#[tactic(auto, using(crate::proofs::Numbers::capped_fits), unfolding(crate::specs::Words::command_of_word, crate::specs::Words::number_of_word, crate::specs::Words::number_word))]
 fn command(word: &[u8]) -> Result<Command, Code>
     ensures { result ≡ command_of_word word.now }
 {
-    if is_number(word) {
-        match number(word) {
-            Ok(number) => Ok(Command::Num(number)),
-            Err(code) => Err(code),
-        }
-    } else {
-        match Command::named(word) {
+    match number_word(word) {
+        Some(number) => number_command(number),
+        None => match Command::named(word) {
             Some(command) => Ok(command),
             None => Err(Code::F20),
-        }
+        },
     }
 }
 

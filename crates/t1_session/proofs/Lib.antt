@@ -3,6 +3,5 @@ pub mod Delivering
 pub mod FileLaws
 pub mod Gathering
 pub mod LineLaws
-pub mod Parsing
 pub mod Rows
 pub mod Sessions

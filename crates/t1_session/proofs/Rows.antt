@@ -4,7 +4,7 @@ use Rattle.std.specs.Prelude.{codes}
 use Rattle.t1_frac.specs.declared.fault.Code.TheVariants.{F20, F23}
 use Rattle.t1_frac.specs.declared.fault.Place.TheVariants.{Nowhere, Glyph}
 use Rattle.t1_frac.specs.Outcome.{fault_at}
-use Rattle.t1_code.specs.Words.{is_number_word}
+use Rattle.t1_code.specs.Words.{is_number_word, number_word}
 use Rattle.t1_source.specs.Lines.{unified}
 use Rattle.t1_source.specs.declared.edit.Edit.TheVariants as edits
 use Rattle.t1_source.specs.declared.edit.Rule.TheVariants.{E7, E8}
@@ -51,7 +51,7 @@ not_yet = refl
 
 -- a word that is no number word stands for a number past every range
 no_number : number_of (codes "-9.5") ≡ pos (2 ^ 63 - 1)
-unfolding number_of is_number_word
+unfolding number_of number_word is_number_word
 no_number = refl
 
 -- answers

@@ -1,8 +1,8 @@
 -- The commands that the lines of a session spell.
-use Rattle.std.specs.Prelude.{ℕ, ℤ, pos, negsuc, ◌-◌, ◌^◌, Bool, true, false, ◌&&◌, ◌||◌, nat_lt, if◌then◌else◌, List, [], ◌∷◌, ◌++◌, Option, Some, None, Result, Ok, Err, ◌≡◌, codes}
+use Rattle.std.specs.Prelude.{unwrap_or, ℕ, ℤ, pos, negsuc, ◌-◌, ◌^◌, Bool, true, false, ◌&&◌, ◌||◌, nat_lt, if◌then◌else◌, List, [], ◌∷◌, ◌++◌, Option, Some, None, Result, Ok, Err, ◌≡◌, codes}
 use Rattle.std.specs.Str.{bytes_eq}
 use Rattle.t1_frac.specs.Words.{words}
-use Rattle.t1_code.specs.Words.{is_number_word, number_written}
+use Rattle.t1_code.specs.Words.{number_word}
 use Rattle.t1_source.specs.declared.edit.Edit.{Edit}
 use Rattle.t1_source.specs.declared.edit.Edit.TheVariants.{ReplaceGlyph, AddGlyph, RemoveGlyph, ReplaceSubr, AddSubr, RemoveSubr, Encode, Unencode, Kern, Unkern}
 use Rattle.t1_source.specs.declared.edit.Rule.TheVariants.{E7, E8}
@@ -15,18 +15,9 @@ pub record Opening : Type 0 where
   pub heading : List ℕ
   pub body : List ℕ
 
--- profile, session commands: a number that fits 64 bits
-abbrev pub fits_64_bits : ℤ → Bool
-fits_64_bits (pos n) = nat_lt n (2 ^ 63)
-fits_64_bits (negsuc n) = nat_lt n (2 ^ 63)
-
--- a number past every range stands for one that doesn't fit
-abbrev pub capped : ℤ → ℤ
-capped n = if fits_64_bits n then n else pos (2 ^ 63 - 1)
-
--- profile, session commands: the number of a word, and one past every range for a word that isn't a number
+-- profile, session commands: the number of a word, and one past every range for a word that isn't a number or doesn't fit
 unfoldable pub number_of : List ℕ → ℤ
-number_of word = if is_number_word word then capped (number_written word) else pos (2 ^ 63 - 1)
+number_of word = unwrap_or (number_word word) (pos (2 ^ 63 - 1))
 
 -- the only word, the only two, the only three
 abbrev pub one_word : List (List ℕ) → Option (List ℕ)
