@@ -1,4 +1,5 @@
-//! Whole fonts: a readable source assembled to its PFB file, and a session that edits and prints one.
+//! Whole fonts: a readable source assembled to its PFB file or measured for its AFM file, and a session that edits and
+//! prints one.
 #![tactic(auto)]
 
 mod answering;
@@ -6,6 +7,8 @@ mod assembly;
 mod dialogue;
 mod error;
 pub mod laws;
+mod measuring;
+mod metrics;
 mod numbers;
 mod print;
 mod private;
@@ -18,4 +21,5 @@ mod tests;
 
 pub use assembly::assemble_source;
 pub use error::ServeError;
+pub use measuring::measure_source;
 pub use serving::serve;

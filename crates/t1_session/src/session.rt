@@ -38,7 +38,7 @@ use t1_code::Counted;
 use t1_frac::{Bytes, Refusal};
 
 /// The PFB file of a source, or the first fault of its bodies, or F23.
-fn file_of(alloc: Global, source: &Source) -> Result<Vec<u8>, Refusal>
+pub(crate) fn file_of(alloc: Global, source: &Source) -> Result<Vec<u8>, Refusal>
     ensures { Gives (λ file. file.items) result (source_file whole_file source.now) }
 {
     let mut out = Counted::new(Vec::new(alloc));

@@ -25,6 +25,10 @@ pub fn command<'a>(alloc: Global) -> Result<Command<'a>, AllocError> {
     let assemble = Command::new(alloc, "assemble")
         .about("Writes the PFB file of a source to standard output")
         .arg(source(alloc))?;
+    let measure = Command::new(alloc, "measure")
+        .about("Writes the AFM file of a source to standard output")
+        .arg(kern(alloc))?
+        .arg(source(alloc))?;
     let session = Command::new(alloc, "session")
         .about("Edits and prints a source by commands from standard input")
         .arg(kern(alloc))?
@@ -33,5 +37,6 @@ pub fn command<'a>(alloc: Global) -> Result<Command<'a>, AllocError> {
         .about("An assembler for Adobe Type 1 fonts")
         .subcommand_required(true)
         .subcommand(assemble)?
+        .subcommand(measure)?
         .subcommand(session)
 }

@@ -13,7 +13,7 @@ use status::{USAGE, ending};
 use std::process::ExitCode;
 use std::{env, io};
 use t1_code::Counted;
-use t1_session::{ServeError, assemble_source, serve};
+use t1_session::{ServeError, assemble_source, measure_source, serve};
 
 /// The bytes of the source that the command line names.
 fn source_of(rt: &HostRuntime, matches: &ArgMatches<'_>) -> Result<Vec<u8>, ServeError> {
@@ -33,6 +33,14 @@ fn assemble(rt: &HostRuntime, matches: &ArgMatches<'_>) -> Result<(), ServeError
     let source = source_of(rt, matches)?;
     let mut out = Counted::new(rt.stdout());
     assemble_source(rt.alloc(), &source, &mut out)
+}
+
+/// Writes the AFM file of a source to standard output.
+fn measure(rt: &HostRuntime, matches: &ArgMatches<'_>) -> Result<(), ServeError> {
+    let source = source_of(rt, matches)?;
+    let pairs = pairs_of(rt, matches)?;
+    let mut out = Counted::new(rt.stdout());
+    measure_source(rt.alloc(), &source, &pairs, &mut out)
 }
 
 /// Serves the commands of standard input on a source.
@@ -75,6 +83,7 @@ fn run(rt: &HostRuntime, words: &[String]) -> ExitCode {
     };
     let result = match matches.subcommand() {
         Some(("assemble", matches)) => assemble(rt, matches),
+        Some(("measure", matches)) => measure(rt, matches),
         Some(("session", matches)) => session(rt, matches),
         _ => Ok(()),
     };

@@ -1,0 +1,34 @@
+//! The AFM file of a source.
+ghost use Rattle.t1_session.specs.Delivery.{Delivers};
+ghost use Rattle.t1_session.specs.Metrics.{metrics_file};
+
+use crate::error::ServeError;
+use crate::metrics::metrics;
+use crate::session::file_of;
+use std::alloc::Global;
+use std::io::Write;
+use t1_afm::write_afm;
+use t1_code::Counted;
+use t1_glyphs::measured;
+use t1_run::Meter;
+use t1_source::{read_pairs, read_source};
+
+/// Reads a source and a kerning file, and writes the AFM file of the font: the whole file at `Ok`, a beginning of it at
+/// `Write`. `Load` tells the first fault: of reading the source, of the pairs, of the bodies, F23, or of a glyph, in
+/// this order; nothing was written then, nor where memory ran out. `Read` is never answered.
+#[tactic(auto, unfolding(crate::specs::Metrics::metrics_file))]
+pub fn measure_source<W: Write>(
+    alloc: Global,
+    source: &[u8],
+    pairs: &[u8],
+    out: &mut Counted<W>,
+) -> Result<(), ServeError>
+    ensures { Delivers W.contents out.old out.new (metrics_file source.now pairs.now) result }
+{
+    let source = read_source(alloc, source)?;
+    let pairs = read_pairs(alloc, pairs)?;
+    let _file = file_of(alloc, &source)?;
+    let glyphs = measured(alloc, source.items(), &mut Meter::new())?;
+    let metrics = metrics(alloc, &source, &pairs, &glyphs)?;
+    Ok(write_afm(&metrics, out)?)
+}
