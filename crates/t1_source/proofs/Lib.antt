@@ -11,6 +11,7 @@ pub mod KernLaws
 pub mod KeyLaws
 pub mod LastLaws
 pub mod LineLaws
+pub mod MarkLaws
 pub mod NumberLaws
 pub mod PairLaws
 pub mod PairsKeptLaws

@@ -1,10 +1,10 @@
 //! The bodies of entries: words, comments, closing text.
 
-ghost use Rattle.std.specs.Prelude.{◌≡◌, ◌≤◌, ◌==◌, ◌∷◌, length, IfOk, IfSome, IsTrue};
-ghost use Rattle.std.specs.List.{before_first, after_first, list_any, position_or_len};
+ghost use Rattle.std.specs.Prelude.{◌≡◌, ◌≤◌, ◌==◌, ◌∷◌, length, take, true, false, IfOk, IfSome, IsTrue, MatchOption};
+ghost use Rattle.std.specs.List.{before_first, after_first, list_any, position_or_len, prefix_len};
 ghost use Rattle.t1_source.specs.Lines.{trimmed};
 ghost use Rattle.t1_source.specs.Tokens.{uncommented};
-ghost use Rattle.t1_source.specs.Entries.{is_brace, closes, has_brace, body_of, opened_body};
+ghost use Rattle.t1_source.specs.Entries.{is_brace, is_safe, closes, has_brace, body_of, opened_body};
 
 use crate::lines::{Line, trimmed};
 use std::alloc::{AllocError, Global};
@@ -62,6 +62,46 @@ fn has_any_brace(line: &[u8]) -> bool
     line.iter().any(|byte| is_brace(*byte))
 }
 
+/// Whether a byte is no brace and begins no comment.
+fn is_safe(byte: u8) -> bool
+    ensures { result ≡ is_safe byte }
+{
+    !is_brace(byte) && byte != b'%'
+}
+
+/// Where the first brace of a line stands or its comment begins, or its length.
+fn mark_start(line: &[u8]) -> usize
+    ensures within { result ≤ length line.now }
+    ensures value { result ≡ prefix_len is_safe line.now }
+{
+    line.iter().take_while(|byte| is_safe(**byte)).count()
+}
+
+/// Whether some bytes begin with a brace.
+fn begins_braced(bytes: &[u8]) -> bool
+    ensures { result ≡ list_any is_brace (take 1 bytes.now) }
+{
+    match bytes {
+        [byte, ..] => is_brace(*byte),
+        [] => false,
+    }
+}
+
+/// A line without its comment, where it has no brace outside it.
+#[tactic(auto, using(crate::proofs::MarkLaws::braced_at_mark, crate::proofs::MarkLaws::text_before_mark))]
+fn unbraced(line: &[u8]) -> Option<&[u8]>
+    ensures { MatchOption
+        result
+        (has_brace line.now ≡ true)
+        (λ text. (has_brace line.now ≡ false) × (text.now ≡ uncommented line.now)) }
+{
+    let (text, rest) = line.split_at(mark_start(line));
+    if begins_braced(rest) {
+        return None;
+    }
+    Some(text)
+}
+
 /// The part of a line before its first brace.
 fn before_brace(line: &[u8]) -> &[u8]
     ensures { result.now ≡ before_first is_brace line.now }
@@ -93,8 +133,8 @@ pub fn body_of(alloc: Global, first: &[u8], later: &[Line]) -> Result<Option<Bod
     let mut words = Words::new(alloc);
     let mut line = first;
     let mut more = 0;
-    while !has_brace(line) {
-        words.push_line(uncommented(line))?;
+    while let Some(text) = unbraced(line) {
+        words.push_line(text)?;
         if more == later.len() {
             return Ok(None);
         }

@@ -3,9 +3,9 @@ use Rattle.t1_source.specs.Entries.{body_of, with_front}
 use Rattle.t1_source.proofs.body.body_of.Given as goal
 
 -- the body is the words so far, and the body of the lines that are left
-abbrev pub invariant-loop-words : goal.invariant-loop-words
-invariant-loop-words l =
+abbrev pub invariant-loop-text : goal.invariant-loop-text
+invariant-loop-text l =
     (with_front l.words l.more (body_of (l.line ∷ drop l.more l.later)) ≡ body_of (l.first ∷ l.later)) × (l.more ≤ length l.later)
 
-abbrev pub decreases-loop-words : goal.decreases-loop-words
-decreases-loop-words l = length l.later - l.more
+abbrev pub decreases-loop-text : goal.decreases-loop-text
+decreases-loop-text l = length l.later - l.more
