@@ -3,6 +3,7 @@ use Rattle.std.proofs.Common.{◌≡◌, ℕ, zero, suc, ◌-◌, List, refl, sy
 use Rattle.std.specs.Prelude.{Result, Ok, Err}
 use Rattle.t1_frac.specs.Outcome.{◌>>=◌, Refuses, refusal, told_at}
 use Rattle.t1_frac.specs.declared.fault.Code.{Code}
+use Rattle.t1_frac.specs.declared.fault.Fault.{Fault as TheFault}
 use Rattle.t1_frac.specs.declared.fault.Place.{Place}
 use Rattle.t1_frac.specs.declared.fault.Place.TheVariants.{Nowhere}
 use Rattle.t1_frac.specs.declared.fault.Refusal.{Refusal}
@@ -29,6 +30,11 @@ refuses-next place refused (Ok y) x next e h =
     let same : y ≡ x = cc in
     subst (λ z. Refuses refused (told_at place (next z))) (sym same) h
 refuses-next place refused (Err code) x next e h = absurd (cc)
+
+pub refuses-then : {A B : Type 0} (refused : Refusal) (r : Result A TheFault) (next : A → Result B TheFault) → Refuses refused r → Refuses refused (r >>= next)
+refuses-then Memory r next h = tt
+refuses-then (Fault fault) (Ok x) next h = absurd (cc)
+refuses-then (Fault fault) (Err e) next h = cc
 
 -- ---- a glyph's outline, by what is kept of its run
 

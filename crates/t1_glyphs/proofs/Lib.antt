@@ -1,3 +1,5 @@
 pub mod Compiling
 pub mod Drawing
+pub mod Gathering
 pub mod Keeping
+pub mod Measuring

@@ -1,3 +1,5 @@
 pub mod Bodies
+pub mod Glyphs
 pub mod Outlines
 pub mod Runs
+pub mod Shapes

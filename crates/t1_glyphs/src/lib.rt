@@ -2,9 +2,13 @@
 #![tactic(auto)]
 
 mod bodies;
+mod glyphs;
 mod outline;
 mod runs;
+mod shapes;
 
 pub use bodies::{compiled, compiled_glyph, compiled_subr};
+pub use glyphs::{Glyphs, measured};
 pub use outline::{Outline, outline_of};
 pub use runs::{Runs, runs_of};
+pub use shapes::{Shape, shapes_of};

@@ -1,0 +1,86 @@
+//! The glyphs of a source.
+ghost use Rattle.std.specs.Prelude.{◌≡◌, length, map, option_map, IfOk, OnOk};
+ghost use Rattle.std.specs.Option.{option_to_list};
+ghost use Rattle.t1_frac.specs.Outcome.{Gives};
+ghost use Rattle.t1_glyphs.specs.Glyphs.{glyph_names, name_in};
+ghost use Rattle.t1_glyphs.specs.Runs.{counted};
+ghost use Rattle.t1_glyphs.specs.Shapes.{measured};
+
+use crate::bodies::compiled;
+use crate::runs::runs_of;
+use crate::shapes::{Shape, font_box, shapes_of};
+use std::alloc::{AllocError, Global};
+use std::marker::Model;
+use t1_afm::BBox;
+use t1_frac::Refusal;
+use t1_run::Meter;
+use t1_source::Item;
+
+/// What is told of the glyphs of a source, in the order of their entries, and the box around all that draw.
+#[derive(Debug, Drop)]
+pub struct Glyphs {
+    shapes: Vec<Shape>,
+    font_box: BBox,
+}
+
+impl Model for Glyphs {
+    ghost use Rattle.t1_glyphs.specs.Shapes.{Measured};
+
+    ghost Value = { Measured };
+
+    ghost view = { λ g. record { shapes = g.shapes.items; font_box = g.font_box } };
+}
+
+impl Glyphs {
+    /// What is told of the glyphs, in the order of their entries.
+    pub fn shapes(&self) -> &[Shape]
+        ensures { result.now ≡ self.now.shapes }
+    {
+        self.shapes.as_slice()
+    }
+
+    /// The box around all glyphs that draw; 0 0 0 0 where none does.
+    pub fn font_box(&self) -> BBox
+        ensures { result ≡ self.now.font_box }
+    {
+        self.font_box
+    }
+}
+
+/// The name of an item that is a glyph.
+fn name_of(item: &Item) -> Option<&[u8]>
+    ensures { option_to_list (option_map (λ name. name.now) result) ≡ name_in item.now }
+{
+    match item {
+        Item::Glyph(name, _, _) => Some(name.as_slice()),
+        _ => None,
+    }
+}
+
+/// The names of the glyphs, in the order of their entries.
+fn glyph_names<'a>(alloc: Global, items: &'a [Item]) -> Result<Vec<&'a [u8]>, AllocError>
+    ensures { IfOk result (λ names. map (λ name. name.now) names.items ≡ glyph_names items.now) }
+{
+    let mut names = Vec::new(alloc);
+    for item in items {
+        let Some(name) = name_of(item) else {
+            continue;
+        };
+        names.push(name)?;
+    }
+    Ok(names)
+}
+
+/// Compiles the bodies of a source, runs each glyph once, and measures its outline: the glyphs and the font's box, or
+/// the first fault, of a body at its entry, else of an outline at its glyph. The meter counts one for each glyph.
+pub fn measured(alloc: Global, items: &[Item], meter: &mut Meter) -> Result<Glyphs, Refusal>
+    ensures told { Gives (λ glyphs. glyphs) result (measured items.now) }
+    ensures counted { OnOk result (meter.new ≡ counted meter.old (length (glyph_names items.now))) }
+{
+    let bodies = compiled(alloc, items)?;
+    let names = glyph_names(alloc, items)?;
+    let runs = runs_of(alloc, &bodies, &names, meter)?;
+    let shapes = shapes_of(alloc, &runs, &names)?;
+    let font_box = font_box(&shapes);
+    Ok(Glyphs { shapes, font_box })
+}
