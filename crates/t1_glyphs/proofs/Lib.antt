@@ -3,3 +3,4 @@ pub mod Drawing
 pub mod Gathering
 pub mod Keeping
 pub mod Measuring
+pub mod Rows

@@ -33,7 +33,6 @@ use Rattle.t1_glyphs.specs.Bodies.{bodies, bodies_check, words_check, glyph_amon
 use Rattle.t1_glyphs.specs.Glyphs.{Glyph as Drawn, glyphs, glyphs_by, glyph_names}
 use Rattle.t1_glyphs.specs.Runs.{Kept, kept_of, own_among}
 use Rattle.t1_glyphs.specs.Shapes.{shape_of, shapes_at, measured, AreWithin, Measured}
-use Rattle.t1_glyphs.proofs.Drawing.{refuses-then}
 use Rattle.t1_glyphs.proofs.Keeping.{bytes_self}
 
 -- ---- the glyphs of a source are there
@@ -161,9 +160,9 @@ shapes-are runs items names kept =
 abbrev whole : List Drawn → Result Measured Fault
 whole gs = Ok (record { shapes = map shape_of gs; font_box = font_box (map (λ g. g.outline) gs) })
 
-measured-is : (items : List Item) (u : Unit {0}) → bodies_check items ≡ Ok u → measured items ≡ (glyphs (bodies items) (glyph_names items) >>= whole)
+measured-is : (items : List Item) → measured items ≡ (glyphs (bodies items) (glyph_names items) >>= whole)
 unfolding measured
-measured-is items u e = rw e refl
+measured-is items = refl
 
 boxes-are : (gs : List Drawn) → map (λ s. s.bbox) (map shape_of gs) ≡ map drawn_box (map (λ g. g.outline) gs)
 boxes-are [] = refl
@@ -185,18 +184,14 @@ fault-of-all refusals.Memory r h = tt
 fault-of-all (refusals.Fault fault) (Ok gs) h = absurd (cc)
 fault-of-all (refusals.Fault fault) (Err e) h = cc
 
-pub all-told : (items : List Item) (runs : List Kept) (u : Unit {0}) (shapes : List Shape) (box : BBox) → bodies_check items ≡ Ok u → KeepsOwn runs items
+pub all-told : (items : List Item) (runs : List Kept) (shapes : List Shape) (box : BBox) → KeepsOwn runs items
     → shapes_at runs (glyph_names items) ≡ Ok shapes → box ≡ united (map (λ s. s.bbox) shapes) → measured items ≡ Ok (record { shapes = shapes; font_box = box })
-all-told items runs u shapes box e kept told boxes =
-    measured-is items u e
+all-told items runs shapes box kept told boxes =
+    measured-is items
     ∙ told-all (glyphs (bodies items) (glyph_names items)) shapes box (sym (shapes-are runs items (glyph_names items) kept) ∙ told) boxes
 
-pub all-refused : (items : List Item) (runs : List Kept) (u : Unit {0}) (refused : Refusal) → bodies_check items ≡ Ok u → KeepsOwn runs items
+pub all-refused : (items : List Item) (runs : List Kept) (refused : Refusal) → KeepsOwn runs items
     → Refuses refused (shapes_at runs (glyph_names items)) → Refuses refused (measured items)
-all-refused items runs u refused e kept h =
-    subst (Refuses refused) (sym (measured-is items u e))
+all-refused items runs refused kept h =
+    subst (Refuses refused) (sym (measured-is items))
     (fault-of-all refused (glyphs (bodies items) (glyph_names items)) (subst (Refuses refused) (shapes-are runs items (glyph_names items) kept) h))
-
-pub bodies-refused : (items : List Item) (refused : Refusal) → Refuses refused (bodies_check items) → Refuses refused (measured items)
-unfolding measured
-bodies-refused items refused h = refuses-then refused (bodies_check items) (λ _. glyphs (bodies items) (glyph_names items) >>= whole) h

@@ -9,7 +9,7 @@ use Rattle.t1_run.specs.Within.{Stays}
 use Rattle.t1_afm.specs.declared.bbox.BBox.{BBox}
 use Rattle.t1_afm.specs.Box.{drawn_box, font_box}
 use Rattle.t1_glyphs.specs.declared.shapes.Shape.{Shape}
-use Rattle.t1_glyphs.specs.Bodies.{bodies, bodies_check}
+use Rattle.t1_glyphs.specs.Bodies.{bodies}
 use Rattle.t1_glyphs.specs.Glyphs.{Glyph, glyph_of, glyphs_by, glyphs, glyph_names}
 use Rattle.t1_glyphs.specs.Runs.{Kept, kept_of}
 
@@ -42,9 +42,8 @@ pub record Measured : Type 0 where
   pub shapes : List Shape
   pub font_box : BBox
 
--- profile, order of faults: the bodies, then the glyphs
+-- the glyphs of a private part whose bodies have no fault, or their first fault
 unfoldable pub measured : List Item → Result Measured Fault
 measured items =
-    bodies_check items >>= (λ _.
     glyphs (bodies items) (glyph_names items) >>= (λ glyphs.
-    Ok (record { shapes = map shape_of glyphs; font_box = font_box (map (λ g. g.outline) glyphs) })))
+    Ok (record { shapes = map shape_of glyphs; font_box = font_box (map (λ g. g.outline) glyphs) }))

@@ -1,19 +1,19 @@
 //! The glyphs of a source.
-ghost use Rattle.std.specs.Prelude.{◌≡◌, length, map, option_map, IfOk, OnOk};
+ghost use Rattle.std.specs.Prelude.{◌≡◌, length, map, option_map, Ok, IfOk, OnOk};
 ghost use Rattle.std.specs.Option.{option_to_list};
 ghost use Rattle.t1_frac.specs.Outcome.{Gives};
+ghost use Rattle.t1_glyphs.specs.Bodies.{bodies as bodies_of, bodies_check, maps_of, SameMaps};
 ghost use Rattle.t1_glyphs.specs.Glyphs.{glyph_names, name_in};
 ghost use Rattle.t1_glyphs.specs.Runs.{counted};
 ghost use Rattle.t1_glyphs.specs.Shapes.{measured};
 
-use crate::bodies::compiled;
 use crate::runs::runs_of;
 use crate::shapes::{Shape, font_box, shapes_of};
 use std::alloc::{AllocError, Global};
 use std::marker::Model;
 use t1_afm::BBox;
 use t1_frac::Refusal;
-use t1_run::Meter;
+use t1_run::{Meter, Plain};
 use t1_source::Item;
 
 /// What is told of the glyphs of a source, in the order of their entries, and the box around all that draw.
@@ -71,15 +71,21 @@ fn glyph_names<'a>(alloc: Global, items: &'a [Item]) -> Result<Vec<&'a [u8]>, Al
     Ok(names)
 }
 
-/// Compiles the bodies of a source, runs each glyph once, and measures its outline: the glyphs and the font's box, or
-/// the first fault, of a body at its entry, else of an outline at its glyph. The meter counts one for each glyph.
-pub fn measured(alloc: Global, items: &[Item], meter: &mut Meter) -> Result<Glyphs, Refusal>
+/// Runs each glyph of a source once and measures its outline: the glyphs and the font's box, or the first fault, at its
+/// glyph. The bodies are those of the entries, which have no fault. The meter counts one for each glyph.
+pub fn measured(
+    alloc: Global,
+    items: &[Item],
+    bodies: &Plain,
+    meter: &mut Meter,
+) -> Result<Glyphs, Refusal>
+    requires checked { bodies_check items.now ≡ Ok tt }
+    requires bodies { SameMaps (maps_of bodies.now) (bodies_of items.now) }
     ensures told { Gives (λ glyphs. glyphs) result (measured items.now) }
     ensures counted { OnOk result (meter.new ≡ counted meter.old (length (glyph_names items.now))) }
 {
-    let bodies = compiled(alloc, items)?;
     let names = glyph_names(alloc, items)?;
-    let runs = runs_of(alloc, &bodies, &names, meter)?;
+    let runs = runs_of(alloc, bodies, &names, meter)?;
     let shapes = shapes_of(alloc, &runs, &names)?;
     let font_box = font_box(&shapes);
     Ok(Glyphs { shapes, font_box })

@@ -1,4 +1,7 @@
-//! The glyphs of a source: their bodies compiled, each run once, their outlines and their boxes.
+//! The glyphs of a source: their bodies compiled, each glyph run once, the outlines of composites, the boxes, and the
+//! first fault.
+//!
+//! [`compiled`] gives the bodies of a private part, or the first fault of one. [`measured`] runs and measures its glyphs.
 #![tactic(auto)]
 
 mod bodies;

@@ -5,46 +5,41 @@ use Rattle.t1_afm.specs.Box.{united}
 use Rattle.t1_glyphs.specs.Bodies.{maps_of}
 use Rattle.t1_glyphs.specs.Runs.{own_among}
 use Rattle.t1_glyphs.specs.Shapes.{shapes_at}
-use Rattle.t1_glyphs.proofs.Measuring.{names-there, keeps-own, are-within, all-told, all-refused, bodies-refused}
+use Rattle.t1_glyphs.proofs.Measuring.{names-there, keeps-own, are-within, all-told, all-refused}
 use Rattle.t1_glyphs.proofs.glyphs.measured.Goals as goal
-
-pub returns-in_err-bodies-clause-told : goal.returns-in_err-bodies-clause-told
-returns-in_err-bodies-clause-told c =
-    let p = err_from_is_err_and c.from_residual.result c.from_residual.ensures.1 in
-    rw (p.1, p.2) (bodies-refused c.args.items.now c.in_err-bodies.field-0.0 c.in_err-bodies.ensures.checked)
 
 pub runs_of-requires : goal.runs_of-requires
 runs_of-requires c =
-    names-there (maps_of c.in_ok-bodies.bodies) c.args.items.now c.deref.result.now tt c.in_ok-bodies.ensures.checked c.in_ok-bodies.ensures.bodies
+    names-there (maps_of c.args.bodies.now) c.args.items.now c.deref.result.now tt c.requires.checked c.requires.bodies
     (ap (map (λ name. name.now)) c.deref.ensures.value ∙ c.in_ok-names.ensures)
 
 pub shapes_of-requires : goal.shapes_of-requires
 shapes_of-requires c =
-    let m = maps_of c.in_ok-bodies.bodies in
+    let m = maps_of c.args.bodies.now in
     let items = c.args.items.now in
     let names = ap (map (λ name. name.now)) c.deref.ensures.value ∙ c.in_ok-names.ensures in
-    are-within c.in_ok-runs.runs items (keeps-own m items c.in_ok-runs.runs c.in_ok-bodies.ensures.bodies (λ g. c.in_ok-runs.ensures.kept g ∙ ap (λ l. own_among m l g) names))
+    are-within c.in_ok-runs.runs items (keeps-own m items c.in_ok-runs.runs c.requires.bodies (λ g. c.in_ok-runs.ensures.kept g ∙ ap (λ l. own_among m l g) names))
 
 pub returns-in_err-shapes-clause-told : goal.returns-in_err-shapes-clause-told
 returns-in_err-shapes-clause-told c =
-    let m = maps_of c.in_ok-bodies.bodies in
+    let m = maps_of c.args.bodies.now in
     let items = c.args.items.now in
     let runs = c.in_ok-runs.runs in
     let refused = c.in_err-shapes.field-0.0 in
     let names = ap (map (λ name. name.now)) c.deref.ensures.value ∙ c.in_ok-names.ensures in
     let names_again = ap (map (λ name. name.now)) c.deref-2.ensures.value ∙ c.in_ok-names.ensures in
-    let kept = keeps-own m items runs c.in_ok-bodies.ensures.bodies (λ g. c.in_ok-runs.ensures.kept g ∙ ap (λ l. own_among m l g) names) in
+    let kept = keeps-own m items runs c.requires.bodies (λ g. c.in_ok-runs.ensures.kept g ∙ ap (λ l. own_among m l g) names) in
     let p = err_from_is_err_and c.from_residual-in_err-shapes.result c.from_residual-in_err-shapes.ensures.1 in
-    rw (p.1, p.2) (all-refused items runs tt refused c.in_ok-bodies.ensures.checked kept (subst (λ l. Refuses refused (shapes_at runs l)) names_again c.in_err-shapes.ensures))
+    rw (p.1, p.2) (all-refused items runs refused kept (subst (λ l. Refuses refused (shapes_at runs l)) names_again c.in_err-shapes.ensures))
 
 pub returns-clause-told : goal.returns-clause-told
 returns-clause-told c =
-    let m = maps_of c.in_ok-bodies.bodies in
+    let m = maps_of c.args.bodies.now in
     let items = c.args.items.now in
     let runs = c.in_ok-runs.runs in
     let names = ap (map (λ name. name.now)) c.deref.ensures.value ∙ c.in_ok-names.ensures in
     let names_again = ap (map (λ name. name.now)) c.deref-2.ensures.value ∙ c.in_ok-names.ensures in
-    let kept = keeps-own m items runs c.in_ok-bodies.ensures.bodies (λ g. c.in_ok-runs.ensures.kept g ∙ ap (λ l. own_among m l g) names) in
-    all-told items runs tt c.in_ok-shapes.shapes.items c.font_box-font_box.result c.in_ok-bodies.ensures.checked kept
+    let kept = keeps-own m items runs c.requires.bodies (λ g. c.in_ok-runs.ensures.kept g ∙ ap (λ l. own_among m l g) names) in
+    all-told items runs c.in_ok-shapes.shapes.items c.font_box-font_box.result kept
     (sym (ap (shapes_at runs) names_again) ∙ c.in_ok-shapes.ensures)
     (c.font_box-font_box.ensures ∙ ap (λ l. united (map (λ s. s.bbox) l)) c.deref-3.ensures.value)
