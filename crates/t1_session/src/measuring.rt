@@ -9,7 +9,7 @@ use std::alloc::Global;
 use std::io::Write;
 use t1_afm::write_afm;
 use t1_code::Counted;
-use t1_glyphs::measured;
+use t1_glyphs::{compiled, measured};
 use t1_run::Meter;
 use t1_source::{read_pairs, read_source};
 
@@ -27,8 +27,9 @@ pub fn measure_source<W: Write>(
 {
     let source = read_source(alloc, source)?;
     let pairs = read_pairs(alloc, pairs)?;
+    let bodies = compiled(alloc, source.items())?;
     let _file = file_of(alloc, &source)?;
-    let glyphs = measured(alloc, source.items(), &mut Meter::new())?;
+    let glyphs = measured(alloc, source.items(), &bodies, &mut Meter::new())?;
     let metrics = metrics(alloc, &source, &pairs, &glyphs)?;
     Ok(write_afm(&metrics, out)?)
 }
