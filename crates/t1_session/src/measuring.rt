@@ -1,6 +1,8 @@
 //! The AFM file of a source.
+ghost use Rattle.std.specs.Prelude.{Ok};
+ghost use Rattle.t1_afm.specs.Afm.{afm};
 ghost use Rattle.t1_session.specs.Delivery.{Delivers};
-ghost use Rattle.t1_session.specs.Metrics.{metrics_file};
+ghost use Rattle.t1_session.specs.Metrics.{metrics_file, sheet};
 
 use crate::error::ServeError;
 use crate::metrics::metrics;
@@ -9,9 +11,23 @@ use std::alloc::Global;
 use std::io::Write;
 use t1_afm::write_afm;
 use t1_code::Counted;
-use t1_glyphs::{compiled, measured};
+use t1_glyphs::{Glyphs, compiled, measured};
 use t1_run::Meter;
-use t1_source::{read_pairs, read_source};
+use t1_source::{Pairs, Source, read_pairs, read_source};
+
+/// Writes the AFM file of a source, its pairs and its glyphs.
+fn write_metrics<W: Write>(
+    alloc: Global,
+    source: &Source,
+    pairs: &Pairs,
+    glyphs: &Glyphs,
+    out: &mut Counted<W>,
+) -> Result<(), ServeError>
+    ensures { Delivers W.contents out.old out.new (Ok (afm (sheet source.now pairs.now glyphs.now))) result }
+{
+    let metrics = metrics(alloc, source, pairs, glyphs)?;
+    Ok(write_afm(&metrics, out)?)
+}
 
 /// Reads a source and a kerning file, and writes the AFM file of the font: the whole file at `Ok`, a beginning of it at
 /// `Write`. `Load` tells the first fault: of reading the source, of the pairs, of the bodies, F23, or of a glyph, in
@@ -30,6 +46,5 @@ pub fn measure_source<W: Write>(
     let bodies = compiled(alloc, source.items())?;
     let _file = file_of(alloc, &source)?;
     let glyphs = measured(alloc, source.items(), &bodies, &mut Meter::new())?;
-    let metrics = metrics(alloc, &source, &pairs, &glyphs)?;
-    Ok(write_afm(&metrics, out)?)
+    write_metrics(alloc, &source, &pairs, &glyphs, out)
 }
