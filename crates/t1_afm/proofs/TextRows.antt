@@ -1,7 +1,6 @@
 -- Rows of text that the definitions compute.
 use Rattle.std.proofs.Common.{◌≡◌, ℕ, List, [], ◌∷◌, ◌++◌, refl, ℤ, pos, negsuc, true, false, Option, Some, None}
 use Rattle.std.specs.Prelude.{codes}
-use Rattle.std.specs.Borrow.{Bor}
 use Rattle.std.specs.Fmt.{digits}
 use Rattle.t1_afm.specs.declared.bbox.BBox.{BBox}
 use Rattle.t1_afm.specs.declared.metrics.Header.{Header}
@@ -9,14 +8,11 @@ use Rattle.t1_afm.specs.declared.metrics.CharMetric.{CharMetric}
 use Rattle.t1_afm.specs.declared.metrics.CompositeMetric.{CompositeMetric}
 use Rattle.t1_afm.specs.Afm.{lines_of, lines_text, line_text, char_line}
 
-abbrev pub text : List ℕ → Bor (List ℕ)
-text bytes = record { ref_ptr = (0, 0); now = bytes }
-
 abbrev pub bbox : ℤ → ℤ → ℤ → ℤ → BBox
 bbox left bottom right top = record { left = left; bottom = bottom; right = right; top = top }
 
 abbrev pub glyph : Option ℕ → ℕ → List ℕ → BBox → CharMetric
-glyph code wx name b = record { code = code; wx = pos wx; wy = pos 0; name = text name; bbox = b }
+glyph code wx name b = record { code = code; wx = pos wx; wy = pos 0; name = name; bbox = b }
 
 abbrev pub no_values : Header
 no_values = record {
@@ -44,15 +40,15 @@ small_font = refl
 
 abbrev pub demo_values : Header
 demo_values = record {
-  font_name = Some (text (codes "Demo"));
-  full_name = Some (text (codes "Demo Roman"));
+  font_name = Some ((codes "Demo"));
+  full_name = Some ((codes "Demo Roman"));
   family_name = None;
-  weight = Some (text (codes "Medium"));
-  italic_angle = Some (text (codes "0"));
-  is_fixed_pitch = Some (text (codes "false"));
+  weight = Some ((codes "Medium"));
+  italic_angle = Some ((codes "0"));
+  is_fixed_pitch = Some ((codes "false"));
   underline_position = None;
   underline_thickness = None;
-  version = Some (text (codes "001.000"));
+  version = Some ((codes "001.000"));
   notice = None;
 }
 
@@ -66,7 +62,7 @@ demo_glyphs =
     ∷ glyph None 600 (codes "Aacute") (bbox (pos 10) (pos 0) (pos 310) (pos 892)) ∷ []
 
 abbrev pub demo_composites : List CompositeMetric
-demo_composites = record { name = text (codes "Aacute"); base = text (codes "A"); accent = text (codes "acute"); dx = pos 87; dy = pos 214 } ∷ []
+demo_composites = record { name = (codes "Aacute"); base = (codes "A"); accent = (codes "acute"); dx = pos 87; dy = pos 214 } ∷ []
 
 -- the demo font
 demo_font : lines_text (lines_of demo_values true (bbox (pos 10) (pos 0) (pos 310) (pos 892)) demo_glyphs [] demo_composites)
@@ -79,7 +75,7 @@ unfolding digits
 demo_font = refl
 
 -- a width along y too
-both_widths : line_text (char_line (record { code = Some 32; wx = pos 500; wy = pos 20; name = text (codes "space"); bbox = empty_box }))
+both_widths : line_text (char_line (record { code = Some 32; wx = pos 500; wy = pos 20; name = (codes "space"); bbox = empty_box }))
     ≡ codes "C 32 ; W 500 20 ; N space ; B 0 0 0 0 ;\n"
 unfolding digits
 both_widths = refl
@@ -87,7 +83,7 @@ both_widths = refl
 -- one pair, and the heights of H and p in a font of another encoding
 pair_font : lines_text (lines_of no_values false (bbox (pos 0) (pos 0) (pos 5) (pos 7))
     (glyph (Some 1) 2 (codes "H") (bbox (pos 0) (pos 0) (pos 5) (pos 7)) ∷ glyph None 3 (codes "p") (bbox (pos 0) (negsuc 1) (pos 1) (pos 1)) ∷ [])
-    (record { left = text (codes "H"); right = text (codes "p"); value = negsuc 91 } ∷ []) [])
+    (record { left = (codes "H"); right = (codes "p"); value = negsuc 91 } ∷ []) [])
     ≡ codes "StartFontMetrics 4.1\nFontBBox 0 0 5 7\nEncodingScheme FontSpecific\nCapHeight 7\nDescender -2\n"
     ++ codes "StartCharMetrics 2\nC 1 ; WX 2 ; N H ; B 0 0 5 7 ;\nC -1 ; WX 3 ; N p ; B 0 -2 1 1 ;\nEndCharMetrics\n"
     ++ codes "StartKernData\nStartKernPairs 1\nKPX H p -92\nEndKernPairs\nEndKernData\nEndFontMetrics\n"

@@ -3,13 +3,21 @@ use Rattle.std.specs.Prelude.{ℕ, zero, Bool, true, false, List, [], ◌∷◌,
 use Rattle.std.specs.Fmt.{signed_decimal}
 use Rattle.std.specs.List.{find}
 use Rattle.std.specs.Str.{bytes_eq}
-use Rattle.std.specs.Borrow.{Bor}
 use Rattle.t1_afm.specs.declared.bbox.BBox.{BBox}
 use Rattle.t1_afm.specs.declared.metrics.Header.{Header}
-use Rattle.t1_afm.specs.declared.metrics.Metrics.{Metrics}
 use Rattle.t1_afm.specs.declared.metrics.CharMetric.{CharMetric}
 use Rattle.t1_afm.specs.declared.metrics.KernPair.{KernPair}
 use Rattle.t1_afm.specs.declared.metrics.CompositeMetric.{CompositeMetric}
+
+-- AFM 4.1: what a file tells of a font: the values about the whole font, whether the encoding is StandardEncoding, the
+-- font's box, and the glyphs, pairs and composites in the order of the file
+pub record Sheet : Type 0 where
+  pub header : Header
+  pub standard : Bool
+  pub font_box : BBox
+  pub chars : List CharMetric
+  pub pairs : List KernPair
+  pub composites : List CompositeMetric
 
 -- AFM 4.1, file format: a line is a key and its values; a value that is a string, blanks included, counts as one word here
 abbrev pub Line : Type 0
@@ -36,28 +44,24 @@ value_line (key, Some value) = (key ∷ value ∷ []) ∷ []
 abbrev pub value_lines : List (List ℕ × Option (List ℕ)) → List Line
 value_lines values = flat_map value_line values
 
--- profile: the bytes that a value borrows
-abbrev pub bytes_in : Option (Bor (List ℕ)) → Option (List ℕ)
-bytes_in value = option_map (λ bytes. bytes.now) value
-
 -- AFM 4.1, Global Font Information: the values that stand before the font's box
 abbrev pub values_before_box : Header → List (List ℕ × Option (List ℕ))
 values_before_box h =
-    (codes "FontName", bytes_in h.font_name)
-    ∷ (codes "FullName", bytes_in h.full_name)
-    ∷ (codes "FamilyName", bytes_in h.family_name)
-    ∷ (codes "Weight", bytes_in h.weight)
-    ∷ (codes "ItalicAngle", bytes_in h.italic_angle)
-    ∷ (codes "IsFixedPitch", bytes_in h.is_fixed_pitch)
+    (codes "FontName", h.font_name)
+    ∷ (codes "FullName", h.full_name)
+    ∷ (codes "FamilyName", h.family_name)
+    ∷ (codes "Weight", h.weight)
+    ∷ (codes "ItalicAngle", h.italic_angle)
+    ∷ (codes "IsFixedPitch", h.is_fixed_pitch)
     ∷ []
 
 -- AFM 4.1, Global Font Information: the values that stand behind the font's box
 abbrev pub values_after_box : Header → List (List ℕ × Option (List ℕ))
 values_after_box h =
-    (codes "UnderlinePosition", bytes_in h.underline_position)
-    ∷ (codes "UnderlineThickness", bytes_in h.underline_thickness)
-    ∷ (codes "Version", bytes_in h.version)
-    ∷ (codes "Notice", bytes_in h.notice)
+    (codes "UnderlinePosition", h.underline_position)
+    ∷ (codes "UnderlineThickness", h.underline_thickness)
+    ∷ (codes "Version", h.version)
+    ∷ (codes "Notice", h.notice)
     ∷ []
 
 -- AFM 4.1, FontBBox and B: the four sides of a box, left, bottom, right, top
@@ -80,7 +84,7 @@ header_lines header standard font_box =
 
 -- profile: the first glyph of a name
 abbrev pub char_named : List ℕ → List CharMetric → Option CharMetric
-char_named name chars = find (λ c. bytes_eq c.name.now name) chars
+char_named name chars = find (λ c. bytes_eq c.name name) chars
 
 -- profile: a side of the box of the glyph of this name, where there is that glyph
 abbrev pub side_of : (BBox → ℤ) → List ℕ → List CharMetric → Option (List ℕ)
@@ -110,7 +114,7 @@ abbrev pub entries : Line → CharMetric → Line
 entries width c =
     signed_decimal (code_number c.code) ∷ codes ";"
     ∷ width ++ codes ";"
-    ∷ codes "N" ∷ c.name.now ∷ codes ";"
+    ∷ codes "N" ∷ c.name ∷ codes ";"
     ∷ codes "B" ∷ sides c.bbox ++ codes ";" ∷ []
 
 -- AFM 4.1, Individual Character Metrics: a glyph's line
@@ -119,14 +123,14 @@ char_line c = codes "C" ∷ entries (width_words c.wx c.wy) c
 
 -- AFM 4.1, KPX: the kerning of a pair along x
 abbrev pub pair_line : KernPair → Line
-pair_line p = codes "KPX" ∷ p.left.now ∷ p.right.now ∷ signed_decimal p.value ∷ []
+pair_line p = codes "KPX" ∷ p.left ∷ p.right ∷ signed_decimal p.value ∷ []
 
 -- AFM 4.1, CC and PCC: a composite of two parts, the base at its origin and the accent moved
 abbrev pub composite_line : CompositeMetric → Line
 composite_line c =
-    codes "CC" ∷ c.name.now ∷ codes "2" ∷ codes ";"
-    ∷ codes "PCC" ∷ c.base.now ∷ codes "0" ∷ codes "0" ∷ codes ";"
-    ∷ codes "PCC" ∷ c.accent.now ∷ signed_decimal c.dx ∷ signed_decimal c.dy ∷ codes ";" ∷ []
+    codes "CC" ∷ c.name ∷ codes "2" ∷ codes ";"
+    ∷ codes "PCC" ∷ c.base ∷ codes "0" ∷ codes "0" ∷ codes ";"
+    ∷ codes "PCC" ∷ c.accent ∷ signed_decimal c.dx ∷ signed_decimal c.dy ∷ codes ";" ∷ []
 
 -- AFM 4.1: a section is a line that counts its lines, these, and a line that ends it
 abbrev pub section : List ℕ → List ℕ → List Line → List Line
@@ -157,5 +161,5 @@ lines_of header standard font_box chars pairs composites =
     ++ (codes "EndFontMetrics" ∷ []) ∷ []
 
 -- profile: the file
-unfoldable pub afm : Metrics → List ℕ
-afm m = lines_text (lines_of m.header m.standard m.font_box m.chars.items m.pairs.items m.composites.items)
+unfoldable pub afm : Sheet → List ℕ
+afm s = lines_text (lines_of s.header s.standard s.font_box s.chars s.pairs s.composites)

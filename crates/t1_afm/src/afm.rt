@@ -3,23 +3,23 @@ ghost use Rattle.std.specs.Prelude.{◌≡◌, ◌≢◌, [], ◌∷◌, ◌++�
 ghost use Rattle.std.specs.Fmt.{signed_decimal};
 ghost use Rattle.t1_code.specs.Counted.{WritesAll, WritesFront, Passes, Stops, outlet};
 ghost use Rattle.t1_code.specs.Parts.{Prints};
-ghost use Rattle.t1_afm.specs.Afm.{line_text, lines_text, value_lines, bytes_in, values_before_box as names, values_after_box as others, scheme as scheme_of, header_lines, heights as heights_of, char_named, char_line, section, kerning_lines, composite_lines, afm};
+ghost use Rattle.t1_afm.specs.Afm.{line_text, lines_text, value_lines, values_before_box as names, values_after_box as others, scheme as scheme_of, header_lines, heights as heights_of, char_named, char_line, section, kerning_lines, composite_lines, afm};
 ghost use Rattle.t1_afm.specs.Lines.{word_text, value_of, values_of};
 
 use crate::bbox::BBox;
 use crate::line::{Word, put_line};
-use crate::metrics::{CharMetric, CompositeMetric, Header, KernPair, Metrics};
+use crate::metrics::{CharMetric, CompositeMetric, Header, KernPair, Metrics, Text};
 use crate::part::{Part, Value, put_parts, sides};
 use std::io::{self, Write};
 use t1_code::{Chunk, Counted, OutError};
 
 /// A key with the text of its value.
-fn text<'a>(key: &'a [u8], value: Option<&'a [u8]>) -> Value<'a>
-    ensures { value_of result ≡ (key.now, bytes_in value.entry) }
+fn text<'a>(key: &'a [u8], value: &'a Option<Text<'a>>) -> Value<'a>
+    ensures { value_of result ≡ (key.now, value.now) }
 {
     Value {
         key,
-        value: value.map(|bytes| Word::Text(bytes)),
+        value: value.as_ref().map(|text| Word::Text(text.as_slice())),
     }
 }
 
@@ -34,28 +34,28 @@ fn number(key: &[u8], value: Option<i32>) -> Value<'_>
 }
 
 /// The values that stand before the font's box.
-fn values_before_box<'a>(header: &Header<'a>) -> [Value<'a>; 6]
+fn values_before_box<'a>(header: &'a Header<'a>) -> [Value<'a>; 6]
     ensures { values_of result ≡ names header.now }
 {
     [
-        text(b"FontName", header.font_name),
-        text(b"FullName", header.full_name),
-        text(b"FamilyName", header.family_name),
-        text(b"Weight", header.weight),
-        text(b"ItalicAngle", header.italic_angle),
-        text(b"IsFixedPitch", header.is_fixed_pitch),
+        text(b"FontName", &header.font_name),
+        text(b"FullName", &header.full_name),
+        text(b"FamilyName", &header.family_name),
+        text(b"Weight", &header.weight),
+        text(b"ItalicAngle", &header.italic_angle),
+        text(b"IsFixedPitch", &header.is_fixed_pitch),
     ]
 }
 
 /// The values that stand behind the font's box.
-fn values_after_box<'a>(header: &Header<'a>) -> [Value<'a>; 4]
+fn values_after_box<'a>(header: &'a Header<'a>) -> [Value<'a>; 4]
     ensures { values_of result ≡ others header.now }
 {
     [
-        text(b"UnderlinePosition", header.underline_position),
-        text(b"UnderlineThickness", header.underline_thickness),
-        text(b"Version", header.version),
-        text(b"Notice", header.notice),
+        text(b"UnderlinePosition", &header.underline_position),
+        text(b"UnderlineThickness", &header.underline_thickness),
+        text(b"Version", &header.version),
+        text(b"Notice", &header.notice),
     ]
 }
 
@@ -65,7 +65,7 @@ fn box_named(chars: &[CharMetric], name: &[u8]) -> Option<BBox>
 {
     chars
         .iter()
-        .find(|glyph| glyph.name == name)
+        .find(|glyph| glyph.name.as_slice() == name)
         .map(|glyph| glyph.bbox)
 }
 

@@ -16,7 +16,7 @@ mod whole;
 pub use afm::write_afm;
 pub use bbox::{BBox, unite};
 pub use measuring::{bounding_box, measure};
-pub use metrics::{CharMetric, CompositeMetric, Header, KernPair, Metrics};
+pub use metrics::{CharMetric, CompositeMetric, Header, KernPair, Metrics, Text};
 
 #[cfg(test)]
 mod tests;

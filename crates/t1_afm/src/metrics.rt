@@ -1,47 +1,78 @@
 //! What an AFM file tells of a font.
 
+ghost use Rattle.std.specs.Prelude.{◌≡◌};
+
 use crate::bbox::BBox;
+use std::marker::Model;
+
+/// The bytes of a name or of a value, borrowed. Contracts see their list.
+#[derive(Debug, Drop)]
+pub struct Text<'a> {
+    bytes: &'a [u8],
+}
+
+impl<'a> Model for Text<'a> {
+    ghost use Rattle.std.specs.Prelude.{List, ℕ};
+
+    ghost Value = { List ℕ };
+
+    ghost view = { λ text. text.bytes.now };
+}
+
+impl<'a> Text<'a> {
+    pub fn new(bytes: &'a [u8]) -> Self
+        ensures { result ≡ bytes.now }
+    {
+        Text { bytes }
+    }
+
+    pub fn as_slice(&self) -> &'a [u8]
+        ensures { result.now ≡ self.now }
+    {
+        self.bytes
+    }
+}
 
 /// The values of the keys about the whole font, as they are written in the file.
-#[derive(Clone, Copy, Debug)]
+#[derive(Debug, Drop)]
 pub struct Header<'a> {
-    pub font_name: Option<&'a [u8]>,
-    pub full_name: Option<&'a [u8]>,
-    pub family_name: Option<&'a [u8]>,
-    pub weight: Option<&'a [u8]>,
-    pub italic_angle: Option<&'a [u8]>,
-    pub is_fixed_pitch: Option<&'a [u8]>,
-    pub underline_position: Option<&'a [u8]>,
-    pub underline_thickness: Option<&'a [u8]>,
-    pub version: Option<&'a [u8]>,
-    pub notice: Option<&'a [u8]>,
+    pub font_name: Option<Text<'a>>,
+    pub full_name: Option<Text<'a>>,
+    pub family_name: Option<Text<'a>>,
+    pub weight: Option<Text<'a>>,
+    pub italic_angle: Option<Text<'a>>,
+    pub is_fixed_pitch: Option<Text<'a>>,
+    pub underline_position: Option<Text<'a>>,
+    pub underline_thickness: Option<Text<'a>>,
+    pub version: Option<Text<'a>>,
+    pub notice: Option<Text<'a>>,
 }
 
 /// A glyph's code, width, name and box.
-#[derive(Clone, Copy, Debug)]
+#[derive(Debug, Drop)]
 pub struct CharMetric<'a> {
     /// The lowest code that the encoding gives the glyph.
     pub code: Option<u8>,
     pub wx: i64,
     pub wy: i64,
-    pub name: &'a [u8],
+    pub name: Text<'a>,
     pub bbox: BBox,
 }
 
 /// The kerning of a pair of glyphs.
-#[derive(Clone, Copy, Debug)]
+#[derive(Debug, Drop)]
 pub struct KernPair<'a> {
-    pub left: &'a [u8],
-    pub right: &'a [u8],
+    pub left: Text<'a>,
+    pub right: Text<'a>,
     pub value: i32,
 }
 
 /// A composite, its two parts, and how far the accent's origin is moved.
-#[derive(Clone, Copy, Debug)]
+#[derive(Debug, Drop)]
 pub struct CompositeMetric<'a> {
-    pub name: &'a [u8],
-    pub base: &'a [u8],
-    pub accent: &'a [u8],
+    pub name: Text<'a>,
+    pub base: Text<'a>,
+    pub accent: Text<'a>,
     pub dx: i64,
     pub dy: i64,
 }
@@ -59,4 +90,19 @@ pub struct Metrics<'a> {
     /// The pairs in the order of the file, each with both glyphs in the font.
     pub pairs: Vec<KernPair<'a>>,
     pub composites: Vec<CompositeMetric<'a>>,
+}
+
+impl<'a> Model for Metrics<'a> {
+    ghost use Rattle.t1_afm.specs.Afm.{Sheet};
+
+    ghost Value = { Sheet };
+
+    ghost view = { λ m. record {
+      header = m.header;
+      standard = m.standard;
+      font_box = m.font_box;
+      chars = m.chars.items;
+      pairs = m.pairs.items;
+      composites = m.composites.items;
+    } };
 }

@@ -99,7 +99,7 @@ impl<'a> CharMetric<'a> {
         ensures { words_of result ≡ entries (codes "WX" ∷ signed_decimal self.now.wx ∷ []) self.now }
     {
         let code = Word::Number(code_number(self.code));
-        let (wx, name) = (Word::Number(self.wx), Word::Text(self.name));
+        let (wx, name) = (Word::Number(self.wx), Word::Text(self.name.as_slice()));
         let [left, bottom, right, top] = sides(&self.bbox);
         [
             code, END, WX, wx, END, NAME, name, END, BOX, left, bottom, right, top, END,
@@ -115,7 +115,7 @@ impl<'a> CharMetric<'a> {
         let (wx, wy, name) = (
             Word::Number(self.wx),
             Word::Number(self.wy),
-            Word::Text(self.name),
+            Word::Text(self.name.as_slice()),
         );
         let [left, bottom, right, top] = sides(&self.bbox);
         [
@@ -140,13 +140,12 @@ impl Part for KernPair<'_> {
     ghost text = { λ p. line_text (pair_line p) };
 
     fn put<W: Write>(&self, out: &mut Counted<W>, chunk: &mut Chunk) -> io::Result<()> {
+        let (left, right) = (
+            Word::Text(self.left.as_slice()),
+            Word::Text(self.right.as_slice()),
+        );
         let value = Word::Number(i64::from(self.value));
-        put_line(
-            out,
-            chunk,
-            b"KPX",
-            &[Word::Text(self.left), Word::Text(self.right), value],
-        )
+        put_line(out, chunk, b"KPX", &[left, right, value])
     }
 }
 
@@ -155,9 +154,9 @@ impl Part for CompositeMetric<'_> {
 
     fn put<W: Write>(&self, out: &mut Counted<W>, chunk: &mut Chunk) -> io::Result<()> {
         let (name, base, accent) = (
-            Word::Text(self.name),
-            Word::Text(self.base),
-            Word::Text(self.accent),
+            Word::Text(self.name.as_slice()),
+            Word::Text(self.base.as_slice()),
+            Word::Text(self.accent.as_slice()),
         );
         let (dx, dy) = (Word::Number(self.dx), Word::Number(self.dy));
         put_line(

@@ -115,7 +115,7 @@ fn glyph<'a>(
         code,
         wx: width[0],
         wy: width[1],
-        name,
+        name: Text::new(name),
         bbox: BBox {
             left,
             bottom,
@@ -132,22 +132,22 @@ fn sample(alloc: Global) -> Result<Metrics<'static>, Fail> {
     chars.push(glyph(None, b"p", [500, 20], [0, -2, 1, 1]))?;
     let mut pairs = Vec::new(alloc);
     pairs.push(KernPair {
-        left: b"H",
-        right: b"p",
+        left: Text::new(b"H"),
+        right: Text::new(b"p"),
         value: -92,
     })?;
     let mut composites = Vec::new(alloc);
     composites.push(CompositeMetric {
-        name: b"p",
-        base: b"H",
-        accent: b"H",
+        name: Text::new(b"p"),
+        base: Text::new(b"H"),
+        accent: Text::new(b"H"),
         dx: 87,
         dy: -214,
     })?;
     Ok(Metrics {
         header: Header {
-            full_name: Some(b"Demo Roman"),
-            notice: Some(b" (c) "),
+            full_name: Some(Text::new(b"Demo Roman")),
+            notice: Some(Text::new(b" (c) ")),
             ..NO_VALUES
         },
         standard: false,
