@@ -14,4 +14,4 @@ pub use bodies::{compiled, compiled_glyph, compiled_subr};
 pub use glyphs::{Glyphs, measured};
 pub use outline::{Outline, outline_of};
 pub use runs::{Runs, runs_of};
-pub use shapes::{Shape, shapes_of};
+pub use shapes::{Accented, Shape, shapes_of};
