@@ -29,8 +29,8 @@ name-inserted name g k ks =
           ])
       | inr absent ↦
           rw absent (
-            list_any-append (λ x. bytes_eq g (name x)) ks (k ∷ [])
-            ∙ ap (λ b. list_any (λ x. bytes_eq g (name x)) ks || b) (or_false (bytes_eq g (name k))))
+          list_any-append (λ x. bytes_eq g (name x)) ks (k ∷ [])
+          ∙ ap (λ b. list_any (λ x. bytes_eq g (name x)) ks || b) (or_false (bytes_eq g (name k))))
     ]
 
 -- ---- what a list gives, one after another

@@ -5,3 +5,4 @@ pub mod Names
 pub mod Outlines
 pub mod Runs
 pub mod Shapes
+pub mod Sheet

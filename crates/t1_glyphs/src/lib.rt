@@ -2,6 +2,7 @@
 //! first fault.
 //!
 //! [`compiled`] gives the bodies of a private part, or the first fault of one. [`measured`] runs and measures its glyphs.
+//! [`metrics`] is what the AFM file of a source and its pairs tells.
 #![tactic(auto)]
 
 mod bodies;
@@ -12,6 +13,7 @@ mod kern;
 mod outline;
 mod runs;
 mod shapes;
+mod sheet;
 
 pub use bodies::{compiled, compiled_glyph, compiled_subr};
 pub use chars::char_metrics;
@@ -21,3 +23,4 @@ pub use kern::kern_metrics;
 pub use outline::{Outline, outline_of};
 pub use runs::{Runs, runs_of};
 pub use shapes::{Accented, Shape, shapes_of};
+pub use sheet::metrics;
