@@ -7,9 +7,12 @@ use Rattle.t1_frac.specs.declared.fault.Place.TheVariants as places
 use Rattle.t1_frac.specs.Outcome.{told_at, ◌>>=◌}
 use Rattle.t1_source.specs.declared.item.Item.{Item}
 use Rattle.t1_source.specs.declared.item.Item.TheVariants as items
+use Rattle.t1_run.specs.declared.outline.Composite.{Composite}
+use Rattle.t1_run.specs.declared.outline.Point.{Point}
 use Rattle.t1_run.specs.declared.outline.Segment.{Segment}
-use Rattle.t1_run.specs.Composite.{outline}
+use Rattle.t1_run.specs.Composite.{accent_move, outline}
 use Rattle.t1_run.specs.Run.{Maps, Drawing, own}
+use Rattle.t1_glyphs.specs.declared.shapes.Accented.{Accented}
 
 -- profile: the names of the glyphs, in the order of their entries
 abbrev pub name_in : Item → List (List ℕ)
@@ -19,21 +22,30 @@ name_in _ = []
 abbrev pub glyph_names : List Item → List (List ℕ)
 glyph_names items = flat_map name_in items
 
--- profile: a glyph's name, what its own body draws, and its outline
+-- Type 1 Font Format, chapter 6 (seac): the parts of a composite, and how far its accent is moved
+abbrev pub accented_of : Point → Option Composite → Result (Option Accented) Code
+accented_of bearing None = Ok None
+accented_of bearing (Some c) = accent_move bearing c >>= (λ by. Ok (Some (record { base = c.base; accent = c.accent; by = by })))
+
+-- profile: a glyph's name, what its own body draws, its outline, and its parts where it is a composite
 pub record Glyph : Type 0 where
   pub name : List ℕ
   pub drawing : Drawing
   pub outline : List Segment
+  pub accented : Option Accented
 
 -- profile: a run that is missing is F45
 abbrev pub run_there : Option (Result Drawing Code) → Result Drawing Code
 run_there None = Err F45
 run_there (Some run) = run
 
--- profile, order of faults: the glyph's own run, then its parts
+-- profile, order of faults: the glyph's own run, then its outline, of which the move of its accent is a part
 abbrev pub glyph_of : List ℕ → Option (Result Drawing Code) → Result (List Segment) Code → Result Glyph Code
 glyph_of name run outline =
-    run_there run >>= (λ drawing. outline >>= (λ segments. Ok (record { name = name; drawing = drawing; outline = segments })))
+    run_there run >>= (λ drawing.
+    outline >>= (λ segments.
+    accented_of drawing.bearing drawing.composite >>= (λ accented.
+    Ok (record { name = name; drawing = drawing; outline = segments; accented = accented }))))
 
 -- profile, order of faults: one glyph after another, each fault at its glyph
 abbrev pub glyphs_by : (List ℕ → Option (Result Drawing Code)) → (List ℕ → Result (List Segment) Code) → List (List ℕ) → Result (List Glyph) Fault

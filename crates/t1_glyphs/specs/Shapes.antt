@@ -13,13 +13,12 @@ use Rattle.t1_glyphs.specs.Bodies.{bodies}
 use Rattle.t1_glyphs.specs.Glyphs.{Glyph, glyph_of, glyphs_by, glyphs, glyph_names}
 use Rattle.t1_glyphs.specs.Runs.{Kept, kept_of}
 
--- profile: what is told of a glyph: its name, width, side bearing and parts, and its box where it draws
+-- profile: what is told of a glyph: its name, width and parts, and its box where it draws
 abbrev pub shape_of : Glyph → Shape
 shape_of g = record {
   name = g.name;
   width = g.drawing.width;
-  bearing = g.drawing.bearing;
-  composite = g.drawing.composite;
+  accented = g.accented;
   bbox = drawn_box g.outline;
 }
 

@@ -2,16 +2,25 @@
 //! first fault.
 //!
 //! [`compiled`] gives the bodies of a private part, or the first fault of one. [`measured`] runs and measures its glyphs.
+//! [`metrics`] is what the AFM file of a source and its pairs tells.
 #![tactic(auto)]
 
 mod bodies;
+mod chars;
+mod composites;
 mod glyphs;
+mod kern;
 mod outline;
 mod runs;
 mod shapes;
+mod sheet;
 
 pub use bodies::{compiled, compiled_glyph, compiled_subr};
+pub use chars::char_metrics;
+pub use composites::composite_metrics;
 pub use glyphs::{Glyphs, measured};
+pub use kern::kern_metrics;
 pub use outline::{Outline, outline_of};
 pub use runs::{Runs, runs_of};
-pub use shapes::{Shape, shapes_of};
+pub use shapes::{Accented, Shape, shapes_of};
+pub use sheet::metrics;

@@ -5,26 +5,32 @@ ghost use Rattle.t1_frac.specs.declared.fault.Place.TheVariants as places;
 ghost use Rattle.t1_run.specs.State.{origin as zero_point};
 ghost use Rattle.t1_run.specs.Within.{Stays};
 ghost use Rattle.t1_afm.specs.Box.{drawn_box as box_drawn, united};
-ghost use Rattle.t1_glyphs.specs.Glyphs.{run_there};
+ghost use Rattle.t1_glyphs.specs.Glyphs.{accented_of, run_there};
 ghost use Rattle.t1_glyphs.specs.Runs.{kept_of};
 ghost use Rattle.t1_glyphs.specs.Shapes.{shape_at, shapes_at, AreWithin};
 
 use crate::outline::outline_of;
 use crate::runs::Runs;
-use std::alloc::{AllocError, Global};
+use std::alloc::Global;
 use t1_afm::{BBox, measure, unite};
 use t1_frac::{Bytes, Code, Fault, Frac, Place, Refusal};
-use t1_run::{Composite, Point, Run, Segment};
+use t1_run::{Point, Run, Segment, accent_move};
+
+/// The parts of a composite, and how far its accent is moved.
+#[derive(Debug, Drop)]
+pub struct Accented {
+    pub base: Bytes,
+    pub accent: Bytes,
+    pub by: Point,
+}
 
 /// What is told of a glyph.
 #[derive(Debug, Drop)]
 pub struct Shape {
     pub name: Bytes,
     pub width: Point,
-    /// The side bearing point.
-    pub bearing: Point,
     /// The parts of a composite.
-    pub composite: Option<Composite>,
+    pub accented: Option<Accented>,
     /// The box around its outline, where it draws.
     pub bbox: Option<BBox>,
 }
@@ -50,19 +56,18 @@ fn drawn_box(outline: &[Segment]) -> Option<BBox>
     Some(measure(outline, &origin()))
 }
 
-/// A copy of the parts of a composite.
-fn copied_parts(alloc: Global, run: &Run) -> Result<Option<Composite>, AllocError>
-    ensures { IfOk result (λ parts. parts ≡ run.now.drawing.composite) }
+/// The parts of a composite, and how far its accent is moved.
+fn accented_glyph(alloc: Global, run: &Run) -> Result<Option<Accented>, Refusal>
+    ensures { Gives (λ parts. parts) result (told_at places.Nowhere (accented_of run.now.drawing.bearing run.now.drawing.composite)) }
 {
     let Some(parts) = run.composite() else {
         return Ok(None);
     };
-    Ok(Some(Composite {
+    let by = accent_move(&run.side_bearing(), parts)?;
+    Ok(Some(Accented {
         base: Bytes::copied(alloc, parts.base.as_slice())?,
         accent: Bytes::copied(alloc, parts.accent.as_slice())?,
-        asb: parts.asb,
-        adx: parts.adx,
-        ady: parts.ady,
+        by,
     }))
 }
 
@@ -95,8 +100,7 @@ fn told_shape(alloc: Global, runs: &Runs, name: &[u8]) -> Result<Shape, Refusal>
     Ok(Shape {
         name: Bytes::copied(alloc, name)?,
         width: run.width(),
-        bearing: run.side_bearing(),
-        composite: copied_parts(alloc, run)?,
+        accented: accented_glyph(alloc, run)?,
         bbox,
     })
 }
