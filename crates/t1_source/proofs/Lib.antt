@@ -1,4 +1,5 @@
 pub mod BodyLaws
+pub mod CloseLaws
 pub mod CodeLaws
 pub mod CountLaws
 pub mod DemoRows
@@ -7,6 +8,7 @@ pub mod EncodingLaws
 pub mod EntryLaws
 pub mod GroupLaws
 pub mod ItemLaws
+pub mod ItemsAgainLaws
 pub mod KernLaws
 pub mod KeyLaws
 pub mod LastLaws
@@ -15,10 +17,14 @@ pub mod NumberLaws
 pub mod PairLaws
 pub mod PairsKeptLaws
 pub mod PlaceLaws
+pub mod PrintedLaws
 pub mod PrintingRows
 pub mod PutLaws
 pub mod ReadingRows
+pub mod SectionLaws
+pub mod SectionLineLaws
 pub mod SlotLaws
+pub mod SourceAgainLaws
 pub mod TailLaws
 pub mod TextLaws
 pub mod TextPlaceLaws

@@ -11,7 +11,10 @@ ghost use Rattle.t1_source.specs.Names.{is_name};
 ghost use Rattle.t1_source.specs.Sections.{is_subrs_line, is_glyphs_line};
 ghost use Rattle.t1_source.specs.Entries.{Numbered, has, is_subr, is_glyph, is_word, body_of};
 ghost use Rattle.t1_source.specs.Private.{item_at};
-ghost use Rattle.t1_source.specs.Printing.{body_line, last_line, word_groups};
+ghost use Rattle.t1_source.specs.Form.{Form};
+ghost use Rattle.t1_source.specs.Reading.{reads};
+ghost use Rattle.t1_source.specs.Printing.{body_line, last_line, word_groups, text};
+ghost use Rattle.t1_source.specs.Kept.{IsKept, is_counted};
 ghost use Rattle.t1_source.specs.declared.pairs.Pair.{Pair};
 ghost use Rattle.t1_source.specs.Kerning.{are_pairs, pairs, kern};
 
@@ -56,6 +59,11 @@ pub fn raised_counts_stay()
 /// A tail that was kept is kept as it is.
 pub fn kept_tail_stays()
     ensures { (ls : List (List ℕ)) → tail_of (tail_of ls) ≡ tail_of ls }
+{}
+
+/// A source that is kept, and whose counts have at most nine digits, is read from its text as it was.
+pub fn printed_source_read()
+    ensures { (s : Form) → IsKept s → list_all is_counted s.items ≡ true → reads (text s) ≡ Ok s }
 {}
 
 /// Kerning pairs that are printed are read as they were.
