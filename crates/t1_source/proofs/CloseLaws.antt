@@ -18,7 +18,7 @@ closing_bytes = codes "mark currentfile closefile"
 abbrev pub Closes : List ℕ → Type 0
 Closes l = (g : List ℕ) × (trimmed_front (reverse l) ≡ reverse closing_bytes ++ g)
 
-front_more : (c : ℕ) (z x y : List ℕ) → trimmed_front x ≡ c ∷ z → trimmed_front (x ++ y) ≡ (c ∷ z) ++ y
+pub front_more : (c : ℕ) (z x y : List ℕ) → trimmed_front x ≡ c ∷ z → trimmed_front (x ++ y) ≡ (c ∷ z) ++ y
 front_more c z [] y e = cc
 front_more c z (d ∷ x) y e =
     elim (cases_Bool (is_blank d)) [
@@ -104,7 +104,7 @@ all_reverse test (c ∷ l) h =
     ap (list_all test) (reverse-append (c ∷ []) l) ∙ all_append test (reverse l) (c ∷ []) (all_reverse test l parts.1) (and_from (test c) true parts.0 refl)
 
 -- a line as the blanks in front of it and the rest
-halves : (l : List ℕ) → reverse l ≡ reverse (trimmed_front l) ++ reverse (take (prefix_len is_blank l) l)
+pub halves : (l : List ℕ) → reverse l ≡ reverse (trimmed_front l) ++ reverse (take (prefix_len is_blank l) l)
 halves l = ap reverse (sym (take-append-drop (prefix_len is_blank l) l)) ∙ reverse-append (take (prefix_len is_blank l) l) (trimmed_front l)
 
 pub closes_from : (l : List ℕ) → is_closefile l ≡ true → Closes l

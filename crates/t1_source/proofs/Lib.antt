@@ -8,7 +8,11 @@ pub mod EncodingLaws
 pub mod EntryLaws
 pub mod GroupLaws
 pub mod ItemLaws
+pub mod ItemPlaceLaws
 pub mod ItemsAgainLaws
+pub mod KeptBodyLaws
+pub mod KeptItemsLaws
+pub mod KeptSourceLaws
 pub mod KernLaws
 pub mod KeyLaws
 pub mod LastLaws
@@ -25,6 +29,7 @@ pub mod SectionLaws
 pub mod SectionLineLaws
 pub mod SlotLaws
 pub mod SourceAgainLaws
+pub mod StandLaws
 pub mod TailLaws
 pub mod TextLaws
 pub mod TextPlaceLaws

@@ -40,7 +40,7 @@ decimal_count n h =
     and_from (nat_le 1 (length (decimal n)) && nat_le (length (decimal n)) 9) (list_all is_digit (decimal n))
     (and_from (nat_le 1 (length (decimal n))) (nat_le (length (decimal n)) 9) (le-leb 1 (length (decimal n)) s.2) (le-leb (length (decimal n)) 9 size)) s.0
 
-bool_apart : (b : Bool) → b ≡ true → b ≡ false → ⊥
+pub bool_apart : (b : Bool) → b ≡ true → b ≡ false → ⊥
 bool_apart b p q = cc
 
 -- what doesn't hold since what follows from it doesn't
@@ -193,7 +193,7 @@ word_open w h =
       | inr off ↦ off
     ]
 
-is_word_bytes : (w : List ℕ) → is_word w ≡ true → list_all is_word_byte w ≡ true
+pub is_word_bytes : (w : List ℕ) → is_word w ≡ true → list_all is_word_byte w ≡ true
 is_word_bytes [] h = refl
 is_word_bytes (c ∷ w) h = h
 

@@ -74,7 +74,7 @@ inner_lines (l ∷ ls) h =
     let parts = and_parts (is_inner l) (list_all is_inner ls) h in
     and_from (is_line l) (list_all is_line ls) (inner_parts l parts.0).0 (inner_lines ls parts.1)
 
-abbrev checked : Result ℕ Fault → Result (Unit {0}) Fault
+abbrev pub checked : Result ℕ Fault → Result (Unit {0}) Fault
 checked given = given >>= λ lead. Ok tt
 
 -- what the items say of lenIV

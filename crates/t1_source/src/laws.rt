@@ -66,6 +66,11 @@ pub fn printed_source_read()
     ensures { (s : Form) → IsKept s → list_all is_counted s.items ≡ true → reads (text s) ≡ Ok s }
 {}
 
+/// A source that was read is kept.
+pub fn read_source_kept()
+    ensures { (bytes : List ℕ) (s : Form) → reads bytes ≡ Ok s → IsKept s }
+{}
+
 /// Kerning pairs that are printed are read as they were.
 #[tactic(auto, using(crate::proofs::KernLaws::kern_again))]
 pub fn printed_pairs_read()
