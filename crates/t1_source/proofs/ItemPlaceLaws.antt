@@ -21,12 +21,17 @@ pub record At {X : Type 0} (test : X → Bool) (xs : List X) : Type 0 where
 pub record First {X : Type 0} (test : X → Bool) (xs : List X) (at : ℕ) : Type 0 where
   pub found : At test xs
   pub place : at ≡ length found.before
+  pub first : list_any test found.before ≡ false
 
-first_at : {X : Type 0} (test : X → Bool) (xs : List X) → position_or_len test xs < length xs → First test xs (position_or_len test xs)
+neither : (a b : Bool) → a ≡ false → b ≡ false → (a || b) ≡ false
+neither true b p q = p
+neither false b p q = q
+
+pub first_at : {X : Type 0} (test : X → Bool) (xs : List X) → position_or_len test xs < length xs → First test xs (position_or_len test xs)
 first_at test [] h = absurd (omega arith)
 first_at test (x ∷ xs) h =
     elim (cases_Bool (test x)) [
-      | inl on ↦ record { found = record { before = []; here = x; after = xs; whole = refl; passes = on }; place = rw on refl }
+      | inl on ↦ record { found = record { before = []; here = x; after = xs; whole = refl; passes = on }; place = rw on refl; first = refl }
       | inr off ↦
           let more : position_or_len test xs < length xs = (let near : 1 + position_or_len test xs < length (x ∷ xs) = rw off at h in omega (arith, near)) in
           let r = first_at test xs more in
@@ -34,6 +39,7 @@ first_at test (x ∷ xs) h =
           record {
             found = record { before = x ∷ r.found.before; here = r.found.here; after = r.found.after; whole = ap (λ t. x ∷ t) r.found.whole; passes = r.found.passes };
             place = omega (arith, step, r.place);
+            first = neither (test x) (list_any test r.found.before) off r.first;
           }
     ]
 
@@ -97,7 +103,8 @@ any_turned test (x ∷ xs) h =
     let parts = or_parts (test x) (list_any test xs) h in
     ap (list_any test) (reverse-append (x ∷ []) xs) ∙ list_any-append test (reverse xs) (x ∷ []) ∙ (let a = any_turned test xs parts.1 in rw (a, parts.0) refl)
 
-place_after : {X : Type 0} (test : X → Bool) (xs : List X) (x : X) (ys : List X) → list_any test xs ≡ false → test x ≡ true → position_or_len test (xs ++ x ∷ ys) ≡ length xs
+-- the first element that passes a test stands behind others
+pub place_after : {X : Type 0} (test : X → Bool) (xs : List X) (x : X) (ys : List X) → list_any test xs ≡ false → test x ≡ true → position_or_len test (xs ++ x ∷ ys) ≡ length xs
 place_after test [] x ys none on = rw on refl
 place_after test (z ∷ xs) x ys none on =
     let parts = or_parts (test z) (list_any test xs) none in
@@ -109,7 +116,7 @@ pub through_place : {X : Type 0} (test : X → Bool) (a : List X) (x : X) (b : L
 unfolding through_last
 through_place test a x b on none =
     let turned : reverse (a ++ x ∷ b) ≡ reverse b ++ x ∷ reverse a =
-        reverse-append a (x ∷ b) ∙ ap (λ t. t ++ reverse a) (reverse-append (x ∷ []) b) ∙ append_assoc (reverse b) (x ∷ []) (reverse a) in
+    reverse-append a (x ∷ b) ∙ ap (λ t. t ++ reverse a) (reverse-append (x ∷ []) b) ∙ append_assoc (reverse b) (x ∷ []) (reverse a) in
     let place : position_or_len test (reverse (a ++ x ∷ b)) ≡ length b = ap (position_or_len test) turned ∙ place_after test (reverse b) x (reverse a) (any_turned test b none) on ∙ length-reverse b in
     omega (arith, place, length-append a (x ∷ b), length-append a (x ∷ []))
 

@@ -11,6 +11,10 @@ pub mod ItemLaws
 pub mod ItemPlaceLaws
 pub mod ItemsAgainLaws
 pub mod KeptBodyLaws
+pub mod KeptClearLaws
+pub mod KeptEditLaws
+pub mod KeptEditedLaws
+pub mod KeptEntryLaws
 pub mod KeptItemsLaws
 pub mod KeptSourceLaws
 pub mod KernLaws

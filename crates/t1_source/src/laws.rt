@@ -15,6 +15,8 @@ ghost use Rattle.t1_source.specs.Form.{Form};
 ghost use Rattle.t1_source.specs.Reading.{reads};
 ghost use Rattle.t1_source.specs.Printing.{body_line, last_line, word_groups, text};
 ghost use Rattle.t1_source.specs.Kept.{IsKept, is_counted};
+ghost use Rattle.t1_source.specs.declared.edit.Edit.{Edit};
+ghost use Rattle.t1_source.specs.Editing.{edited};
 ghost use Rattle.t1_source.specs.declared.pairs.Pair.{Pair};
 ghost use Rattle.t1_source.specs.Kerning.{are_pairs, pairs, kern};
 
@@ -69,6 +71,12 @@ pub fn printed_source_read()
 /// A source that was read is kept.
 pub fn read_source_kept()
     ensures { (bytes : List ℕ) (s : Form) → reads bytes ≡ Ok s → IsKept s }
+{}
+
+/// A source that is kept is kept through every edit.
+pub fn edited_source_kept()
+    ensures { (s made : Form) (ps others : List Pair) (edit : Edit) → IsKept s → edited s ps edit ≡ Ok (made, others)
+        → IsKept made }
 {}
 
 /// Kerning pairs that are printed are read as they were.
