@@ -33,7 +33,7 @@ pub given_some : {A E : Type 0} (o : Option A) (f : E) (a : A) → ok_or o f ≡
 given_some None f a e = cc
 given_some (Some b) f a e = let same : b ≡ a = cc in ap Some same
 
-entry_given : {E : Type 0} (entry : List (List ℕ) → List ℕ → Item) (body : Option Body) (f : E) (x : Taken) → ok_or (option_map (entry_of entry) body) f ≡ Ok x → (b : Body) × (body ≡ Some b) × (entry b.words b.closing ≡ x.0)
+pub entry_given : {E : Type 0} (entry : List (List ℕ) → List ℕ → Item) (body : Option Body) (f : E) (x : Taken) → ok_or (option_map (entry_of entry) body) f ≡ Ok x → (b : Body) × (body ≡ Some b) × (entry b.words b.closing ≡ x.0)
 entry_given entry None f x e = cc
 entry_given entry (Some b) f x e = let same : entry_of entry b ≡ x = cc in (b, refl, ap (λ y. y.0) same)
 

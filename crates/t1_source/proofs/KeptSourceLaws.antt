@@ -255,6 +255,20 @@ tail_kept ls h =
       | inr none ↦ rw none (tail_lines ls h)
     ]
 
+-- a source that is made of parts without faults
+pub made_kept : (ls : List (List ℕ)) (p : Parts) (ns : List Numbered) (clear : List (List ℕ)) (items : List Item) (tail : List (List ℕ)) → parts_of ls ≡ Ok p → private_items (length p.clear + 1) p.private ≡ Ok ns → whole_check ns ≡ Ok tt → clear_check p.clear ≡ Ok tt → list_all is_line ls ≡ true
+    → clear ≡ p.clear → items ≡ raised (unnumbered ns) → tail ≡ tail_of p.tail → IsKept (record { clear = clear; items = items; tail = tail })
+made_kept ls p ns clear items tail cut read whole_ok clear_ok h is_clear is_items is_tail =
+    let parts = parts_kept ls p h cut in
+    let private = items_kept (length p.clear + 1) p.private ns parts.private parts.closefile read in
+    let whole = whole_kept ns whole_ok in
+    rw (is_clear, is_items, is_tail) (record {
+      clear = (parts.clear, parts.eexec, clear_ok);
+      items = private_kept (unnumbered ns) private.inner private.last private.whole private.stand private.line private.closes whole.0 whole.1;
+      lines = tail_kept p.tail parts.tail;
+      tail = tail_again p.tail;
+    })
+
 lines_kept : (ls : List (List ℕ)) (s : Form) → list_all is_line ls ≡ true → reads_lines ls ≡ Ok s → IsKept s
 unfolding reads_lines
 lines_kept ls s h e =
@@ -269,15 +283,7 @@ lines_kept ls s h e =
     let made : Form = record { clear = p.clear; items = raised (unnumbered ns); tail = tail_of p.tail } in
     let last : ◌≡◌ {A = Result Form Fault} (Ok made) (Ok s) = fourth.2 in
     let same : made ≡ s = cc in
-    let parts = parts_kept ls p h first.1 in
-    let items = items_kept (length p.clear + 1) p.private ns parts.private parts.closefile third.1 in
-    let whole = whole_kept ns fourth.1 in
-    rw (← same) (record {
-      clear = (parts.clear, parts.eexec, second.1);
-      items = private_kept (unnumbered ns) items.inner items.last items.whole items.stand items.line items.closes whole.0 whole.1;
-      lines = tail_kept p.tail parts.tail;
-      tail = tail_again p.tail;
-    })
+    rw (← same) (made_kept ls p ns p.clear (raised (unnumbered ns)) (tail_of p.tail) first.1 third.1 fourth.1 second.1 h refl refl refl)
 
 -- a source that was read is kept
 pub source_kept : (bytes : List ℕ) (s : Form) → reads bytes ≡ Ok s → IsKept s

@@ -2,6 +2,7 @@ pub mod BodyLaws
 pub mod CloseLaws
 pub mod CodeLaws
 pub mod CountLaws
+pub mod CountedLaws
 pub mod DemoRows
 pub mod EditingRows
 pub mod EncodingLaws

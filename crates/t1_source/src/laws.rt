@@ -1,11 +1,11 @@
 //! What printing and reading have to do with each other.
 
-ghost use Rattle.std.specs.Prelude.{◌≡◌, ◌≤◌, ◌+◌, ℕ, List, ◌∷◌, ◌++◌, Some, true, false, Ok, codes, decimal, length, map};
+ghost use Rattle.std.specs.Prelude.{◌≡◌, ◌≤◌, ◌<◌, ◌^◌, ◌+◌, ℕ, List, ◌∷◌, ◌++◌, Some, true, false, Ok, codes, decimal, length, map};
 ghost use Rattle.std.specs.List.{list_all};
 ghost use Rattle.t1_source.specs.Lines.{lines, joined, is_line, trimmed};
 ghost use Rattle.t1_source.specs.declared.item.Item.{Item};
 ghost use Rattle.t1_source.specs.declared.item.Item.TheVariants.{Subr, Glyph};
-ghost use Rattle.t1_source.specs.Counts.{raised};
+ghost use Rattle.t1_source.specs.Counts.{glyphs_needed, raised};
 ghost use Rattle.t1_source.specs.Parts.{tail_of};
 ghost use Rattle.t1_source.specs.Names.{is_name};
 ghost use Rattle.t1_source.specs.Sections.{is_subrs_line, is_glyphs_line};
@@ -21,6 +21,7 @@ ghost use Rattle.t1_source.specs.declared.pairs.Pair.{Pair};
 ghost use Rattle.t1_source.specs.Kerning.{are_pairs, pairs, kern};
 
 use crate::pairs::Pairs;
+use crate::source::Source;
 
 /// Lines that are joined are cut as they were.
 pub fn joined_lines_cut()
@@ -78,6 +79,18 @@ pub fn edited_source_kept()
     ensures { (s made : Form) (ps others : List Pair) (edit : Edit) → IsKept s → edited s ps edit ≡ Ok (made, others)
         → IsKept made }
 {}
+
+/// A source that was read, of fewer than 1,000,000,000 glyphs, is read from its text as it was.
+pub fn read_source_again()
+    ensures { (bytes : List ℕ) (s : Form) → reads bytes ≡ Ok s → glyphs_needed s.items < 10 ^ 9 → reads (text s) ≡ Ok s }
+{}
+
+/// The text of a source, whose counts have at most nine digits, is read as the source.
+pub fn text_of_source_read(source: &Source)
+    ensures { list_all is_counted source.now.items ≡ true → reads (text source.now) ≡ Ok source.now }
+{
+    let _items = source.kept_items();
+}
 
 /// Kerning pairs that are printed are read as they were.
 #[tactic(auto, using(crate::proofs::KernLaws::kern_again))]
