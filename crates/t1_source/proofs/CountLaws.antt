@@ -20,7 +20,7 @@ all_again : (s g : ℕ) (items : List Item) → map (raised_item s g) (map (rais
 all_again s g [] = refl
 all_again s g (i ∷ items) = ap (λ x. x ∷ map (raised_item s g) (map (raised_item s g) items)) (item_again s g i) ∙ ap (λ t. raised_item s g i ∷ t) (all_again s g items)
 
-subrs_same : (s g : ℕ) (items : List Item) → subrs_needed (map (raised_item s g) items) ≡ subrs_needed items
+pub subrs_same : (s g : ℕ) (items : List Item) → subrs_needed (map (raised_item s g) items) ≡ subrs_needed items
 subrs_same s g [] = refl
 subrs_same s g (Plain l ∷ items) = subrs_same s g items
 subrs_same s g (Section before n after ∷ items) = subrs_same s g items
@@ -39,7 +39,7 @@ from_same s g n (Section before k after ∷ items) = from_same s g (n + 0) items
 from_same s g n (Subr k ws closing ∷ items) = from_same s g (n + 0) items
 from_same s g n (Glyph h ws closing ∷ items) = from_same s g (n + 1) items
 
-glyphs_same : (s g : ℕ) (items : List Item) → glyphs_needed (map (raised_item s g) items) ≡ glyphs_needed items
+pub glyphs_same : (s g : ℕ) (items : List Item) → glyphs_needed (map (raised_item s g) items) ≡ glyphs_needed items
 unfolding count_from
 glyphs_same s g items = from_same s g 0 items
 

@@ -22,18 +22,18 @@ abbrev pub are_regular : List ℕ → Bool
 are_regular l = list_all is_regular l
 
 -- a token of such bytes, and a blank behind it
-run_before : (c : ℕ) (w rest : List ℕ) → are_regular (c ∷ w) ≡ true → tokens (c ∷ w ++ 32 ∷ rest) ≡ (c ∷ w) ∷ tokens rest
+pub run_before : (c : ℕ) (w rest : List ℕ) → are_regular (c ∷ w) ≡ true → tokens (c ∷ w ++ 32 ∷ rest) ≡ (c ∷ w) ∷ tokens rest
 run_before c [] rest h = regular_first c (32 ∷ rest) (and_parts _ _ h).0
 run_before c (d ∷ w) rest h =
     let parts = and_parts _ _ h in
     let next : is_regular d ≡ true = (and_parts _ _ parts.1).0 in
     regular_first c (d ∷ w ++ 32 ∷ rest) parts.0 ∙ (rw next (ap (onto_first c) (run_before d w rest parts.1)))
 
-token_before : (w rest : List ℕ) → 1 ≤ length w → are_regular w ≡ true → tokens (w ++ 32 ∷ rest) ≡ w ∷ tokens rest
+pub token_before : (w rest : List ℕ) → 1 ≤ length w → are_regular w ≡ true → tokens (w ++ 32 ∷ rest) ≡ w ∷ tokens rest
 token_before [] rest some h = absurd (omega arith)
 token_before (c ∷ w) rest some h = run_before c w rest h
 
-digit_regular : (c : ℕ) → is_digit c ≡ true → is_regular c ≡ true
+pub digit_regular : (c : ℕ) → is_digit c ≡ true → is_regular c ≡ true
 digit_regular c h =
     let parts = and_parts _ _ h in
     let low = leb-true 48 c parts.0 in
@@ -55,11 +55,11 @@ digit_regular c h =
       ne_eqb c 37 (omega arith),
     ) refl
 
-digits_regular : (ds : List ℕ) → list_all is_digit ds ≡ true → are_regular ds ≡ true
+pub digits_regular : (ds : List ℕ) → list_all is_digit ds ≡ true → are_regular ds ≡ true
 digits_regular [] h = refl
 digits_regular (d ∷ ds) h = let parts = and_parts _ _ h in and_from _ _ (digit_regular d parts.0) (digits_regular ds parts.1)
 
-name_regular : (n : List ℕ) → list_all is_name_byte n ≡ true → are_regular n ≡ true
+pub name_regular : (n : List ℕ) → list_all is_name_byte n ≡ true → are_regular n ≡ true
 name_regular [] h = refl
 name_regular (c ∷ n) h = let parts = and_parts _ _ h in and_from _ _ (and_parts _ _ (and_parts _ _ parts.0).0).1 (name_regular n parts.1)
 

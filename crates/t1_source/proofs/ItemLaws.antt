@@ -15,7 +15,7 @@ items_skip earlier (suc skip) n (l ∷ ls) h =
     items_skip earlier skip (n + 1) ls (omega arith) ∙ ap (λ m. items_of earlier 0 m (drop skip ls)) (omega arith)
 
 -- an item read
-read_step : (earlier : List Numbered) (n : ℕ) (l : List ℕ) (ls : List (List ℕ)) (x : Taken) → told_at (Line n) (item_at earlier l ls) ≡ Ok x → x.1 ≤ length ls
+pub read_step : (earlier : List Numbered) (n : ℕ) (l : List ℕ) (ls : List (List ℕ)) (x : Taken) → told_at (Line n) (item_at earlier l ls) ≡ Ok x → x.1 ≤ length ls
     → items_of earlier 0 n (l ∷ ls) ≡ items_of (earlier ++ (n, x.0) ∷ []) 0 (n + (1 + x.1)) (drop x.1 ls)
 read_step earlier n l ls x e h =
     rw e (items_skip (earlier ++ (n, x.0) ∷ []) x.1 (n + 1) ls h ∙ ap (λ m. items_of (earlier ++ (n, x.0) ∷ []) 0 m (drop x.1 ls)) (omega arith))

@@ -19,11 +19,11 @@ use Rattle.t1_source.specs.Editing.{keeps, good_name, kerning_number}
 use Rattle.t1_source.proofs.PutLaws.{valued, put_keeps, put_ordered}
 
 -- the step that gave what a step after it was given
-bind_ok : {E A B : Type 0} (r : Result A E) (f : A → Result B E) (b : B) → (r >>= f) ≡ Ok b → (a : A) × (r ≡ Ok a) × (f a ≡ Ok b)
+pub bind_ok : {E A B : Type 0} (r : Result A E) (f : A → Result B E) (b : B) → (r >>= f) ≡ Ok b → (a : A) × (r ≡ Ok a) × (f a ≡ Ok b)
 bind_ok (Ok a) f b e = (a, refl, e)
 bind_ok (Err x) f b e = cc
 
-told_ok : {X : Type 0} (place : Place) (r : Result X Code) (x : X) → told_at place r ≡ Ok x → r ≡ Ok x
+pub told_ok : {X : Type 0} (place : Place) (r : Result X Code) (x : X) → told_at place r ≡ Ok x → r ≡ Ok x
 told_ok place (Ok y) x e = let same : y ≡ x = cc in ap Ok same
 told_ok place (Err c) x e = cc
 
@@ -146,7 +146,7 @@ pub removed_pairs : (ps : List Pair) (at : ℕ) → are_pairs ps ≡ true → ar
 unfolding are_pairs
 removed_pairs ps at h = let parts = and_parts _ _ h in and_from _ _ (all_removed is_kerning_pair at ps parts.0) (ordered_removed at ps parts.1)
 
-kept_ok : (rule : Rule) (b : Bool) → keeps rule b ≡ Ok tt → b ≡ true
+pub kept_ok : (rule : Rule) (b : Bool) → keeps rule b ≡ Ok tt → b ≡ true
 kept_ok rule true e = refl
 kept_ok rule false e = cc
 

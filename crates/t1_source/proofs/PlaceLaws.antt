@@ -7,7 +7,7 @@ use Rattle.t1_frac.specs.Words.{is_blank, trimmed_front}
 use Rattle.t1_source.specs.Tokens.{token_len, is_bracket, is_regular, places_from, joins_at, onto_place}
 use Rattle.t1_source.proofs.TokenLaws.{front_stays, regular_parts}
 
-regular_place : (i c : ℕ) (rest : List ℕ) → is_regular c ≡ true → places_from i (c ∷ rest) ≡ joins_at i c rest (places_from (i + 1) rest)
+pub regular_place : (i c : ℕ) (rest : List ℕ) → is_regular c ≡ true → places_from i (c ∷ rest) ≡ joins_at i c rest (places_from (i + 1) rest)
 regular_place i c rest h = let parts = regular_parts c h in rw (parts.0, parts.2, parts.1) refl
 
 places_skip : (i : ℕ) (l : List ℕ) → places_from i l ≡ places_from (i + prefix_len is_blank l) (trimmed_front l)
@@ -22,7 +22,7 @@ places_skip i (c ∷ rest) =
           ap (λ k. places_from k (c ∷ rest)) here ∙ ap (places_from (i + prefix_len is_blank (c ∷ rest))) (sym same)
     ]
 
-run_place : (i c : ℕ) (rest : List ℕ) → joins_at i c rest (places_from (i + 1) rest) ≡ (i, c ∷ take (prefix_len is_regular rest) rest) ∷ places_from (i + (1 + prefix_len is_regular rest)) (drop (prefix_len is_regular rest) rest)
+pub run_place : (i c : ℕ) (rest : List ℕ) → joins_at i c rest (places_from (i + 1) rest) ≡ (i, c ∷ take (prefix_len is_regular rest) rest) ∷ places_from (i + (1 + prefix_len is_regular rest)) (drop (prefix_len is_regular rest) rest)
 run_place i c [] = refl
 run_place i c (d ∷ rest) =
     elim (cases_Bool (is_regular d)) [

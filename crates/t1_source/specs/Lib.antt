@@ -6,6 +6,7 @@ pub mod Entries
 pub mod Form
 pub mod Gathered
 pub mod Header
+pub mod Kept
 pub mod Kerning
 pub mod LenIV
 pub mod Lines

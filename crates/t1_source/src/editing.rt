@@ -11,7 +11,7 @@ use crate::edit::{Cause, Rule};
 use crate::item::{Item, copied_items};
 use crate::rules::{body_words, good_body, good_name, keeps, number_up_to};
 use crate::sections::{is_glyphs_line, is_subrs_line};
-use crate::source::Source;
+use crate::source::{Draft, Source};
 use crate::tokens::same;
 use t1_frac::Bytes;
 
@@ -192,7 +192,7 @@ fn without(items: Vec<Item>, at: usize) -> Vec<Item>
 
 /// The source with another body of a glyph.
 #[tactic(auto, unfolding(crate::specs::Editing::replaced_glyph))]
-pub fn replaced_glyph(source: &Source, name: &[u8], body: &[u8]) -> Result<Source, Cause>
+pub fn replaced_glyph(source: &Source, name: &[u8], body: &[u8]) -> Result<Draft, Cause>
     ensures { Edits (λ made. made) result (replaced_glyph source.now name.now body.now) }
 {
     good_name(name)?;
@@ -210,7 +210,7 @@ pub fn replaced_glyph(source: &Source, name: &[u8], body: &[u8]) -> Result<Sourc
 
 /// The source with a new glyph.
 #[tactic(auto, unfolding(crate::specs::Editing::added_glyph))]
-pub fn added_glyph(source: &Source, name: &[u8], body: &[u8]) -> Result<Source, Cause>
+pub fn added_glyph(source: &Source, name: &[u8], body: &[u8]) -> Result<Draft, Cause>
     ensures { Edits (λ made. made) result (added_glyph source.now name.now body.now) }
 {
     good_name(name)?;
@@ -227,7 +227,7 @@ pub fn added_glyph(source: &Source, name: &[u8], body: &[u8]) -> Result<Source, 
 
 /// The source without a glyph.
 #[tactic(auto, unfolding(crate::specs::Editing::removed_glyph))]
-pub fn removed_glyph(source: &Source, name: &[u8]) -> Result<Source, Cause>
+pub fn removed_glyph(source: &Source, name: &[u8]) -> Result<Draft, Cause>
     ensures { Edits (λ made. made) result (removed_glyph source.now name.now) }
 {
     good_name(name)?;
@@ -254,7 +254,7 @@ fn has_subrs_line(items: &[Item]) -> bool
 
 /// The source with another body of a Subr.
 #[tactic(auto, unfolding(crate::specs::Editing::replaced_subr))]
-pub fn replaced_subr(source: &Source, number: i64, body: &[u8]) -> Result<Source, Cause>
+pub fn replaced_subr(source: &Source, number: i64, body: &[u8]) -> Result<Draft, Cause>
     ensures { Edits (λ made. made) result (replaced_subr source.now number body.now) }
 {
     let number = number_up_to(32000, number)?;
@@ -273,7 +273,7 @@ pub fn replaced_subr(source: &Source, number: i64, body: &[u8]) -> Result<Source
 
 /// The source with a new Subr.
 #[tactic(auto, unfolding(crate::specs::Editing::added_subr))]
-pub fn added_subr(source: &Source, number: i64, body: &[u8]) -> Result<Source, Cause>
+pub fn added_subr(source: &Source, number: i64, body: &[u8]) -> Result<Draft, Cause>
     ensures { Edits (λ made. made) result (added_subr source.now number body.now) }
 {
     let number = number_up_to(32000, number)?;
@@ -293,7 +293,7 @@ pub fn added_subr(source: &Source, number: i64, body: &[u8]) -> Result<Source, C
 
 /// The source without a Subr.
 #[tactic(auto, unfolding(crate::specs::Editing::removed_subr))]
-pub fn removed_subr(source: &Source, number: i64) -> Result<Source, Cause>
+pub fn removed_subr(source: &Source, number: i64) -> Result<Draft, Cause>
     ensures { Edits (λ made. made) result (removed_subr source.now number) }
 {
     let number = number_up_to(32000, number)?;

@@ -1,21 +1,27 @@
 //! What printing and reading have to do with each other.
 
-ghost use Rattle.std.specs.Prelude.{◌≡◌, ◌≤◌, ◌+◌, ℕ, List, ◌∷◌, ◌++◌, Some, true, false, Ok, codes, decimal, length, map};
+ghost use Rattle.std.specs.Prelude.{◌≡◌, ◌≤◌, ◌<◌, ◌^◌, ◌+◌, ℕ, List, ◌∷◌, ◌++◌, Some, true, false, Ok, codes, decimal, length, map};
 ghost use Rattle.std.specs.List.{list_all};
 ghost use Rattle.t1_source.specs.Lines.{lines, joined, is_line, trimmed};
 ghost use Rattle.t1_source.specs.declared.item.Item.{Item};
 ghost use Rattle.t1_source.specs.declared.item.Item.TheVariants.{Subr, Glyph};
-ghost use Rattle.t1_source.specs.Counts.{raised};
+ghost use Rattle.t1_source.specs.Counts.{glyphs_needed, raised};
 ghost use Rattle.t1_source.specs.Parts.{tail_of};
 ghost use Rattle.t1_source.specs.Names.{is_name};
 ghost use Rattle.t1_source.specs.Sections.{is_subrs_line, is_glyphs_line};
 ghost use Rattle.t1_source.specs.Entries.{Numbered, has, is_subr, is_glyph, is_word, body_of};
 ghost use Rattle.t1_source.specs.Private.{item_at};
-ghost use Rattle.t1_source.specs.Printing.{body_line, last_line, word_groups};
+ghost use Rattle.t1_source.specs.Form.{Form};
+ghost use Rattle.t1_source.specs.Reading.{reads};
+ghost use Rattle.t1_source.specs.Printing.{body_line, last_line, word_groups, text};
+ghost use Rattle.t1_source.specs.Kept.{IsKept, is_counted};
+ghost use Rattle.t1_source.specs.declared.edit.Edit.{Edit};
+ghost use Rattle.t1_source.specs.Editing.{edited};
 ghost use Rattle.t1_source.specs.declared.pairs.Pair.{Pair};
 ghost use Rattle.t1_source.specs.Kerning.{are_pairs, pairs, kern};
 
 use crate::pairs::Pairs;
+use crate::source::Source;
 
 /// Lines that are joined are cut as they were.
 pub fn joined_lines_cut()
@@ -57,6 +63,34 @@ pub fn raised_counts_stay()
 pub fn kept_tail_stays()
     ensures { (ls : List (List ℕ)) → tail_of (tail_of ls) ≡ tail_of ls }
 {}
+
+/// A source that is kept, and whose counts have at most nine digits, is read from its text as it was.
+pub fn printed_source_read()
+    ensures { (s : Form) → IsKept s → list_all is_counted s.items ≡ true → reads (text s) ≡ Ok s }
+{}
+
+/// A source that was read is kept.
+pub fn read_source_kept()
+    ensures { (bytes : List ℕ) (s : Form) → reads bytes ≡ Ok s → IsKept s }
+{}
+
+/// A source that is kept is kept through every edit.
+pub fn edited_source_kept()
+    ensures { (s made : Form) (ps others : List Pair) (edit : Edit) → IsKept s → edited s ps edit ≡ Ok (made, others)
+        → IsKept made }
+{}
+
+/// A source that was read, of fewer than 1,000,000,000 glyphs, is read from its text as it was.
+pub fn read_source_again()
+    ensures { (bytes : List ℕ) (s : Form) → reads bytes ≡ Ok s → glyphs_needed s.items < 10 ^ 9 → reads (text s) ≡ Ok s }
+{}
+
+/// The text of a source, whose counts have at most nine digits, is read as the source.
+pub fn text_of_source_read(source: &Source)
+    ensures { list_all is_counted source.now.items ≡ true → reads (text source.now) ≡ Ok source.now }
+{
+    let _items = source.kept_items();
+}
 
 /// Kerning pairs that are printed are read as they were.
 #[tactic(auto, using(crate::proofs::KernLaws::kern_again))]

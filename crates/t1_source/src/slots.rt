@@ -9,7 +9,7 @@ use crate::encoding::{array_len, encoding_at, has_standard, slot_of};
 use crate::lines::copied_bytes;
 use crate::printing::push_decimal;
 use crate::rules::{good_name, keeps, number_up_to};
-use crate::source::Source;
+use crate::source::{Draft, Source};
 use std::alloc::{AllocError, Global};
 use t1_frac::Bytes;
 
@@ -137,7 +137,7 @@ fn encoded_lines(
 
 /// The source with a code encoded.
 #[tactic(auto, unfolding(crate::specs::Editing::encoded))]
-pub fn encoded(source: &Source, code: i64, name: &[u8]) -> Result<Source, Cause>
+pub fn encoded(source: &Source, code: i64, name: &[u8]) -> Result<Draft, Cause>
     ensures { Edits (λ made. made) result (encoded source.now code name.now) }
 {
     good_name(name)?;
@@ -169,7 +169,7 @@ fn unencoded_lines(alloc: Global, code: u16, lines: &[Bytes]) -> Result<Vec<Byte
 
 /// The source without the slots of a code.
 #[tactic(auto, unfolding(crate::specs::Editing::unencoded))]
-pub fn unencoded(source: &Source, code: i64) -> Result<Source, Cause>
+pub fn unencoded(source: &Source, code: i64) -> Result<Draft, Cause>
     ensures { Edits (λ made. made) result (unencoded source.now code) }
 {
     let code = number_up_to(255, code)?;

@@ -39,11 +39,34 @@ impl Model for Source {
     ghost Value = { Form };
 
     ghost view = { λ source. record { clear = source.clear.items; items = source.items.items; tail = source.tail.items } };
+
+    ghost use Rattle.t1_source.specs.Kept.{IsKept};
+
+    ghost invariant = { λ source. IsKept (record { clear = source.clear.items; items = source.items.items; tail = source.tail.items }) };
 }
 
-ghost use Rattle.std.specs.Prelude.{◌≡◌, IfOk, option_map};
+/// What an edit makes of a source.
+#[derive(Debug, Drop)]
+pub struct Draft {
+    clear: Vec<Bytes>,
+    items: Vec<Item>,
+    tail: Vec<Bytes>,
+}
+
+impl Model for Draft {
+    ghost use Rattle.t1_source.specs.Form.{Form};
+
+    ghost Value = { Form };
+
+    ghost view = { λ draft. record { clear = draft.clear.items; items = draft.items.items; tail = draft.tail.items } };
+}
+
+ghost use Rattle.std.specs.Prelude.{◌≡◌, IfOk, option_map, true};
+ghost use Rattle.std.specs.List.{list_all};
 ghost use Rattle.t1_frac.specs.Outcome.{Gives};
+ghost use Rattle.t1_source.specs.Lines.{is_line};
 ghost use Rattle.t1_source.specs.Reading.{whole_check, reads_lines, reads, standard};
+ghost use Rattle.t1_source.specs.Kept.{IsKept};
 ghost use Rattle.t1_source.specs.LenIV.{lead};
 ghost use Rattle.t1_source.specs.Operator.{operator};
 ghost use Rattle.t1_source.specs.Header.{header};
@@ -66,6 +89,7 @@ fn check_whole(items: &Gathered) -> Result<(), Refusal>
 /// The source of some lines, or the first fault.
 #[tactic(auto, unfolding(crate::specs::Reading::reads_lines))]
 fn read_lines(alloc: Global, lines: &[Line]) -> Result<Source, Refusal>
+    requires { list_all is_line lines.now ≡ true }
     ensures { Gives (λ source. source) result (reads_lines lines.now) }
 {
     let parts = parts_of(lines)?;
@@ -86,7 +110,7 @@ fn read_lines(alloc: Global, lines: &[Line]) -> Result<Source, Refusal>
 /// The source of some bytes. The first fault refuses it: F1 where no line ends the clear part, F2 where none ends the
 /// private part, then F5 and F6 of the clear lines, F4 and F7 to F10 of the private lines, each from the top and
 /// with its line, then F3 and F11.
-#[tactic(auto, unfolding(crate::specs::Reading::reads))]
+#[tactic(auto, unfolding(crate::specs::Reading::reads), using(crate::proofs::KeptSourceLaws::lines_are_lines))]
 pub fn read_source(alloc: Global, bytes: &[u8]) -> Result<Source, Refusal>
     ensures { Gives (λ source. source) result (reads bytes.now) }
 {
@@ -113,11 +137,10 @@ impl Source {
     }
 
     /// The source with these items, and with its counts raised to what they need.
-    pub(crate) fn with_items(&self, items: Vec<Item>) -> Result<Source, AllocError>
+    pub(crate) fn with_items(&self, items: Vec<Item>) -> Result<Draft, AllocError>
         ensures { IfOk result (λ made. made ≡ with_items self.now items.items) }
     {
-        Ok(Source {
-            alloc: self.alloc,
+        Ok(Draft {
             clear: copied_bytes(self.alloc, self.clear.as_slice())?,
             items: raised(self.alloc, items)?,
             tail: copied_bytes(self.alloc, self.tail.as_slice())?,
@@ -125,15 +148,36 @@ impl Source {
     }
 
     /// The source with these clear lines.
-    pub(crate) fn with_clear(&self, clear: Vec<Bytes>) -> Result<Source, AllocError>
+    pub(crate) fn with_clear(&self, clear: Vec<Bytes>) -> Result<Draft, AllocError>
         ensures { IfOk result (λ made. made ≡ with_clear self.now clear.items) }
     {
-        Ok(Source {
-            alloc: self.alloc,
+        Ok(Draft {
             clear,
             items: copied_items(self.alloc, self.items.as_slice())?,
             tail: copied_bytes(self.alloc, self.tail.as_slice())?,
         })
+    }
+
+    /// The source that a draft is.
+    fn with_draft(&self, draft: Draft) -> Source
+        requires { IsKept draft }
+        ensures { result ≡ draft }
+    {
+        let Draft { clear, items, tail } = draft;
+        Source {
+            alloc: self.alloc,
+            clear,
+            items,
+            tail,
+        }
+    }
+
+    /// The items, of a source that was read or edited.
+    pub(crate) fn kept_items(&self) -> &[Item]
+        ensures value { result.now ≡ self.now.items }
+        ensures kept { IsKept self.now }
+    {
+        self.items.as_slice()
     }
 
     /// The lines of the clear part.
@@ -215,17 +259,24 @@ impl Source {
     pub fn edited(&self, pairs: &Pairs, edit: &Edit) -> Result<(Source, Pairs), Cause>
         ensures { Edits (λ made. made) result (edited self.now pairs.now edit.now) }
     {
+        let _items = self.kept_items();
         let source = match edit {
             Edit::ReplaceGlyph(name, body) => {
-                replaced_glyph(self, name.as_slice(), body.as_slice())?
+                self.with_draft(replaced_glyph(self, name.as_slice(), body.as_slice())?)
             }
-            Edit::AddGlyph(name, body) => added_glyph(self, name.as_slice(), body.as_slice())?,
-            Edit::RemoveGlyph(name) => removed_glyph(self, name.as_slice())?,
-            Edit::ReplaceSubr(number, body) => replaced_subr(self, *number, body.as_slice())?,
-            Edit::AddSubr(number, body) => added_subr(self, *number, body.as_slice())?,
-            Edit::RemoveSubr(number) => removed_subr(self, *number)?,
-            Edit::Encode(code, name) => encoded(self, *code, name.as_slice())?,
-            Edit::Unencode(code) => unencoded(self, *code)?,
+            Edit::AddGlyph(name, body) => {
+                self.with_draft(added_glyph(self, name.as_slice(), body.as_slice())?)
+            }
+            Edit::RemoveGlyph(name) => self.with_draft(removed_glyph(self, name.as_slice())?),
+            Edit::ReplaceSubr(number, body) => {
+                self.with_draft(replaced_subr(self, *number, body.as_slice())?)
+            }
+            Edit::AddSubr(number, body) => {
+                self.with_draft(added_subr(self, *number, body.as_slice())?)
+            }
+            Edit::RemoveSubr(number) => self.with_draft(removed_subr(self, *number)?),
+            Edit::Encode(code, name) => self.with_draft(encoded(self, *code, name.as_slice())?),
+            Edit::Unencode(code) => self.with_draft(unencoded(self, *code)?),
             Edit::Kern(left, right, value) => {
                 let pairs = kerned(pairs, left.as_slice(), right.as_slice(), *value)?;
                 return Ok((self.copied()?, pairs));

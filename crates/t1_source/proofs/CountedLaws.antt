@@ -1,0 +1,225 @@
+-- Counts of at most nine digits, of a source that was read.
+use Rattle.std.proofs.Common.{◌≡◌, ◌⊎◌, ℕ, zero, suc, Bool, true, false, not, ◌&&◌, ◌||◌, ◌+◌, ◌*◌, ◌-◌, ◌^◌, ◌<◌, ◌≤◌, nat_lt, nat_le, max, if◌then◌else◌, Option, None, Some, option_map, Result, Ok, Err, ok_or, List, [], ◌∷◌, ◌++◌, length, take, drop, map, fold, codes, refl, sym, ◌∙◌, ap, inl, inr, arith}
+use Rattle.std.specs.List.{list_all, list_any}
+use Rattle.std.proofs.Math.Nat.{mul-le-mul_right, pow-le-pow_right}
+use Rattle.std.proofs.lemmas.Bool.{and_parts, and_from, cases_Bool, leb-true, ltb-true, lt-ltb}
+use Rattle.std.proofs.lemmas.List.{map-append}
+use Rattle.std.proofs.lemmas.List.Folds.{list_all-append}
+use Rattle.t1_frac.specs.declared.fault.Code.{Code}
+use Rattle.t1_frac.specs.declared.fault.Code.TheVariants.{F4, F7, F8, F9, F10}
+use Rattle.t1_frac.specs.declared.fault.Fault.{Fault}
+use Rattle.t1_frac.specs.declared.fault.Place.TheVariants.{Line}
+use Rattle.t1_frac.specs.Outcome.{told_at, ◌>>=◌}
+use Rattle.t1_source.specs.declared.body.Body.{Body}
+use Rattle.t1_source.specs.declared.item.Item.{Item}
+use Rattle.t1_source.specs.declared.item.Item.TheVariants.{Plain, Section, Subr, Glyph}
+use Rattle.t1_source.specs.Form.{Form}
+use Rattle.t1_source.specs.Lines.{lines}
+use Rattle.t1_source.specs.Encoding.{clear_check}
+use Rattle.t1_source.specs.Parts.{Parts, parts_of, tail_of}
+use Rattle.t1_source.specs.Tokens.{tokens, places_from}
+use Rattle.t1_source.specs.Names.{is_digit, decimal_value, decimal_of, up_to, name_of_token}
+use Rattle.t1_source.specs.Sections.{is_count, count_between, section_at, subrs_line, glyphs_line, is_subrs_line, is_glyphs_line}
+use Rattle.t1_source.specs.Entries.{Numbered, Taken, has, is_subr, is_glyph, opens_subr, opens_glyph, opened_body, entry_of, subr_entry, glyph_entry}
+use Rattle.t1_source.specs.Private.{line_item, line_at, among_glyphs, among_subrs, item_at, items_of, private_items}
+use Rattle.t1_source.specs.Counts.{subrs_needed, glyphs_needed, raised_item, raised}
+use Rattle.t1_source.specs.Reading.{unnumbered, whole_check, reads_lines, reads}
+use Rattle.t1_source.specs.Printing.{text}
+use Rattle.t1_source.specs.Kept.{Stands, Stand, IsPrivate, IsKept, is_counted}
+use Rattle.t1_source.proofs.CountLaws.{glyphs_same, subrs_same}
+use Rattle.t1_source.proofs.PairsKeptLaws.{bind_ok, told_ok}
+use Rattle.t1_source.proofs.SectionLaws.{count_parts, count_place_of}
+use Rattle.t1_source.proofs.SectionLineLaws.{line_of}
+use Rattle.t1_source.proofs.KeptItemsLaws.{entry_given}
+use Rattle.t1_source.proofs.KeptSourceLaws.{source_kept}
+use Rattle.t1_source.proofs.SourceAgainLaws.{source_again}
+
+power_more : (k : ℕ) → 10 ^ suc k ≡ 10 * 10 ^ k
+power_more k = omega arith
+
+-- the value of digits behind a number
+value_from : (n : ℕ) (ds : List ℕ) → list_all is_digit ds ≡ true → fold (λ m d. 10 * m + (d - 48)) n ds < (n + 1) * 10 ^ length ds
+value_from n [] h = omega arith
+value_from n (d ∷ ds) h =
+    let parts = and_parts (is_digit d) (list_all is_digit ds) h in
+    let digit = and_parts (nat_le 48 d) (nat_le d 57) parts.0 in
+    let high = leb-true d 57 digit.1 in
+    let step : 10 * n + (d - 48) + 1 ≤ 10 * (n + 1) = omega (arith, high) in
+    let more = value_from (10 * n + (d - 48)) ds parts.1 in
+    let scaled = mul-le-mul_right (10 ^ length ds) step in
+    let size : 10 ^ length (d ∷ ds) ≡ 10 * 10 ^ length ds = power_more (length ds) in
+    value_step n (10 * n + (d - 48)) (10 ^ length ds) (10 ^ length (d ∷ ds)) _ size more scaled
+  where
+    value_step : (n m p q v : ℕ) → q ≡ 10 * p → v < (m + 1) * p → (m + 1) * p ≤ 10 * (n + 1) * p → v < (n + 1) * q
+    value_step n m p q v e a b = rw e (omega (arith, a, b))
+
+-- a count has a value below 1,000,000,000
+pub count_small : (ds : List ℕ) → is_count ds ≡ true → decimal_value ds < 10 ^ 9
+count_small ds h =
+    let c = count_parts ds h in
+    let value = value_from 0 ds c.2 in
+    let size = pow-le-pow_right (le_by 10) c.1 in
+    omega (arith, value, size)
+  where
+    le_by : (n : ℕ) → 0 < 10
+    le_by n = omega arith
+
+section_counted : (key word l : List ℕ) (o : Option (ℕ × List ℕ)) (s : Item) → is_count key ≡ false → count_between key word (places_from 0 l) ≡ o → option_map (section_at l) o ≡ Some s → is_counted s ≡ true
+section_counted key word l None s plain found e = cc
+section_counted key word l (Some m) s plain found e =
+    let same : section_at l m ≡ s = cc in
+    let r = count_place_of key word l m plain found in
+    ap is_counted (sym same) ∙ lt-ltb (decimal_value m.1) (10 ^ 9) (count_small m.1 r.counted)
+
+line_counted : (earlier : List Numbered) (l : List ℕ) (o p : Option Item) (x : Taken) → subrs_line l ≡ o → glyphs_line l ≡ p → line_item earlier l o p ≡ Ok x → is_counted x.0 ≡ true
+unfolding line_item
+line_counted earlier l None None x eo ep e = let same : ◌≡◌ {A = Taken} (Plain l, 0) x = cc in ap (λ y. is_counted y.0) (sym same)
+line_counted earlier l (Some s) None x eo ep e =
+    elim (cases_Bool (has is_subrs_line earlier || has is_glyphs_line earlier)) [
+      | inl late ↦ let none : Err F4 ≡ Ok x = rw late at e in cc
+      | inr first ↦
+          let here : ◌≡◌ {A = Result Taken Code} (Ok (s, 0)) (Ok x) = rw first at e in
+          let same : ◌≡◌ {A = Taken} (s, 0) x = cc in
+          ap (λ y. is_counted y.0) (sym same) ∙ section_counted (codes "/Subrs") (codes "array") l (count_between (codes "/Subrs") (codes "array") (places_from 0 l)) s refl refl eo
+    ]
+line_counted earlier l None (Some s) x eo ep e =
+    elim (cases_Bool (has is_glyphs_line earlier)) [
+      | inl late ↦ let none : Err F4 ≡ Ok x = rw late at e in cc
+      | inr first ↦
+          let here : ◌≡◌ {A = Result Taken Code} (Ok (s, 0)) (Ok x) = rw first at e in
+          let same : ◌≡◌ {A = Taken} (s, 0) x = cc in
+          ap (λ y. is_counted y.0) (sym same) ∙ section_counted (codes "/CharStrings") (codes "dict") l (count_between (codes "/CharStrings") (codes "dict") (places_from 0 l)) s refl refl ep
+    ]
+line_counted earlier l (Some s) (Some t) x eo ep e = cc
+
+glyph_counted : (earlier : List Numbered) (t : List ℕ) (body : Option Body) (x : Taken) → glyph_entry earlier t body ≡ Ok x → is_counted x.0 ≡ true
+unfolding glyph_entry
+glyph_counted earlier t body x e =
+    let named = bind_ok (ok_or (name_of_token t) F8) (λ g. if has (is_glyph g) earlier then Err F10 else ok_or (option_map (entry_of (Glyph g)) body) F7) x e in
+    let g = named.0 in
+    elim (cases_Bool (has (is_glyph g) earlier)) [
+      | inl old ↦ let none : Err F10 ≡ Ok x = rw old at named.2 in cc
+      | inr fresh ↦ ap is_counted (sym (entry_given (Glyph g) body F7 x (rw fresh at named.2)).2)
+    ]
+
+subr_counted : (earlier : List Numbered) (t : List ℕ) (body : Option Body) (x : Taken) → subr_entry earlier t body ≡ Ok x → is_counted x.0 ≡ true
+unfolding subr_entry
+subr_counted earlier t body x e =
+    let numbered = bind_ok (ok_or (up_to 32000 (decimal_of t)) F8) (λ n. if has (is_subr n) earlier then Err F9 else ok_or (option_map (entry_of (Subr n)) body) F7) x e in
+    let n = numbered.0 in
+    elim (cases_Bool (has (is_subr n) earlier)) [
+      | inl old ↦ let none : Err F9 ≡ Ok x = rw old at numbered.2 in cc
+      | inr fresh ↦ ap is_counted (sym (entry_given (Subr n) body F7 x (rw fresh at numbered.2)).2)
+    ]
+
+glyphs_counted : (earlier : List Numbered) (l : List ℕ) (ls : List (List ℕ)) (x : Taken) (o : Option (List ℕ)) → among_glyphs earlier l ls o ≡ Ok x → is_counted x.0 ≡ true
+glyphs_counted earlier l ls x None e = line_counted earlier l (subrs_line l) (glyphs_line l) x refl refl e
+glyphs_counted earlier l ls x (Some t) e = glyph_counted earlier t (opened_body l ls) x e
+
+subrs_counted : (earlier : List Numbered) (l : List ℕ) (ls : List (List ℕ)) (x : Taken) (o : Option (List ℕ)) → among_subrs earlier l ls o ≡ Ok x → is_counted x.0 ≡ true
+subrs_counted earlier l ls x None e = line_counted earlier l (subrs_line l) (glyphs_line l) x refl refl e
+subrs_counted earlier l ls x (Some t) e = subr_counted earlier t (opened_body l ls) x e
+
+item_counted : (earlier : List Numbered) (l : List ℕ) (ls : List (List ℕ)) (x : Taken) → item_at earlier l ls ≡ Ok x → is_counted x.0 ≡ true
+unfolding item_at
+item_counted earlier l ls x e =
+    elim (cases_Bool (has is_glyphs_line earlier)) [
+      | inl glyphs ↦ glyphs_counted earlier l ls x (opens_glyph (tokens l)) (rw glyphs at e)
+      | inr no_glyphs ↦ elim (cases_Bool (has is_subrs_line earlier)) [
+        | inl subrs ↦ subrs_counted earlier l ls x (opens_subr (tokens l)) (rw (no_glyphs, subrs) at e)
+        | inr no_subrs ↦ line_counted earlier l (subrs_line l) (glyphs_line l) x refl refl (rw (no_glyphs, no_subrs) at e)
+      ]
+    ]
+
+all_further : (items : List Numbered) (n : ℕ) (i : Item) → list_all is_counted (unnumbered items) ≡ true → is_counted i ≡ true → list_all is_counted (unnumbered (items ++ (n, i) ∷ [])) ≡ true
+all_further items n i h k =
+    ap (list_all is_counted) (map-append (λ x. x.1) items ((n, i) ∷ [])) ∙ list_all-append is_counted (unnumbered items) (i ∷ [])
+    ∙ and_from (list_all is_counted (unnumbered items)) (is_counted i && true) h (and_from (is_counted i) true k refl)
+
+items_counted : (earlier : List Numbered) (skip n : ℕ) (ls : List (List ℕ)) (items : List Numbered) → list_all is_counted (unnumbered earlier) ≡ true → items_of earlier skip n ls ≡ Ok items → list_all is_counted (unnumbered items) ≡ true
+items_counted earlier skip n [] items h e = let same : earlier ≡ items = cc in ap (λ t. list_all is_counted (unnumbered t)) (sym same) ∙ h
+items_counted earlier (suc skip) n (l ∷ ls) items h e = items_counted earlier skip (n + 1) ls items h e
+items_counted earlier zero n (l ∷ ls) items h e =
+    let step = bind_ok (told_at (Line n) (item_at earlier l ls)) (λ x. items_of (earlier ++ (n, x.0) ∷ []) x.1 (n + 1) ls) items e in
+    let x = step.0 in
+    let here = item_counted earlier l ls x (told_ok (Line n) (item_at earlier l ls) x step.1) in
+    items_counted (earlier ++ (n, x.0) ∷ []) x.1 (n + 1) ls items (all_further earlier n x.0 h here) step.2
+
+plain_counted : (n : ℕ) (ls : List (List ℕ)) → list_all is_counted (unnumbered (map (λ l. (n, Plain l)) ls)) ≡ true
+plain_counted n [] = refl
+plain_counted n (l ∷ ls) = plain_counted n ls
+
+private_counted : (n : ℕ) (ls : List (List ℕ)) (items : List Numbered) → private_items n ls ≡ Ok items → list_all is_counted (unnumbered items) ≡ true
+unfolding private_items
+private_counted n ls items e =
+    let k = length ls - 1 in
+    let last = map (λ l. (n + k, Plain l)) (drop k ls) in
+    let step = bind_ok (items_of [] 0 n (take k ls)) (λ its. Ok (its ++ map (λ l. (n + k, Plain l)) (drop k ls))) items e in
+    let whole : ◌≡◌ {A = Result (List Numbered) Fault} (Ok (step.0 ++ last)) (Ok items) = step.2 in
+    let same : step.0 ++ last ≡ items = cc in
+    ap (λ t. list_all is_counted (unnumbered t)) (sym same) ∙ ap (list_all is_counted) (map-append (λ x. x.1) step.0 last) ∙ list_all-append is_counted (unnumbered step.0) (unnumbered last)
+    ∙ and_from (list_all is_counted (unnumbered step.0)) (list_all is_counted (unnumbered last)) (items_counted [] 0 n (take k ls) step.0 refl step.1) (plain_counted (n + k) (drop k ls))
+
+-- how many Subrs need a count
+needed_small : (e items : List Item) (last : List ℕ) → Stand e items → subrs_needed (items ++ Plain last ∷ []) ≤ 32001
+needed_small e [] last h = omega arith
+needed_small e (Plain l ∷ items) last h = needed_small (e ++ Plain l ∷ []) items last h.1
+needed_small e (Section before n after ∷ items) last h = needed_small (e ++ Section before n after ∷ []) items last h.1
+needed_small e (Subr n ws closing ∷ items) last h =
+    let more = needed_small (e ++ Subr n ws closing ∷ []) items last h.1 in
+    let here = h.0.3 in
+    omega (arith, more, here)
+needed_small e (Glyph g ws closing ∷ items) last h = needed_small (e ++ Glyph g ws closing ∷ []) items last h.1
+
+chosen_small : (b : Bool) (s g : ℕ) → s < 10 ^ 9 → g < 10 ^ 9 → (if b then g else s) < 10 ^ 9
+chosen_small true s g p q = q
+chosen_small false s g p q = p
+
+raised_small : (s g : ℕ) (items : List Item) → s < 10 ^ 9 → g < 10 ^ 9 → list_all is_counted items ≡ true → list_all is_counted (map (raised_item s g) items) ≡ true
+raised_small s g [] p q h = refl
+raised_small s g (Plain l ∷ items) p q h = raised_small s g items p q h
+raised_small s g (Section before n after ∷ items) p q h =
+    let parts = and_parts (nat_lt n (10 ^ 9)) (list_all is_counted items) h in
+    let needed = if is_glyphs_line (Section before n after) then g else s in
+    let count = ltb-true n (10 ^ 9) parts.0 in
+    let small = chosen_small (is_glyphs_line (Section before n after)) s g p q in
+    and_from (nat_lt (max n needed) (10 ^ 9)) (list_all is_counted (map (raised_item s g) items)) (lt-ltb (max n needed) (10 ^ 9) (max_small n needed count small)) (raised_small s g items p q parts.1)
+  where
+    max_small : (a b : ℕ) → a < 10 ^ 9 → b < 10 ^ 9 → max a b < 10 ^ 9
+    max_small a b p q = omega (arith, p, q)
+raised_small s g (Subr n ws closing ∷ items) p q h = raised_small s g items p q h
+raised_small s g (Glyph name ws closing ∷ items) p q h = raised_small s g items p q h
+
+-- counts that are raised, where there are few glyphs
+pub raised_counted : (items : List Item) → IsPrivate (raised items) → glyphs_needed (raised items) < 10 ^ 9 → list_all is_counted items ≡ true → list_all is_counted (raised items) ≡ true
+raised_counted items p few h =
+    let s = subrs_needed items in
+    let g = glyphs_needed items in
+    let needed : subrs_needed (raised items) ≤ 32001 = rw p.whole (needed_small [] p.inner p.closefile p.stand) in
+    raised_small s g items (omega (arith, needed, subrs_same s g items)) (omega (arith, few, glyphs_same s g items)) h
+
+-- the counts of a source that was read
+pub read_counted : (bytes : List ℕ) (s : Form) → reads bytes ≡ Ok s → glyphs_needed s.items < 10 ^ 9 → list_all is_counted s.items ≡ true
+unfolding reads reads_lines
+read_counted bytes s e few =
+    let ls = lines bytes in
+    let kept = source_kept bytes s e in
+    let first = bind_ok (parts_of ls) (λ parts. clear_check parts.clear >>= λ encoded. private_items (length parts.clear + 1) parts.private >>= λ items. whole_check items >>= λ whole.
+    Ok (record { clear = parts.clear; items = raised (unnumbered items); tail = tail_of parts.tail })) s e in
+    let p = first.0 in
+    let second = bind_ok (clear_check p.clear) (λ encoded. private_items (length p.clear + 1) p.private >>= λ items. whole_check items >>= λ whole.
+    Ok (record { clear = p.clear; items = raised (unnumbered items); tail = tail_of p.tail })) s first.2 in
+    let third = bind_ok (private_items (length p.clear + 1) p.private) (λ items. whole_check items >>= λ whole. Ok (record { clear = p.clear; items = raised (unnumbered items); tail = tail_of p.tail })) s second.2 in
+    let ns = third.0 in
+    let fourth = bind_ok (whole_check ns) (λ whole. Ok (record { clear = p.clear; items = raised (unnumbered ns); tail = tail_of p.tail })) s third.2 in
+    let made : Form = record { clear = p.clear; items = raised (unnumbered ns); tail = tail_of p.tail } in
+    let last : ◌≡◌ {A = Result Form Fault} (Ok made) (Ok s) = fourth.2 in
+    let same : made ≡ s = cc in
+    let is : raised (unnumbered ns) ≡ s.items = ap (λ t. t.items) same in
+    let private : IsPrivate (raised (unnumbered ns)) = rw is kept.items in
+    let small : glyphs_needed (raised (unnumbered ns)) < 10 ^ 9 = rw is few in
+    ap (list_all is_counted) (sym is) ∙ raised_counted (unnumbered ns) private small (private_counted (length p.clear + 1) p.private ns third.1)
+
+-- a source that was read, of fewer than 1,000,000,000 glyphs
+pub read_again : (bytes : List ℕ) (s : Form) → reads bytes ≡ Ok s → glyphs_needed s.items < 10 ^ 9 → reads (text s) ≡ Ok s
+read_again bytes s e few = source_again s (source_kept bytes s e) (read_counted bytes s e few)

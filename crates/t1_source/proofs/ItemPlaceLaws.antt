@@ -1,0 +1,154 @@
+-- Lists around an element at a place that was found.
+use Rattle.std.proofs.Common.{◌≡◌, ℕ, zero, suc, Bool, true, false, not, ◌||◌, ◌&&◌, ◌+◌, ◌-◌, ◌<◌, ◌≤◌, nat_lt, cond, Option, None, Some, List, [], ◌∷◌, ◌++◌, length, take, drop, set, get_or, reverse, filter_map, refl, sym, ◌∙◌, ap, inl, inr, arith, append_assoc, length-append}
+use Rattle.std.specs.List.{list_any, list_all, position, position_or_len, insert, remove, cons_option}
+use Rattle.std.proofs.lemmas.Bool.{cases_Bool, ltb-true, or_parts}
+use Rattle.std.proofs.lemmas.List.{reverse-append, length-reverse}
+use Rattle.std.proofs.lemmas.List.Elements.{filter_map-append}
+use Rattle.std.proofs.lemmas.List.Folds.{list_any-append}
+use Rattle.std.proofs.Math.Numerals.{one-add}
+use Rattle.std.proofs.Math.Seq.{drop-append_seam, drop-append-add, take-append_seam, take-append-add, set-append_seam, get_or-append_seam}
+use Rattle.t1_source.specs.Editing.{through_last}
+
+-- an element that passes a test, and what stands around it
+pub record At {X : Type 0} (test : X → Bool) (xs : List X) : Type 0 where
+  pub before : List X
+  pub here : X
+  pub after : List X
+  pub whole : xs ≡ before ++ here ∷ after
+  pub passes : test here ≡ true
+
+-- the first one
+pub record First {X : Type 0} (test : X → Bool) (xs : List X) (at : ℕ) : Type 0 where
+  pub found : At test xs
+  pub place : at ≡ length found.before
+  pub first : list_any test found.before ≡ false
+
+neither : (a b : Bool) → a ≡ false → b ≡ false → (a || b) ≡ false
+neither true b p q = p
+neither false b p q = q
+
+pub first_at : {X : Type 0} (test : X → Bool) (xs : List X) → position_or_len test xs < length xs → First test xs (position_or_len test xs)
+first_at test [] h = absurd (omega arith)
+first_at test (x ∷ xs) h =
+    elim (cases_Bool (test x)) [
+      | inl on ↦ record { found = record { before = []; here = x; after = xs; whole = refl; passes = on }; place = rw on refl; first = refl }
+      | inr off ↦
+          let more : position_or_len test xs < length xs = (let near : 1 + position_or_len test xs < length (x ∷ xs) = rw off at h in omega (arith, near)) in
+          let r = first_at test xs more in
+          let step : position_or_len test (x ∷ xs) ≡ 1 + position_or_len test xs = rw off refl in
+          record {
+            found = record { before = x ∷ r.found.before; here = r.found.here; after = r.found.after; whole = ap (λ t. x ∷ t) r.found.whole; passes = r.found.passes };
+            place = omega (arith, step, r.place);
+            first = neither (test x) (list_any test r.found.before) off r.first;
+          }
+    ]
+
+pub position_first : {X : Type 0} (test : X → Bool) (xs : List X) (at : ℕ) → position test xs ≡ Some at → First test xs at
+position_first test xs at e =
+    elim (cases_Bool (nat_lt (position_or_len test xs) (length xs))) [
+      | inl within ↦
+          let near : Some (position_or_len test xs) ≡ Some at = rw within at e in
+          let same : position_or_len test xs ≡ at = cc in
+          rw (← same) (first_at test xs (ltb-true (position_or_len test xs) (length xs) within))
+      | inr outside ↦ let none : None ≡ Some at = rw outside at e in cc
+    ]
+
+-- the list with another element there, without it, and its element there
+pub set_there : {X : Type 0} (a : List X) (x : X) (b : List X) (at : ℕ) (y : X) → at ≡ length a → set (a ++ x ∷ b) at y ≡ a ++ y ∷ b
+set_there a x b at y e = ap (λ k. set (a ++ x ∷ b) k y) e ∙ set-append_seam a x b y
+
+pub removed_there : {X : Type 0} (a : List X) (x : X) (b : List X) (at : ℕ) → at ≡ length a → remove (a ++ x ∷ b) at ≡ a ++ b
+removed_there a x b at e =
+    let n : suc at ≡ length a + 1 = omega (arith, e) in
+    ap (λ k. take k (a ++ x ∷ b) ++ drop (suc at) (a ++ x ∷ b)) e ∙ ap (λ t. t ++ drop (suc at) (a ++ x ∷ b)) (take-append_seam a (x ∷ b))
+    ∙ ap (λ k. a ++ drop k (a ++ x ∷ b)) n ∙ ap (λ t. a ++ t) (drop-append-add a (x ∷ b) 1)
+
+pub got_there : {X : Type 0} (a : List X) (x : X) (b : List X) (at : ℕ) (d : X) → at ≡ length a → get_or (a ++ x ∷ b) at d ≡ x
+got_there a x b at d e = ap (λ k. get_or (a ++ x ∷ b) k d) e ∙ get_or-append_seam a x b d
+
+-- an element put in
+pub insert_there : {X : Type 0} (a b : List X) (at : ℕ) (y : X) → at ≡ length a → insert (a ++ b) at y ≡ a ++ y ∷ b
+insert_there a b at y e =
+    ap (λ k. take k (a ++ b) ++ y ∷ drop k (a ++ b)) e ∙ ap (λ t. t ++ y ∷ drop (length a) (a ++ b)) (take-append_seam a b) ∙ ap (λ t. a ++ y ∷ t) (drop-append_seam a b)
+
+-- the last element that passes a test
+pub record Last {X : Type 0} (test : X → Bool) (xs : List X) : Type 0 where
+  pub found : At test xs
+  pub none : list_any test found.after ≡ false
+
+pub last_of : {X : Type 0} (test : X → Bool) (xs : List X) → list_any test xs ≡ true → Last test xs
+last_of test [] h = cc
+last_of test (x ∷ xs) h =
+    elim (cases_Bool (list_any test xs)) [
+      | inl later ↦
+          let r = last_of test xs later in
+          record {
+            found = record { before = x ∷ r.found.before; here = r.found.here; after = r.found.after; whole = ap (λ t. x ∷ t) r.found.whole; passes = r.found.passes };
+            none = r.none;
+          }
+      | inr none ↦
+          record {
+            found = record { before = []; here = x; after = xs; whole = refl; passes = passes_first (test x) (list_any test xs) h none };
+            none = none;
+          }
+    ]
+  where
+    passes_first : (b c : Bool) → (b || c) ≡ true → c ≡ false → b ≡ true
+    passes_first true c h k = refl
+    passes_first false c h k = cc
+
+any_turned : {X : Type 0} (test : X → Bool) (xs : List X) → list_any test xs ≡ false → list_any test (reverse xs) ≡ false
+any_turned test [] h = refl
+any_turned test (x ∷ xs) h =
+    let parts = or_parts (test x) (list_any test xs) h in
+    ap (list_any test) (reverse-append (x ∷ []) xs) ∙ list_any-append test (reverse xs) (x ∷ []) ∙ (let a = any_turned test xs parts.1 in rw (a, parts.0) refl)
+
+-- the first element that passes a test stands behind others
+pub place_after : {X : Type 0} (test : X → Bool) (xs : List X) (x : X) (ys : List X) → list_any test xs ≡ false → test x ≡ true → position_or_len test (xs ++ x ∷ ys) ≡ length xs
+place_after test [] x ys none on = rw on refl
+place_after test (z ∷ xs) x ys none on =
+    let parts = or_parts (test z) (list_any test xs) none in
+    let more = place_after test xs x ys parts.1 on in
+    let off = parts.0 in
+    rw off (omega (arith, more))
+
+pub through_place : {X : Type 0} (test : X → Bool) (a : List X) (x : X) (b : List X) → test x ≡ true → list_any test b ≡ false → through_last test (a ++ x ∷ b) ≡ length (a ++ x ∷ [])
+unfolding through_last
+through_place test a x b on none =
+    let turned : reverse (a ++ x ∷ b) ≡ reverse b ++ x ∷ reverse a =
+    reverse-append a (x ∷ b) ∙ ap (λ t. t ++ reverse a) (reverse-append (x ∷ []) b) ∙ append_assoc (reverse b) (x ∷ []) (reverse a) in
+    let place : position_or_len test (reverse (a ++ x ∷ b)) ≡ length b = ap (position_or_len test) turned ∙ place_after test (reverse b) x (reverse a) (any_turned test b none) on ∙ length-reverse b in
+    omega (arith, place, length-append a (x ∷ b), length-append a (x ∷ []))
+
+-- an element that fails a test, or of which nothing is said, among others
+pub any_middle : {X : Type 0} (test : X → Bool) (a : List X) (x : X) (b : List X) → test x ≡ false → list_any test (a ++ x ∷ b) ≡ list_any test (a ++ b)
+any_middle test [] x b off = rw off refl
+any_middle test (c ∷ a) x b off = ap (λ t. test c || t) (any_middle test a x b off)
+
+pub said_middle : {X Y : Type 0} (say : X → Option Y) (a : List X) (x : X) (b : List X) → say x ≡ None → filter_map say (a ++ x ∷ b) ≡ filter_map say (a ++ b)
+said_middle say [] x b off = rw off refl
+said_middle say (c ∷ a) x b off = ap (cons_option (say c)) (said_middle say a x b off)
+
+none_longer : {X : Type 0} (a b : List X) (x : X) → [] ≡ a ++ x ∷ b → ⊥
+none_longer [] b x e = cc
+none_longer (c ∷ a) b x e = cc
+
+-- an element that isn't the last one stands before it
+pub before_last : {X : Type 0} (test : X → Bool) (xs : List X) (last : X) (a : List X) (x : X) (b : List X) → test last ≡ false → test x ≡ true → xs ++ last ∷ [] ≡ a ++ x ∷ b
+    → (c : List X) × (b ≡ c ++ last ∷ []) × (xs ≡ a ++ x ∷ c)
+before_last test [] last [] x b off on e =
+    let same : last ≡ x = cc in
+    absurd (apart (test last) (ap test same ∙ on) off)
+  where
+    apart : (b : Bool) → b ≡ true → b ≡ false → ⊥
+    apart b p q = cc
+before_last test [] last (c ∷ a) x b off on e = absurd (none_longer a b x (let rest : [] ≡ a ++ x ∷ b = cc in rest))
+before_last test (y ∷ xs) last [] x b off on e =
+    let same : y ≡ x = cc in
+    let rest : xs ++ last ∷ [] ≡ b = cc in
+    (xs, sym rest, ap (λ t. t ∷ xs) same)
+before_last test (y ∷ xs) last (c ∷ a) x b off on e =
+    let same : y ≡ c = cc in
+    let rest : xs ++ last ∷ [] ≡ a ++ x ∷ b = cc in
+    let r = before_last test xs last a x b off on rest in
+    (r.0, r.1, ap (λ t. t ∷ xs) same ∙ ap (λ t. c ∷ t) r.2)
