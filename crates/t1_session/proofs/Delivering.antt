@@ -18,7 +18,8 @@ use Rattle.t1_source.specs.Reading.{reads}
 use Rattle.t1_afm.specs.Afm.{afm}
 use Rattle.t1_glyphs.specs.Bodies.{bodies_check}
 use Rattle.t1_glyphs.specs.Shapes.{Measured, measured}
-use Rattle.t1_session.specs.Metrics.{metrics_file, sheet}
+use Rattle.t1_glyphs.specs.Sheet.{sheet}
+use Rattle.t1_session.specs.Measuring.{metrics_file}
 use Rattle.t1_session.specs.Delivery.{Delivers, told_by_writing}
 
 -- the file of a source whose bodies have no fault, by its parts

@@ -3,6 +3,5 @@ pub mod Delivering
 pub mod FileLaws
 pub mod Gathering
 pub mod LineLaws
-pub mod Picking
 pub mod Rows
 pub mod Sessions

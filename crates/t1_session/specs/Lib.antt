@@ -1,11 +1,10 @@
 pub mod Answers
 pub mod Assembly
-pub mod Coded
 pub mod Delivery
 pub mod Dialogues
 pub mod Lines
 pub mod Machine
-pub mod Metrics
+pub mod Measuring
 pub mod Replies
 pub mod Requests
 pub mod Serving

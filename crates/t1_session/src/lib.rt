@@ -8,7 +8,6 @@ mod dialogue;
 mod error;
 pub mod laws;
 mod measuring;
-mod metrics;
 mod numbers;
 mod print;
 mod private;

@@ -2,16 +2,16 @@
 ghost use Rattle.std.specs.Prelude.{Ok};
 ghost use Rattle.t1_afm.specs.Afm.{afm};
 ghost use Rattle.t1_session.specs.Delivery.{Delivers};
-ghost use Rattle.t1_session.specs.Metrics.{metrics_file, sheet};
+ghost use Rattle.t1_glyphs.specs.Sheet.{sheet};
+ghost use Rattle.t1_session.specs.Measuring.{metrics_file};
 
 use crate::error::ServeError;
-use crate::metrics::metrics;
 use crate::session::file_of;
 use std::alloc::Global;
 use std::io::Write;
 use t1_afm::write_afm;
 use t1_code::Counted;
-use t1_glyphs::{Glyphs, compiled, measured};
+use t1_glyphs::{Glyphs, compiled, measured, metrics};
 use t1_run::Meter;
 use t1_source::{Pairs, Source, read_pairs, read_source};
 
@@ -32,7 +32,7 @@ fn write_metrics<W: Write>(
 /// Reads a source and a kerning file, and writes the AFM file of the font: the whole file at `Ok`, a beginning of it at
 /// `Write`. `Load` tells the first fault: of reading the source, of the pairs, of the bodies, F23, or of a glyph, in
 /// this order; nothing was written then, nor where memory ran out. `Read` is never answered.
-#[tactic(auto, unfolding(crate::specs::Metrics::metrics_file))]
+#[tactic(auto, unfolding(crate::specs::Measuring::metrics_file))]
 pub fn measure_source<W: Write>(
     alloc: Global,
     source: &[u8],

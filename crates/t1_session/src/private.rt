@@ -2,9 +2,8 @@
 ghost use Rattle.std.specs.Prelude.{◌≡◌, ◌∷◌, ◌++◌, [], IfOk, codes, decimal};
 ghost use Rattle.std.specs.List.{flat_map};
 ghost use Rattle.t1_frac.specs.declared.fault.Place.TheVariants as places;
-ghost use Rattle.t1_frac.specs.Outcome.{Gives, told_at};
+ghost use Rattle.t1_frac.specs.Outcome.{Gives};
 ghost use Rattle.t1_code.specs.Charstring.{charstring};
-ghost use Rattle.t1_code.specs.Words.{commands};
 ghost use Rattle.t1_code.specs.Cipher.{encrypted_charstring as encrypted};
 ghost use Rattle.t1_code.specs.Parts.{piece_text};
 ghost use Rattle.t1_code.specs.Pfb.{entry_text};
@@ -12,8 +11,9 @@ ghost use Rattle.t1_session.specs.Assembly.{entry_line, item_line, line_text, pr
 
 use itoa::Buffer;
 use std::alloc::{AllocError, Global};
-use t1_code::{Body, Piece, compile, encrypted_charstring};
-use t1_frac::{Bytes, Fault, Place, Refusal, Words};
+use t1_code::{Body, Piece, encrypted_charstring};
+use t1_frac::{Refusal, Words};
+use t1_glyphs::{compiled_glyph, compiled_subr};
 use t1_source::Item;
 
 /// A line of the private text, ready to be written.
@@ -28,32 +28,6 @@ pub enum Line<'a> {
         charstring: Vec<u8>,
         closing: &'a [u8],
     },
-}
-
-/// The commands of a Subr's words, or their fault with the Subr's number.
-fn compiled_subr(alloc: Global, number: u16, words: &Words) -> Result<Body, Refusal>
-    ensures { Gives (λ body. body) result (told_at (places.Subr number) (commands words.now)) }
-{
-    match compile(alloc, words) {
-        Err(Refusal::Fault(fault)) => Err(Refusal::Fault(Fault {
-            code: fault.code,
-            place: Place::Subr(number),
-        })),
-        compiled => compiled,
-    }
-}
-
-/// The commands of a glyph's words, or their fault with the glyph's name.
-fn compiled_glyph(alloc: Global, name: &[u8], words: &Words) -> Result<Body, Refusal>
-    ensures { Gives (λ body. body) result (told_at (places.Glyph name.now) (commands words.now)) }
-{
-    match compile(alloc, words) {
-        Err(Refusal::Fault(fault)) => Err(Refusal::Fault(Fault {
-            code: fault.code,
-            place: Place::Glyph(Bytes::copied(alloc, name)?),
-        })),
-        compiled => compiled,
-    }
 }
 
 /// An entry's line behind `dup N` or `/NAME`.
