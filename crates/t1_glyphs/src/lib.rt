@@ -10,6 +10,7 @@ mod chars;
 mod composites;
 mod glyphs;
 mod kern;
+pub mod laws;
 mod outline;
 mod runs;
 mod shapes;
@@ -24,3 +25,6 @@ pub use outline::{Outline, outline_of};
 pub use runs::{Runs, runs_of};
 pub use shapes::{Accented, Shape, shapes_of};
 pub use sheet::metrics;
+
+#[cfg(test)]
+mod tests;
