@@ -5,4 +5,5 @@ pub mod Keeping
 pub mod Measuring
 pub mod Naming
 pub mod Ordering
+pub mod Outlining
 pub mod Rows

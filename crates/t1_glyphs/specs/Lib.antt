@@ -1,5 +1,6 @@
 pub mod Bodies
 pub mod Glyphs
+pub mod Laws
 pub mod Metrics
 pub mod Names
 pub mod Outlines

@@ -10,17 +10,18 @@ mod chars;
 mod composites;
 mod glyphs;
 mod kern;
+pub mod laws;
 mod outline;
 mod runs;
 mod shapes;
 mod sheet;
 
 pub use bodies::{compiled, compiled_glyph, compiled_subr};
-pub use chars::char_metrics;
-pub use composites::composite_metrics;
 pub use glyphs::{Glyphs, measured};
-pub use kern::kern_metrics;
 pub use outline::{Outline, outline_of};
 pub use runs::{Runs, runs_of};
 pub use shapes::{Accented, Shape, shapes_of};
 pub use sheet::metrics;
+
+#[cfg(test)]
+mod tests;
