@@ -23,6 +23,7 @@ pub mod KeyLaws
 pub mod LastLaws
 pub mod LineLaws
 pub mod NumberLaws
+pub mod OrderLaws
 pub mod PairLaws
 pub mod PairsKeptLaws
 pub mod PlaceLaws
