@@ -3,7 +3,7 @@ use Rattle.std.specs.Prelude.{◌≡◌, ℕ, pos, negsuc, List, [], ◌∷◌, 
 use Rattle.std.specs.Fmt.{digits}
 use Rattle.t1_source.specs.declared.item.Item.{Item}
 use Rattle.t1_source.specs.declared.item.Item.TheVariants.{Plain, Section, Subr, Glyph}
-use Rattle.t1_source.specs.declared.edit.Edit.TheVariants.{ReplaceGlyph, AddGlyph, RemoveGlyph, AddSubr, RemoveSubr, Encode, Unencode, Kern, Unkern}
+use Rattle.t1_source.specs.declared.edit.Edit.TheVariants.{ReplaceGlyph, AddGlyph, RemoveGlyph, ReplaceSubr, AddSubr, RemoveSubr, Encode, Unencode, Kern, Unkern}
 use Rattle.t1_source.specs.declared.edit.Rule.TheVariants.{E1, E2, E3, E4, E5, E6, E9, E10}
 use Rattle.t1_source.specs.Form.{Form}
 use Rattle.t1_source.specs.Editing.{edited, replaced_glyph, added_glyph, removed_glyph, replaced_subr, added_subr, removed_subr, encoded, unencoded, kerned, unkerned, array_parts, through_last, among_subrs_items, among_glyphs_items, is_slot, is_slot_of}
@@ -62,6 +62,12 @@ pub subr_removed : edited (subrs_form_of 5 (Subr 4 [] (codes "NP") ∷ [])) [] (
 unfolding digits edited replaced_glyph added_glyph removed_glyph replaced_subr added_subr removed_subr encoded unencoded kerned unkerned array_parts through_last among_subrs_items among_glyphs_items is_slot is_slot_of
 subr_removed = refl
 
+-- a Subr replaced keeps its place and its closing text
+pub subr_replaced : edited (subrs_form_of 5 (Subr 4 [] (codes "NP") ∷ Subr 3 (codes "return" ∷ []) (codes "ND") ∷ [])) [] (ReplaceSubr (pos 4) (codes "5 return"))
+    ≡ Ok (subrs_form_of 5 (Subr 4 (codes "5" ∷ codes "return" ∷ []) (codes "NP") ∷ Subr 3 (codes "return" ∷ []) (codes "ND") ∷ []), [])
+unfolding digits edited replaced_glyph added_glyph removed_glyph replaced_subr added_subr removed_subr encoded unencoded kerned unkerned array_parts through_last among_subrs_items among_glyphs_items is_slot is_slot_of
+subr_replaced = refl
+
 -- each rule once
 pub replaced_missing : edited space_form [] (ReplaceGlyph (codes "A") (codes "endchar")) ≡ Err E1
 unfolding digits edited replaced_glyph added_glyph removed_glyph replaced_subr added_subr removed_subr encoded unencoded kerned unkerned array_parts through_last among_subrs_items among_glyphs_items is_slot is_slot_of
@@ -102,6 +108,28 @@ unkern_missing = refl
 pub unencode_missing : edited (array_form (codes "dup 8#101/space put" ∷ [])) [] (Unencode (pos 66)) ≡ Err E10
 unfolding digits edited replaced_glyph added_glyph removed_glyph replaced_subr added_subr removed_subr encoded unencoded kerned unkerned array_parts through_last among_subrs_items among_glyphs_items is_slot is_slot_of
 unencode_missing = refl
+
+-- the first broken rule is told: a name before a number, the right name before the value, a number before a body,
+-- a body before a section, and a standard encoding before a missing slot
+pub kern_named : edited space_form [] (Kern (codes "(") (codes "V") (pos 99999)) ≡ Err E3
+unfolding digits edited replaced_glyph added_glyph removed_glyph replaced_subr added_subr removed_subr encoded unencoded kerned unkerned array_parts through_last among_subrs_items among_glyphs_items is_slot is_slot_of
+kern_named = refl
+
+pub kern_right_named : edited space_form [] (Kern (codes "A") (codes "(") (pos 99999)) ≡ Err E3
+unfolding digits edited replaced_glyph added_glyph removed_glyph replaced_subr added_subr removed_subr encoded unencoded kerned unkerned array_parts through_last among_subrs_items among_glyphs_items is_slot is_slot_of
+kern_right_named = refl
+
+pub subr_numbered : edited space_form [] (AddSubr (pos 32001) (codes "}")) ≡ Err E4
+unfolding digits edited replaced_glyph added_glyph removed_glyph replaced_subr added_subr removed_subr encoded unencoded kerned unkerned array_parts through_last among_subrs_items among_glyphs_items is_slot is_slot_of
+subr_numbered = refl
+
+pub subr_braced : edited space_form [] (AddSubr (pos 0) (codes "}")) ≡ Err E6
+unfolding digits edited replaced_glyph added_glyph removed_glyph replaced_subr added_subr removed_subr encoded unencoded kerned unkerned array_parts through_last among_subrs_items among_glyphs_items is_slot is_slot_of
+subr_braced = refl
+
+pub standard_unencoded : edited space_form [] (Unencode (pos 66)) ≡ Err E5
+unfolding digits edited replaced_glyph added_glyph removed_glyph replaced_subr added_subr removed_subr encoded unencoded kerned unkerned array_parts through_last among_subrs_items among_glyphs_items is_slot is_slot_of
+standard_unencoded = refl
 
 -- a pair put in, given another value and taken out
 pub kern_added : edited space_form [] (Kern (codes "A") (codes "V") (negsuc 91)) ≡ Ok (space_form, kern_av ∷ [])

@@ -24,6 +24,7 @@ pub mod LastLaws
 pub mod LineLaws
 pub mod MarkLaws
 pub mod NumberLaws
+pub mod OrderLaws
 pub mod PairLaws
 pub mod PairsKeptLaws
 pub mod PlaceLaws

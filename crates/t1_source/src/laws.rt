@@ -1,7 +1,7 @@
 //! What printing and reading have to do with each other.
 
 ghost use Rattle.std.specs.Prelude.{◌≡◌, ◌≤◌, ◌<◌, ◌^◌, ◌+◌, ℕ, List, ◌∷◌, ◌++◌, Some, true, false, Ok, codes, decimal, length, map};
-ghost use Rattle.std.specs.List.{list_all};
+ghost use Rattle.std.specs.List.{list_all, list_any};
 ghost use Rattle.t1_source.specs.Lines.{lines, joined, is_line, trimmed};
 ghost use Rattle.t1_source.specs.declared.item.Item.{Item};
 ghost use Rattle.t1_source.specs.declared.item.Item.TheVariants.{Subr, Glyph};
@@ -16,7 +16,7 @@ ghost use Rattle.t1_source.specs.Reading.{reads};
 ghost use Rattle.t1_source.specs.Printing.{body_line, last_line, word_groups, text};
 ghost use Rattle.t1_source.specs.Kept.{IsKept, is_counted};
 ghost use Rattle.t1_source.specs.declared.edit.Edit.{Edit};
-ghost use Rattle.t1_source.specs.Editing.{edited};
+ghost use Rattle.t1_source.specs.Editing.{edited, is_subr_entry};
 ghost use Rattle.t1_source.specs.declared.pairs.Pair.{Pair};
 ghost use Rattle.t1_source.specs.Kerning.{are_pairs, pairs, kern};
 
@@ -83,6 +83,12 @@ pub fn edited_source_kept()
 /// A source that was read, of fewer than 1,000,000,000 glyphs, is read from its text as it was.
 pub fn read_source_again()
     ensures { (bytes : List ℕ) (s : Form) → reads bytes ≡ Ok s → glyphs_needed s.items < 10 ^ 9 → reads (text s) ≡ Ok s }
+{}
+
+/// In a source that is kept no Subr stands behind a glyph.
+pub fn subrs_stand_first()
+    ensures { (s : Form) (a b : List Item) (g : List ℕ) (ws : List (List ℕ)) (closing : List ℕ) → IsKept s
+        → s.items ≡ a ++ Glyph g ws closing ∷ b → list_any is_subr_entry b ≡ false }
 {}
 
 /// The text of a source, whose counts have at most nine digits, is read as the source.

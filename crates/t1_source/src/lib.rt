@@ -33,3 +33,6 @@ pub use edit::{Cause, Edit, Rule};
 pub use item::Item;
 pub use pairs::{Pair, Pairs, read_pairs};
 pub use source::{Source, read_source};
+
+#[cfg(test)]
+mod tests;
