@@ -1,5 +1,5 @@
 -- Edits of a source and its kerning pairs.
-use Rattle.std.specs.Prelude.{◌≡◌, ℕ, Bool, true, false, not, ◌+◌, ◌-◌, ◌||◌, ◌&&◌, ◌==◌, nat_le, nat_abs, ℤ, pos, negsuc, if◌then◌else◌, Option, Some, None, Result, Ok, Err, ok_or, option_map, unwrap_or, List, [], ◌∷◌, ◌++◌, length, take, drop, reverse, filter, codes, flat_map, decimal}
+use Rattle.std.specs.Prelude.{◌≡◌, ℕ, Bool, true, false, not, ◌+◌, ◌-◌, ◌||◌, ◌&&◌, ◌==◌, nat_le, ℤ, pos, negsuc, if◌then◌else◌, Option, Some, None, Result, Ok, Err, ok_or, option_map, unwrap_or, List, [], ◌∷◌, ◌++◌, length, take, drop, reverse, filter, codes, flat_map, decimal}
 use Rattle.std.specs.List.{list_any, find, position, position_or_len, insert, remove, slice_set, slice_index_or}
 use Rattle.std.specs.Str.{bytes_eq}
 use Rattle.t1_frac.specs.Outcome.{◌>>=◌}

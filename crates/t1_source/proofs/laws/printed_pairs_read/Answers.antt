@@ -1,5 +1,3 @@
-use Rattle.std.proofs.Common.{◌≡◌, List, true}
-use Rattle.t1_source.specs.declared.pairs.Pair.{Pair}
 use Rattle.t1_source.proofs.KernLaws.{kern_again}
 use Rattle.t1_source.proofs.laws.printed_pairs_read.Goals as goal
 

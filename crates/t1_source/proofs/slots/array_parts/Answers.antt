@@ -1,4 +1,4 @@
-use Rattle.std.proofs.Common.{rules, ◌≡◌, false, not, Some, sym, ◌∙◌, ap}
+use Rattle.std.proofs.Common.{rules, ◌≡◌, false, Some}
 use Rattle.std.specs.List.{list_any, position}
 use Rattle.t1_source.specs.Encoding.{opens_encoding, chooses_standard}
 use Rattle.t1_source.proofs.SlotLaws.{parts_at}
