@@ -1,10 +1,10 @@
 -- Searching the lowest code of a name, and the names that slots give to codes.
-use Rattle.std.proofs.Common.{◌≡◌, ℕ, suc, Bool, true, false, ◌+◌, ◌-◌, ◌<◌, ◌≤◌, ◌==◌, ◌≢◌, if◌then◌else◌, cond, Option, Some, None, option_to_list, List, [], ◌∷◌, ◌++◌, length, take, get_or, set, replicate, filter_map, refl, inl, inr, sym, ◌∙◌, ap, arith}
+use Rattle.std.proofs.Common.{◌≡◌, ℕ, suc, Bool, true, false, ◌+◌, ◌-◌, ◌<◌, ◌≤◌, ◌==◌, ◌≢◌, if◌then◌else◌, Option, Some, None, List, [], ◌∷◌, ◌++◌, length, take, get_or, set, filter_map, refl, inl, inr, sym, ◌∙◌, ap, arith}
 use Rattle.std.specs.List.{find, range_with_len, last_or}
 use Rattle.std.specs.Str.{bytes_eq}
 use Rattle.std.proofs.lemmas.List.{take_more, get_or-set_same, get_or-set_other}
 use Rattle.std.proofs.lemmas.List.Elements.{filter_map-append}
-use Rattle.std.proofs.lemmas.Bool.{eq-eqb, ne_eqb, cases_Bool, eqb-true}
+use Rattle.std.proofs.lemmas.Bool.{eq-eqb, cases_Bool, eqb-true}
 use Rattle.t1_source.specs.Tokens.{tokens, is_token}
 use Rattle.t1_source.specs.Encoding.{slot_of_tokens}
 use Rattle.t1_source.specs.Codes.{lowest_code, named_by, slot_name}

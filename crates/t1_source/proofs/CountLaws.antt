@@ -1,8 +1,7 @@
 -- Counts that are raised stay so.
-use Rattle.std.proofs.Common.{◌≡◌, ℕ, Bool, true, false, ◌+◌, ◌≤◌, max, cond, if◌then◌else◌, List, [], ◌∷◌, map, fold, refl, sym, ◌∙◌, ap, arith}
+use Rattle.std.proofs.Common.{◌≡◌, ℕ, ◌+◌, max, if◌then◌else◌, List, [], ◌∷◌, map, fold, refl, ◌∙◌, ap, arith}
 use Rattle.t1_source.specs.declared.item.Item.{Item}
 use Rattle.t1_source.specs.declared.item.Item.TheVariants.{Plain, Section, Subr, Glyph}
-use Rattle.t1_source.specs.Tokens.{tokens, last_is}
 use Rattle.t1_source.specs.Sections.{is_glyphs_line}
 use Rattle.t1_source.specs.Counts.{subrs_needed, glyphs_needed, raised_item, raised, is_glyph_entry}
 

@@ -1,6 +1,6 @@
 -- Counts of at most nine digits, of a source that was read.
-use Rattle.std.proofs.Common.{◌≡◌, ◌⊎◌, ℕ, zero, suc, Bool, true, false, not, ◌&&◌, ◌||◌, ◌+◌, ◌*◌, ◌-◌, ◌^◌, ◌<◌, ◌≤◌, nat_lt, nat_le, max, if◌then◌else◌, Option, None, Some, option_map, Result, Ok, Err, ok_or, List, [], ◌∷◌, ◌++◌, length, take, drop, map, fold, codes, refl, sym, ◌∙◌, ap, inl, inr, arith}
-use Rattle.std.specs.List.{list_all, list_any}
+use Rattle.std.proofs.Common.{◌≡◌, ℕ, zero, suc, Bool, true, false, ◌&&◌, ◌||◌, ◌+◌, ◌*◌, ◌-◌, ◌^◌, ◌<◌, ◌≤◌, nat_lt, nat_le, max, if◌then◌else◌, Option, None, Some, option_map, Result, Ok, Err, ok_or, List, [], ◌∷◌, ◌++◌, length, take, drop, map, fold, codes, refl, sym, ◌∙◌, ap, inl, inr, arith}
+use Rattle.std.specs.List.{list_all}
 use Rattle.std.proofs.Math.Nat.{mul-le-mul_right, pow-le-pow_right}
 use Rattle.std.proofs.lemmas.Bool.{and_parts, and_from, cases_Bool, leb-true, ltb-true, lt-ltb}
 use Rattle.std.proofs.lemmas.List.{map-append}
@@ -16,20 +16,19 @@ use Rattle.t1_source.specs.declared.item.Item.TheVariants.{Plain, Section, Subr,
 use Rattle.t1_source.specs.Form.{Form}
 use Rattle.t1_source.specs.Lines.{lines}
 use Rattle.t1_source.specs.Encoding.{clear_check}
-use Rattle.t1_source.specs.Parts.{Parts, parts_of, tail_of}
+use Rattle.t1_source.specs.Parts.{parts_of, tail_of}
 use Rattle.t1_source.specs.Tokens.{tokens, places_from}
 use Rattle.t1_source.specs.Names.{is_digit, decimal_value, decimal_of, up_to, name_of_token}
 use Rattle.t1_source.specs.Sections.{is_count, count_between, section_at, subrs_line, glyphs_line, is_subrs_line, is_glyphs_line}
 use Rattle.t1_source.specs.Entries.{Numbered, Taken, has, is_subr, is_glyph, opens_subr, opens_glyph, opened_body, entry_of, subr_entry, glyph_entry}
-use Rattle.t1_source.specs.Private.{line_item, line_at, among_glyphs, among_subrs, item_at, items_of, private_items}
+use Rattle.t1_source.specs.Private.{line_item, among_glyphs, among_subrs, item_at, items_of, private_items}
 use Rattle.t1_source.specs.Counts.{subrs_needed, glyphs_needed, raised_item, raised}
 use Rattle.t1_source.specs.Reading.{unnumbered, whole_check, reads_lines, reads}
 use Rattle.t1_source.specs.Printing.{text}
-use Rattle.t1_source.specs.Kept.{Stands, Stand, IsPrivate, IsKept, is_counted}
+use Rattle.t1_source.specs.Kept.{Stand, IsPrivate, is_counted}
 use Rattle.t1_source.proofs.CountLaws.{glyphs_same, subrs_same}
 use Rattle.t1_source.proofs.PairsKeptLaws.{bind_ok, told_ok}
 use Rattle.t1_source.proofs.SectionLaws.{count_parts, count_place_of}
-use Rattle.t1_source.proofs.SectionLineLaws.{line_of}
 use Rattle.t1_source.proofs.KeptItemsLaws.{entry_given}
 use Rattle.t1_source.proofs.KeptSourceLaws.{source_kept}
 use Rattle.t1_source.proofs.SourceAgainLaws.{source_again}

@@ -1,5 +1,5 @@
 -- Edits that leave counts of at most nine digits.
-use Rattle.std.proofs.Common.{◌≡◌, ℕ, zero, suc, Bool, true, false, not, ◌&&◌, ◌+◌, ◌^◌, ◌<◌, ℤ, Option, Some, Result, Ok, ok_or, List, [], ◌∷◌, ◌++◌, take, drop, set, codes, refl, sym, ◌∙◌, ap}
+use Rattle.std.proofs.Common.{◌≡◌, ℕ, zero, suc, true, not, ◌^◌, ◌<◌, ℤ, Result, Ok, ok_or, List, [], ◌∷◌, ◌++◌, take, drop, codes, refl, sym, ◌∙◌, ap}
 use Rattle.std.specs.List.{list_all, list_any, position, insert, remove, slice_set}
 use Rattle.std.proofs.lemmas.Bool.{and_parts, and_from}
 use Rattle.std.proofs.lemmas.List.Folds.{list_all-append}
@@ -7,7 +7,7 @@ use Rattle.t1_frac.specs.Outcome.{◌>>=◌}
 use Rattle.t1_source.specs.declared.edit.Edit.{Edit}
 use Rattle.t1_source.specs.declared.edit.Edit.TheVariants.{ReplaceGlyph, AddGlyph, RemoveGlyph, ReplaceSubr, AddSubr, RemoveSubr, Encode, Unencode, Kern, Unkern}
 use Rattle.t1_source.specs.declared.edit.Rule.{Rule}
-use Rattle.t1_source.specs.declared.edit.Rule.TheVariants.{E1, E2, E3, E10}
+use Rattle.t1_source.specs.declared.edit.Rule.TheVariants.{E1, E2, E10}
 use Rattle.t1_source.specs.declared.item.Item.{Item}
 use Rattle.t1_source.specs.declared.item.Item.TheVariants.{Subr, Glyph}
 use Rattle.t1_source.specs.declared.pairs.Pair.{Pair}
@@ -19,7 +19,7 @@ use Rattle.std.specs.List.{filter}
 use Rattle.t1_source.specs.Kept.{IsKept, is_counted}
 use Rattle.t1_source.proofs.PairsKeptLaws.{bind_ok}
 use Rattle.t1_source.proofs.KeptBodyLaws.{all_take, all_drop}
-use Rattle.t1_source.proofs.KeptEditedLaws.{source_given, edited_kept}
+use Rattle.t1_source.proofs.KeptEditedLaws.{source_given, source_same, edited_kept}
 use Rattle.t1_source.proofs.CountedLaws.{raised_counted}
 
 set_counted : (items : List Item) (at : ℕ) (y : Item) → is_counted y ≡ true → list_all is_counted items ≡ true → list_all is_counted (slice_set items at y) ≡ true
@@ -158,5 +158,5 @@ edited_counted s k (RemoveSubr n) made ps kept h e few =
     made_counted s made (removed_subr_made s n made h (source_given k ps (removed_subr s n) made e)) (edited_kept s k (RemoveSubr n) made ps kept e) few
 edited_counted s k (Encode code g) made ps kept h e few = encoded_counted s code g made h (source_given k ps (encoded s code g) made e)
 edited_counted s k (Unencode code) made ps kept h e few = unencoded_counted s code made h (source_given k ps (unencoded s code) made e)
-edited_counted s k (Kern left right v) made ps kept h e few = same_counted s made (λ t. IsCounted t) (source_same s ps (kerned k left right v) made e) h
-edited_counted s k (Unkern left right) made ps kept h e few = same_counted s made (λ t. IsCounted t) (source_same s ps (unkerned k left right) made e) h
+edited_counted s k (Kern left right v) made ps kept h e few = ap (λ t. list_all is_counted t.items) (sym (source_same s ps (kerned k left right v) made e)) ∙ h
+edited_counted s k (Unkern left right) made ps kept h e few = ap (λ t. list_all is_counted t.items) (sym (source_same s ps (unkerned k left right) made e)) ∙ h

@@ -1,20 +1,18 @@
 -- Printed entries, read again.
-use Rattle.std.proofs.Common.{◌≡◌, ℕ, Bool, true, false, not, ◌+◌, ◌^◌, ◌<◌, ◌≤◌, ◌&&◌, ◌||◌, ◌==◌, nat_le, Some, None, List, [], ◌∷◌, ◌++◌, Result, Ok, codes, length, drop, suc, map, inl, inr, refl, sym, ◌∙◌, ap, arith, append_assoc}
+use Rattle.std.proofs.Common.{◌≡◌, ℕ, Bool, true, false, not, ◌+◌, ◌^◌, ◌<◌, ◌≤◌, ◌==◌, nat_le, Some, List, [], ◌∷◌, ◌++◌, Ok, codes, length, drop, suc, map, inl, inr, refl, sym, ◌∙◌, ap, arith, append_assoc}
 use Rattle.std.specs.List.{list_all, onto_first, after_first, position_or_len}
 use Rattle.std.specs.Fmt.{decimal}
 use Rattle.std.proofs.lemmas.Bool.{and_parts, and_from, leb-true, le-leb, ne_eqb, cases_Bool, eqb-true}
-use Rattle.std.proofs.Math.Numerals.{one-add}
-use Rattle.t1_frac.specs.declared.fault.Code.{Code}
 use Rattle.t1_source.specs.declared.item.Item.TheVariants.{Subr, Glyph}
 use Rattle.t1_source.specs.Lines.{trimmed}
 use Rattle.t1_source.specs.Tokens.{tokens, is_regular}
-use Rattle.t1_source.specs.Names.{is_digit, is_name, is_name_byte, decimal_of, name_of_token, up_to}
+use Rattle.t1_source.specs.Names.{is_digit, is_name, is_name_byte, name_of_token}
 use Rattle.t1_source.specs.Sections.{is_subrs_line, is_glyphs_line}
-use Rattle.t1_source.specs.Entries.{Numbered, Taken, has, is_subr, is_glyph, is_word, opens_subr, opens_glyph, opened_body, body_of, with_front, subr_entry, glyph_entry}
+use Rattle.t1_source.specs.Entries.{Numbered, has, is_subr, is_glyph, is_word, opened_body, body_of, with_front, subr_entry, glyph_entry}
 use Rattle.t1_source.specs.Private.{item_at}
-use Rattle.t1_source.specs.Printing.{word_groups, body_line, last_line, entry_lines}
+use Rattle.t1_source.specs.Printing.{word_groups, body_line, last_line}
 use Rattle.t1_source.proofs.TokenLaws.{regular_first}
-use Rattle.t1_source.proofs.NumberLaws.{Spells, decimal_spells, spelled}
+use Rattle.t1_source.proofs.NumberLaws.{decimal_spells, spelled}
 use Rattle.t1_source.proofs.BodyLaws.{printed_body}
 
 -- bytes that go on with a token

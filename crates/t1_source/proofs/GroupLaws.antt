@@ -1,5 +1,5 @@
 -- The lines of words, printed word by word.
-use Rattle.std.proofs.Common.{◌≡◌, ℕ, Bool, true, false, if◌then◌else◌, List, [], ◌∷◌, ◌++◌, map, refl, sym, ◌∙◌, ap, append_assoc}
+use Rattle.std.proofs.Common.{◌≡◌, ℕ, Bool, true, false, if◌then◌else◌, List, [], ◌∷◌, ◌++◌, map, refl, ◌∙◌, ap, append_assoc}
 use Rattle.std.specs.List.{onto_first, join_with_byte}
 use Rattle.t1_source.specs.Lines.{joined}
 use Rattle.t1_source.specs.Names.{is_number_word}

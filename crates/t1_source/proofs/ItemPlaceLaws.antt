@@ -1,12 +1,10 @@
 -- Lists around an element at a place that was found.
-use Rattle.std.proofs.Common.{◌≡◌, ℕ, zero, suc, Bool, true, false, not, ◌||◌, ◌&&◌, ◌+◌, ◌-◌, ◌<◌, ◌≤◌, nat_lt, cond, Option, None, Some, List, [], ◌∷◌, ◌++◌, length, take, drop, set, get_or, reverse, filter_map, refl, sym, ◌∙◌, ap, inl, inr, arith, append_assoc, length-append}
-use Rattle.std.specs.List.{list_any, list_all, position, position_or_len, insert, remove, cons_option}
+use Rattle.std.proofs.Common.{◌≡◌, ℕ, suc, Bool, true, false, ◌||◌, ◌+◌, ◌<◌, nat_lt, Option, None, Some, List, [], ◌∷◌, ◌++◌, length, take, drop, set, get_or, reverse, filter_map, refl, sym, ◌∙◌, ap, inl, inr, arith, append_assoc, length-append}
+use Rattle.std.specs.List.{list_any, position, position_or_len, insert, remove, cons_option}
 use Rattle.std.proofs.lemmas.Bool.{cases_Bool, ltb-true, or_parts}
 use Rattle.std.proofs.lemmas.List.{reverse-append, length-reverse}
-use Rattle.std.proofs.lemmas.List.Elements.{filter_map-append}
 use Rattle.std.proofs.lemmas.List.Folds.{list_any-append}
-use Rattle.std.proofs.Math.Numerals.{one-add}
-use Rattle.std.proofs.Math.Seq.{drop-append_seam, drop-append-add, take-append_seam, take-append-add, set-append_seam, get_or-append_seam}
+use Rattle.std.proofs.Math.Seq.{drop-append_seam, drop-append-add, take-append_seam, set-append_seam, get_or-append_seam}
 use Rattle.t1_source.specs.Editing.{through_last}
 
 -- an element that passes a test, and what stands around it

@@ -1,25 +1,23 @@
 -- Printed items, read again.
-use Rattle.std.proofs.Common.{◌≡◌, ◌⊎◌, ℕ, Bool, true, false, not, ◌&&◌, ◌||◌, ◌+◌, ◌-◌, ◌^◌, ◌<◌, ◌≤◌, if◌then◌else◌, Option, None, Some, is_some, Result, Ok, List, [], ◌∷◌, ◌++◌, length, take, drop, map, codes, refl, sym, ◌∙◌, ap, inl, inr, arith, append_assoc, length-append}
+use Rattle.std.proofs.Common.{◌≡◌, ℕ, Bool, true, false, ◌&&◌, ◌||◌, ◌+◌, ◌-◌, ◌^◌, ◌<◌, Option, None, Some, is_some, Ok, List, [], ◌∷◌, ◌++◌, length, map, codes, refl, sym, ◌∙◌, ap, inl, inr, arith, append_assoc, length-append}
 use Rattle.std.specs.List.{list_all, list_any, flat_map}
 use Rattle.std.specs.Fmt.{decimal}
 use Rattle.std.proofs.lemmas.Bool.{and_parts, and_from, cases_Bool, ltb-true}
 use Rattle.std.proofs.lemmas.List.{length-map, map-append, append-nil}
 use Rattle.std.proofs.lemmas.List.Folds.{list_all-append}
 use Rattle.std.proofs.Math.Seq.{drop-append_seam, take-append_seam}
-use Rattle.t1_frac.specs.declared.fault.Code.{Code}
-use Rattle.t1_frac.specs.declared.fault.Fault.{Fault}
 use Rattle.t1_frac.specs.declared.fault.Place.TheVariants.{Line}
-use Rattle.t1_frac.specs.Outcome.{told_at, ◌>>=◌}
+use Rattle.t1_frac.specs.Outcome.{told_at}
 use Rattle.t1_source.specs.declared.item.Item.{Item}
 use Rattle.t1_source.specs.declared.item.Item.TheVariants.{Plain, Section, Subr, Glyph}
 use Rattle.t1_source.specs.Tokens.{tokens}
 use Rattle.t1_source.specs.Names.{decimal_value}
 use Rattle.t1_source.specs.Sections.{subrs_line, glyphs_line, is_subrs_line, is_glyphs_line}
-use Rattle.t1_source.specs.Entries.{Numbered, Taken, has, is_subr, is_glyph, opens_subr, opens_glyph}
-use Rattle.t1_source.specs.Private.{line_item, line_at, among_glyphs, among_subrs, item_at, items_of, private_items}
+use Rattle.t1_source.specs.Entries.{Numbered, has, is_subr, is_glyph, opens_subr, opens_glyph}
+use Rattle.t1_source.specs.Private.{line_item, line_at, item_at, items_of, private_items}
 use Rattle.t1_source.specs.Reading.{unnumbered}
-use Rattle.t1_source.specs.Printing.{item_lines, entry_lines, body_line, last_line, word_groups}
-use Rattle.t1_source.specs.Kept.{is_inner, opens_entry, IsSectionLine, IsEntry, Stands, Stand, is_counted}
+use Rattle.t1_source.specs.Printing.{item_lines, body_line, last_line, word_groups}
+use Rattle.t1_source.specs.Kept.{is_inner, opens_entry, IsSectionLine, Stands, Stand, is_counted}
 use Rattle.t1_source.proofs.NumberLaws.{decimal_spells}
 use Rattle.t1_source.proofs.EntryLaws.{subr_again, glyph_again}
 use Rattle.t1_source.proofs.ItemLaws.{read_step}

@@ -1,7 +1,7 @@
 -- A body that was read: its words and its closing text.
-use Rattle.std.proofs.Common.{◌≡◌, ℕ, zero, suc, Bool, true, false, not, ◌&&◌, ◌||◌, ◌==◌, ◌+◌, ◌-◌, ◌≤◌, ◌<◌, if◌then◌else◌, Option, None, Some, List, [], ◌∷◌, ◌++◌, length, take, drop, reverse, get_or, refl, sym, ◌∙◌, ap, inl, inr, arith, append_assoc, length-drop}
-use Rattle.std.specs.List.{list_all, list_any, onto_first, prefix_len, position_or_len, before_first, after_first, ends_with}
-use Rattle.std.proofs.lemmas.Bool.{and_parts, and_from, cases_Bool, not-true, or_parts, eqb-true, not-false}
+use Rattle.std.proofs.Common.{◌≡◌, ℕ, zero, suc, Bool, true, false, not, ◌||◌, ◌==◌, ◌+◌, Option, None, Some, List, [], ◌∷◌, ◌++◌, length, take, drop, reverse, refl, sym, ◌∙◌, ap, inl, inr, arith, append_assoc, length-drop}
+use Rattle.std.specs.List.{list_all, onto_first, prefix_len, position_or_len, before_first, after_first, ends_with}
+use Rattle.std.proofs.lemmas.Bool.{and_parts, and_from, cases_Bool, or_parts, eqb-true}
 use Rattle.std.proofs.lemmas.List.{reverse-reverse, take-append-drop}
 use Rattle.std.proofs.lemmas.List.Folds.{list_all-append}
 use Rattle.std.proofs.Math.Numerals.{one-add}

@@ -1,7 +1,6 @@
 -- Edits of slots keep a clear part as it is to be.
-use Rattle.std.proofs.Common.{◌≡◌, ℕ, zero, suc, Bool, true, false, not, ◌||◌, ◌&&◌, ◌==◌, ◌+◌, ◌-◌, ◌^◌, ◌<◌, ◌≤◌, nat_le, ℤ, pos, negsuc, if◌then◌else◌, Option, None, Some, is_none, Result, Ok, Err, ok_or, List, [], ◌∷◌, ◌++◌, length, take, drop, set, reverse, codes, refl, sym, ◌∙◌, ap, inl, inr, arith, append_assoc, length-append}
-use Rattle.std.specs.List.{list_any, list_all, filter, onto_first, position, position_or_len, insert, remove, slice_set}
-use Rattle.std.specs.Str.{bytes_eq}
+use Rattle.std.proofs.Common.{◌≡◌, ℕ, zero, suc, Bool, true, false, not, ◌||◌, ◌&&◌, ◌+◌, ◌-◌, ◌<◌, ◌≤◌, nat_le, ℤ, pos, negsuc, if◌then◌else◌, Some, is_none, Result, Ok, Err, ok_or, List, [], ◌∷◌, ◌++◌, length, take, drop, set, reverse, codes, refl, sym, ◌∙◌, ap, inl, inr, arith, append_assoc, length-append}
+use Rattle.std.specs.List.{list_any, list_all, filter, onto_first, position, position_or_len}
 use Rattle.std.specs.Fmt.{decimal}
 use Rattle.std.proofs.lemmas.Bool.{cases_Bool, and_parts, and_from, or_parts, leb-true, le-leb, not-true}
 use Rattle.std.proofs.lemmas.List.{reverse-append, reverse-reverse, take-append-drop}
@@ -18,19 +17,19 @@ use Rattle.t1_source.specs.declared.edit.Rule.TheVariants.{E3, E4, E5, E10}
 use Rattle.t1_source.specs.Form.{Form}
 use Rattle.t1_source.specs.Lines.{is_line, trimmed}
 use Rattle.t1_source.specs.Tokens.{tokens, is_regular, first_is, last_is}
-use Rattle.t1_source.specs.Names.{is_name, is_digit, decimal_of, name_of_token}
-use Rattle.t1_source.specs.Encoding.{code_of_token, slot_of_tokens, opens_encoding, is_standard, is_array, ends_array, is_bad_slot, from_encoding, array_lines, opening_check, later_check, later_checks, encoding_check, clear_check, chooses_standard}
+use Rattle.t1_source.specs.Names.{is_name, name_of_token}
+use Rattle.t1_source.specs.Encoding.{code_of_token, slot_of_tokens, opens_encoding, is_standard, is_array, ends_array, is_bad_slot, array_lines, opening_check, later_check, later_checks, encoding_check, clear_check, chooses_standard}
 use Rattle.t1_source.specs.Parts.{is_eexec}
 use Rattle.t1_source.specs.Editing.{keeps, number_up_to, good_name, ArrayParts, array_parts, is_slot, is_slot_of, slot_line, encoded_lines, through_last, with_clear, encoded, unencoded}
 use Rattle.t1_source.specs.Kept.{IsClear, IsKept}
 use Rattle.t1_source.proofs.PairsKeptLaws.{bind_ok, kept_ok}
 use Rattle.t1_source.proofs.NumberLaws.{decimal_spells, spelled}
 use Rattle.t1_source.proofs.EntryLaws.{digits_regular, name_regular, run_before, token_before}
-use Rattle.t1_source.proofs.PrintedLaws.{line_append, digits_line, name_is_line, bool_apart}
+use Rattle.t1_source.proofs.PrintedLaws.{line_append, digits_line, name_is_line}
 use Rattle.t1_source.proofs.SourceAgainLaws.{Ends}
 use Rattle.t1_source.proofs.KeptItemsLaws.{given_some}
 use Rattle.t1_source.proofs.KeptBodyLaws.{all_take, all_drop}
-use Rattle.t1_source.proofs.ItemPlaceLaws.{At, First, first_at, position_first, place_after}
+use Rattle.t1_source.proofs.ItemPlaceLaws.{First, first_at, position_first, place_after}
 
 -- lines before others, of which none passes a test, and the last of all lines
 ends_parts : (test : List ℕ → Bool) (p : List (List ℕ)) (q : List ℕ) (r : List (List ℕ)) → Ends test (p ++ q ∷ r) → (list_any test p ≡ false) × Ends test (q ∷ r)

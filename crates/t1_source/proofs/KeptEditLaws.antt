@@ -1,28 +1,25 @@
 -- Items that stay private items when an entry is replaced, put in or taken out.
-use Rattle.std.proofs.Common.{◌≡◌, ◌⊎◌, ℕ, Bool, true, false, not, ◌||◌, ◌&&◌, ◌==◌, ◌+◌, ◌≤◌, nat_le, ℤ, pos, negsuc, cond, if◌then◌else◌, Option, None, Some, option_map, unwrap_or, is_some, List, [], ◌∷◌, ◌++◌, length, take, map, filter_map, codes, refl, sym, ◌∙◌, ap, inl, inr, append_assoc}
-use Rattle.std.specs.List.{list_any, list_all, find, flat_map}
-use Rattle.std.specs.Str.{bytes_eq}
-use Rattle.std.proofs.lemmas.Bool.{and_parts, and_from, cases_Bool, or_parts, eqb-true, eq-eqb, not-true}
+use Rattle.std.proofs.Common.{◌≡◌, ℕ, Bool, true, false, not, ◌||◌, None, is_some, List, [], ◌∷◌, ◌++◌, take, filter_map, refl, sym, ◌∙◌, ap, inl, inr, append_assoc}
+use Rattle.std.specs.List.{list_any, list_all, flat_map}
+use Rattle.std.proofs.lemmas.Bool.{and_parts, and_from, cases_Bool, or_parts}
 use Rattle.std.proofs.lemmas.List.{append-nil}
 use Rattle.std.proofs.lemmas.List.Folds.{list_any-append, list_all-append}
-use Rattle.std.proofs.lemmas.Slice.Eq.{bytes_eq-Decides}
 use Rattle.t1_frac.specs.Words.{words}
 use Rattle.t1_source.specs.declared.item.Item.{Item}
 use Rattle.t1_source.specs.declared.item.Item.TheVariants.{Plain, Section, Subr, Glyph}
 use Rattle.t1_source.specs.Lines.{lines, is_line, is_line_end, trimmed}
-use Rattle.t1_source.specs.Tokens.{tokens, uncommented, last_is, is_token}
-use Rattle.t1_source.specs.Names.{is_name}
+use Rattle.t1_source.specs.Tokens.{uncommented}
 use Rattle.t1_source.specs.Sections.{is_subrs_line, is_glyphs_line}
 use Rattle.t1_source.specs.Entries.{is_subr, is_glyph, is_word, has_brace}
 use Rattle.t1_source.specs.LenIV.{said_lead, lead_of_token}
-use Rattle.t1_source.specs.Counts.{is_glyph_entry, raised}
+use Rattle.t1_source.specs.Counts.{raised}
 use Rattle.t1_source.specs.Printing.{last_line}
-use Rattle.t1_source.specs.Editing.{body_words, braced, closing_of, closing_among, is_subr_entry}
+use Rattle.t1_source.specs.Editing.{body_words, braced, closing_of, closing_among}
 use Rattle.t1_source.specs.Kept.{is_inner, IsEntry, Stands, Stand, says_lead_well, IsPrivate}
 use Rattle.t1_source.proofs.StandLaws.{Serves, serves_itself, serves_further, stand_serves, stand_front, stand_back, stand_both, none_further, none_both, or_left}
 use Rattle.t1_source.proofs.KeptBodyLaws.{words_are_words, words_bytes, open_safe, all_take}
 use Rattle.t1_source.proofs.KeptSourceLaws.{lines_are_lines, private_kept}
-use Rattle.t1_source.proofs.ItemPlaceLaws.{At, before_last, any_middle, said_middle}
+use Rattle.t1_source.proofs.ItemPlaceLaws.{before_last, any_middle, said_middle}
 
 -- a closing text as an entry may have it
 abbrev pub IsClosing : List ℕ → Type 0

@@ -1,6 +1,5 @@
 -- A source that is edited is kept.
-use Rattle.std.proofs.Common.{◌≡◌, Result, Ok, List, refl, ap, sym, ◌∙◌}
-use Rattle.t1_frac.specs.Outcome.{◌>>=◌}
+use Rattle.std.proofs.Common.{◌≡◌, Result, Ok, List, ap, ◌∙◌}
 use Rattle.t1_source.specs.declared.edit.Edit.{Edit}
 use Rattle.t1_source.specs.declared.edit.Edit.TheVariants.{ReplaceGlyph, AddGlyph, RemoveGlyph, ReplaceSubr, AddSubr, RemoveSubr, Encode, Unencode, Kern, Unkern}
 use Rattle.t1_source.specs.declared.edit.Rule.{Rule}
@@ -13,7 +12,7 @@ use Rattle.t1_source.proofs.KeptEntryLaws.{replaced_glyph_kept, added_glyph_kept
 use Rattle.t1_source.proofs.KeptClearLaws.{encoded_kept, unencoded_kept}
 
 -- the pairs aside
-source_given : (k ps : List Pair) (given : Result Form Rule) (made : Form) → beside_pairs k given ≡ Ok (made, ps) → given ≡ Ok made
+pub source_given : (k ps : List Pair) (given : Result Form Rule) (made : Form) → beside_pairs k given ≡ Ok (made, ps) → given ≡ Ok made
 source_given k ps given made e =
     let step = bind_ok given (λ s. Ok (s, k)) (made, ps) e in
     let whole : ◌≡◌ {A = Result (Form × List Pair) Rule} (Ok (step.0, k)) (Ok (made, ps)) = step.2 in
@@ -21,13 +20,15 @@ source_given k ps given made e =
     step.1 ∙ ap (λ t. Ok t.0) same
 
 -- the source stays
-source_stays : (s : Form) (ps : List Pair) (given : Result (List Pair) Rule) (made : Form) → beside_source s given ≡ Ok (made, ps) → IsKept s → IsKept made
-source_stays s ps given made e kept =
+pub source_same : (s : Form) (ps : List Pair) (given : Result (List Pair) Rule) (made : Form) → beside_source s given ≡ Ok (made, ps) → s ≡ made
+source_same s ps given made e =
     let step = bind_ok given (λ k. Ok (s, k)) (made, ps) e in
     let whole : ◌≡◌ {A = Result (Form × List Pair) Rule} (Ok (s, step.0)) (Ok (made, ps)) = step.2 in
     let same : ◌≡◌ {A = Form × List Pair} (s, step.0) (made, ps) = cc in
-    let is : s ≡ made = ap (λ t. t.0) same in
-    rw (← is) kept
+    ap (λ t. t.0) same
+
+source_stays : (s : Form) (ps : List Pair) (given : Result (List Pair) Rule) (made : Form) → beside_source s given ≡ Ok (made, ps) → IsKept s → IsKept made
+source_stays s ps given made e kept = rw (← source_same s ps given made e) kept
 
 -- what an edit makes of a source that is kept
 pub edited_kept : (s : Form) (k : List Pair) (edit : Edit) (made : Form) (ps : List Pair) → IsKept s → edited s k edit ≡ Ok (made, ps) → IsKept made

@@ -1,5 +1,5 @@
 -- Edits of entries keep a source as it is to be.
-use Rattle.std.proofs.Common.{◌≡◌, ◌⊎◌, ℕ, Bool, true, false, not, ◌||◌, ◌&&◌, ◌==◌, ◌+◌, ◌≤◌, nat_le, ℤ, pos, negsuc, if◌then◌else◌, Option, None, Some, Result, Ok, Err, ok_or, List, [], ◌∷◌, ◌++◌, length, set, codes, refl, sym, ◌∙◌, ap, inl, inr, append_assoc}
+use Rattle.std.proofs.Common.{◌≡◌, ℕ, Bool, true, false, not, ◌||◌, ◌==◌, ◌≤◌, nat_le, ℤ, pos, negsuc, Option, None, Some, Result, Ok, Err, ok_or, List, [], ◌∷◌, ◌++◌, length, codes, refl, sym, ◌∙◌, ap, inl, inr, append_assoc}
 use Rattle.std.specs.List.{list_any, last_or, position, insert, remove, slice_set, slice_index_or}
 use Rattle.std.specs.Str.{bytes_eq}
 use Rattle.std.proofs.lemmas.Bool.{cases_Bool, or_parts, eqb-true, leb-true, not-true}
@@ -11,19 +11,19 @@ use Rattle.t1_source.specs.declared.edit.Rule.TheVariants.{E1, E2, E3, E4, E6, E
 use Rattle.t1_source.specs.declared.item.Item.{Item}
 use Rattle.t1_source.specs.declared.item.Item.TheVariants.{Plain, Section, Subr, Glyph}
 use Rattle.t1_source.specs.Form.{Form}
-use Rattle.t1_source.specs.Tokens.{tokens, last_is, is_token}
+use Rattle.t1_source.specs.Tokens.{tokens, is_token}
 use Rattle.t1_source.specs.Names.{is_name}
 use Rattle.t1_source.specs.Sections.{is_subrs_line, is_glyphs_line}
 use Rattle.t1_source.specs.Entries.{is_subr, is_glyph}
 use Rattle.t1_source.specs.Counts.{is_glyph_entry, raised}
 use Rattle.t1_source.specs.Editing.{keeps, number_up_to, braced, body_words, good_name, good_body, with_items, closing_of, closing_at, closing_among, through_last, is_subr_entry, among_subrs_items, among_glyphs_items, has_section, replaced_glyph, added_glyph, removed_glyph, replaced_subr, added_subr, removed_subr}
-use Rattle.t1_source.specs.Kept.{IsEntry, Stands, IsPrivate, IsKept}
+use Rattle.t1_source.specs.Kept.{Stands, IsPrivate, IsKept}
 use Rattle.t1_source.proofs.PairsKeptLaws.{bind_ok, kept_ok}
 use Rattle.t1_source.proofs.PrintedLaws.{bool_apart}
 use Rattle.t1_source.proofs.StandLaws.{or_left}
 use Rattle.t1_source.proofs.KeptItemsLaws.{given_some}
-use Rattle.t1_source.proofs.ItemPlaceLaws.{At, First, position_first, set_there, removed_there, got_there, insert_there, Last, last_of, through_place}
-use Rattle.t1_source.proofs.KeptEditLaws.{IsClosing, new_closing, new_entry, is_not_plain, silent_subr, silent_glyph, exchanged, taken_out, put_in}
+use Rattle.t1_source.proofs.ItemPlaceLaws.{position_first, set_there, removed_there, got_there, insert_there, last_of, through_place}
+use Rattle.t1_source.proofs.KeptEditLaws.{new_closing, new_entry, is_not_plain, silent_subr, silent_glyph, exchanged, taken_out, put_in}
 
 -- the source with other items
 items_kept : (s : Form) (items others : List Item) (made : Form) → IsKept s → items ≡ others → IsPrivate (raised others) → ◌≡◌ {A = Result Form Rule} (Ok (with_items s items)) (Ok made) → IsKept made

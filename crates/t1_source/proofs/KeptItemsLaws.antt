@@ -1,13 +1,12 @@
 -- Items that were read stand behind those before them.
-use Rattle.std.proofs.Common.{◌≡◌, ◌⊎◌, ℕ, zero, suc, Bool, true, false, not, ◌&&◌, ◌||◌, ◌==◌, ◌+◌, ◌≤◌, nat_le, if◌then◌else◌, Option, None, Some, is_some, option_map, Result, Ok, Err, ok_or, List, [], ◌∷◌, ◌++◌, length, take, drop, map, codes, refl, sym, ◌∙◌, ap, inl, inr}
+use Rattle.std.proofs.Common.{◌≡◌, ℕ, zero, suc, true, false, ◌&&◌, ◌||◌, ◌==◌, ◌+◌, ◌≤◌, nat_le, if◌then◌else◌, Option, None, Some, option_map, Result, Ok, Err, ok_or, List, [], ◌∷◌, ◌++◌, length, take, drop, codes, refl, sym, ◌∙◌, ap, inl, inr}
 use Rattle.std.specs.List.{list_all, list_any}
-use Rattle.std.proofs.lemmas.Bool.{and_parts, and_from, cases_Bool, leb-true, or_parts}
+use Rattle.std.proofs.lemmas.Bool.{and_parts, cases_Bool, leb-true, or_parts}
 use Rattle.std.proofs.lemmas.List.{map-append}
 use Rattle.t1_frac.specs.declared.fault.Code.{Code}
 use Rattle.t1_frac.specs.declared.fault.Code.TheVariants.{F4, F7, F8, F9, F10}
-use Rattle.t1_frac.specs.declared.fault.Fault.{Fault}
 use Rattle.t1_frac.specs.declared.fault.Place.TheVariants.{Line}
-use Rattle.t1_frac.specs.Outcome.{told_at, ◌>>=◌}
+use Rattle.t1_frac.specs.Outcome.{told_at}
 use Rattle.t1_source.specs.declared.body.Body.{Body}
 use Rattle.t1_source.specs.declared.item.Item.{Item}
 use Rattle.t1_source.specs.declared.item.Item.TheVariants.{Plain, Section, Subr, Glyph}
@@ -15,7 +14,7 @@ use Rattle.t1_source.specs.Tokens.{tokens, places_from}
 use Rattle.t1_source.specs.Names.{is_name, name_of_token, decimal_of, up_to, decimal_value}
 use Rattle.t1_source.specs.Sections.{count_between, section_at, subrs_line, glyphs_line, is_subrs_line, is_glyphs_line}
 use Rattle.t1_source.specs.Entries.{Numbered, Taken, has, is_subr, is_glyph, opens_subr, opens_glyph, opened_body, entry_of, subr_entry, glyph_entry}
-use Rattle.t1_source.specs.Private.{line_item, line_at, among_glyphs, among_subrs, item_at, items_of}
+use Rattle.t1_source.specs.Private.{line_item, among_glyphs, among_subrs, item_at, items_of}
 use Rattle.t1_source.specs.Reading.{unnumbered}
 use Rattle.t1_source.specs.Kept.{is_inner, opens_entry, IsSectionLine, IsEntry, Stands, Stand}
 use Rattle.t1_source.proofs.PairsKeptLaws.{bind_ok, told_ok}

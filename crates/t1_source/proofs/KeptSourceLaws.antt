@@ -1,12 +1,10 @@
 -- A source that was read is kept.
-use Rattle.std.proofs.Common.{◌≡◌, ℕ, zero, suc, Bool, true, false, not, ◌&&◌, ◌||◌, ◌==◌, ◌+◌, ◌-◌, ◌<◌, ◌≤◌, nat_lt, cond, if◌then◌else◌, Option, None, Some, is_some, option_map, Result, Ok, Err, ok_or, List, [], ◌∷◌, ◌++◌, length, take, drop, map, filter_map, codes, refl, sym, ◌∙◌, ap, inl, inr, arith, append_assoc, length-append}
+use Rattle.std.proofs.Common.{◌≡◌, ℕ, suc, Bool, true, not, ◌==◌, ◌+◌, ◌-◌, ◌<◌, nat_lt, if◌then◌else◌, Option, None, Some, is_some, option_map, Result, Ok, ok_or, List, [], ◌∷◌, ◌++◌, length, take, drop, map, filter_map, codes, refl, sym, ◌∙◌, ap, inl, inr, arith, length-append}
 use Rattle.std.specs.List.{list_all, list_any, onto_first, position, position_or_len, cons_option}
-use Rattle.std.proofs.lemmas.Bool.{and_parts, and_from, cases_Bool, ltb-true, not-true, not-false, or_parts}
+use Rattle.std.proofs.lemmas.Bool.{and_parts, and_from, cases_Bool, ltb-true, not-true}
 use Rattle.std.proofs.lemmas.List.{map-append}
-use Rattle.std.proofs.lemmas.List.Folds.{list_any-append}
-use Rattle.std.proofs.Math.Numerals.{one-add}
 use Rattle.std.proofs.Math.Seq.{drop-append_seam, take-append_seam}
-use Rattle.t1_frac.specs.declared.fault.Code.TheVariants.{F1, F2, F3, F11}
+use Rattle.t1_frac.specs.declared.fault.Code.TheVariants.{F1, F2, F11}
 use Rattle.t1_frac.specs.declared.fault.Fault.{Fault}
 use Rattle.t1_frac.specs.declared.fault.Place.TheVariants.{Nowhere, Line}
 use Rattle.t1_frac.specs.Outcome.{fault_at, ◌>>=◌}
@@ -22,7 +20,7 @@ use Rattle.t1_source.specs.Parts.{Parts, parts_of, is_eexec, is_closefile, is_ze
 use Rattle.t1_source.specs.LenIV.{said_lead, says_lead, lead_check, lead_of_token}
 use Rattle.t1_source.specs.Counts.{subrs_needed, glyphs_needed, raised_item, raised}
 use Rattle.t1_source.specs.Reading.{unnumbered, whole_check, reads_lines, reads}
-use Rattle.t1_source.specs.Kept.{is_inner, says_lead_well, Stand, IsClear, IsPrivate, IsKept}
+use Rattle.t1_source.specs.Kept.{is_inner, says_lead_well, Stand, IsPrivate, IsKept}
 use Rattle.t1_source.proofs.TailLaws.{tail_again}
 use Rattle.t1_source.proofs.CountLaws.{raised_again}
 use Rattle.t1_source.proofs.PairsKeptLaws.{bind_ok}

@@ -1,18 +1,14 @@
 -- Kerning pairs, printed and read.
-use Rattle.std.proofs.Common.{◌≡◌, ℕ, ℤ, pos, negsuc, suc, Bool, true, false, not, ◌+◌, ◌<◌, ◌≤◌, ◌&&◌, ◌||◌, ◌==◌, nat_le, if◌then◌else◌, Option, Some, None, List, [], ◌∷◌, ◌++◌, Result, Ok, Err, codes, length, map, refl, sym, ◌∙◌, ap, arith, append_assoc}
+use Rattle.std.proofs.Common.{◌≡◌, ℕ, ℤ, pos, negsuc, suc, Bool, true, false, not, ◌+◌, ◌≤◌, ◌||◌, nat_le, Some, List, [], ◌∷◌, ◌++◌, Ok, codes, length, map, refl, sym, ◌∙◌, ap, arith, append_assoc}
 use Rattle.std.specs.List.{list_all, onto_first}
 use Rattle.std.specs.Fmt.{decimal, signed_decimal}
-use Rattle.std.proofs.lemmas.Bool.{and_parts, and_from, cases_Bool, leb-true, le-leb, not-true, ne_eqb}
+use Rattle.std.proofs.lemmas.Bool.{and_parts, and_from, leb-true, le-leb, not-true, ne_eqb}
 use Rattle.std.proofs.lemmas.List.Folds.{list_all-append}
-use Rattle.t1_frac.specs.declared.fault.Fault.{Fault}
-use Rattle.t1_frac.specs.declared.fault.Place.TheVariants.{Line}
-use Rattle.t1_frac.specs.Outcome.{told_at, ◌>>=◌}
 use Rattle.t1_frac.specs.Words.{is_blank, words}
 use Rattle.t1_source.specs.declared.pairs.Pair.{Pair}
 use Rattle.t1_source.specs.Lines.{lines, joined, is_line, is_line_end}
-use Rattle.t1_source.specs.Tokens.{is_regular}
-use Rattle.t1_source.specs.Names.{is_name, is_name_byte, is_digit, decimal_of}
-use Rattle.t1_source.specs.Kerning.{kerning_value, line_pairs, pairs_from, pairs_with, put_all_pairs, pairs, kpx_line, kern, is_kerning_value, is_kerning_pair, precedes, are_ordered, are_pairs, put_pair}
+use Rattle.t1_source.specs.Names.{is_name, is_name_byte, is_digit}
+use Rattle.t1_source.specs.Kerning.{kerning_value, line_pairs, pairs_from, put_all_pairs, pairs, kpx_line, kern, is_kerning_value, is_kerning_pair, precedes, are_ordered, are_pairs}
 use Rattle.t1_source.proofs.TextLaws.{lines_joined}
 use Rattle.t1_source.proofs.NumberLaws.{Spells, decimal_spells, spelled}
 use Rattle.t1_source.proofs.PutLaws.{put_last}

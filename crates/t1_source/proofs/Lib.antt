@@ -4,6 +4,7 @@ pub mod CodeLaws
 pub mod CountLaws
 pub mod CountedLaws
 pub mod DemoRows
+pub mod EditedCountLaws
 pub mod EditingRows
 pub mod EncodingLaws
 pub mod EntryLaws

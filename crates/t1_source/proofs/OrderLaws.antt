@@ -1,12 +1,12 @@
 -- In a source that is kept the Subrs stand before the glyphs.
-use Rattle.std.proofs.Common.{◌≡◌, ◌⊎◌, Bool, true, false, ◌||◌, ℕ, List, [], ◌∷◌, ◌++◌, refl, sym, ◌∙◌, ap}
+use Rattle.std.proofs.Common.{◌≡◌, true, false, ◌||◌, ℕ, List, [], ◌∷◌, ◌++◌, refl, sym, ◌∙◌}
 use Rattle.std.specs.List.{list_any}
 use Rattle.std.proofs.lemmas.List.Folds.{list_any-append}
 use Rattle.t1_source.specs.declared.item.Item.{Item}
 use Rattle.t1_source.specs.declared.item.Item.TheVariants.{Plain, Section, Subr, Glyph}
 use Rattle.t1_source.specs.Sections.{is_glyphs_line}
 use Rattle.t1_source.specs.Editing.{is_subr_entry}
-use Rattle.t1_source.specs.Kept.{Stands, Stand, IsPrivate}
+use Rattle.t1_source.specs.Kept.{Stand, IsPrivate}
 use Rattle.t1_source.proofs.PrintedLaws.{bool_apart}
 use Rattle.t1_source.proofs.StandLaws.{or_left, stand_back}
 use Rattle.t1_source.proofs.ItemPlaceLaws.{before_last}

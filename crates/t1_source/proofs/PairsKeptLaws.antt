@@ -1,11 +1,10 @@
 -- What is read from a kerning file, or made by edits, are pairs as a kerning file has them.
-use Rattle.std.proofs.Common.{◌≡◌, ℕ, zero, suc, ℤ, pos, negsuc, neg_ℤ, Bool, true, false, ◌+◌, ◌≤◌, ◌&&◌, ◌==◌, nat_le, if◌then◌else◌, Option, Some, None, List, [], ◌∷◌, ◌++◌, Result, Ok, Err, ok_or, option_map, codes, refl, sym, ◌∙◌, ap, arith, inl, inr}
+use Rattle.std.proofs.Common.{◌≡◌, ℕ, zero, suc, ℤ, pos, neg_ℤ, Bool, true, false, ◌+◌, ◌≤◌, ◌&&◌, ◌==◌, nat_le, Option, Some, None, List, [], ◌∷◌, ◌++◌, Result, Ok, Err, ok_or, option_map, codes, refl, sym, ◌∙◌, ap, arith, inl, inr}
 use Rattle.std.specs.List.{list_all, remove}
 use Rattle.std.proofs.lemmas.Bool.{and_parts, and_from, cases_Bool, leb-true, le-leb}
 use Rattle.std.proofs.lemmas.List.Folds.{list_all-append}
 use Rattle.t1_frac.specs.declared.fault.Code.{Code}
 use Rattle.t1_frac.specs.declared.fault.Code.TheVariants.{F12}
-use Rattle.t1_frac.specs.declared.fault.Fault.{Fault}
 use Rattle.t1_frac.specs.declared.fault.Place.{Place}
 use Rattle.t1_frac.specs.declared.fault.Place.TheVariants.{Line}
 use Rattle.t1_frac.specs.Outcome.{told_at, ◌>>=◌}
@@ -16,7 +15,7 @@ use Rattle.t1_source.specs.Tokens.{first_is}
 use Rattle.t1_source.specs.Names.{is_name, decimal_of, up_to}
 use Rattle.t1_source.specs.Kerning.{kerning_value, pair_of, kpx_of, is_left_out, line_pairs, pairs_from, pairs_with, put_pair, put_all_pairs, is_kerning_value, is_kerning_pair, precedes, are_ordered, are_pairs}
 use Rattle.t1_source.specs.Editing.{keeps, good_name, kerning_number}
-use Rattle.t1_source.proofs.PutLaws.{valued, put_keeps, put_ordered}
+use Rattle.t1_source.proofs.PutLaws.{put_keeps, put_ordered}
 
 -- the step that gave what a step after it was given
 pub bind_ok : {E A B : Type 0} (r : Result A E) (f : A → Result B E) (b : B) → (r >>= f) ≡ Ok b → (a : A) × (r ≡ Ok a) × (f a ≡ Ok b)

@@ -1,12 +1,12 @@
 -- Printed lines of items: lines, none of them the closefile line.
-use Rattle.std.proofs.Common.{◌≡◌, ℕ, zero, suc, Bool, true, false, not, ◌&&◌, ◌||◌, ◌==◌, ◌+◌, ◌-◌, ◌*◌, ◌/◌, ◌%◌, ◌^◌, ◌<◌, ◌≤◌, nat_le, if◌then◌else◌, Option, None, Some, is_some, List, [], ◌∷◌, ◌++◌, length, drop, map, reverse, codes, refl, sym, ◌∙◌, ap, inl, inr, arith, append_assoc, length-append}
-use Rattle.std.specs.List.{list_all, list_any, onto_first, join_with_byte, prefix_len}
+use Rattle.std.proofs.Common.{◌≡◌, ℕ, zero, suc, Bool, true, false, not, ◌&&◌, ◌==◌, ◌+◌, ◌/◌, ◌%◌, ◌^◌, ◌<◌, ◌≤◌, nat_le, is_some, List, [], ◌∷◌, ◌++◌, length, map, reverse, codes, refl, sym, ◌∙◌, ap, inl, inr, arith, append_assoc, length-append}
+use Rattle.std.specs.List.{list_all, list_any, onto_first, join_with_byte}
 use Rattle.std.specs.Fmt.{decimal}
 use Rattle.std.proofs.lemmas.Bool.{and_parts, and_from, cases_Bool, not-true, eqb-true, le-leb}
 use Rattle.std.proofs.lemmas.Fmt.{decimal_by_steps}
 use Rattle.std.proofs.lemmas.List.Folds.{list_all-append}
 use Rattle.t1_frac.specs.Words.{is_blank, trimmed_front}
-use Rattle.t1_source.specs.Lines.{is_line, is_line_end, trimmed}
+use Rattle.t1_source.specs.Lines.{is_line, is_line_end}
 use Rattle.t1_source.specs.Names.{is_digit, is_name, is_name_byte, decimal_of, is_number_word}
 use Rattle.t1_source.specs.Sections.{is_count}
 use Rattle.t1_source.specs.Entries.{is_word, is_word_byte}
@@ -15,9 +15,9 @@ use Rattle.t1_source.specs.Printing.{body_line, last_line, word_groups, entry_li
 use Rattle.t1_source.specs.Kept.{is_inner, IsEntry}
 use Rattle.t1_source.proofs.TokenLaws.{regular_parts}
 use Rattle.t1_source.proofs.EntryLaws.{digit_regular}
-use Rattle.t1_source.proofs.NumberLaws.{Spells, decimal_spells}
+use Rattle.t1_source.proofs.NumberLaws.{decimal_spells}
 use Rattle.t1_source.proofs.SectionLaws.{count_parts}
-use Rattle.t1_source.proofs.CloseLaws.{closing_bytes, Closes, closes_from, closes_more, closes_past, closes_blank, all_reverse}
+use Rattle.t1_source.proofs.CloseLaws.{closing_bytes, closes_from, closes_more, closes_past, closes_blank, all_reverse}
 
 -- a number of at most k digits
 abbrev pub Short : ℕ → List ℕ → Type 0

@@ -1,13 +1,13 @@
 -- A section line, with another count in the place of its count.
-use Rattle.std.proofs.Common.{◌≡◌, ◌⊎◌, ℕ, zero, suc, Bool, true, false, not, ◌&&◌, ◌||◌, ◌==◌, ◌+◌, ◌<◌, ◌≤◌, nat_le, if◌then◌else◌, Option, None, Some, option_map, is_some, is_none, List, [], ◌∷◌, ◌++◌, length, take, drop, map, codes, refl, sym, ◌∙◌, ap, inl, inr, arith, append_assoc}
+use Rattle.std.proofs.Common.{◌≡◌, ℕ, Bool, true, false, ◌&&◌, ◌||◌, ◌==◌, ◌+◌, ◌≤◌, nat_le, if◌then◌else◌, Some, is_some, List, [], ◌∷◌, ◌++◌, length, take, drop, map, refl, sym, ◌∙◌, ap, inl, inr, arith, append_assoc}
 use Rattle.std.specs.List.{list_all, onto_first, prefix_len}
 use Rattle.std.specs.Str.{bytes_eq}
-use Rattle.std.proofs.lemmas.Bool.{and_parts, and_from, cases_Bool, leb-true, not-true}
+use Rattle.std.proofs.lemmas.Bool.{and_parts, and_from, cases_Bool, leb-true}
 use Rattle.std.proofs.lemmas.List.{take-append-drop}
 use Rattle.std.proofs.lemmas.Slice.Eq.{bytes_eq-Decides}
 use Rattle.std.proofs.Math.Numerals.{one-add}
 use Rattle.t1_frac.specs.Words.{is_blank}
-use Rattle.t1_source.specs.Tokens.{is_bracket, is_regular, goes_on, joins, tokens, onto_place, joins_at, places_from}
+use Rattle.t1_source.specs.Tokens.{is_bracket, is_regular, goes_on, tokens, onto_place, joins_at, places_from}
 use Rattle.t1_source.specs.Names.{is_digit}
 use Rattle.t1_source.specs.Sections.{is_count, count_between}
 use Rattle.t1_source.proofs.EntryLaws.{are_regular, digit_regular, digits_regular}

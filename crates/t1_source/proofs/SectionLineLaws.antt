@@ -1,8 +1,7 @@
 -- Section lines that stay so with another count.
-use Rattle.std.proofs.Common.{◌≡◌, ◌⊎◌, ℕ, Bool, true, false, not, ◌&&◌, ◌||◌, ◌+◌, if◌then◌else◌, Option, None, Some, option_map, is_some, List, [], ◌∷◌, ◌++◌, length, take, drop, map, codes, refl, sym, ◌∙◌, ap, inl, inr, arith}
+use Rattle.std.proofs.Common.{◌≡◌, ℕ, Bool, true, false, ◌&&◌, ◌+◌, if◌then◌else◌, Option, None, Some, option_map, is_some, List, [], ◌∷◌, ◌++◌, length, take, drop, codes, refl, sym, ◌∙◌, ap, inl, inr}
 use Rattle.std.specs.List.{list_any}
 use Rattle.std.specs.Str.{bytes_eq}
-use Rattle.std.proofs.lemmas.Bool.{cases_Bool}
 use Rattle.std.proofs.Math.Seq.{drop-append-add, drop-append_seam, take-append_seam}
 use Rattle.t1_source.specs.declared.item.Item.{Item}
 use Rattle.t1_source.specs.declared.item.Item.TheVariants.{Section}
@@ -11,7 +10,7 @@ use Rattle.t1_source.specs.Names.{decimal_value}
 use Rattle.t1_source.specs.Sections.{is_count, count_between, section_at, subrs_line, glyphs_line, is_subrs_line, is_glyphs_line}
 use Rattle.t1_source.specs.Entries.{opens_subr}
 use Rattle.t1_source.specs.Kept.{opens_entry, IsSectionLine}
-use Rattle.t1_source.proofs.SectionLaws.{bare, bare_places, among, found_among, among_other, not_text, and_false, count_place_of}
+use Rattle.t1_source.proofs.SectionLaws.{bare_places, among, found_among, among_other, not_text, count_place_of}
 
 -- the section line whose count stands between key and word
 abbrev pub line_of : List ℕ → List ℕ → List ℕ → Option Item

@@ -1,11 +1,10 @@
 -- A printed source, read again.
-use Rattle.std.proofs.Common.{◌≡◌, ℕ, Bool, true, false, not, ◌&&◌, ◌||◌, ◌+◌, ◌-◌, ◌<◌, nat_lt, cond, if◌then◌else◌, Option, None, Some, is_some, option_map, Result, Ok, ok_or, List, [], ◌∷◌, ◌++◌, length, take, drop, map, filter_map, refl, sym, ◌∙◌, ap, inl, inr, arith, append_assoc, length-append}
+use Rattle.std.proofs.Common.{◌≡◌, ℕ, Bool, true, ◌&&◌, ◌+◌, ◌<◌, nat_lt, Option, None, Some, is_some, option_map, Result, Ok, ok_or, List, [], ◌∷◌, ◌++◌, length, take, filter_map, refl, sym, ◌∙◌, ap, inl, inr, arith, append_assoc, length-append}
 use Rattle.std.specs.List.{list_all, list_any, flat_map, position, position_or_len, cons_option}
-use Rattle.std.proofs.lemmas.Bool.{and_parts, and_from, cases_Bool, lt-ltb, not-true, not-false}
+use Rattle.std.proofs.lemmas.Bool.{and_parts, and_from, cases_Bool, lt-ltb}
 use Rattle.std.proofs.lemmas.Grind.{flat_map-append}
 use Rattle.std.proofs.lemmas.List.{map-append}
 use Rattle.std.proofs.lemmas.List.Folds.{list_all-append}
-use Rattle.std.proofs.Math.Numerals.{one-add}
 use Rattle.std.proofs.Math.Seq.{drop-append_seam, take-append_seam}
 use Rattle.t1_frac.specs.declared.fault.Fault.{Fault}
 use Rattle.t1_frac.specs.declared.fault.Code.TheVariants.{F11}
@@ -14,16 +13,16 @@ use Rattle.t1_frac.specs.Outcome.{fault_at, ◌>>=◌}
 use Rattle.t1_source.specs.declared.item.Item.{Item}
 use Rattle.t1_source.specs.declared.item.Item.TheVariants.{Plain}
 use Rattle.t1_source.specs.Form.{Form}
-use Rattle.t1_source.specs.Lines.{lines, is_line}
+use Rattle.t1_source.specs.Lines.{is_line}
 use Rattle.t1_source.specs.Sections.{is_glyphs_line}
 use Rattle.t1_source.specs.Entries.{Numbered, has}
-use Rattle.t1_source.specs.Private.{items_of, private_items}
-use Rattle.t1_source.specs.Parts.{Parts, parts_of, is_eexec, is_closefile, tail_of}
+use Rattle.t1_source.specs.Private.{private_items}
+use Rattle.t1_source.specs.Parts.{parts_of, is_eexec, is_closefile}
 use Rattle.t1_source.specs.LenIV.{said_lead, says_lead, lead_check, lead_of_token}
 use Rattle.t1_source.specs.Counts.{raised}
 use Rattle.t1_source.specs.Reading.{unnumbered, whole_check, reads_lines, reads}
 use Rattle.t1_source.specs.Printing.{item_lines, text_lines, text}
-use Rattle.t1_source.specs.Kept.{is_inner, says_lead_well, IsClear, IsPrivate, IsKept, is_counted}
+use Rattle.t1_source.specs.Kept.{is_inner, says_lead_well, IsPrivate, IsKept, is_counted}
 use Rattle.t1_source.proofs.TextLaws.{lines_joined}
 use Rattle.t1_source.proofs.PrintedLaws.{inner_parts}
 use Rattle.t1_source.proofs.ItemsAgainLaws.{has_item, items_again, private_again}

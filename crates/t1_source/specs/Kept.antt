@@ -1,5 +1,5 @@
 -- What is true of every source that was read or edited.
-use Rattle.std.specs.Prelude.{◌≡◌, ◌⊎◌, ℕ, Bool, true, false, not, ◌+◌, ◌≤◌, ◌<◌, ◌^◌, ◌&&◌, nat_lt, if◌then◌else◌, Option, None, Some, Ok, is_some, List, [], ◌∷◌, ◌++◌, length, take, filter_map}
+use Rattle.std.specs.Prelude.{◌≡◌, ◌⊎◌, ℕ, Bool, true, false, not, ◌+◌, ◌≤◌, ◌^◌, ◌&&◌, nat_lt, if◌then◌else◌, None, Some, Ok, is_some, List, [], ◌∷◌, ◌++◌, length, take, filter_map}
 use Rattle.std.specs.List.{list_all, list_any, position_or_len}
 use Rattle.t1_source.specs.declared.item.Item.{Item}
 use Rattle.t1_source.specs.declared.item.Item.TheVariants.{Plain, Section, Subr, Glyph}

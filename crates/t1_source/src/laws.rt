@@ -85,6 +85,12 @@ pub fn read_source_again()
     ensures { (bytes : List ℕ) (s : Form) → reads bytes ≡ Ok s → glyphs_needed s.items < 10 ^ 9 → reads (text s) ≡ Ok s }
 {}
 
+/// An edit leaves counts of at most nine digits, where there are fewer than 1,000,000,000 glyphs after it.
+pub fn edited_counts_small()
+    ensures { (s made : Form) (ps others : List Pair) (edit : Edit) → IsKept s → list_all is_counted s.items ≡ true
+        → edited s ps edit ≡ Ok (made, others) → glyphs_needed made.items < 10 ^ 9 → list_all is_counted made.items ≡ true }
+{}
+
 /// In a source that is kept no Subr stands behind a glyph.
 pub fn subrs_stand_first()
     ensures { (s : Form) (a b : List Item) (g : List ℕ) (ws : List (List ℕ)) (closing : List ℕ) → IsKept s

@@ -1,4 +1,4 @@
-use Rattle.std.proofs.Common.{◌≡◌, ◌∙◌, ap, sym}
+use Rattle.std.proofs.Common.{◌∙◌, ap, sym}
 use Rattle.t1_source.specs.Encoding.{clear_check}
 use Rattle.t1_source.specs.Counts.{raised}
 use Rattle.t1_source.proofs.KeptSourceLaws.{made_kept}
