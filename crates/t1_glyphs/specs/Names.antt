@@ -1,5 +1,6 @@
--- Names that are kept beside glyphs.
-use Rattle.std.specs.Prelude.{◌≡◌, ℕ, Bool, List}
+-- Names that are kept beside glyphs, and their codes.
+use Rattle.std.specs.Prelude.{◌≡◌, ℕ, Bool, List, Option, None, codes, if◌then◌else◌}
+use Rattle.std.specs.Map.{lookup}
 use Rattle.std.specs.List.{list_any}
 use Rattle.std.specs.Str.{bytes_eq}
 use Rattle.std.specs.declared.vec.Vec.{Vec}
@@ -13,3 +14,11 @@ has_name names g = list_any (λ key. bytes_eq g key.items) names
 -- the names are those of the glyphs
 abbrev pub HasNames : {A : Type 0} → List (Vec ℕ A) → List Shape → Type 0
 HasNames names shapes = (g : List ℕ) → has_name names g ≡ has_glyph shapes g
+
+-- the code that is kept for a name
+abbrev pub code_kept : {A : Type 0} → List (Vec ℕ A × ℕ) → List ℕ → Option ℕ
+code_kept entries g = lookup (λ key. bytes_eq g key.items) entries
+
+-- the code of a glyph; none for .notdef
+abbrev pub code_among : {A : Type 0} → List (Vec ℕ A × ℕ) → List ℕ → Option ℕ
+code_among entries g = if bytes_eq g (codes ".notdef") then None else code_kept entries g

@@ -7,6 +7,7 @@
 
 mod bodies;
 mod chars;
+mod codes;
 mod composites;
 mod glyphs;
 mod kern;

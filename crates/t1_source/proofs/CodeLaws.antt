@@ -1,13 +1,17 @@
 -- Searching the lowest code of a name, and the names that slots give to codes.
-use Rattle.std.proofs.Common.{◌≡◌, ℕ, suc, Bool, true, false, ◌+◌, ◌-◌, ◌<◌, ◌≤◌, ◌==◌, ◌≢◌, if◌then◌else◌, Option, Some, None, List, [], ◌∷◌, ◌++◌, length, take, get_or, set, filter_map, refl, inl, inr, sym, ◌∙◌, ap, arith}
+use Rattle.std.proofs.Common.{◌≡◌, ℕ, suc, Bool, true, false, ◌+◌, ◌-◌, ◌<◌, ◌≤◌, ◌==◌, ◌≢◌, if◌then◌else◌, Option, Some, None, List, [], ◌∷◌, ◌++◌, length, take, get_or, set, filter_map, option_map, refl, inl, inr, sym, ◌∙◌, ap, arith}
 use Rattle.std.specs.List.{find, range_with_len, last_or}
+use Rattle.std.specs.Borrow.{Bor}
 use Rattle.std.specs.Str.{bytes_eq}
 use Rattle.std.proofs.lemmas.List.{take_more, get_or-set_same, get_or-set_other}
 use Rattle.std.proofs.lemmas.List.Elements.{filter_map-append}
 use Rattle.std.proofs.lemmas.Bool.{eq-eqb, cases_Bool, eqb-true}
 use Rattle.t1_source.specs.Tokens.{tokens, is_token}
-use Rattle.t1_source.specs.Encoding.{slot_of_tokens}
-use Rattle.t1_source.specs.Codes.{lowest_code, named_by, slot_name}
+use Rattle.t1_code.specs.Encoding.{standard_name}
+use Rattle.t1_source.specs.Encoding.{slot_of_tokens, slots}
+use Rattle.t1_source.specs.Form.{Form}
+use Rattle.t1_source.specs.Reading.{standard}
+use Rattle.t1_source.specs.Codes.{lowest_code, named_by, slot_name, name_at, name_of_code}
 
 find_range : (p : ℕ → Bool) (c n m : ℕ) → n ≡ suc m → find p (range_with_len c n) ≡ (if p c then Some c else find p (range_with_len (c + 1) m))
 find_range p c n m e = rw e refl
@@ -97,3 +101,49 @@ slot_more g ls k l c name named h is e within before code small =
           ∙ before code small
           ∙ sym (on ∙ ap (is_token g) (slot_elsewhere (slots_on (take k ls)) code c name other))
     ]
+
+-- a line that is no slot names nothing
+pub no_name_more : (ls : List (List ℕ)) (k : ℕ) (l : List ℕ) (code : ℕ) → k < length ls → l ≡ get_or ls k l → slot_of_tokens (tokens l) ≡ None
+    → slot_name (slots_on (take (k + 1) ls)) code ≡ slot_name (slots_on (take k ls)) code
+no_name_more ls k l code h is e = ap (λ s. slot_name s code) (slots_more ls k l h is ∙ (rw e (append_none (slots_on (take k ls)))))
+
+-- a slot names its code, and no other
+pub name_more : (ls : List (List ℕ)) (k : ℕ) (l : List ℕ) (c : ℕ) (name : Bor (List ℕ)) (names : List (Option (Bor (List ℕ)))) → k < length ls → l ≡ get_or ls k l
+    → slot_of_tokens (tokens l) ≡ Some (c, name.now) → c < length names
+    → ((code : ℕ) → code < 256 → name_at names code ≡ slot_name (slots_on (take k ls)) code)
+    → (code : ℕ) → code < 256 → name_at (set names c (Some name)) code ≡ slot_name (slots_on (take (k + 1) ls)) code
+name_more ls k l c name names h is e within before code small =
+    let on : slot_name (slots_on (take (k + 1) ls)) code ≡ slot_name (slots_on (take k ls) ++ (c, name.now) ∷ []) code =
+    ap (λ s. slot_name s code) (slot_on ls k l c name.now h is e) in
+    elim (cases_Bool (c == code)) [
+      | inl equal ↦
+          let at : c ≡ code = eqb-true c code equal in
+          ap (name_at (set names c (Some name))) (sym at) ∙ ap (option_map (λ n. n.now)) (get_or-set_same names c (Some name) None within)
+          ∙ sym (on ∙ ap (slot_name (slots_on (take k ls) ++ (c, name.now) ∷ [])) (sym at) ∙ slot_here (slots_on (take k ls)) c name.now)
+      | inr other ↦
+          ap (option_map (λ n. n.now)) (get_or-set_other names c code (Some name) None (differ c code other))
+          ∙ before code small
+          ∙ sym (on ∙ slot_elsewhere (slots_on (take k ls)) code c name.now other)
+    ]
+
+-- one code more of a table
+pub table_more : (given : ℕ → Option (List ℕ)) (names : List (Option (Bor (List ℕ)))) (c : ℕ) (name : Option (Bor (List ℕ))) → c < length names
+    → option_map (λ n. n.now) name ≡ given c
+    → ((code : ℕ) → code < c → name_at names code ≡ given code)
+    → (code : ℕ) → code < c + 1 → name_at (set names c name) code ≡ given code
+table_more given names c name within is before code low =
+    elim (cases_Bool (c == code)) [
+      | inl equal ↦
+          let at : c ≡ code = eqb-true c code equal in
+          ap (name_at (set names c name)) (sym at) ∙ ap (option_map (λ n. n.now)) (get_or-set_same names c name None within) ∙ is ∙ ap given at
+      | inr other ↦
+          ap (option_map (λ n. n.now)) (get_or-set_other names c code name None (differ c code other))
+          ∙ before code (omega (arith, differ c code other, low))
+    ]
+
+-- the names of codes in the standard encoding, and in an array
+pub standard_named : (s : Form) (code : ℕ) → standard s ≡ true → standard_name code ≡ name_of_code s code
+standard_named s code e = rw e refl
+
+pub array_named : (s : Form) (code : ℕ) → standard s ≡ false → slot_name (slots s.clear) code ≡ name_of_code s code
+array_named s code e = rw e refl

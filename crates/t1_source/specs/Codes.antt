@@ -1,6 +1,7 @@
 -- The codes that an encoding gives to names.
-use Rattle.std.specs.Prelude.{ℕ, ◌==◌, if◌then◌else◌, Option, Some, None, List, codes, filter_map}
+use Rattle.std.specs.Prelude.{ℕ, ◌==◌, if◌then◌else◌, Option, Some, None, List, codes, filter_map, get_or, option_map}
 use Rattle.std.specs.List.{find, last_or, range_with_len}
+use Rattle.std.specs.Borrow.{Bor}
 use Rattle.std.specs.Str.{bytes_eq}
 use Rattle.t1_code.specs.Encoding.{standard_name}
 use Rattle.t1_source.specs.Form.{Form}
@@ -26,3 +27,11 @@ code_of s g =
     if bytes_eq g (codes ".notdef") then None
     else if standard s then lowest_code standard_name g
     else lowest_code (slot_name (slots s.clear)) g
+
+-- the name at a place of a table
+abbrev pub name_at : List (Option (Bor (List ℕ))) → ℕ → Option (List ℕ)
+name_at names code = option_map (λ name. name.now) (get_or names code None)
+
+-- profile, encoding: the name that the encoding gives a code
+abbrev pub name_of_code : Form → ℕ → Option (List ℕ)
+name_of_code s = if standard s then standard_name else slot_name (slots s.clear)

@@ -1,10 +1,10 @@
 //! The codes that an encoding gives to names.
 
-ghost use Rattle.std.specs.Prelude.{◌≡◌, ℕ, ◌<◌, false, length, get_or, filter_map};
+ghost use Rattle.std.specs.Prelude.{◌≡◌, ℕ, ◌<◌, false, length, get_or, filter_map, option_map};
 ghost use Rattle.t1_code.specs.Encoding.{standard_name as name_of};
 ghost use Rattle.t1_source.specs.Tokens.{tokens, is_token};
 ghost use Rattle.t1_source.specs.Encoding.{slot_of_tokens, slots};
-ghost use Rattle.t1_source.specs.Codes.{slot_name, lowest_code};
+ghost use Rattle.t1_source.specs.Codes.{slot_name, lowest_code, name_at};
 
 use crate::encoding::{array_of, slot_of};
 use crate::tokens::same;
@@ -65,4 +65,47 @@ pub fn array_code(clear: &[Bytes], name: &[u8]) -> Option<u8>
         code += 1;
     }
     None
+}
+
+/// The name that the standard encoding gives a code.
+fn standard_bytes<'a>(code: u8) -> Option<&'a [u8]>
+    ensures { option_map (λ name. name.now) result ≡ name_of code }
+{
+    match standard_name(code) {
+        Some(name) => Some(name.as_bytes()),
+        None => None,
+    }
+}
+
+/// The names that the standard encoding gives the codes from 0 to 255.
+pub fn standard_names<'a>() -> [Option<&'a [u8]>; 256]
+    ensures { (code : ℕ) → code < 256 → name_at result code ≡ name_of code }
+{
+    let mut names: [Option<&'a [u8]>; 256] = [None; 256];
+    let mut code: u16 = 0;
+    while code < 256 {
+        names[code as usize] = standard_bytes(code as u8);
+        code += 1;
+    }
+    names
+}
+
+/// The names that the slots on these lines give the codes from 0 to 255.
+fn slot_names(lines: &[Bytes]) -> [Option<&[u8]>; 256]
+    ensures { (code : ℕ) → code < 256 → name_at result code ≡ slot_name (filter_map (λ l. slot_of_tokens (tokens l)) lines.now) code }
+{
+    let mut names = [None; 256];
+    for line in lines {
+        if let Some((code, name)) = slot_of(line.as_slice()) {
+            names[code as usize] = Some(name);
+        }
+    }
+    names
+}
+
+/// The names that the array of the clear lines gives the codes from 0 to 255.
+pub fn array_names(clear: &[Bytes]) -> [Option<&[u8]>; 256]
+    ensures { (code : ℕ) → code < 256 → name_at result code ≡ slot_name (slots clear.now) code }
+{
+    slot_names(array_of(clear))
 }

@@ -1,6 +1,6 @@
 //! A source that was read.
 
-use crate::codes::{array_code, standard_code};
+use crate::codes::{array_code, array_names, standard_code, standard_names};
 use crate::counts::raised;
 use crate::edit::{Cause, Edit};
 use crate::editing::{
@@ -61,7 +61,7 @@ impl Model for Draft {
     ghost view = { λ draft. record { clear = draft.clear.items; items = draft.items.items; tail = draft.tail.items } };
 }
 
-ghost use Rattle.std.specs.Prelude.{◌≡◌, IfOk, option_map, true};
+ghost use Rattle.std.specs.Prelude.{◌≡◌, ◌<◌, ℕ, IfOk, option_map, true};
 ghost use Rattle.std.specs.List.{list_all};
 ghost use Rattle.t1_frac.specs.Outcome.{Gives};
 ghost use Rattle.t1_source.specs.Lines.{is_line};
@@ -70,7 +70,7 @@ ghost use Rattle.t1_source.specs.Kept.{IsKept};
 ghost use Rattle.t1_source.specs.LenIV.{lead};
 ghost use Rattle.t1_source.specs.Operator.{operator};
 ghost use Rattle.t1_source.specs.Header.{header};
-ghost use Rattle.t1_source.specs.Codes.{code_of};
+ghost use Rattle.t1_source.specs.Codes.{code_of, name_at, name_of_code};
 ghost use Rattle.t1_source.specs.Printing.{text};
 ghost use Rattle.t1_source.specs.Editing.{Edits, edited, with_items, with_clear};
 
@@ -245,6 +245,16 @@ impl Source {
             return standard_code(name);
         }
         array_code(self.clear.as_slice(), name)
+    }
+
+    /// The names that the encoding gives the codes from 0 to 255.
+    pub fn names_by_code(&self) -> [Option<&[u8]>; 256]
+        ensures { (code : ℕ) → code < 256 → name_at result code ≡ name_of_code self.now code }
+    {
+        if self.standard() {
+            return standard_names();
+        }
+        array_names(self.clear.as_slice())
     }
 
     /// Whether the encoding is the standard one.
