@@ -3,6 +3,7 @@ pub mod Encrypting
 pub mod Fitting
 pub mod Framing
 pub mod Grammar
+pub mod Lengths
 pub mod Numbers
 pub mod Places
 pub mod Reading

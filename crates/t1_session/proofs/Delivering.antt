@@ -11,12 +11,11 @@ use Rattle.t1_code.specs.declared.parts.OutError.TheVariants as out
 use Rattle.t1_code.specs.Counted.{Tally}
 use Rattle.t1_code.specs.Parts.{Prints}
 use Rattle.t1_code.specs.Pfb.{pfb_of, whole_file}
-use Rattle.t1_session.specs.Assembly.{private_text, trailer_text, source_file}
+use Rattle.t1_session.specs.Assembly.{private_text, trailer_text, source_file, file_check}
 use Rattle.t1_source.specs.declared.pairs.Pair.{Pair}
 use Rattle.t1_source.specs.Kerning.{pairs}
 use Rattle.t1_source.specs.Reading.{reads}
 use Rattle.t1_afm.specs.Afm.{afm}
-use Rattle.t1_glyphs.specs.Bodies.{bodies_check}
 use Rattle.t1_glyphs.specs.Shapes.{Measured, measured}
 use Rattle.t1_glyphs.specs.Sheet.{sheet}
 use Rattle.t1_session.specs.Measuring.{metrics_file}
@@ -32,11 +31,11 @@ source_parts size source l o items private clear trailer lead_is operator_is ite
     rw (known, clear_is, trailer_is) refl
 
 -- the AFM file of a source, its pairs and its glyphs, which have no fault
-pub metrics_parts : (source kerning : List ℕ) (s : Form) (ps : List Pair) (glyphs : Measured) (file : List ℕ)
-    → reads source ≡ Ok s → pairs kerning ≡ Ok ps → bodies_check s.items ≡ Ok tt → source_file whole_file s ≡ Ok file → measured s.items ≡ Ok glyphs
+pub metrics_parts : (source kerning : List ℕ) (s : Form) (ps : List Pair) (glyphs : Measured)
+    → reads source ≡ Ok s → pairs kerning ≡ Ok ps → file_check s ≡ Ok tt → measured s.items ≡ Ok glyphs
     → metrics_file source kerning ≡ Ok (afm (sheet s ps glyphs))
 unfolding metrics_file
-metrics_parts source kerning s ps glyphs file read paired checked assembled told = rw (read, paired, checked, assembled, told) refl
+metrics_parts source kerning s ps glyphs read paired checked told = rw (read, paired, checked, told) refl
 
 module _ {W : Type 0} (contents : W → Option (List ℕ)) (old new : Tally W) (text given : Result (List ℕ) Fault) (same : given ≡ text) where
   pub delivers_whole : Prints {T = Unit {0}} contents old new text (Ok tt) → Delivers {T = Unit {0}} contents old new given (Ok tt)

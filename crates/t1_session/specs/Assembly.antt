@@ -14,7 +14,7 @@ use Rattle.t1_source.specs.Reading.{reads}
 use Rattle.t1_code.specs.Words.{commands}
 use Rattle.t1_code.specs.Charstring.{charstring}
 use Rattle.t1_code.specs.Cipher.{encrypted_charstring}
-use Rattle.t1_code.specs.Pfb.{entry_text, pfb_of}
+use Rattle.t1_code.specs.Pfb.{entry_text, pfb_of, whole_file}
 use Rattle.t1_session.specs.declared.private.Line.{Line}
 use Rattle.t1_session.specs.declared.private.Line.TheVariants as lines
 
@@ -44,6 +44,10 @@ trailer_text tail = joined (replicate 8 (replicate 64 48) ++ tail)
 unfoldable pub source_file : ℕ → Form → Result (List ℕ) Fault
 source_file size source =
     private_text (lead source) (operator source) source.items >>= λ private. pfb_of size (joined source.clear) private (trailer_text source.tail)
+
+-- whether a source has its PFB file, or the first fault of its bodies, or F23
+unfoldable pub file_check : Form → Result (Unit {0}) Fault
+file_check source = source_file whole_file source >>= λ file. Ok tt
 
 -- the PFB file of the bytes of a source, or its first fault
 unfoldable pub assembled : ℕ → List ℕ → Result (List ℕ) Fault

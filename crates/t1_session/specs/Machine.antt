@@ -16,19 +16,19 @@ use Rattle.t1_session.specs.declared.reply.Reply.TheVariants.{Accepted, Broken, 
 use Rattle.t1_session.specs.declared.request.Request.{Request}
 use Rattle.t1_session.specs.declared.request.Request.TheVariants as requests
 use Rattle.t1_session.specs.Answers.{Performed, Machine}
-use Rattle.t1_session.specs.Assembly.{source_file}
+use Rattle.t1_session.specs.Assembly.{source_file, file_check}
 use Rattle.t1_source.specs.Editing.{edited}
 use Rattle.t1_session.specs.Requests.{may_want_memory}
 use Rattle.t1_session.specs.State.{State}
 
 -- profile, edits: the edited source is refused by the first fault of its bodies, or by F23
-abbrev pub judged_file : State → State → Result (List ℕ) Fault → Performed State
-judged_file old new (Ok file) = record { reply = Accepted; next = new }
+abbrev pub judged_file : State → State → Result (Unit {0}) Fault → Performed State
+judged_file old new (Ok checked) = record { reply = Accepted; next = new }
 judged_file old new (Err fault) = record { reply = Faulty fault; next = old }
 
 -- profile, edits: an edit that is refused leaves the state as it was
 abbrev pub judged : State → Result (Form × List Pair) Rule → Performed State
-judged old (Ok made) = judged_file old (record { source = made.0; pairs = made.1 }) (source_file whole_file made.0)
+judged old (Ok made) = judged_file old (record { source = made.0; pairs = made.1 }) (file_check made.0)
 judged old (Err rule) = record { reply = Broken rule; next = old }
 
 -- what a print of the PFB file is answered; the source of a session has no fault
@@ -57,7 +57,7 @@ unfoldable pub scratch : List ℕ → List ℕ → Result State Fault
 scratch source pair_lines = do
   form ← reads source
   kerning ← pairs pair_lines
-  file ← source_file whole_file form
+  checked ← file_check form
   Ok (record { source = form; pairs = kerning })
 
 -- the source of a state has its PFB file

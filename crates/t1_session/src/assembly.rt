@@ -5,6 +5,7 @@ ghost use Rattle.t1_source.specs.Lines.{joined};
 ghost use Rattle.t1_code.specs.Parts.{piece_text};
 ghost use Rattle.t1_code.specs.Pfb.{pfb_of, whole_file};
 ghost use Rattle.t1_session.specs.Assembly.{assembled, source_file, trailer_text};
+ghost use Rattle.t1_frac.specs.Outcome.{Gives};
 ghost use Rattle.t1_session.specs.Delivery.{Delivers};
 
 use crate::error::ServeError;
@@ -12,7 +13,7 @@ use crate::private::{lines_of, pieces_of};
 use std::alloc::{AllocError, Global};
 use std::io::Write;
 use t1_code::{Counted, Parts, Piece, write_pfb};
-use t1_frac::Bytes;
+use t1_frac::{Bytes, Refusal};
 use t1_source::{Source, read_source};
 
 /// Adds lines with their ends.
@@ -82,6 +83,19 @@ pub fn write_source<W: Write>(
     let clear = clear_text(alloc, source.clear())?;
     let trailer = trailer(alloc, source.tail())?;
     write_parts(&clear, &pieces, &trailer, out)
+}
+
+/// The PFB file of a source, or the first fault of its bodies, or F23.
+pub(crate) fn file_of(alloc: Global, source: &Source) -> Result<Vec<u8>, Refusal>
+    ensures { Gives (λ file. file.items) result (source_file whole_file source.now) }
+{
+    let mut out = Counted::new(Vec::new(alloc));
+    match write_source(alloc, source, &mut out) {
+        Ok(()) => Ok(out.into_inner()),
+        Err(ServeError::Load(fault)) => Err(Refusal::Fault(fault)),
+        // A vector fails to take bytes only where it can't grow.
+        Err(_) => Err(Refusal::Memory),
+    }
 }
 
 /// Reads a source and writes its PFB file: the whole file at `Ok`, a beginning of it at `Write`. `Load` tells the

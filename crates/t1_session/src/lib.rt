@@ -7,6 +7,7 @@ mod assembly;
 mod dialogue;
 mod error;
 pub mod laws;
+mod lengths;
 mod measuring;
 mod numbers;
 mod print;

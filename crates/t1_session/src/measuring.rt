@@ -6,12 +6,12 @@ ghost use Rattle.t1_glyphs.specs.Sheet.{sheet};
 ghost use Rattle.t1_session.specs.Measuring.{metrics_file};
 
 use crate::error::ServeError;
-use crate::session::file_of;
+use crate::lengths::checked;
 use std::alloc::Global;
 use std::io::Write;
 use t1_afm::write_afm;
 use t1_code::Counted;
-use t1_glyphs::{Glyphs, compiled, measured, metrics};
+use t1_glyphs::{Glyphs, measured, metrics};
 use t1_run::Meter;
 use t1_source::{Pairs, Source, read_pairs, read_source};
 
@@ -43,8 +43,7 @@ pub fn measure_source<W: Write>(
 {
     let source = read_source(alloc, source)?;
     let pairs = read_pairs(alloc, pairs)?;
-    let bodies = compiled(alloc, source.items())?;
-    let _file = file_of(alloc, &source)?;
+    let bodies = checked(alloc, &source)?;
     let glyphs = measured(alloc, source.items(), &bodies, &mut Meter::new())?;
     write_metrics(alloc, &source, &pairs, &glyphs, out)
 }

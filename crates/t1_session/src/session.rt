@@ -25,30 +25,16 @@ ghost use Rattle.t1_source.specs.Kerning.{kern};
 ghost use Rattle.t1_source.specs.Printing.{text};
 ghost use Rattle.t1_source.specs.Editing.{edited};
 ghost use Rattle.t1_session.specs.Machine.{perform, printed, judged, judged_file, file_reply, scratch};
-ghost use Rattle.t1_session.specs.Assembly.{source_file};
+ghost use Rattle.t1_session.specs.Assembly.{source_file, file_check};
 ghost use Rattle.t1_session.specs.Requests.{may_want_memory};
 ghost use Rattle.t1_code.specs.Pfb.{whole_file};
 
-use crate::assembly::write_source;
-use crate::error::ServeError;
+use crate::assembly::file_of;
+use crate::lengths::checked;
 use crate::print::Print;
 use crate::reply::Reply;
 use crate::request::Request;
-use t1_code::Counted;
 use t1_frac::{Bytes, Refusal};
-
-/// The PFB file of a source, or the first fault of its bodies, or F23.
-pub(crate) fn file_of(alloc: Global, source: &Source) -> Result<Vec<u8>, Refusal>
-    ensures { Gives (λ file. file.items) result (source_file whole_file source.now) }
-{
-    let mut out = Counted::new(Vec::new(alloc));
-    match write_source(alloc, source, &mut out) {
-        Ok(()) => Ok(out.into_inner()),
-        Err(ServeError::Load(fault)) => Err(Refusal::Fault(fault)),
-        // A vector fails to take bytes only where it can't grow.
-        Err(_) => Err(Refusal::Memory),
-    }
-}
 
 /// The answer to a print of the PFB file.
 fn file_reply(alloc: Global, source: &Source) -> Result<Reply, AllocError>
@@ -70,7 +56,7 @@ impl Session {
     {
         let source = read_source(alloc, source)?;
         let pairs = read_pairs(alloc, pairs)?;
-        let _file = file_of(alloc, &source)?;
+        let _bodies = checked(alloc, &source)?;
         Ok(Session { source, pairs })
     }
 
@@ -105,12 +91,12 @@ impl Session {
 
     /// Takes an edited source with its pairs, unless the source has a fault.
     fn take(&mut self, alloc: Global, source: Source, pairs: Pairs) -> Result<Reply, AllocError>
-        ensures reply { IfOk result (λ reply. reply ≡ (judged_file self.old (record { source = source; pairs = pairs }) (source_file whole_file source)).reply) }
-        ensures next { OnOk result (self.new ≡ (judged_file self.old (record { source = source; pairs = pairs }) (source_file whole_file source)).next) }
+        ensures reply { IfOk result (λ reply. reply ≡ (judged_file self.old (record { source = source; pairs = pairs }) (file_check source)).reply) }
+        ensures next { OnOk result (self.new ≡ (judged_file self.old (record { source = source; pairs = pairs }) (file_check source)).next) }
         ensures err { OnErr result (self.new ≡ self.old) }
     {
-        match file_of(alloc, &source) {
-            Ok(_file) => {
+        match checked(alloc, &source) {
+            Ok(_bodies) => {
                 self.source = source;
                 self.pairs = pairs;
                 Ok(Reply::Accepted)

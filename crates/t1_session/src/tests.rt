@@ -12,6 +12,10 @@ const FRONT: &[u8] = b"%!\n";
 const BACK: &[u8] =
     b"/Encoding StandardEncoding def\ncurrentfile eexec\n/CharStrings 1 dict dup begin\n/space {\n\t0 250 hsbw\n\tendchar\n\t} ND\nend\nmark currentfile closefile\n";
 
+/// Its AFM file.
+const METRICS: &[u8] =
+    b"StartFontMetrics 4.1\nFontBBox 0 0 0 0\nEncodingScheme AdobeStandardEncoding\nStartCharMetrics 1\nC 32 ; WX 250 ; N space ; B 0 0 0 0 ;\nEndCharMetrics\nEndFontMetrics\n";
+
 /// Commands on it, and their answers.
 const TURNS: [(&[u8], &[u8]); 17] = [
     (b"print kern\n", b"data 0\n\n"),
@@ -303,5 +307,41 @@ fn loads(rt: HostRuntime) -> Result<(), Fail> {
     );
     assert_eq!(rt; reader.into_inner(), b"print kern\n".as_slice());
     assert_eq!(rt; writer.into_inner().as_slice(), b"".as_slice());
+    Ok(())
+}
+
+#[test]
+fn assembles(rt: HostRuntime) -> Result<(), Fail> {
+    let alloc = rt.alloc();
+    let mut out = Counted::new(Vec::new(alloc));
+    assemble_source(alloc, &font(alloc)?, &mut out)?;
+    assert_eq!(rt; out.into_inner().len(), 694);
+    Ok(())
+}
+
+#[test]
+fn measures(rt: HostRuntime) -> Result<(), Fail> {
+    let alloc = rt.alloc();
+    let mut out = Counted::new(Vec::new(alloc));
+    measure_source(alloc, &font(alloc)?, b"KPX A V -92\n", &mut out)?;
+    assert_eq!(rt; out.into_inner().as_slice(), METRICS);
+    Ok(())
+}
+
+#[test]
+fn measures_no_faulty_pairs(rt: HostRuntime) -> Result<(), Fail> {
+    let alloc = rt.alloc();
+    let mut out = Counted::new(Vec::new(alloc));
+    let result = measure_source(alloc, &font(alloc)?, b"KPX A V -9.5", &mut out);
+    assert!(rt;
+        matches!(
+            result,
+            Err(ServeError::Load(Fault {
+                code: Code::F12,
+                place: Place::Line(1)
+            }))
+        )
+    );
+    assert_eq!(rt; out.into_inner().len(), 0);
     Ok(())
 }

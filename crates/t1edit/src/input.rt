@@ -1,7 +1,8 @@
 //! Files, read whole.
-ghost use Rattle.std.specs.Prelude.{◌≡◌, Err, IfOk};
+ghost use Rattle.std.specs.Prelude.{◌≡◌, Err, IfOk, IfErr};
 ghost use Rattle.std.specs.Io.KnownBytes.{Consumes, IsAtEnd};
 ghost use Rattle.t1_code.specs.Counted.{one_more};
+ghost use Rattle.t1edit.specs.Reading.{FailsToRead};
 
 use std::alloc::Global;
 use std::fs::File;
@@ -16,6 +17,7 @@ const BUFFER_LEN: usize = 4_096;
 fn read_whole<R: Read>(alloc: Global, reader: &mut Counted<R>) -> Result<Vec<u8>, ServeError>
     ensures ok { IfOk result (λ bytes. Consumes (R.remaining reader.old.inner) (R.remaining reader.new.inner) bytes.items) }
     ensures at_end { IfOk result (λ _. IsAtEnd (R.remaining reader.new.inner)) }
+    ensures errors { IfErr result FailsToRead }
     ensures read_failed { result ≡ Err ServeError.Read → reader.new.failures ≡ one_more reader.old.failures }
 {
     let mut bytes = Vec::new(alloc);
@@ -33,7 +35,9 @@ fn read_whole<R: Read>(alloc: Global, reader: &mut Counted<R>) -> Result<Vec<u8>
 }
 
 /// The bytes of a file.
-pub fn read_file(rt: &HostRuntime, path: &str) -> Result<Vec<u8>, ServeError> {
+pub fn read_file(rt: &HostRuntime, path: &str) -> Result<Vec<u8>, ServeError>
+    ensures { IfErr result FailsToRead }
+{
     match File::open(rt, path) {
         Ok(file) => read_whole(rt.alloc(), &mut Counted::new(file)),
         Err(_) => Err(ServeError::Read),
