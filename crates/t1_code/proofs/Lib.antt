@@ -8,4 +8,5 @@ pub mod Numbers
 pub mod Places
 pub mod Reading
 pub mod Rows
+pub mod Scanning
 pub mod Writing

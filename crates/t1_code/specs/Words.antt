@@ -1,11 +1,12 @@
 -- The words of a charstring: numbers and commands.
-use Rattle.std.specs.Prelude.{map, fold, ℕ, ◌+◌, ◌-◌, ◌*◌, ◌^◌, ℤ, pos, negsuc, neg_ℤ, Bool, ◌&&◌, nat_lt, if◌then◌else◌, List, [], ◌∷◌, drop, length, codes, Option, None, Some, Result, Ok, Err}
+use Rattle.std.specs.Prelude.{map, fold, ℕ, ◌+◌, ◌-◌, ◌*◌, ◌^◌, ℤ, pos, negsuc, neg_ℤ, Bool, ◌&&◌, nat_lt, if◌then◌else◌, List, [], ◌∷◌, drop, take, length, codes, Option, None, Some, Result, Ok, Err}
 use Rattle.std.specs.Map.{lookup}
 use Rattle.std.specs.Borrow.{Bor}
 use Rattle.std.specs.Str.{bytes_eq}
 use Rattle.std.specs.Char.{is_ascii_digit}
-use Rattle.std.specs.List.{list_all}
+use Rattle.std.specs.List.{list_all, position_or_len}
 use Rattle.std.specs.Str.Parse.{starts_with_minus}
+use Rattle.t1_frac.specs.Words.{is_blank}
 use Rattle.t1_frac.specs.declared.fault.Code.{Code}
 use Rattle.t1_frac.specs.declared.fault.Code.TheVariants.{F20, F21, F22}
 use Rattle.t1_code.specs.declared.command.Command.{Command}
@@ -30,9 +31,17 @@ in_32_bits n = if fits_32_bits n then Ok n else Err F21
 abbrev pub decimal_value : List ℕ → ℕ
 decimal_value digits = fold (λ value digit. 10 * value + (digit - 48)) 0 digits
 
+-- the number of this size, less than nothing behind a minus
+abbrev pub signed : Bool → ℕ → ℤ
+signed minus size = if minus then neg_ℤ (pos size) else pos size
+
 -- the number that a number word writes
 abbrev pub number_written : List ℕ → ℤ
-number_written word = if starts_with_minus word then neg_ℤ (pos (decimal_value (digits_of_word word))) else pos (decimal_value (digits_of_word word))
+number_written word = signed (starts_with_minus word) (decimal_value (digits_of_word word))
+
+-- profile, words: the bytes in front of the first blank
+abbrev pub first_word : List ℕ → List ℕ
+first_word text = take (position_or_len is_blank text) text
 
 unfoldable pub number_of_word : List ℕ → Result ℤ Code
 number_of_word word = in_32_bits (number_written word)
@@ -52,31 +61,31 @@ number_word word = if is_number_word word then Some (capped (number_written word
 -- Type 1 Font Format, Chapter 6 (charstring commands): each command and the word that names it
 unfoldable pub operator_words : List (List ℕ × Command)
 operator_words =
-    (codes "hstem", HStem) ∷
-    (codes "vstem", VStem) ∷
-    (codes "vmoveto", VMoveTo) ∷
+    (codes "rrcurveto", RRCurveTo) ∷
     (codes "rlineto", RLineTo) ∷
     (codes "hlineto", HLineTo) ∷
     (codes "vlineto", VLineTo) ∷
-    (codes "rrcurveto", RRCurveTo) ∷
-    (codes "closepath", ClosePath) ∷
-    (codes "callsubr", CallSubr) ∷
-    (codes "return", Return) ∷
-    (codes "dotsection", DotSection) ∷
-    (codes "vstem3", VStem3) ∷
-    (codes "hstem3", HStem3) ∷
-    (codes "seac", Seac) ∷
-    (codes "sbw", Sbw) ∷
-    (codes "div", Div) ∷
-    (codes "callothersubr", CallOtherSubr) ∷
-    (codes "pop", Pop) ∷
-    (codes "setcurrentpoint", SetCurrentPoint) ∷
-    (codes "hsbw", Hsbw) ∷
-    (codes "endchar", EndChar) ∷
-    (codes "rmoveto", RMoveTo) ∷
-    (codes "hmoveto", HMoveTo) ∷
     (codes "vhcurveto", VHCurveTo) ∷
     (codes "hvcurveto", HVCurveTo) ∷
+    (codes "rmoveto", RMoveTo) ∷
+    (codes "hmoveto", HMoveTo) ∷
+    (codes "vmoveto", VMoveTo) ∷
+    (codes "closepath", ClosePath) ∷
+    (codes "callsubr", CallSubr) ∷
+    (codes "hstem", HStem) ∷
+    (codes "vstem", VStem) ∷
+    (codes "hsbw", Hsbw) ∷
+    (codes "endchar", EndChar) ∷
+    (codes "return", Return) ∷
+    (codes "callothersubr", CallOtherSubr) ∷
+    (codes "pop", Pop) ∷
+    (codes "div", Div) ∷
+    (codes "hstem3", HStem3) ∷
+    (codes "vstem3", VStem3) ∷
+    (codes "dotsection", DotSection) ∷
+    (codes "setcurrentpoint", SetCurrentPoint) ∷
+    (codes "seac", Seac) ∷
+    (codes "sbw", Sbw) ∷
     []
 
 -- the command that a word names

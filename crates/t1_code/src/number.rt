@@ -1,11 +1,11 @@
 //! Number words.
-ghost use Rattle.std.specs.Prelude.{◌≡◌, ◌-◌, ◌^◌, true, false, min, MatchOption};
-ghost use Rattle.std.specs.List.{list_all};
+ghost use Rattle.std.specs.Prelude.{◌≡◌, ◌-◌, ◌^◌, ◌≤◌, true, false, length, take, min, MatchOption};
+ghost use Rattle.std.specs.List.{list_all, prefix_len};
 ghost use Rattle.std.specs.Char.{is_ascii_digit};
 ghost use Rattle.t1_code.specs.Words.{digits_of_word, decimal_value, number_word};
 
 /// A word without the minus that it may begin with.
-fn digits(word: &[u8]) -> &[u8]
+pub(crate) fn digits(word: &[u8]) -> &[u8]
     ensures { result.now ≡ digits_of_word word.now }
 {
     match word {
@@ -14,22 +14,38 @@ fn digits(word: &[u8]) -> &[u8]
     }
 }
 
+/// The number that the digits at the front of a text write, or 2^64 - 1 where it is more, and how many digits there
+/// are.
+pub(crate) fn leading_number(text: &[u8]) -> (u64, usize)
+    ensures within { result.1 ≤ length text.now }
+    ensures count { result.1 ≡ prefix_len is_ascii_digit text.now }
+    ensures value { result.0 ≡ min (decimal_value (take result.1 text.now)) (2 ^ 64 - 1) }
+{
+    let mut value: u64 = 0;
+    let mut count = 0;
+    for byte in text {
+        if !byte.is_ascii_digit() {
+            return (value, count);
+        }
+        value = value
+            .saturating_mul(10)
+            .saturating_add(u64::from(*byte - 48));
+        count += 1;
+    }
+    (value, count)
+}
+
 /// The number that digits write, or 2^64 - 1 where it is more; nothing where a byte is no digit.
-#[tactic(auto, using(std::proofs::lemmas::List::Folds::list_all_at))]
+#[tactic(auto, using(crate::proofs::Scanning::digits_to_the_end, crate::proofs::Scanning::digits_end_early))]
 fn magnitude(digits: &[u8]) -> Option<u64>
     ensures { MatchOption
         result
         (list_all is_ascii_digit digits.now ≡ false)
         (λ value. (list_all is_ascii_digit digits.now ≡ true) × (value ≡ min (decimal_value digits.now) (2 ^ 64 - 1))) }
 {
-    let mut value: u64 = 0;
-    for digit in digits {
-        if !digit.is_ascii_digit() {
-            return None;
-        }
-        value = value
-            .saturating_mul(10)
-            .saturating_add(u64::from(*digit - 48));
+    let (value, count) = leading_number(digits);
+    if count < digits.len() {
+        return None;
     }
     Some(value)
 }

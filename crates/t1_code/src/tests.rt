@@ -42,6 +42,15 @@ fn names_codes(rt: HostRuntime) -> Result<(), Fail> {
     Ok(())
 }
 
+#[test]
+fn reads_number_words(rt: HostRuntime) -> Result<(), Fail> {
+    assert_eq!(rt; number_word(b"-0012"), Some(-12));
+    assert_eq!(rt; number_word(b"9223372036854775808"), Some(i64::MAX));
+    assert_eq!(rt; number_word(b"-"), None);
+    assert_eq!(rt; number_word(b"1.5"), None);
+    Ok(())
+}
+
 /// A writer over memory that takes one byte a call, and fails a call that hands it more than 4,096.
 #[derive(Drop)]
 struct Small {

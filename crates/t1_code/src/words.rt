@@ -1,41 +1,87 @@
 //! The words of a body, read as commands.
-ghost use Rattle.std.specs.Prelude.{◌≡◌, ◌≤◌, length};
+ghost use Rattle.std.specs.Prelude.{◌≡◌, ◌<◌, ◌≤◌, [], ◌∷◌, false, length, IfSome, MatchOption};
 ghost use Rattle.t1_frac.specs.Outcome.{Gives, told_at};
-ghost use Rattle.t1_frac.specs.Words.{words};
+ghost use Rattle.t1_frac.specs.Words.{word_goes_on, words};
 ghost use Rattle.t1_frac.specs.declared.fault.Place.TheVariants.{Nowhere};
-ghost use Rattle.t1_code.specs.Words.{number_command, in_32_bits, command_of_word, commands_of_words, commands};
+ghost use Rattle.t1_code.specs.Words.{signed, number_command, in_32_bits, first_word, is_number_word, or_unknown, operator_named, command_of_word, command_then, commands_of_words, commands};
 
 use crate::body::Body;
 use crate::command::Command;
-use crate::number::number_word;
+use crate::number::{digits, leading_number};
 use std::alloc::Global;
-use t1_frac::{Code, Refusal, Words, next_word};
+use t1_frac::{Code, Refusal, Words, is_blank, next_word, skip_blanks};
 
 /// The most words of a body.
 const MAX_WORDS: usize = 65_535;
 
-/// The command of a number.
-fn number_command(number: i64) -> Result<Command, Code>
-    ensures { result ≡ number_command (in_32_bits number) }
+/// The command of a number of this size.
+fn number_command(minus: bool, size: u64) -> Result<Command, Code>
+    ensures { result ≡ number_command (in_32_bits (signed minus size)) }
 {
-    match i32::try_from(number) {
+    let size = i128::from(size);
+    match i32::try_from(if minus { -size } else { size }) {
         Ok(number) => Ok(Command::Num(number)),
         Err(_) => Err(Code::F21),
     }
 }
 
-/// What a word says.
-#[tactic(auto, using(crate::proofs::Numbers::capped_fits), unfolding(crate::specs::Words::command_of_word, crate::specs::Words::number_of_word, crate::specs::Words::number_word))]
-fn command(word: &[u8]) -> Result<Command, Code>
-    ensures { result ≡ command_of_word word.now }
+/// Whether a text goes on with a byte of a word.
+fn goes_on(text: &[u8]) -> bool
+    ensures { result ≡ word_goes_on text.now }
 {
-    match number_word(word) {
-        Some(number) => number_command(number),
-        None => match Command::named(word) {
-            Some(command) => Ok(command),
-            None => Err(Code::F20),
-        },
+    match text {
+        [] => false,
+        [byte, ..] => !is_blank(*byte),
     }
+}
+
+/// The number word that a text begins with, as a command, and the bytes after it; nothing where the text begins with
+/// another word or with none.
+fn first_number(text: &[u8]) -> Option<(Result<Command, Code>, &[u8])>
+    ensures shorter { IfSome result (λ found. length found.1.now < length text.now) }
+    ensures value { MatchOption
+        result
+        (is_number_word (first_word text.now) ≡ false)
+        (λ found. (found.0 ≡ command_of_word (first_word text.now)) × (words text.now ≡ first_word text.now ∷ words found.1.now)) }
+{
+    let digits = digits(text);
+    let (size, count) = leading_number(digits);
+    let after = digits.split_at(count).1;
+    if count == 0 {
+        return None;
+    }
+    if goes_on(after) {
+        return None;
+    }
+    Some((number_command(digits.len() < text.len(), size), after))
+}
+
+/// The command that a word names.
+fn named(word: &[u8]) -> Result<Command, Code>
+    ensures { result ≡ or_unknown (operator_named word.now) }
+{
+    match Command::named(word) {
+        Some(command) => Ok(command),
+        None => Err(Code::F20),
+    }
+}
+
+/// What the first word of a line says, and the bytes after the word; nothing where the line has no word.
+fn next_command(line: &[u8]) -> Option<(Result<Command, Code>, &[u8])>
+    ensures shorter { IfSome result (λ found. length found.1.now < length line.now) }
+    ensures value { MatchOption
+        result
+        (words line.now ≡ [])
+        (λ found. commands_of_words (words line.now) ≡ command_then found.0 (commands_of_words (words found.1.now))) }
+{
+    let rest = skip_blanks(line);
+    if let Some((number, after)) = first_number(rest) {
+        return Some((number, after));
+    }
+    let Some((word, after)) = next_word(rest) else {
+        return None;
+    };
+    Some((named(word), after))
 }
 
 /// How many words a text has.
@@ -57,8 +103,8 @@ fn read_words(alloc: Global, text: &[u8]) -> Result<Vec<Command>, Refusal>
 {
     let mut read = Vec::new(alloc);
     let mut rest = text;
-    while let Some((word, after)) = next_word(rest) {
-        read.push(command(word)?)?;
+    while let Some((command, after)) = next_command(rest) {
+        read.push(command?)?;
         rest = after;
     }
     Ok(read)

@@ -1,0 +1,225 @@
+-- The digits at the front of a text, and the word that they begin.
+use Rattle.std.proofs.Common.{◌≡◌, ℕ, ◌+◌, ◌<◌, ◌≤◌, Bool, true, false, not, ◌&&◌, ◌==◌, nat_lt, List, [], ◌∷◌, length, zero, suc, Result, Err, min, ◌-◌, ◌^◌, take, drop, take_all, length-take, refl, sym, ap, ◌∙◌, inl, inr, arith}
+use Rattle.std.specs.List.{list_all, prefix_len, position_or_len}
+use Rattle.std.specs.Char.{is_ascii_digit}
+use Rattle.std.specs.Str.Parse.{starts_with_minus}
+use Rattle.std.proofs.lemmas.Bool.{cases_Bool, eqb-true, not-true, not-false, lt-ltb, le-ltb, cases_lt}
+use Rattle.std.proofs.lemmas.List.Sums.{prefix_len-le-length}
+use Rattle.std.proofs.Math.Numerals.{one-add}
+use Rattle.t1_frac.proofs.WordLaws.{front_stays, no_word_at, word_at}
+use Rattle.t1_frac.specs.Words.{is_blank, trimmed_front, word_goes_on, words}
+use Rattle.t1_code.specs.Words.{digits_of_word, first_word, is_number_word, number_written, signed, decimal_value, in_32_bits, number_command, number_of_word, operator_named, or_unknown, command_of_word, command_then, commands_of_words}
+use Rattle.t1_code.specs.declared.command.Command.{Command}
+use Rattle.t1_frac.specs.declared.fault.Code.{Code}
+use Rattle.t1_frac.specs.declared.fault.Code.TheVariants.{F21}
+
+abbrev count : List ℕ → ℕ
+count text = prefix_len is_ascii_digit text
+
+pub digits_to_the_end : (text : List ℕ) → length text ≤ prefix_len is_ascii_digit text → list_all is_ascii_digit text ≡ true
+digits_to_the_end [] h = refl
+digits_to_the_end (c ∷ text) h = elim (cases_Bool (is_ascii_digit c)) [
+  | inl e ↦ (let g = rw e at h in rw e (digits_to_the_end text (omega (arith, g))))
+  | inr e ↦ (let g = rw e at h in absurd (omega (arith, g)))
+]
+
+pub digits_end_early : (text : List ℕ) → prefix_len is_ascii_digit text < length text → list_all is_ascii_digit text ≡ false
+digits_end_early [] h = absurd (omega arith)
+digits_end_early (c ∷ text) h = elim (cases_Bool (is_ascii_digit c)) [
+  | inl e ↦ (let g = rw e at h in rw e (digits_end_early text (omega (arith, g))))
+  | inr e ↦ rw e refl
+]
+
+-- all bytes are digits
+pub whole_number : (text : List ℕ) (n : ℕ) → n ≡ prefix_len is_ascii_digit text → length text ≤ n → (list_all is_ascii_digit text ≡ true) × (take n text ≡ text)
+whole_number text n e h = (digits_to_the_end text (omega arith), take_all n text h)
+
+and_false : (b : Bool) → (b && false) ≡ false
+and_false true = refl
+and_false false = refl
+
+differs : (c d : ℕ) → is_ascii_digit c ≡ true → is_ascii_digit d ≡ false → (c == d) ≡ false
+differs c d h k = elim (cases_Bool (c == d)) [
+  | inl same ↦ (let g : true ≡ false = sym h ∙ ap is_ascii_digit (eqb-true c d same) ∙ k in absurd (cc))
+  | inr other ↦ other
+]
+
+digit_no_blank : (c : ℕ) → is_ascii_digit c ≡ true → is_blank c ≡ false
+digit_no_blank c h = rw (differs c 0 h refl, differs c 9 h refl, differs c 12 h refl, differs c 32 h refl) refl
+
+-- the digits end with the word
+word_end : (text : List ℕ) → word_goes_on (drop (prefix_len is_ascii_digit text) text) ≡ false → position_or_len is_blank text ≡ prefix_len is_ascii_digit text
+word_end [] h = refl
+word_end (c ∷ text) h = elim (cases_Bool (is_ascii_digit c)) [
+  | inl e ↦ rw (e, digit_no_blank c e) (ap (λ n. 1 + n) (word_end text (rw (e, one-add) at h)))
+  | inr e ↦ (let g : not (is_blank c) ≡ false = rw e at h in rw (e, not-false (is_blank c) g) refl)
+]
+
+-- where they don't, the word has another byte
+other_byte : (text : List ℕ) → word_goes_on (drop (prefix_len is_ascii_digit text) text) ≡ true → list_all is_ascii_digit (take (position_or_len is_blank text) text) ≡ false
+other_byte [] h = absurd (cc)
+other_byte (c ∷ text) h = elim (cases_Bool (is_ascii_digit c)) [
+  | inl e ↦ (let g = other_byte text (rw (e, one-add) at h) in rw (digit_no_blank c e, one-add, e) g)
+  | inr e ↦ (let g : not (is_blank c) ≡ true = rw e at h in rw (not-true (is_blank c) g, one-add, e) refl)
+]
+
+-- the digits at the front
+all_digits : (text : List ℕ) → list_all is_ascii_digit (take (prefix_len is_ascii_digit text) text) ≡ true
+all_digits [] = refl
+all_digits (c ∷ text) = elim (cases_Bool (is_ascii_digit c)) [
+  | inl e ↦ (let g = all_digits text in rw (e, one-add, e) g)
+  | inr e ↦ rw e refl
+]
+
+-- ---- the sign of the first word
+
+first_split : (text : List ℕ) → (digits_of_word (first_word text) ≡ first_word (digits_of_word text))
+    × (starts_with_minus (first_word text) ≡ starts_with_minus text)
+    × (drop (position_or_len is_blank text) text ≡ drop (position_or_len is_blank (digits_of_word text)) (digits_of_word text))
+first_split [] = (refl, refl, refl)
+first_split (c ∷ text) = elim (cases_Bool (c == 45)) [
+  | inl e ↦ rw (eqb-true c 45 e, one-add) (refl, refl, refl)
+  | inr e ↦ elim (cases_Bool (is_blank c)) [
+    | inl blank ↦ rw (e, blank) (refl, refl, refl)
+    | inr other ↦ rw (e, other, one-add, e) (refl, refl, refl)
+  ]
+]
+
+-- a text that begins with a minus or a digit
+no_blank_first : (c : ℕ) (text : List ℕ) → 0 < prefix_len is_ascii_digit (digits_of_word (c ∷ text)) → is_blank c ≡ false
+no_blank_first c text some = elim (cases_Bool (c == 45)) [
+  | inl e ↦ rw (eqb-true c 45 e) refl
+  | inr e ↦ (let more : 0 < prefix_len is_ascii_digit (c ∷ text) = rw e at some in
+      elim (cases_Bool (is_ascii_digit c)) [
+        | inl digit ↦ digit_no_blank c digit
+        | inr other ↦ (let none : 0 < 0 = rw other at more in absurd (omega arith))
+      ])
+]
+
+number_from : (word digits : List ℕ) → digits_of_word word ≡ digits → 0 < length digits → list_all is_ascii_digit digits ≡ true → is_number_word word ≡ true
+unfolding is_number_word
+number_from word digits e some all = rw (e, lt-ltb 0 (length digits) some, all) refl
+
+count_within : (text : List ℕ) → prefix_len is_ascii_digit text ≤ length text
+count_within text = prefix_len-le-length is_ascii_digit text
+
+-- the first word is a number word where digits are all that it has behind its minus
+pub number_first : (text : List ℕ) → 0 < prefix_len is_ascii_digit (digits_of_word text) → word_goes_on (drop (prefix_len is_ascii_digit (digits_of_word text)) (digits_of_word text)) ≡ false
+    → (is_number_word (first_word text) ≡ true)
+    × (number_written (first_word text) ≡ signed (starts_with_minus text) (decimal_value (take (prefix_len is_ascii_digit (digits_of_word text)) (digits_of_word text))))
+    × (words text ≡ first_word text ∷ words (drop (prefix_len is_ascii_digit (digits_of_word text)) (digits_of_word text)))
+number_first [] some ends = absurd (omega arith)
+number_first (c ∷ rest) some ends =
+    let text = c ∷ rest in
+    let digits = digits_of_word text in
+    let n = prefix_len is_ascii_digit digits in
+    let parts = first_split text in
+    let end = word_end digits ends in
+    let found : digits_of_word (first_word text) ≡ take n digits = parts.0 ∙ ap (λ k. take k digits) end in
+    let long : 0 < length (take n digits) = rw (length-take n digits) (omega (arith, count_within digits)) in
+    let split = word_at text text (sym (rw (no_blank_first c rest some) refl)) (omega arith) in (
+      number_from (first_word text) (take n digits) found long (all_digits digits),
+      ap (λ minus. signed minus (decimal_value (digits_of_word (first_word text)))) parts.1 ∙ ap (λ l. signed (starts_with_minus text) (decimal_value l)) found,
+      split ∙ ap (λ l. first_word text ∷ words l) (parts.2 ∙ ap (λ k. drop k digits) end),
+    )
+
+not_number : (word digits : List ℕ) → digits_of_word word ≡ digits → list_all is_ascii_digit digits ≡ false → is_number_word word ≡ false
+unfolding is_number_word
+not_number word digits e other = rw (e, other) (and_false (nat_lt 0 (length digits)))
+
+no_number : (word : List ℕ) → digits_of_word word ≡ [] → is_number_word word ≡ false
+unfolding is_number_word
+no_number word e = rw e refl
+
+-- the first word has another byte behind its digits, or no digit
+pub other_first : (text : List ℕ) → word_goes_on (drop (prefix_len is_ascii_digit (digits_of_word text)) (digits_of_word text)) ≡ true → is_number_word (first_word text) ≡ false
+other_first text on = not_number (first_word text) (first_word (digits_of_word text)) (first_split text).0 (other_byte (digits_of_word text) on)
+
+pub empty_first : (text : List ℕ) → prefix_len is_ascii_digit (digits_of_word text) ≡ 0 → is_number_word (first_word text) ≡ false
+empty_first text none = elim (cases_Bool (word_goes_on (digits_of_word text))) [
+  | inl on ↦ other_first text (rw none on)
+  | inr off ↦ (
+      let end = word_end (digits_of_word text) (rw none off) in
+      no_number (first_word text) ((first_split text).0 ∙ ap (λ k. take k (digits_of_word text)) (end ∙ none)))
+]
+
+-- ---- what the first word says
+
+minus_is_shorter : (text : List ℕ) → nat_lt (length (digits_of_word text)) (length text) ≡ starts_with_minus text
+minus_is_shorter [] = refl
+minus_is_shorter (c ∷ text) = elim (cases_Bool (c == 45)) [
+  | inl e ↦ rw e (lt-ltb (length text) (length (c ∷ text)) (omega arith))
+  | inr e ↦ rw e (le-ltb (length (c ∷ text)) (length (c ∷ text)) (omega arith))
+]
+
+too_large : (minus : Bool) (size : ℕ) → 2 ^ 31 < size → in_32_bits (signed minus size) ≡ Err F21
+too_large false size h = rw (le-ltb size (2 ^ 31) (omega (arith, h))) refl
+too_large true zero h = absurd (omega (arith, h))
+too_large true (suc size) h = rw (le-ltb size (2 ^ 31) (omega (arith, h))) refl
+
+capped_size : (minus : Bool) (size : ℕ) → in_32_bits (signed minus (min size (2 ^ 64 - 1))) ≡ in_32_bits (signed minus size)
+capped_size minus size = elim (cases_lt size (2 ^ 64)) [
+  | inl p ↦ (let e : min size (2 ^ 64 - 1) ≡ size = omega (arith, p) in rw e refl)
+  | inr p ↦ (let e : min size (2 ^ 64 - 1) ≡ 2 ^ 64 - 1 = omega (arith, p) in
+      rw e (too_large minus (2 ^ 64 - 1) (omega arith) ∙ sym (too_large minus size (omega (arith, p)))))
+]
+
+number_said : (text : List ℕ) (size : ℕ) → is_number_word (first_word text) ≡ true → number_written (first_word text) ≡ signed (starts_with_minus text) size
+    → number_command (in_32_bits (signed (nat_lt (length (digits_of_word text)) (length text)) (min size (2 ^ 64 - 1)))) ≡ command_of_word (first_word text)
+unfolding command_of_word number_of_word
+number_said text size is_number written =
+    rw (is_number, written, minus_is_shorter text, capped_size (starts_with_minus text) size) refl
+
+-- the number at the front of a text, as the code finds it
+pub leading_said : (text : List ℕ) (n size : ℕ) → n ≡ prefix_len is_ascii_digit (digits_of_word text) → 0 < n → word_goes_on (drop n (digits_of_word text)) ≡ false
+    → size ≡ min (decimal_value (take n (digits_of_word text))) (2 ^ 64 - 1)
+    → (number_command (in_32_bits (signed (nat_lt (length (digits_of_word text)) (length text)) size)) ≡ command_of_word (first_word text))
+    × (words text ≡ first_word text ∷ words (drop n (digits_of_word text)))
+leading_said text n size e some ends is =
+    let found = number_first text (omega (arith, e)) (rw (← e) ends) in (
+      rw is (number_said text (decimal_value (take n (digits_of_word text))) found.0 (found.1 ∙ rw (← e) refl)),
+      found.2 ∙ rw (← e) refl,
+    )
+
+pub leading_found : (text digits after : List ℕ) (n size : ℕ) → digits ≡ digits_of_word text → n ≡ prefix_len is_ascii_digit digits → 0 < n → after ≡ drop n digits
+    → word_goes_on after ≡ false → size ≡ min (decimal_value (take n digits)) (2 ^ 64 - 1)
+    → (number_command (in_32_bits (signed (nat_lt (length digits) (length text)) size)) ≡ command_of_word (first_word text))
+    × (words text ≡ first_word text ∷ words after)
+leading_found text digits after n size d e some a ends is =
+    let said = leading_said text n size (e ∙ ap (prefix_len is_ascii_digit) d) some (rw (← d, ← a) ends) (is ∙ ap (λ l. min (decimal_value (take n l)) (2 ^ 64 - 1)) d) in (
+      ap (λ l. number_command (in_32_bits (signed (nat_lt (length l) (length text)) size))) d ∙ said.0,
+      said.1 ∙ ap (λ l. first_word text ∷ words l) (ap (drop n) (sym d) ∙ sym a),
+    )
+
+pub other_found : (text digits after : List ℕ) (n : ℕ) → digits ≡ digits_of_word text → n ≡ prefix_len is_ascii_digit digits → after ≡ drop n digits
+    → word_goes_on after ≡ true → is_number_word (first_word text) ≡ false
+other_found text digits after n d e a on = other_first text (rw (← d, ← e, ← a) on)
+
+trimmed_once : (line rest : List ℕ) → rest ≡ trimmed_front line → rest ≡ trimmed_front rest
+trimmed_once line [] e = refl
+trimmed_once line (c ∷ rest) e = sym (rw (front_stays line c rest e) refl)
+
+pub words_trimmed : (line rest : List ℕ) → rest ≡ trimmed_front line → words line ≡ words rest
+words_trimmed line [] e = no_word_at line [] e refl
+words_trimmed line (c ∷ rest) e =
+    word_at line (c ∷ rest) e (omega arith) ∙ sym (word_at (c ∷ rest) (c ∷ rest) (trimmed_once line (c ∷ rest) e) (omega arith))
+
+-- a line that begins with a number, and one that begins with another word
+pub number_line : (line rest after : List ℕ) (command : Result Command Code) → rest ≡ trimmed_front line → command ≡ command_of_word (first_word rest)
+    → words rest ≡ first_word rest ∷ words after → commands_of_words (words line) ≡ command_then command (commands_of_words (words after))
+number_line line rest after command e is split =
+    ap commands_of_words (words_trimmed line rest e ∙ split) ∙ ap (λ c. command_then c (commands_of_words (words after))) (sym is)
+
+other_word : (word : List ℕ) (command : Result Command Code) → is_number_word word ≡ false → command ≡ or_unknown (operator_named word) → command ≡ command_of_word word
+unfolding command_of_word
+other_word word command h is = is ∙ rw h refl
+
+pub named_line : (line rest word after : List ℕ) (command : Result Command Code) → rest ≡ trimmed_front line → is_number_word (first_word rest) ≡ false
+    → words rest ≡ word ∷ words after → command ≡ or_unknown (operator_named word)
+    → commands_of_words (words line) ≡ command_then command (commands_of_words (words after))
+named_line line [] word after command e other split is = absurd (cc)
+named_line line (c ∷ rest) word after command e other split is =
+    let first = word_at (c ∷ rest) (c ∷ rest) (trimmed_once line (c ∷ rest) e) (omega arith) in
+    let same : first_word (c ∷ rest) ≡ word = cc in
+    ap commands_of_words (words_trimmed line (c ∷ rest) e ∙ split)
+    ∙ ap (λ x. command_then x (commands_of_words (words after))) (sym (other_word word command (ap is_number_word (sym same) ∙ other) is))
