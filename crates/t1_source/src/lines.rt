@@ -14,7 +14,7 @@ use std::alloc::{AllocError, Global};
 use std::marker::Model;
 use t1_frac::{Bytes, Code, Fault, Place, Refusal, is_blank, skip_blanks};
 
-/// A line of the text that it stands in, with the place of its first mark. Contracts see the list of its bytes.
+/// A line of the text that it stands in, with the place of its first brace or `%`. Contracts see the list of its bytes.
 #[derive(Drop)]
 pub struct Line<'a> {
     bytes: &'a [u8],
@@ -133,7 +133,7 @@ pub fn mark_start(bytes: &[u8]) -> usize
     memchr3(b'{', b'}', b'%', bytes).unwrap_or(bytes.len())
 }
 
-/// The same of the bytes at their end, by where it is in all of them.
+/// Where the first brace of the last bytes stands or a comment begins, or their length, by where it is in all bytes.
 fn mark_after(mark: usize, bytes: &[u8], after: &[u8]) -> usize
     requires mark { mark ≡ prefix_len is_safe bytes.now }
     requires after { after.now ≡ drop (length bytes.now - length after.now) bytes.now }
