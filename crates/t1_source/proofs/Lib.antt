@@ -33,6 +33,7 @@ pub mod PrintedLaws
 pub mod PrintingRows
 pub mod PutLaws
 pub mod ReadingRows
+pub mod ScanLaws
 pub mod SectionLaws
 pub mod SectionLineLaws
 pub mod SlotLaws

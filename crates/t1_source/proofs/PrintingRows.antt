@@ -1,19 +1,25 @@
 -- Kerning files, header values, codes and printed forms of small sources.
-use Rattle.std.specs.Prelude.{◌≡◌, ℕ, pos, negsuc, List, [], ◌∷◌, ◌++◌, Some, None, Ok, Err, codes, refl, length}
+use Rattle.std.specs.Prelude.{◌≡◌, ℕ, pos, negsuc, List, [], ◌∷◌, ◌++◌, Some, None, Ok, Err, codes, take, refl, length}
+use Rattle.std.proofs.Common.{ap, ◌∙◌}
 use Rattle.std.specs.Fmt.{digits}
 use Rattle.t1_frac.specs.declared.fault.Code.TheVariants.{F12, F13}
 use Rattle.t1_frac.specs.declared.fault.Place.TheVariants.{Line}
-use Rattle.t1_frac.specs.Outcome.{fault_at}
+use Rattle.t1_frac.specs.Outcome.{fault_at, ◌>>=◌}
 use Rattle.t1_code.specs.Encoding.{standard_names, standard_name}
 use Rattle.t1_source.specs.declared.pairs.Pair.{Pair}
 use Rattle.t1_source.specs.Form.{Form}
 use Rattle.t1_source.specs.Lines.{joined}
+use Rattle.t1_source.specs.Encoding.{clear_check, opening_check, later_check}
+use Rattle.t1_source.specs.Entries.{subr_entry, glyph_entry}
+use Rattle.t1_source.specs.Private.{item_at, line_item, private_items}
+use Rattle.t1_source.specs.Parts.{parts_of, tail_of}
+use Rattle.t1_source.specs.Reading.{reads, reads_lines, whole_check}
 use Rattle.t1_source.specs.Kerning.{line_pairs, pairs, kern}
 use Rattle.t1_source.specs.Header.{header, header_among}
 use Rattle.t1_source.specs.Codes.{lowest_code, code_of}
 use Rattle.t1_source.specs.Printing.{text}
 use Rattle.t1_source.proofs.ReadingRows.{space_lines, space_form}
-use Rattle.t1_source.proofs.DemoRows.{demo_lines, demo_form}
+use Rattle.t1_source.proofs.DemoRows.{demo_lines, demo_form, demo_read}
 
 abbrev pub kern_av : Pair
 kern_av = record { left = codes "A"; right = codes "V"; value = negsuc 91 }
@@ -51,6 +57,53 @@ space_text_length = refl
 pub demo_text : text demo_form ≡ joined demo_lines
 unfolding digits
 demo_text = refl
+
+-- the demo font, read and printed, is its own text, and its text is read as the same source
+pub demo_printed : (reads (joined demo_lines) >>= λ s. Ok (text s)) ≡ Ok (joined demo_lines)
+demo_printed = ap (λ r. r >>= λ s. Ok (text s)) demo_read ∙ ap (λ t. Ok t) demo_text
+
+pub demo_again : reads (text demo_form) ≡ Ok demo_form
+demo_again = ap reads demo_text ∙ demo_read
+
+-- a font with a comment in a body, blanks, leading zeros, low counts, and zeros in the tail
+abbrev pub loose_lines : List (List ℕ)
+loose_lines =
+    take 3 space_lines
+    ++ codes "/Subrs 01 array" ∷
+    codes " dup 04{ 100 178 % to the top }" ∷
+    codes "    rlineto return } NP  " ∷
+    codes "/CharStrings 0 dict" ∷
+    codes "/space { 0 250 hsbw endchar }" ∷
+    codes "mark currentfile closefile " ∷
+    codes "0000" ∷ []
+
+abbrev pub neat_lines : List (List ℕ)
+neat_lines =
+    take 3 space_lines
+    ++ codes "/Subrs 5 array" ∷
+    codes "dup 4 {" ∷
+    (9 ∷ codes "100 178 rlineto") ∷
+    (9 ∷ codes "return") ∷
+    (9 ∷ codes "} NP") ∷
+    codes "/CharStrings 1 dict" ∷
+    codes "/space {" ∷
+    (9 ∷ codes "0 250 hsbw") ∷
+    (9 ∷ codes "endchar") ∷
+    (9 ∷ codes "}") ∷
+    codes "mark currentfile closefile " ∷
+    codes "cleartomark" ∷ []
+
+pub loose_printed : (reads (joined loose_lines) >>= λ s. Ok (text s)) ≡ Ok (joined neat_lines)
+unfolding reads reads_lines parts_of clear_check opening_check later_check private_items item_at subr_entry glyph_entry line_item whole_check tail_of digits
+loose_printed = refl
+
+pub neat_printed : (reads (joined neat_lines) >>= λ s. Ok (text s)) ≡ Ok (joined neat_lines)
+unfolding reads reads_lines parts_of clear_check opening_check later_check private_items item_at subr_entry glyph_entry line_item whole_check tail_of digits
+neat_printed = refl
+
+pub neat_again : reads (joined neat_lines) ≡ reads (joined loose_lines)
+unfolding reads reads_lines parts_of clear_check opening_check later_check private_items item_at subr_entry glyph_entry line_item whole_check tail_of
+neat_again = refl
 
 pub demo_name : header demo_form (codes "FontName") ≡ Some (codes "Demo")
 demo_name = refl

@@ -6,7 +6,7 @@ ghost use Rattle.t1_source.specs.Lines.{trimmed};
 ghost use Rattle.t1_source.specs.Tokens.{uncommented};
 ghost use Rattle.t1_source.specs.Entries.{is_brace, is_safe, closes, has_brace, body_of, opened_body};
 
-use crate::lines::{Line, trimmed};
+use crate::lines::{Line, mark_start, trimmed};
 use std::alloc::{AllocError, Global};
 use t1_frac::{Bytes, Words};
 
@@ -62,21 +62,6 @@ fn has_any_brace(line: &[u8]) -> bool
     line.iter().any(|byte| is_brace(*byte))
 }
 
-/// Whether a byte is no brace and begins no comment.
-fn is_safe(byte: u8) -> bool
-    ensures { result ≡ is_safe byte }
-{
-    !is_brace(byte) && byte != b'%'
-}
-
-/// Where the first brace of a line stands or its comment begins, or its length.
-fn mark_start(line: &[u8]) -> usize
-    ensures within { result ≤ length line.now }
-    ensures value { result ≡ prefix_len is_safe line.now }
-{
-    line.iter().take_while(|byte| is_safe(**byte)).count()
-}
-
 /// Whether some bytes begin with a brace.
 fn begins_braced(bytes: &[u8]) -> bool
     ensures { result ≡ list_any is_brace (take 1 bytes.now) }
@@ -87,15 +72,17 @@ fn begins_braced(bytes: &[u8]) -> bool
     }
 }
 
-/// A line without its comment, where it has no brace outside it.
+/// A line without its comment, where it has no brace outside it. The mark is where its first brace stands or its
+/// comment begins, or its length.
 #[tactic(auto, using(crate::proofs::MarkLaws::braced_at_mark, crate::proofs::MarkLaws::text_before_mark))]
-fn unbraced(line: &[u8]) -> Option<&[u8]>
+fn unbraced(line: &[u8], mark: usize) -> Option<&[u8]>
+    requires { mark ≡ prefix_len is_safe line.now }
     ensures { MatchOption
         result
         (has_brace line.now ≡ true)
         (λ text. (has_brace line.now ≡ false) × (text.now ≡ uncommented line.now)) }
 {
-    let (text, rest) = line.split_at(mark_start(line));
+    let (text, rest) = line.split_at(mark);
     if begins_braced(rest) {
         return None;
     }
@@ -132,13 +119,15 @@ pub fn body_of(alloc: Global, first: &[u8], later: &[Line]) -> Result<Option<Bod
 {
     let mut words = Words::new(alloc);
     let mut line = first;
+    let mut mark = mark_start(first);
     let mut more = 0;
-    while let Some(text) = unbraced(line) {
+    while let Some(text) = unbraced(line, mark) {
         words.push_line(text)?;
         if more == later.len() {
             return Ok(None);
         }
         line = later[more].as_slice();
+        mark = later[more].mark();
         more += 1;
     }
     if !closes(line) {

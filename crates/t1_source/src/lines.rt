@@ -1,36 +1,51 @@
 //! Cutting a text into lines.
 
-ghost use Rattle.std.specs.Prelude.{◌≡◌, ◌<◌, ◌≤◌, ◌∷◌, length, IfOk, reverse};
+ghost use Rattle.std.specs.Prelude.{◌≡◌, ◌<◌, ◌≤◌, ◌-◌, ◌∷◌, length, take, drop, IfOk, reverse};
 ghost use Rattle.std.specs.List.{prefix_len, position_or_len};
 ghost use Rattle.t1_frac.specs.declared.fault.Place.TheVariants as places;
 ghost use Rattle.t1_frac.specs.declared.fault.Refusal.TheVariants as refusals;
 ghost use Rattle.t1_frac.specs.Outcome.{fault_at};
 ghost use Rattle.t1_frac.specs.Words.{is_blank};
+ghost use Rattle.t1_source.specs.Entries.{is_safe};
 ghost use Rattle.t1_source.specs.Lines.{lines, is_line_end, after_end, trimmed};
 
+use memchr::{memchr2, memchr3};
 use std::alloc::{AllocError, Global};
 use std::marker::Model;
 use t1_frac::{Bytes, Code, Fault, Place, Refusal, is_blank, skip_blanks};
 
-/// A line of the text that it stands in. Contracts see the list of its bytes.
+/// A line of the text that it stands in, with the place of its first brace or `%`. Contracts see the list of its bytes.
 #[derive(Drop)]
 pub struct Line<'a> {
     bytes: &'a [u8],
+    mark: usize,
 }
 
 impl<'a> Model for Line<'a> {
-    ghost use Rattle.std.specs.Prelude.{List, ℕ};
+    ghost use Rattle.std.specs.Prelude.{◌≡◌, List, ℕ};
+    ghost use Rattle.std.specs.List.{prefix_len};
+    ghost use Rattle.t1_source.specs.Entries.{is_safe};
 
     ghost Value = { List ℕ };
 
     ghost view = { λ line. line.bytes.now };
+
+    ghost invariant = { λ line. line.mark ≡ prefix_len is_safe line.bytes.now };
 }
 
 impl<'a> Line<'a> {
-    pub fn new(bytes: &'a [u8]) -> Self
+    fn new(bytes: &'a [u8], mark: usize) -> Self
+        requires { mark ≡ prefix_len is_safe bytes.now }
         ensures { result ≡ bytes.now }
     {
-        Line { bytes }
+        Line { bytes, mark }
+    }
+
+    /// Where its first brace stands or its comment begins, or its length.
+    pub fn mark(&self) -> usize
+        ensures { result ≡ prefix_len is_safe self.now }
+    {
+        self.mark
     }
 
     pub fn as_slice(&self) -> &'a [u8]
@@ -79,19 +94,12 @@ pub fn copied_bytes(alloc: Global, lines: &[Bytes]) -> Result<Vec<Bytes>, AllocE
     Ok(copies)
 }
 
-/// Whether a byte ends a line.
-fn is_line_end(byte: u8) -> bool
-    ensures { result ≡ is_line_end byte }
-{
-    byte == b'\n' || byte == b'\r'
-}
-
 /// The length of the first line.
 fn line_len(bytes: &[u8]) -> usize
     ensures within { result ≤ length bytes.now }
     ensures value { result ≡ position_or_len is_line_end bytes.now }
 {
-    bytes.iter().take_while(|byte| !is_line_end(**byte)).count()
+    memchr2(b'\n', b'\r', bytes).unwrap_or(bytes.len())
 }
 
 /// The bytes after a line end, of which CR LF is one.
@@ -110,9 +118,33 @@ pub fn first_line(bytes: &[u8]) -> (&[u8], &[u8])
     requires { 0 < length bytes.now }
     ensures lines { lines bytes.now ≡ result.0.now ∷ lines result.1.now }
     ensures shorter { length result.1.now < length bytes.now }
+    ensures front { result.0.now ≡ take (length result.0.now) bytes.now }
+    ensures back { result.1.now ≡ drop (length bytes.now - length result.1.now) bytes.now }
 {
     let (line, end) = bytes.split_at(line_len(bytes));
     (line, after_end(end))
+}
+
+/// Where the first brace of some bytes stands or a comment begins, or their length.
+pub fn mark_start(bytes: &[u8]) -> usize
+    ensures within { result ≤ length bytes.now }
+    ensures value { result ≡ prefix_len is_safe bytes.now }
+{
+    memchr3(b'{', b'}', b'%', bytes).unwrap_or(bytes.len())
+}
+
+/// Where the first brace of the last bytes stands or a comment begins, or their length, by where it is in all bytes.
+fn mark_after(mark: usize, bytes: &[u8], after: &[u8]) -> usize
+    requires mark { mark ≡ prefix_len is_safe bytes.now }
+    requires after { after.now ≡ drop (length bytes.now - length after.now) bytes.now }
+    requires shorter { length after.now ≤ length bytes.now }
+    ensures { result ≡ prefix_len is_safe after.now }
+{
+    let before = bytes.len() - after.len();
+    if mark < before {
+        return mark_start(after);
+    }
+    mark - before
 }
 
 /// The lines of a text, without their ends.
@@ -121,9 +153,11 @@ pub fn cut_lines(alloc: Global, text: &[u8]) -> Result<Vec<Line<'_>>, AllocError
 {
     let mut found = Vec::new(alloc);
     let mut rest = text;
+    let mut mark = mark_start(text);
     while !rest.is_empty() {
         let (line, after) = first_line(rest);
-        found.push(Line::new(line))?;
+        found.push(Line::new(line, mark.min(line.len())))?;
+        mark = mark_after(mark, rest, after);
         rest = after;
     }
     Ok(found)

@@ -2,7 +2,7 @@
 use super::*;
 use std::alloc::Global;
 use std::test::Fail;
-use t1_frac::Bytes;
+use t1_frac::{Bytes, Words};
 
 const SMALL: &[u8] = b"%!
 /FullName (Demo (Roman\\)) readonly) def
@@ -22,6 +22,38 @@ cleartomark
 
 fn small(alloc: Global) -> Result<Source, Fail> {
     Ok(read_source(alloc, SMALL)?)
+}
+
+/// A font with slots for the codes 65, 32 and 66.
+fn slotted(alloc: Global) -> Result<Source, Fail> {
+    Ok(read_source(
+        alloc,
+        b"/Encoding 256 array
+0 1 255 {1 index exch /.notdef put} for
+dup 8#101/space put
+dup 32 /space put
+dup 66 /space put
+dup 66 /B put
+readonly def
+currentfile eexec
+/CharStrings 0 dict
+mark currentfile closefile
+",
+    )?)
+}
+
+fn kerning(alloc: Global) -> Result<Pairs, Fail> {
+    Ok(read_pairs(alloc, b"KPX V A 007\nKPX A V -9\nKPX A V -92\n")?)
+}
+
+/// The lines, each with LF.
+fn joined(alloc: Global, lines: &[Bytes]) -> Result<Vec<u8>, Fail> {
+    let mut text = Vec::new(alloc);
+    for line in lines {
+        text.extend_from_slice(line.as_slice())?;
+        text.push(b'\n')?;
+    }
+    Ok(text)
 }
 
 #[test]
@@ -70,12 +102,137 @@ fn finds_operator(rt: HostRuntime) -> Result<(), Fail> {
 }
 
 #[test]
+fn keeps_clear_lines(rt: HostRuntime) -> Result<(), Fail> {
+    let source = small(rt.alloc())?;
+    assert_eq!(rt;
+        joined(rt.alloc(), source.clear())?.as_slice(),
+        b"%!
+/FullName (Demo (Roman\\)) readonly) def
+/Encoding StandardEncoding def
+currentfile eexec
+"
+            .as_slice()
+    );
+    Ok(())
+}
+
+#[test]
+fn keeps_tail(rt: HostRuntime) -> Result<(), Fail> {
+    let source = small(rt.alloc())?;
+    assert_eq!(rt;
+        joined(rt.alloc(), source.tail())?.as_slice(),
+        b"cleartomark\n".as_slice()
+    );
+    Ok(())
+}
+
+#[test]
+fn tells_items(rt: HostRuntime) -> Result<(), Fail> {
+    let source = small(rt.alloc())?;
+    assert!(rt;
+        matches!(
+            source.items(),
+            [
+                Item::Plain(_),
+                Item::Plain(_),
+                Item::Section(_, 1, _),
+                Item::Glyph(_, _, _),
+                Item::Plain(_),
+                Item::Plain(_),
+            ]
+        )
+    );
+    Ok(())
+}
+
+#[test]
+fn copies_an_item(rt: HostRuntime) -> Result<(), Fail> {
+    let closing = Bytes::copied(rt.alloc(), b"NP")?;
+    let subr = Item::Subr(4, Words::new(rt.alloc()), closing);
+    let copy = subr.copied(rt.alloc())?;
+    assert!(rt;
+        matches!(&copy, Item::Subr(4, _, closing) if closing.as_slice() == b"NP".as_slice())
+    );
+    Ok(())
+}
+
+#[test]
+fn tells_the_standard_encoding(rt: HostRuntime) -> Result<(), Fail> {
+    let source = small(rt.alloc())?;
+    assert!(rt; source.standard());
+    Ok(())
+}
+
+#[test]
+fn tells_an_array(rt: HostRuntime) -> Result<(), Fail> {
+    let source = slotted(rt.alloc())?;
+    assert!(rt; !source.standard());
+    Ok(())
+}
+
+#[test]
+fn finds_lowest_code_of_slots(rt: HostRuntime) -> Result<(), Fail> {
+    let source = slotted(rt.alloc())?;
+    assert_eq!(rt; source.code_of(b"space"), Some(32));
+    Ok(())
+}
+
+#[test]
+fn names_standard_codes(rt: HostRuntime) -> Result<(), Fail> {
+    let source = small(rt.alloc())?;
+    assert_eq!(rt; source.names_by_code()[251], Some(b"germandbls".as_slice()));
+    Ok(())
+}
+
+#[test]
+fn names_codes_of_slots(rt: HostRuntime) -> Result<(), Fail> {
+    let source = slotted(rt.alloc())?;
+    assert_eq!(rt;
+        source.names_by_code().split_at(64).1.split_at(4).0,
+        [None, Some(b"space".as_slice()), Some(b"B".as_slice()), None].as_slice()
+    );
+    Ok(())
+}
+
+#[test]
 fn reads_pairs(rt: HostRuntime) -> Result<(), Fail> {
-    let pairs = read_pairs(rt.alloc(), b"KPX V A 007\nKPX A V -9\nKPX A V -92\n")?;
+    let pairs = kerning(rt.alloc())?;
     assert_eq!(rt;
         pairs.text()?.as_slice(),
         b"KPX A V -92\nKPX V A 7\n".as_slice()
     );
+    Ok(())
+}
+
+#[test]
+fn copies_pairs(rt: HostRuntime) -> Result<(), Fail> {
+    let pairs = kerning(rt.alloc())?.copied()?;
+    assert_eq!(rt;
+        pairs.text()?.as_slice(),
+        b"KPX A V -92\nKPX V A 7\n".as_slice()
+    );
+    Ok(())
+}
+
+#[test]
+fn lists_pairs(rt: HostRuntime) -> Result<(), Fail> {
+    let pairs = kerning(rt.alloc())?;
+    let mut values = Vec::new(rt.alloc());
+    for pair in pairs.list() {
+        values.push(pair.value)?;
+    }
+    assert_eq!(rt; values.as_slice(), [-92, 7].as_slice());
+    Ok(())
+}
+
+#[test]
+fn copies_a_pair(rt: HostRuntime) -> Result<(), Fail> {
+    let pair = Pair {
+        left: Bytes::copied(rt.alloc(), b"A")?,
+        right: Bytes::copied(rt.alloc(), b"V")?,
+        value: -92,
+    };
+    assert_eq!(rt; pair.copied(rt.alloc())?.value, -92);
     Ok(())
 }
 
