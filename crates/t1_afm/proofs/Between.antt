@@ -20,11 +20,11 @@ pub record IsBelow (m x : ℤ) : Type 0 where
   pub below : up m + down x ≤ up x + down m
 
 -- q is the floor of z / d, said without subtraction
-record IsFloor (z : ℤ) (d : ℕ) (q : ℤ) : Type 0 where
-  below : up q * d + down z ≤ up z + down q * d
-  above : up z + down q * d < down z + up q * d + d
+pub record IsFloor (z : ℤ) (d : ℕ) (q : ℤ) : Type 0 where
+  pub below : up q * d + down z ≤ up z + down q * d
+  pub above : up z + down q * d < down z + up q * d + d
 
-floor_is : (z : ℤ) (d : ℕ) → 0 < d → IsFloor z d (int_div_euclid z (pos d))
+pub floor_is : (z : ℤ) (d : ℕ) → 0 < d → IsFloor z d (int_div_euclid z (pos d))
 floor_is (pos a) d h = record { below = omega arith; above = omega arith }
 floor_is (negsuc a) d h = record { below = omega arith; above = omega arith }
 
@@ -146,7 +146,7 @@ each_below m w x y z h =
       record { below = omega (arith, p, q, r, h.below) },
     )
 
-same_span : (l l' h h' : ℤ) → l ≡ l' → h ≡ h' → ◌≡◌ {A = Span} (record { low = l; high = h }) (record { low = l'; high = h' })
+pub same_span : (l l' h h' : ℤ) → l ≡ l' → h ≡ h' → ◌≡◌ {A = Span} (record { low = l; high = h }) (record { low = l'; high = h' })
 same_span l l' h h' e f = rw (e, f) refl
 
 pub between_ends : (a b c d : Fraction) → IsCoordinate a → IsCoordinate b → IsCoordinate c → IsCoordinate d

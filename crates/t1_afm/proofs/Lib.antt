@@ -1,8 +1,12 @@
 pub mod Between
 pub mod Boxes
 pub mod Convex
+pub mod Differences
+pub mod Ends
 pub mod Fonts
+pub mod Longs
 pub mod Rows
+pub mod Sampling
 pub mod Sections
 pub mod Sheets
 pub mod Spans

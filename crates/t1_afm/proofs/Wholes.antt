@@ -1,38 +1,120 @@
 -- A cubic between whole coordinates, over 64^3.
-use Rattle.std.proofs.Common.{◌≡◌, ℕ, ◌≤◌, ◌^◌, ℤ, pos, ◌+ℤ◌, ◌*ℤ◌, arith, subst}
-use mir.Syntax.{w64}
-use mir.Val.{to_z, of_z}
-use Rattle.std.specs.Int.RustNames.{unsigned_abs, FitsSigned}
-use Rattle.std.proofs.lemmas.Int.{ints}
-use borrow.Author.Differences.{product_is, same_in}
-use Rattle.t1_frac.specs.Fraction.{Fraction}
+use Rattle.std.proofs.Common.{◌≡◌, ℕ, ◌≤◌, ◌^◌, ℤ, pos, ◌*ℤ◌, arith, subst}
+use Rattle.std.specs.Int.{int_min, int_max}
+use Rattle.std.specs.Int.RustNames.{unsigned_abs}
+use Rattle.std.proofs.lemmas.Int.{ints, int_min_is, int_max_is}
+use borrow.Author.Differences.{product_is, neg_is, same_in}
+use Rattle.t1_frac.specs.Fraction.{whole, negated, floor_of, ceiling_of}
 use Rattle.t1_frac.specs.Limits.{IsCoordinate}
 use Rattle.t1_afm.specs.Points.{cubic_at}
-use Rattle.t1_afm.specs.Bounds.{IsInRange, whole_sum, over_cube}
+use Rattle.t1_afm.specs.Bounds.{IsInRange, over_cube}
+use Rattle.t1_afm.proofs.Between.{floor_is}
 use Rattle.t1_afm.proofs.Convex.{cubic_in_range}
+use Rattle.t1_afm.proofs.Differences.{whole_sum}
+
+-- the whole coordinate is at most 2^20 in size
+abbrev pub IsSmall : ℤ → Type 0
+IsSmall a = unsigned_abs a ≤ 2 ^ 20
 
 times_one : (x : ℤ) → x *ℤ pos 1 ≡ x
 times_one x = same_in _ _ (omega (arith, product_is x (pos 1)))
 
-whole_at : (a b c d : ℤ) (k : ℕ) → cubic_at (record { num = a; den = 1 }) (record { num = b; den = 1 }) (record { num = c; den = 1 }) (record { num = d; den = 1 }) k ≡ over_cube (whole_sum a b c d k)
+pub whole_at : (a b c d : ℤ) (k : ℕ) → cubic_at (whole a) (whole b) (whole c) (whole d) k ≡ over_cube (whole_sum a b c d k)
 whole_at a b c d k = simp times_one
 
-pub whole_value : (a b c d : Fraction) (k : ℕ) → a.den ≡ 1 → b.den ≡ 1 → c.den ≡ 1 → d.den ≡ 1 → cubic_at a b c d k ≡ over_cube (whole_sum a.num b.num c.num d.num k)
-whole_value a b c d k ha hb hc hd = rw (ha, hb, hc, hd) (whole_at a.num b.num c.num d.num k)
+pub whole_coordinate : (a : ℤ) → IsSmall a → IsCoordinate (whole a)
+whole_coordinate a h = record { above = omega arith; fine = omega arith; size = omega (arith, h) }
 
-pub whole_in_range : (a b c d : Fraction) (k : ℕ) → a.den ≡ 1 → b.den ≡ 1 → c.den ≡ 1 → d.den ≡ 1 → k ≤ 64
-    → IsCoordinate a → IsCoordinate b → IsCoordinate c → IsCoordinate d → (sum : ℤ) → sum ≡ whole_sum a.num b.num c.num d.num k → IsInRange (over_cube sum)
-whole_in_range a b c d k ha hb hc hd inside ia ib ic id sum is =
-    let e : IsInRange (over_cube (whole_sum a.num b.num c.num d.num k)) = subst IsInRange (whole_value a b c d k ha hb hc hd) (cubic_in_range a b c d k inside ia ib ic id) in
-    rw is e
+pub whole_in_range : (a b c d : ℤ) (k : ℕ) → k ≤ 64 → IsSmall a → IsSmall b → IsSmall c → IsSmall d → IsInRange (over_cube (whole_sum a b c d k))
+whole_in_range a b c d k inside ha hb hc hd =
+    subst IsInRange (whole_at a b c d k)
+    (cubic_in_range (whole a) (whole b) (whole c) (whole d) k inside (whole_coordinate a ha) (whole_coordinate b hb) (whole_coordinate c hc) (whole_coordinate d hd))
 
--- a sum in 64 bits
-pub long_sum : (x y a b : ℤ) → x ≡ a → y ≡ b → unsigned_abs x ≤ 2 ^ 59 → unsigned_abs y ≤ 2 ^ 59
-    → to_z w64 (of_z w64 (to_z w64 (of_z w64 x) +ℤ to_z w64 (of_z w64 y))) ≡ a +ℤ b
-long_sum x y a b e f h k = rw (← e, ← f) (omega (arith, ints, h, k))
+-- ---- the least and the greatest of sums over 64^3
 
-pub long_fits : (x y : ℤ) → unsigned_abs x ≤ 2 ^ 59 → unsigned_abs y ≤ 2 ^ 59 → FitsSigned w64 (to_z w64 (of_z w64 x) +ℤ to_z w64 (of_z w64 y))
-long_fits x y h k = omega (arith, ints, h, k)
+pub floor_least : (x y : ℤ) → floor_of (over_cube (int_min x y)) ≡ int_min (floor_of (over_cube x)) (floor_of (over_cube y))
+floor_least x y =
+    let m = int_min x y in
+    let f = floor_is x 262144 (omega arith) in
+    let g = floor_is y 262144 (omega arith) in
+    let h = floor_is m 262144 (omega arith) in
+    same_in _ _ (
+    omega (arith, f.below, f.above, g.below, g.above, h.below, h.above, int_min_is x y, int_min_is (floor_of (over_cube x)) (floor_of (over_cube y)))
+    )
 
-pub long_same : (x : ℤ) → unsigned_abs x ≤ 2 ^ 60 → to_z w64 (of_z w64 x) ≡ x
-long_same x h = omega (arith, ints, h)
+pub ceiling_greatest : (x y : ℤ) → ceiling_of (over_cube (int_max x y)) ≡ int_max (ceiling_of (over_cube x)) (ceiling_of (over_cube y))
+ceiling_greatest x y =
+    let m = int_max x y in
+    let lx = negated (over_cube x) in
+    let ly = negated (over_cube y) in
+    let lm = negated (over_cube m) in
+    let f = floor_is lx.num 262144 (omega arith) in
+    let g = floor_is ly.num 262144 (omega arith) in
+    let h = floor_is lm.num 262144 (omega arith) in
+    same_in _ _ (
+    omega (
+      arith,
+      f.below,
+      f.above,
+      g.below,
+      g.above,
+      h.below,
+      h.above,
+      neg_is x,
+      neg_is y,
+      neg_is m,
+      neg_is (floor_of lx),
+      neg_is (floor_of ly),
+      neg_is (floor_of lm),
+      int_max_is x y,
+      int_max_is (ceiling_of (over_cube x)) (ceiling_of (over_cube y)),
+    )
+    )
+
+pub least_in_range : (x y : ℤ) → IsInRange (over_cube x) → IsInRange (over_cube y) → IsInRange (over_cube (int_min x y))
+least_in_range x y h k = record {
+  above = h.above;
+  least = record { least = omega (arith, int_min_is x y, h.least.least, k.least.least) };
+  most = record { most = omega (arith, int_min_is x y, h.most.most, k.most.most) };
+}
+
+pub greatest_in_range : (x y : ℤ) → IsInRange (over_cube x) → IsInRange (over_cube y) → IsInRange (over_cube (int_max x y))
+greatest_in_range x y h k = record {
+  above = h.above;
+  least = record { least = omega (arith, int_max_is x y, h.least.least, k.least.least) };
+  most = record { most = omega (arith, int_max_is x y, h.most.most, k.most.most) };
+}
+
+pub sum_in_bits : (x : ℤ) → IsInRange (over_cube x) → unsigned_abs x ≤ 2 ^ 60
+sum_in_bits x h = omega (arith, ints, h.least.least, h.most.most)
+
+-- ---- whole numbers, rounded
+
+pub floor_whole : (a : ℤ) → floor_of (whole a) ≡ a
+floor_whole a = let f = floor_is a 1 (omega arith) in same_in _ _ (omega (arith, f.below, f.above))
+
+pub ceiling_whole : (a : ℤ) → ceiling_of (whole a) ≡ a
+ceiling_whole a =
+    let l = negated (whole a) in
+    let f = floor_is l.num 1 (omega arith) in
+    same_in _ _ (omega (arith, f.below, f.above, neg_is a, neg_is (floor_of l)))
+
+pub floor_multiple : (a : ℤ) → floor_of (over_cube (pos 262144 *ℤ a)) ≡ a
+floor_multiple a =
+    let x = pos 262144 *ℤ a in
+    let f = floor_is x 262144 (omega arith) in
+    same_in _ _ (omega (arith, f.below, f.above, product_is (pos 262144) a))
+
+pub ceiling_multiple : (a : ℤ) → ceiling_of (over_cube (pos 262144 *ℤ a)) ≡ a
+ceiling_multiple a =
+    let x = pos 262144 *ℤ a in
+    let l = negated (over_cube x) in
+    let f = floor_is l.num 262144 (omega arith) in
+    same_in _ _ (omega (arith, f.below, f.above, neg_is x, neg_is (floor_of l), product_is (pos 262144) a))
+
+-- the values at both ends
+pub sum_first : (a b c d : ℤ) → whole_sum a b c d 0 ≡ pos 262144 *ℤ a
+sum_first a b c d = same_in _ _ (omega (arith, ints))
+
+pub sum_last : (a b c d : ℤ) → whole_sum a b c d 64 ≡ pos 262144 *ℤ d
+sum_last a b c d = same_in _ _ (omega (arith, ints))

@@ -1,5 +1,5 @@
 -- Whole bounds of fractions, for the code that adds them up.
-use Rattle.std.specs.Prelude.{ℕ, ◌+◌, ◌-◌, ◌*◌, ◌≤◌, ◌<◌, ◌^◌, ℤ, pos, ◌+ℤ◌, ◌*ℤ◌}
+use Rattle.std.specs.Prelude.{ℕ, ◌+◌, ◌*◌, ◌≤◌, ◌<◌, ◌^◌, ℤ}
 use borrow.Author.Differences.{up, down}
 use Rattle.t1_frac.specs.Fraction.{Fraction}
 use Rattle.t1_afm.specs.declared.ratio.Ratio.{Ratio}
@@ -20,11 +20,6 @@ pub record IsInRange (a : Fraction) : Type 0 where
 abbrev pub fraction_of : Ratio → Fraction
 fraction_of r = record { num = r.num; den = r.den }
 
--- whole numbers with the weights of a cubic at k/64, and such a sum over 64^3
-abbrev pub whole_sum : ℤ → ℤ → ℤ → ℤ → ℕ → ℤ
-whole_sum a b c d k =
-    let j = 64 - k in
-    (pos (j * j * j) *ℤ a +ℤ pos (3 * j * j * k) *ℤ b) +ℤ (pos (3 * j * k * k) *ℤ c +ℤ pos (k * k * k) *ℤ d)
-
+-- a sum over 64^3
 abbrev pub over_cube : ℤ → Fraction
 over_cube sum = record { num = sum; den = 262144 }

@@ -8,8 +8,8 @@ ghost use Rattle.t1_afm.specs.Spans.{span_of, span_around_one, ends_of, hull_of}
 ghost use Rattle.t1_afm.specs.Bounds.{IsInRange, fraction_of};
 
 use crate::ratio::{Ratio, pair, sum};
-use crate::span::{Span, line_span};
-use crate::whole::{is_whole, whole_span, whole_sum};
+use crate::span::{Span, is_whole, line_span};
+use crate::whole::whole_span;
 use t1_frac::Frac;
 
 /// The value at k/64.
@@ -53,9 +53,6 @@ fn span_at(a: &Frac, b: &Frac, c: &Frac, d: &Frac, k: u32) -> Span
     requires d { IsCoordinate d.now }
     ensures { result ≡ span_around_one (cubic_value a.now b.now c.now d.now k) }
 {
-    if is_whole(a) && is_whole(b) && is_whole(c) && is_whole(d) {
-        return whole_span(whole_sum(a, b, c, d, k));
-    }
     let value = cubic_at(a, b, c, d, k);
     Span {
         low: value.floor(),
@@ -101,9 +98,9 @@ fn hull_span(a: &Frac, b: &Frac, c: &Frac, d: &Frac) -> Span
     line_span(a, b).around(&line_span(c, d))
 }
 
-/// The span around the 65 values of a cubic. Where its four points reach no further than its ends, as in most
-/// curves of a font, neither do the values between.
-pub(crate) fn cubic_span(a: &Frac, b: &Frac, c: &Frac, d: &Frac) -> Span
+/// The span around the 65 values of a cubic. Where its four points reach no further than its ends, neither do the
+/// values between.
+fn fraction_span(a: &Frac, b: &Frac, c: &Frac, d: &Frac) -> Span
     requires a { IsCoordinate a.now }
     requires b { IsCoordinate b.now }
     requires c { IsCoordinate c.now }
@@ -116,4 +113,18 @@ pub(crate) fn cubic_span(a: &Frac, b: &Frac, c: &Frac, d: &Frac) -> Span
         return ends;
     }
     sampled_span(a, b, c, d)
+}
+
+/// The span around the 65 values of a cubic.
+pub(crate) fn cubic_span(a: &Frac, b: &Frac, c: &Frac, d: &Frac) -> Span
+    requires a { IsCoordinate a.now }
+    requires b { IsCoordinate b.now }
+    requires c { IsCoordinate c.now }
+    requires d { IsCoordinate d.now }
+    ensures { result ≡ span_of (cubic_values a.now b.now c.now d.now) }
+{
+    if is_whole(a) && is_whole(b) && is_whole(c) && is_whole(d) {
+        return whole_span(a.num(), b.num(), c.num(), d.num());
+    }
+    fraction_span(a, b, c, d)
 }

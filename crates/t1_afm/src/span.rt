@@ -1,7 +1,8 @@
 //! The whole numbers around coordinates of one axis.
 
-ghost use Rattle.std.specs.Prelude.{◌≡◌, [], ◌∷◌};
-ghost use Rattle.t1_frac.specs.Fraction.{floor_of, ceiling_of};
+ghost use Rattle.std.specs.Prelude.{◌≡◌, ◌≤◌, ◌^◌, [], ◌∷◌, true};
+ghost use Rattle.std.specs.Int.RustNames.{unsigned_abs};
+ghost use Rattle.t1_frac.specs.Fraction.{whole, floor_of, ceiling_of};
 ghost use Rattle.t1_frac.specs.Limits.{IsCoordinate};
 ghost use Rattle.t1_afm.specs.Spans.{span_of, span_around, span_around_one};
 
@@ -26,6 +27,12 @@ impl Span {
     }
 }
 
+pub(crate) fn is_whole(a: &Frac) -> bool
+    ensures { result ≡ true → a.now.den ≡ 1 }
+{
+    a.den() == 1
+}
+
 /// A coordinate rounded down.
 fn rounded_down(a: &Frac) -> i32
     requires { IsCoordinate a.now }
@@ -42,11 +49,25 @@ fn rounded_up(a: &Frac) -> i32
     a.ceil() as i32
 }
 
+/// The span around a coordinate that is whole.
+fn only(num: i64) -> Span
+    requires { unsigned_abs num ≤ 2 ^ 20 }
+    ensures { result ≡ span_around_one (whole num) }
+{
+    Span {
+        low: num as i32,
+        high: num as i32,
+    }
+}
+
 /// The span around a coordinate.
 pub(crate) fn coordinate_span(a: &Frac) -> Span
     requires { IsCoordinate a.now }
     ensures { result ≡ span_around_one a.now }
 {
+    if is_whole(a) {
+        return only(a.num());
+    }
     Span {
         low: rounded_down(a),
         high: rounded_up(a),

@@ -52,6 +52,13 @@ fn quarters(n: i32) -> Option<Frac> {
     Frac::whole(n).div(&Frac::whole(4)).ok()
 }
 
+fn moved_box(segment: Segment, by: &Point) -> Option<BBox> {
+    match moved_segment(&segment, by) {
+        Ok(_) => Some(measure(&[segment], by)),
+        Err(_) => None,
+    }
+}
+
 /// A line from 93 1/4, 500 to 193 1/4, 678, measured where it is moved by 87 1/2, 214.
 fn moved_accent() -> Option<BBox> {
     let start = Point {
@@ -66,11 +73,16 @@ fn moved_accent() -> Option<BBox> {
         x: quarters(350)?,
         y: Frac::whole(214),
     };
-    let accent = Segment::Line(start, end);
-    match moved_segment(&accent, &by) {
-        Ok(_) => Some(measure(&[accent], &by)),
-        Err(_) => None,
-    }
+    moved_box(Segment::Line(start, end), &by)
+}
+
+/// A curve from the origin, measured where it is moved by 1/2, 1/4.
+fn moved_curve() -> Option<BBox> {
+    let by = Point {
+        x: quarters(2)?,
+        y: quarters(1)?,
+    };
+    moved_box(curve([0, 100], [100, 100], [100, 0]), &by)
 }
 
 #[test]
@@ -89,6 +101,12 @@ fn rounds_after_the_move(rt: HostRuntime) {
     let whole = unite(Some(base), accent);
     assert_eq!(rt; whole.map(|bbox| corners(&bbox)), Some([10, 0, 281, 892]));
     assert_eq!(rt; unite(None, whole), whole);
+}
+
+#[test]
+fn boxes_curves_of_fractions(rt: HostRuntime) {
+    let bbox = moved_curve().map(|bbox| corners(&bbox));
+    assert_eq!(rt; bbox, Some([0, 0, 101, 76]));
 }
 
 const NO_VALUES: Header<'static> = Header {

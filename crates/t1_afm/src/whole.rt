@@ -1,60 +1,98 @@
-//! The values of a cubic along one axis between whole coordinates, as most fonts have.
+//! Cubics along one axis between whole coordinates, as most fonts have.
 
-ghost use Rattle.std.specs.Prelude.{◌≡◌, ◌≤◌, ◌^◌, ◌*ℤ◌, ◌+ℤ◌, pos, true};
+ghost use Rattle.std.specs.Prelude.{◌≡◌, ◌≤◌, ◌^◌, ◌*ℤ◌, ◌+ℤ◌, pos};
 ghost use Rattle.std.specs.Int.RustNames.{unsigned_abs};
-ghost use Rattle.t1_frac.specs.Fraction.{floor_of, ceiling_of};
-ghost use Rattle.t1_frac.specs.Limits.{IsCoordinate};
-ghost use Rattle.t1_afm.specs.Spans.{span_around_one};
-ghost use Rattle.t1_afm.specs.Bounds.{IsInRange, whole_sum as sum_of, over_cube};
+ghost use Rattle.t1_frac.specs.Fraction.{whole, floor_of, ceiling_of};
+ghost use Rattle.t1_afm.specs.Points.{cubic_values};
+ghost use Rattle.t1_afm.specs.Spans.{span_of};
+ghost use Rattle.t1_afm.specs.Bounds.{IsInRange, over_cube};
+ghost use Rattle.t1_afm.specs.Differences.{linear as linear_of, square as square_of, cube as cube_of};
 
-use crate::ratio::times;
 use crate::span::Span;
-use t1_frac::Frac;
 
-pub(crate) fn is_whole(a: &Frac) -> bool
-    ensures { result ≡ true → a.now.den ≡ 1 }
+/// The linear coefficient of a cubic's values at k/64, times 64^3.
+fn linear(a: i64, b: i64) -> i64
+    requires a { unsigned_abs a ≤ 2 ^ 20 }
+    requires b { unsigned_abs b ≤ 2 ^ 20 }
+    ensures value { result ≡ linear_of a b }
+    ensures size { unsigned_abs result ≤ 2 ^ 35 }
 {
-    a.den() == 1
+    12_288 * (b - a)
 }
 
-/// A weight's multiple of a whole coordinate.
-fn term(weight: u32, a: &Frac) -> i64
-    requires weight { weight ≤ 2 ^ 18 }
-    requires a { IsCoordinate a.now }
-    ensures value { result ≡ pos weight *ℤ a.now.num }
-    ensures size { unsigned_abs result ≤ 2 ^ 58 }
+/// The coefficient of the square.
+fn square(a: i64, b: i64, c: i64) -> i64
+    requires a { unsigned_abs a ≤ 2 ^ 20 }
+    requires b { unsigned_abs b ≤ 2 ^ 20 }
+    requires c { unsigned_abs c ≤ 2 ^ 20 }
+    ensures value { result ≡ square_of a b c }
+    ensures size { unsigned_abs result ≤ 2 ^ 30 }
 {
-    times(weight, a.num())
+    192 * (a - 2 * b + c)
 }
 
-/// Two whole coordinates with weights, added.
-fn pair_sum(u: u32, a: &Frac, v: u32, b: &Frac) -> i64
-    requires left { u ≤ 2 ^ 18 }
-    requires right { v ≤ 2 ^ 18 }
-    requires a { IsCoordinate a.now }
-    requires b { IsCoordinate b.now }
-    ensures value { result ≡ pos u *ℤ a.now.num +ℤ pos v *ℤ b.now.num }
-    ensures size { unsigned_abs result ≤ 2 ^ 59 }
+/// The coefficient of the cube.
+fn cube(a: i64, b: i64, c: i64, d: i64) -> i64
+    requires a { unsigned_abs a ≤ 2 ^ 20 }
+    requires b { unsigned_abs b ≤ 2 ^ 20 }
+    requires c { unsigned_abs c ≤ 2 ^ 20 }
+    requires d { unsigned_abs d ≤ 2 ^ 20 }
+    ensures value { result ≡ cube_of a b c d }
+    ensures size { unsigned_abs result ≤ 2 ^ 23 }
 {
-    let left = term(u, a);
-    let right = term(v, b);
-    left + right
+    d - a + 3 * (b - c)
 }
 
-/// The value at k/64, times 64^3.
-pub(crate) fn whole_sum(a: &Frac, b: &Frac, c: &Frac, d: &Frac, k: u32) -> i64
-    requires place { k ≤ 64 }
-    requires a { IsCoordinate a.now }
-    requires b { IsCoordinate b.now }
-    requires c { IsCoordinate c.now }
-    requires d { IsCoordinate d.now }
-    ensures value { result ≡ sum_of a.now.num b.now.num c.now.num d.now.num k }
-    ensures size { unsigned_abs result ≤ 2 ^ 60 }
-{
-    let j = 64 - k;
-    let front = pair_sum(j * j * j, a, 3 * j * j * k, b);
-    let back = pair_sum(3 * j * k * k, c, k * k * k, d);
-    front + back
+/// A value of a cubic at a sixty-fourth, times 64^3, with the differences that lead to the next values.
+#[derive(Clone, Copy, Debug)]
+struct Sample {
+    value: i64,
+    first: i64,
+    second: i64,
+    third: i64,
+}
+
+impl Sample {
+    /// The value at 0.
+    fn start(a: i64, b: i64, c: i64, d: i64) -> Sample
+        requires a { unsigned_abs a ≤ 2 ^ 20 }
+        requires b { unsigned_abs b ≤ 2 ^ 20 }
+        requires c { unsigned_abs c ≤ 2 ^ 20 }
+        requires d { unsigned_abs d ≤ 2 ^ 20 }
+        ensures value { result.value ≡ pos 262144 *ℤ a }
+        ensures first { result.first ≡ cube_of a b c d +ℤ square_of a b c +ℤ linear_of a b }
+        ensures second { result.second ≡ pos 6 *ℤ cube_of a b c d +ℤ pos 2 *ℤ square_of a b c }
+        ensures third { result.third ≡ pos 6 *ℤ cube_of a b c d }
+    {
+        let linear = linear(a, b);
+        let square = square(a, b, c);
+        let cube = cube(a, b, c, d);
+        Sample {
+            value: 262_144 * a,
+            first: cube + square + linear,
+            second: 6 * cube + 2 * square,
+            third: 6 * cube,
+        }
+    }
+
+    /// The value at the next sixty-fourth.
+    fn next(&self) -> Sample
+        requires value { unsigned_abs self.now.value ≤ 2 ^ 60 }
+        requires first { unsigned_abs self.now.first ≤ 2 ^ 60 }
+        requires second { unsigned_abs self.now.second ≤ 2 ^ 60 }
+        requires third { unsigned_abs self.now.third ≤ 2 ^ 60 }
+        ensures value { result.value ≡ self.now.value +ℤ self.now.first }
+        ensures first { result.first ≡ self.now.first +ℤ self.now.second }
+        ensures second { result.second ≡ self.now.second +ℤ self.now.third }
+        ensures third { result.third ≡ self.now.third }
+    {
+        Sample {
+            value: self.value + self.first,
+            first: self.first + self.second,
+            second: self.second + self.third,
+            third: self.third,
+        }
+    }
 }
 
 /// The sum over 64^3, rounded down.
@@ -75,14 +113,44 @@ fn ceil(sum: i64) -> i32
     -floor(-sum)
 }
 
-/// The span around the sum over 64^3.
-pub(crate) fn whole_span(sum: i64) -> Span
-    requires range { IsInRange (over_cube sum) }
-    requires size { unsigned_abs sum ≤ 2 ^ 60 }
-    ensures { result ≡ span_around_one (over_cube sum) }
+/// The span around the 65 values, value by value.
+fn sampled_span(a: i64, b: i64, c: i64, d: i64) -> Span
+    requires a { unsigned_abs a ≤ 2 ^ 20 }
+    requires b { unsigned_abs b ≤ 2 ^ 20 }
+    requires c { unsigned_abs c ≤ 2 ^ 20 }
+    requires d { unsigned_abs d ≤ 2 ^ 20 }
+    ensures { result ≡ span_of (cubic_values (whole a) (whole b) (whole c) (whole d)) }
 {
-    Span {
-        low: floor(sum),
-        high: ceil(sum),
+    let mut sample = Sample::start(a, b, c, d);
+    let mut least = sample.value;
+    let mut greatest = sample.value;
+    for _k in 0..64_u32 {
+        sample = sample.next();
+        least = least.min(sample.value);
+        greatest = greatest.max(sample.value);
     }
+    Span {
+        low: floor(least),
+        high: ceil(greatest),
+    }
+}
+
+/// The span around the 65 values of a cubic. Where its four points reach no further than its ends, as in most
+/// curves of a font, neither do the values between.
+pub(crate) fn whole_span(a: i64, b: i64, c: i64, d: i64) -> Span
+    requires a { unsigned_abs a ≤ 2 ^ 20 }
+    requires b { unsigned_abs b ≤ 2 ^ 20 }
+    requires c { unsigned_abs c ≤ 2 ^ 20 }
+    requires d { unsigned_abs d ≤ 2 ^ 20 }
+    ensures { result ≡ span_of (cubic_values (whole a) (whole b) (whole c) (whole d)) }
+{
+    let low = a.min(d);
+    let high = a.max(d);
+    if low <= b.min(c) && b.max(c) <= high {
+        return Span {
+            low: low as i32,
+            high: high as i32,
+        };
+    }
+    sampled_span(a, b, c, d)
 }

@@ -19,12 +19,10 @@ use Rattle.t1_source.specs.declared.item.Item.{Item}
 use Rattle.t1_source.specs.declared.item.Item.TheVariants.{Plain, Section, Subr, Glyph}
 use Rattle.t1_code.specs.declared.command.Command.{Command}
 use Rattle.t1_code.specs.Words.{commands}
-use Rattle.t1_run.specs.declared.outline.Segment.{Segment}
-use Rattle.t1_run.specs.Composite.{outline, outline_within}
+use Rattle.t1_run.specs.Composite.{outline, outline_within, IsWithin}
 use Rattle.t1_run.specs.Run.{Maps, Drawing, own, own_of, foot}
-use Rattle.t1_run.specs.Within.{Stays}
 use Rattle.t1_run.proofs.Agreeing.{own_same}
-use Rattle.t1_run.proofs.WithinOutlines.{drawn_within}
+use Rattle.t1_run.proofs.WithinOutlines.{outline-within_limits}
 use Rattle.t1_afm.specs.declared.bbox.BBox.{BBox}
 use Rattle.t1_afm.specs.Box.{drawn_box, font_box, united}
 use Rattle.t1_afm.proofs.Fonts.{font_box_of_boxes}
@@ -136,15 +134,9 @@ kept-outline : (runs : List Kept) (items : List Item) → KeepsOwn runs items �
 kept-outline runs items kept g =
     ap (λ run. outline_within run 4 g) (same-function (kept_of runs) (own (bodies items)) kept) ∙ outline-is (bodies items) g
 
-stays-by : (r : Result (List Segment) Code) → ((segments : List Segment) → r ≡ Ok segments → Stays segments) → IfOk r Stays
-stays-by (Ok segments) h = h segments refl
-stays-by (Err code) h = tt
-
 pub are-within : (runs : List Kept) (items : List Item) → KeepsOwn runs items → AreWithin runs
 are-within runs items kept = record {
-  outlines = λ g.
-      stays-by (outline_within (kept_of runs) 4 g) (λ segments e.
-      drawn_within.outlines (bodies items) g segments (sym (kept-outline runs items kept g) ∙ e));
+  outlines = λ g. subst (λ r. IfOk r (All IsWithin)) (sym (kept-outline runs items kept g)) (outline-within_limits (bodies items) g);
 }
 
 shapes-are : (runs : List Kept) (items : List Item) (names : List (List ℕ)) → KeepsOwn runs items

@@ -1,9 +1,8 @@
 //! What is told of glyphs.
-ghost use Rattle.std.specs.Prelude.{◌≡◌, map, Ok, Err, IfOk, MatchResult};
+ghost use Rattle.std.specs.Prelude.{◌≡◌, All, map, Ok, Err, IfOk, MatchResult};
 ghost use Rattle.t1_frac.specs.Outcome.{Gives, told_at};
 ghost use Rattle.t1_frac.specs.declared.fault.Place.TheVariants as places;
-ghost use Rattle.t1_run.specs.State.{origin as zero_point};
-ghost use Rattle.t1_run.specs.Within.{Stays};
+ghost use Rattle.t1_run.specs.Composite.{IsWithin};
 ghost use Rattle.t1_afm.specs.Box.{drawn_box as box_drawn, united};
 ghost use Rattle.t1_glyphs.specs.Glyphs.{accented_of, run_there};
 ghost use Rattle.t1_glyphs.specs.Runs.{kept_of};
@@ -12,8 +11,8 @@ ghost use Rattle.t1_glyphs.specs.Shapes.{shape_at, shapes_at, AreWithin};
 use crate::outline::outline_of;
 use crate::runs::Runs;
 use std::alloc::Global;
-use t1_afm::{BBox, measure, unite};
-use t1_frac::{Bytes, Code, Fault, Frac, Place, Refusal};
+use t1_afm::{BBox, bounding_box, unite};
+use t1_frac::{Bytes, Code, Fault, Place, Refusal};
 use t1_run::{Point, Run, Segment, accent_move};
 
 /// The parts of a composite, and how far its accent is moved.
@@ -35,25 +34,15 @@ pub struct Shape {
     pub bbox: Option<BBox>,
 }
 
-/// The point 0 0.
-fn origin() -> Point
-    ensures { result ≡ zero_point }
-{
-    Point {
-        x: Frac::whole(0),
-        y: Frac::whole(0),
-    }
-}
-
 /// The box around an outline, where it draws. Its points are within the limits.
 fn drawn_box(outline: &[Segment]) -> Option<BBox>
-    requires { Stays outline.now }
+    requires { All IsWithin outline.now }
     ensures { result ≡ box_drawn outline.now }
 {
     if outline.is_empty() {
         return None;
     }
-    Some(measure(outline, &origin()))
+    Some(bounding_box(outline))
 }
 
 /// The parts of a composite, and how far its accent is moved.

@@ -1,14 +1,16 @@
 -- Outlines, also of composites, are within the limits.
 use Rattle.std.proofs.Common.{◌≡◌, ℕ, zero, suc, List, [], ◌∷◌, ◌++◌, subst, Option, Some, None}
-use Rattle.std.specs.Prelude.{Result, Ok, Err, IfOk, IfSome}
-use Rattle.t1_frac.specs.Limits.{coordinate_sum, coordinate_difference}
+use Rattle.std.specs.Prelude.{All, Result, Ok, Err, IfOk, IfSome}
+use Rattle.std.proofs.lemmas.List.Elements.{All-nil, All-cons}
+use Rattle.t1_frac.specs.Fraction.{Fraction}
+use Rattle.t1_frac.specs.Limits.{IsCoordinate, coordinate_sum, coordinate_difference}
 use Rattle.t1_frac.specs.declared.fault.Code.{Code}
 use Rattle.t1_frac.specs.declared.fault.Code.TheVariants.{F46}
 use Rattle.t1_run.specs.declared.outline.Composite.{Composite}
 use Rattle.t1_run.specs.declared.outline.Point.{Point}
 use Rattle.t1_run.specs.declared.outline.Segment.{Segment}
 use Rattle.t1_run.specs.declared.outline.Segment.TheVariants.{Line, Curve}
-use Rattle.t1_run.specs.Composite.{accent_move, moved_point, moved_segment, moved_outline, joined, joined_with, with_parts, drawn, outline_within, outline}
+use Rattle.t1_run.specs.Composite.{accent_move, moved_point, moved_segment, moved_outline, joined, joined_with, with_parts, drawn, outline_within, outline, IsPoint, IsWithin}
 use Rattle.t1_run.specs.Run.{Maps, Drawing, own}
 use Rattle.t1_run.specs.Within.{DrawnWithinLaw}
 use Rattle.t1_run.proofs.Within.{IsValue, IsPlace, IsPlaced, IsDrawn, AllDrawn, bind-ok, each-append, sum-place, difference-place, moved-placed, outline-stays}
@@ -86,6 +88,31 @@ outline_within-drawn m (suc depth) g = drawn-drawn (outline_within (own m) depth
 outline-drawn : (m : Maps) (g : List ℕ) → IfOk (outline m g) AllDrawn
 unfolding outline
 outline-drawn m g = outline_within-drawn m 4 g
+
+-- ---- points within the limits
+
+place-coordinate : (a : Fraction) → IsPlace a → IsCoordinate a
+place-coordinate a h = record { above = h.value.terms.above; fine = h.value.fine; size = h.size }
+
+placed-point : (p : Point) → IsPlaced p → IsPoint p
+placed-point p h = record { x = place-coordinate p.x h.x; y = place-coordinate p.y h.y }
+
+drawn-within : (s : Segment) → IsDrawn s → IsWithin s
+drawn-within (Line start end) h = (placed-point start h.0, placed-point end h.1)
+drawn-within (Curve start first second end) h =
+    (placed-point start h.0, placed-point first h.1, placed-point second h.2, placed-point end h.3)
+
+all-within : (segments : List Segment) → AllDrawn segments → All IsWithin segments
+all-within [] h = All-nil IsWithin
+all-within (s ∷ ss) h = All-cons IsWithin s ss (drawn-within s h.0) (all-within ss h.1)
+
+each-within : (r : Result (List Segment) Code) → IfOk r AllDrawn → IfOk r (All IsWithin)
+each-within (Ok segments) h = all-within segments h
+each-within (Err fault) h = tt
+
+-- each point of a glyph's outline is within the limits
+pub outline-within_limits : (m : Maps) (g : List ℕ) → IfOk (outline m g) (All IsWithin)
+outline-within_limits m g = each-within (outline m g) (outline-drawn m g)
 
 -- ---- the law
 

@@ -1,10 +1,12 @@
-use Rattle.std.proofs.Common.{arith}
-use Rattle.std.proofs.lemmas.Int.{ints}
-use Rattle.t1_afm.proofs.Between.{between}
+use Rattle.std.proofs.Common.{◌∙◌}
+use Rattle.t1_afm.proofs.Ends.{whole_read, same_values}
 use Rattle.t1_afm.proofs.cubic.cubic_span.Goals as goal
 
-pub returns-then-hull-ends : goal.returns-then-hull-ends
-returns-then-hull-ends c =
-    between c.ends_span-ends.result c.hull_span-hull.result _ _ _ _ c.requires.a c.requires.b c.requires.c c.requires.d c.ends_span-ends.ensures c.hull_span-hull.ensures
-    (record { below = omega (arith, ints, c.if-ends-hull.true) })
-    (record { below = omega (arith, ints, c.if-hull-ends.true) })
+pub returns-then-is_whole-4 : goal.returns-then-is_whole-4
+returns-then-is_whole-4 c =
+    c.whole_span.ensures
+    ∙ same_values _ _ _ _ _ _ _ _
+    (whole_read c.args.a.now c.num.result c.num.ensures (c.is_whole.ensures c.if-is_whole.true) c.requires.a)
+    (whole_read c.args.b.now c.num-then-is_whole-4.result c.num-then-is_whole-4.ensures (c.is_whole-then-is_whole.ensures c.if-is_whole-2.true) c.requires.b)
+    (whole_read c.args.c.now c.num-then-is_whole-4-2.result c.num-then-is_whole-4-2.ensures (c.is_whole-then-is_whole-2.ensures c.if-is_whole-3.true) c.requires.c)
+    (whole_read c.args.d.now c.num-then-is_whole-4-3.result c.num-then-is_whole-4-3.ensures (c.is_whole-then-is_whole-3.ensures c.if-is_whole-4.true) c.requires.d)

@@ -1,0 +1,86 @@
+-- Sums, differences and multiples in 64 bits.
+use Rattle.std.proofs.Common.{◌≡◌, ℕ, ◌+◌, ◌*◌, ◌≤◌, ◌<◌, ◌^◌, ℤ, pos, negsuc, ◌+ℤ◌, ◌-ℤ◌, ◌*ℤ◌, arith, ◌∙◌}
+use mir.Syntax.{w32, w64}
+use mir.Val.{to_z, of_z}
+use lib.Signed.{mag}
+use Rattle.std.specs.Int.RustNames.{unsigned_abs, FitsSigned}
+use Rattle.std.proofs.lemmas.Int.{ints}
+use Rattle.std.proofs.Math.Nat.{mul-le-mul_left}
+use Rattle.t1_afm.specs.Differences.{linear, square, cube}
+
+abbrev pub read : ℤ → ℤ
+read x = to_z w64 (of_z w64 x)
+
+-- read from 64 bits, x is a, of at most this size
+pub record IsLong (x a : ℤ) (size : ℕ) : Type 0 where
+  pub same : read x ≡ a
+  pub bound : unsigned_abs a ≤ size
+
+pub read_small : (x : ℤ) → unsigned_abs x ≤ 2 ^ 60 → read x ≡ x
+read_small x h = omega (arith, ints, h)
+
+-- a number of 32 bits, read again
+pub read_int : (x : ℤ) → mag x < 2 ^ 31 → to_z w32 (of_z w32 x) ≡ x
+read_int x h = omega (arith, ints, h)
+
+fits_small : (x : ℤ) → unsigned_abs x ≤ 2 ^ 60 → FitsSigned w64 x
+fits_small x h = omega (arith, ints, h)
+
+pub sum_size : (a b : ℤ) (m n : ℕ) → unsigned_abs a ≤ m → unsigned_abs b ≤ n → unsigned_abs (a +ℤ b) ≤ m + n
+sum_size a b m n h k = omega (arith, ints, h, k)
+
+pub difference_size : (a b : ℤ) (m n : ℕ) → unsigned_abs a ≤ m → unsigned_abs b ≤ n → unsigned_abs (a -ℤ b) ≤ m + n
+difference_size a b m n h k = omega (arith, ints, h, k)
+
+pub multiple_size : (k : ℕ) (a : ℤ) (m : ℕ) → unsigned_abs a ≤ m → unsigned_abs (pos k *ℤ a) ≤ k * m
+multiple_size k (pos n) m h = mul-le-mul_left k h
+multiple_size k (negsuc n) m h = omega (arith, ints, mul-le-mul_left k h)
+
+pub long : (a : ℤ) (m : ℕ) → unsigned_abs a ≤ m → m ≤ 2 ^ 60 → IsLong a a m
+long a m h fits = record { same = read_small a (omega (arith, h, fits)); bound = h }
+
+pub sum_long : (x y a b : ℤ) (m n : ℕ) → IsLong x a m → IsLong y b n → m + n ≤ 2 ^ 60 → IsLong (read x +ℤ read y) (a +ℤ b) (m + n)
+sum_long x y a b m n h k fits =
+    let size = sum_size a b m n h.bound k.bound in
+    record { same = rw (h.same, k.same) (read_small (a +ℤ b) (omega (arith, size, fits))); bound = size }
+
+pub difference_long : (x y a b : ℤ) (m n : ℕ) → IsLong x a m → IsLong y b n → m + n ≤ 2 ^ 60 → IsLong (read x -ℤ read y) (a -ℤ b) (m + n)
+difference_long x y a b m n h k fits =
+    let size = difference_size a b m n h.bound k.bound in
+    record { same = rw (h.same, k.same) (read_small (a -ℤ b) (omega (arith, size, fits))); bound = size }
+
+pub multiple_long : (k : ℕ) (x a : ℤ) (m : ℕ) → IsLong x a m → k * m ≤ 2 ^ 60 → IsLong (pos k *ℤ read x) (pos k *ℤ a) (k * m)
+multiple_long k x a m h fits =
+    let size = multiple_size k a m h.bound in
+    record { same = rw (h.same) (read_small (pos k *ℤ a) (omega (arith, size, fits))); bound = size }
+
+pub sum_fits : (x y a b : ℤ) (m n : ℕ) → IsLong x a m → IsLong y b n → m + n ≤ 2 ^ 60 → FitsSigned w64 (read x +ℤ read y)
+sum_fits x y a b m n h k fits =
+    let size = sum_size a b m n h.bound k.bound in
+    rw (h.same, k.same) (fits_small (a +ℤ b) (omega (arith, size, fits)))
+
+pub multiple_fits : (k : ℕ) (x a : ℤ) (m : ℕ) → IsLong x a m → k * m ≤ 2 ^ 60 → FitsSigned w64 (pos k *ℤ read x)
+multiple_fits k x a m h fits =
+    let size = multiple_size k a m h.bound in
+    rw (h.same) (fits_small (pos k *ℤ a) (omega (arith, size, fits)))
+
+-- what was computed from numbers that were read
+pub read_long : (x a : ℤ) (size : ℕ) → x ≡ a → unsigned_abs x ≤ size → size ≤ 2 ^ 60 → IsLong x a size
+read_long x a size e h fits = record { same = read_small x (omega (arith, h, fits)) ∙ e; bound = rw (← e) h }
+
+pub linear_long : (x a b : ℤ) → unsigned_abs a ≤ 2 ^ 20 → unsigned_abs b ≤ 2 ^ 20 → x ≡ linear (read a) (read b) → unsigned_abs x ≤ 2 ^ 35 → IsLong x (linear a b) (2 ^ 35)
+linear_long x a b ha hb e h =
+    let ra = read_small a (omega (arith, ha)) in let rb = read_small b (omega (arith, hb)) in
+    read_long x (linear a b) (2 ^ 35) (rw (ra, rb) at e) h (omega arith)
+
+pub square_long : (x a b c : ℤ) → unsigned_abs a ≤ 2 ^ 20 → unsigned_abs b ≤ 2 ^ 20 → unsigned_abs c ≤ 2 ^ 20
+    → x ≡ square (read a) (read b) (read c) → unsigned_abs x ≤ 2 ^ 30 → IsLong x (square a b c) (2 ^ 30)
+square_long x a b c ha hb hc e h =
+    let ra = read_small a (omega (arith, ha)) in let rb = read_small b (omega (arith, hb)) in let rc = read_small c (omega (arith, hc)) in
+    read_long x (square a b c) (2 ^ 30) (rw (ra, rb, rc) at e) h (omega arith)
+
+pub cube_long : (x a b c d : ℤ) → unsigned_abs a ≤ 2 ^ 20 → unsigned_abs b ≤ 2 ^ 20 → unsigned_abs c ≤ 2 ^ 20 → unsigned_abs d ≤ 2 ^ 20
+    → x ≡ cube (read a) (read b) (read c) (read d) → unsigned_abs x ≤ 2 ^ 23 → IsLong x (cube a b c d) (2 ^ 23)
+cube_long x a b c d ha hb hc hd e h =
+    let ra = read_small a (omega (arith, ha)) in let rb = read_small b (omega (arith, hb)) in let rc = read_small c (omega (arith, hc)) in let rd = read_small d (omega (arith, hd)) in
+    read_long x (cube a b c d) (2 ^ 23) (rw (ra, rb, rc, rd) at e) h (omega arith)
