@@ -52,7 +52,7 @@ impl Run {
     {
         let State {
             metric,
-            segments,
+            mut segments,
             entered,
             steps,
             ..
@@ -60,6 +60,7 @@ impl Run {
         let Some(metric) = metric else {
             return Err(Refusal::from(Code::F36));
         };
+        segments.shrink_to_fit();
         Ok(Run {
             metric,
             segments,
