@@ -7,3 +7,4 @@ pub mod Naming
 pub mod Ordering
 pub mod Outlining
 pub mod Rows
+pub mod UsageRows

@@ -7,3 +7,4 @@ pub mod Outlines
 pub mod Runs
 pub mod Shapes
 pub mod Sheet
+pub mod Usage

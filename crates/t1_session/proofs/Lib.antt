@@ -1,5 +1,6 @@
 pub mod Conversations
 pub mod Delivering
+pub mod FaultLaws
 pub mod FileLaws
 pub mod Gathering
 pub mod LengthLaws
