@@ -50,7 +50,7 @@ fn rounded_up(a: &Frac) -> i32
 }
 
 /// The span around a coordinate that is whole.
-fn only(num: i64) -> Span
+fn exact_span(num: i64) -> Span
     requires { unsigned_abs num ≤ 2 ^ 20 }
     ensures { result ≡ span_around_one (whole num) }
 {
@@ -66,7 +66,7 @@ pub(crate) fn coordinate_span(a: &Frac) -> Span
     ensures { result ≡ span_around_one a.now }
 {
     if is_whole(a) {
-        return only(a.num());
+        return exact_span(a.num());
     }
     Span {
         low: rounded_down(a),

@@ -4,7 +4,6 @@ pub mod Fitting
 pub mod Framing
 pub mod Grammar
 pub mod Lengths
-pub mod Numbers
 pub mod Places
 pub mod Reading
 pub mod Rows

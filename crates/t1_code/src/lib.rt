@@ -23,7 +23,7 @@ pub use counted::{Counted, MAX_PUT};
 pub use encoding::standard_name;
 pub use number::number_word;
 pub use parts::{OutError, Parts, Piece};
-pub use pfb::{put_plain, write_pfb};
+pub use pfb::{EEXEC_LEAD, MAX_PART, put_plain, write_pfb};
 pub use words::compile;
 
 #[cfg(test)]

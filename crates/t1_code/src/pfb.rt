@@ -137,10 +137,10 @@ fn put_private<W: Write>(
 }
 
 /// The most bytes of a part.
-const MAX_PART: usize = (1 << 31) - 1;
+pub const MAX_PART: usize = (1 << 31) - 1;
 
 /// How many zero bytes stand in front of the private text.
-const EEXEC_LEAD: usize = 4;
+pub const EEXEC_LEAD: usize = 4;
 
 /// The key that eexec encryption begins with.
 const EEXEC_KEY: u16 = 55_665;

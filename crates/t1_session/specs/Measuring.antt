@@ -23,8 +23,8 @@ abbrev pub source_check : Form → Result (Unit {0}) Fault
 source_check source = source_glyphs source >>= λ glyphs. Ok tt
 
 -- the usage table of a source, or its first fault
-abbrev pub usage_file : Form → Result (List ℕ) Fault
-usage_file source = source_glyphs source >>= λ glyphs. Ok (usage_table glyphs)
+abbrev pub source_usage : Form → Result (List ℕ) Fault
+source_usage source = source_glyphs source >>= λ glyphs. Ok (usage_table glyphs)
 
 -- profile, order of faults: the AFM file of a source and its pairs, or the first fault of reading the source, of the
 -- pairs, of the bodies, F23, or of a glyph

@@ -6,22 +6,14 @@ ghost use Rattle.t1_glyphs.specs.Bodies.{bodies as bodies_of, bodies_check, maps
 ghost use Rattle.t1_code.specs.Pfb.{whole_file};
 ghost use Rattle.t1_session.specs.Assembly.{file_check, item_line, private_text, source_file};
 
-use crate::assembly::file_of;
+use crate::assembly::{ZEROS_LEN, file_of};
 use itoa::Buffer;
 use std::alloc::Global;
+use t1_code::{EEXEC_LEAD, MAX_PART};
 use t1_frac::{Bytes, Refusal, Words};
 use t1_glyphs::compiled;
 use t1_run::Plain;
 use t1_source::{Item, Source};
-
-/// The most bytes of a part.
-const MAX_PART: usize = (1 << 31) - 1;
-
-/// The bytes of the trailer in front of the tail: eight lines of 64 zeros.
-const ZEROS_LEN: usize = 520;
-
-/// How many zero bytes stand in front of the private text.
-const EEXEC_LEAD: usize = 4;
 
 /// More than an entry's line has beside its leading bytes, the operator's name, its head, its charstring and its
 /// closing text: spaces, the length of the data and the line's end.
@@ -41,7 +33,7 @@ fn lines_len(lines: &[Bytes]) -> usize
 }
 
 /// The most bytes that an entry's line can have. A word's code has five bytes at most.
-fn entry_most(lead: u8, operator: &[u8], head: usize, words: &Words, closing: &[u8]) -> usize
+fn max_entry_len(lead: u8, operator: &[u8], head: usize, words: &Words, closing: &[u8]) -> usize
     ensures { result < 2 ^ 31 → lead + length operator.now + head + 5 * length words.now + length closing.now + 40 ≤ result }
 {
     words
@@ -56,7 +48,7 @@ fn entry_most(lead: u8, operator: &[u8], head: usize, words: &Words, closing: &[
 }
 
 /// The most bytes that the line of an item can have.
-fn item_most(lead: u8, operator: &[u8], item: &Item) -> usize
+fn max_line_len(lead: u8, operator: &[u8], item: &Item) -> usize
     ensures { result < 2 ^ 31 → IfOk (item_line lead operator.now item.now) (λ line. length line ≤ result) }
 {
     match item {
@@ -71,22 +63,22 @@ fn item_most(lead: u8, operator: &[u8], item: &Item) -> usize
         }
         Item::Subr(number, words, closing) => {
             let head = 4 + Buffer::new().format(*number).len();
-            entry_most(lead, operator, head, words, closing.as_slice())
+            max_entry_len(lead, operator, head, words, closing.as_slice())
         }
         Item::Glyph(name, words, closing) => {
             let head = name.as_slice().len().saturating_add(1);
-            entry_most(lead, operator, head, words, closing.as_slice())
+            max_entry_len(lead, operator, head, words, closing.as_slice())
         }
     }
 }
 
 /// The most bytes that the private text can have.
-fn private_most(lead: u8, operator: &[u8], items: &[Item]) -> usize
+fn max_private_len(lead: u8, operator: &[u8], items: &[Item]) -> usize
     ensures { result < 2 ^ 31 → IfOk (private_text lead operator.now items.now) (λ text. length text ≤ result) }
 {
     let mut total: usize = 0;
     for item in items {
-        total = total.saturating_add(item_most(lead, operator, item));
+        total = total.saturating_add(max_line_len(lead, operator, item));
     }
     total
 }
@@ -96,7 +88,7 @@ fn is_short(source: &Source) -> bool
     ensures { result ≡ true → bodies_check source.now.items ≡ Ok tt → IsOk (source_file whole_file source.now) }
 {
     let clear = lines_len(source.clear());
-    let private = private_most(source.lead(), source.operator(), source.items());
+    let private = max_private_len(source.lead(), source.operator(), source.items());
     let trailer = lines_len(source.tail()).saturating_add(ZEROS_LEN);
     clear.max(private.saturating_add(EEXEC_LEAD)).max(trailer) <= MAX_PART
 }
@@ -118,7 +110,7 @@ fn check_length(alloc: Global, source: &Source) -> Result<(), Refusal>
 /// The compiled bodies of a source whose PFB file has no fault; or the file's fault: the first of a body, at its
 /// entry, else F23.
 #[tactic(auto, using(crate::proofs::LengthLaws::body_fault_told))]
-pub(crate) fn checked(alloc: Global, source: &Source) -> Result<Plain, Refusal>
+pub(crate) fn checked_bodies(alloc: Global, source: &Source) -> Result<Plain, Refusal>
     ensures file { Gives (λ _. tt) result (file_check source.now) }
     ensures no_fault { IfOk result (λ _. bodies_check source.now.items ≡ Ok tt) }
     ensures bodies { IfOk result (λ plain. SameMaps (maps_of plain) (bodies_of source.now.items)) }

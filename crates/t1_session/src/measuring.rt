@@ -6,7 +6,7 @@ ghost use Rattle.t1_glyphs.specs.Sheet.{sheet};
 ghost use Rattle.t1_session.specs.Measuring.{metrics_file};
 
 use crate::error::ServeError;
-use crate::lengths::checked;
+use crate::lengths::checked_bodies;
 use std::alloc::Global;
 use std::io::Write;
 use t1_afm::write_afm;
@@ -43,7 +43,7 @@ pub fn measure_source<W: Write>(
 {
     let source = read_source(alloc, source)?;
     let pairs = read_pairs(alloc, pairs)?;
-    let bodies = checked(alloc, &source)?;
+    let bodies = checked_bodies(alloc, &source)?;
     let glyphs = measured(alloc, source.items(), &bodies, &mut Meter::new())?;
     write_metrics(alloc, &source, &pairs, &glyphs, out)
 }

@@ -30,7 +30,7 @@ ghost use Rattle.t1_session.specs.Requests.{may_want_memory};
 ghost use Rattle.t1_code.specs.Pfb.{whole_file};
 
 use crate::assembly::file_of;
-use crate::lengths::checked;
+use crate::lengths::checked_bodies;
 use crate::print::Print;
 use crate::reply::Reply;
 use crate::request::Request;
@@ -56,7 +56,7 @@ impl Session {
     {
         let source = read_source(alloc, source)?;
         let pairs = read_pairs(alloc, pairs)?;
-        let _bodies = checked(alloc, &source)?;
+        let _bodies = checked_bodies(alloc, &source)?;
         Ok(Session { source, pairs })
     }
 
@@ -95,7 +95,7 @@ impl Session {
         ensures next { OnOk result (self.new ≡ (judged_file self.old (record { source = source; pairs = pairs }) (file_check source)).next) }
         ensures err { OnErr result (self.new ≡ self.old) }
     {
-        match checked(alloc, &source) {
+        match checked_bodies(alloc, &source) {
             Ok(_bodies) => {
                 self.source = source;
                 self.pairs = pairs;

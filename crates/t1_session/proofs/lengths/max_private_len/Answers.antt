@@ -2,7 +2,7 @@ use Rattle.std.proofs.Common.{◌≡◌, ◌∷◌, ◌<◌, ◌+◌, ◌^◌, d
 use Rattle.std.proofs.lemmas.List.{drop_more}
 use Rattle.t1_session.specs.Assembly.{private_text}
 use Rattle.t1_session.proofs.LengthLaws.{text_within}
-use Rattle.t1_session.proofs.lengths.private_most.Goals as goal
+use Rattle.t1_session.proofs.lengths.max_private_len.Goals as goal
 
 pub loop-item-preserved : goal.loop-item-preserved
 loop-item-preserved c short text whole =
@@ -12,5 +12,5 @@ loop-item-preserved c short text whole =
     let before = c.loop-item.invariant (omega arith) text whole in
     let cut = drop_more items at item c.loop-item-test.true ∙ ap (λ x. x ∷ drop (at + 1) items) (sym c.item-item.is) in
     let seen = sym (ap (private_text c.args.lead c.args.operator.now) cut) ∙ before.1 in
-    text_within c.args.lead c.args.operator.now item (drop (at + 1) items) text before.0 c.item_most.result c.loop-item.total c.saturating_add-total.result
-    (c.item_most.ensures (omega arith)) seen before.2 (omega arith)
+    text_within c.args.lead c.args.operator.now item (drop (at + 1) items) text before.0 c.max_line_len.result c.loop-item.total c.saturating_add-total.result
+    (c.max_line_len.ensures (omega arith)) seen before.2 (omega arith)

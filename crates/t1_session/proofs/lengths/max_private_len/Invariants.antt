@@ -1,6 +1,6 @@
 use Rattle.std.proofs.Common.{◌≡◌, ◌≤◌, ◌<◌, ◌+◌, ◌^◌, ℕ, List, drop, length, Ok}
 use Rattle.t1_session.specs.Assembly.{private_text}
-use Rattle.t1_session.proofs.lengths.private_most.Given as goal
+use Rattle.t1_session.proofs.lengths.max_private_len.Given as goal
 
 -- the whole text is at most so much longer than the text of the items that are left
 abbrev pub invariant-loop-item : goal.invariant-loop-item
