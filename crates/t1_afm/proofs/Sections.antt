@@ -10,7 +10,7 @@ use Rattle.t1_afm.specs.declared.metrics.CharMetric.{CharMetric}
 use Rattle.t1_afm.specs.declared.metrics.KernPair.{KernPair}
 use Rattle.t1_afm.specs.declared.metrics.CompositeMetric.{CompositeMetric}
 use Rattle.t1_afm.specs.declared.part.Value.{Value}
-use Rattle.t1_afm.specs.Afm.{Line, line_text, lines_text, value_line, value_lines, header_lines, heights, sides, scheme, values_before_box, values_after_box, section, char_line, pair_line, composite_line, kerning_lines, composite_lines, Sheet, afm}
+use Rattle.t1_afm.specs.Afm.{Line, line_text, lines_text, value_line, value_lines, header_lines, heights, sides, scheme, values_before_box, values_after_box, section, char_line, pair_line, composite_line, kerning_lines, composite_lines, FontMetrics, afm}
 use Rattle.t1_afm.specs.Lines.{value_of, values_of}
 
 -- values, put as parts
@@ -86,7 +86,7 @@ file_parts h v s k c e =
 abbrev pub glyphs_text : List CharMetric → List ℕ
 glyphs_text cs = lines_text (value_lines (heights cs) ++ section (codes "StartCharMetrics") (codes "EndCharMetrics") (map char_line cs))
 
-pub file_is : (m : Sheet) → afm m
+pub file_is : (m : FontMetrics) → afm m
     ≡ lines_text (header_lines m.header m.standard m.font_box)
     ++ (glyphs_text m.chars ++ (lines_text (kerning_lines m.pairs) ++ (lines_text (composite_lines m.composites) ++ end_line)))
 unfolding afm

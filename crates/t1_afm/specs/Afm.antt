@@ -11,7 +11,7 @@ use Rattle.t1_afm.specs.declared.metrics.CompositeMetric.{CompositeMetric}
 
 -- AFM 4.1: what a file tells of a font: the values about the whole font, whether the encoding is StandardEncoding, the
 -- font's box, and the glyphs, pairs and composites in the order of the file
-pub record Sheet : Type 0 where
+pub record FontMetrics : Type 0 where
   pub header : Header
   pub standard : Bool
   pub font_box : BBox
@@ -161,5 +161,5 @@ lines_of header standard font_box chars pairs composites =
     ++ (codes "EndFontMetrics" ∷ []) ∷ []
 
 -- profile: the file
-unfoldable pub afm : Sheet → List ℕ
+unfoldable pub afm : FontMetrics → List ℕ
 afm s = lines_text (lines_of s.header s.standard s.font_box s.chars s.pairs s.composites)

@@ -93,9 +93,9 @@ pub struct Metrics<'a> {
 }
 
 impl<'a> Model for Metrics<'a> {
-    ghost use Rattle.t1_afm.specs.Afm.{Sheet};
+    ghost use Rattle.t1_afm.specs.Afm.{FontMetrics};
 
-    ghost Value = { Sheet };
+    ghost Value = { FontMetrics };
 
     ghost view = { λ m. record {
       header = m.header;

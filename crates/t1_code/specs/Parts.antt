@@ -3,6 +3,8 @@ use Rattle.std.specs.Prelude.{length, ◌≡◌, ℕ, List, Option, Result, Ok, 
 use Rattle.std.specs.List.{flat_map}
 use Rattle.std.specs.Borrow.{Bor}
 use Rattle.t1_frac.specs.declared.fault.Fault.{Fault}
+use Rattle.t1_frac.specs.declared.fault.Refusal.{Refusal}
+use Rattle.t1_frac.specs.declared.fault.Refusal.TheVariants as refusals
 use Rattle.t1_code.specs.declared.parts.OutError.{OutError}
 use Rattle.t1_code.specs.declared.parts.OutError.TheVariants as out
 use Rattle.t1_code.specs.declared.parts.Parts.{Parts}
@@ -38,3 +40,8 @@ Prints contents old new text (Ok done) = (whole : List ℕ) × (text ≡ Ok whol
 Prints contents old new text (Err out.Write) = (whole : List ℕ) × (text ≡ Ok whole) × WritesFront contents old new whole
 Prints contents old new text (Err (out.Fault fault)) = (text ≡ Err fault) × (new ≡ old)
 Prints contents old new text (Err out.Memory) = new ≡ old
+
+-- profile: a text whose parts couldn't be made isn't written, for the same reason
+abbrev pub not_written : Refusal → OutError
+not_written (refusals.Fault fault) = out.Fault fault
+not_written refusals.Memory = out.Memory

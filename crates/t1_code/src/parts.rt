@@ -1,7 +1,8 @@
 //! The parts of a PFB file, and the file.
 
+use std::alloc::AllocError;
 use std::io;
-use t1_frac::Fault;
+use t1_frac::{Fault, Refusal};
 use thiserror::Error;
 
 /// A piece of the private text.
@@ -52,5 +53,30 @@ impl From<io::Error> for OutError {
 
     fn from(_error: io::Error) -> OutError {
         OutError::Write
+    }
+}
+
+impl From<Refusal> for OutError {
+    ghost use Rattle.std.specs.Prelude.{◌≡◌};
+    ghost use Rattle.t1_code.specs.Parts.{not_written};
+
+    ghost from_gives = { λ refused error. error ≡ not_written refused };
+
+    fn from(refused: Refusal) -> OutError {
+        match refused {
+            Refusal::Fault(fault) => OutError::Fault(fault),
+            Refusal::Memory => OutError::Memory,
+        }
+    }
+}
+
+impl From<AllocError> for OutError {
+    ghost use Rattle.std.specs.Prelude.{◌≡◌};
+    ghost use Rattle.t1_code.specs.declared.parts.OutError.TheVariants.{Memory};
+
+    ghost from_gives = { λ _ error. error ≡ Memory };
+
+    fn from(_error: AllocError) -> OutError {
+        OutError::Memory
     }
 }

@@ -12,9 +12,9 @@ use Rattle.t1_run.specs.State.{State, initial}
 use Rattle.t1_run.specs.Step.{Step, Next, Call, Back, End, Compose, Fault}
 use Rattle.t1_run.specs.Words.{step}
 use Rattle.t1_run.specs.Footprint.{Includes, AgreeOn, FootprintLaw}
-use Rattle.t1_run.specs.Run.{Maps, Key, Subr, Glyph, Ending, Finished, Returned, Ended, Failed, Runner, Caller, go_on, act, words, call_within, called, composed, composite_of, encoded, asking_accent, asking_parts, entering, ending, asked_by, own, own_of, foot, asked_of, outcome_of}
+use Rattle.t1_run.specs.Run.{FontBodies, Key, Subr, Glyph, Ending, Finished, Returned, Ended, Failed, Runner, Caller, go_on, act, words, call_within, called, composed, composite_of, encoded, asking_accent, asking_parts, entering, ending, asked_by, own, own_of, foot, asked_of, outcome_of}
 
-pub agree-part : {m n : Maps} {ks ks' : List Key} → AgreeOn m n ks' → ((k : Key) → Includes ks k → Includes ks' k) → AgreeOn m n ks
+pub agree-part : {m n : FontBodies} {ks ks' : List Key} → AgreeOn m n ks' → ((k : Key) → Includes ks k → Includes ks' k) → AgreeOn m n ks
 agree-part h inside = record { same = λ k i. h.same k (inside k i) }
 
 -- what was asked stays asked
@@ -25,10 +25,10 @@ abbrev pub CallerKeeps : Caller → Type 0
 CallerKeeps caller = (n : ℕ) → Keeps (caller n)
 
 -- where the maps agree on all that a run asks, the other run is the same
-abbrev pub SameRun : Maps → Maps → Runner → Runner → Type 0
+abbrev pub SameRun : FontBodies → FontBodies → Runner → Runner → Type 0
 SameRun m n run run' = (s : State) (asked : List Key) → AgreeOn m n (asked_by (run s asked)) → run' s asked ≡ run s asked
 
-abbrev pub SameCaller : Maps → Maps → Caller → Caller → Type 0
+abbrev pub SameCaller : FontBodies → FontBodies → Caller → Caller → Type 0
 SameCaller m n caller caller' =
     (k : ℕ) (s : State) (asked : List Key) → Includes asked (Subr k)
     → AgreeOn m n (asked_by (caller k s asked)) → caller' k s asked ≡ caller k s asked
@@ -56,7 +56,7 @@ composed-asks : (r : Result Composite Code) (s : State) (asked : List Key) → a
 composed-asks (Ok c) s asked = refl
 composed-asks (Err fault) s asked = refl
 
-act-keeps : (m : Maps) (caller : Caller) (next : Runner) → CallerKeeps caller → Keeps next
+act-keeps : (m : FontBodies) (caller : Caller) (next : Runner) → CallerKeeps caller → Keeps next
     → (t : Step) (asked : List Key) (k : Key) → Includes asked k → Includes (asked_by (act m caller next t asked)) k
 act-keeps m caller next calls keeps (Next s) asked k i = keeps s asked k i
 act-keeps m caller next calls keeps (Call n s) asked k i =
@@ -69,7 +69,7 @@ act-keeps m caller next calls keeps (Compose a s) asked k i =
     (asking_parts-keeps (encoded a.base) (encoded a.accent) m.glyphs asked k i)
 act-keeps m caller next calls keeps (Fault fault) asked k i = i
 
-words-keeps : (m : Maps) (caller : Caller) → CallerKeeps caller → (cs : List Command) → Keeps (words m caller cs)
+words-keeps : (m : FontBodies) (caller : Caller) → CallerKeeps caller → (cs : List Command) → Keeps (words m caller cs)
 words-keeps m caller calls [] s asked k i = i
 words-keeps m caller calls (c ∷ cs) s asked k i =
     act-keeps m caller (words m caller cs) calls (words-keeps m caller calls cs) (step c s) asked k i
@@ -79,14 +79,14 @@ called-keeps : (run : List Command → Runner) → ((body : List Command) → Ke
 called-keeps run keeps None n s asked k i = i
 called-keeps run keeps (Some body) n s asked k i = keeps body (entering n s) asked k i
 
-call_within-keeps : (m : Maps) (levels : ℕ) → CallerKeeps (call_within m levels)
+call_within-keeps : (m : FontBodies) (levels : ℕ) → CallerKeeps (call_within m levels)
 call_within-keeps m zero n s asked k i = called-keeps (λ body s' asked'. Failed F33 asked') (λ body s' asked' k' i'. i') (m.subrs n) n s asked k i
 call_within-keeps m (suc levels) n s asked k i =
     called-keeps (words m (call_within m levels)) (words-keeps m (call_within m levels) (call_within-keeps m levels)) (m.subrs n) n s asked k i
 
 -- ---- the other run is the same
 
-go_on-same : {m n : Maps} (next next' : Runner) → SameRun m n next next' → (e : Ending)
+go_on-same : {m n : FontBodies} (next next' : Runner) → SameRun m n next next' → (e : Ending)
     → AgreeOn m n (asked_by (go_on next e)) → go_on next' e ≡ go_on next e
 go_on-same next next' same (Finished s asked) h = same s asked h
 go_on-same next next' same (Returned s asked) h = same s asked h
@@ -98,7 +98,7 @@ abbrev found : Accent → List ℕ → List ℕ → Option (List Command) → Op
 found a base accent b t =
     ok_or b F45 >>= (λ _. ok_or t F45 >>= (λ _. Ok (record { base = base; accent = accent; asb = a.asb; adx = a.adx; ady = a.ady })))
 
-accent-same : {m n : Maps} (a : Accent) (base accent : List ℕ) (b : Option (List Command)) (s : State) (asked : List Key)
+accent-same : {m n : FontBodies} (a : Accent) (base accent : List ℕ) (b : Option (List Command)) (s : State) (asked : List Key)
     → AgreeOn m n (asked_by (composed (found a base accent b (m.glyphs accent)) s (asking_accent b accent asked)))
     → composed (found a base accent b (n.glyphs accent)) s (asking_accent b accent asked) ≡ composed (found a base accent b (m.glyphs accent)) s (asking_accent b accent asked)
 accent-same a base accent None s asked h = refl
@@ -106,7 +106,7 @@ accent-same {m = m} a base accent (Some b) s asked h =
     let keys = subst (λ ks. Includes ks (Glyph accent)) (sym (composed-asks (found a base accent (Some b) (m.glyphs accent)) s (Glyph accent ∷ asked))) (inl refl) in
     ap (λ t. composed (found a base accent (Some b) t) s (Glyph accent ∷ asked)) (sym (h.same (Glyph accent) keys))
 
-names-same : {m n : Maps} (a : Accent) (base accent : Option (List ℕ)) (s : State) (asked : List Key)
+names-same : {m n : FontBodies} (a : Accent) (base accent : Option (List ℕ)) (s : State) (asked : List Key)
     → AgreeOn m n (asked_by (composed (ok_or base F44 >>= (λ base'. ok_or accent F44 >>= (λ accent'. found a base' accent' (m.glyphs base') (m.glyphs accent')))) s (asking_parts base accent m.glyphs asked)))
     → composed (ok_or base F44 >>= (λ base'. ok_or accent F44 >>= (λ accent'. found a base' accent' (n.glyphs base') (n.glyphs accent')))) s (asking_parts base accent n.glyphs asked)
     ≡ composed (ok_or base F44 >>= (λ base'. ok_or accent F44 >>= (λ accent'. found a base' accent' (m.glyphs base') (m.glyphs accent')))) s (asking_parts base accent m.glyphs asked)
@@ -119,7 +119,7 @@ names-same {m = m} {n = n} a (Some base) (Some accent) s asked h =
     ap (λ b. composed (found a base accent b (n.glyphs accent)) s (asking_accent b accent (Glyph base ∷ asked))) (sym (h.same (Glyph base) keys))
     ∙ accent-same {m = m} {n = n} a base accent (m.glyphs base) s (Glyph base ∷ asked) h
 
-act-same : (m n : Maps) (caller caller' : Caller) (next next' : Runner)
+act-same : (m n : FontBodies) (caller caller' : Caller) (next next' : Runner)
     → CallerKeeps caller → Keeps next → SameCaller m n caller caller' → SameRun m n next next'
     → (t : Step) (asked : List Key) → AgreeOn m n (asked_by (act m caller next t asked)) → act n caller' next' t asked ≡ act m caller next t asked
 act-same m n caller caller' next next' calls keeps called_same same (Next s) asked h = same s asked h
@@ -133,19 +133,19 @@ act-same m n caller caller' next next' calls keeps called_same same (Compose a s
     names-same {m = m} {n = n} a (encoded a.base) (encoded a.accent) s asked h
 act-same m n caller caller' next next' calls keeps called_same same (Fault fault) asked h = refl
 
-words-same : (m n : Maps) (caller caller' : Caller) → CallerKeeps caller → SameCaller m n caller caller'
+words-same : (m n : FontBodies) (caller caller' : Caller) → CallerKeeps caller → SameCaller m n caller caller'
     → (cs : List Command) → SameRun m n (words m caller cs) (words n caller' cs)
 words-same m n caller caller' calls called_same [] s asked h = refl
 words-same m n caller caller' calls called_same (c ∷ cs) s asked h =
     act-same m n caller caller' (words m caller cs) (words n caller' cs) calls (words-keeps m caller calls cs) called_same
     (words-same m n caller caller' calls called_same cs) (step c s) asked h
 
-called-same : {m n : Maps} (run run' : List Command → Runner) → ((body : List Command) → SameRun m n (run body) (run' body))
+called-same : {m n : FontBodies} (run run' : List Command → Runner) → ((body : List Command) → SameRun m n (run body) (run' body))
     → (b : Option (List Command)) (k : ℕ) → SameRun m n (called run b k) (called run' b k)
 called-same run run' same None k s asked h = refl
 called-same run run' same (Some body) k s asked h = same body (entering k s) asked h
 
-call_within-same : (m n : Maps) (levels : ℕ) → SameCaller m n (call_within m levels) (call_within n levels)
+call_within-same : (m n : FontBodies) (levels : ℕ) → SameCaller m n (call_within m levels) (call_within n levels)
 call_within-same m n zero k s asked i h =
     let e = h.same (Subr k) (call_within-keeps m zero k s asked (Subr k) i) in
     ap (λ b. called (λ body s' asked'. Failed F33 asked') b k s asked) (sym e)
@@ -157,12 +157,12 @@ call_within-same m n (suc levels) k s asked i h =
     (m.subrs k) k s asked h
 
 -- where the maps agree on all that a body's run asks, the run is the same, with what it asks
-pub ending-same : (m n : Maps) (body : List Command) → AgreeOn m n (asked_by (ending m body)) → ending n body ≡ ending m body
+pub ending-same : (m n : FontBodies) (body : List Command) → AgreeOn m n (asked_by (ending m body)) → ending n body ≡ ending m body
 unfolding ending
 ending-same m n body h =
     words-same m n (call_within m 10) (call_within n 10) (call_within-keeps m 10) (call_within-same m n 10) body initial [] h
 
-body-same : (m n : Maps) (b : Option (List Command)) → AgreeOn m n (asked_of m b) → (own_of n b ≡ own_of m b) × (asked_of n b ≡ asked_of m b)
+body-same : (m n : FontBodies) (b : Option (List Command)) → AgreeOn m n (asked_of m b) → (own_of n b ≡ own_of m b) × (asked_of n b ≡ asked_of m b)
 body-same m n None h = (refl, refl)
 body-same m n (Some body) h =
     (ap (λ e. Some (outcome_of e)) (ending-same m n body h), ap asked_by (ending-same m n body h))

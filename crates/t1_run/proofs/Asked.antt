@@ -14,7 +14,7 @@ use Rattle.t1_run.specs.declared.outline.Accent.{Accent}
 use Rattle.t1_run.specs.declared.outline.Composite.{Composite}
 use Rattle.t1_run.specs.declared.outline.Metric.{Metric}
 use Rattle.t1_run.specs.Footprint.{Includes, Leaves, asks, uses, HasParts, ExactLaw, PartsLaw}
-use Rattle.t1_run.specs.Run.{Maps, Key, Subr, Glyph, Ending, Finished, Returned, Ended, Failed, Runner, Caller, Drawing, go_on, act, words, call_within, called, composed, encoded, asking_accent, asking_parts, entered_with, entering, ending, asked_by, own, own_of, foot, asked_of, drawing_of, outcome_of}
+use Rattle.t1_run.specs.Run.{FontBodies, Key, Subr, Glyph, Ending, Finished, Returned, Ended, Failed, Runner, Caller, Drawing, go_on, act, words, call_within, called, composed, encoded, asking_accent, asking_parts, entered_with, entering, ending, asked_by, own, own_of, foot, asked_of, drawing_of, outcome_of}
 use Rattle.t1_run.specs.State.{State, initial}
 use Rattle.t1_run.specs.Step.{Step, Next, Call, Back, End, Compose, Fault}
 use Rattle.t1_run.specs.Words.{step}
@@ -33,22 +33,22 @@ record Under (s : State) (asked : List Key) : Type 0 where
   steps : s.steps ≤ 100000
 
 -- what holds where a run ends by endchar or seac
-record Over (m : Maps) (composite : Option Composite) (s : State) (asked : List Key) : Type 0 where
+record Over (m : FontBodies) (composite : Option Composite) (s : State) (asked : List Key) : Type 0 where
   keys : Asks composite s.entered asked
   parts : HasParts m composite
   steps : s.steps ≤ 100000
 
-abbrev Ends : Maps → Ending → Type 0
+abbrev Ends : FontBodies → Ending → Type 0
 Ends m (Finished s asked) = Under s asked
 Ends m (Returned s asked) = Under s asked
 Ends m (Ended composite s asked) = Over m composite s asked
 Ends m (Failed fault asked) = Unit {0}
 
-abbrev Runs : Maps → Runner → Type 0
+abbrev Runs : FontBodies → Runner → Type 0
 Runs m run = (s : State) (asked : List Key) → Under s asked → Ends m (run s asked)
 
 -- a caller is given the key of its Subr as one more
-abbrev Calls : Maps → Caller → Type 0
+abbrev Calls : FontBodies → Caller → Type 0
 Calls m caller = (n : ℕ) (s : State) (asked : List Key) → Under s asked → Ends m (caller n s (Subr n ∷ asked))
 
 -- ---- a Subr more
@@ -141,7 +141,7 @@ asks-parts c entered asked h = record { only = only; all = all } where
         | inr same ↦ inl (ap Glyph (bytes_same c.accent g same))
       ]
 
-parts-end : (m : Maps) (a : Accent) (base accent : List ℕ) (b t : Option (List Command)) → m.glyphs base ≡ b → m.glyphs accent ≡ t
+parts-end : (m : FontBodies) (a : Accent) (base accent : List ℕ) (b t : Option (List Command)) → m.glyphs base ≡ b → m.glyphs accent ≡ t
     → (s : State) (asked : List Key) → Under s asked
     → Ends m (composed (ok_or b F45 >>= (λ _. ok_or t F45 >>= (λ _. Ok (record { base = base; accent = accent; asb = a.asb; adx = a.adx; ady = a.ady })))) s (asking_accent b accent (Glyph base ∷ asked)))
 parts-end m a base accent None t e f s asked h = tt
@@ -152,7 +152,7 @@ parts-end m a base accent (Some b) (Some t) e f s asked h = record {
   steps = h.steps;
 }
 
-names-end : (m : Maps) (a : Accent) (base accent : Option (List ℕ)) (s : State) (asked : List Key) → Under s asked
+names-end : (m : FontBodies) (a : Accent) (base accent : Option (List ℕ)) (s : State) (asked : List Key) → Under s asked
     → Ends m (composed (ok_or base F44 >>= (λ base'. ok_or accent F44 >>= (λ accent'. ok_or (m.glyphs base') F45 >>= (λ _. ok_or (m.glyphs accent') F45 >>= (λ _. Ok (record { base = base'; accent = accent'; asb = a.asb; adx = a.adx; ady = a.ady })))))) s (asking_parts base accent m.glyphs asked))
 names-end m a None accent s asked h = tt
 names-end m a (Some base) None s asked h = tt
@@ -163,13 +163,13 @@ names-end m a (Some base) (Some accent) s asked h = parts-end m a base accent (m
 under-stepped : (s t : State) (asked : List Key) → Stepped s t → Under s asked → Under t asked
 under-stepped s t asked st h = record { keys = subst (λ e. Asks None e asked) (sym st.entered) h.keys; steps = st.within }
 
-go_on-ends : (m : Maps) (next : Runner) → Runs m next → (e : Ending) → Ends m e → Ends m (go_on next e)
+go_on-ends : (m : FontBodies) (next : Runner) → Runs m next → (e : Ending) → Ends m e → Ends m (go_on next e)
 go_on-ends m next runs (Finished s asked) h = runs s asked h
 go_on-ends m next runs (Returned s asked) h = runs s asked h
 go_on-ends m next runs (Ended composite s asked) h = h
 go_on-ends m next runs (Failed fault asked) h = tt
 
-act-ends : (m : Maps) (caller : Caller) (next : Runner) → Calls m caller → Runs m next → (s : State) (t : Step) (asked : List Key)
+act-ends : (m : FontBodies) (caller : Caller) (next : Runner) → Calls m caller → Runs m next → (s : State) (t : Step) (asked : List Key)
     → Leaves (Stepped s) t → Under s asked → Ends m (act m caller next t asked)
 act-ends m caller next calls runs s (Next t) asked st h = runs t asked (under-stepped s t asked st h)
 act-ends m caller next calls runs s (Call n t) asked st h =
@@ -181,16 +181,16 @@ act-ends m caller next calls runs s (Compose a t) asked st h =
     names-end m a (encoded a.base) (encoded a.accent) t asked (under-stepped s t asked st h)
 act-ends m caller next calls runs s (Fault fault) asked st h = tt
 
-words-end : (m : Maps) (caller : Caller) → Calls m caller → (cs : List Command) → Runs m (words m caller cs)
+words-end : (m : FontBodies) (caller : Caller) → Calls m caller → (cs : List Command) → Runs m (words m caller cs)
 words-end m caller calls [] s asked h = h
 words-end m caller calls (c ∷ cs) s asked h =
     act-ends m caller (words m caller cs) calls (words-end m caller calls cs) s (step c s) asked (step-leaves c s) h
 
-called-ends : (m : Maps) (run : List Command → Runner) → ((body : List Command) → Runs m (run body)) → (b : Option (List Command)) → Calls m (called run b)
+called-ends : (m : FontBodies) (run : List Command → Runner) → ((body : List Command) → Runs m (run body)) → (b : Option (List Command)) → Calls m (called run b)
 called-ends m run runs None n s asked h = tt
 called-ends m run runs (Some body) n s asked h = runs body (entering n s) (Subr n ∷ asked) (under-entering n s asked h)
 
-call_within-ends : (m : Maps) (levels : ℕ) → Calls m (call_within m levels)
+call_within-ends : (m : FontBodies) (levels : ℕ) → Calls m (call_within m levels)
 call_within-ends m zero n s asked h = called-ends m (λ body s' asked'. Failed F33 asked') (λ body s' asked' h'. tt) (m.subrs n) n s asked h
 call_within-ends m (suc levels) n s asked h =
     called-ends m (words m (call_within m levels)) (words-end m (call_within m levels) (call_within-ends m levels)) (m.subrs n) n s asked h
@@ -204,35 +204,35 @@ none-asked = record { only = only; all = all } where
   all (Subr n) e = let never : false ≡ true = e in absurd (cc)
   all (Glyph g) e = let never : false ≡ true = e in absurd (cc)
 
-ending-ends : (m : Maps) (body : List Command) → Ends m (ending m body)
+ending-ends : (m : FontBodies) (body : List Command) → Ends m (ending m body)
 unfolding ending
 ending-ends m body = words-end m (call_within m 10) (call_within-ends m 10) body initial [] (record { keys = none-asked; steps = omega arith })
 
 -- ---- what a drawing tells
 
-record Told (m : Maps) (d : Drawing) (asked : List Key) : Type 0 where
+record Told (m : FontBodies) (d : Drawing) (asked : List Key) : Type 0 where
   keys : Asks d.composite d.entered asked
   parts : HasParts m d.composite
   steps : d.steps ≤ 100000
 
-told-metric : (m : Maps) (metric : Option Metric) (composite : Option Composite) (s : State) (asked : List Key) (d : Drawing)
+told-metric : (m : FontBodies) (metric : Option Metric) (composite : Option Composite) (s : State) (asked : List Key) (d : Drawing)
     → Over m composite s asked → drawing_of metric composite s ≡ Ok d → Told m d asked
 told-metric m None composite s asked d h e = absurd (cc)
 told-metric m (Some metric) composite s asked d h e =
     let same : record { width = metric.width; bearing = metric.bearing; segments = s.segments; composite = composite; entered = s.entered; steps = s.steps } ≡ d = cc in
     subst (λ d'. Told m d' asked) same (record { keys = h.keys; parts = h.parts; steps = h.steps })
 
-told-ending : (m : Maps) (e : Ending) (d : Drawing) → Ends m e → outcome_of e ≡ Ok d → Told m d (asked_by e)
+told-ending : (m : FontBodies) (e : Ending) (d : Drawing) → Ends m e → outcome_of e ≡ Ok d → Told m d (asked_by e)
 told-ending m (Finished s asked) d h e = absurd (cc)
 told-ending m (Returned s asked) d h e = absurd (cc)
 told-ending m (Ended composite s asked) d h e = told-metric m s.metric composite s asked d h e
 told-ending m (Failed fault asked) d h e = absurd (cc)
 
-told-body : (m : Maps) (b : Option (List Command)) (d : Drawing) → own_of m b ≡ Some (Ok d) → Told m d (asked_of m b)
+told-body : (m : FontBodies) (b : Option (List Command)) (d : Drawing) → own_of m b ≡ Some (Ok d) → Told m d (asked_of m b)
 told-body m None d e = absurd (cc)
 told-body m (Some body) d e = told-ending m (ending m body) d (ending-ends m body) (cc)
 
-told-own : (m : Maps) (g : List ℕ) (d : Drawing) → own m g ≡ Some (Ok d) → Told m d (asked_of m (m.glyphs g))
+told-own : (m : FontBodies) (g : List ℕ) (d : Drawing) → own m g ≡ Some (Ok d) → Told m d (asked_of m (m.glyphs g))
 unfolding own
 told-own m g d e = told-body m (m.glyphs g) d e
 
@@ -263,5 +263,5 @@ exact m g d e k = uses-all g d (asked_of m (m.glyphs g)) (told-own m g d e).keys
 pub parts_there : PartsLaw
 parts_there m g d e = (told-own m g d e).parts
 
-pub steps_within : (m : Maps) (g : List ℕ) (d : Drawing) → own m g ≡ Some (Ok d) → d.steps ≤ 100000
+pub steps_within : (m : FontBodies) (g : List ℕ) (d : Drawing) → own m g ≡ Some (Ok d) → d.steps ≤ 100000
 steps_within m g d e = (told-own m g d e).steps

@@ -11,11 +11,11 @@ use Rattle.t1_run.specs.declared.outline.Point.{Point}
 use Rattle.t1_run.specs.declared.outline.Segment.{Segment}
 use Rattle.t1_run.specs.declared.outline.Segment.TheVariants.{Line}
 use Rattle.t1_run.specs.Composite.{accent_move, joined, outline, outline_foot}
-use Rattle.t1_run.specs.Run.{Maps, Subr, Glyph, own, foot, ending}
+use Rattle.t1_run.specs.Run.{FontBodies, Subr, Glyph, own, foot, ending}
 use Rattle.t1_run.proofs.Rows.{font_of, demo_subrs, pt}
 
 -- the demo font's letter and accent, and a composite of both with this body
-abbrev pub with_composite : List ℕ → List ℕ → List ℕ → Maps
+abbrev pub with_composite : List ℕ → List ℕ → List ℕ → FontBodies
 with_composite letter accent composite =
     font_of demo_subrs (
     (codes "Aacute", composite) ∷
@@ -115,7 +115,7 @@ move_faults = refl
 -- ---- levels
 
 -- a on space, b on a, and so on; four composites may nest
-abbrev pub tower : List ℕ → Maps
+abbrev pub tower : List ℕ → FontBodies
 tower space = font_of [] (
     (codes "space", space) ∷
     (codes "a", codes "0 100 hsbw 0 0 0 32 32 seac") ∷

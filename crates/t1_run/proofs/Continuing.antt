@@ -14,37 +14,37 @@ use Rattle.t1_run.specs.State.{State, initial}
 use Rattle.t1_run.specs.Step.{Next, Call, Back, End, Compose, Fault}
 use Rattle.t1_run.specs.Words.{step}
 use Rattle.t1_run.specs.Machine.{RefusesStep}
-use Rattle.t1_run.specs.Run.{Maps, Key, Subr, Ending, Ended, Failed, go_on, act, words, call_within, called, composed, composite_of, asking_parts, encoded, runs, entering, ending, drawing_of, outcome_of}
+use Rattle.t1_run.specs.Run.{FontBodies, Key, Subr, Ending, Ended, Failed, go_on, act, words, call_within, called, composed, composite_of, asking_parts, encoded, runs, entering, ending, drawing_of, outcome_of}
 
 -- an ending goes on through the bodies that wait, the innermost first; `levels` is what is left where it ended
-abbrev pub resume : Maps → ℕ → List (List Command) → Ending → Ending
+abbrev pub resume : FontBodies → ℕ → List (List Command) → Ending → Ending
 resume m levels [] e = e
 resume m levels (rest ∷ waiting) e = resume m (suc levels) waiting (go_on (runs m (suc levels) rest) e)
 
 -- the present rest from the present state, and then the bodies that wait, end as the whole body does
-pub record Continues (m : Maps) (body rest : List Command) (waiting : List (List Command)) (s : State) : Type 0 where
+pub record Continues (m : FontBodies) (body rest : List Command) (waiting : List (List Command)) (s : State) : Type 0 where
   pub levels : ℕ
   pub asked : List Key
   pub room : levels + length waiting ≡ 10
   pub same : resume m levels waiting (runs m levels rest s asked) ≡ ending m body
 
-resume-ended : (m : Maps) (levels : ℕ) (waiting : List (List Command)) (composite : Option Composite) (s : State) (asked : List Key)
+resume-ended : (m : FontBodies) (levels : ℕ) (waiting : List (List Command)) (composite : Option Composite) (s : State) (asked : List Key)
     → resume m levels waiting (Ended composite s asked) ≡ Ended composite s asked
 resume-ended m levels [] composite s asked = refl
 resume-ended m levels (rest ∷ waiting) composite s asked = resume-ended m (suc levels) waiting composite s asked
 
-resume-failed : (m : Maps) (levels : ℕ) (waiting : List (List Command)) (fault : Code) (asked : List Key)
+resume-failed : (m : FontBodies) (levels : ℕ) (waiting : List (List Command)) (fault : Code) (asked : List Key)
     → resume m levels waiting (Failed fault asked) ≡ Failed fault asked
 resume-failed m levels [] fault asked = refl
 resume-failed m levels (rest ∷ waiting) fault asked = resume-failed m (suc levels) waiting fault asked
 
 -- ---- the run goes on
 
-pub Continues-start : (m : Maps) (body : List Command) → Continues m body body [] initial
+pub Continues-start : (m : FontBodies) (body : List Command) → Continues m body body [] initial
 unfolding ending
 Continues-start m body = record { levels = 10; asked = []; room = refl; same = refl }
 
-pub Continues-next : {m : Maps} {body cs : List Command} {waiting : List (List Command)} {s s' : State} {c : Command}
+pub Continues-next : {m : FontBodies} {body cs : List Command} {waiting : List (List Command)} {s s' : State} {c : Command}
     → Continues m body (c ∷ cs) waiting s → step c s ≡ Next s' → Continues m body cs waiting s'
 Continues-next {m = m} {cs = cs} {waiting = waiting} {s' = s'} h e = record {
   levels = h.levels;
@@ -54,11 +54,11 @@ Continues-next {m = m} {cs = cs} {waiting = waiting} {s' = s'} h e = record {
 }
 
 -- the body of a Subr is over
-pub Continues-finish : {m : Maps} {body rest : List Command} {waiting : List (List Command)} {s : State}
+pub Continues-finish : {m : FontBodies} {body rest : List Command} {waiting : List (List Command)} {s : State}
     → Continues m body [] (rest ∷ waiting) s → Continues m body rest waiting s
 Continues-finish h = record { levels = suc h.levels; asked = h.asked; room = omega (arith, h.room); same = h.same }
 
-pub Continues-back : {m : Maps} {body cs rest : List Command} {waiting : List (List Command)} {s s' : State} {c : Command}
+pub Continues-back : {m : FontBodies} {body cs rest : List Command} {waiting : List (List Command)} {s s' : State} {c : Command}
     → Continues m body (c ∷ cs) (rest ∷ waiting) s → step c s ≡ Back s' → Continues m body rest waiting s'
 Continues-back {m = m} {cs = cs} {rest = rest} {waiting = waiting} {s' = s'} h e = record {
   levels = suc h.levels;
@@ -68,7 +68,7 @@ Continues-back {m = m} {cs = cs} {rest = rest} {waiting = waiting} {s' = s'} h e
 }
 
 -- a call of a Subr that the maps have, with room for it
-call_at : (m : Maps) (body cs sub : List Command) (waiting : List (List Command)) (s s' : State) (c : Command) (n : ℕ)
+call_at : (m : FontBodies) (body cs sub : List Command) (waiting : List (List Command)) (s s' : State) (c : Command) (n : ℕ)
     (levels : ℕ) (asked : List Key) → levels + length waiting ≡ 10
     → resume m levels waiting (runs m levels (c ∷ cs) s asked) ≡ ending m body
     → step c s ≡ Call n s' → m.subrs n ≡ Some sub → length waiting < 10
@@ -85,7 +85,7 @@ call_at m body cs sub waiting s s' c n (suc levels) asked room same e found fits
       ∙ same;
 }
 
-pub Continues-call : {m : Maps} {body cs sub : List Command} {waiting : List (List Command)} {s s' : State} {c : Command} {n : ℕ}
+pub Continues-call : {m : FontBodies} {body cs sub : List Command} {waiting : List (List Command)} {s s' : State} {c : Command} {n : ℕ}
     → Continues m body (c ∷ cs) waiting s → step c s ≡ Call n s' → m.subrs n ≡ Some sub → length waiting < 10
     → Continues m body sub (cs ∷ waiting) (entering n s')
 Continues-call {m = m} {body = body} {cs = cs} {sub = sub} {waiting = waiting} {s = s} {s' = s'} {c = c} {n = n} h e found fits =
@@ -93,31 +93,31 @@ Continues-call {m = m} {body = body} {cs = cs} {sub = sub} {waiting = waiting} {
 
 -- ---- the run is over
 
-pub outcome-end : {m : Maps} {body cs : List Command} {waiting : List (List Command)} {s s' : State} {c : Command}
+pub outcome-end : {m : FontBodies} {body cs : List Command} {waiting : List (List Command)} {s s' : State} {c : Command}
     → Continues m body (c ∷ cs) waiting s → step c s ≡ End s' → outcome_of (ending m body) ≡ drawing_of s'.metric None s'
 outcome-end {m = m} {cs = cs} {waiting = waiting} {s' = s'} h e =
     ap outcome_of (sym h.same
     ∙ ap (λ t. resume m h.levels waiting (act m (call_within m h.levels) (runs m h.levels cs) t h.asked)) e
     ∙ resume-ended m h.levels waiting None s' h.asked)
 
-pub outcome-fault : {m : Maps} {body cs : List Command} {waiting : List (List Command)} {s : State} {c : Command} {fault : Code}
+pub outcome-fault : {m : FontBodies} {body cs : List Command} {waiting : List (List Command)} {s : State} {c : Command} {fault : Code}
     → Continues m body (c ∷ cs) waiting s → step c s ≡ Fault fault → outcome_of (ending m body) ≡ Err fault
 outcome-fault {m = m} {cs = cs} {waiting = waiting} {fault = fault} h e =
     ap outcome_of (sym h.same
     ∙ ap (λ t. resume m h.levels waiting (act m (call_within m h.levels) (runs m h.levels cs) t h.asked)) e
     ∙ resume-failed m h.levels waiting fault h.asked)
 
-pub outcome-finish : {m : Maps} {body : List Command} {s : State}
+pub outcome-finish : {m : FontBodies} {body : List Command} {s : State}
     → Continues m body [] [] s → outcome_of (ending m body) ≡ Err F35
 outcome-finish h = ap outcome_of (sym h.same)
 
-pub outcome-back : {m : Maps} {body cs : List Command} {s s' : State} {c : Command}
+pub outcome-back : {m : FontBodies} {body cs : List Command} {s s' : State} {c : Command}
     → Continues m body (c ∷ cs) [] s → step c s ≡ Back s' → outcome_of (ending m body) ≡ Err F34
 outcome-back {m = m} {cs = cs} h e =
     ap outcome_of (sym h.same ∙ ap (λ t. act m (call_within m h.levels) (runs m h.levels cs) t h.asked) e)
 
 -- a call, where so many levels are left, of a Subr that the maps lack
-missing_at : (m : Maps) (body cs : List Command) (waiting : List (List Command)) (s s' : State) (c : Command) (n : ℕ)
+missing_at : (m : FontBodies) (body cs : List Command) (waiting : List (List Command)) (s s' : State) (c : Command) (n : ℕ)
     (levels : ℕ) (asked : List Key) → resume m levels waiting (runs m levels (c ∷ cs) s asked) ≡ ending m body
     → step c s ≡ Call n s' → m.subrs n ≡ None → outcome_of (ending m body) ≡ Err F32
 missing_at m body cs waiting s s' c n zero asked same e found =
@@ -133,13 +133,13 @@ missing_at m body cs waiting s s' c n (suc levels) asked same e found =
     (go_on (runs m (suc levels) cs) (called (words m (call_within m levels)) b n s' (Subr n ∷ asked)))) found
     ∙ resume-failed m (suc levels) waiting F32 (Subr n ∷ asked))
 
-pub outcome-missing : {m : Maps} {body cs : List Command} {waiting : List (List Command)} {s s' : State} {c : Command} {n : ℕ}
+pub outcome-missing : {m : FontBodies} {body cs : List Command} {waiting : List (List Command)} {s s' : State} {c : Command} {n : ℕ}
     → Continues m body (c ∷ cs) waiting s → step c s ≡ Call n s' → m.subrs n ≡ None → outcome_of (ending m body) ≡ Err F32
 outcome-missing {m = m} {body = body} {cs = cs} {waiting = waiting} {s = s} {s' = s'} {c = c} {n = n} h e found =
     missing_at m body cs waiting s s' c n h.levels h.asked h.same e found
 
 -- a call where ten Subrs are active
-full_at : (m : Maps) (body cs sub : List Command) (waiting : List (List Command)) (s s' : State) (c : Command) (n : ℕ)
+full_at : (m : FontBodies) (body cs sub : List Command) (waiting : List (List Command)) (s s' : State) (c : Command) (n : ℕ)
     (levels : ℕ) (asked : List Key) → levels + length waiting ≡ 10
     → resume m levels waiting (runs m levels (c ∷ cs) s asked) ≡ ending m body
     → step c s ≡ Call n s' → m.subrs n ≡ Some sub → 10 ≤ length waiting → outcome_of (ending m body) ≡ Err F33
@@ -151,14 +151,14 @@ full_at m body cs sub waiting s s' c n zero asked room same e found full =
     (go_on (runs m zero cs) (called (λ body s asked. Failed F33 asked) b n s' (Subr n ∷ asked)))) found
     ∙ resume-failed m zero waiting F33 (Subr n ∷ asked))
 
-pub outcome-full : {m : Maps} {body cs sub : List Command} {waiting : List (List Command)} {s s' : State} {c : Command} {n : ℕ}
+pub outcome-full : {m : FontBodies} {body cs sub : List Command} {waiting : List (List Command)} {s s' : State} {c : Command} {n : ℕ}
     → Continues m body (c ∷ cs) waiting s → step c s ≡ Call n s' → m.subrs n ≡ Some sub → 10 ≤ length waiting
     → outcome_of (ending m body) ≡ Err F33
 outcome-full {m = m} {body = body} {cs = cs} {sub = sub} {waiting = waiting} {s = s} {s' = s'} {c = c} {n = n} h e found full =
     full_at m body cs sub waiting s s' c n h.levels h.asked h.room h.same e found full
 
 -- a composite, where its parts are there, and where one isn't
-pub outcome-compose : {m : Maps} {body cs : List Command} {waiting : List (List Command)} {s s' : State} {c : Command} {a : Accent} {parts : Composite}
+pub outcome-compose : {m : FontBodies} {body cs : List Command} {waiting : List (List Command)} {s s' : State} {c : Command} {a : Accent} {parts : Composite}
     → Continues m body (c ∷ cs) waiting s → step c s ≡ Compose a s' → composite_of m.glyphs a ≡ Ok parts
     → outcome_of (ending m body) ≡ drawing_of s'.metric (Some parts) s'
 outcome-compose {m = m} {cs = cs} {waiting = waiting} {s' = s'} {a = a} {parts = parts} h e found =
@@ -168,7 +168,7 @@ outcome-compose {m = m} {cs = cs} {waiting = waiting} {s' = s'} {a = a} {parts =
     ∙ ap (λ r. resume m h.levels waiting (composed r s' keys)) found
     ∙ resume-ended m h.levels waiting (Some parts) s' keys)
 
-pub outcome-partless : {m : Maps} {body cs : List Command} {waiting : List (List Command)} {s s' : State} {c : Command} {a : Accent} {fault : Code}
+pub outcome-partless : {m : FontBodies} {body cs : List Command} {waiting : List (List Command)} {s s' : State} {c : Command} {a : Accent} {fault : Code}
     → Continues m body (c ∷ cs) waiting s → step c s ≡ Compose a s' → composite_of m.glyphs a ≡ Err fault
     → outcome_of (ending m body) ≡ Err fault
 outcome-partless {m = m} {cs = cs} {waiting = waiting} {s' = s'} {a = a} {fault = fault} h e found =
@@ -180,12 +180,12 @@ outcome-partless {m = m} {cs = cs} {waiting = waiting} {s' = s'} {a = a} {fault 
 
 -- ---- what refuses a word, or the search for parts, refuses the run
 
-pub refused-step : {m : Maps} {body cs : List Command} {waiting : List (List Command)} {s : State} {c : Command} (refusal : Refusal)
+pub refused-step : {m : FontBodies} {body cs : List Command} {waiting : List (List Command)} {s : State} {c : Command} (refusal : Refusal)
     → Continues m body (c ∷ cs) waiting s → RefusesStep refusal (step c s) → Refuses refusal (told_at Nowhere (outcome_of (ending m body)))
 refused-step refusals.Memory h e = tt
 refused-step (refusals.Fault f) h e = ap (told_at Nowhere) (outcome-fault h e.1) ∙ ap Err (sym e.0)
 
-refused_at : {m : Maps} {body cs : List Command} {waiting : List (List Command)} {s s' : State} {c : Command} {a : Accent}
+refused_at : {m : FontBodies} {body cs : List Command} {waiting : List (List Command)} {s s' : State} {c : Command} {a : Accent}
     → Continues m body (c ∷ cs) waiting s → step c s ≡ Compose a s' → (r : Result Composite Code) → composite_of m.glyphs a ≡ r
     → (refusal : Refusal) → Refuses refusal (told_at Nowhere r) → Refuses refusal (told_at Nowhere (outcome_of (ending m body)))
 refused_at h e r found refusals.Memory refused = tt
@@ -194,7 +194,7 @@ refused_at h e (Err fault) found (refusals.Fault f) refused =
     let same : fault_at Nowhere fault ≡ f = cc in
     ap (told_at Nowhere) (outcome-partless h e found) ∙ ap Err same
 
-pub refused-parts : {m : Maps} {body cs : List Command} {waiting : List (List Command)} {s s' : State} {c : Command} {a : Accent} (refusal : Refusal)
+pub refused-parts : {m : FontBodies} {body cs : List Command} {waiting : List (List Command)} {s s' : State} {c : Command} {a : Accent} (refusal : Refusal)
     → Continues m body (c ∷ cs) waiting s → step c s ≡ Compose a s' → Refuses refusal (told_at Nowhere (composite_of m.glyphs a))
     → Refuses refusal (told_at Nowhere (outcome_of (ending m body)))
 refused-parts {m = m} {a = a} refusal h e refused = refused_at h e (composite_of m.glyphs a) refl refusal refused

@@ -8,7 +8,7 @@ use Rattle.t1_run.specs.declared.outline.Composite.{Composite}
 use Rattle.t1_run.specs.declared.outline.Segment.{Segment}
 use Rattle.t1_run.specs.Composite.{joined, with_parts, drawn, outline_within, outline, asked_by_parts, asked_after, foot_within, outline_foot}
 use Rattle.t1_run.specs.Footprint.{Includes, AgreeOn, OutlineFootprintLaw}
-use Rattle.t1_run.specs.Run.{Maps, Key, Drawing, own, foot}
+use Rattle.t1_run.specs.Run.{FontBodies, Key, Drawing, own, foot}
 use Rattle.t1_run.proofs.Agreeing.{agree-part, own_same}
 
 in_first : (ks ls : List Key) (k : Key) → Includes ks k → Includes (ks ++ ls) k
@@ -21,10 +21,10 @@ in_second [] ls k i = i
 in_second (x ∷ ks) ls k i = inr (in_second ks ls k i)
 
 -- the parts of this glyph draw the same in both fonts, from the same keys
-abbrev SameParts : Maps → Maps → (List ℕ → Result (List Segment) Code) → (List ℕ → Result (List Segment) Code) → (List ℕ → List Key) → (List ℕ → List Key) → Type 0
+abbrev SameParts : FontBodies → FontBodies → (List ℕ → Result (List Segment) Code) → (List ℕ → Result (List Segment) Code) → (List ℕ → List Key) → (List ℕ → List Key) → Type 0
 SameParts m n part part' keys keys' = (g : List ℕ) → AgreeOn m n (keys g) → (part' g ≡ part g) × (keys' g ≡ keys g)
 
-parts-same : {m n : Maps} (part part' : List ℕ → Result (List Segment) Code) (keys keys' : List ℕ → List Key) → SameParts m n part part' keys keys'
+parts-same : {m n : FontBodies} (part part' : List ℕ → Result (List Segment) Code) (keys keys' : List ℕ → List Key) → SameParts m n part part' keys keys'
     → (c : Option Composite) (d : Drawing) → AgreeOn m n (asked_by_parts keys c)
     → (with_parts part' c d ≡ with_parts part c d) × (asked_by_parts keys' c ≡ asked_by_parts keys c)
 parts-same part part' keys keys' same None d h = (refl, refl)
@@ -36,14 +36,14 @@ parts-same part part' keys keys' same (Some c) d h =
       ap (λ ks. ks ++ keys' c.accent) base.1 ∙ ap (λ ks. keys c.base ++ ks) accent.1,
     )
 
-drawn-same : {m n : Maps} (part part' : List ℕ → Result (List Segment) Code) (keys keys' : List ℕ → List Key) → SameParts m n part part' keys keys'
+drawn-same : {m n : FontBodies} (part part' : List ℕ → Result (List Segment) Code) (keys keys' : List ℕ → List Key) → SameParts m n part part' keys keys'
     → (r : Option (Result Drawing Code)) → AgreeOn m n (asked_after keys r)
     → (drawn part' r ≡ drawn part r) × (asked_after keys' r ≡ asked_after keys r)
 drawn-same part part' keys keys' same None h = (refl, refl)
 drawn-same part part' keys keys' same (Some (Err fault)) h = (refl, refl)
 drawn-same part part' keys keys' same (Some (Ok d)) h = parts-same part part' keys keys' same d.composite d h
 
-within-same : (m n : Maps) (depth : ℕ)
+within-same : (m n : FontBodies) (depth : ℕ)
     → SameParts m n (outline_within (own m) depth) (outline_within (own n) depth) (foot_within m depth) (foot_within n depth)
 within-same m n zero g h =
     let e = own_same m n g h in

@@ -15,7 +15,7 @@ use Rattle.t1_code.specs.declared.command.Command.{Command}
 use Rattle.t1_run.specs.declared.outline.Point.{Point}
 use Rattle.t1_run.specs.declared.outline.Segment.{Segment}
 use Rattle.t1_run.specs.declared.outline.Segment.TheVariants.{Line, Curve}
-use Rattle.t1_run.specs.Run.{Maps, Drawing, Subr, Glyph, own, foot, ending}
+use Rattle.t1_run.specs.Run.{FontBodies, Drawing, Subr, Glyph, own, foot, ending}
 
 -- ---- fonts by the texts of their bodies
 
@@ -27,14 +27,14 @@ compiled (Err code) = []
 abbrev pub body : List ℕ → List Command
 body text = compiled (commands (words text))
 
-abbrev pub font_of : List (ℕ × List ℕ) → List (List ℕ × List ℕ) → Maps
+abbrev pub font_of : List (ℕ × List ℕ) → List (List ℕ × List ℕ) → FontBodies
 font_of subrs glyphs = record {
   subrs = λ n. option_map body (lookup (nat_eq n) subrs);
   glyphs = λ g. option_map body (lookup (bytes_eq g) glyphs);
 }
 
 -- a font of the glyph space alone
-abbrev pub small : List ℕ → Maps
+abbrev pub small : List ℕ → FontBodies
 small text = font_of [] ((codes "space", text) ∷ [])
 
 -- the Subrs of the demo font: three for flex, one for hint replacement, and a line
@@ -47,7 +47,7 @@ demo_subrs =
     (4, codes "100 178 rlineto return") ∷
     []
 
-abbrev pub demo : List ℕ → Maps
+abbrev pub demo : List ℕ → FontBodies
 demo text = font_of demo_subrs ((codes "V", text) ∷ [])
 
 -- ---- what is looked at

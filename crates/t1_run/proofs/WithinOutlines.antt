@@ -11,7 +11,7 @@ use Rattle.t1_run.specs.declared.outline.Point.{Point}
 use Rattle.t1_run.specs.declared.outline.Segment.{Segment}
 use Rattle.t1_run.specs.declared.outline.Segment.TheVariants.{Line, Curve}
 use Rattle.t1_run.specs.Composite.{accent_move, moved_point, moved_segment, moved_outline, joined, joined_with, with_parts, drawn, outline_within, outline, IsPoint, IsWithin}
-use Rattle.t1_run.specs.Run.{Maps, Drawing, own}
+use Rattle.t1_run.specs.Run.{FontBodies, Drawing, own}
 use Rattle.t1_run.specs.Within.{DrawnWithinLaw}
 use Rattle.t1_run.proofs.Within.{IsValue, IsPlace, IsPlaced, IsDrawn, AllDrawn, bind-ok, each-append, sum-place, difference-place, moved-placed, outline-stays}
 use Rattle.t1_run.proofs.WithinRuns.{PartsWithin, DrawingWithin, OwnWithin, own-within}
@@ -81,11 +81,11 @@ drawn-drawn part parts None h = tt
 drawn-drawn part parts (Some (Err fault)) h = tt
 drawn-drawn part parts (Some (Ok d)) h = with_parts-drawn part parts d.composite d h
 
-outline_within-drawn : (m : Maps) (depth : ℕ) → PartsDrawn (outline_within (own m) depth)
+outline_within-drawn : (m : FontBodies) (depth : ℕ) → PartsDrawn (outline_within (own m) depth)
 outline_within-drawn m zero g = drawn-drawn (λ part. Err F46) (λ part. tt) (own m g) (own-within m g)
 outline_within-drawn m (suc depth) g = drawn-drawn (outline_within (own m) depth) (outline_within-drawn m depth) (own m g) (own-within m g)
 
-outline-drawn : (m : Maps) (g : List ℕ) → IfOk (outline m g) AllDrawn
+outline-drawn : (m : FontBodies) (g : List ℕ) → IfOk (outline m g) AllDrawn
 unfolding outline
 outline-drawn m g = outline_within-drawn m 4 g
 
@@ -111,12 +111,12 @@ each-within (Ok segments) h = all-within segments h
 each-within (Err fault) h = tt
 
 -- each point of a glyph's outline is within the limits
-pub outline-within_limits : (m : Maps) (g : List ℕ) → IfOk (outline m g) (All IsWithin)
+pub outline-within_limits : (m : FontBodies) (g : List ℕ) → IfOk (outline m g) (All IsWithin)
 outline-within_limits m g = each-within (outline m g) (outline-drawn m g)
 
 -- ---- the law
 
-own-drawn : (m : Maps) (g : List ℕ) (d : Drawing) → own m g ≡ Some (Ok d) → DrawingWithin d
+own-drawn : (m : FontBodies) (g : List ℕ) (d : Drawing) → own m g ≡ Some (Ok d) → DrawingWithin d
 own-drawn m g d e = subst OwnWithin e (own-within m g)
 
 pub drawn_within : DrawnWithinLaw

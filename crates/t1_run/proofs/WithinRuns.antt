@@ -9,7 +9,7 @@ use Rattle.t1_code.specs.declared.command.Command.{Command}
 use Rattle.t1_run.specs.declared.outline.Accent.{Accent}
 use Rattle.t1_run.specs.declared.outline.Composite.{Composite}
 use Rattle.t1_run.specs.declared.outline.Metric.{Metric}
-use Rattle.t1_run.specs.Run.{Maps, Key, Subr, Ending, Finished, Returned, Ended, Failed, Runner, Caller, Drawing, go_on, act, words, call_within, called, composed, composite_of, encoded, asking_parts, entering, ending, own, own_of, drawing_of, outcome_of}
+use Rattle.t1_run.specs.Run.{FontBodies, Key, Subr, Ending, Finished, Returned, Ended, Failed, Runner, Caller, Drawing, go_on, act, words, call_within, called, composed, composite_of, encoded, asking_parts, entering, ending, own, own_of, drawing_of, outcome_of}
 use Rattle.t1_run.specs.State.{State, initial}
 use Rattle.t1_run.specs.Step.{Step, Next, Call, Back, End, Compose, Fault}
 use Rattle.t1_run.specs.Words.{step}
@@ -60,7 +60,7 @@ go_on-within next runs (Returned s asked) h = runs s asked h
 go_on-within next runs (Ended composite s asked) h = h
 go_on-within next runs (Failed fault asked) h = tt
 
-act-within : (m : Maps) (caller : Caller) (next : Runner) → CallsWithin caller → RunsWithin next
+act-within : (m : FontBodies) (caller : Caller) (next : Runner) → CallsWithin caller → RunsWithin next
     → (t : Step) (asked : List Key) → StepWithin t → EndWithin (act m caller next t asked)
 act-within m caller next calls runs (Next s) asked h = runs s asked h
 act-within m caller next calls runs (Call n s) asked h =
@@ -71,7 +71,7 @@ act-within m caller next calls runs (Compose a s) asked h =
     composed-within (composite_of m.glyphs a) s (asking_parts (encoded a.base) (encoded a.accent) m.glyphs asked) (composite-within m.glyphs a h.0) h.1
 act-within m caller next calls runs (Fault fault) asked h = tt
 
-words-within : (m : Maps) (caller : Caller) → CallsWithin caller → (cs : List Command) → RunsWithin (words m caller cs)
+words-within : (m : FontBodies) (caller : Caller) → CallsWithin caller → (cs : List Command) → RunsWithin (words m caller cs)
 words-within m caller calls [] s asked h = h
 words-within m caller calls (c ∷ cs) s asked h =
     act-within m caller (words m caller cs) calls (words-within m caller calls cs) (step c s) asked (step-within c s h)
@@ -84,7 +84,7 @@ called-within : (run : List Command → Runner) → ((body : List Command) → R
 called-within run runs None n s asked h = tt
 called-within run runs (Some body) n s asked h = runs body (entering n s) asked (entering-within n s h)
 
-calls-within : (m : Maps) (levels : ℕ) → CallsWithin (call_within m levels)
+calls-within : (m : FontBodies) (levels : ℕ) → CallsWithin (call_within m levels)
 calls-within m zero n s asked h = called-within (λ body s' asked'. Failed F33 asked') (λ body s' asked' h'. tt) (m.subrs n) n s asked h
 calls-within m (suc levels) n s asked h =
     called-within (words m (call_within m levels)) (words-within m (call_within m levels) (calls-within m levels)) (m.subrs n) n s asked h
@@ -99,7 +99,7 @@ initial-within = record {
   segments = tt;
 }
 
-ending-within : (m : Maps) (body : List Command) → EndWithin (ending m body)
+ending-within : (m : FontBodies) (body : List Command) → EndWithin (ending m body)
 unfolding ending
 ending-within m body = words-within m (call_within m 10) (calls-within m 10) body initial [] initial-within
 
@@ -126,10 +126,10 @@ outcome-within (Returned s asked) h = tt
 outcome-within (Ended composite s asked) h = drawing-within s.metric composite s h.1.metric h.0 h.1
 outcome-within (Failed fault asked) h = tt
 
-body-within : (m : Maps) (b : Option (List Command)) → OwnWithin (own_of m b)
+body-within : (m : FontBodies) (b : Option (List Command)) → OwnWithin (own_of m b)
 body-within m None = tt
 body-within m (Some body) = outcome-within (ending m body) (ending-within m body)
 
-pub own-within : (m : Maps) (g : List ℕ) → OwnWithin (own m g)
+pub own-within : (m : FontBodies) (g : List ℕ) → OwnWithin (own m g)
 unfolding own
 own-within m g = body-within m (m.glyphs g)

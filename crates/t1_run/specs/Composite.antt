@@ -9,7 +9,7 @@ use Rattle.t1_run.specs.declared.outline.Point.{Point}
 use Rattle.t1_run.specs.declared.outline.Segment.{Segment}
 use Rattle.t1_run.specs.declared.outline.Segment.TheVariants.{Line, Curve}
 use Rattle.t1_run.specs.Step.{moved}
-use Rattle.t1_run.specs.Run.{Maps, Key, Drawing, own, foot}
+use Rattle.t1_run.specs.Run.{FontBodies, Key, Drawing, own, foot}
 
 -- Type 1 Font Format, chapter 6 (seac): how far the accent's origin is moved, by the composite's own side bearing
 abbrev pub accent_move : Point → Composite → Result Point Code
@@ -71,7 +71,7 @@ outline_within run zero glyph = drawn (λ part. Err F46) (run glyph)
 outline_within run (suc depth) glyph = drawn (outline_within run depth) (run glyph)
 
 -- profile, limits: composites nest four deep
-unfoldable pub outline : Maps → List ℕ → Result (List Segment) Code
+unfoldable pub outline : FontBodies → List ℕ → Result (List Segment) Code
 outline m glyph = outline_within (own m) 4 glyph
 
 -- ---- what an outline depends on
@@ -86,12 +86,12 @@ asked_after part (Some (Err fault)) = []
 asked_after part (Some (Ok d)) = asked_by_parts part d.composite
 
 -- profile: a glyph's own footprint and those of its parts, so deep
-abbrev pub foot_within : Maps → ℕ → List ℕ → List Key
+abbrev pub foot_within : FontBodies → ℕ → List ℕ → List Key
 foot_within m zero glyph = foot m glyph
 foot_within m (suc depth) glyph = foot m glyph ++ asked_after (foot_within m depth) (own m glyph)
 
 -- profile: the footprint of a glyph's outline
-unfoldable pub outline_foot : Maps → List ℕ → List Key
+unfoldable pub outline_foot : FontBodies → List ℕ → List Key
 outline_foot m glyph = foot_within m 4 glyph
 
 -- ---- points within the limits

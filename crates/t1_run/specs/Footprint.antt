@@ -8,7 +8,7 @@ use Rattle.t1_run.specs.declared.outline.Composite.{Composite}
 use Rattle.t1_run.specs.State.{State}
 use Rattle.t1_run.specs.Step.{Step, Next, Call, Back, End, Compose, Fault}
 use Rattle.t1_run.specs.Words.{step}
-use Rattle.t1_run.specs.Run.{Maps, Key, Subr, Glyph, Drawing, own, foot}
+use Rattle.t1_run.specs.Run.{FontBodies, Key, Subr, Glyph, Drawing, own, foot}
 use Rattle.t1_run.specs.Composite.{outline, outline_foot}
 
 -- the key is among these
@@ -17,22 +17,22 @@ Includes [] k = ⊥
 Includes (first ∷ ks) k = (first ≡ k) ⊎ Includes ks k
 
 -- both pairs of maps give the same for this key
-abbrev pub SameAt : Maps → Maps → Key → Type 0
+abbrev pub SameAt : FontBodies → FontBodies → Key → Type 0
 SameAt m n (Subr k) = m.subrs k ≡ n.subrs k
 SameAt m n (Glyph g) = m.glyphs g ≡ n.glyphs g
 
 -- both pairs of maps give the same body, or both none, for each of these keys
-pub record AgreeOn (m n : Maps) (ks : List Key) : Type 0 where
+pub record AgreeOn (m n : FontBodies) (ks : List Key) : Type 0 where
   pub same : (k : Key) → Includes ks k → SameAt m n k
 
 -- what a glyph's own body draws, or its fault, and its footprint are the same in all fonts that agree on the footprint
 abbrev pub FootprintLaw : Type 0
-FootprintLaw = (m n : Maps) (g : List ℕ) → AgreeOn m n (foot m g) → (own n g ≡ own m g) × (foot n g ≡ foot m g)
+FootprintLaw = (m n : FontBodies) (g : List ℕ) → AgreeOn m n (foot m g) → (own n g ≡ own m g) × (foot n g ≡ foot m g)
 
 -- so are a glyph's outline, or its fault, and the footprint of the outline
 abbrev pub OutlineFootprintLaw : Type 0
 OutlineFootprintLaw =
-    (m n : Maps) (g : List ℕ) → AgreeOn m n (outline_foot m g)
+    (m n : FontBodies) (g : List ℕ) → AgreeOn m n (outline_foot m g)
     → (outline n g ≡ outline m g) × (outline_foot n g ≡ outline_foot m g)
 
 -- the glyph is a part of the composite
@@ -52,16 +52,16 @@ uses g d (Glyph h) = bytes_eq g h || asks d.composite d.entered (Glyph h)
 
 -- the footprint of a run without a fault is the glyph, the Subrs entered and the parts, and nothing else
 abbrev pub ExactLaw : Type 0
-ExactLaw = (m : Maps) (g : List ℕ) (d : Drawing) → own m g ≡ Some (Ok d) → (k : Key) → Includes (foot m g) k ↔ (uses g d k ≡ true)
+ExactLaw = (m : FontBodies) (g : List ℕ) (d : Drawing) → own m g ≡ Some (Ok d) → (k : Key) → Includes (foot m g) k ↔ (uses g d k ≡ true)
 
 -- the maps have the composite's parts
-abbrev pub HasParts : Maps → Option Composite → Type 0
+abbrev pub HasParts : FontBodies → Option Composite → Type 0
 HasParts m None = Unit {0}
 HasParts m (Some c) = ((base : List Command) × (m.glyphs c.base ≡ Some base)) × ((accent : List Command) × (m.glyphs c.accent ≡ Some accent))
 
 -- a composite without a fault has its parts
 abbrev pub PartsLaw : Type 0
-PartsLaw = (m : Maps) (g : List ℕ) (d : Drawing) → own m g ≡ Some (Ok d) → HasParts m d.composite
+PartsLaw = (m : FontBodies) (g : List ℕ) (d : Drawing) → own m g ≡ Some (Ok d) → HasParts m d.composite
 
 -- ---- steps
 
@@ -77,7 +77,7 @@ Leaves P (Fault fault) = Unit {0}
 -- what a run of so many steps at most promises
 pub record StepsLaw : Type 0 where
   -- a run without a fault made at most 100,000
-  pub bounded : (m : Maps) (g : List ℕ) (d : Drawing) → own m g ≡ Some (Ok d) → d.steps ≤ 100000
+  pub bounded : (m : FontBodies) (g : List ℕ) (d : Drawing) → own m g ≡ Some (Ok d) → d.steps ≤ 100000
   -- each word is one step more
   pub counted : (c : Command) (s : State) → Leaves (λ t. t.steps ≡ s.steps + 1) (step c s)
   -- a word is refused by F47 exactly where so many steps were made before it

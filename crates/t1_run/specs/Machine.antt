@@ -15,7 +15,7 @@ use Rattle.t1_run.specs.declared.state.Control.TheVariants as controls
 use Rattle.t1_run.specs.State.{State}
 use Rattle.t1_run.specs.Step.{Step, Next, Call, Back, End, Compose, Fault}
 use Rattle.t1_run.specs.OtherSubrs.{end_flex, start_flex, add_flex}
-use Rattle.t1_run.specs.Run.{Drawing, Numbered}
+use Rattle.t1_run.specs.Run.{Drawing, NumberedRun}
 use Rattle.t1_run.specs.declared.othersubrs.Effect.{Effect}
 use Rattle.t1_run.specs.declared.othersubrs.Effect.TheVariants.{EndFlex, StartFlex, RecordPoint, Leave, Discard}
 
@@ -51,7 +51,7 @@ Tells step (Ok control) now = step ≡ told control (state_of now)
 Tells step (Err refused) now = RefusesStep refused step
 
 -- a call answers what the own body of a glyph of the maps draws, or its fault at no place, unless memory ran out
-abbrev pub GivesOwn : Result Numbered Refusal → Option (Result Drawing Code) → Type 0
+abbrev pub GivesOwn : Result NumberedRun Refusal → Option (Result Drawing Code) → Type 0
 GivesOwn result None = ⊥
 GivesOwn result (Some outcome) = Gives (λ run. run.drawing) result (told_at Nowhere outcome)
 

@@ -16,11 +16,11 @@ use Rattle.t1_run.specs.Step.{Step, Next, Call, Back, End, Compose, Fault}
 use Rattle.t1_run.specs.Words.{step}
 
 -- profile: the compiled bodies of a font, by Subr number and by glyph name
-pub record Maps : Type 0 where
+pub record FontBodies : Type 0 where
   pub subrs : ℕ → Option (List Command)
   pub glyphs : List ℕ → Option (List Command)
 
-abbrev pub font : (ℕ → Option (List Command)) → (List ℕ → Option (List Command)) → Maps
+abbrev pub font : (ℕ → Option (List Command)) → (List ℕ → Option (List Command)) → FontBodies
 font subrs glyphs = record { subrs = subrs; glyphs = glyphs }
 
 -- profile: what may be asked of the maps
@@ -93,7 +93,7 @@ go_on next (Ended composite s asked) = Ended composite s asked
 go_on next (Failed fault asked) = Failed fault asked
 
 -- what a word's step does to the run
-abbrev pub act : Maps → Caller → Runner → Step → List Key → Ending
+abbrev pub act : FontBodies → Caller → Runner → Step → List Key → Ending
 act m caller next (Next s) asked = next s asked
 act m caller next (Call n s) asked = go_on next (caller n s (Subr n ∷ asked))
 act m caller next (Back s) asked = Returned s asked
@@ -102,7 +102,7 @@ act m caller next (Compose a s) asked = composed (composite_of m.glyphs a) s (as
 act m caller next (Fault fault) asked = Failed fault asked
 
 -- Type 1 Font Format, chapter 6: the words one after another
-abbrev pub words : Maps → Caller → List Command → Runner
+abbrev pub words : FontBodies → Caller → List Command → Runner
 words m caller [] s asked = Finished s asked
 words m caller (c ∷ cs) s asked = act m caller (words m caller cs) (step c s) asked
 
@@ -112,15 +112,15 @@ called run None n s asked = Failed F32 asked
 called run (Some body) n s asked = run body (entering n s) asked
 
 -- profile, limits: a call, where so many Subrs more may be active at once
-abbrev pub call_within : Maps → ℕ → Caller
+abbrev pub call_within : FontBodies → ℕ → Caller
 call_within m zero n s asked = called (λ body s' asked'. Failed F33 asked') (m.subrs n) n s asked
 call_within m (suc levels) n s asked = called (words m (call_within m levels)) (m.subrs n) n s asked
 
-abbrev pub runs : Maps → ℕ → List Command → Runner
+abbrev pub runs : FontBodies → ℕ → List Command → Runner
 runs m levels = words m (call_within m levels)
 
 -- profile, limits: a glyph's own body, in which ten Subrs may be active
-unfoldable pub ending : Maps → List Command → Ending
+unfoldable pub ending : FontBodies → List Command → Ending
 ending m body = runs m 10 body initial []
 
 -- ---- what a run tells
@@ -134,7 +134,7 @@ pub record Drawing : Type 0 where
   pub steps : ℕ
 
 -- what a run tells, with its number among the runs
-pub record Numbered : Type 0 where
+pub record NumberedRun : Type 0 where
   pub drawing : Drawing
   pub serial : ℕ
 
@@ -164,17 +164,17 @@ asked_by (Returned s asked) = asked
 asked_by (Ended composite s asked) = asked
 asked_by (Failed fault asked) = asked
 
-abbrev pub own_of : Maps → Option (List Command) → Option (Result Drawing Code)
+abbrev pub own_of : FontBodies → Option (List Command) → Option (Result Drawing Code)
 own_of m body = option_map (λ cs. outcome_of (ending m cs)) body
 
-abbrev pub asked_of : Maps → Option (List Command) → List Key
+abbrev pub asked_of : FontBodies → Option (List Command) → List Key
 asked_of m None = []
 asked_of m (Some body) = asked_by (ending m body)
 
 -- profile: what the own body of a glyph of the maps draws, or its first fault
-unfoldable pub own : Maps → List ℕ → Option (Result Drawing Code)
+unfoldable pub own : FontBodies → List ℕ → Option (Result Drawing Code)
 own m glyph = own_of m (m.glyphs glyph)
 
 -- profile: the glyph, and what the run of its own body asks of the maps, whether it is there or not
-unfoldable pub foot : Maps → List ℕ → List Key
+unfoldable pub foot : FontBodies → List ℕ → List Key
 foot m glyph = Glyph glyph ∷ asked_of m (m.glyphs glyph)

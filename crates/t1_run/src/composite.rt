@@ -7,7 +7,7 @@ ghost use Rattle.t1_run.specs.Machine.{AppendsMoved};
 
 use crate::moving::moved_segment;
 use crate::outline::{Composite, Point, Segment};
-use crate::told::Run;
+use crate::outcome::Run;
 use std::alloc::Global;
 use t1_frac::{Code, Place, Refusal};
 

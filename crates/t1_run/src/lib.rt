@@ -20,7 +20,7 @@ mod runner;
 mod seac;
 mod state;
 mod step;
-mod told;
+mod outcome;
 
 pub use bodies::Bodies;
 pub use composite::{accent_move, join};
@@ -29,7 +29,7 @@ pub use moving::{moved_point, moved_segment};
 pub use outline::{Composite, Point, Segment};
 pub use plain::Plain;
 pub use runner::run;
-pub use told::Run;
+pub use outcome::Run;
 
 #[cfg(test)]
 mod tests;

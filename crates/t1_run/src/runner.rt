@@ -10,7 +10,7 @@ use crate::meter::Meter;
 use crate::returns::ReturnStack;
 use crate::seac::find_parts;
 use crate::state::{Control, State};
-use crate::told::Run;
+use crate::outcome::Run;
 use std::alloc::Global;
 use t1_code::Command;
 use t1_frac::{Code, Place, Refusal};

@@ -7,7 +7,7 @@ use Rattle.t1_frac.specs.Words.{words}
 use Rattle.t1_session.specs.declared.error.ServeError.{ServeError}
 use Rattle.t1_session.specs.declared.error.ServeError.TheVariants as errors
 use Rattle.t1_session.specs.declared.request.Request.{Request}
-use Rattle.t1_source.specs.Lines.{unified}
+use Rattle.t1_text.specs.Lines.{unified}
 use Rattle.t1_session.specs.Lines.{lines_so_far, is_unbroken, behind_return, ends_line}
 use Rattle.t1_session.specs.Requests.{Opening, requests_of, open_request}
 use Rattle.t1_session.specs.Replies.{reply_text}

@@ -3,14 +3,14 @@ use Rattle.std.proofs.Common.{◌≡◌, ℕ, List, Result, Ok, Err, refl}
 use Rattle.t1_frac.specs.declared.fault.Fault.{Fault}
 use Rattle.t1_frac.specs.Outcome.{◌>>=◌}
 use Rattle.t1_afm.specs.Afm.{afm}
-use Rattle.t1_glyphs.specs.Bodies.{bodies}
-use Rattle.t1_glyphs.specs.Glyphs.{Glyph, glyphs, glyph_names}
-use Rattle.t1_glyphs.specs.Shapes.{Measured, measured}
-use Rattle.t1_glyphs.specs.Sheet.{sheet}
-use Rattle.t1_session.specs.Assembly.{file_check}
-use Rattle.t1_session.specs.Measuring.{MetricsTellFirstFault, metrics_file}
+use Rattle.t1_font.specs.Bodies.{bodies}
+use Rattle.t1_font.specs.Glyphs.{Glyph, glyphs, glyph_names}
+use Rattle.t1_font.specs.MeasuredGlyphs.{MeasuredFont, measured}
+use Rattle.t1_font.specs.FontMetrics.{metrics_of}
+use Rattle.t1_font.specs.Assembly.{file_check}
+use Rattle.t1_session.specs.Files.{MetricsTellFirstFault, metrics_file}
 
-same_fault : (checked : Result (Unit {0}) Fault) (found : Result (List Glyph) Fault) (told : List Glyph → Measured) (file : Measured → List ℕ)
+same_fault : (checked : Result (Unit {0}) Fault) (found : Result (List Glyph) Fault) (told : List Glyph → MeasuredFont) (file : MeasuredFont → List ℕ)
     → ◌≡◌ {A = Result (Unit {0}) Fault}
     ((checked >>= λ c. (found >>= λ glyphs. Ok (told glyphs)) >>= λ measured. Ok (file measured)) >>= λ text. Ok (tt {0}))
     ((checked >>= λ c. found) >>= λ glyphs. Ok (tt {0}))
@@ -21,4 +21,4 @@ same_fault (Err fault) found told file = refl
 pub metrics_tell_first : MetricsTellFirstFault
 unfolding metrics_file measured
 metrics_tell_first source kerning s ps read paired =
-    rw (read, paired) (same_fault (file_check s) (glyphs (bodies s.items) (glyph_names s.items)) _ (λ measured. afm (sheet s ps measured)))
+    rw (read, paired) (same_fault (file_check s) (glyphs (bodies s.items) (glyph_names s.items)) _ (λ measured. afm (metrics_of s ps measured)))

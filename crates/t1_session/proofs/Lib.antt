@@ -2,8 +2,6 @@ pub mod Conversations
 pub mod Delivering
 pub mod FaultLaws
 pub mod FileLaws
-pub mod Gathering
-pub mod LengthLaws
 pub mod LineLaws
 pub mod Rows
 pub mod Sessions

@@ -3,7 +3,7 @@ use Rattle.std.specs.Prelude.{ℕ, Bool, false, ◌&&◌, if◌then◌else◌, L
 use Rattle.t1_session.specs.declared.request.Request.{Request}
 use Rattle.t1_session.specs.declared.reply.Reply.{Reply}
 use Rattle.t1_session.specs.declared.reply.Reply.TheVariants.{OutOfMemory}
-use Rattle.t1_source.specs.Lines.{unified}
+use Rattle.t1_text.specs.Lines.{unified}
 use Rattle.t1_session.specs.Lines.{behind_return, lines_so_far}
 use Rattle.t1_session.specs.Requests.{Opening, requests_of}
 use Rattle.t1_session.specs.Replies.{reply_text}

@@ -1,10 +1,9 @@
 pub mod Answers
-pub mod Assembly
 pub mod Delivery
 pub mod Dialogues
+pub mod Files
 pub mod Lines
 pub mod Machine
-pub mod Measuring
 pub mod Replies
 pub mod Requests
 pub mod Serving

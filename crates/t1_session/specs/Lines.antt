@@ -1,7 +1,7 @@
 -- The lines of a session's input.
 use Rattle.std.specs.Prelude.{ℕ, Bool, not, ◌==◌, ◌&&◌, ◌||◌, if◌then◌else◌, List, drop, take, count_by}
 use Rattle.std.specs.List.{list_all}
-use Rattle.t1_source.specs.Lines.{begins_with, split_lines}
+use Rattle.t1_text.specs.Lines.{begins_with, split_lines}
 
 -- how many lines of a text have their end
 abbrev pub ended_lines : List ℕ → ℕ

@@ -3,10 +3,10 @@ use Rattle.std.specs.Prelude.{◌≡◌, ℕ, List, Result, Ok, Err}
 use Rattle.t1_frac.specs.declared.fault.Fault.{Fault}
 use Rattle.t1_frac.specs.Outcome.{◌>>=◌}
 use Rattle.t1_source.specs.declared.pairs.Pair.{Pair}
-use Rattle.t1_source.specs.Form.{Form}
-use Rattle.t1_source.specs.Reading.{reads}
+use Rattle.t1_parts.specs.SourceParts.{SourceParts}
+use Rattle.t1_parts.specs.Reading.{reads}
 use Rattle.t1_source.specs.Kerning.{pairs, kern}
-use Rattle.t1_source.specs.Printing.{text}
+use Rattle.t1_parts.specs.Printing.{text}
 use Rattle.t1_code.specs.Pfb.{whole_file}
 use Rattle.t1_source.specs.declared.edit.Rule.{Rule}
 use Rattle.t1_session.specs.declared.print.Print.{Print}
@@ -16,7 +16,7 @@ use Rattle.t1_session.specs.declared.reply.Reply.TheVariants.{Accepted, Broken, 
 use Rattle.t1_session.specs.declared.request.Request.{Request}
 use Rattle.t1_session.specs.declared.request.Request.TheVariants as requests
 use Rattle.t1_session.specs.Answers.{Performed, Machine}
-use Rattle.t1_session.specs.Assembly.{source_file, file_check}
+use Rattle.t1_font.specs.Assembly.{source_file, file_check}
 use Rattle.t1_source.specs.Editing.{edited}
 use Rattle.t1_session.specs.Requests.{may_want_memory}
 use Rattle.t1_session.specs.State.{State}
@@ -27,7 +27,7 @@ judged_file old new (Ok checked) = record { reply = Accepted; next = new }
 judged_file old new (Err fault) = record { reply = Faulty fault; next = old }
 
 -- profile, edits: an edit that is refused leaves the state as it was
-abbrev pub judged : State → Result (Form × List Pair) Rule → Performed State
+abbrev pub judged : State → Result (SourceParts × List Pair) Rule → Performed State
 judged old (Ok made) = judged_file old (record { source = made.0; pairs = made.1 }) (file_check made.0)
 judged old (Err rule) = record { reply = Broken rule; next = old }
 

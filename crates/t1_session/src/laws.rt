@@ -1,6 +1,6 @@
 //! Laws of sessions.
 ghost use Rattle.t1_session.specs.Machine.{OpensWithFile, KeepsFile};
-ghost use Rattle.t1_session.specs.Measuring.{MetricsTellFirstFault};
+ghost use Rattle.t1_session.specs.Files.{MetricsTellFirstFault};
 
 /// The source of a session always has its PFB file, so that a print tells no fault.
 pub fn a_session_has_its_file()

@@ -3,15 +3,13 @@
 #![tactic(auto)]
 
 mod answering;
-mod assembly;
+mod assembling;
 mod dialogue;
 mod error;
 pub mod laws;
-mod lengths;
 mod measuring;
 mod numbers;
 mod print;
-mod private;
 mod reply;
 mod request;
 mod serving;
@@ -19,7 +17,7 @@ mod session;
 #[cfg(test)]
 mod tests;
 
-pub use assembly::assemble_source;
+pub use assembling::assemble_source;
 pub use error::ServeError;
 pub use measuring::measure_source;
 pub use serving::serve;

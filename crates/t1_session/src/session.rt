@@ -22,15 +22,14 @@ impl Model for Session {
 ghost use Rattle.std.specs.Prelude.{◌≡◌, true, IfOk, OnOk, OnErr};
 ghost use Rattle.t1_frac.specs.Outcome.{Gives};
 ghost use Rattle.t1_source.specs.Kerning.{kern};
-ghost use Rattle.t1_source.specs.Printing.{text};
+ghost use Rattle.t1_parts.specs.Printing.{text};
 ghost use Rattle.t1_source.specs.Editing.{edited};
 ghost use Rattle.t1_session.specs.Machine.{perform, printed, judged, judged_file, file_reply, scratch};
-ghost use Rattle.t1_session.specs.Assembly.{source_file, file_check};
+ghost use Rattle.t1_font.specs.Assembly.{source_file, file_check};
 ghost use Rattle.t1_session.specs.Requests.{may_want_memory};
 ghost use Rattle.t1_code.specs.Pfb.{whole_file};
 
-use crate::assembly::file_of;
-use crate::lengths::checked_bodies;
+use t1_font::{checked_bodies, file_of};
 use crate::print::Print;
 use crate::reply::Reply;
 use crate::request::Request;

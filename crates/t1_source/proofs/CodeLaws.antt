@@ -6,11 +6,11 @@ use Rattle.std.specs.Str.{bytes_eq}
 use Rattle.std.proofs.lemmas.List.{take_more, get_or-set_same, get_or-set_other}
 use Rattle.std.proofs.lemmas.List.Elements.{filter_map-append}
 use Rattle.std.proofs.lemmas.Bool.{eq-eqb, cases_Bool, eqb-true}
-use Rattle.t1_source.specs.Tokens.{tokens, is_token}
+use Rattle.t1_text.specs.Tokens.{tokens, is_token}
 use Rattle.t1_code.specs.Encoding.{standard_name}
-use Rattle.t1_source.specs.Encoding.{slot_of_tokens, slots}
-use Rattle.t1_source.specs.Form.{Form}
-use Rattle.t1_source.specs.Reading.{standard}
+use Rattle.t1_parts.specs.Encoding.{slot_of_tokens, slots}
+use Rattle.t1_parts.specs.SourceParts.{SourceParts}
+use Rattle.t1_parts.specs.Reading.{standard}
 use Rattle.t1_source.specs.Codes.{lowest_code, named_by, slot_name, name_at, name_of_code}
 
 find_range : (p : ℕ → Bool) (c n m : ℕ) → n ≡ suc m → find p (range_with_len c n) ≡ (if p c then Some c else find p (range_with_len (c + 1) m))
@@ -142,8 +142,8 @@ table_more given names c name within is before code low =
     ]
 
 -- the names of codes in the standard encoding, and in an array
-pub standard_named : (s : Form) (code : ℕ) → standard s ≡ true → standard_name code ≡ name_of_code s code
+pub standard_named : (s : SourceParts) (code : ℕ) → standard s ≡ true → standard_name code ≡ name_of_code s code
 standard_named s code e = rw e refl
 
-pub array_named : (s : Form) (code : ℕ) → standard s ≡ false → slot_name (slots s.clear) code ≡ name_of_code s code
+pub array_named : (s : SourceParts) (code : ℕ) → standard s ≡ false → slot_name (slots s.clear) code ≡ name_of_code s code
 array_named s code e = rw e refl

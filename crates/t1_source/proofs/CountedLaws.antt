@@ -10,27 +10,28 @@ use Rattle.t1_frac.specs.declared.fault.Code.TheVariants.{F4, F7, F8, F9, F10}
 use Rattle.t1_frac.specs.declared.fault.Fault.{Fault}
 use Rattle.t1_frac.specs.declared.fault.Place.TheVariants.{Line}
 use Rattle.t1_frac.specs.Outcome.{told_at, ◌>>=◌}
-use Rattle.t1_source.specs.declared.body.Body.{Body}
-use Rattle.t1_source.specs.declared.item.Item.{Item}
-use Rattle.t1_source.specs.declared.item.Item.TheVariants.{Plain, Section, Subr, Glyph}
-use Rattle.t1_source.specs.Form.{Form}
-use Rattle.t1_source.specs.Lines.{lines}
-use Rattle.t1_source.specs.Encoding.{clear_check}
-use Rattle.t1_source.specs.Parts.{parts_of, tail_of}
-use Rattle.t1_source.specs.Tokens.{tokens, places_from}
-use Rattle.t1_source.specs.Names.{is_digit, decimal_value, decimal_of, up_to, name_of_token}
-use Rattle.t1_source.specs.Sections.{is_count, count_between, section_at, subrs_line, glyphs_line, is_subrs_line, is_glyphs_line}
-use Rattle.t1_source.specs.Entries.{Numbered, Taken, has, is_subr, is_glyph, opens_subr, opens_glyph, opened_body, entry_of, subr_entry, glyph_entry}
-use Rattle.t1_source.specs.Private.{line_item, among_glyphs, among_subrs, item_at, items_of, private_items}
-use Rattle.t1_source.specs.Counts.{subrs_needed, glyphs_needed, raised_item, raised}
-use Rattle.t1_source.specs.Reading.{unnumbered, whole_check, reads_lines, reads}
-use Rattle.t1_source.specs.Printing.{text}
-use Rattle.t1_source.specs.Kept.{Stand, IsPrivate, is_counted}
-use Rattle.t1_source.proofs.CountLaws.{glyphs_same, subrs_same}
-use Rattle.t1_source.proofs.PairsKeptLaws.{bind_ok, told_ok}
-use Rattle.t1_source.proofs.SectionLaws.{count_parts, count_place_of}
-use Rattle.t1_source.proofs.KeptItemsLaws.{entry_given}
-use Rattle.t1_source.proofs.KeptSourceLaws.{source_kept}
+use Rattle.t1_parts.specs.declared.body.EntryBody.{EntryBody}
+use Rattle.t1_parts.specs.declared.item.Item.{Item}
+use Rattle.t1_parts.specs.declared.item.Item.TheVariants.{Plain, Section, Subr, Glyph}
+use Rattle.t1_parts.specs.SourceParts.{SourceParts}
+use Rattle.t1_text.specs.Lines.{lines}
+use Rattle.t1_parts.specs.Encoding.{clear_check}
+use Rattle.t1_parts.specs.Parts.{parts_of, tail_of}
+use Rattle.t1_text.specs.Tokens.{tokens, places_from}
+use Rattle.t1_text.specs.Names.{is_digit, decimal_value, decimal_of, up_to, name_of_token}
+use Rattle.t1_text.specs.Names.{is_count}
+use Rattle.t1_parts.specs.Sections.{count_between, section_at, subrs_line, glyphs_line, is_subrs_line, is_glyphs_line}
+use Rattle.t1_parts.specs.Entries.{NumberedItem, Taken, has, is_subr, is_glyph, opens_subr, opens_glyph, opened_body, entry_of, subr_entry, glyph_entry}
+use Rattle.t1_parts.specs.Private.{line_item, among_glyphs, among_subrs, item_at, items_of, private_items}
+use Rattle.t1_parts.specs.Counts.{subrs_needed, glyphs_needed, raised_item, raised}
+use Rattle.t1_parts.specs.Reading.{unnumbered, whole_check, reads_lines, reads}
+use Rattle.t1_parts.specs.Printing.{text}
+use Rattle.t1_source.specs.WellFormed.{Stand, IsPrivate, is_counted}
+use Rattle.t1_parts.proofs.CountLaws.{glyphs_same, subrs_same}
+use Rattle.t1_source.proofs.PairsWellFormedLaws.{bind_ok, told_ok}
+use Rattle.t1_parts.proofs.SectionLaws.{count_parts, count_place_of}
+use Rattle.t1_source.proofs.WellFormedItemsLaws.{entry_given}
+use Rattle.t1_source.proofs.WellFormedSourceLaws.{source_well_formed}
 use Rattle.t1_source.proofs.SourceAgainLaws.{source_again}
 
 power_more : (k : ℕ) → 10 ^ suc k ≡ 10 * 10 ^ k
@@ -70,7 +71,7 @@ section_counted key word l (Some m) s plain found e =
     let r = count_place_of key word l m plain found in
     ap is_counted (sym same) ∙ lt-ltb (decimal_value m.1) (10 ^ 9) (count_small m.1 r.counted)
 
-line_counted : (earlier : List Numbered) (l : List ℕ) (o p : Option Item) (x : Taken) → subrs_line l ≡ o → glyphs_line l ≡ p → line_item earlier l o p ≡ Ok x → is_counted x.0 ≡ true
+line_counted : (earlier : List NumberedItem) (l : List ℕ) (o p : Option Item) (x : Taken) → subrs_line l ≡ o → glyphs_line l ≡ p → line_item earlier l o p ≡ Ok x → is_counted x.0 ≡ true
 unfolding line_item
 line_counted earlier l None None x eo ep e = let same : ◌≡◌ {A = Taken} (Plain l, 0) x = cc in ap (λ y. is_counted y.0) (sym same)
 line_counted earlier l (Some s) None x eo ep e =
@@ -91,7 +92,7 @@ line_counted earlier l None (Some s) x eo ep e =
     ]
 line_counted earlier l (Some s) (Some t) x eo ep e = cc
 
-glyph_counted : (earlier : List Numbered) (t : List ℕ) (body : Option Body) (x : Taken) → glyph_entry earlier t body ≡ Ok x → is_counted x.0 ≡ true
+glyph_counted : (earlier : List NumberedItem) (t : List ℕ) (body : Option EntryBody) (x : Taken) → glyph_entry earlier t body ≡ Ok x → is_counted x.0 ≡ true
 unfolding glyph_entry
 glyph_counted earlier t body x e =
     let named = bind_ok (ok_or (name_of_token t) F8) (λ g. if has (is_glyph g) earlier then Err F10 else ok_or (option_map (entry_of (Glyph g)) body) F7) x e in
@@ -101,7 +102,7 @@ glyph_counted earlier t body x e =
       | inr fresh ↦ ap is_counted (sym (entry_given (Glyph g) body F7 x (rw fresh at named.2)).2)
     ]
 
-subr_counted : (earlier : List Numbered) (t : List ℕ) (body : Option Body) (x : Taken) → subr_entry earlier t body ≡ Ok x → is_counted x.0 ≡ true
+subr_counted : (earlier : List NumberedItem) (t : List ℕ) (body : Option EntryBody) (x : Taken) → subr_entry earlier t body ≡ Ok x → is_counted x.0 ≡ true
 unfolding subr_entry
 subr_counted earlier t body x e =
     let numbered = bind_ok (ok_or (up_to 32000 (decimal_of t)) F8) (λ n. if has (is_subr n) earlier then Err F9 else ok_or (option_map (entry_of (Subr n)) body) F7) x e in
@@ -111,15 +112,15 @@ subr_counted earlier t body x e =
       | inr fresh ↦ ap is_counted (sym (entry_given (Subr n) body F7 x (rw fresh at numbered.2)).2)
     ]
 
-glyphs_counted : (earlier : List Numbered) (l : List ℕ) (ls : List (List ℕ)) (x : Taken) (o : Option (List ℕ)) → among_glyphs earlier l ls o ≡ Ok x → is_counted x.0 ≡ true
+glyphs_counted : (earlier : List NumberedItem) (l : List ℕ) (ls : List (List ℕ)) (x : Taken) (o : Option (List ℕ)) → among_glyphs earlier l ls o ≡ Ok x → is_counted x.0 ≡ true
 glyphs_counted earlier l ls x None e = line_counted earlier l (subrs_line l) (glyphs_line l) x refl refl e
 glyphs_counted earlier l ls x (Some t) e = glyph_counted earlier t (opened_body l ls) x e
 
-subrs_counted : (earlier : List Numbered) (l : List ℕ) (ls : List (List ℕ)) (x : Taken) (o : Option (List ℕ)) → among_subrs earlier l ls o ≡ Ok x → is_counted x.0 ≡ true
+subrs_counted : (earlier : List NumberedItem) (l : List ℕ) (ls : List (List ℕ)) (x : Taken) (o : Option (List ℕ)) → among_subrs earlier l ls o ≡ Ok x → is_counted x.0 ≡ true
 subrs_counted earlier l ls x None e = line_counted earlier l (subrs_line l) (glyphs_line l) x refl refl e
 subrs_counted earlier l ls x (Some t) e = subr_counted earlier t (opened_body l ls) x e
 
-item_counted : (earlier : List Numbered) (l : List ℕ) (ls : List (List ℕ)) (x : Taken) → item_at earlier l ls ≡ Ok x → is_counted x.0 ≡ true
+item_counted : (earlier : List NumberedItem) (l : List ℕ) (ls : List (List ℕ)) (x : Taken) → item_at earlier l ls ≡ Ok x → is_counted x.0 ≡ true
 unfolding item_at
 item_counted earlier l ls x e =
     elim (cases_Bool (has is_glyphs_line earlier)) [
@@ -130,12 +131,12 @@ item_counted earlier l ls x e =
       ]
     ]
 
-all_further : (items : List Numbered) (n : ℕ) (i : Item) → list_all is_counted (unnumbered items) ≡ true → is_counted i ≡ true → list_all is_counted (unnumbered (items ++ (n, i) ∷ [])) ≡ true
+all_further : (items : List NumberedItem) (n : ℕ) (i : Item) → list_all is_counted (unnumbered items) ≡ true → is_counted i ≡ true → list_all is_counted (unnumbered (items ++ (n, i) ∷ [])) ≡ true
 all_further items n i h k =
     ap (list_all is_counted) (map-append (λ x. x.1) items ((n, i) ∷ [])) ∙ list_all-append is_counted (unnumbered items) (i ∷ [])
     ∙ and_from (list_all is_counted (unnumbered items)) (is_counted i && true) h (and_from (is_counted i) true k refl)
 
-items_counted : (earlier : List Numbered) (skip n : ℕ) (ls : List (List ℕ)) (items : List Numbered) → list_all is_counted (unnumbered earlier) ≡ true → items_of earlier skip n ls ≡ Ok items → list_all is_counted (unnumbered items) ≡ true
+items_counted : (earlier : List NumberedItem) (skip n : ℕ) (ls : List (List ℕ)) (items : List NumberedItem) → list_all is_counted (unnumbered earlier) ≡ true → items_of earlier skip n ls ≡ Ok items → list_all is_counted (unnumbered items) ≡ true
 items_counted earlier skip n [] items h e = let same : earlier ≡ items = cc in ap (λ t. list_all is_counted (unnumbered t)) (sym same) ∙ h
 items_counted earlier (suc skip) n (l ∷ ls) items h e = items_counted earlier skip (n + 1) ls items h e
 items_counted earlier zero n (l ∷ ls) items h e =
@@ -148,13 +149,13 @@ plain_counted : (n : ℕ) (ls : List (List ℕ)) → list_all is_counted (unnumb
 plain_counted n [] = refl
 plain_counted n (l ∷ ls) = plain_counted n ls
 
-private_counted : (n : ℕ) (ls : List (List ℕ)) (items : List Numbered) → private_items n ls ≡ Ok items → list_all is_counted (unnumbered items) ≡ true
+private_counted : (n : ℕ) (ls : List (List ℕ)) (items : List NumberedItem) → private_items n ls ≡ Ok items → list_all is_counted (unnumbered items) ≡ true
 unfolding private_items
 private_counted n ls items e =
     let k = length ls - 1 in
     let last = map (λ l. (n + k, Plain l)) (drop k ls) in
     let step = bind_ok (items_of [] 0 n (take k ls)) (λ its. Ok (its ++ map (λ l. (n + k, Plain l)) (drop k ls))) items e in
-    let whole : ◌≡◌ {A = Result (List Numbered) Fault} (Ok (step.0 ++ last)) (Ok items) = step.2 in
+    let whole : ◌≡◌ {A = Result (List NumberedItem) Fault} (Ok (step.0 ++ last)) (Ok items) = step.2 in
     let same : step.0 ++ last ≡ items = cc in
     ap (λ t. list_all is_counted (unnumbered t)) (sym same) ∙ ap (list_all is_counted) (map-append (λ x. x.1) step.0 last) ∙ list_all-append is_counted (unnumbered step.0) (unnumbered last)
     ∙ and_from (list_all is_counted (unnumbered step.0)) (list_all is_counted (unnumbered last)) (items_counted [] 0 n (take k ls) step.0 refl step.1) (plain_counted (n + k) (drop k ls))
@@ -198,11 +199,11 @@ raised_counted items p few h =
     raised_small s g items (omega (arith, needed, subrs_same s g items)) (omega (arith, few, glyphs_same s g items)) h
 
 -- the counts of a source that was read
-pub read_counted : (bytes : List ℕ) (s : Form) → reads bytes ≡ Ok s → glyphs_needed s.items < 10 ^ 9 → list_all is_counted s.items ≡ true
+pub read_counted : (bytes : List ℕ) (s : SourceParts) → reads bytes ≡ Ok s → glyphs_needed s.items < 10 ^ 9 → list_all is_counted s.items ≡ true
 unfolding reads reads_lines
 read_counted bytes s e few =
     let ls = lines bytes in
-    let kept = source_kept bytes s e in
+    let kept = source_well_formed bytes s e in
     let first = bind_ok (parts_of ls) (λ parts. clear_check parts.clear >>= λ encoded. private_items (length parts.clear + 1) parts.private >>= λ items. whole_check items >>= λ whole.
     Ok (record { clear = parts.clear; items = raised (unnumbered items); tail = tail_of parts.tail })) s e in
     let p = first.0 in
@@ -211,8 +212,8 @@ read_counted bytes s e few =
     let third = bind_ok (private_items (length p.clear + 1) p.private) (λ items. whole_check items >>= λ whole. Ok (record { clear = p.clear; items = raised (unnumbered items); tail = tail_of p.tail })) s second.2 in
     let ns = third.0 in
     let fourth = bind_ok (whole_check ns) (λ whole. Ok (record { clear = p.clear; items = raised (unnumbered ns); tail = tail_of p.tail })) s third.2 in
-    let made : Form = record { clear = p.clear; items = raised (unnumbered ns); tail = tail_of p.tail } in
-    let last : ◌≡◌ {A = Result Form Fault} (Ok made) (Ok s) = fourth.2 in
+    let made : SourceParts = record { clear = p.clear; items = raised (unnumbered ns); tail = tail_of p.tail } in
+    let last : ◌≡◌ {A = Result SourceParts Fault} (Ok made) (Ok s) = fourth.2 in
     let same : made ≡ s = cc in
     let is : raised (unnumbered ns) ≡ s.items = ap (λ t. t.items) same in
     let private : IsPrivate (raised (unnumbered ns)) = rw is kept.items in
@@ -220,5 +221,5 @@ read_counted bytes s e few =
     ap (list_all is_counted) (sym is) ∙ raised_counted (unnumbered ns) private small (private_counted (length p.clear + 1) p.private ns third.1)
 
 -- a source that was read, of fewer than 1,000,000,000 glyphs
-pub read_again : (bytes : List ℕ) (s : Form) → reads bytes ≡ Ok s → glyphs_needed s.items < 10 ^ 9 → reads (text s) ≡ Ok s
-read_again bytes s e few = source_again s (source_kept bytes s e) (read_counted bytes s e few)
+pub read_again : (bytes : List ℕ) (s : SourceParts) → reads bytes ≡ Ok s → glyphs_needed s.items < 10 ^ 9 → reads (text s) ≡ Ok s
+read_again bytes s e few = source_again s (source_well_formed bytes s e) (read_counted bytes s e few)

@@ -1,13 +1,13 @@
 -- Edits of small sources and their pairs.
 use Rattle.std.specs.Prelude.{◌≡◌, ℕ, pos, negsuc, List, [], ◌∷◌, ◌++◌, Ok, Err, codes, refl}
 use Rattle.std.specs.Fmt.{digits}
-use Rattle.t1_source.specs.declared.item.Item.{Item}
-use Rattle.t1_source.specs.declared.item.Item.TheVariants.{Plain, Section, Subr, Glyph}
+use Rattle.t1_parts.specs.declared.item.Item.{Item}
+use Rattle.t1_parts.specs.declared.item.Item.TheVariants.{Plain, Section, Subr, Glyph}
 use Rattle.t1_source.specs.declared.edit.Edit.TheVariants.{ReplaceGlyph, AddGlyph, RemoveGlyph, ReplaceSubr, AddSubr, RemoveSubr, Encode, Unencode, Kern, Unkern}
 use Rattle.t1_source.specs.declared.edit.Rule.TheVariants.{E1, E2, E3, E4, E5, E6, E9, E10}
-use Rattle.t1_source.specs.Form.{Form}
+use Rattle.t1_parts.specs.SourceParts.{SourceParts}
 use Rattle.t1_source.specs.Editing.{edited, replaced_glyph, added_glyph, removed_glyph, replaced_subr, added_subr, removed_subr, encoded, unencoded, kerned, unkerned, array_parts, through_last, among_subrs_items, among_glyphs_items, is_slot, is_slot_of}
-use Rattle.t1_source.proofs.ReadingRows.{space_form}
+use Rattle.t1_parts.proofs.ReadingRows.{space_form}
 use Rattle.t1_source.proofs.PrintingRows.{array_form, kern_av}
 
 abbrev pub space_glyph : Item
@@ -20,16 +20,16 @@ abbrev pub ending : List Item
 ending = Plain (codes "end") ∷ Plain (codes "mark currentfile closefile") ∷ []
 
 -- the small font with a second glyph
-abbrev pub grown_form : Form
+abbrev pub grown_form : SourceParts
 grown_form = record space_form { items = Section (codes "/CharStrings ") 2 (codes " dict dup begin") ∷ space_glyph ∷ other_glyph ∷ ending }
 
 -- the small font with a Subrs section
-abbrev pub subrs_form_of : ℕ → List Item → Form
+abbrev pub subrs_form_of : ℕ → List Item → SourceParts
 subrs_form_of n subrs = record space_form {
   items = Section (codes "/Subrs ") n (codes " array") ∷ (subrs ++ Plain (codes "ND") ∷ Section (codes "/CharStrings ") 1 (codes " dict dup begin") ∷ space_glyph ∷ ending);
 }
 
-abbrev pub subrs_form : List Item → Form
+abbrev pub subrs_form : List Item → SourceParts
 subrs_form subrs = subrs_form_of 0 subrs
 
 -- a glyph added raises the count

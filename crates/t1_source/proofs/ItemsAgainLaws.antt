@@ -8,24 +8,24 @@ use Rattle.std.proofs.lemmas.List.Folds.{list_all-append}
 use Rattle.std.proofs.Math.Seq.{drop-append_seam, take-append_seam}
 use Rattle.t1_frac.specs.declared.fault.Place.TheVariants.{Line}
 use Rattle.t1_frac.specs.Outcome.{told_at}
-use Rattle.t1_source.specs.declared.item.Item.{Item}
-use Rattle.t1_source.specs.declared.item.Item.TheVariants.{Plain, Section, Subr, Glyph}
-use Rattle.t1_source.specs.Tokens.{tokens}
-use Rattle.t1_source.specs.Names.{decimal_value}
-use Rattle.t1_source.specs.Sections.{subrs_line, glyphs_line, is_subrs_line, is_glyphs_line}
-use Rattle.t1_source.specs.Entries.{Numbered, has, is_subr, is_glyph, opens_subr, opens_glyph}
-use Rattle.t1_source.specs.Private.{line_item, line_at, item_at, items_of, private_items}
-use Rattle.t1_source.specs.Reading.{unnumbered}
-use Rattle.t1_source.specs.Printing.{item_lines, body_line, last_line, word_groups}
-use Rattle.t1_source.specs.Kept.{is_inner, opens_entry, IsSectionLine, Stands, Stand, is_counted}
-use Rattle.t1_source.proofs.NumberLaws.{decimal_spells}
-use Rattle.t1_source.proofs.EntryLaws.{subr_again, glyph_again}
-use Rattle.t1_source.proofs.ItemLaws.{read_step}
+use Rattle.t1_parts.specs.declared.item.Item.{Item}
+use Rattle.t1_parts.specs.declared.item.Item.TheVariants.{Plain, Section, Subr, Glyph}
+use Rattle.t1_text.specs.Tokens.{tokens}
+use Rattle.t1_text.specs.Names.{decimal_value}
+use Rattle.t1_parts.specs.Sections.{subrs_line, glyphs_line, is_subrs_line, is_glyphs_line}
+use Rattle.t1_parts.specs.Entries.{NumberedItem, has, is_subr, is_glyph, opens_subr, opens_glyph}
+use Rattle.t1_parts.specs.Private.{line_item, line_at, item_at, items_of, private_items}
+use Rattle.t1_parts.specs.Reading.{unnumbered}
+use Rattle.t1_parts.specs.Printing.{item_lines, body_line, last_line, word_groups}
+use Rattle.t1_source.specs.WellFormed.{is_inner, opens_entry, IsSectionLine, Stands, Stand, is_counted}
+use Rattle.t1_text.proofs.NumberLaws.{decimal_spells}
+use Rattle.t1_parts.proofs.EntryLaws.{subr_again, glyph_again}
+use Rattle.t1_parts.proofs.ItemLaws.{read_step}
 use Rattle.t1_source.proofs.SectionLineLaws.{section_again}
 use Rattle.t1_source.proofs.PrintedLaws.{decimal_count, inner_other, entry_inner, subr_inner, glyph_inner}
 
 -- a test of numbered items is one of the items
-pub has_item : (test : Item → Bool) (items : List Numbered) → has test items ≡ list_any test (unnumbered items)
+pub has_item : (test : Item → Bool) (items : List NumberedItem) → has test items ≡ list_any test (unnumbered items)
 has_item test [] = refl
 has_item test (i ∷ items) = ap (λ b. test i.1 || b) (has_item test items)
 
@@ -37,7 +37,7 @@ and_off : (a b : Bool) → a ≡ true → (a && b) ≡ false → b ≡ false
 and_off a b on h = let rest : b ≡ false = rw on at h in rest
 
 -- a line that opens no entry
-pub no_entry : (earlier : List Numbered) (l : List ℕ) (ls : List (List ℕ)) → opens_entry (unnumbered earlier) l ≡ false → item_at earlier l ls ≡ line_at earlier l
+pub no_entry : (earlier : List NumberedItem) (l : List ℕ) (ls : List (List ℕ)) → opens_entry (unnumbered earlier) l ≡ false → item_at earlier l ls ≡ line_at earlier l
 unfolding item_at
 no_entry earlier l ls off =
     let glyphs_here = has_item is_glyphs_line earlier in
@@ -62,11 +62,11 @@ no_entry earlier l ls off =
     ]
 
 -- a plain line and a section line
-plain_line : (earlier : List Numbered) (l : List ℕ) → subrs_line l ≡ None → glyphs_line l ≡ None → line_at earlier l ≡ Ok (Plain l, 0)
+plain_line : (earlier : List NumberedItem) (l : List ℕ) → subrs_line l ≡ None → glyphs_line l ≡ None → line_at earlier l ≡ Ok (Plain l, 0)
 unfolding line_item
 plain_line earlier l p q = rw (p, q) refl
 
-section_line : (earlier : List Numbered) (s : Item) (l : List ℕ) → IsSectionLine (unnumbered earlier) s l → line_at earlier l ≡ Ok (s, 0)
+section_line : (earlier : List NumberedItem) (s : Item) (l : List ℕ) → IsSectionLine (unnumbered earlier) s l → line_at earlier l ≡ Ok (s, 0)
 unfolding line_item
 section_line earlier s l h =
     let no : has is_glyphs_line earlier ≡ false = has_item is_glyphs_line earlier ∙ h.0 in
@@ -78,7 +78,7 @@ section_line earlier s l h =
     ]
 
 -- an item whose printed lines are read as it was, whatever follows them
-pub record Again (earlier : List Numbered) (i : Item) : Type 0 where
+pub record Again (earlier : List NumberedItem) (i : Item) : Type 0 where
   pub head : List ℕ
   pub others : List (List ℕ)
   pub lines : item_lines i ≡ head ∷ others
@@ -88,7 +88,7 @@ pub record Again (earlier : List Numbered) (i : Item) : Type 0 where
 body_count : (ws : List (List ℕ)) (closing : List ℕ) → 1 + length (word_groups ws) ≡ length (map body_line (word_groups ws) ++ last_line closing ∷ [])
 body_count ws closing = omega (arith, length-append (map body_line (word_groups ws)) (last_line closing ∷ []), length-map (word_groups ws) body_line)
 
-pub again : (earlier : List Numbered) (i : Item) → Stands (unnumbered earlier) i → is_counted i ≡ true → Again earlier i
+pub again : (earlier : List NumberedItem) (i : Item) → Stands (unnumbered earlier) i → is_counted i ≡ true → Again earlier i
 again earlier (Plain l) h small =
     record {
       head = l;
@@ -140,7 +140,7 @@ again earlier (Glyph g ws closing) h small =
     }
 
 -- one item read
-item_read : (earlier : List Numbered) (n : ℕ) (i : Item) (rest : List (List ℕ)) (a : Again earlier i)
+item_read : (earlier : List NumberedItem) (n : ℕ) (i : Item) (rest : List (List ℕ)) (a : Again earlier i)
     → items_of earlier 0 n (item_lines i ++ rest) ≡ items_of (earlier ++ (n, i) ∷ []) 0 (n + (1 + length a.others)) rest
 item_read earlier n i rest a =
     let more = earlier ++ (n, i) ∷ [] in
@@ -149,14 +149,14 @@ item_read earlier n i rest a =
     ∙ ap (items_of more 0 (n + (1 + length a.others))) (drop-append_seam a.others rest)
 
 -- what is read of printed items
-pub record Reads (earlier : List Numbered) (n : ℕ) (items : List Item) : Type 0 where
-  pub all : List Numbered
+pub record Reads (earlier : List NumberedItem) (n : ℕ) (items : List Item) : Type 0 where
+  pub all : List NumberedItem
   pub read : items_of earlier 0 n (flat_map item_lines items) ≡ Ok all
   pub same : unnumbered all ≡ unnumbered earlier ++ items
   pub inner : list_all is_inner (flat_map item_lines items) ≡ true
 
 -- items that stand behind others, printed and read
-pub items_again : (earlier : List Numbered) (n : ℕ) (items : List Item) → Stand (unnumbered earlier) items → list_all is_counted items ≡ true → Reads earlier n items
+pub items_again : (earlier : List NumberedItem) (n : ℕ) (items : List Item) → Stand (unnumbered earlier) items → list_all is_counted items ≡ true → Reads earlier n items
 items_again earlier n [] h small = record { all = earlier; read = refl; same = sym (append-nil (unnumbered earlier)); inner = refl }
 items_again earlier n (i ∷ items) h small =
     let counted = and_parts (is_counted i) (list_all is_counted items) small in
@@ -174,7 +174,7 @@ items_again earlier n (i ∷ items) h small =
     }
 
 -- the closefile line behind the lines of items
-pub private_again : (n : ℕ) (ls : List (List ℕ)) (last : List ℕ) (items : List Numbered) → items_of [] 0 n ls ≡ Ok items
+pub private_again : (n : ℕ) (ls : List (List ℕ)) (last : List ℕ) (items : List NumberedItem) → items_of [] 0 n ls ≡ Ok items
     → private_items n (ls ++ last ∷ []) ≡ Ok (items ++ (n + length ls, Plain last) ∷ [])
 unfolding private_items
 private_again n ls last items e =

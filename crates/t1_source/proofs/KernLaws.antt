@@ -6,11 +6,11 @@ use Rattle.std.proofs.lemmas.Bool.{and_parts, and_from, leb-true, le-leb, not-tr
 use Rattle.std.proofs.lemmas.List.Folds.{list_all-append}
 use Rattle.t1_frac.specs.Words.{is_blank, words}
 use Rattle.t1_source.specs.declared.pairs.Pair.{Pair}
-use Rattle.t1_source.specs.Lines.{lines, joined, is_line, is_line_end}
-use Rattle.t1_source.specs.Names.{is_name, is_name_byte, is_digit}
+use Rattle.t1_text.specs.Lines.{lines, joined, is_line, is_line_end}
+use Rattle.t1_text.specs.Names.{is_name, is_name_byte, is_digit}
 use Rattle.t1_source.specs.Kerning.{kerning_value, line_pairs, pairs_from, put_all_pairs, pairs, kpx_line, kern, is_kerning_value, is_kerning_pair, precedes, are_ordered, are_pairs}
-use Rattle.t1_source.proofs.TextLaws.{lines_joined}
-use Rattle.t1_source.proofs.NumberLaws.{Spells, decimal_spells, spelled}
+use Rattle.t1_text.proofs.TextLaws.{lines_joined}
+use Rattle.t1_text.proofs.NumberLaws.{Spells, decimal_spells, spelled}
 use Rattle.t1_source.proofs.PutLaws.{put_last}
 
 or_parts : (x y : Bool) → (x || y) ≡ false → (x ≡ false) × (y ≡ false)

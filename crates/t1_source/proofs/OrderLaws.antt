@@ -2,15 +2,15 @@
 use Rattle.std.proofs.Common.{◌≡◌, true, false, ◌||◌, ℕ, List, [], ◌∷◌, ◌++◌, refl, sym, ◌∙◌}
 use Rattle.std.specs.List.{list_any}
 use Rattle.std.proofs.lemmas.List.Folds.{list_any-append}
-use Rattle.t1_source.specs.declared.item.Item.{Item}
-use Rattle.t1_source.specs.declared.item.Item.TheVariants.{Plain, Section, Subr, Glyph}
-use Rattle.t1_source.specs.Sections.{is_glyphs_line}
+use Rattle.t1_parts.specs.declared.item.Item.{Item}
+use Rattle.t1_parts.specs.declared.item.Item.TheVariants.{Plain, Section, Subr, Glyph}
+use Rattle.t1_parts.specs.Sections.{is_glyphs_line}
 use Rattle.t1_source.specs.Editing.{is_subr_entry}
-use Rattle.t1_source.specs.Kept.{Stand, IsPrivate}
+use Rattle.t1_source.specs.WellFormed.{Stand, IsPrivate}
 use Rattle.t1_source.proofs.PrintedLaws.{bool_apart}
 use Rattle.t1_source.proofs.StandLaws.{or_left, stand_back}
 use Rattle.t1_source.proofs.ItemPlaceLaws.{before_last}
-use Rattle.t1_source.proofs.KeptEditLaws.{is_not_plain}
+use Rattle.t1_source.proofs.WellFormedEditLaws.{is_not_plain}
 
 still : (e : List Item) (i : Item) → list_any is_glyphs_line e ≡ true → list_any is_glyphs_line (e ++ i ∷ []) ≡ true
 still e i on = list_any-append is_glyphs_line e (i ∷ []) ∙ or_left (list_any is_glyphs_line e) (is_glyphs_line i || false) on

@@ -6,18 +6,18 @@ use Rattle.std.proofs.lemmas.Bool.{and_parts, and_from, cases_Bool, not-true, eq
 use Rattle.std.proofs.lemmas.Fmt.{decimal_by_steps}
 use Rattle.std.proofs.lemmas.List.Folds.{list_all-append}
 use Rattle.t1_frac.specs.Words.{is_blank, trimmed_front}
-use Rattle.t1_source.specs.Lines.{is_line, is_line_end}
-use Rattle.t1_source.specs.Names.{is_digit, is_name, is_name_byte, decimal_of, is_number_word}
-use Rattle.t1_source.specs.Sections.{is_count}
-use Rattle.t1_source.specs.Entries.{is_word, is_word_byte}
-use Rattle.t1_source.specs.Parts.{is_closefile}
-use Rattle.t1_source.specs.Printing.{body_line, last_line, word_groups, entry_lines}
-use Rattle.t1_source.specs.Kept.{is_inner, IsEntry}
-use Rattle.t1_source.proofs.TokenLaws.{regular_parts}
-use Rattle.t1_source.proofs.EntryLaws.{digit_regular}
-use Rattle.t1_source.proofs.NumberLaws.{decimal_spells}
-use Rattle.t1_source.proofs.SectionLaws.{count_parts}
-use Rattle.t1_source.proofs.CloseLaws.{closing_bytes, closes_from, closes_more, closes_past, closes_blank, all_reverse}
+use Rattle.t1_text.specs.Lines.{is_line, is_line_end}
+use Rattle.t1_text.specs.Names.{is_digit, is_name, is_name_byte, decimal_of, is_number_word}
+use Rattle.t1_text.specs.Names.{is_count}
+use Rattle.t1_parts.specs.Entries.{is_word, is_word_byte}
+use Rattle.t1_parts.specs.Parts.{is_closefile}
+use Rattle.t1_parts.specs.Printing.{body_line, last_line, word_groups, entry_lines}
+use Rattle.t1_source.specs.WellFormed.{is_inner, IsEntry}
+use Rattle.t1_text.proofs.TokenLaws.{regular_parts}
+use Rattle.t1_parts.proofs.EntryLaws.{digit_regular}
+use Rattle.t1_text.proofs.NumberLaws.{decimal_spells}
+use Rattle.t1_parts.proofs.SectionLaws.{count_parts}
+use Rattle.t1_parts.proofs.CloseLaws.{closing_bytes, closes_from, closes_more, closes_past, closes_blank, all_reverse}
 
 -- a number of at most k digits
 abbrev pub Short : ℕ → List ℕ → Type 0

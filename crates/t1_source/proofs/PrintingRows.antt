@@ -7,19 +7,19 @@ use Rattle.t1_frac.specs.declared.fault.Place.TheVariants.{Line}
 use Rattle.t1_frac.specs.Outcome.{fault_at, ◌>>=◌}
 use Rattle.t1_code.specs.Encoding.{standard_names, standard_name}
 use Rattle.t1_source.specs.declared.pairs.Pair.{Pair}
-use Rattle.t1_source.specs.Form.{Form}
-use Rattle.t1_source.specs.Lines.{joined}
-use Rattle.t1_source.specs.Encoding.{clear_check, opening_check, later_check}
-use Rattle.t1_source.specs.Entries.{subr_entry, glyph_entry}
-use Rattle.t1_source.specs.Private.{item_at, line_item, private_items}
-use Rattle.t1_source.specs.Parts.{parts_of, tail_of}
-use Rattle.t1_source.specs.Reading.{reads, reads_lines, whole_check}
+use Rattle.t1_parts.specs.SourceParts.{SourceParts}
+use Rattle.t1_text.specs.Lines.{joined}
+use Rattle.t1_parts.specs.Encoding.{clear_check, opening_check, later_check}
+use Rattle.t1_parts.specs.Entries.{subr_entry, glyph_entry}
+use Rattle.t1_parts.specs.Private.{item_at, line_item, private_items}
+use Rattle.t1_parts.specs.Parts.{parts_of, tail_of}
+use Rattle.t1_parts.specs.Reading.{reads, reads_lines, whole_check}
 use Rattle.t1_source.specs.Kerning.{line_pairs, pairs, kern}
-use Rattle.t1_source.specs.Header.{header, header_among}
+use Rattle.t1_parts.specs.Header.{header, header_among}
 use Rattle.t1_source.specs.Codes.{lowest_code, code_of}
-use Rattle.t1_source.specs.Printing.{text}
-use Rattle.t1_source.proofs.ReadingRows.{space_lines, space_form}
-use Rattle.t1_source.proofs.DemoRows.{demo_lines, demo_form, demo_read}
+use Rattle.t1_parts.specs.Printing.{text}
+use Rattle.t1_parts.proofs.ReadingRows.{space_lines, space_form}
+use Rattle.t1_parts.proofs.DemoRows.{demo_lines, demo_form, demo_read}
 
 abbrev pub kern_av : Pair
 kern_av = record { left = codes "A"; right = codes "V"; value = negsuc 91 }
@@ -139,7 +139,7 @@ pub notdef_code : code_of demo_form (codes ".notdef") ≡ None
 notdef_code = refl
 
 -- an array with these slots
-abbrev pub array_form : List (List ℕ) → Form
+abbrev pub array_form : List (List ℕ) → SourceParts
 array_form slots = record space_form {
   clear = codes "%!" ∷ codes "/Encoding 256 array" ∷ codes "0 1 255 {1 index exch /.notdef put} for" ∷ (slots ++ codes "readonly def" ∷ codes "currentfile eexec" ∷ []);
 }

@@ -3,14 +3,15 @@ use Rattle.std.proofs.Common.{◌≡◌, ℕ, Bool, true, false, ◌&&◌, ◌+�
 use Rattle.std.specs.List.{list_any}
 use Rattle.std.specs.Str.{bytes_eq}
 use Rattle.std.proofs.Math.Seq.{drop-append-add, drop-append_seam, take-append_seam}
-use Rattle.t1_source.specs.declared.item.Item.{Item}
-use Rattle.t1_source.specs.declared.item.Item.TheVariants.{Section}
-use Rattle.t1_source.specs.Tokens.{tokens, places_from}
-use Rattle.t1_source.specs.Names.{decimal_value}
-use Rattle.t1_source.specs.Sections.{is_count, count_between, section_at, subrs_line, glyphs_line, is_subrs_line, is_glyphs_line}
-use Rattle.t1_source.specs.Entries.{opens_subr}
-use Rattle.t1_source.specs.Kept.{opens_entry, IsSectionLine}
-use Rattle.t1_source.proofs.SectionLaws.{bare_places, among, found_among, among_other, not_text, count_place_of}
+use Rattle.t1_parts.specs.declared.item.Item.{Item}
+use Rattle.t1_parts.specs.declared.item.Item.TheVariants.{Section}
+use Rattle.t1_text.specs.Tokens.{tokens, places_from}
+use Rattle.t1_text.specs.Names.{decimal_value}
+use Rattle.t1_text.specs.Names.{is_count}
+use Rattle.t1_parts.specs.Sections.{count_between, section_at, subrs_line, glyphs_line, is_subrs_line, is_glyphs_line}
+use Rattle.t1_parts.specs.Entries.{opens_subr}
+use Rattle.t1_source.specs.WellFormed.{opens_entry, IsSectionLine}
+use Rattle.t1_parts.proofs.SectionLaws.{bare_places, among, found_among, among_other, not_text, count_place_of}
 
 -- the section line whose count stands between key and word
 abbrev pub line_of : List ℕ → List ℕ → List ℕ → Option Item

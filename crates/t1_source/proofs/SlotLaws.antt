@@ -3,8 +3,8 @@ use Rattle.std.proofs.Common.{◌≡◌, ℕ, zero, suc, false, ◌+◌, ◌<◌
 use Rattle.std.specs.List.{list_any, position, position_or_len}
 use Rattle.std.proofs.lemmas.Bool.{cases_Bool}
 use Rattle.std.proofs.lemmas.List.{drop_more}
-use Rattle.t1_source.specs.Tokens.{tokens}
-use Rattle.t1_source.specs.Encoding.{opens_encoding, ends_array, is_standard, chooses_standard, array_lines}
+use Rattle.t1_text.specs.Tokens.{tokens}
+use Rattle.t1_parts.specs.Encoding.{opens_encoding, ends_array, is_standard, chooses_standard, array_lines}
 use Rattle.t1_source.specs.Editing.{array_parts}
 
 take_again : {X : Type 0} (n : ℕ) (xs : List X) → take (length (take n xs)) xs ≡ take n xs

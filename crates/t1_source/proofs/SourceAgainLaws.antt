@@ -10,20 +10,20 @@ use Rattle.t1_frac.specs.declared.fault.Fault.{Fault}
 use Rattle.t1_frac.specs.declared.fault.Code.TheVariants.{F11}
 use Rattle.t1_frac.specs.declared.fault.Place.TheVariants.{Line}
 use Rattle.t1_frac.specs.Outcome.{fault_at, ◌>>=◌}
-use Rattle.t1_source.specs.declared.item.Item.{Item}
-use Rattle.t1_source.specs.declared.item.Item.TheVariants.{Plain}
-use Rattle.t1_source.specs.Form.{Form}
-use Rattle.t1_source.specs.Lines.{is_line}
-use Rattle.t1_source.specs.Sections.{is_glyphs_line}
-use Rattle.t1_source.specs.Entries.{Numbered, has}
-use Rattle.t1_source.specs.Private.{private_items}
-use Rattle.t1_source.specs.Parts.{parts_of, is_eexec, is_closefile}
-use Rattle.t1_source.specs.LenIV.{said_lead, says_lead, lead_check, lead_of_token}
-use Rattle.t1_source.specs.Counts.{raised}
-use Rattle.t1_source.specs.Reading.{unnumbered, whole_check, reads_lines, reads}
-use Rattle.t1_source.specs.Printing.{item_lines, text_lines, text}
-use Rattle.t1_source.specs.Kept.{is_inner, says_lead_well, IsPrivate, IsKept, is_counted}
-use Rattle.t1_source.proofs.TextLaws.{lines_joined}
+use Rattle.t1_parts.specs.declared.item.Item.{Item}
+use Rattle.t1_parts.specs.declared.item.Item.TheVariants.{Plain}
+use Rattle.t1_parts.specs.SourceParts.{SourceParts}
+use Rattle.t1_text.specs.Lines.{is_line}
+use Rattle.t1_parts.specs.Sections.{is_glyphs_line}
+use Rattle.t1_parts.specs.Entries.{NumberedItem, has}
+use Rattle.t1_parts.specs.Private.{private_items}
+use Rattle.t1_parts.specs.Parts.{parts_of, is_eexec, is_closefile}
+use Rattle.t1_parts.specs.LenIV.{said_lead, says_lead, lead_check, lead_of_token}
+use Rattle.t1_parts.specs.Counts.{raised}
+use Rattle.t1_parts.specs.Reading.{unnumbered, whole_check, reads_lines, reads}
+use Rattle.t1_parts.specs.Printing.{item_lines, text_lines, text}
+use Rattle.t1_source.specs.WellFormed.{is_inner, says_lead_well, IsPrivate, IsWellFormed, is_counted}
+use Rattle.t1_text.proofs.TextLaws.{lines_joined}
 use Rattle.t1_source.proofs.PrintedLaws.{inner_parts}
 use Rattle.t1_source.proofs.ItemsAgainLaws.{has_item, items_again, private_again}
 
@@ -87,26 +87,26 @@ lead_said n (Some t) said ts h more = lead_given (lead_of_token t) (and_parts (i
     lead_given None h f = cc
     lead_given (Some k) h f = refl
 
-lead_again : (ns : List Numbered) → says_lead_well (unnumbered ns) ≡ true → checked (lead_check (filter_map says_lead ns)) ≡ Ok tt
+lead_again : (ns : List NumberedItem) → says_lead_well (unnumbered ns) ≡ true → checked (lead_check (filter_map says_lead ns)) ≡ Ok tt
 lead_again [] h = refl
 lead_again (i ∷ ns) h = lead_said i.0 (said_lead i.1) (filter_map says_lead ns) (filter_map said_lead (unnumbered ns)) h (λ more. lead_again ns more)
 
-whole_again : (ns : List Numbered) → list_any is_glyphs_line (unnumbered ns) ≡ true → says_lead_well (unnumbered ns) ≡ true → whole_check ns ≡ Ok tt
+whole_again : (ns : List NumberedItem) → list_any is_glyphs_line (unnumbered ns) ≡ true → says_lead_well (unnumbered ns) ≡ true → whole_check ns ≡ Ok tt
 unfolding whole_check
 whole_again ns section lead =
     let on : has is_glyphs_line ns ≡ true = has_item is_glyphs_line ns ∙ section in
     rw on (lead_again ns lead)
 
 -- the private part of a source
-record Private (s : Form) (inner : List Item) (last : List ℕ) : Type 0 where
-  all : List Numbered
+record Private (s : SourceParts) (inner : List Item) (last : List ℕ) : Type 0 where
+  all : List NumberedItem
   read : private_items (length s.clear + 1) (flat_map item_lines inner ++ last ∷ []) ≡ Ok all
   same : unnumbered all ≡ s.items
   lines : flat_map item_lines s.items ≡ flat_map item_lines inner ++ last ∷ []
   are_lines : list_all is_line (flat_map item_lines inner ++ last ∷ []) ≡ true
   ends : Ends is_closefile (flat_map item_lines inner ++ last ∷ [])
 
-private_of : (s : Form) (p : IsPrivate s.items) → list_all is_counted s.items ≡ true → Private s p.inner p.closefile
+private_of : (s : SourceParts) (p : IsPrivate s.items) → list_all is_counted s.items ≡ true → Private s p.inner p.closefile
 private_of s p small =
     let printed = flat_map item_lines p.inner in
     let n = length s.clear + 1 in
@@ -123,7 +123,7 @@ private_of s p small =
       ends = inner_place printed p.closefile r.inner p.last;
     }
 
-lines_again : (s : Form) (kept : IsKept s) (inner : List Item) (last : List ℕ) → Private s inner last
+lines_again : (s : SourceParts) (kept : IsWellFormed s) (inner : List Item) (last : List ℕ) → Private s inner last
     → reads_lines ((s.clear ++ (flat_map item_lines inner ++ last ∷ [])) ++ s.tail) ≡ Ok s
 unfolding reads_lines
 lines_again s kept inner last p =
@@ -133,7 +133,7 @@ lines_again s kept inner last p =
     rw (parts, kept.clear.2, p.read, whole, items, kept.tail) refl
 
 -- a source that is kept, and whose counts have at most nine digits, is read from its text
-pub source_again : (s : Form) → IsKept s → list_all is_counted s.items ≡ true → reads (text s) ≡ Ok s
+pub source_again : (s : SourceParts) → IsWellFormed s → list_all is_counted s.items ≡ true → reads (text s) ≡ Ok s
 unfolding reads
 source_again s kept small =
     let p = private_of s kept.items small in

@@ -6,13 +6,13 @@ use Rattle.std.proofs.lemmas.List.{append-nil}
 use Rattle.std.proofs.lemmas.Slice.Eq.{bytes_eq-Decides}
 use Rattle.std.specs.Str.{bytes_eq}
 use Rattle.std.proofs.lemmas.List.Folds.{list_any-append}
-use Rattle.t1_source.specs.declared.item.Item.{Item}
-use Rattle.t1_source.specs.declared.item.Item.TheVariants.{Plain, Section, Subr, Glyph}
-use Rattle.t1_source.specs.Tokens.{tokens}
-use Rattle.t1_source.specs.Sections.{is_subrs_line, is_glyphs_line}
-use Rattle.t1_source.specs.Entries.{is_subr, is_glyph, opens_subr, opens_glyph}
-use Rattle.t1_source.specs.Counts.{raised_item}
-use Rattle.t1_source.specs.Kept.{opens_entry, Stands, Stand}
+use Rattle.t1_parts.specs.declared.item.Item.{Item}
+use Rattle.t1_parts.specs.declared.item.Item.TheVariants.{Plain, Section, Subr, Glyph}
+use Rattle.t1_text.specs.Tokens.{tokens}
+use Rattle.t1_parts.specs.Sections.{is_subrs_line, is_glyphs_line}
+use Rattle.t1_parts.specs.Entries.{is_subr, is_glyph, opens_subr, opens_glyph}
+use Rattle.t1_parts.specs.Counts.{raised_item}
+use Rattle.t1_source.specs.WellFormed.{opens_entry, Stands, Stand}
 
 -- the second items have the section lines of the first, and no number or name that is new and that one of the
 -- items behind them has

@@ -4,8 +4,8 @@ use Rattle.std.specs.List.{list_any, find, position, position_or_len, insert, re
 use Rattle.std.specs.Str.{bytes_eq}
 use Rattle.t1_frac.specs.Outcome.{◌>>=◌}
 use Rattle.t1_frac.specs.Words.{words}
-use Rattle.t1_source.specs.declared.item.Item.{Item}
-use Rattle.t1_source.specs.declared.item.Item.TheVariants.{Plain, Section, Subr, Glyph}
+use Rattle.t1_parts.specs.declared.item.Item.{Item}
+use Rattle.t1_parts.specs.declared.item.Item.TheVariants.{Plain, Section, Subr, Glyph}
 use Rattle.t1_source.specs.declared.pairs.Pair.{Pair}
 use Rattle.t1_source.specs.declared.edit.Cause.{Cause}
 use Rattle.t1_source.specs.declared.edit.Cause.TheVariants as causes
@@ -13,14 +13,14 @@ use Rattle.t1_source.specs.declared.edit.Edit.{Edit}
 use Rattle.t1_source.specs.declared.edit.Edit.TheVariants.{ReplaceGlyph, AddGlyph, RemoveGlyph, ReplaceSubr, AddSubr, RemoveSubr, Encode, Unencode, Kern, Unkern}
 use Rattle.t1_source.specs.declared.edit.Rule.{Rule}
 use Rattle.t1_source.specs.declared.edit.Rule.TheVariants.{E1, E2, E3, E4, E5, E6, E9, E10}
-use Rattle.t1_source.specs.Form.{Form}
-use Rattle.t1_source.specs.Lines.{lines}
-use Rattle.t1_source.specs.Tokens.{tokens, uncommented}
-use Rattle.t1_source.specs.Names.{is_name}
-use Rattle.t1_source.specs.Encoding.{opens_encoding, chooses_standard, array_lines, slot_of_tokens}
-use Rattle.t1_source.specs.Sections.{is_subrs_line, is_glyphs_line}
-use Rattle.t1_source.specs.Entries.{has_brace, is_subr, is_glyph}
-use Rattle.t1_source.specs.Counts.{is_glyph_entry, raised}
+use Rattle.t1_parts.specs.SourceParts.{SourceParts}
+use Rattle.t1_text.specs.Lines.{lines}
+use Rattle.t1_text.specs.Tokens.{tokens, uncommented}
+use Rattle.t1_text.specs.Names.{is_name}
+use Rattle.t1_parts.specs.Encoding.{opens_encoding, chooses_standard, array_lines, slot_of_tokens}
+use Rattle.t1_parts.specs.Sections.{is_subrs_line, is_glyphs_line}
+use Rattle.t1_parts.specs.Entries.{has_brace, is_subr, is_glyph}
+use Rattle.t1_parts.specs.Counts.{is_glyph_entry, raised}
 use Rattle.t1_source.specs.Kerning.{is_kerning_value, put_pair}
 
 -- a rule that is broken where the test fails
@@ -49,11 +49,11 @@ abbrev pub good_body : List ℕ → Result (Unit {0}) Rule
 good_body body = keeps E6 (not (braced body))
 
 -- the source with these items, and their counts raised
-abbrev pub with_items : Form → List Item → Form
+abbrev pub with_items : SourceParts → List Item → SourceParts
 with_items s items = record { clear = s.clear; items = raised items; tail = s.tail }
 
 -- the source with these clear lines
-abbrev pub with_clear : Form → List (List ℕ) → Form
+abbrev pub with_clear : SourceParts → List (List ℕ) → SourceParts
 with_clear s clear = record { clear = clear; items = s.items; tail = s.tail }
 
 -- the closing text of an entry
@@ -87,7 +87,7 @@ unfoldable pub among_glyphs_items : Item → Bool
 among_glyphs_items i = is_glyph_entry i || is_glyphs_line i
 
 -- profile, edits: a replaced glyph keeps its place and its closing text
-unfoldable pub replaced_glyph : Form → List ℕ → List ℕ → Result Form Rule
+unfoldable pub replaced_glyph : SourceParts → List ℕ → List ℕ → Result SourceParts Rule
 replaced_glyph s g body = do
   named ← good_name g
   closed ← good_body body
@@ -95,7 +95,7 @@ replaced_glyph s g body = do
   Ok (with_items s (slice_set s.items at (Glyph g (body_words body) (closing_at at s.items))))
 
 -- profile, edits: a new glyph
-unfoldable pub added_glyph : Form → List ℕ → List ℕ → Result Form Rule
+unfoldable pub added_glyph : SourceParts → List ℕ → List ℕ → Result SourceParts Rule
 added_glyph s g body = do
   named ← good_name g
   closed ← good_body body
@@ -103,18 +103,18 @@ added_glyph s g body = do
   Ok (with_items s (insert s.items (through_last among_glyphs_items s.items) (Glyph g (body_words body) (closing_among is_glyph_entry (codes "noaccess def") s.items))))
 
 -- profile, edits: a glyph taken out; pairs and slots that name it stay
-unfoldable pub removed_glyph : Form → List ℕ → Result Form Rule
+unfoldable pub removed_glyph : SourceParts → List ℕ → Result SourceParts Rule
 removed_glyph s g = do
   named ← good_name g
   at ← ok_or (position (is_glyph g) s.items) E1
   Ok (with_items s (remove s.items at))
 
 -- profile, edits: E9 where the font has no Subrs section
-abbrev pub has_section : Form → Result (Unit {0}) Rule
+abbrev pub has_section : SourceParts → Result (Unit {0}) Rule
 has_section s = keeps E9 (list_any is_subrs_line s.items)
 
 -- profile, edits: a replaced Subr keeps its place and its closing text
-unfoldable pub replaced_subr : Form → ℤ → List ℕ → Result Form Rule
+unfoldable pub replaced_subr : SourceParts → ℤ → List ℕ → Result SourceParts Rule
 replaced_subr s number body = do
   n ← number_up_to 32000 number
   closed ← good_body body
@@ -123,7 +123,7 @@ replaced_subr s number body = do
   Ok (with_items s (slice_set s.items at (Subr n (body_words body) (closing_at at s.items))))
 
 -- profile, edits: a new Subr
-unfoldable pub added_subr : Form → ℤ → List ℕ → Result Form Rule
+unfoldable pub added_subr : SourceParts → ℤ → List ℕ → Result SourceParts Rule
 added_subr s number body = do
   n ← number_up_to 32000 number
   closed ← good_body body
@@ -132,7 +132,7 @@ added_subr s number body = do
   Ok (with_items s (insert s.items (through_last among_subrs_items s.items) (Subr n (body_words body) (closing_among is_subr_entry (codes "noaccess put") s.items))))
 
 -- profile, edits: a Subr taken out
-unfoldable pub removed_subr : Form → ℤ → Result Form Rule
+unfoldable pub removed_subr : SourceParts → ℤ → Result SourceParts Rule
 removed_subr s number = do
   n ← number_up_to 32000 number
   section ← has_section s
@@ -179,7 +179,7 @@ encoded_lines code g ls =
     else ls ++ slot_line code g ∷ []
 
 -- profile, edits: a code encoded
-unfoldable pub encoded : Form → ℤ → List ℕ → Result Form Rule
+unfoldable pub encoded : SourceParts → ℤ → List ℕ → Result SourceParts Rule
 encoded s number g = do
   named ← good_name g
   code ← number_up_to 255 number
@@ -187,7 +187,7 @@ encoded s number g = do
   Ok (with_clear s (array.front ++ encoded_lines code g array.lines ++ array.back))
 
 -- profile, edits: all slots of a code taken out
-unfoldable pub unencoded : Form → ℤ → Result Form Rule
+unfoldable pub unencoded : SourceParts → ℤ → Result SourceParts Rule
 unencoded s number = do
   code ← number_up_to 255 number
   array ← array_parts s.clear
@@ -219,14 +219,14 @@ unkerned k left right = do
   Ok (remove k at)
 
 -- an edit of the source alone, and one of the pairs alone
-abbrev pub beside_pairs : List Pair → Result Form Rule → Result (Form × List Pair) Rule
+abbrev pub beside_pairs : List Pair → Result SourceParts Rule → Result (SourceParts × List Pair) Rule
 beside_pairs k given = given >>= λ s. Ok (s, k)
 
-abbrev pub beside_source : Form → Result (List Pair) Rule → Result (Form × List Pair) Rule
+abbrev pub beside_source : SourceParts → Result (List Pair) Rule → Result (SourceParts × List Pair) Rule
 beside_source s given = given >>= λ k. Ok (s, k)
 
 -- profile, edits: the source and the pairs after an edit, or the first broken rule
-unfoldable pub edited : Form → List Pair → Edit → Result (Form × List Pair) Rule
+unfoldable pub edited : SourceParts → List Pair → Edit → Result (SourceParts × List Pair) Rule
 edited s k (ReplaceGlyph g body) = beside_pairs k (replaced_glyph s g body)
 edited s k (AddGlyph g body) = beside_pairs k (added_glyph s g body)
 edited s k (RemoveGlyph g) = beside_pairs k (removed_glyph s g)

@@ -12,9 +12,9 @@ use Rattle.t1_frac.specs.declared.fault.Place.TheVariants.{Line}
 use Rattle.t1_frac.specs.Outcome.{told_at, ◌>>=◌}
 use Rattle.t1_frac.specs.Words.{words}
 use Rattle.t1_source.specs.declared.pairs.Pair.{Pair}
-use Rattle.t1_source.specs.Lines.{lines}
-use Rattle.t1_source.specs.Tokens.{first_is}
-use Rattle.t1_source.specs.Names.{decimal_of, is_name, up_to}
+use Rattle.t1_text.specs.Lines.{lines}
+use Rattle.t1_text.specs.Tokens.{first_is}
+use Rattle.t1_text.specs.Names.{decimal_of, is_name, up_to}
 
 -- profile, kerning files: a number word from -32000 to 32000, as a whole number
 abbrev pub kerning_value : List ℕ → Option ℤ

@@ -2,14 +2,14 @@
 
 ghost use Rattle.std.specs.Prelude.{◌≡◌, ℕ, ◌<◌, false, length, get_or, filter_map, option_map};
 ghost use Rattle.t1_code.specs.Encoding.{standard_name as name_of};
-ghost use Rattle.t1_source.specs.Tokens.{tokens, is_token};
-ghost use Rattle.t1_source.specs.Encoding.{slot_of_tokens, slots};
+ghost use Rattle.t1_text.specs.Tokens.{tokens, is_token};
+ghost use Rattle.t1_parts.specs.Encoding.{slot_of_tokens, slots};
 ghost use Rattle.t1_source.specs.Codes.{slot_name, lowest_code, name_at};
 
-use crate::encoding::{array_of, slot_of};
-use crate::tokens::same;
 use t1_code::standard_name;
 use t1_frac::Bytes;
+use t1_parts::{array_of, slot_of};
+use t1_text::same;
 
 /// Whether the standard encoding gives a code this name.
 fn is_standard_name(code: u8, name: &[u8]) -> bool

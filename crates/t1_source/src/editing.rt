@@ -2,18 +2,17 @@
 
 ghost use Rattle.std.specs.Prelude.{◌≡◌, ◌≤◌, ◌<◌, length, IfSome, codes};
 ghost use Rattle.std.specs.List.{list_any, position, remove};
-ghost use Rattle.t1_source.specs.Sections.{is_subrs_line};
-ghost use Rattle.t1_source.specs.Entries.{is_subr, is_glyph};
-ghost use Rattle.t1_source.specs.Counts.{is_glyph_entry};
+ghost use Rattle.t1_parts.specs.Sections.{is_subrs_line};
+ghost use Rattle.t1_parts.specs.Entries.{is_subr, is_glyph};
+ghost use Rattle.t1_parts.specs.Counts.{is_glyph_entry};
 ghost use Rattle.t1_source.specs.Editing.{Edits, closing_of, closing_at, closing_among, through_last, is_subr_entry, among_subrs_items, among_glyphs_items, has_section, replaced_glyph, added_glyph, removed_glyph, replaced_subr, added_subr, removed_subr};
 
 use crate::edit::{Cause, Rule};
-use crate::item::{Item, copied_items};
 use crate::rules::{body_words, good_body, good_name, keeps, number_up_to};
-use crate::sections::{is_glyphs_line, is_subrs_line};
 use crate::source::{Draft, Source};
-use crate::tokens::same;
+use t1_parts::{Item, copied_items, is_glyphs_line, is_subrs_line};
 use t1_frac::Bytes;
+use t1_text::same;
 
 /// Whether an item is the glyph of this name.
 fn is_glyph(name: &[u8], item: &Item) -> bool

@@ -8,10 +8,10 @@ ghost use Rattle.t1_source.specs.Editing.{Edits, is_pair, kerned, unkerned};
 use crate::edit::{Cause, Rule};
 use crate::pairs::{Pair, Pairs};
 use crate::rules::{good_name, kerning_number};
-use crate::tokens::same;
 use std::alloc::{AllocError, Global};
 use std::cmp::Ordering;
 use t1_frac::Bytes;
+use t1_text::same;
 
 /// The order of two pairs by the bytes of the left, then the right name.
 fn pair_cmp(left: &Pair, right: &Pair) -> Ordering
@@ -64,7 +64,7 @@ fn with_pair(alloc: Global, pairs: &[Pair], pair: &Pair) -> Result<Vec<Pair>, Al
 }
 
 /// The pairs with a pair put in, or given another value.
-#[tactic(auto, unfolding(crate::specs::Editing::kerned), using(crate::proofs::PairsKeptLaws::put_pairs, crate::proofs::PairsKeptLaws::named_pair))]
+#[tactic(auto, unfolding(crate::specs::Editing::kerned), using(crate::proofs::PairsWellFormedLaws::put_pairs, crate::proofs::PairsWellFormedLaws::named_pair))]
 pub fn kerned(pairs: &Pairs, left: &[u8], right: &[u8], value: i64) -> Result<Pairs, Cause>
     ensures { Edits (λ made. made) result (kerned pairs.now left.now right.now value) }
 {
@@ -95,7 +95,7 @@ fn pair_at(pairs: &[Pair], left: &[u8], right: &[u8]) -> Option<usize>
 }
 
 /// The pairs without that of these names.
-#[tactic(auto, unfolding(crate::specs::Editing::unkerned), using(crate::proofs::PairsKeptLaws::removed_pairs))]
+#[tactic(auto, unfolding(crate::specs::Editing::unkerned), using(crate::proofs::PairsWellFormedLaws::removed_pairs))]
 pub fn unkerned(pairs: &Pairs, left: &[u8], right: &[u8]) -> Result<Pairs, Cause>
     ensures { Edits (λ made. made) result (unkerned pairs.now left.now right.now) }
 {

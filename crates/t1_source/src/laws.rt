@@ -2,19 +2,19 @@
 
 ghost use Rattle.std.specs.Prelude.{◌≡◌, ◌≤◌, ◌<◌, ◌^◌, ◌+◌, ℕ, List, ◌∷◌, ◌++◌, Some, true, false, Ok, codes, decimal, length, map};
 ghost use Rattle.std.specs.List.{list_all, list_any};
-ghost use Rattle.t1_source.specs.Lines.{lines, joined, is_line, trimmed};
-ghost use Rattle.t1_source.specs.declared.item.Item.{Item};
-ghost use Rattle.t1_source.specs.declared.item.Item.TheVariants.{Subr, Glyph};
-ghost use Rattle.t1_source.specs.Counts.{glyphs_needed, raised};
-ghost use Rattle.t1_source.specs.Parts.{tail_of};
-ghost use Rattle.t1_source.specs.Names.{is_name};
-ghost use Rattle.t1_source.specs.Sections.{is_subrs_line, is_glyphs_line};
-ghost use Rattle.t1_source.specs.Entries.{Numbered, has, is_subr, is_glyph, is_word, body_of};
-ghost use Rattle.t1_source.specs.Private.{item_at};
-ghost use Rattle.t1_source.specs.Form.{Form};
-ghost use Rattle.t1_source.specs.Reading.{reads};
-ghost use Rattle.t1_source.specs.Printing.{body_line, last_line, word_groups, text};
-ghost use Rattle.t1_source.specs.Kept.{IsKept, is_counted};
+ghost use Rattle.t1_text.specs.Lines.{lines, joined, is_line, trimmed};
+ghost use Rattle.t1_parts.specs.declared.item.Item.{Item};
+ghost use Rattle.t1_parts.specs.declared.item.Item.TheVariants.{Subr, Glyph};
+ghost use Rattle.t1_parts.specs.Counts.{glyphs_needed, raised};
+ghost use Rattle.t1_parts.specs.Parts.{tail_of};
+ghost use Rattle.t1_text.specs.Names.{is_name};
+ghost use Rattle.t1_parts.specs.Sections.{is_subrs_line, is_glyphs_line};
+ghost use Rattle.t1_parts.specs.Entries.{NumberedItem, has, is_subr, is_glyph, is_word, body_of};
+ghost use Rattle.t1_parts.specs.Private.{item_at};
+ghost use Rattle.t1_parts.specs.SourceParts.{SourceParts};
+ghost use Rattle.t1_parts.specs.Reading.{reads};
+ghost use Rattle.t1_parts.specs.Printing.{body_line, last_line, word_groups, text};
+ghost use Rattle.t1_source.specs.WellFormed.{IsWellFormed, is_counted};
 ghost use Rattle.t1_source.specs.declared.edit.Edit.{Edit};
 ghost use Rattle.t1_source.specs.Editing.{edited, is_subr_entry};
 ghost use Rattle.t1_source.specs.declared.pairs.Pair.{Pair};
@@ -38,7 +38,7 @@ pub fn printed_body_read()
 
 /// A Subr that is printed is read as it was, whatever follows it, where no earlier one has its number.
 pub fn printed_subr_read()
-    ensures { (earlier : List Numbered) (n : ℕ) (ws : List (List ℕ)) (closing : List ℕ) (ls : List (List ℕ))
+    ensures { (earlier : List NumberedItem) (n : ℕ) (ws : List (List ℕ)) (closing : List ℕ) (ls : List (List ℕ))
         → has is_glyphs_line earlier ≡ false → has is_subrs_line earlier ≡ true → has (is_subr n) earlier ≡ false
         → n ≤ 32000 → list_all is_word ws ≡ true → trimmed closing ≡ closing
         → item_at earlier (codes "dup " ++ (decimal n ++ codes " {")) (map body_line (word_groups ws) ++ last_line closing ∷ ls)
@@ -47,7 +47,7 @@ pub fn printed_subr_read()
 
 /// A glyph that is printed is read as it was, whatever follows it, where no earlier one has its name.
 pub fn printed_glyph_read()
-    ensures { (earlier : List Numbered) (g : List ℕ) (ws : List (List ℕ)) (closing : List ℕ) (ls : List (List ℕ))
+    ensures { (earlier : List NumberedItem) (g : List ℕ) (ws : List (List ℕ)) (closing : List ℕ) (ls : List (List ℕ))
         → has is_glyphs_line earlier ≡ true → has (is_glyph g) earlier ≡ false → is_name g ≡ true
         → list_all is_word ws ≡ true → trimmed closing ≡ closing
         → item_at earlier (47 ∷ (g ++ codes " {")) (map body_line (word_groups ws) ++ last_line closing ∷ ls)
@@ -66,34 +66,34 @@ pub fn kept_tail_stays()
 
 /// A source that is kept, and whose counts have at most nine digits, is read from its text as it was.
 pub fn printed_source_read()
-    ensures { (s : Form) → IsKept s → list_all is_counted s.items ≡ true → reads (text s) ≡ Ok s }
+    ensures { (s : SourceParts) → IsWellFormed s → list_all is_counted s.items ≡ true → reads (text s) ≡ Ok s }
 {}
 
 /// A source that was read is kept.
-pub fn read_source_kept()
-    ensures { (bytes : List ℕ) (s : Form) → reads bytes ≡ Ok s → IsKept s }
+pub fn read_source_is_well_formed()
+    ensures { (bytes : List ℕ) (s : SourceParts) → reads bytes ≡ Ok s → IsWellFormed s }
 {}
 
 /// A source that is kept is kept through every edit.
-pub fn edited_source_kept()
-    ensures { (s made : Form) (ps others : List Pair) (edit : Edit) → IsKept s → edited s ps edit ≡ Ok (made, others)
-        → IsKept made }
+pub fn edited_source_is_well_formed()
+    ensures { (s made : SourceParts) (ps others : List Pair) (edit : Edit) → IsWellFormed s → edited s ps edit ≡ Ok (made, others)
+        → IsWellFormed made }
 {}
 
 /// A source that was read, of fewer than 1,000,000,000 glyphs, is read from its text as it was.
 pub fn read_source_again()
-    ensures { (bytes : List ℕ) (s : Form) → reads bytes ≡ Ok s → glyphs_needed s.items < 10 ^ 9 → reads (text s) ≡ Ok s }
+    ensures { (bytes : List ℕ) (s : SourceParts) → reads bytes ≡ Ok s → glyphs_needed s.items < 10 ^ 9 → reads (text s) ≡ Ok s }
 {}
 
 /// An edit leaves counts of at most nine digits, where there are fewer than 1,000,000,000 glyphs after it.
 pub fn edited_counts_small()
-    ensures { (s made : Form) (ps others : List Pair) (edit : Edit) → IsKept s → list_all is_counted s.items ≡ true
+    ensures { (s made : SourceParts) (ps others : List Pair) (edit : Edit) → IsWellFormed s → list_all is_counted s.items ≡ true
         → edited s ps edit ≡ Ok (made, others) → glyphs_needed made.items < 10 ^ 9 → list_all is_counted made.items ≡ true }
 {}
 
 /// In a source that is kept no Subr stands behind a glyph.
 pub fn subrs_stand_first()
-    ensures { (s : Form) (a b : List Item) (g : List ℕ) (ws : List (List ℕ)) (closing : List ℕ) → IsKept s
+    ensures { (s : SourceParts) (a b : List Item) (g : List ℕ) (ws : List (List ℕ)) (closing : List ℕ) → IsWellFormed s
         → s.items ≡ a ++ Glyph g ws closing ∷ b → list_any is_subr_entry b ≡ false }
 {}
 

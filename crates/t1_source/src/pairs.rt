@@ -1,13 +1,11 @@
 //! Kerning pairs.
 
-use crate::lines::{fault_on, first_line};
-use crate::names::{decimal_up_to, is_name};
-use crate::tokens::same;
 use itoa::Buffer;
 use std::alloc::{AllocError, Global};
 use std::collections::BTreeMap;
 use std::marker::Model;
 use t1_frac::{Bytes, Code, Refusal, next_word};
+use t1_text::{decimal_up_to, fault_on, first_line, is_name, same};
 
 /// A kerning pair and its value.
 #[derive(Debug, Drop)]
@@ -59,8 +57,8 @@ ghost use Rattle.std.specs.List.{list_any};
 ghost use Rattle.t1_frac.specs.declared.fault.Place.TheVariants as places;
 ghost use Rattle.t1_frac.specs.Outcome.{Gives, told_at};
 ghost use Rattle.t1_frac.specs.Words.{words};
-ghost use Rattle.t1_source.specs.Lines.{lines};
-ghost use Rattle.t1_source.specs.Tokens.{first_is};
+ghost use Rattle.t1_text.specs.Lines.{lines};
+ghost use Rattle.t1_text.specs.Tokens.{first_is};
 ghost use Rattle.t1_source.specs.Kerning.{kerning_value, kpx_of, pair_of, is_left_out, line_pairs, put_pair, pairs_with, pairs, kern, kpx_line, are_pairs};
 
 impl Sorted {
@@ -219,7 +217,7 @@ fn gathered(alloc: Global, text: &[u8]) -> Result<Sorted, Refusal>
 
 /// The pairs of a kerning file, or its first fault, with its line: F12 for a `KPX` line that isn't understood, F13
 /// for a line of a form that is left out.
-#[tactic(auto, unfolding(crate::specs::Kerning::pairs), using(crate::proofs::PairsKeptLaws::lines_good))]
+#[tactic(auto, unfolding(crate::specs::Kerning::pairs), using(crate::proofs::PairsWellFormedLaws::lines_good))]
 pub fn read_pairs(alloc: Global, bytes: &[u8]) -> Result<Pairs, Refusal>
     ensures { Gives (λ pairs. pairs) result (pairs bytes.now) }
 {

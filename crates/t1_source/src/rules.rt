@@ -3,12 +3,11 @@
 ghost use Rattle.std.specs.Prelude.{◌≡◌, IfOk};
 ghost use Rattle.t1_source.specs.Editing.{keeps, number_up_to, kerning_number, good_name, good_body, braced, body_words};
 
-use crate::body::{has_brace, uncommented};
 use crate::edit::Rule;
-use crate::lines::first_line;
-use crate::names::is_name;
+use t1_parts::{has_brace, uncommented};
 use std::alloc::{AllocError, Global};
 use t1_frac::Words;
+use t1_text::{first_line, is_name};
 
 /// A rule that is broken where a test fails.
 pub fn keeps(rule: Rule, kept: bool) -> Result<(), Rule>

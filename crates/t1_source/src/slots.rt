@@ -5,13 +5,12 @@ ghost use Rattle.std.specs.List.{list_any};
 ghost use Rattle.t1_source.specs.Editing.{Edits, array_parts, is_slot, is_slot_of, through_last, slot_line, encoded_lines, encoded, unencoded};
 
 use crate::edit::{Cause, Rule};
-use crate::encoding::{array_len, encoding_at, has_standard, slot_of};
-use crate::lines::copied_bytes;
-use crate::printing::push_decimal;
+use t1_parts::{array_len, encoding_at, has_standard, push_decimal, slot_of};
 use crate::rules::{good_name, keeps, number_up_to};
 use crate::source::{Draft, Source};
 use std::alloc::{AllocError, Global};
 use t1_frac::Bytes;
+use t1_text::copied_bytes;
 
 /// The clear lines before those of an array, those of the array, and those after them.
 #[derive(Drop)]

@@ -1,28 +1,18 @@
 //! A source that was read.
 
 use crate::codes::{array_code, array_names, standard_code, standard_names};
-use crate::counts::raised;
 use crate::edit::{Cause, Edit};
 use crate::editing::{
     added_glyph, added_subr, removed_glyph, removed_subr, replaced_glyph, replaced_subr,
 };
-use crate::encoding::{check_clear, has_standard};
-use crate::gathered::Gathered;
-use crate::header::header_of;
-use crate::item::{Item, copied_items};
 use crate::kerning::{kerned, unkerned};
-use crate::len_iv::{check_lead, lead_of};
-use crate::lines::{Line, copied_bytes, copied_lines, cut_lines};
-use crate::operator::operator_of;
+use t1_parts::{Gathered, Item, check_clear, check_lead, copied_items, has_standard, header_of, lead_of, operator_of, parts_of, private_items, push_items, push_lines, raised, tail_of};
 use crate::pairs::Pairs;
-use crate::parts::{parts_of, tail_of};
-use crate::printing::{push_items, push_lines};
-use crate::private::private_items;
 use crate::slots::{encoded, unencoded};
-use crate::tokens::same;
 use std::alloc::{AllocError, Global};
 use std::marker::Model;
 use t1_frac::{Bytes, Code, Refusal};
+use t1_text::{Line, copied_bytes, copied_lines, cut_lines, same};
 
 /// The readable source of a font: its clear lines, the items of its private part and its tail.
 #[derive(Debug, Drop)]
@@ -34,15 +24,15 @@ pub struct Source {
 }
 
 impl Model for Source {
-    ghost use Rattle.t1_source.specs.Form.{Form};
+    ghost use Rattle.t1_parts.specs.SourceParts.{SourceParts};
 
-    ghost Value = { Form };
+    ghost Value = { SourceParts };
 
     ghost view = { λ source. record { clear = source.clear.items; items = source.items.items; tail = source.tail.items } };
 
-    ghost use Rattle.t1_source.specs.Kept.{IsKept};
+    ghost use Rattle.t1_source.specs.WellFormed.{IsWellFormed};
 
-    ghost invariant = { λ source. IsKept (record { clear = source.clear.items; items = source.items.items; tail = source.tail.items }) };
+    ghost invariant = { λ source. IsWellFormed (record { clear = source.clear.items; items = source.items.items; tail = source.tail.items }) };
 }
 
 /// What an edit makes of a source.
@@ -54,9 +44,9 @@ pub struct Draft {
 }
 
 impl Model for Draft {
-    ghost use Rattle.t1_source.specs.Form.{Form};
+    ghost use Rattle.t1_parts.specs.SourceParts.{SourceParts};
 
-    ghost Value = { Form };
+    ghost Value = { SourceParts };
 
     ghost view = { λ draft. record { clear = draft.clear.items; items = draft.items.items; tail = draft.tail.items } };
 }
@@ -64,18 +54,18 @@ impl Model for Draft {
 ghost use Rattle.std.specs.Prelude.{◌≡◌, ◌<◌, ℕ, IfOk, option_map, true};
 ghost use Rattle.std.specs.List.{list_all};
 ghost use Rattle.t1_frac.specs.Outcome.{Gives};
-ghost use Rattle.t1_source.specs.Lines.{is_line};
-ghost use Rattle.t1_source.specs.Reading.{whole_check, reads_lines, reads, standard};
-ghost use Rattle.t1_source.specs.Kept.{IsKept};
-ghost use Rattle.t1_source.specs.LenIV.{lead};
-ghost use Rattle.t1_source.specs.Operator.{operator};
-ghost use Rattle.t1_source.specs.Header.{header};
+ghost use Rattle.t1_text.specs.Lines.{is_line};
+ghost use Rattle.t1_parts.specs.Reading.{whole_check, reads_lines, reads, standard};
+ghost use Rattle.t1_source.specs.WellFormed.{IsWellFormed};
+ghost use Rattle.t1_parts.specs.LenIV.{lead};
+ghost use Rattle.t1_parts.specs.Operator.{operator};
+ghost use Rattle.t1_parts.specs.Header.{header};
 ghost use Rattle.t1_source.specs.Codes.{code_of, name_at, name_of_code};
-ghost use Rattle.t1_source.specs.Printing.{text};
+ghost use Rattle.t1_parts.specs.Printing.{text};
 ghost use Rattle.t1_source.specs.Editing.{Edits, edited, with_items, with_clear};
 
 /// Judges the items of a private part as a whole.
-#[tactic(auto, unfolding(crate::specs::Reading::whole_check))]
+#[tactic(auto, unfolding(t1_parts::specs::Reading::whole_check))]
 fn check_whole(items: &Gathered) -> Result<(), Refusal>
     ensures { Gives (λ x. x) result (whole_check items.now) }
 {
@@ -87,7 +77,7 @@ fn check_whole(items: &Gathered) -> Result<(), Refusal>
 }
 
 /// The source of some lines, or the first fault.
-#[tactic(auto, unfolding(crate::specs::Reading::reads_lines))]
+#[tactic(auto, unfolding(t1_parts::specs::Reading::reads_lines))]
 fn read_lines(alloc: Global, lines: &[Line]) -> Result<Source, Refusal>
     requires { list_all is_line lines.now ≡ true }
     ensures { Gives (λ source. source) result (reads_lines lines.now) }
@@ -110,7 +100,7 @@ fn read_lines(alloc: Global, lines: &[Line]) -> Result<Source, Refusal>
 /// The source of some bytes. The first fault refuses it: F1 where no line ends the clear part, F2 where none ends the
 /// private part, then F5 and F6 of the clear lines, F4 and F7 to F10 of the private lines, each from the top and
 /// with its line, then F3 and F11.
-#[tactic(auto, unfolding(crate::specs::Reading::reads), using(crate::proofs::KeptSourceLaws::lines_are_lines))]
+#[tactic(auto, unfolding(t1_parts::specs::Reading::reads), using(crate::proofs::WellFormedSourceLaws::lines_are_lines))]
 pub fn read_source(alloc: Global, bytes: &[u8]) -> Result<Source, Refusal>
     ensures { Gives (λ source. source) result (reads bytes.now) }
 {
@@ -160,7 +150,7 @@ impl Source {
 
     /// The source that a draft is.
     fn with_draft(&self, draft: Draft) -> Source
-        requires { IsKept draft }
+        requires { IsWellFormed draft }
         ensures { result ≡ draft }
     {
         let Draft { clear, items, tail } = draft;
@@ -175,7 +165,7 @@ impl Source {
     /// The items, of a source that was read or edited.
     pub(crate) fn kept_items(&self) -> &[Item]
         ensures value { result.now ≡ self.now.items }
-        ensures kept { IsKept self.now }
+        ensures kept { IsWellFormed self.now }
     {
         self.items.as_slice()
     }

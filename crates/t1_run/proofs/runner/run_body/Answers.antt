@@ -4,16 +4,16 @@ use Rattle.t1_frac.specs.Outcome.{told_at}
 use Rattle.t1_frac.specs.declared.fault.Place.TheVariants.{Nowhere}
 use Rattle.t1_code.specs.declared.command.Command.{Command}
 use Rattle.t1_run.specs.Machine.{state_of, told}
-use Rattle.t1_run.specs.Run.{Maps}
+use Rattle.t1_run.specs.Run.{FontBodies}
 use Rattle.t1_run.specs.State.{State}
 use Rattle.t1_run.proofs.Continuing.{Continues, Continues-start, Continues-call, Continues-back, outcome-end, outcome-missing, outcome-full, outcome-compose, refused-step, refused-parts, found-parts}
 use Rattle.t1_run.proofs.runner.run_body.Goals as goal
 
-at_rest : {m : Maps} {body rest rest' : List Command} {waiting : List (List Command)} {s : State}
+at_rest : {m : FontBodies} {body rest rest' : List Command} {waiting : List (List Command)} {s : State}
     → Continues m body rest waiting s → rest ≡ rest' → Continues m body rest' waiting s
 at_rest {m = m} {body = body} {waiting = waiting} {s = s} h e = subst (λ r. Continues m body r waiting s) e h
 
-at_waiting : {m : Maps} {body rest : List Command} {waiting waiting' : List (List Command)} {s : State}
+at_waiting : {m : FontBodies} {body rest : List Command} {waiting waiting' : List (List Command)} {s : State}
     → Continues m body rest waiting s → waiting ≡ waiting' → Continues m body rest waiting' s
 at_waiting {m = m} {body = body} {rest = rest} {s = s} h e = subst (λ w. Continues m body rest w s) e h
 

@@ -1,5 +1,5 @@
 use Rattle.std.proofs.Common.{◌≡◌, ◌-◌, ◌≤◌}
-use Rattle.t1_source.specs.Encoding.{slots}
+use Rattle.t1_parts.specs.Encoding.{slots}
 use Rattle.t1_source.specs.Codes.{lowest_code, slot_name}
 use Rattle.t1_source.proofs.CodeLaws.{lowest_from}
 use Rattle.t1_source.proofs.codes.array_code.Given as goal

@@ -1,8 +1,8 @@
 use Rattle.std.proofs.Common.{rules, ◌≡◌, ◌<◌, false, None, Some, length, get_or, set, refl, sym, ◌∙◌, ap, arith}
 use Rattle.std.specs.Str.{bytes_eq}
 use Rattle.std.proofs.lemmas.List.{get_or-replicate, length-set}
-use Rattle.t1_source.specs.Tokens.{tokens}
-use Rattle.t1_source.specs.Encoding.{slot_of_tokens}
+use Rattle.t1_text.specs.Tokens.{tokens}
+use Rattle.t1_parts.specs.Encoding.{slot_of_tokens}
 use Rattle.t1_source.proofs.CodeLaws.{no_slot_more, slot_more}
 use Rattle.t1_source.proofs.codes.codes_named.Goals.{in-Some, in_default}
 use Rattle.t1_source.proofs.codes.codes_named.Goals as goal

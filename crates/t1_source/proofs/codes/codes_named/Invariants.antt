@@ -1,6 +1,6 @@
 use Rattle.std.proofs.Common.{◌≡◌, ℕ, ◌<◌, false, length, get_or, take, filter_map}
-use Rattle.t1_source.specs.Tokens.{tokens, is_token}
-use Rattle.t1_source.specs.Encoding.{slot_of_tokens}
+use Rattle.t1_text.specs.Tokens.{tokens, is_token}
+use Rattle.t1_parts.specs.Encoding.{slot_of_tokens}
 use Rattle.t1_source.specs.Codes.{slot_name}
 use Rattle.t1_source.proofs.codes.codes_named.Given as goal
 

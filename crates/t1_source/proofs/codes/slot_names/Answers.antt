@@ -1,7 +1,7 @@
 use Rattle.std.proofs.Common.{rules, ◌≡◌, ◌<◌, None, Some, length, option_map, set, refl, sym, ◌∙◌, ap, arith}
 use Rattle.std.proofs.lemmas.List.{get_or-replicate, length-set}
-use Rattle.t1_source.specs.Tokens.{tokens}
-use Rattle.t1_source.specs.Encoding.{slot_of_tokens}
+use Rattle.t1_text.specs.Tokens.{tokens}
+use Rattle.t1_parts.specs.Encoding.{slot_of_tokens}
 use Rattle.t1_source.specs.Codes.{name_at}
 use Rattle.t1_source.proofs.CodeLaws.{no_name_more, name_more}
 use Rattle.t1_source.proofs.codes.slot_names.Goals.{in-Some, in_default}

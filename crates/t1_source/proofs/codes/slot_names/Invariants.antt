@@ -1,6 +1,6 @@
 use Rattle.std.proofs.Common.{◌≡◌, ℕ, ◌<◌, length, take, filter_map}
-use Rattle.t1_source.specs.Tokens.{tokens}
-use Rattle.t1_source.specs.Encoding.{slot_of_tokens}
+use Rattle.t1_text.specs.Tokens.{tokens}
+use Rattle.t1_parts.specs.Encoding.{slot_of_tokens}
 use Rattle.t1_source.specs.Codes.{slot_name, name_at}
 use Rattle.t1_source.proofs.codes.slot_names.Given as goal
 

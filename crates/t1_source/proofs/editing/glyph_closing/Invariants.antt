@@ -1,5 +1,5 @@
 use Rattle.std.proofs.Common.{◌≡◌, length, codes}
-use Rattle.t1_source.specs.Counts.{is_glyph_entry}
+use Rattle.t1_parts.specs.Counts.{is_glyph_entry}
 use Rattle.t1_source.specs.Editing.{closing_among}
 use Rattle.t1_source.proofs.editing.glyph_closing.Given as goal
 

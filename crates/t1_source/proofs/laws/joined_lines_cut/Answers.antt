@@ -1,4 +1,4 @@
-use Rattle.t1_source.proofs.TextLaws.{lines_joined}
+use Rattle.t1_text.proofs.TextLaws.{lines_joined}
 use Rattle.t1_source.proofs.laws.joined_lines_cut.Goals as goal
 
 pub returns : goal.returns

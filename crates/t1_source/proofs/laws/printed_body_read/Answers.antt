@@ -1,4 +1,4 @@
-use Rattle.t1_source.proofs.BodyLaws.{printed_body}
+use Rattle.t1_parts.proofs.BodyLaws.{printed_body}
 use Rattle.t1_source.proofs.laws.printed_body_read.Goals as goal
 
 pub returns : goal.returns

@@ -1,4 +1,4 @@
-use Rattle.t1_source.proofs.EntryLaws.{glyph_again}
+use Rattle.t1_parts.proofs.EntryLaws.{glyph_again}
 use Rattle.t1_source.proofs.laws.printed_glyph_read.Goals as goal
 
 pub returns : goal.returns

@@ -1,4 +1,4 @@
-use Rattle.t1_source.proofs.EntryLaws.{subr_again}
+use Rattle.t1_parts.proofs.EntryLaws.{subr_again}
 use Rattle.t1_source.proofs.laws.printed_subr_read.Goals as goal
 
 pub returns : goal.returns

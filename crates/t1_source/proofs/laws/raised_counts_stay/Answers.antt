@@ -1,4 +1,4 @@
-use Rattle.t1_source.proofs.CountLaws.{raised_again}
+use Rattle.t1_parts.proofs.CountLaws.{raised_again}
 use Rattle.t1_source.proofs.laws.raised_counts_stay.Goals as goal
 
 pub returns : goal.returns

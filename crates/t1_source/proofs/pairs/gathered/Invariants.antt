@@ -1,5 +1,5 @@
 use Rattle.std.proofs.Common.{◌≡◌, ◌+◌, ◌≤◌, [], length}
-use Rattle.t1_source.specs.Lines.{lines}
+use Rattle.t1_text.specs.Lines.{lines}
 use Rattle.t1_source.specs.Kerning.{pairs_with}
 use Rattle.t1_source.proofs.pairs.gathered.Given as goal
 

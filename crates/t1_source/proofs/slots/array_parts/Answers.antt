@@ -1,6 +1,6 @@
 use Rattle.std.proofs.Common.{rules, ◌≡◌, false, Some}
 use Rattle.std.specs.List.{list_any, position}
-use Rattle.t1_source.specs.Encoding.{opens_encoding, chooses_standard}
+use Rattle.t1_parts.specs.Encoding.{opens_encoding, chooses_standard}
 use Rattle.t1_source.proofs.SlotLaws.{parts_at}
 use Rattle.t1_source.proofs.slots.array_parts.Goals as goal
 

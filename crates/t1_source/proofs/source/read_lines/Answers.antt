@@ -1,11 +1,11 @@
 use Rattle.std.proofs.Common.{◌∙◌, ap, sym}
-use Rattle.t1_source.specs.Encoding.{clear_check}
-use Rattle.t1_source.specs.Counts.{raised}
-use Rattle.t1_source.proofs.KeptSourceLaws.{made_kept}
+use Rattle.t1_parts.specs.Encoding.{clear_check}
+use Rattle.t1_parts.specs.Counts.{raised}
+use Rattle.t1_source.proofs.WellFormedSourceLaws.{made_well_formed}
 use Rattle.t1_source.proofs.source.read_lines.Goals as goal
 
 pub invariant_of-result : goal.invariant_of-result
 invariant_of-result c =
     let clear = c.deref.ensures.value ∙ c.in_ok-clear.ensures in
-    made_kept _ _ _ _ _ _ c.in_ok-parts.ensures.value c.in_ok-items.ensures c.in_ok-check_whole.ensures (ap clear_check (sym clear) ∙ c.in_ok-check_clear.ensures) c.requires c.in_ok-clear.ensures
+    made_well_formed _ _ _ _ _ _ c.in_ok-parts.ensures.value c.in_ok-items.ensures c.in_ok-check_whole.ensures (ap clear_check (sym clear) ∙ c.in_ok-check_clear.ensures) c.requires c.in_ok-clear.ensures
     (c.in_ok-items-2.ensures ∙ ap raised c.in_ok-into_items.ensures) c.in_ok-tail.ensures

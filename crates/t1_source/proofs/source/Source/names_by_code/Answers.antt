@@ -1,6 +1,6 @@
 use Rattle.std.proofs.Common.{rules, ◌≡◌, sym, ◌∙◌, ap}
 use Rattle.t1_source.specs.Codes.{slot_name}
-use Rattle.t1_source.specs.Encoding.{slots}
+use Rattle.t1_parts.specs.Encoding.{slots}
 use Rattle.t1_source.proofs.CodeLaws.{standard_named, array_named}
 use Rattle.t1_source.proofs.source.Source.names_by_code.Goals as goal
 

@@ -1,0 +1,89 @@
+-- Look-ups among what is kept by name.
+use Rattle.std.proofs.Common.{◌≡◌, ℕ, ◌+◌, ◌<◌, length, get_or, drop, drop-cons, add-one, Bool, true, false, cond, List, [], ◌∷◌, refl, sym, ap, ◌∙◌, Option, Some, None, inl, inr, map}
+use Rattle.std.specs.Prelude.{Result, ◌||◌}
+use Rattle.std.specs.List.{list_any}
+use Rattle.std.specs.Option.{option_map, option_copied}
+use Rattle.std.specs.Borrow.{Bor}
+use Rattle.std.specs.Map.{lookup}
+use Rattle.std.specs.Str.{bytes_eq}
+use Rattle.std.proofs.lemmas.Bool.{cases_Bool}
+use Rattle.std.proofs.lemmas.Slice.Eq.{bytes_eq-Decides}
+use Rattle.t1_frac.specs.declared.fault.Code.{Code}
+use Rattle.t1_run.specs.Run.{FontBodies, Drawing, own}
+use Rattle.t1_font.specs.Runs.{Kept, kept_of, own_among}
+use Rattle.indexmap.specs.IndexMap.{insert_entry}
+
+-- what is found, behind a borrow
+pub copied-map : {X Y : Type 0} (view : X → Y) (r : Option (Bor X)) → option_map (λ x. view x.now) r ≡ option_map view (option_copied r)
+copied-map view None = refl
+copied-map view (Some x) = refl
+
+pub map-cond : {X Y : Type 0} (view : X → Y) (b : Bool) (x : X) (r : Option X) → option_map view (cond b (Some x) r) ≡ cond b (Some (view x)) (option_map view r)
+map-cond view true x r = refl
+map-cond view false x r = refl
+
+-- a look-up among views is the view of what is found
+pub lookup-map : {K X L Y : Type 0} (name : K → L) (view : X → Y) (test : L → Bool) (es : List (K × X))
+    → lookup test (map (λ e. (name e.0, view e.1)) es) ≡ option_map view (lookup (λ k. test (name k)) es)
+lookup-map name view test [] = refl
+lookup-map name view test (e ∷ es) =
+    ap (cond (test (name e.0)) (Some (view e.1))) (lookup-map name view test es)
+    ∙ sym (map-cond view (test (name e.0)) e.1 (lookup (λ k. test (name k)) es))
+
+pub same_bytes : (a b : List ℕ) → bytes_eq a b ≡ true → a ≡ b
+same_bytes a b h = (bytes_eq-Decides a b).0 h
+
+pub bytes_self : (a : List ℕ) → bytes_eq a a ≡ true
+bytes_self a = (bytes_eq-Decides a a).1 refl
+
+cond-again : {X : Type 0} (b : Bool) (x y r : X) → cond b x r ≡ cond b x (cond b y r)
+cond-again true x y r = refl
+cond-again false x y r = refl
+
+cond-swap : {X : Type 0} (a b : Bool) (x y r : X) → (a ≡ true → b ≡ true → ⊥) → cond a x (cond b y r) ≡ cond b y (cond a x r)
+cond-swap true true x y r h = absurd (h refl refl)
+cond-swap true false x y r h = refl
+cond-swap false b x y r h = refl
+
+-- a name that is put in has its new value, and each other name what it had
+pub lookup-inserted : {K X : Type 0} (name : K → List ℕ) (g : List ℕ) (k : K) (v : X) (es : List (K × X))
+    → lookup (λ x. bytes_eq g (name x)) (insert_entry (λ x y. bytes_eq (name x) (name y)) es k v)
+    ≡ cond (bytes_eq g (name k)) (Some v) (lookup (λ x. bytes_eq g (name x)) es)
+lookup-inserted name g k v [] = refl
+lookup-inserted name g k v (e ∷ es) =
+    let rest = lookup (λ x. bytes_eq g (name x)) es in
+    elim (cases_Bool (bytes_eq (name k) (name e.0))) [
+      | inl same ↦ rw (same, same_bytes (name k) (name e.0) same) (cond-again (bytes_eq g (name e.0)) (Some v) (Some e.1) rest)
+      | inr other ↦
+          rw other (
+          ap (cond (bytes_eq g (name e.0)) (Some e.1)) (lookup-inserted name g k v es)
+          ∙ cond-swap (bytes_eq g (name e.0)) (bytes_eq g (name k)) (Some e.1) (Some v) rest (λ p q.
+          let both : bytes_eq (name k) (name e.0) ≡ true = rw (← same_bytes g (name k) q, ← same_bytes g (name e.0) p) (bytes_self g) in
+          let never : false ≡ true = sym other ∙ both in
+          absurd (cc)))
+    ]
+
+-- ---- the runs of some glyphs, one after another
+
+-- what is kept so far, with the runs of the glyphs that are left, is what is kept of all
+abbrev pub RunsInFront : FontBodies → List (List ℕ) → List Kept → List (List ℕ) → Type 0
+RunsInFront m rest runs names = (q : List ℕ) → cond (list_any (bytes_eq q) rest) (own m q) (kept_of runs q) ≡ own_among m names q
+
+or-cond : {X : Type 0} (a b : Bool) (all one r : X) → (b ≡ true → all ≡ one) → cond a all (cond b one r) ≡ cond (b || a) all r
+or-cond true true all one r h = refl
+or-cond true false all one r h = refl
+or-cond false true all one r h = sym (h refl)
+or-cond false false all one r h = refl
+
+pub one-more : (m : FontBodies) (rest : List (List ℕ)) (old new : List Kept) (names : List (List ℕ)) (name : List ℕ) (kept : Result Drawing Code)
+    → Some kept ≡ own m name → ((q : List ℕ) → kept_of new q ≡ cond (bytes_eq q name) (Some kept) (kept_of old q))
+    → RunsInFront m (name ∷ rest) old names → RunsInFront m rest new names
+one-more m rest old new names name kept is put h q =
+    ap (cond (list_any (bytes_eq q) rest) (own m q)) (put q)
+    ∙ or-cond (list_any (bytes_eq q) rest) (bytes_eq q name) (own m q) (Some kept) (kept_of old q)
+    (λ same. rw (same_bytes q name same) (sym is))
+    ∙ h q
+
+-- the names that are left begin with this one
+pub name-first : (names : List (Bor (List ℕ))) (i : ℕ) (d : Bor (List ℕ)) → i < length names → drop i names ≡ get_or names i d ∷ drop (i + 1) names
+name-first names i d h = rw (add-one, drop-cons names i d) refl

@@ -1,0 +1,13 @@
+pub mod Compiling
+pub mod Drawing
+pub mod Filing
+pub mod Gathering
+pub mod Joining
+pub mod Keeping
+pub mod LengthLaws
+pub mod Measuring
+pub mod Naming
+pub mod Ordering
+pub mod Outlining
+pub mod Rows
+pub mod UsageRows

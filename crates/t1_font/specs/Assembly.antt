@@ -1,0 +1,54 @@
+-- The PFB file of a source.
+use Rattle.std.specs.Prelude.{ℕ, List, [], ◌∷◌, ◌++◌, Result, Ok, codes, decimal, replicate}
+use Rattle.t1_frac.specs.declared.fault.Fault.{Fault}
+use Rattle.t1_frac.specs.declared.fault.Place.{Place}
+use Rattle.t1_frac.specs.declared.fault.Place.TheVariants as places
+use Rattle.t1_frac.specs.Outcome.{told_at, ◌>>=◌}
+use Rattle.t1_parts.specs.declared.item.Item.{Item}
+use Rattle.t1_parts.specs.declared.item.Item.TheVariants.{Plain, Section, Subr, Glyph}
+use Rattle.t1_parts.specs.SourceParts.{SourceParts}
+use Rattle.t1_text.specs.Lines.{joined}
+use Rattle.t1_parts.specs.LenIV.{lead}
+use Rattle.t1_parts.specs.Operator.{operator}
+use Rattle.t1_code.specs.Words.{commands}
+use Rattle.t1_code.specs.Charstring.{charstring}
+use Rattle.t1_code.specs.Cipher.{encrypted_charstring}
+use Rattle.t1_code.specs.Pfb.{entry_text, pfb_of, whole_file}
+use Rattle.t1_font.specs.declared.private.PrivateLine.{PrivateLine}
+use Rattle.t1_font.specs.declared.private.PrivateLine.TheVariants as lines
+
+-- Type 1 Font Format, Chapter 2: an entry's line, with its body's encrypted charstring; or the body's fault, at the entry
+unfoldable pub entry_line : ℕ → List ℕ → Place → List ℕ → List (List ℕ) → List ℕ → Result (List ℕ) Fault
+entry_line lead operator place head words closing =
+    told_at place (commands words) >>= λ body. Ok (entry_text head operator (encrypted_charstring lead (charstring body)) closing)
+
+-- Type 1 Font Format, Chapter 2: the line of an item of the private part
+abbrev pub item_line : ℕ → List ℕ → Item → Result (List ℕ) Fault
+item_line lead operator (Plain line) = Ok (line ++ 10 ∷ [])
+item_line lead operator (Section before count after) = Ok (before ++ decimal count ++ after ++ 10 ∷ [])
+item_line lead operator (Subr number words closing) = entry_line lead operator (places.Subr number) (codes "dup " ++ decimal number) words closing
+item_line lead operator (Glyph name words closing) = entry_line lead operator (places.Glyph name) (47 ∷ name) words closing
+
+-- the private text of the items, or the first fault of their bodies; in a source the Subrs stand before the glyphs
+abbrev pub private_text : ℕ → List ℕ → List Item → Result (List ℕ) Fault
+private_text lead operator [] = Ok []
+private_text lead operator (item ∷ items) =
+    item_line lead operator item >>= λ line. private_text lead operator items >>= λ rest. Ok (line ++ rest)
+
+-- Type 1 Font Format, Chapter 2: 512 zeros in eight lines, and the lines behind them
+abbrev pub trailer_text : List (List ℕ) → List ℕ
+trailer_text tail = joined (replicate 8 (replicate 64 48) ++ tail)
+
+-- the PFB file of a source in blocks of this size, or the first fault of its bodies, or F23
+unfoldable pub source_file : ℕ → SourceParts → Result (List ℕ) Fault
+source_file size source =
+    private_text (lead source) (operator source) source.items >>= λ private. pfb_of size (joined source.clear) private (trailer_text source.tail)
+
+-- whether a source has its PFB file, or the first fault of its bodies, or F23
+unfoldable pub file_check : SourceParts → Result (Unit {0}) Fault
+file_check source = source_file whole_file source >>= λ file. Ok tt
+
+-- the bytes of a line that is ready to be written
+abbrev pub line_text : PrivateLine → List ℕ
+line_text (lines.Text bytes) = bytes.items
+line_text (lines.Entry head operator charstring closing) = entry_text head.items operator.now charstring.items closing.now

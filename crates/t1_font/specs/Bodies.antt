@@ -1,0 +1,75 @@
+-- The bodies of a source, compiled.
+use Rattle.std.specs.Prelude.{ℕ, nat_eq, ◌==◌, if◌then◌else◌, List, [], ◌∷◌, Option, None, Result, Ok}
+use Rattle.std.specs.Map.{lookup}
+use Rattle.std.specs.Option.{option_or}
+use Rattle.std.specs.Result.{result_ok}
+use Rattle.std.specs.Str.{bytes_eq}
+use Rattle.std.specs.declared.vec.Vec.{Vec}
+use Rattle.t1_frac.specs.declared.fault.Fault.{Fault}
+use Rattle.t1_frac.specs.declared.fault.Place.{Place}
+use Rattle.t1_frac.specs.declared.fault.Place.TheVariants as places
+use Rattle.t1_frac.specs.Outcome.{told_at, ◌>>=◌}
+use Rattle.t1_parts.specs.declared.item.Item.{Item}
+use Rattle.t1_parts.specs.declared.item.Item.TheVariants.{Subr, Glyph}
+use Rattle.t1_code.specs.declared.command.Command.{Command}
+use Rattle.t1_code.specs.Words.{commands}
+use Rattle.t1_run.specs.declared.plain.Plain.{Plain}
+use Rattle.t1_run.specs.Run.{FontBodies, Key, font}
+use Rattle.t1_run.specs.Footprint.{SameAt}
+
+-- profile: the item's body, where it is the Subr of this number and its words are commands
+abbrev pub subr_in : Item → ℕ → Option (List Command)
+subr_in (Subr number words closing) n = if n == number then result_ok (commands words) else None
+subr_in _ n = None
+
+-- profile: the item's body, where it is the glyph of this name and its words are commands
+abbrev pub glyph_in : Item → List ℕ → Option (List Command)
+glyph_in (Glyph name words closing) g = if bytes_eq g name then result_ok (commands words) else None
+glyph_in _ g = None
+
+-- profile: the body of the first Subr of this number
+abbrev pub subr_among : List Item → ℕ → Option (List Command)
+subr_among [] n = None
+subr_among (item ∷ items) n = option_or (subr_in item n) (subr_among items n)
+
+-- profile: the body of the first glyph of this name
+abbrev pub glyph_among : List Item → List ℕ → Option (List Command)
+glyph_among [] g = None
+glyph_among (item ∷ items) g = option_or (glyph_in item g) (glyph_among items g)
+
+-- profile: the bodies of the entries of a private part
+abbrev pub bodies : List Item → FontBodies
+bodies items = font (subr_among items) (glyph_among items)
+
+-- ---- their first fault
+
+-- profile: words are commands, or have their fault at this place
+unfoldable pub words_check : Place → List (List ℕ) → Result (Unit {0}) Fault
+words_check place words = told_at place (commands words) >>= λ _. Ok tt
+
+abbrev pub body_check : Item → Result (Unit {0}) Fault
+body_check (Subr number words closing) = words_check (places.Subr number) words
+body_check (Glyph name words closing) = words_check (places.Glyph name) words
+body_check _ = Ok tt
+
+-- profile: the first fault of a body, at its entry
+abbrev pub bodies_check : List Item → Result (Unit {0}) Fault
+bodies_check [] = Ok tt
+bodies_check (item ∷ items) = body_check item >>= λ _. bodies_check items
+
+-- ---- the maps of the code
+
+-- the body that is kept for a number
+abbrev pub subr_kept : List (ℕ × List Command) → ℕ → Option (List Command)
+subr_kept entries n = lookup (nat_eq n) entries
+
+-- the body that is kept for a name
+abbrev pub glyph_kept : {A : Type 0} → List (Vec ℕ A × List Command) → List ℕ → Option (List Command)
+glyph_kept entries g = lookup (λ key. bytes_eq g key.items) entries
+
+abbrev pub plain_bodies : Plain → FontBodies
+plain_bodies plain = font (subr_kept plain.subrs.entries) (glyph_kept plain.glyphs.entries)
+
+-- both fonts have the same body, or both none, at each key
+abbrev pub SameBodies : FontBodies → FontBodies → Type 0
+SameBodies m n = (key : Key) → SameAt m n key

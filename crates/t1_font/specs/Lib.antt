@@ -1,0 +1,12 @@
+pub mod Assembly
+pub mod Bodies
+pub mod FontMetrics
+pub mod Glyphs
+pub mod Laws
+pub mod MeasuredGlyphs
+pub mod Metrics
+pub mod Names
+pub mod Outlines
+pub mod Runs
+pub mod SourceChecks
+pub mod Usage

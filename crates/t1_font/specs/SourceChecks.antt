@@ -1,0 +1,21 @@
+-- The glyphs and the usage table of a source, and its first fault.
+use Rattle.std.specs.Prelude.{ℕ, List, Result, Ok}
+use Rattle.t1_frac.specs.declared.fault.Fault.{Fault}
+use Rattle.t1_frac.specs.Outcome.{◌>>=◌}
+use Rattle.t1_parts.specs.SourceParts.{SourceParts}
+use Rattle.t1_font.specs.Bodies.{bodies}
+use Rattle.t1_font.specs.Glyphs.{Glyph, glyphs, glyph_names}
+use Rattle.t1_font.specs.Usage.{usage_table}
+use Rattle.t1_font.specs.Assembly.{file_check}
+
+-- profile, order of faults: the glyphs of a source, or its first fault: of the bodies, F23, or of a glyph
+abbrev pub source_glyphs : SourceParts → Result (List Glyph) Fault
+source_glyphs source = file_check source >>= λ checked. glyphs (bodies source.items) (glyph_names source.items)
+
+-- the first fault of a source, where it has one
+abbrev pub source_check : SourceParts → Result (Unit {0}) Fault
+source_check source = source_glyphs source >>= λ glyphs. Ok tt
+
+-- the usage table of a source, or its first fault
+abbrev pub source_usage : SourceParts → Result (List ℕ) Fault
+source_usage source = source_glyphs source >>= λ glyphs. Ok (usage_table glyphs)

@@ -1,0 +1,28 @@
+//! A font's AFM file.
+ghost use Rattle.std.specs.Prelude.{Ok};
+ghost use Rattle.t1_code.specs.Parts.{Prints};
+ghost use Rattle.t1_afm.specs.Afm.{afm};
+ghost use Rattle.t1_font.specs.FontMetrics.{metrics_of};
+
+use crate::font_metrics::metrics;
+use crate::glyphs::MeasuredGlyphs;
+use std::alloc::Global;
+use std::io::Write;
+use t1_afm::write_afm;
+use t1_code::{Counted, OutError};
+use t1_source::{Pairs, Source};
+
+/// Writes the AFM file of a source, its pairs and its measured glyphs: the whole file at `Ok`, a beginning of it at
+/// `Write`, nothing where memory runs out. No fault is answered.
+pub fn write_source_afm<W: Write>(
+    alloc: Global,
+    source: &Source,
+    pairs: &Pairs,
+    glyphs: &MeasuredGlyphs,
+    out: &mut Counted<W>,
+) -> Result<(), OutError>
+    ensures { Prints W.contents out.old out.new (Ok (afm (metrics_of source.now pairs.now glyphs.now))) result }
+{
+    let metrics = metrics(alloc, source, pairs, glyphs)?;
+    write_afm(&metrics, out)
+}

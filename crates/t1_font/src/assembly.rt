@@ -1,0 +1,101 @@
+//! A source assembled to its PFB file.
+ghost use Rattle.std.specs.Prelude.{◌≡◌, ◌++◌, IfOk, OnOk, replicate};
+ghost use Rattle.std.specs.List.{flat_map};
+ghost use Rattle.t1_text.specs.Lines.{joined};
+ghost use Rattle.t1_code.specs.Parts.{piece_text, Prints};
+ghost use Rattle.t1_code.specs.Pfb.{pfb_of, whole_file};
+ghost use Rattle.t1_font.specs.Assembly.{source_file, trailer_text};
+ghost use Rattle.t1_frac.specs.Outcome.{Gives};
+
+use crate::private::{lines_of, pieces_of};
+use std::alloc::{AllocError, Global};
+use std::io::Write;
+use t1_code::{Counted, OutError, Parts, Piece, write_pfb};
+use t1_frac::{Bytes, Refusal};
+use t1_source::Source;
+
+/// Adds lines with their ends.
+fn push_lines(text: &mut Vec<u8>, lines: &[Bytes]) -> Result<(), AllocError>
+    ensures { OnOk result (text.new.items ≡ text.old.items ++ joined lines.now) }
+{
+    for line in lines {
+        text.extend_from_slice(line.as_slice())?;
+        text.push(b'\n')?;
+    }
+    Ok(())
+}
+
+/// The text of the clear part.
+fn clear_text(alloc: Global, lines: &[Bytes]) -> Result<Vec<u8>, AllocError>
+    ensures { IfOk result (λ text. text.items ≡ joined lines.now) }
+{
+    let mut text = Vec::new(alloc);
+    push_lines(&mut text, lines)?;
+    Ok(text)
+}
+
+/// The lines of zeros behind the encrypted part.
+const ZEROS: [[u8; 64]; 8] = [[b'0'; 64]; 8];
+
+/// How long they are, with their ends.
+pub(crate) const ZEROS_LEN: usize = 8 * 65;
+
+/// The text behind the encrypted part: eight lines of zeros, and the tail.
+fn trailer(alloc: Global, tail: &[Bytes]) -> Result<Vec<u8>, AllocError>
+    ensures { IfOk result (λ text. text.items ≡ trailer_text tail.now) }
+{
+    let mut text = Vec::new(alloc);
+    for line in &ZEROS {
+        text.extend_from_slice(line)?;
+        text.push(b'\n')?;
+    }
+    push_lines(&mut text, tail)?;
+    Ok(text)
+}
+
+/// Writes the PFB file of three parts, or answers F23 with nothing written.
+fn write_parts<W: Write>(
+    clear: &[u8],
+    pieces: &[Piece],
+    trailer: &[u8],
+    out: &mut Counted<W>,
+) -> Result<(), OutError>
+    ensures { Prints W.contents out.old out.new (pfb_of whole_file clear.now (flat_map piece_text pieces.now) trailer.now) result }
+{
+    let parts = Parts {
+        clear,
+        pieces,
+        trailer,
+    };
+    write_pfb(&parts, out)
+}
+
+/// Writes the PFB file of a source: the whole file at `Ok`, a beginning of it at `Write`. A fault is the first of the
+/// bodies, at its entry, else F23; nothing is written then, nor where memory runs out.
+#[tactic(auto, unfolding(crate::specs::Assembly::source_file))]
+pub fn write_source_pfb<W: Write>(
+    alloc: Global,
+    source: &Source,
+    out: &mut Counted<W>,
+) -> Result<(), OutError>
+    ensures { Prints W.contents out.old out.new (source_file whole_file source.now) result }
+{
+    let lines = lines_of(alloc, source.lead(), source.operator(), source.items())?;
+    let pieces = pieces_of(alloc, &lines)?;
+    let clear = clear_text(alloc, source.clear())?;
+    let trailer = trailer(alloc, source.tail())?;
+    write_parts(&clear, &pieces, &trailer, out)
+}
+
+/// The PFB file of a source, or the first fault of its bodies, or F23.
+pub fn file_of(alloc: Global, source: &Source) -> Result<Vec<u8>, Refusal>
+    ensures { Gives (λ file. file.items) result (source_file whole_file source.now) }
+{
+    let mut out = Counted::new(Vec::new(alloc));
+    match write_source_pfb(alloc, source, &mut out) {
+        Ok(()) => Ok(out.into_inner()),
+        Err(OutError::Fault(fault)) => Err(Refusal::Fault(fault)),
+        // A vector fails to take bytes only where it can't grow.
+        Err(_) => Err(Refusal::Memory),
+    }
+}

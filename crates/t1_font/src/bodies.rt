@@ -1,0 +1,112 @@
+//! The bodies of a source, compiled.
+ghost use Rattle.std.specs.Prelude.{◌≡◌, ◌==◌, ℕ, List, None, IfOk, OnOk, if◌then◌else◌};
+ghost use Rattle.std.specs.Option.{option_or};
+ghost use Rattle.std.specs.Result.{result_ok};
+ghost use Rattle.std.specs.Str.{bytes_eq};
+ghost use Rattle.t1_frac.specs.Outcome.{Gives, told_at};
+ghost use Rattle.t1_frac.specs.declared.fault.Place.TheVariants as places;
+ghost use Rattle.t1_code.specs.Words.{commands};
+ghost use Rattle.t1_font.specs.Bodies.{bodies, bodies_check, body_check, words_check, glyph_in, glyph_kept, plain_bodies, subr_in, subr_kept, SameBodies};
+
+use indexmap::IndexMap;
+use std::alloc::Global;
+use t1_code::{Body, compile};
+use t1_frac::{Bytes, Fault, Place, Refusal, Words};
+use t1_run::Plain;
+use t1_source::Item;
+
+/// The commands of a Subr's words, or their fault with the Subr's number.
+pub fn compiled_subr(alloc: Global, number: u16, words: &Words) -> Result<Body, Refusal>
+    ensures { Gives (λ body. body) result (told_at (places.Subr number) (commands words.now)) }
+{
+    match compile(alloc, words) {
+        Err(Refusal::Fault(fault)) => Err(Refusal::Fault(Fault {
+            code: fault.code,
+            place: Place::Subr(number),
+        })),
+        compiled => compiled,
+    }
+}
+
+/// The commands of a glyph's words, or their fault with the glyph's name.
+pub fn compiled_glyph(alloc: Global, name: &[u8], words: &Words) -> Result<Body, Refusal>
+    ensures { Gives (λ body. body) result (told_at (places.Glyph name.now) (commands words.now)) }
+{
+    match compile(alloc, words) {
+        Err(Refusal::Fault(fault)) => Err(Refusal::Fault(Fault {
+            code: fault.code,
+            place: Place::Glyph(Bytes::copied(alloc, name)?),
+        })),
+        compiled => compiled,
+    }
+}
+
+/// Adds the body of a Subr, where there is none of its number.
+#[tactic(auto, unfolding(crate::specs::Bodies::words_check))]
+fn add_subr(
+    alloc: Global,
+    subrs: &mut IndexMap<u16, Body>,
+    number: u16,
+    words: &Words,
+) -> Result<(), Refusal>
+    ensures checked { Gives (λ x. x) result (words_check (places.Subr number) words.now) }
+    ensures kept { OnOk result ((n : ℕ) → subr_kept subrs.new.entries n ≡ option_or (subr_kept subrs.old.entries n) (if n == number then result_ok (commands words.now) else None)) }
+{
+    let body = compiled_subr(alloc, number, words)?;
+    if subrs.contains_key(&number) {
+        return Ok(());
+    }
+    subrs.insert(number, body)?;
+    Ok(())
+}
+
+/// Adds the body of a glyph, where there is none of its name.
+#[tactic(auto, unfolding(crate::specs::Bodies::words_check))]
+fn add_glyph(
+    alloc: Global,
+    glyphs: &mut IndexMap<Vec<u8>, Body>,
+    name: &[u8],
+    words: &Words,
+) -> Result<(), Refusal>
+    ensures checked { Gives (λ x. x) result (words_check (places.Glyph name.now) words.now) }
+    ensures kept { OnOk result ((g : List ℕ) → glyph_kept glyphs.new.entries g ≡ option_or (glyph_kept glyphs.old.entries g) (if bytes_eq g name.now then result_ok (commands words.now) else None)) }
+{
+    let body = compiled_glyph(alloc, name, words)?;
+    if glyphs.contains_key(name) {
+        return Ok(());
+    }
+    glyphs.insert(Vec::from_slice(alloc, name)?, body)?;
+    Ok(())
+}
+
+/// Adds an item's body, where it has one.
+fn add_body(
+    alloc: Global,
+    subrs: &mut IndexMap<u16, Body>,
+    glyphs: &mut IndexMap<Vec<u8>, Body>,
+    item: &Item,
+) -> Result<(), Refusal>
+    ensures checked { Gives (λ x. x) result (body_check item.now) }
+    ensures subrs { OnOk result ((n : ℕ) → subr_kept subrs.new.entries n ≡ option_or (subr_kept subrs.old.entries n) (subr_in item.now n)) }
+    ensures glyphs { OnOk result ((g : List ℕ) → glyph_kept glyphs.new.entries g ≡ option_or (glyph_kept glyphs.old.entries g) (glyph_in item.now g)) }
+{
+    match item {
+        Item::Subr(number, words, _) => add_subr(alloc, subrs, *number, words),
+        Item::Glyph(name, words, _) => add_glyph(alloc, glyphs, name.as_slice(), words),
+        Item::Plain(_) => Ok(()),
+        Item::Section(_, _, _) => Ok(()),
+    }
+}
+
+/// The bodies of the entries, or their first fault, at its entry.
+pub fn compiled(alloc: Global, items: &[Item]) -> Result<Plain, Refusal>
+    ensures checked { Gives (λ _. tt) result (bodies_check items.now) }
+    ensures bodies { IfOk result (λ plain. SameBodies (plain_bodies plain) (bodies items.now)) }
+{
+    let mut subrs = IndexMap::new(alloc);
+    let mut glyphs = IndexMap::new(alloc);
+    for item in items {
+        add_body(alloc, &mut subrs, &mut glyphs, item)?;
+    }
+    Ok(Plain { subrs, glyphs })
+}

@@ -1,0 +1,139 @@
+//! What is told of glyphs.
+ghost use Rattle.std.specs.Prelude.{◌≡◌, All, map, Ok, Err, IfOk, MatchResult};
+ghost use Rattle.t1_frac.specs.Outcome.{Gives, told_at};
+ghost use Rattle.t1_frac.specs.declared.fault.Place.TheVariants as places;
+ghost use Rattle.t1_run.specs.Composite.{IsWithin};
+ghost use Rattle.t1_afm.specs.Box.{drawn_box as box_drawn, united};
+ghost use Rattle.t1_font.specs.Glyphs.{placed_parts_of, run_there};
+ghost use Rattle.t1_font.specs.Runs.{kept_of};
+ghost use Rattle.t1_font.specs.MeasuredGlyphs.{glyph_metrics_at, glyph_metrics_among, AreWithin};
+
+use crate::outline::outline_of;
+use crate::runs::Runs;
+use std::alloc::Global;
+use t1_afm::{BBox, bounding_box, unite};
+use t1_frac::{Bytes, Code, Fault, Place, Refusal};
+use t1_run::{Point, Run, Segment, accent_move};
+
+/// The parts of a composite, and how far its accent is moved.
+#[derive(Debug, Drop)]
+pub struct PlacedParts {
+    pub base: Bytes,
+    pub accent: Bytes,
+    pub by: Point,
+}
+
+/// What is told of a glyph.
+#[derive(Debug, Drop)]
+pub struct GlyphMetrics {
+    pub name: Bytes,
+    pub width: Point,
+    /// The parts of a composite.
+    pub parts: Option<PlacedParts>,
+    /// The box around its outline, where it draws.
+    pub bbox: Option<BBox>,
+}
+
+/// The box around an outline, where it draws. Its points are within the limits.
+fn drawn_box(outline: &[Segment]) -> Option<BBox>
+    requires { All IsWithin outline.now }
+    ensures { result ≡ box_drawn outline.now }
+{
+    if outline.is_empty() {
+        return None;
+    }
+    Some(bounding_box(outline))
+}
+
+/// The parts of a composite, and how far its accent is moved.
+fn placed_parts(alloc: Global, run: &Run) -> Result<Option<PlacedParts>, Refusal>
+    ensures { Gives (λ parts. parts) result (told_at places.Nowhere (placed_parts_of run.now.drawing.bearing run.now.drawing.composite)) }
+{
+    let Some(parts) = run.composite() else {
+        return Ok(None);
+    };
+    let by = accent_move(&run.side_bearing(), parts)?;
+    Ok(Some(PlacedParts {
+        base: Bytes::copied(alloc, parts.base.as_slice())?,
+        accent: Bytes::copied(alloc, parts.accent.as_slice())?,
+        by,
+    }))
+}
+
+/// The run of a glyph, or its first fault.
+fn run_of<'a>(runs: &'a Runs, name: &[u8]) -> Result<&'a Run, Code>
+    ensures { MatchResult
+        result
+        (λ run. run_there (kept_of runs.now name.now) ≡ Ok run.now.drawing)
+        (λ code. run_there (kept_of runs.now name.now) ≡ Err code) }
+{
+    match runs.get(name) {
+        None => Err(Code::F45),
+        Some(Err(code)) => Err(*code),
+        Some(Ok(run)) => Ok(run),
+    }
+}
+
+/// What is told of a glyph, or its first fault, at no place.
+#[tactic(auto, unfolding(crate::specs::MeasuredGlyphs::glyph_metrics_at))]
+fn unplaced_metrics(alloc: Global, runs: &Runs, name: &[u8]) -> Result<GlyphMetrics, Refusal>
+    requires { AreWithin runs.now }
+    ensures { Gives
+        (λ glyph. glyph)
+        result
+        (told_at places.Nowhere (glyph_metrics_at runs.now name.now)) }
+{
+    let run = run_of(runs, name)?;
+    let outline = outline_of(alloc, runs, name)?;
+    let bbox = drawn_box(outline.as_slice());
+    Ok(GlyphMetrics {
+        name: Bytes::copied(alloc, name)?,
+        width: run.width(),
+        parts: placed_parts(alloc, run)?,
+        bbox,
+    })
+}
+
+/// What is told of a glyph, or its first fault, at the glyph.
+fn placed_metrics(alloc: Global, runs: &Runs, name: &[u8]) -> Result<GlyphMetrics, Refusal>
+    requires { AreWithin runs.now }
+    ensures { Gives
+        (λ glyph. glyph)
+        result
+        (told_at (places.Glyph name.now) (glyph_metrics_at runs.now name.now)) }
+{
+    match unplaced_metrics(alloc, runs, name) {
+        Err(Refusal::Fault(fault)) => Err(Refusal::Fault(Fault {
+            code: fault.code,
+            place: Place::Glyph(Bytes::copied(alloc, name)?),
+        })),
+        glyph => glyph,
+    }
+}
+
+/// What is told of these glyphs, in their order, or the first fault of a glyph.
+#[tactic(auto, unfolding(crate::specs::MeasuredGlyphs::glyph_metrics_among))]
+pub fn glyph_metrics_of(alloc: Global, runs: &Runs, names: &[&[u8]]) -> Result<Vec<GlyphMetrics>, Refusal>
+    requires { AreWithin runs.now }
+    ensures { Gives
+        (λ metrics. metrics.items)
+        result
+        (glyph_metrics_among runs.now (map (λ name. name.now) names.now)) }
+{
+    let mut metrics = Vec::new(alloc);
+    for name in names {
+        metrics.push(placed_metrics(alloc, runs, name)?)?;
+    }
+    Ok(metrics)
+}
+
+/// The box around all glyphs that draw; 0 0 0 0 where none does.
+pub fn font_box(metrics: &[GlyphMetrics]) -> BBox
+    ensures { result ≡ united (map (λ glyph. glyph.bbox) metrics.now) }
+{
+    let mut extent: Option<BBox> = None;
+    for glyph in metrics {
+        extent = unite(extent, glyph.bbox);
+    }
+    extent.unwrap_or(BBox::EMPTY)
+}

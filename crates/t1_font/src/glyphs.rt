@@ -1,0 +1,92 @@
+//! The glyphs of a source.
+ghost use Rattle.std.specs.Prelude.{◌≡◌, length, map, option_map, Ok, IfOk, OnOk};
+ghost use Rattle.std.specs.Option.{option_to_list};
+ghost use Rattle.t1_frac.specs.Outcome.{Gives};
+ghost use Rattle.t1_font.specs.Bodies.{bodies as bodies_of, bodies_check, plain_bodies, SameBodies};
+ghost use Rattle.t1_font.specs.Glyphs.{glyph_names, name_in};
+ghost use Rattle.t1_font.specs.Runs.{counted};
+ghost use Rattle.t1_font.specs.MeasuredGlyphs.{measured};
+
+use crate::runs::runs_of;
+use crate::glyph_metrics::{GlyphMetrics, font_box, glyph_metrics_of};
+use std::alloc::{AllocError, Global};
+use std::marker::Model;
+use t1_afm::BBox;
+use t1_frac::Refusal;
+use t1_run::{Meter, Plain};
+use t1_source::Item;
+
+/// What is told of the glyphs of a source, in the order of their entries, and the box around all that draw.
+#[derive(Debug, Drop)]
+pub struct MeasuredGlyphs {
+    metrics: Vec<GlyphMetrics>,
+    font_box: BBox,
+}
+
+impl Model for MeasuredGlyphs {
+    ghost use Rattle.t1_font.specs.MeasuredGlyphs.{MeasuredFont};
+
+    ghost Value = { MeasuredFont };
+
+    ghost view = { λ g. record { metrics = g.metrics.items; font_box = g.font_box } };
+}
+
+impl MeasuredGlyphs {
+    /// What is told of the glyphs, in the order of their entries.
+    pub fn metrics(&self) -> &[GlyphMetrics]
+        ensures { result.now ≡ self.now.metrics }
+    {
+        self.metrics.as_slice()
+    }
+
+    /// The box around all glyphs that draw; 0 0 0 0 where none does.
+    pub fn font_box(&self) -> BBox
+        ensures { result ≡ self.now.font_box }
+    {
+        self.font_box
+    }
+}
+
+/// The name of an item that is a glyph.
+fn name_of(item: &Item) -> Option<&[u8]>
+    ensures { option_to_list (option_map (λ name. name.now) result) ≡ name_in item.now }
+{
+    match item {
+        Item::Glyph(name, _, _) => Some(name.as_slice()),
+        _ => None,
+    }
+}
+
+/// The names of the glyphs, in the order of their entries.
+fn glyph_names<'a>(alloc: Global, items: &'a [Item]) -> Result<Vec<&'a [u8]>, AllocError>
+    ensures { IfOk result (λ names. map (λ name. name.now) names.items ≡ glyph_names items.now) }
+{
+    let mut names = Vec::new(alloc);
+    for item in items {
+        let Some(name) = name_of(item) else {
+            continue;
+        };
+        names.push(name)?;
+    }
+    Ok(names)
+}
+
+/// Runs each glyph of a source once and measures its outline: the glyphs and the font's box, or the first fault, at its
+/// glyph. The bodies are those of the entries, which have no fault. The meter counts one for each glyph.
+pub fn measured(
+    alloc: Global,
+    items: &[Item],
+    bodies: &Plain,
+    meter: &mut Meter,
+) -> Result<MeasuredGlyphs, Refusal>
+    requires checked { bodies_check items.now ≡ Ok tt }
+    requires bodies { SameBodies (plain_bodies bodies.now) (bodies_of items.now) }
+    ensures told { Gives (λ glyphs. glyphs) result (measured items.now) }
+    ensures counted { OnOk result (meter.new ≡ counted meter.old (length (glyph_names items.now))) }
+{
+    let names = glyph_names(alloc, items)?;
+    let runs = runs_of(alloc, bodies, &names, meter)?;
+    let metrics = glyph_metrics_of(alloc, &runs, &names)?;
+    let font_box = font_box(&metrics);
+    Ok(MeasuredGlyphs { metrics, font_box })
+}

@@ -1,0 +1,121 @@
+//! Whether a source's PFB file can have a part that is too long.
+ghost use Rattle.std.specs.Prelude.{◌≡◌, ◌≤◌, ◌<◌, ◌+◌, ◌*◌, ◌^◌, ◌-◌, min, length, true, Ok, IfOk, IsOk};
+ghost use Rattle.t1_frac.specs.Outcome.{Gives};
+ghost use Rattle.t1_text.specs.Lines.{joined};
+ghost use Rattle.t1_font.specs.Bodies.{bodies as bodies_of, bodies_check, plain_bodies, SameBodies};
+ghost use Rattle.t1_code.specs.Pfb.{whole_file};
+ghost use Rattle.t1_font.specs.Assembly.{file_check, item_line, private_text, source_file};
+
+use crate::assembly::{ZEROS_LEN, file_of};
+use crate::bodies::compiled;
+use itoa::Buffer;
+use std::alloc::Global;
+use t1_code::{EEXEC_LEAD, MAX_PART};
+use t1_frac::{Bytes, Refusal, Words};
+use t1_run::Plain;
+use t1_source::{Item, Source};
+
+/// More than an entry's line has beside its leading bytes, the operator's name, its head, its charstring and its
+/// closing text: spaces, the length of the data and the line's end.
+const ENTRY_MARGIN: usize = 40;
+
+/// How long lines are with their ends, up to 2^64 - 1.
+fn lines_len(lines: &[Bytes]) -> usize
+    ensures { result ≡ min (length (joined lines.now)) (2 ^ 64 - 1) }
+{
+    let mut total: usize = 0;
+    for line in lines {
+        total = total
+            .saturating_add(line.as_slice().len())
+            .saturating_add(1);
+    }
+    total
+}
+
+/// The most bytes that an entry's line can have. A word's code has five bytes at most.
+fn max_entry_len(lead: u8, operator: &[u8], head: usize, words: &Words, closing: &[u8]) -> usize
+    ensures { result < 2 ^ 31 → lead + length operator.now + head + 5 * length words.now + length closing.now + 40 ≤ result }
+{
+    words
+        .as_bytes()
+        .len()
+        .saturating_mul(5)
+        .saturating_add(usize::from(lead))
+        .saturating_add(operator.len())
+        .saturating_add(head)
+        .saturating_add(closing.len())
+        .saturating_add(ENTRY_MARGIN)
+}
+
+/// The most bytes that the line of an item can have.
+fn max_line_len(lead: u8, operator: &[u8], item: &Item) -> usize
+    ensures { result < 2 ^ 31 → IfOk (item_line lead operator.now item.now) (λ line. length line ≤ result) }
+{
+    match item {
+        Item::Plain(line) => line.as_slice().len().saturating_add(1),
+        Item::Section(before, count, after) => {
+            let digits = Buffer::new().format(*count).len();
+            let text = before
+                .as_slice()
+                .len()
+                .saturating_add(after.as_slice().len());
+            text.saturating_add(digits).saturating_add(1)
+        }
+        Item::Subr(number, words, closing) => {
+            let head = 4 + Buffer::new().format(*number).len();
+            max_entry_len(lead, operator, head, words, closing.as_slice())
+        }
+        Item::Glyph(name, words, closing) => {
+            let head = name.as_slice().len().saturating_add(1);
+            max_entry_len(lead, operator, head, words, closing.as_slice())
+        }
+    }
+}
+
+/// The most bytes that the private text can have.
+fn max_private_len(lead: u8, operator: &[u8], items: &[Item]) -> usize
+    ensures { result < 2 ^ 31 → IfOk (private_text lead operator.now items.now) (λ text. length text ≤ result) }
+{
+    let mut total: usize = 0;
+    for item in items {
+        total = total.saturating_add(max_line_len(lead, operator, item));
+    }
+    total
+}
+
+/// Whether the lengths of a source's texts show that no part of its PFB file is too long.
+fn is_short(source: &Source) -> bool
+    ensures { result ≡ true → bodies_check source.now.items ≡ Ok tt → IsOk (source_file whole_file source.now) }
+{
+    let clear = lines_len(source.clear());
+    let private = max_private_len(source.lead(), source.operator(), source.items());
+    let trailer = lines_len(source.tail()).saturating_add(ZEROS_LEN);
+    clear.max(private.saturating_add(EEXEC_LEAD)).max(trailer) <= MAX_PART
+}
+
+/// F23 where a part of the PFB file of a source is too long. Its bodies have no fault. The file is made only where the
+/// source is so long that its length doesn't answer.
+#[tactic(auto, using(crate::proofs::LengthLaws::file_checked), unfolding(crate::specs::Assembly::file_check))]
+fn check_length(alloc: Global, source: &Source) -> Result<(), Refusal>
+    requires { bodies_check source.now.items ≡ Ok tt }
+    ensures { Gives (λ x. x) result (file_check source.now) }
+{
+    if is_short(source) {
+        return Ok(());
+    }
+    let _file = file_of(alloc, source)?;
+    Ok(())
+}
+
+/// The compiled bodies of a source whose PFB file has no fault; or the file's fault: the first of a body, at its
+/// entry, else F23.
+#[tactic(auto, using(crate::proofs::LengthLaws::body_fault_told))]
+pub fn checked_bodies(alloc: Global, source: &Source) -> Result<Plain, Refusal>
+    ensures file { Gives (λ _. tt) result (file_check source.now) }
+    ensures no_fault { IfOk result (λ _. bodies_check source.now.items ≡ Ok tt) }
+    ensures bodies { IfOk result (λ plain. SameBodies (plain_bodies plain) (bodies_of source.now.items)) }
+{
+    let bodies = compiled(alloc, source.items())?;
+    check_length(alloc, source)?;
+    Ok(bodies)
+}

@@ -1,0 +1,36 @@
+//! A whole font: its bodies compiled, its glyphs run once each and measured, its PFB and AFM files written.
+//!
+//! [`compiled`] gives the bodies of a private part, or the first fault of one; [`checked_bodies`] also judges the length of
+//! the PFB file. [`measured`] runs and measures the glyphs, and [`metrics`] is what the AFM file of a source and its pairs
+//! says. [`write_source_pfb`] and [`write_source_afm`] write the files.
+#![tactic(auto)]
+
+mod afm_file;
+mod assembly;
+mod bodies;
+mod chars;
+mod codes;
+mod composites;
+mod font_metrics;
+mod glyph_metrics;
+mod glyphs;
+mod kern;
+pub mod laws;
+mod lengths;
+mod outline;
+mod private;
+mod runs;
+
+pub use afm_file::write_source_afm;
+pub use assembly::{file_of, write_source_pfb};
+pub use bodies::{compiled, compiled_glyph, compiled_subr};
+pub use font_metrics::metrics;
+pub use glyph_metrics::{GlyphMetrics, PlacedParts, glyph_metrics_of};
+pub use glyphs::{MeasuredGlyphs, measured};
+pub use lengths::checked_bodies;
+pub use outline::{Outline, outline_of};
+pub use private::PrivateLine;
+pub use runs::{Runs, runs_of};
+
+#[cfg(test)]
+mod tests;

@@ -1,0 +1,96 @@
+//! Runs, kept by the names of their glyphs.
+ghost use Rattle.std.specs.Prelude.{◌≡◌, length, map, ℕ, List, [], Some, All, IsSome, IfOk, OnOk, option_map, if◌then◌else◌};
+ghost use Rattle.std.specs.Str.{bytes_eq};
+ghost use Rattle.t1_run.specs.Run.{font, own};
+ghost use Rattle.t1_font.specs.Runs.{drawing_kept, kept_of, own_among, counted};
+
+use indexmap::IndexMap;
+use std::alloc::{AllocError, Global};
+use std::marker::Model;
+use t1_frac::{Code, Refusal};
+use t1_run::{Bodies, Meter, Run, run};
+
+/// The runs of some glyphs: what each draws alone, or its first fault. Contracts see the list of
+/// both, each with its name.
+#[derive(Drop)]
+pub struct Runs {
+    by_name: IndexMap<Vec<u8>, Result<Run, Code>>,
+}
+
+impl Model for Runs {
+    ghost use Rattle.std.specs.Prelude.{List, map};
+    ghost use Rattle.t1_font.specs.Runs.{Kept, drawing_kept};
+
+    ghost Value = { List Kept };
+
+    ghost view = { λ r. map (λ e. (e.0.items, drawing_kept e.1)) r.by_name.entries };
+}
+
+impl Runs {
+    /// No runs.
+    pub fn new(alloc: Global) -> Self
+        ensures { result ≡ [] }
+    {
+        Runs {
+            by_name: IndexMap::new(alloc),
+        }
+    }
+
+    /// What is kept of the glyph of this name.
+    pub fn get(&self, name: &[u8]) -> Option<&Result<Run, Code>>
+        ensures { option_map (λ kept. drawing_kept kept.now) result ≡ kept_of self.now name.now }
+    {
+        self.by_name.get(name)
+    }
+
+    /// Keeps a run, or its first fault, in the place of an earlier one of that name.
+    fn keep(
+        &mut self,
+        alloc: Global,
+        name: &[u8],
+        kept: Result<Run, Code>,
+    ) -> Result<(), AllocError>
+        ensures { OnOk result ((g : List ℕ) → kept_of self.new g ≡ (if bytes_eq g name.now then Some (drawing_kept kept) else kept_of self.old g)) }
+    {
+        self.by_name.insert(Vec::from_slice(alloc, name)?, kept)?;
+        Ok(())
+    }
+}
+
+/// The run of a glyph's own body, or its first fault.
+#[tactic(auto, unfolding(t1_run::specs::Run::own))]
+fn kept_run<B: Bodies>(
+    alloc: Global,
+    bodies: &B,
+    name: &[u8],
+    meter: &mut Meter,
+) -> Result<Result<Run, Code>, AllocError>
+    requires { IsSome (B.glyphs bodies.now name.now) }
+    ensures kept { IfOk result (λ kept. Some (drawing_kept kept) ≡ own (font (B.subrs bodies.now) (B.glyphs bodies.now)) name.now) }
+    ensures counted { meter.new ≡ counted meter.old 1 }
+{
+    match run(alloc, bodies, name, meter) {
+        Ok(run) => Ok(Ok(run)),
+        Err(Refusal::Fault(fault)) => Ok(Err(fault.code)),
+        Err(Refusal::Memory) => Err(AllocError),
+    }
+}
+
+/// Runs the own body of each of these glyphs, and keeps its first fault where it has one. The meter counts each of them.
+pub fn runs_of<B: Bodies>(
+    alloc: Global,
+    bodies: &B,
+    names: &[&[u8]],
+    meter: &mut Meter,
+) -> Result<Runs, AllocError>
+    requires { All (λ name. IsSome (B.glyphs bodies.now name.now)) names.now }
+    ensures kept { IfOk result (λ runs. (g : List ℕ) → kept_of runs g ≡ own_among (font (B.subrs bodies.now) (B.glyphs bodies.now)) (map (λ name. name.now) names.now) g) }
+    ensures counted { OnOk result (meter.new ≡ counted meter.old (length names.now)) }
+{
+    let mut runs = Runs::new(alloc);
+    for name in names {
+        let kept = kept_run(alloc, bodies, name, meter)?;
+        runs.keep(alloc, name, kept)?;
+    }
+    Ok(runs)
+}

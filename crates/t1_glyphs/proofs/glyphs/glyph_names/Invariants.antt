@@ -1,7 +1,0 @@
-use Rattle.std.proofs.Common.{◌≡◌, ◌++◌, map, drop}
-use Rattle.t1_glyphs.specs.Glyphs.{glyph_names}
-use Rattle.t1_glyphs.proofs.glyphs.glyph_names.Given as goal
-
--- the names so far, in front of those of the items that are left
-abbrev pub invariant-loop-item : goal.invariant-loop-item
-invariant-loop-item l = map (λ name. name.now) l.names.items ++ glyph_names (drop l.item-index l.items) ≡ glyph_names l.items

@@ -1,5 +1,0 @@
-use Rattle.t1_glyphs.proofs.Outlining.{outlines_are}
-use Rattle.t1_glyphs.proofs.laws.outlines.Goals as goal
-
-pub returns : goal.returns
-returns c = outlines_are

@@ -1,4 +1,0 @@
-use Rattle.t1_glyphs.proofs.outline.+outline_at.Given as goal
-
-abbrev pub decreases-outline_at : goal.decreases-outline_at
-decreases-outline_at l = l.depth

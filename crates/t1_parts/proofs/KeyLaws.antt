@@ -1,0 +1,94 @@
+-- Sets of keys beside a list of items that grows.
+use Rattle.std.proofs.Common.{◌≡◌, ℕ, Bool, true, false, ◌||◌, ◌==◌, List, [], ◌∷◌, ◌++◌, refl, sym, ◌∙◌, ap, arith}
+use Rattle.std.specs.List.{list_any}
+use Rattle.std.specs.Ordering.{nat_cmp, is_eq, match_ordering}
+use Rattle.std.specs.BTreeSet.{insert_key}
+use Rattle.std.specs.Cmp.{nat_cmp_total, alike_right}
+use Rattle.std.specs.Cmp.Lexicographic.{slice_cmp, nat_list_cmp_total}
+use Rattle.std.specs.declared.cmp.Ordering.{Ordering}
+use Rattle.std.specs.declared.cmp.Ordering.TheVariants.{Less, Equal, Greater}
+use Rattle.std.specs.declared.vec.Vec.{Vec}
+use Rattle.std.proofs.lemmas.List.Folds.{list_any-append}
+use Rattle.std.proofs.lemmas.Map.Text.{is_eq-slice_cmp}
+use Rattle.t1_parts.specs.declared.item.Item.{Item}
+use Rattle.t1_parts.specs.declared.item.Item.TheVariants.{Subr, Glyph}
+use Rattle.t1_parts.specs.Entries.{NumberedItem, has, is_subr, is_glyph}
+use Rattle.t1_parts.specs.Gathered.{HasNumbers, HasNames}
+
+or_false : (b : Bool) → (b || false) ≡ b
+or_false true = refl
+or_false false = refl
+
+-- an equal key is there already
+stays : (b c : Bool) → (b || c) ≡ ((b || c) || b)
+stays true c = refl
+stays false true = refl
+stays false false = refl
+
+comes_last : (a b : Bool) → (a || b) ≡ (b || a)
+comes_last true true = refl
+comes_last true false = refl
+comes_last false true = refl
+comes_last false false = refl
+
+goes_in : (a b c : Bool) → (a || (b || c)) ≡ ((a || b) || c)
+goes_in true b c = refl
+goes_in false b c = refl
+
+-- the insertion at the front of some keys, by the order found there
+any_put : {K : Type 0} (t : K → Bool) (k x : K) (xs more : List K) (o : Ordering) → (o ≡ Equal → t k ≡ t x) → list_any t more ≡ (list_any t xs || t k)
+    → list_any t (match_ordering o (k ∷ x ∷ xs) (x ∷ xs) (x ∷ more)) ≡ (list_any t (x ∷ xs) || t k)
+any_put t k x xs more Less alike e = comes_last (t k) (list_any t (x ∷ xs))
+any_put t k x xs more Equal alike e = rw (alike refl) (stays (t x) (list_any t xs))
+any_put t k x xs more Greater alike e = rw e (goes_in (t x) (list_any t xs) (t k))
+
+-- a test that doesn't tell equal keys apart, on the keys and a further one
+pub any_insert : {K : Type 0} (cmp : K → K → Ordering) (t : K → Bool) (k : K) → ((x : K) → cmp k x ≡ Equal → t k ≡ t x) → (ks : List K)
+    → list_any t (insert_key cmp ks k) ≡ (list_any t ks || t k)
+any_insert cmp t k alike [] = or_false (t k)
+any_insert cmp t k alike (x ∷ xs) = any_put t k x xs (insert_key cmp xs k) (cmp k x) (alike x) (any_insert cmp t k alike xs)
+
+-- a further item
+pub has_more : (test : Item → Bool) (items : List NumberedItem) (n : ℕ) (item : Item) → has test (items ++ (n, item) ∷ []) ≡ (has test items || test item)
+has_more test items n item = list_any-append (λ i. test i.1) items ((n, item) ∷ []) ∙ ap (λ b. has test items || b) (or_false (test item))
+
+equal_numbers : (a b : ℕ) → is_eq (nat_cmp a b) ≡ (a == b)
+equal_numbers a b = grind arith
+
+-- the numbers, with that of a further Subr
+pub more_numbers : (ks new : List ℕ) (items : List NumberedItem) (n k : ℕ) (ws : List (List ℕ)) (closing : List ℕ) (item : Item) → item ≡ Subr k ws closing → new ≡ insert_key nat_cmp ks k
+    → HasNumbers ks items → HasNumbers new (items ++ (n, item) ∷ [])
+more_numbers ks new items n k ws closing item is keys h m =
+    ap (list_any (λ x. is_eq (nat_cmp m x))) keys
+    ∙ any_insert nat_cmp (λ x. is_eq (nat_cmp m x)) k (λ x e. ap is_eq (alike_right nat_cmp_total k x m e)) ks
+    ∙ ap (λ b. b || is_eq (nat_cmp m k)) (h m)
+    ∙ ap (λ b. has (is_subr m) items || b) (equal_numbers m k ∙ sym (ap (is_subr m) is))
+    ∙ sym (has_more (is_subr m) items n item)
+
+-- the names, with that of a further glyph
+pub more_names : {A : Type 0} (ks new : List (Vec ℕ A)) (items : List NumberedItem) (n : ℕ) (k : Vec ℕ A) (g : List ℕ) (ws : List (List ℕ)) (closing : List ℕ) (item : Item)
+    → k.items ≡ g → item ≡ Glyph g ws closing → new ≡ insert_key (λ x y. slice_cmp nat_cmp x.items y.items) ks k
+    → HasNames ks items → HasNames new (items ++ (n, item) ∷ [])
+more_names ks new items n k g ws closing item named is keys h m =
+    ap (list_any (λ x. is_eq (slice_cmp nat_cmp m x.items))) keys
+    ∙ any_insert (λ x y. slice_cmp nat_cmp x.items y.items) (λ x. is_eq (slice_cmp nat_cmp m x.items)) k (λ x e. ap is_eq (alike_right nat_list_cmp_total k.items x.items m e)) ks
+    ∙ ap (λ b. b || is_eq (slice_cmp nat_cmp m k.items)) (h m)
+    ∙ ap (λ b. has (is_glyph m) items || b) (ap (λ l. is_eq (slice_cmp nat_cmp m l)) named ∙ is_eq-slice_cmp m g ∙ sym (ap (is_glyph m) is))
+    ∙ sym (has_more (is_glyph m) items n item)
+
+-- an item that is of no kind
+pub same_has : (test : Item → Bool) (items : List NumberedItem) (n : ℕ) (item : Item) → test item ≡ false → has test items ≡ has test (items ++ (n, item) ∷ [])
+same_has test items n item e = sym (has_more test items n item ∙ ap (λ b. has test items || b) e ∙ or_false (has test items))
+
+-- a test of a further item joined to that of the items
+pub or_more : (test : Item → Bool) (items : List NumberedItem) (n : ℕ) (item : Item) (b d : Bool) → b ≡ has test items → d ≡ test item → (b || d) ≡ has test (items ++ (n, item) ∷ [])
+or_more test items n item b d p q = ap (λ x. x || d) p ∙ ap (λ x. has test items || x) q ∙ sym (has_more test items n item)
+
+-- the keys, where no key comes with the item
+pub same_numbers : (ks new : List ℕ) (items : List NumberedItem) (n : ℕ) (item : Item) → ((m : ℕ) → is_subr m item ≡ false) → new ≡ ks → HasNumbers ks items → HasNumbers new (items ++ (n, item) ∷ [])
+same_numbers ks new items n item none keys h m =
+    ap (list_any (λ x. is_eq (nat_cmp m x))) keys ∙ h m ∙ same_has (is_subr m) items n item (none m)
+
+pub same_names : {A : Type 0} (ks new : List (Vec ℕ A)) (items : List NumberedItem) (n : ℕ) (item : Item) → ((g : List ℕ) → is_glyph g item ≡ false) → new ≡ ks → HasNames ks items → HasNames new (items ++ (n, item) ∷ [])
+same_names ks new items n item none keys h g =
+    ap (list_any (λ x. is_eq (slice_cmp nat_cmp g x.items))) keys ∙ h g ∙ same_has (is_glyph g) items n item (none g)

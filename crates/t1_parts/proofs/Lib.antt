@@ -1,0 +1,14 @@
+pub mod BodyLaws
+pub mod CloseLaws
+pub mod CountLaws
+pub mod DelimiterLaws
+pub mod DemoRows
+pub mod EncodingLaws
+pub mod EntryLaws
+pub mod GroupLaws
+pub mod ItemLaws
+pub mod KeyLaws
+pub mod ReadingRows
+pub mod SectionLaws
+pub mod TailLaws
+pub mod TextPlaceLaws

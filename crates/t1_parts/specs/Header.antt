@@ -1,0 +1,71 @@
+-- Header values of a clear part.
+use Rattle.std.specs.Prelude.{ℕ, Bool, false, not, ◌+◌, ◌-◌, ◌&&◌, ◌==◌, if◌then◌else◌, Option, Some, None, option_and_then, List, [], ◌∷◌, length, take, drop, codes}
+use Rattle.std.specs.List.{list_any, starts_with}
+use Rattle.std.specs.Str.{bytes_eq}
+use Rattle.t1_frac.specs.Words.{trimmed_front}
+use Rattle.t1_parts.specs.SourceParts.{SourceParts}
+use Rattle.t1_text.specs.Lines.{begins_with}
+use Rattle.t1_text.specs.Tokens.{tokens, first_token, goes_on}
+use Rattle.t1_text.specs.Names.{name_of_token}
+use Rattle.t1_parts.specs.Encoding.{or_else}
+
+-- the list, where it isn't empty
+abbrev pub not_empty : List ℕ → Option (List ℕ)
+not_empty [] = None
+not_empty (c ∷ cs) = Some (c ∷ cs)
+
+-- how many parentheses are open after a byte, which counts for nothing behind a backslash
+abbrev pub open_after : Bool → ℕ → ℕ → ℕ
+open_after escaped depth c = if escaped then depth else if c == 40 then depth + 1 else if c == 41 then depth - 1 else depth
+
+-- profile, header keys: how many bytes stand before the `)` that balances, or before the end; a backslash takes
+-- the next byte with it
+abbrev pub before_balance : Bool → ℕ → List ℕ → ℕ
+before_balance escaped depth [] = 0
+before_balance escaped depth (c ∷ rest) =
+    if not escaped && c == 41 && depth == 0 then 0
+    else 1 + before_balance (not escaped && c == 92) (open_after escaped depth c) rest
+
+-- profile, header keys: a `/` and the name
+abbrev pub name_value : List ℕ → Option (List ℕ)
+name_value rest = option_and_then name_of_token (first_token (tokens rest))
+
+-- profile, header keys: a `(` and the bytes as written up to the balancing `)`
+abbrev pub text_value : List ℕ → Option (List ℕ)
+text_value rest =
+    if begins_with 40 rest then not_empty (take (before_balance false 0 (drop 1 rest)) (drop 1 rest)) else None
+
+-- profile, header keys: one token
+abbrev pub token_value : List ℕ → Option (List ℕ)
+token_value rest = first_token (tokens rest)
+
+-- profile, header keys: the bytes after `/`, the key and blanks at the front of a list, where the key ends there
+abbrev pub after_key : List ℕ → List ℕ → Option (List ℕ)
+after_key key [] = None
+after_key key (c ∷ rest) =
+    if c == 47 && starts_with (λ x y. x == y) rest key && not (goes_on (drop (length key) rest)) then Some (trimmed_front (drop (length key) rest))
+    else None
+
+-- profile, header keys: the first line with the key decides; the bytes of it after the key
+abbrev pub keyed : List ℕ → List (List ℕ) → Option (List ℕ)
+keyed key [] = None
+keyed key (l ∷ ls) = or_else (after_key key (trimmed_front l)) (keyed key ls)
+
+-- Type 1 Font Format, FontInfo: the keys whose values are texts
+abbrev pub text_keys : List (List ℕ)
+text_keys = codes "FullName" ∷ codes "FamilyName" ∷ codes "Weight" ∷ codes "version" ∷ codes "Notice" ∷ []
+
+-- Type 1 Font Format, FontInfo: the keys whose values are one token
+abbrev pub token_keys : List (List ℕ)
+token_keys = codes "ItalicAngle" ∷ codes "isFixedPitch" ∷ codes "UnderlinePosition" ∷ codes "UnderlineThickness" ∷ []
+
+-- AFM 4.1, global font information: the value of one of the ten keys
+abbrev pub header_among : List (List ℕ) → List ℕ → Option (List ℕ)
+header_among clear key =
+    if bytes_eq key (codes "FontName") then option_and_then name_value (keyed key clear)
+    else if list_any (bytes_eq key) text_keys then option_and_then text_value (keyed key clear)
+    else if list_any (bytes_eq key) token_keys then option_and_then token_value (keyed key clear)
+    else None
+
+abbrev pub header : SourceParts → List ℕ → Option (List ℕ)
+header s key = header_among s.clear key

@@ -1,0 +1,13 @@
+pub mod Counts
+pub mod Encoding
+pub mod Entries
+pub mod Gathered
+pub mod Header
+pub mod LenIV
+pub mod Operator
+pub mod Parts
+pub mod Printing
+pub mod Private
+pub mod Reading
+pub mod Sections
+pub mod SourceParts

@@ -1,0 +1,120 @@
+//! Opening the entries of Subrs and glyphs.
+
+ghost use Rattle.std.specs.Prelude.{◌≡◌, ◌≤◌, length, IfOk, option_map};
+ghost use Rattle.t1_frac.specs.declared.fault.Place.TheVariants as places;
+ghost use Rattle.t1_frac.specs.Outcome.{Gives, told_at};
+ghost use Rattle.t1_text.specs.Lines.{begins_with};
+ghost use Rattle.t1_text.specs.Tokens.{tokens};
+ghost use Rattle.t1_parts.specs.Entries.{opens_subr, opens_glyph, opened_body, subr_entry, glyph_entry};
+
+use crate::body::opened_body;
+use crate::gathered::Gathered;
+use crate::item::Item;
+use std::alloc::Global;
+use t1_frac::{Bytes, Code, Refusal};
+use t1_text::{Line, decimal_up_to, fault_on, name_of_token, next_token, same};
+
+/// The token between `dup` and `{`, where the line begins so.
+pub fn opens_subr(line: &[u8]) -> Option<&[u8]>
+    ensures { option_map (λ token. token.now) result ≡ opens_subr (tokens line.now) }
+{
+    let Some((first, after)) = next_token(line) else {
+        return None;
+    };
+    let Some((token, after)) = next_token(after) else {
+        return None;
+    };
+    let Some((brace, _)) = next_token(after) else {
+        return None;
+    };
+    if same(first, b"dup") && same(brace, b"{") {
+        Some(token)
+    } else {
+        None
+    }
+}
+
+/// The Subr entry that opens on a line.
+#[tactic(auto, unfolding(crate::specs::Entries::subr_entry))]
+pub fn subr_entry(
+    alloc: Global,
+    earlier: &Gathered,
+    number: u64,
+    token: &[u8],
+    line: &[u8],
+    later: &[Line],
+) -> Result<(Item, usize), Refusal>
+    ensures value { Gives
+        (λ taken. taken)
+        result
+        (told_at (places.Line number) (subr_entry earlier.now token.now (opened_body line.now later.now))) }
+    ensures within { IfOk result (λ taken. taken.1 ≤ length later.now) }
+{
+    let Some(subr) = decimal_up_to(32000, token) else {
+        return Err(fault_on(number, Code::F8));
+    };
+    let subr = subr as u16;
+    if earlier.has_subr(subr) {
+        return Err(fault_on(number, Code::F9));
+    }
+    let Some(body) = opened_body(alloc, line, later)? else {
+        return Err(fault_on(number, Code::F7));
+    };
+    Ok((Item::Subr(subr, body.words, body.closing), body.more))
+}
+
+/// Whether a token begins with `/`.
+fn begins_name(token: &[u8]) -> bool
+    ensures { result ≡ begins_with 47 token.now }
+{
+    match token {
+        [first, ..] => 47 == *first,
+        [] => false,
+    }
+}
+
+/// The token before `{`, where the line begins with a token of a name and `{`.
+pub fn opens_glyph(line: &[u8]) -> Option<&[u8]>
+    ensures { option_map (λ token. token.now) result ≡ opens_glyph (tokens line.now) }
+{
+    let Some((token, after)) = next_token(line) else {
+        return None;
+    };
+    let Some((brace, _)) = next_token(after) else {
+        return None;
+    };
+    if begins_name(token) && same(brace, b"{") {
+        Some(token)
+    } else {
+        None
+    }
+}
+
+/// The glyph entry that opens on a line.
+#[tactic(auto, unfolding(crate::specs::Entries::glyph_entry))]
+pub fn glyph_entry(
+    alloc: Global,
+    earlier: &Gathered,
+    number: u64,
+    token: &[u8],
+    line: &[u8],
+    later: &[Line],
+) -> Result<(Item, usize), Refusal>
+    ensures value { Gives
+        (λ taken. taken)
+        result
+        (told_at (places.Line number) (glyph_entry earlier.now token.now (opened_body line.now later.now))) }
+    ensures within { IfOk result (λ taken. taken.1 ≤ length later.now) }
+{
+    let Some(name) = name_of_token(token) else {
+        return Err(fault_on(number, Code::F8));
+    };
+    if earlier.has_glyph(name) {
+        return Err(fault_on(number, Code::F10));
+    }
+    let Some(body) = opened_body(alloc, line, later)? else {
+        return Err(fault_on(number, Code::F7));
+    };
+    let name = Bytes::copied(alloc, name)?;
+    Ok((Item::Glyph(name, body.words, body.closing), body.more))
+}

@@ -1,0 +1,31 @@
+//! The parts of a readable source: the clear part with its encoding and header keys, the private part with its sections and
+//! entries, the tail. Each is found in the lines of a text, or its first fault with its line; items print again.
+#![tactic(auto)]
+
+mod body;
+mod counts;
+mod encoding;
+mod entries;
+mod gathered;
+mod header;
+mod item;
+mod len_iv;
+mod operator;
+mod parts;
+mod printing;
+mod private;
+mod sections;
+
+pub use body::{EntryBody, body_of, has_brace, opened_body, uncommented};
+pub use counts::raised;
+pub use encoding::{array_len, array_of, check_clear, encoding_at, has_standard, slot_of};
+pub use entries::{glyph_entry, opens_glyph, opens_subr, subr_entry};
+pub use gathered::Gathered;
+pub use header::header_of;
+pub use item::{Item, copied_items};
+pub use len_iv::{check_lead, lead_of, plain_line};
+pub use operator::operator_of;
+pub use parts::{Parts, holds, parts_of, tail_of};
+pub use printing::{push_decimal, push_items, push_lines};
+pub use private::private_items;
+pub use sections::{count_between, is_glyphs_line, is_subrs_line, section_at};

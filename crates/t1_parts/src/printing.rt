@@ -1,0 +1,130 @@
+//! The printed form of a source.
+
+ghost use Rattle.std.specs.Prelude.{◌≡◌, ◌∷◌, [], ◌++◌, if◌then◌else◌, OnOk, map, decimal, codes, flat_map};
+ghost use Rattle.t1_text.specs.Lines.{joined};
+ghost use Rattle.t1_frac.specs.Words.{words};
+ghost use Rattle.t1_parts.specs.Printing.{word_groups, body_line, last_line, entry_lines, item_lines};
+
+use crate::item::Item;
+use itoa::Buffer;
+use std::alloc::AllocError;
+use t1_frac::{Bytes, next_word};
+use t1_text::is_number_word;
+
+/// Adds a line and its end to a text.
+fn push_line(text: &mut Vec<u8>, line: &[u8]) -> Result<(), AllocError>
+    ensures { OnOk result (text.new.items ≡ text.old.items ++ line.now ++ 10 ∷ []) }
+{
+    text.extend_from_slice(line)?;
+    text.push(b'\n')?;
+    Ok(())
+}
+
+/// Adds some lines to a text.
+pub fn push_lines(text: &mut Vec<u8>, lines: &[Bytes]) -> Result<(), AllocError>
+    ensures { OnOk result (text.new.items ≡ text.old.items ++ joined lines.now) }
+{
+    let mut rest = lines;
+    while let Some((line, after)) = rest.split_first() {
+        push_line(text, line.as_slice())?;
+        rest = after;
+    }
+    Ok(())
+}
+
+/// Adds a number in decimal to a text.
+pub fn push_decimal(text: &mut Vec<u8>, number: u64) -> Result<(), AllocError>
+    ensures { OnOk result (text.new.items ≡ text.old.items ++ decimal number) }
+{
+    let mut buffer = Buffer::new();
+    text.extend_from_slice(buffer.format(number).as_bytes())?;
+    Ok(())
+}
+
+/// Adds a word to a line of words that is open or begins with it.
+fn push_word(text: &mut Vec<u8>, is_open: bool, word: &[u8]) -> Result<(), AllocError>
+    ensures { OnOk result (text.new.items ≡ text.old.items ++ (if is_open then 32 else 9) ∷ word.now) }
+{
+    text.push(if is_open { b' ' } else { b'\t' })?;
+    text.extend_from_slice(word)?;
+    Ok(())
+}
+
+/// Adds the lines of a body's words to a text.
+#[tactic(auto, using(crate::proofs::GroupLaws::left_number, crate::proofs::GroupLaws::left_other))]
+fn push_words(text: &mut Vec<u8>, bytes: &[u8]) -> Result<(), AllocError>
+    ensures { OnOk result (text.new.items ≡ text.old.items ++ joined (map body_line (word_groups (words bytes.now)))) }
+{
+    let mut is_open = false;
+    let mut rest = bytes;
+    while let Some((word, after)) = next_word(rest) {
+        push_word(text, is_open, word)?;
+        is_open = is_number_word(word);
+        if !is_open {
+            text.push(b'\n')?;
+        }
+        rest = after;
+    }
+    if is_open {
+        text.push(b'\n')?;
+    }
+    Ok(())
+}
+
+/// Adds the last line of an entry to a text.
+fn push_last_line(text: &mut Vec<u8>, closing: &[u8]) -> Result<(), AllocError>
+    ensures { OnOk result (text.new.items ≡ text.old.items ++ last_line closing.now ++ 10 ∷ []) }
+{
+    text.extend_from_slice(b"\t}")?;
+    if !closing.is_empty() {
+        text.push(b' ')?;
+    }
+    push_line(text, closing)
+}
+
+/// Adds an entry behind the name on its first line to a text.
+fn push_entry(text: &mut Vec<u8>, bytes: &[u8], closing: &[u8]) -> Result<(), AllocError>
+    ensures { OnOk
+        result
+        (text.new.items ≡ text.old.items ++ joined (entry_lines (codes " {") (words bytes.now) closing.now)) }
+{
+    push_line(text, b" {")?;
+    push_words(text, bytes)?;
+    push_last_line(text, closing)
+}
+
+/// Adds the lines of an item to a text.
+fn push_item(text: &mut Vec<u8>, item: &Item) -> Result<(), AllocError>
+    ensures { OnOk result (text.new.items ≡ text.old.items ++ joined (item_lines item.now)) }
+{
+    match item {
+        Item::Plain(line) => push_line(text, line.as_slice()),
+        Item::Section(before, count, after) => {
+            text.extend_from_slice(before.as_slice())?;
+            push_decimal(text, *count)?;
+            push_line(text, after.as_slice())
+        }
+        Item::Subr(number, words, closing) => {
+            text.extend_from_slice(b"dup ")?;
+            push_decimal(text, u64::from(*number))?;
+            push_entry(text, words.as_bytes(), closing.as_slice())
+        }
+        Item::Glyph(name, words, closing) => {
+            text.push(b'/')?;
+            text.extend_from_slice(name.as_slice())?;
+            push_entry(text, words.as_bytes(), closing.as_slice())
+        }
+    }
+}
+
+/// Adds the lines of some items to a text.
+pub fn push_items(text: &mut Vec<u8>, items: &[Item]) -> Result<(), AllocError>
+    ensures { OnOk result (text.new.items ≡ text.old.items ++ joined (flat_map item_lines items.now)) }
+{
+    let mut rest = items;
+    while let Some((item, after)) = rest.split_first() {
+        push_item(text, item)?;
+        rest = after;
+    }
+    Ok(())
+}

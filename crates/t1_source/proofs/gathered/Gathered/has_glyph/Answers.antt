@@ -1,6 +1,0 @@
-use Rattle.std.proofs.Common.{◌∙◌, ap}
-use Rattle.t1_source.specs.Entries.{has, is_glyph}
-use Rattle.t1_source.proofs.gathered.Gathered.has_glyph.Goals as goal
-
-pub returns : goal.returns
-returns c = c.contains.ensures ∙ c.self.invariant.3 c.args.name.now ∙ ap (has (is_glyph c.args.name.now)) c.self.view_is

@@ -1,6 +1,0 @@
-use Rattle.std.proofs.Common.{◌≡◌, take}
-use Rattle.t1_source.proofs.lines.copied_lines.Given as goal
-
--- the lines copied so far
-abbrev pub invariant-loop-line : goal.invariant-loop-line
-invariant-loop-line l = l.copies.items ≡ take l.line-index l.lines

@@ -1,0 +1,4 @@
+pub mod Delimiters
+pub mod Lines
+pub mod Names
+pub mod Tokens
