@@ -4,9 +4,9 @@ use Rattle.std.specs.Int.{IsGcd}
 use Rattle.std.specs.Int.RustNames.{unsigned_abs, int_div}
 use Rattle.std.proofs.Math.Nat.{div-mul_cancel, div-one, one-dvd, mul-dvd-mul_right, dvd_of_mul-dvd-mul_right}
 use Prim.Native.Nat.{◌∣◌}
-use Rattle.t1_frac.specs.Fraction.{Fraction, IsSame, IsLowest, lowest, gcd}
+use Rattle.t1_frac.specs.Fraction.{Fraction, IsSame, IsLowest, lowest, negated, gcd}
 use Rattle.t1_frac.specs.Rounding.{LowestTerms}
-use Rattle.t1_frac.proofs.Divisors.{IsGcd-gcd, gcd_above, gcd_below, quotient_above}
+use Rattle.t1_frac.proofs.Divisors.{IsGcd-gcd, gcd_is, gcd_above, gcd_below, quotient_above}
 
 -- n / g over d / g is n over d, where g divides both
 cross : (n d g : ℕ) → g ∣ n → g ∣ d → (n / g) * d ≡ n * (d / g)
@@ -48,7 +48,7 @@ coprime_at n d g some h = (
       dvd_of_mul-dvd-mul_right k some (subst (λ x. k * g ∣ x) e both),
 )
 
-lowest_coprime : (a : Fraction) → 0 < a.den → IsLowest (lowest a)
+pub lowest_coprime : (a : Fraction) → 0 < a.den → IsLowest (lowest a)
 unfolding lowest
 lowest_coprime a above = record {
   above = quotient_above (unsigned_abs a.num) a.den above;
@@ -62,11 +62,11 @@ pub lowest_terms : LowestTerms
 lowest_terms a above = (lowest_same a, lowest_coprime a above)
 
 -- a denominator of 1 has nothing to divide
-div_one_abs : (n : ℤ) → int_div n (pos 1) ≡ n
+pub div_one_abs : (n : ℤ) → int_div n (pos 1) ≡ n
 div_one_abs (pos n) = ap pos (div-one n)
 div_one_abs (negsuc n) = ap (λ k. neg_ℤ (pos k)) (div-one (suc n))
 
-gcd_one : (n : ℕ) → gcd n 1 ≡ 1
+pub gcd_one : (n : ℕ) → gcd n 1 ≡ 1
 gcd_one n =
     let below : gcd n 1 ≤ 1 = gcd_below n 1 (omega arith) in
     let above : 0 < gcd n 1 = gcd_above n 1 (omega arith) in
@@ -75,3 +75,21 @@ gcd_one n =
 pub lowest_whole : (n : ℤ) → lowest (record { num = n; den = 1 }) ≡ record { num = n; den = 1 }
 unfolding lowest
 lowest_whole n = rw (gcd_one (unsigned_abs n)) (rw (div_one_abs n) refl)
+
+-- two numbers with the greatest common divisor 1
+coprime_terms_at : (a : Fraction) → IsLowest a → gcd (unsigned_abs a.num) a.den ≡ 1
+coprime_terms_at a h = sym (gcd_is (unsigned_abs a.num) a.den 1 h.coprime)
+
+pub coprime_terms : (a : Fraction) → 0 < a.den → gcd (unsigned_abs a.num) a.den ≡ 1 → IsLowest a
+coprime_terms a above e =
+    record { above = above; coprime = subst (λ g. IsGcd (unsigned_abs a.num) a.den g) e (IsGcd-gcd (unsigned_abs a.num) a.den) }
+
+pub coprime_lowest : (n : ℤ) (d : ℕ) (a : Fraction) → 0 < a.den → record { num = n; den = d } ≡ lowest a → gcd (unsigned_abs n) d ≡ 1
+coprime_lowest n d a above is = coprime_terms_at _ (subst IsLowest (sym is) (lowest_coprime a above))
+
+abs_negated : (n : ℤ) → unsigned_abs (neg_ℤ n) ≡ unsigned_abs n
+abs_negated (pos n) = abs_neg n
+abs_negated (negsuc n) = refl
+
+pub coprime_negated : (n : ℤ) (d : ℕ) → gcd (unsigned_abs n) d ≡ 1 → gcd (unsigned_abs (neg_ℤ n)) d ≡ 1
+coprime_negated n d h = ap (λ k. gcd k d) (abs_negated n) ∙ h

@@ -4,4 +4,6 @@ pub mod Divisors
 pub mod Exact
 pub mod Rounded
 pub mod Rows
+pub mod SameLowest
+pub mod Sums
 pub mod WordLaws

@@ -8,7 +8,7 @@ use Rattle.t1_frac.specs.Fraction.{Fraction, IsSame, lowest, whole, plus, negate
 use Rattle.t1_frac.specs.Limits.{coordinate_sum, exceeds, is_too_fine, within}
 use Rattle.t1_frac.specs.declared.fault.Code.{Code}
 use Rattle.t1_frac.specs.declared.fault.Code.TheVariants.{F39, F40}
-use Rattle.t1_frac.specs.Rounding.{RoundAlike, RoundingMoves, IsRoundedAt}
+use Rattle.t1_frac.specs.Rounding.{RoundAlike, RoundingMoves, FloorAndCeilingMove, IsRoundedAt}
 use Rattle.t1_frac.proofs.Exact.{lowest_terms}
 
 -- q is the greatest whole number with q * d not above z, said without subtraction
@@ -115,8 +115,11 @@ ceiling_moves v k h =
     let moved : floor_of (negated (plus v (whole k))) ≡ floor_of (negated v) +ℤ neg_ℤ k = turned ∙ floor_moves (negated v) (neg_ℤ k) h in
     ap neg_ℤ moved ∙ neg_neg (floor_of (negated v)) k
 
+pub floor_and_ceiling_move : FloorAndCeilingMove
+floor_and_ceiling_move v k h = (floor_moves v k h, ceiling_moves v k h)
+
 -- what is within the limits
-ok_within : (fault : Code) (limit : ℕ) (a : Fraction) (P : Fraction → Type 0) → P a → IfOk (within fault limit a) P
+pub ok_within : (fault : Code) (limit : ℕ) (a : Fraction) (P : Fraction → Type 0) → P a → IfOk (within fault limit a) P
 ok_within fault limit a P h = elim (exceeds limit a) as (λ t. IfOk (if t then Err fault else (if is_too_fine a then Err F39 else Ok a)) P) [
   | true ↦ tt
   | false ↦ elim (is_too_fine a) as (λ t. IfOk (if t then Err F39 else Ok a) P) [ true ↦ tt | false ↦ h ]

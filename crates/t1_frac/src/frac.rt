@@ -1,16 +1,17 @@
 //! Exact fractions within the limits of a run.
 
-ghost use Rattle.std.specs.Prelude.{◌≡◌, ◌≢◌, ◌*ℤ◌, pos, ◌*◌, ◌^◌, ◌≤◌, ◌<◌, IfOk};
+ghost use Rattle.std.specs.Prelude.{◌≡◌, ◌≢◌, ◌+ℤ◌, ◌*ℤ◌, pos, ◌*◌, ◌^◌, ◌≤◌, ◌<◌, ◌==◌, IfOk, true};
 ghost use Rattle.std.specs.Int.RustNames.{unsigned_abs};
-ghost use Rattle.t1_frac.specs.Fraction.{whole as whole_of, lowest, plus, negated as negated_of, over, compared, floor_of, ceiling_of, nearest_of};
+ghost use Rattle.t1_frac.specs.Fraction.{whole as whole_of, gcd as gcd_of, IsLowest, lowest, plus, negated as negated_of, over, compared, floor_of, ceiling_of, nearest_of};
 ghost use Rattle.t1_frac.specs.Limits.{IsCoordinate, coordinate_sum, coordinate_difference, quotient, within};
 
 use crate::fault::Code;
-use crate::gcd::gcd;
+use crate::gcd::{gcd, gcd_64};
 use std::cmp::Ordering;
 use std::marker::Model;
 
-/// A fraction in lowest terms, of size at most 2^31 and with a denominator of at most 1,048,576.
+/// A fraction in lowest terms, of size at most 2^31 and with a denominator of at most 1,048,576. Equal numbers are
+/// equal values, and a whole number has the denominator 1.
 #[derive(Clone, Copy, Debug, PartialEq, Eq)]
 pub struct Frac {
     num: i64,
@@ -18,20 +19,41 @@ pub struct Frac {
 }
 
 impl Model for Frac {
-    ghost use Rattle.std.specs.Prelude.{◌*◌, ◌^◌, ◌≤◌, ◌<◌};
+    ghost use Rattle.std.specs.Prelude.{◌≡◌, ◌*◌, ◌^◌, ◌<◌, ◌≤◌};
     ghost use Rattle.std.specs.Int.RustNames.{unsigned_abs};
-    ghost use Rattle.t1_frac.specs.Fraction.{Fraction};
+    ghost use Rattle.t1_frac.specs.Fraction.{Fraction, gcd};
 
     ghost Value = { Fraction };
 
     ghost view = { λ f. record { num = f.num; den = f.den } };
 
-    ghost invariant = { λ f. (0 < f.den) × (f.den ≤ 2 ^ 20) × (unsigned_abs f.num ≤ 2 ^ 31 * f.den) };
+    ghost invariant = { λ f. (0 < f.den) × (gcd (unsigned_abs f.num) f.den ≡ 1) × (f.den ≤ 2 ^ 20) × (unsigned_abs f.num ≤ 2 ^ 31 * f.den) };
 
     ghost inverse = { λ v. record { num = v.num; den = v.den } };
 }
 
-/// A numerator and a denominator over their greatest common divisor. A whole number has nothing to divide.
+/// Whether 63 bits hold both a numerator and a denominator.
+fn is_short(num: i128, den: u128) -> bool
+    ensures num { result ≡ true → unsigned_abs num < 2 ^ 63 }
+    ensures den { result ≡ true → den < 2 ^ 63 }
+{
+    num.unsigned_abs() < 1 << 63 && den < 1 << 63
+}
+
+/// A numerator and a denominator over their greatest common divisor, in 64 bits.
+#[tactic(auto, using(crate::proofs::Divisors::gcd_above, crate::proofs::Divisors::gcd_below), unfolding(crate::specs::Fraction::lowest))]
+fn in_lowest_terms_64(num: i64, den: u64) -> (i64, u64)
+    requires num { unsigned_abs num < 2 ^ 63 }
+    requires den_above { 0 < den }
+    requires den_below { den < 2 ^ 63 }
+    ensures { record { num = result.0; den = result.1 } ≡ lowest (record { num = num; den = den }) }
+{
+    let divisor = gcd_64(num.unsigned_abs(), den);
+    (num / divisor as i64, den / divisor)
+}
+
+/// A numerator and a denominator over their greatest common divisor. A whole number has nothing to divide, and 128
+/// bits are divided only where 63 don't hold them.
 #[tactic(auto, using(crate::proofs::Divisors::gcd_above, crate::proofs::Divisors::gcd_below, crate::proofs::Exact::lowest_whole), unfolding(crate::specs::Fraction::lowest))]
 fn in_lowest_terms(num: i128, den: u128) -> (i128, u128)
     requires den_above { 0 < den }
@@ -43,6 +65,10 @@ fn in_lowest_terms(num: i128, den: u128) -> (i128, u128)
     if den == 1 {
         return (num, den);
     }
+    if is_short(num, den) {
+        let (num, den) = in_lowest_terms_64(num as i64, den as u64);
+        return (i128::from(num), u128::from(den));
+    }
     let divisor = gcd(num.unsigned_abs(), den);
     (num / divisor as i128, den / divisor)
 }
@@ -51,6 +77,7 @@ fn in_lowest_terms(num: i128, den: u128) -> (i128, u128)
 fn limited(fault: Code, limit: u64, num: i128, den: u128) -> Result<Frac, Code>
     requires limit { limit ≤ 2 ^ 31 }
     requires den_above { 0 < den }
+    requires coprime { gcd_of (unsigned_abs num) den ≡ 1 }
     requires den_below { den ≤ 2 ^ 72 }
     ensures { result ≡ within fault limit (record { num = num; den = den }) }
 {
@@ -67,6 +94,7 @@ fn limited(fault: Code, limit: u64, num: i128, den: u128) -> Result<Frac, Code>
 }
 
 /// The fraction in lowest terms, or this fault where its size is past the limit, or F39 where it is too fine.
+#[tactic(auto, using(crate::proofs::Exact::coprime_lowest))]
 fn reduced(fault: Code, limit: u64, num: i128, den: u128) -> Result<Frac, Code>
     requires limit { limit ≤ 2 ^ 31 }
     requires den_above { 0 < den }
@@ -89,6 +117,7 @@ fn scaled(num: i64, den: u32) -> i128
 
 impl Frac {
     /// The whole number n.
+    #[tactic(auto, using(crate::proofs::Exact::gcd_one))]
     pub fn whole(n: i32) -> Frac
         ensures { result ≡ whole_of n }
     {
@@ -114,8 +143,16 @@ impl Frac {
         i64::from(self.den)
     }
 
-    /// The sum's numerator and denominator, not in lowest terms.
-    fn sum_terms(&self, other: &Frac) -> (i128, u128)
+    /// Whether it is a whole number.
+    pub fn is_whole(&self) -> bool
+        ensures value { result ≡ (self.now.den == 1) }
+        ensures terms { IsLowest self.now }
+    {
+        self.den == 1
+    }
+
+    /// The sum's numerator and denominator over the product of both denominators.
+    fn crossed_terms(&self, other: &Frac) -> (i128, u128)
         ensures sum { record { num = result.0; den = result.1 } ≡ plus self.now other.now }
         ensures den_above { 0 < result.1 }
         ensures den_below { result.1 ≤ 2 ^ 72 }
@@ -124,6 +161,26 @@ impl Frac {
         let right = scaled(other.num, self.den);
         let den = u128::from(self.den) * u128::from(other.den);
         (left + right, den)
+    }
+
+    /// The sum of both numerators, over the same denominator.
+    fn sum_num(&self, other: &Frac) -> i128
+        ensures { result ≡ self.now.num +ℤ other.now.num }
+    {
+        i128::from(self.num + other.num)
+    }
+
+    /// The sum's numerator and denominator, not in lowest terms. Over one denominator the numerators are added.
+    #[tactic(auto, using(crate::proofs::Sums::sum_alike))]
+    fn sum_terms(&self, other: &Frac) -> (i128, u128)
+        ensures sum { lowest (record { num = result.0; den = result.1 }) ≡ lowest (plus self.now other.now) }
+        ensures den_above { 0 < result.1 }
+        ensures den_below { result.1 ≤ 2 ^ 72 }
+    {
+        if self.den == other.den {
+            return (self.sum_num(other), u128::from(self.den));
+        }
+        self.crossed_terms(other)
     }
 
     /// The quotient's numerator and denominator, not in lowest terms.
@@ -142,6 +199,7 @@ impl Frac {
         }
     }
 
+    #[tactic(auto, using(crate::proofs::Exact::coprime_negated))]
     fn negated(&self) -> Frac
         ensures { result ≡ negated_of self.now }
     {

@@ -16,3 +16,17 @@ pub(crate) fn gcd(a: u128, b: u128) -> u128
     }
     x
 }
+
+/// The same in 64 bits.
+pub(crate) fn gcd_64(a: u64, b: u64) -> u64
+    ensures { result ≡ gcd_of a b }
+{
+    let mut x = a;
+    let mut y = b;
+    while y != 0 {
+        let rest = x % y;
+        x = y;
+        y = rest;
+    }
+    x
+}

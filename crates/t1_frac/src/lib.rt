@@ -12,3 +12,6 @@ pub use bytes::Bytes;
 pub use fault::{Code, Fault, Place, Refusal};
 pub use frac::Frac;
 pub use words::{Words, is_blank, next_word, skip_blanks};
+
+#[cfg(test)]
+mod tests;

@@ -1,0 +1,51 @@
+//! Worked rows.
+
+use super::*;
+use std::test::Fail;
+
+fn ratio(num: i32, den: i32) -> Option<Frac> {
+    Frac::whole(num).div(&Frac::whole(den)).ok()
+}
+
+/// Numerator and denominator of a sum.
+fn sum(a: Option<Frac>, b: Option<Frac>) -> Option<(i64, i64)> {
+    let sum = a?.add(&b?).ok()?;
+    Some((sum.num(), sum.den()))
+}
+
+#[test]
+fn adds_over_one_denominator(rt: HostRuntime) {
+    assert!(rt; sum(ratio(361, 2), ratio(361, 2)) == Some((361, 1)));
+}
+
+#[test]
+fn adds_over_two_denominators(rt: HostRuntime) {
+    assert!(rt; sum(ratio(1, 6), ratio(1, 10)) == Some((4, 15)));
+}
+
+/// A value whose quotient by itself has terms of 72 bits.
+fn wide() -> Option<Frac> {
+    Frac::whole(2_147_483_647)
+        .div(&ratio(1_048_575, 1_048_574)?)
+        .ok()
+}
+
+fn wide_quotient() -> Option<Frac> {
+    let value = wide()?;
+    value.div(&value).ok()
+}
+
+#[test]
+fn divides_wide_terms(rt: HostRuntime) {
+    assert!(rt; wide_quotient() == Some(Frac::whole(1)));
+}
+
+fn is_whole(num: i32, den: i32) -> Option<bool> {
+    Some(ratio(num, den)?.is_whole())
+}
+
+#[test]
+fn whole_numbers_are_known(rt: HostRuntime) {
+    assert!(rt; is_whole(-12, 4) == Some(true));
+    assert!(rt; is_whole(3, 2) == Some(false));
+}
