@@ -1,6 +1,6 @@
 -- Look-ups among what is kept by name.
-use Rattle.std.proofs.Common.{◌≡◌, ℕ, ◌+◌, ◌<◌, length, get_or, drop, drop-cons, add-one, Bool, true, false, cond, List, [], ◌∷◌, refl, sym, ap, ◌∙◌, Option, Some, None, inl, inr, map}
-use Rattle.std.specs.Prelude.{Result, ◌||◌}
+use Rattle.std.proofs.Common.{◌≡◌, ℕ, ◌+◌, ◌<◌, length, get_or, drop, drop-cons, add-one, Bool, true, false, cond, List, [], ◌∷◌, refl, sym, ap, subst, arith, ◌∙◌, Option, Some, None, inl, inr, map}
+use Rattle.std.specs.Prelude.{Result, Ok, Err, ◌||◌, ◌≤◌, zero, suc}
 use Rattle.std.specs.List.{list_any}
 use Rattle.std.specs.Option.{option_map, option_copied}
 use Rattle.std.specs.Borrow.{Bor}
@@ -9,8 +9,8 @@ use Rattle.std.specs.Str.{bytes_eq}
 use Rattle.std.proofs.lemmas.Bool.{cases_Bool}
 use Rattle.std.proofs.lemmas.Slice.Eq.{bytes_eq-Decides}
 use Rattle.t1_frac.specs.declared.fault.Code.{Code}
-use Rattle.t1_run.specs.Run.{FontBodies, Drawing, own}
-use Rattle.t1_font.specs.Runs.{Kept, kept_of, own_among}
+use Rattle.t1_run.specs.Run.{FontBodies, Drawing, NumberedRun, own}
+use Rattle.t1_font.specs.Runs.{Kept, drawing_kept, kept_of, run_kept, own_among, counted, IsAfter}
 use Rattle.indexmap.specs.IndexMap.{insert_entry}
 
 -- what is found, behind a borrow
@@ -45,6 +45,12 @@ cond-swap true true x y r h = absurd (h refl refl)
 cond-swap true false x y r h = refl
 cond-swap false b x y r h = refl
 
+-- a look-up among names is that among the keys that have them
+pub lookup-names : {K X L : Type 0} (name : K → L) (test : L → Bool) (es : List (K × X))
+    → lookup test (map (λ e. (name e.0, e.1)) es) ≡ lookup (λ k. test (name k)) es
+lookup-names name test [] = refl
+lookup-names name test (e ∷ es) = ap (cond (test (name e.0)) (Some e.1)) (lookup-names name test es)
+
 -- a name that is put in has its new value, and each other name what it had
 pub lookup-inserted : {K X : Type 0} (name : K → List ℕ) (g : List ℕ) (k : K) (v : X) (es : List (K × X))
     → lookup (λ x. bytes_eq g (name x)) (insert_entry (λ x y. bytes_eq (name x) (name y)) es k v)
@@ -75,15 +81,38 @@ or-cond true false all one r h = refl
 or-cond false true all one r h = sym (h refl)
 or-cond false false all one r h = refl
 
-pub one-more : (m : FontBodies) (rest : List (List ℕ)) (old new : List Kept) (names : List (List ℕ)) (name : List ℕ) (kept : Result Drawing Code)
-    → Some kept ≡ own m name → ((q : List ℕ) → kept_of new q ≡ cond (bytes_eq q name) (Some kept) (kept_of old q))
+pub one-more : (m : FontBodies) (rest : List (List ℕ)) (old new : List Kept) (names : List (List ℕ)) (name : List ℕ) (kept : Result NumberedRun Code)
+    → Some (drawing_kept kept) ≡ own m name → ((q : List ℕ) → run_kept new q ≡ cond (bytes_eq q name) (Some kept) (run_kept old q))
     → RunsInFront m (name ∷ rest) old names → RunsInFront m rest new names
 one-more m rest old new names name kept is put h q =
-    ap (cond (list_any (bytes_eq q) rest) (own m q)) (put q)
-    ∙ or-cond (list_any (bytes_eq q) rest) (bytes_eq q name) (own m q) (Some kept) (kept_of old q)
+    ap (λ r. cond (list_any (bytes_eq q) rest) (own m q) (option_map drawing_kept r)) (put q)
+    ∙ ap (cond (list_any (bytes_eq q) rest) (own m q)) (map-cond drawing_kept (bytes_eq q name) kept (run_kept old q))
+    ∙ or-cond (list_any (bytes_eq q) rest) (bytes_eq q name) (own m q) (Some (drawing_kept kept)) (kept_of old q)
     (λ same. rw (same_bytes q name same) (sym is))
     ∙ h q
 
 -- the names that are left begin with this one
 pub name-first : (names : List (Bor (List ℕ))) (i : ℕ) (d : Bor (List ℕ)) → i < length names → drop i names ≡ get_or names i d ∷ drop (i + 1) names
 name-first names i d h = rw (add-one, drop-cons names i d) refl
+
+-- ---- the numbers of runs
+
+after-cond : (count : ℕ) (b : Bool) (x r : Option (Result NumberedRun Code)) → IsAfter count x → IsAfter count r → IsAfter count (cond b x r)
+after-cond count true x r h k = h
+after-cond count false x r h k = k
+
+-- a run that is put in is later than the count, as those are that were there
+pub one-after : (count : ℕ) (old new : List Kept) (name : List ℕ) (kept : Result NumberedRun Code)
+    → ((q : List ℕ) → run_kept new q ≡ cond (bytes_eq q name) (Some kept) (run_kept old q))
+    → IsAfter count (Some kept) → ((q : List ℕ) → IsAfter count (run_kept old q)) → (q : List ℕ) → IsAfter count (run_kept new q)
+one-after count old new name kept put h others q =
+    subst (IsAfter count) (sym (put q)) (after-cond count (bytes_eq q name) (Some kept) (run_kept old q) h (others q))
+
+counted-up : (count n : ℕ) → counted count 1 ≤ counted (counted count n) 1
+counted-up count zero = omega arith
+counted-up count (suc n) = omega (arith, counted-up count n)
+
+-- what is after a later count is after an earlier one
+pub after-earlier : (count n : ℕ) (kept : Result NumberedRun Code) → IsAfter (counted count n) (Some kept) → IsAfter count (Some kept)
+after-earlier count n (Err code) h = tt
+after-earlier count n (Ok run) h = omega (arith, counted-up count n, h)

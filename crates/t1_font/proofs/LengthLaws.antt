@@ -23,7 +23,7 @@ use Rattle.t1_code.proofs.Encrypting.{length-cipher, length-eexec}
 use Rattle.t1_code.proofs.Framing.{fits}
 use Rattle.t1_code.proofs.Lengths.{compiled_short}
 use Rattle.t1_font.specs.Bodies.{bodies_check, body_check, words_check}
-use Rattle.t1_font.specs.Assembly.{entry_line, file_check, item_line, private_text, source_file, trailer_text}
+use Rattle.t1_font.specs.Assembly.{entry_line, file_check, length_check, item_line, private_text, source_file, trailer_text}
 
 closing_short : (closing : List ℕ) → length (closing_text closing) ≤ length closing + 1
 closing_short [] = omega arith
@@ -115,7 +115,7 @@ fault_of (Err other) fault h = cc
 
 -- the first fault of a body is the file's
 pub body_fault_told : (source : SourceParts) (fault : Fault) → bodies_check source.items ≡ Err fault → file_check source ≡ Err fault
-unfolding file_check source_file
+unfolding file_check length_check source_file
 body_fault_told source fault h =
     let known = fault_of (private_text (lead source) (operator source) source.items) fault (sym (checked_text (lead source) (operator source) source.items) ∙ h) in
     rw known refl
@@ -137,6 +137,6 @@ checked_from : (r : Result (List ℕ) Fault) → IsOk r → ◌≡◌ {A = Resul
 checked_from (Ok file) h = refl
 checked_from (Err fault) h = absurd (cc)
 
-pub file_checked : (source : SourceParts) → IsOk (source_file whole_file source) → file_check source ≡ Ok tt
-unfolding file_check
-file_checked source h = checked_from (source_file whole_file source) h
+pub length_checked : (source : SourceParts) → IsOk (source_file whole_file source) → length_check source ≡ Ok tt
+unfolding length_check
+length_checked source h = checked_from (source_file whole_file source) h

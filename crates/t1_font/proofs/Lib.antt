@@ -1,4 +1,5 @@
 pub mod Compiling
+pub mod Counted
 pub mod Drawing
 pub mod Filing
 pub mod Gathering
@@ -10,4 +11,5 @@ pub mod Naming
 pub mod Ordering
 pub mod Outlining
 pub mod Rows
+pub mod SubrsFirst
 pub mod UsageRows

@@ -1,15 +1,18 @@
 -- The PFB file of a source.
-use Rattle.std.specs.Prelude.{ℕ, List, [], ◌∷◌, ◌++◌, Result, Ok, codes, decimal, replicate}
+use Rattle.std.specs.Prelude.{ℕ, if◌then◌else◌, List, [], ◌∷◌, ◌++◌, Result, Ok, Err, codes, decimal, replicate}
+use Rattle.std.specs.List.{list_all}
+use Rattle.t1_frac.specs.declared.fault.Code.TheVariants.{F23}
 use Rattle.t1_frac.specs.declared.fault.Fault.{Fault}
 use Rattle.t1_frac.specs.declared.fault.Place.{Place}
 use Rattle.t1_frac.specs.declared.fault.Place.TheVariants as places
-use Rattle.t1_frac.specs.Outcome.{told_at, ◌>>=◌}
+use Rattle.t1_frac.specs.Outcome.{fault_at, told_at, ◌>>=◌}
 use Rattle.t1_parts.specs.declared.item.Item.{Item}
 use Rattle.t1_parts.specs.declared.item.Item.TheVariants.{Plain, Section, Subr, Glyph}
 use Rattle.t1_parts.specs.SourceParts.{SourceParts}
 use Rattle.t1_text.specs.Lines.{joined}
 use Rattle.t1_parts.specs.LenIV.{lead}
 use Rattle.t1_parts.specs.Operator.{operator}
+use Rattle.t1_source.specs.WellFormed.{is_counted}
 use Rattle.t1_code.specs.Words.{commands}
 use Rattle.t1_code.specs.Charstring.{charstring}
 use Rattle.t1_code.specs.Cipher.{encrypted_charstring}
@@ -44,9 +47,17 @@ unfoldable pub source_file : ℕ → SourceParts → Result (List ℕ) Fault
 source_file size source =
     private_text (lead source) (operator source) source.items >>= λ private. pfb_of size (joined source.clear) private (trailer_text source.tail)
 
--- whether a source has its PFB file, or the first fault of its bodies, or F23
+-- profile: the first fault of the bodies, or F23 where a part of the PFB file is too long
+unfoldable pub length_check : SourceParts → Result (Unit {0}) Fault
+length_check source = source_file whole_file source >>= λ file. Ok tt
+
+-- profile: F23 where a section's count has more than nine digits, which its text couldn't say
+abbrev pub counts_check : List Item → Result (Unit {0}) Fault
+counts_check items = if list_all is_counted items then Ok tt else Err (fault_at places.Nowhere F23)
+
+-- profile: whether a source has its PFB file and a text: the first fault of its bodies, or F23
 unfoldable pub file_check : SourceParts → Result (Unit {0}) Fault
-file_check source = source_file whole_file source >>= λ file. Ok tt
+file_check source = length_check source >>= λ checked. counts_check source.items
 
 -- the bytes of a line that is ready to be written
 abbrev pub line_text : PrivateLine → List ℕ

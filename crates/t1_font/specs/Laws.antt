@@ -1,11 +1,19 @@
--- What laws say of glyphs.
-use Rattle.std.specs.Prelude.{◌≡◌, ℕ, List, [], ◌∷◌, map, Result, Ok}
+-- What laws say of a whole font.
+use Rattle.std.specs.Prelude.{◌≡◌, ℕ, List, [], ◌∷◌, filter, map, Result, Ok}
 use Rattle.t1_frac.specs.declared.fault.Fault.{Fault}
 use Rattle.t1_frac.specs.declared.fault.Place.TheVariants as places
 use Rattle.t1_frac.specs.Outcome.{told_at, ◌>>=◌}
+use Rattle.t1_parts.specs.Counts.{is_glyph_entry}
+use Rattle.t1_parts.specs.Printing.{text}
+use Rattle.t1_parts.specs.Reading.{reads}
+use Rattle.t1_parts.specs.SourceParts.{SourceParts}
+use Rattle.t1_source.specs.Editing.{is_subr_entry}
+use Rattle.t1_source.specs.WellFormed.{IsWellFormed}
 use Rattle.t1_run.specs.declared.outline.Segment.{Segment}
 use Rattle.t1_run.specs.Composite.{outline}
 use Rattle.t1_run.specs.Run.{FontBodies}
+use Rattle.t1_font.specs.Assembly.{file_check}
+use Rattle.t1_font.specs.Bodies.{bodies_check}
 use Rattle.t1_font.specs.Glyphs.{glyphs}
 
 -- the outlines of the glyphs, or the first fault of an outline, at its glyph
@@ -17,3 +25,12 @@ outlines m (name ∷ names) =
 -- the first fault of glyphs is that of their outlines, and without a fault the outlines are theirs
 abbrev pub OutlinesLaw : Type 0
 OutlinesLaw = (m : FontBodies) (names : List (List ℕ)) → (glyphs m names >>= (λ gs. Ok (map (λ g. g.outline) gs))) ≡ outlines m names
+
+-- the first fault of the bodies of a source is the first over its Subrs, then over its glyphs
+abbrev pub SubrsFirstLaw : Type 0
+SubrsFirstLaw = (s : SourceParts) → IsWellFormed s
+    → bodies_check s.items ≡ (bodies_check (filter is_subr_entry s.items) >>= (λ checked. bodies_check (filter is_glyph_entry s.items)))
+
+-- a source whose file has no fault is read from its text as it was
+abbrev pub ReadsBackLaw : Type 0
+ReadsBackLaw = (s : SourceParts) → IsWellFormed s → file_check s ≡ Ok tt → reads (text s) ≡ Ok s

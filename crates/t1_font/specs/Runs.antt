@@ -1,9 +1,11 @@
 -- Runs kept by the names of their glyphs.
-use Rattle.std.specs.Prelude.{ℕ, zero, suc, ◌+◌, ◌-◌, ◌^◌, min, if◌then◌else◌, List, Option, None, Result, Ok, Err}
+use Rattle.std.specs.Prelude.{◌≡◌, ◌≤◌, ℕ, zero, suc, ◌+◌, ◌-◌, ◌^◌, min, if◌then◌else◌, List, Option, None, Some, option_map, Result, Ok, Err}
 use Rattle.std.specs.List.{list_any}
 use Rattle.std.specs.Map.{lookup}
 use Rattle.std.specs.Str.{bytes_eq}
 use Rattle.t1_frac.specs.declared.fault.Code.{Code}
+use Rattle.t1_frac.specs.declared.fault.Refusal.{Refusal}
+use Rattle.t1_frac.specs.declared.fault.Refusal.TheVariants as refusals
 use Rattle.t1_run.specs.Run.{FontBodies, Drawing, Numbered, own}
 
 -- profile: what is kept of a run: what it draws, or its first fault
@@ -11,13 +13,17 @@ abbrev pub drawing_kept : Result Numbered Code → Result Drawing Code
 drawing_kept (Ok run) = Ok run.drawing
 drawing_kept (Err code) = Err code
 
--- profile: a glyph's name, and what is kept of its run
+-- profile: a glyph's name, and its run with its number among the runs, or its first fault
 abbrev pub Kept : Type 0
-Kept = List ℕ × Result Drawing Code
+Kept = List ℕ × Result NumberedRun Code
 
--- profile: what is kept of the glyph of this name
+-- profile: the run of the glyph of this name
+abbrev pub run_kept : List Kept → List ℕ → Option (Result NumberedRun Code)
+run_kept runs name = lookup (bytes_eq name) runs
+
+-- profile: what is kept of the glyph of this name: what it draws, or its first fault
 abbrev pub kept_of : List Kept → List ℕ → Option (Result Drawing Code)
-kept_of runs name = lookup (bytes_eq name) runs
+kept_of runs name = option_map drawing_kept (run_kept runs name)
 
 -- profile: what the own bodies of these glyphs draw, or their first faults
 abbrev pub own_among : FontBodies → List (List ℕ) → List ℕ → Option (Result Drawing Code)
@@ -27,3 +33,19 @@ own_among m names g = if list_any (bytes_eq g) names then own m g else None
 abbrev pub counted : ℕ → ℕ → ℕ
 counted count zero = count
 counted count (suc runs) = min (counted count runs + 1) (2 ^ 64 - 1)
+
+-- profile: some of so many runs were counted
+abbrev pub CountsSome : ℕ → ℕ → ℕ → Type 0
+CountsSome runs old new = (made : ℕ) × (made ≤ runs) × (new ≡ counted old made)
+
+-- profile: a call counted so many runs, each once, also where it answers a fault; where memory ran out it counted some of them
+abbrev pub Counts : {T : Type 0} → ℕ → ℕ → ℕ → Result T Refusal → Type 0
+Counts runs old new (Ok done) = new ≡ counted old runs
+Counts runs old new (Err (refusals.Fault fault)) = new ≡ counted old runs
+Counts runs old new (Err refusals.Memory) = CountsSome runs old new
+
+-- profile: a run's number is after this count, or the last number that there is
+abbrev pub IsAfter : ℕ → Option (Result NumberedRun Code) → Type 0
+IsAfter count None = Unit {0}
+IsAfter count (Some (Err code)) = Unit {0}
+IsAfter count (Some (Ok run)) = counted count 1 ≤ run.serial

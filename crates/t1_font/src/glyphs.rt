@@ -4,7 +4,7 @@ ghost use Rattle.std.specs.Option.{option_to_list};
 ghost use Rattle.t1_frac.specs.Outcome.{Gives};
 ghost use Rattle.t1_font.specs.Bodies.{bodies as bodies_of, bodies_check, plain_bodies, SameBodies};
 ghost use Rattle.t1_font.specs.Glyphs.{glyph_names, name_in};
-ghost use Rattle.t1_font.specs.Runs.{counted};
+ghost use Rattle.t1_font.specs.Runs.{Counts};
 ghost use Rattle.t1_font.specs.MeasuredGlyphs.{measured};
 
 use crate::runs::runs_of;
@@ -72,7 +72,8 @@ fn glyph_names<'a>(alloc: Global, items: &'a [Item]) -> Result<Vec<&'a [u8]>, Al
 }
 
 /// Runs each glyph of a source once and measures its outline: the glyphs and the font's box, or the first fault, at its
-/// glyph. The bodies are those of the entries, which have no fault. The meter counts one for each glyph.
+/// glyph. The bodies are those of the entries, which have no fault. The meter counts one for each glyph, also where a fault is
+/// answered; where memory runs out, one for each that was run.
 pub fn measured(
     alloc: Global,
     items: &[Item],
@@ -82,7 +83,7 @@ pub fn measured(
     requires checked { bodies_check items.now ≡ Ok tt }
     requires bodies { SameBodies (plain_bodies bodies.now) (bodies_of items.now) }
     ensures told { Gives (λ glyphs. glyphs) result (measured items.now) }
-    ensures counted { OnOk result (meter.new ≡ counted meter.old (length (glyph_names items.now))) }
+    ensures counted { Counts (length (glyph_names items.now)) meter.old meter.new result }
 {
     let names = glyph_names(alloc, items)?;
     let runs = runs_of(alloc, bodies, &names, meter)?;

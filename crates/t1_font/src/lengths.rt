@@ -4,14 +4,15 @@ ghost use Rattle.t1_frac.specs.Outcome.{Gives};
 ghost use Rattle.t1_text.specs.Lines.{joined};
 ghost use Rattle.t1_font.specs.Bodies.{bodies as bodies_of, bodies_check, plain_bodies, SameBodies};
 ghost use Rattle.t1_code.specs.Pfb.{whole_file};
-ghost use Rattle.t1_font.specs.Assembly.{file_check, item_line, private_text, source_file};
+ghost use Rattle.t1_font.specs.Assembly.{counts_check, file_check, length_check, item_line, private_text, source_file};
+ghost use Rattle.t1_source.specs.WellFormed.{is_counted};
 
 use crate::assembly::{ZEROS_LEN, file_of};
 use crate::bodies::compiled;
 use itoa::Buffer;
 use std::alloc::Global;
 use t1_code::{EEXEC_LEAD, MAX_PART};
-use t1_frac::{Bytes, Refusal, Words};
+use t1_frac::{Bytes, Code, Refusal, Words};
 use t1_run::Plain;
 use t1_source::{Item, Source};
 
@@ -95,10 +96,10 @@ fn is_short(source: &Source) -> bool
 
 /// F23 where a part of the PFB file of a source is too long. Its bodies have no fault. The file is made only where the
 /// source is so long that its length doesn't answer.
-#[tactic(auto, using(crate::proofs::LengthLaws::file_checked), unfolding(crate::specs::Assembly::file_check))]
+#[tactic(auto, using(crate::proofs::LengthLaws::length_checked), unfolding(crate::specs::Assembly::length_check))]
 fn check_length(alloc: Global, source: &Source) -> Result<(), Refusal>
     requires { bodies_check source.now.items ≡ Ok tt }
-    ensures { Gives (λ x. x) result (file_check source.now) }
+    ensures { Gives (λ x. x) result (length_check source.now) }
 {
     if is_short(source) {
         return Ok(());
@@ -107,9 +108,32 @@ fn check_length(alloc: Global, source: &Source) -> Result<(), Refusal>
     Ok(())
 }
 
-/// The compiled bodies of a source whose PFB file has no fault; or the file's fault: the first of a body, at its
+/// The least count of ten digits.
+const TEN_DIGITS: u64 = 1_000_000_000;
+
+/// Whether the count of an item that is a section line has at most nine digits.
+fn is_counted(item: &Item) -> bool
+    ensures { result ≡ is_counted item.now }
+{
+    match item {
+        Item::Section(_, count, _) => *count < TEN_DIGITS,
+        _ => true,
+    }
+}
+
+/// F23 where a count has more than nine digits.
+fn check_counts(items: &[Item]) -> Result<(), Refusal>
+    ensures { Gives (λ x. x) result (counts_check items.now) }
+{
+    if items.iter().all(is_counted) {
+        return Ok(());
+    }
+    Err(Refusal::from(Code::F23))
+}
+
+/// The compiled bodies of a source whose PFB file and text have no fault; or their fault: the first of a body, at its
 /// entry, else F23.
-#[tactic(auto, using(crate::proofs::LengthLaws::body_fault_told))]
+#[tactic(auto, using(crate::proofs::LengthLaws::body_fault_told), unfolding(crate::specs::Assembly::file_check))]
 pub fn checked_bodies(alloc: Global, source: &Source) -> Result<Plain, Refusal>
     ensures file { Gives (λ _. tt) result (file_check source.now) }
     ensures no_fault { IfOk result (λ _. bodies_check source.now.items ≡ Ok tt) }
@@ -117,5 +141,6 @@ pub fn checked_bodies(alloc: Global, source: &Source) -> Result<Plain, Refusal>
 {
     let bodies = compiled(alloc, source.items())?;
     check_length(alloc, source)?;
+    check_counts(source.items())?;
     Ok(bodies)
 }

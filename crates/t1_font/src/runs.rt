@@ -1,8 +1,8 @@
 //! Runs, kept by the names of their glyphs.
-ghost use Rattle.std.specs.Prelude.{◌≡◌, length, map, ℕ, List, [], Some, All, IsSome, IfOk, OnOk, option_map, if◌then◌else◌};
+ghost use Rattle.std.specs.Prelude.{◌≡◌, length, map, ℕ, List, [], Some, All, IsSome, IfOk, OnOk, OnErr, option_map, if◌then◌else◌};
 ghost use Rattle.std.specs.Str.{bytes_eq};
 ghost use Rattle.t1_run.specs.Run.{font, own};
-ghost use Rattle.t1_font.specs.Runs.{drawing_kept, kept_of, own_among, counted};
+ghost use Rattle.t1_font.specs.Runs.{drawing_kept, kept_of, run_kept, own_among, counted, CountsSome, IsAfter};
 
 use indexmap::IndexMap;
 use std::alloc::{AllocError, Global};
@@ -10,8 +10,8 @@ use std::marker::Model;
 use t1_frac::{Code, Refusal};
 use t1_run::{Bodies, Meter, Run, run};
 
-/// The runs of some glyphs: what each draws alone, or its first fault. Contracts see the list of
-/// both, each with its name.
+/// The runs of some glyphs, each with its number, or its first fault. Contracts see the list of both, each with the
+/// glyph's name.
 #[derive(Drop)]
 pub struct Runs {
     by_name: IndexMap<Vec<u8>, Result<Run, Code>>,
@@ -19,11 +19,11 @@ pub struct Runs {
 
 impl Model for Runs {
     ghost use Rattle.std.specs.Prelude.{List, map};
-    ghost use Rattle.t1_font.specs.Runs.{Kept, drawing_kept};
+    ghost use Rattle.t1_font.specs.Runs.{Kept};
 
     ghost Value = { List Kept };
 
-    ghost view = { λ r. map (λ e. (e.0.items, drawing_kept e.1)) r.by_name.entries };
+    ghost view = { λ r. map (λ e. (e.0.items, e.1)) r.by_name.entries };
 }
 
 impl Runs {
@@ -50,7 +50,7 @@ impl Runs {
         name: &[u8],
         kept: Result<Run, Code>,
     ) -> Result<(), AllocError>
-        ensures { OnOk result ((g : List ℕ) → kept_of self.new g ≡ (if bytes_eq g name.now then Some (drawing_kept kept) else kept_of self.old g)) }
+        ensures { OnOk result ((g : List ℕ) → run_kept self.new g ≡ (if bytes_eq g name.now then Some kept else run_kept self.old g)) }
     {
         self.by_name.insert(Vec::from_slice(alloc, name)?, kept)?;
         Ok(())
@@ -67,6 +67,7 @@ fn kept_run<B: Bodies>(
 ) -> Result<Result<Run, Code>, AllocError>
     requires { IsSome (B.glyphs bodies.now name.now) }
     ensures kept { IfOk result (λ kept. Some (drawing_kept kept) ≡ own (font (B.subrs bodies.now) (B.glyphs bodies.now)) name.now) }
+    ensures after { IfOk result (λ kept. IsAfter meter.old (Some kept)) }
     ensures counted { meter.new ≡ counted meter.old 1 }
 {
     match run(alloc, bodies, name, meter) {
@@ -76,7 +77,8 @@ fn kept_run<B: Bodies>(
     }
 }
 
-/// Runs the own body of each of these glyphs, and keeps its first fault where it has one. The meter counts each of them.
+/// Runs the own body of each of these glyphs, and keeps its first fault where it has one. The meter counts each of them;
+/// where memory runs out, those that were run.
 pub fn runs_of<B: Bodies>(
     alloc: Global,
     bodies: &B,
@@ -85,7 +87,9 @@ pub fn runs_of<B: Bodies>(
 ) -> Result<Runs, AllocError>
     requires { All (λ name. IsSome (B.glyphs bodies.now name.now)) names.now }
     ensures kept { IfOk result (λ runs. (g : List ℕ) → kept_of runs g ≡ own_among (font (B.subrs bodies.now) (B.glyphs bodies.now)) (map (λ name. name.now) names.now) g) }
+    ensures after { IfOk result (λ runs. (g : List ℕ) → IsAfter meter.old (run_kept runs g)) }
     ensures counted { OnOk result (meter.new ≡ counted meter.old (length names.now)) }
+    ensures want { OnErr result (CountsSome (length names.now) meter.old meter.new) }
 {
     let mut runs = Runs::new(alloc);
     for name in names {

@@ -2,12 +2,11 @@ use Rattle.std.proofs.Common.{◌∙◌, sym, ap}
 use Rattle.std.specs.Str.{bytes_eq}
 use Rattle.std.specs.Option.{option_map}
 use Rattle.t1_font.specs.Runs.{drawing_kept, kept_of}
-use Rattle.t1_font.proofs.Keeping.{copied-map, lookup-map}
+use Rattle.t1_font.proofs.Keeping.{copied-map, lookup-names}
 use Rattle.t1_font.proofs.runs.Runs.get.Goals as goal
 
 pub returns : goal.returns
 returns c =
     copied-map drawing_kept c.get.result
-    ∙ ap (option_map drawing_kept) c.get.ensures.value
-    ∙ sym (lookup-map (λ k. k.items) drawing_kept (bytes_eq c.args.name.now) c.self.inside.by_name.entries)
+    ∙ ap (option_map drawing_kept) (c.get.ensures.value ∙ sym (lookup-names (λ k. k.items) (bytes_eq c.args.name.now) c.self.inside.by_name.entries))
     ∙ ap (λ runs. kept_of runs c.args.name.now) c.self.view_is
