@@ -1,5 +1,5 @@
 -- The usage table of the demo font.
-use Rattle.std.proofs.Common.{◌≡◌, ℕ, List, [], ◌∷◌, refl, Result, Ok}
+use Rattle.std.proofs.Common.{◌≡◌, ℕ, List, [], ◌∷◌, map, refl, Result, Ok}
 use Rattle.std.specs.Prelude.{codes}
 use Rattle.std.specs.Fmt.{digits}
 use Rattle.t1_frac.specs.Fraction.{gcd, lowest}
@@ -13,9 +13,10 @@ use Rattle.t1_run.specs.Composite.{outline, joined as joined_outline}
 use Rattle.t1_run.specs.Run.{own, ending}
 use Rattle.t1_font.specs.Bodies.{bodies}
 use Rattle.t1_font.specs.Glyphs.{glyphs, glyph_names}
+use Rattle.t1_font.specs.MeasuredGlyphs.{glyph_metrics}
 use Rattle.t1_font.specs.Usage.{usage_table}
 
-pub demo_usage : (glyphs (bodies demo_items) (glyph_names demo_items) >>= λ found. Ok (usage_table found)) ≡ Ok (joined (
+pub demo_usage : (glyphs (bodies demo_items) (glyph_names demo_items) >>= λ found. Ok (usage_table (map glyph_metrics found))) ≡ Ok (joined (
     codes "U .notdef ;" ∷
     codes "U Aacute ; P A ; P acute ;" ∷
     codes "U A ;" ∷

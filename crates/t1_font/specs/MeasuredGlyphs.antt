@@ -17,6 +17,7 @@ abbrev pub glyph_metrics : Glyph → GlyphMetrics
 glyph_metrics g = record {
   name = g.name;
   width = g.drawing.width;
+  entered = g.drawing.entered;
   parts = g.parts;
   bbox = drawn_box g.outline;
 }

@@ -1,10 +1,11 @@
 -- The glyphs and the usage table of a source, and its first fault.
-use Rattle.std.specs.Prelude.{ℕ, List, Result, Ok}
+use Rattle.std.specs.Prelude.{ℕ, List, map, Result, Ok}
 use Rattle.t1_frac.specs.declared.fault.Fault.{Fault}
 use Rattle.t1_frac.specs.Outcome.{◌>>=◌}
 use Rattle.t1_parts.specs.SourceParts.{SourceParts}
 use Rattle.t1_font.specs.Bodies.{bodies}
 use Rattle.t1_font.specs.Glyphs.{Glyph, glyphs, glyph_names}
+use Rattle.t1_font.specs.MeasuredGlyphs.{glyph_metrics}
 use Rattle.t1_font.specs.Usage.{usage_table}
 use Rattle.t1_font.specs.Assembly.{file_check}
 
@@ -18,4 +19,4 @@ source_check source = source_glyphs source >>= λ glyphs. Ok tt
 
 -- the usage table of a source, or its first fault
 abbrev pub source_usage : SourceParts → Result (List ℕ) Fault
-source_usage source = source_glyphs source >>= λ glyphs. Ok (usage_table glyphs)
+source_usage source = source_glyphs source >>= λ glyphs. Ok (usage_table (map glyph_metrics glyphs))

@@ -12,18 +12,8 @@ use std::alloc::{AllocError, Global};
 use std::io::Write;
 use t1_code::{Counted, OutError, Parts, Piece, write_pfb};
 use t1_frac::{Bytes, Refusal};
+use t1_parts::push_lines;
 use t1_source::Source;
-
-/// Adds lines with their ends.
-fn push_lines(text: &mut Vec<u8>, lines: &[Bytes]) -> Result<(), AllocError>
-    ensures { OnOk result (text.new.items ≡ text.old.items ++ joined lines.now) }
-{
-    for line in lines {
-        text.extend_from_slice(line.as_slice())?;
-        text.push(b'\n')?;
-    }
-    Ok(())
-}
 
 /// The text of the clear part.
 fn clear_text(alloc: Global, lines: &[Bytes]) -> Result<Vec<u8>, AllocError>

@@ -8,6 +8,7 @@ ghost use Rattle.t1_font.specs.Glyphs.{placed_parts_of, run_there};
 ghost use Rattle.t1_font.specs.Runs.{kept_of};
 ghost use Rattle.t1_font.specs.MeasuredGlyphs.{glyph_metrics_at, glyph_metrics_among, AreWithin};
 
+use crate::numbers::SubrNumbers;
 use crate::outline::outline_of;
 use crate::runs::Runs;
 use std::alloc::Global;
@@ -28,6 +29,8 @@ pub struct PlacedParts {
 pub struct GlyphMetrics {
     pub name: Bytes,
     pub width: Point,
+    /// The Subrs that its own run entered, ascending and each once.
+    pub entered: SubrNumbers,
     /// The parts of a composite.
     pub parts: Option<PlacedParts>,
     /// The box around its outline, where it draws.
@@ -89,6 +92,7 @@ fn unplaced_metrics(alloc: Global, runs: &Runs, name: &[u8]) -> Result<GlyphMetr
     Ok(GlyphMetrics {
         name: Bytes::copied(alloc, name)?,
         width: run.width(),
+        entered: SubrNumbers::copied(alloc, run.entered())?,
         parts: placed_parts(alloc, run)?,
         bbox,
     })

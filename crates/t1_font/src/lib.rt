@@ -17,9 +17,11 @@ mod glyphs;
 mod kern;
 pub mod laws;
 mod lengths;
+mod numbers;
 mod outline;
 mod private;
 mod runs;
+mod usage;
 
 pub use afm_file::write_source_afm;
 pub use assembly::{file_of, write_source_pfb};
@@ -28,9 +30,11 @@ pub use font_metrics::metrics;
 pub use glyph_metrics::{GlyphMetrics, PlacedParts, glyph_metrics_of};
 pub use glyphs::{MeasuredGlyphs, measured};
 pub use lengths::checked_bodies;
+pub use numbers::SubrNumbers;
 pub use outline::{Outline, outline_of};
 pub use private::PrivateLine;
 pub use runs::{Runs, runs_of};
+pub use usage::usage_text;
 
 #[cfg(test)]
 mod tests;

@@ -1,0 +1,35 @@
+//! Lists of Subr numbers.
+ghost use Rattle.std.specs.Prelude.{◌≡◌, IfOk};
+
+use std::alloc::{AllocError, Global};
+use std::marker::Model;
+
+/// Numbers of Subrs that own their memory. Contracts see the list of the numbers.
+#[derive(Debug, Drop)]
+pub struct SubrNumbers {
+    numbers: Vec<u16>,
+}
+
+impl Model for SubrNumbers {
+    ghost use Rattle.std.specs.Prelude.{List, ℕ};
+
+    ghost Value = { List ℕ };
+
+    ghost view = { λ n. n.numbers.items };
+}
+
+impl SubrNumbers {
+    /// A copy of these numbers.
+    pub fn copied(alloc: Global, numbers: &[u16]) -> Result<Self, AllocError>
+        ensures { IfOk result (λ copy. copy ≡ numbers.now) }
+    {
+        let numbers = Vec::from_slice(alloc, numbers)?;
+        Ok(SubrNumbers { numbers })
+    }
+
+    pub fn as_slice(&self) -> &[u16]
+        ensures { result.now ≡ self.now }
+    {
+        self.numbers.as_slice()
+    }
+}
