@@ -9,7 +9,7 @@ use Rattle.t1_parts.specs.SourceParts.{SourceParts}
 use Rattle.t1_source.specs.Kerning.{pairs}
 use Rattle.t1_parts.specs.Reading.{reads}
 use Rattle.t1_code.specs.Pfb.{whole_file}
-use Rattle.t1_session.specs.declared.request.Request.TheVariants as requests
+use Rattle.t1_session.specs.declared.command.Command.TheVariants as commands
 use Rattle.t1_font.specs.Assembly.{source_file, file_check}
 use Rattle.t1_session.specs.Machine.{HasFile, OpensWithFile, KeepsFile, judged, judged_file, perform, scratch}
 use Rattle.t1_session.specs.State.{State}
@@ -50,6 +50,6 @@ judged_keeps old (Err rule) h = h
 
 pub keeps_file : KeepsFile
 unfolding perform
-keeps_file s (requests.Edit edit) h = judged_keeps s (edited s.source s.pairs edit) h
-keeps_file s (requests.Print print) h = h
-keeps_file s (requests.Broken rule) h = h
+keeps_file s (commands.Edit edit) h = judged_keeps s (edited s.source s.pairs edit) h
+keeps_file s (commands.Print print) h = h
+keeps_file s (commands.Broken rule) h = h
