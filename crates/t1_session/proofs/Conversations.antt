@@ -6,23 +6,23 @@ use Rattle.t1_code.proofs.Writing.{writing, WritesAll-append, WritesFront-append
 use Rattle.t1_frac.specs.Words.{words}
 use Rattle.t1_session.specs.declared.error.ServeError.{ServeError}
 use Rattle.t1_session.specs.declared.error.ServeError.TheVariants as errors
-use Rattle.t1_session.specs.declared.request.Request.{Request}
+use Rattle.t1_session.specs.declared.command.Command.{Command}
 use Rattle.t1_text.specs.Lines.{unified}
-use Rattle.t1_session.specs.Lines.{lines_so_far, is_unbroken, behind_return, ends_line}
-use Rattle.t1_session.specs.Requests.{Opening, requests_of, open_request}
-use Rattle.t1_session.specs.Replies.{reply_text}
-use Rattle.t1_session.specs.Answers.{Conversation, answers_from, reply_to}
+use Rattle.t1_session.specs.Lines.{lines_so_far, is_unbroken, input_after, ends_line}
+use Rattle.t1_session.specs.Commands.{Opening, commands_of, open_command}
+use Rattle.t1_session.specs.AnswerTexts.{answer_text}
+use Rattle.t1_session.specs.Answers.{Conversation, answers_from, answer_to}
 use Rattle.t1_session.specs.Machine.{machine}
 use Rattle.t1_session.specs.State.{State}
-use Rattle.t1_session.specs.Dialogues.{Goes, IsQuiet, StopsForMemory, Feeds, LineGoes, LineAnswered, EndsLine, Performs, EndAnswered, Ends, EndsBody}
+use Rattle.t1_session.specs.Dialogues.{Goes, IsQuiet, StopsForMemory, Feeds, LineGoes, LineAnswered, EndsLine, AnswersCommand, EndAnswered, Ends, EndsBody}
 use Rattle.t1_session.proofs.LineLaws.{lines_so_far-line, lines_so_far-unbroken, lines_so_far-last, last_line_of, unified-byte, unified-end}
 
 -- a body that is open is no command before the input ends
-none_more : (o : Option Opening) → requests_of false o [] ≡ []
+none_more : (o : Option Opening) → commands_of false o [] ≡ []
 none_more None = refl
 none_more (Some o) = refl
 
-silent : (a : Bool) → behind_return a [] ≡ []
+silent : (a : Bool) → input_after a [] ≡ []
 silent true = refl
 silent false = refl
 
@@ -50,7 +50,7 @@ Goes-byte c b n13 n10 = record {
   on = λ rest ended more. rw (unified-byte c.after_return b rest n13 n10, append_assoc c.line (b ∷ []) (unified rest)) refl;
 }
 
--- an LF behind a CR
+-- an LF after a CR
 pub Goes-line_feed : (c : Conversation State) → c.after_return ≡ true → Goes c (record c { after_return = false }) (10 ∷ []) []
 unfolding answers_from
 Goes-line_feed c h = record { marks = []; on = λ rest ended more. rw h refl }
@@ -62,12 +62,12 @@ unfolding answers_from
 Goes-line c new b text h ends goes = record {
   marks = goes.marks;
   on = λ rest ended more.
-      rw (unified-end c.after_return b rest ends, lines_so_far-line ended c.line (unified (behind_return (b == 13) rest)) h)
-      (goes.on (lines_so_far ended (unified (behind_return (b == 13) rest))) ended more ∙ rw (goes.no_line, goes.same) refl);
+      rw (unified-end c.after_return b rest ends, lines_so_far-line ended c.line (unified (input_after (b == 13) rest)) h)
+      (goes.on (lines_so_far ended (unified (input_after (b == 13) rest))) ended more ∙ rw (goes.no_line, goes.same) refl);
 }
 
 -- a line that only changes which body is being read
-pub LineGoes-silent : (c new : Conversation State) → ((lines : List (List ℕ)) (ended : Bool) → requests_of ended c.opening (c.line ∷ lines) ≡ requests_of ended new.opening lines)
+pub LineGoes-silent : (c new : Conversation State) → ((lines : List (List ℕ)) (ended : Bool) → commands_of ended c.opening (c.line ∷ lines) ≡ commands_of ended new.opening lines)
     → new.state ≡ c.state → new.line ≡ [] → new.after_return ≡ c.after_return → LineGoes c new []
 LineGoes-silent c new skip state no_line same = record {
   marks = [];
@@ -76,10 +76,10 @@ LineGoes-silent c new skip state no_line same = record {
   same = same;
 }
 
-LineGoes-performed : (c new : Conversation State) (r : Request) (mark : Bool)
-    → ((lines : List (List ℕ)) (ended : Bool) → requests_of ended c.opening (c.line ∷ lines) ≡ r ∷ requests_of ended new.opening lines)
-    → new.line ≡ [] → new.after_return ≡ c.after_return → new.state ≡ (reply_to machine c.state r mark).next → LineGoes c new (reply_text (reply_to machine c.state r mark).reply)
-LineGoes-performed c new r mark head no_line same next = record {
+LineGoes-answered : (c new : Conversation State) (r : Command) (mark : Bool)
+    → ((lines : List (List ℕ)) (ended : Bool) → commands_of ended c.opening (c.line ∷ lines) ≡ r ∷ commands_of ended new.opening lines)
+    → new.line ≡ [] → new.after_return ≡ c.after_return → new.state ≡ (answer_to machine c.state r mark).next → LineGoes c new (answer_text (answer_to machine c.state r mark).answer)
+LineGoes-answered c new r mark head no_line same next = record {
   marks = mark ∷ [];
   on = λ lines ended more. rw (head lines ended, next) refl;
   no_line = no_line;
@@ -100,9 +100,9 @@ ended c h k = rw (h, k, silent c.after_return) refl
 
 -- an open body is left
 left : (c : Conversation State) (o : Opening) (mark : Bool) → c.line ≡ [] → c.opening ≡ Some o
-    → answers_from machine c [] true (mark ∷ []) ≡ reply_text (reply_to machine c.state (open_request (words o.heading)) mark).reply
+    → answers_from machine c [] true (mark ∷ []) ≡ answer_text (answer_to machine c.state (open_command (words o.heading)) mark).answer
 unfolding answers_from
-left c o mark h k = rw (h, k, silent c.after_return) (append-nil (reply_text (reply_to machine c.state (open_request (words o.heading)) mark).reply))
+left c o mark h k = rw (h, k, silent c.after_return) (append-nil (answer_text (answer_to machine c.state (open_command (words o.heading)) mark).answer))
 
 module _ {W : Type 0} (contents : W → Option (List ℕ)) where
   -- nothing was taken in, and nothing written
@@ -128,42 +128,42 @@ module _ {W : Type 0} (contents : W → Option (List ℕ)) where
   Feeds-ended c new before after b (Err (errors.Load fault)) h ends e = absurd e
 
   -- the line of one command
-  pub EndsLine-performed : {T : Type 0} (c new : Conversation State) (before after : Tally W) (q : Request) (r : Result T ServeError)
-      → ((lines : List (List ℕ)) (ended : Bool) → requests_of ended c.opening (c.line ∷ lines) ≡ q ∷ requests_of ended new.opening lines)
-      → new.line ≡ [] → new.after_return ≡ c.after_return → Performs contents c.state new.state before after q r → EndsLine contents c new before after r
-  EndsLine-performed c new before after q (Ok done) head no_line same p = record {
-    text = reply_text (reply_to machine c.state q p.mark).reply;
-    goes = LineGoes-performed c new q p.mark head no_line same p.next;
+  pub EndsLine-answered : {T : Type 0} (c new : Conversation State) (before after : Tally W) (q : Command) (r : Result T ServeError)
+      → ((lines : List (List ℕ)) (ended : Bool) → commands_of ended c.opening (c.line ∷ lines) ≡ q ∷ commands_of ended new.opening lines)
+      → new.line ≡ [] → new.after_return ≡ c.after_return → AnswersCommand contents c.state new.state before after q r → EndsLine contents c new before after r
+  EndsLine-answered c new before after q (Ok done) head no_line same p = record {
+    text = answer_text (answer_to machine c.state q p.mark).answer;
+    goes = LineGoes-answered c new q p.mark head no_line same p.next;
     written = p.sends;
   }
-  EndsLine-performed c new before after q (Err errors.Memory) head no_line same p = absurd p.sends
-  EndsLine-performed c new before after q (Err errors.Write) head no_line same p = record {
-    text = reply_text (reply_to machine c.state q p.mark).reply;
+  EndsLine-answered c new before after q (Err errors.Memory) head no_line same p = absurd p.sends
+  EndsLine-answered c new before after q (Err errors.Write) head no_line same p = record {
+    text = answer_text (answer_to machine c.state q p.mark).answer;
     reached = new;
-    goes = LineGoes-performed c new q p.mark head no_line same p.next;
+    goes = LineGoes-answered c new q p.mark head no_line same p.next;
     written = p.sends;
   }
-  EndsLine-performed c new before after q (Err errors.Read) head no_line same p = absurd p.sends
-  EndsLine-performed c new before after q (Err (errors.Load fault)) head no_line same p = absurd p.sends
+  EndsLine-answered c new before after q (Err errors.Read) head no_line same p = absurd p.sends
+  EndsLine-answered c new before after q (Err (errors.Load fault)) head no_line same p = absurd p.sends
 
-  -- the end of the input behind the last line, in an open body
-  pub EndsBody-performed : {T : Type 0} (c : Conversation State) (new : State) (before after : Tally W) (o : Opening) (r : Result T ServeError)
-      → c.line ≡ [] → c.opening ≡ Some o → Performs contents c.state new before after (open_request (words o.heading)) r → EndsBody contents c before after r
-  EndsBody-performed c new before after o (Ok done) h k p = record { marks = p.mark ∷ []; written = rw (left c o p.mark h k) p.sends }
-  EndsBody-performed c new before after o (Err errors.Memory) h k p = absurd p.sends
-  EndsBody-performed c new before after o (Err errors.Write) h k p = record { marks = p.mark ∷ []; written = rw (left c o p.mark h k) p.sends }
-  EndsBody-performed c new before after o (Err errors.Read) h k p = absurd p.sends
-  EndsBody-performed c new before after o (Err (errors.Load fault)) h k p = absurd p.sends
+  -- the end of the input after the last line, in an open body
+  pub EndsBody-answered : {T : Type 0} (c : Conversation State) (new : State) (before after : Tally W) (o : Opening) (r : Result T ServeError)
+      → c.line ≡ [] → c.opening ≡ Some o → AnswersCommand contents c.state new before after (open_command (words o.heading)) r → EndsBody contents c before after r
+  EndsBody-answered c new before after o (Ok done) h k p = record { marks = p.mark ∷ []; written = rw (left c o p.mark h k) p.sends }
+  EndsBody-answered c new before after o (Err errors.Memory) h k p = absurd p.sends
+  EndsBody-answered c new before after o (Err errors.Write) h k p = record { marks = p.mark ∷ []; written = rw (left c o p.mark h k) p.sends }
+  EndsBody-answered c new before after o (Err errors.Read) h k p = absurd p.sends
+  EndsBody-answered c new before after o (Err (errors.Load fault)) h k p = absurd p.sends
 
-  -- the end of the input behind the last line, with no open body
+  -- the end of the input after the last line, with no open body
   pub EndAnswered-nothing : (c : Conversation State) (sink : Tally W) → c.line ≡ [] → c.opening ≡ None → EndAnswered contents c sink sink
   EndAnswered-nothing c sink h k = record { marks = []; written = rw (ended c h k) ((writing contents).none sink) }
 
-  -- a failed call behind a first part that was taken
-  pub Feeds-behind : (T : Type 0) (a b new : Conversation State) (first mid last : Tally W) (front piece rest whole text : List ℕ) (error : ServeError)
+  -- a failed call after a first part that was taken
+  pub Feeds-after : (T : Type 0) (a b new : Conversation State) (first mid last : Tally W) (front piece rest whole text : List ℕ) (error : ServeError)
       → Goes a b front text → WritesAll contents first mid text → whole ≡ (front ++ piece) ++ rest
       → Feeds {T = T} contents b new mid last piece (Err error) → Feeds {T = T} contents a new first last whole (Err error)
-  Feeds-behind T a b new first mid last front piece rest whole text errors.Memory goes wrote parts e = record {
+  Feeds-after T a b new first mid last front piece rest whole text errors.Memory goes wrote parts e = record {
     text = text ++ e.text;
     reaches = record {
       front = front ++ e.reaches.front;
@@ -175,7 +175,7 @@ module _ {W : Type 0} (contents : W → Option (List ℕ)) where
     quiet = e.quiet;
     written = WritesAll-append contents first mid last text e.text wrote e.written;
   }
-  Feeds-behind T a b new first mid last front piece rest whole text errors.Write goes wrote parts e = record {
+  Feeds-after T a b new first mid last front piece rest whole text errors.Write goes wrote parts e = record {
     text = text ++ e.text;
     reaches = record {
       front = front ++ e.reaches.front;
@@ -186,23 +186,23 @@ module _ {W : Type 0} (contents : W → Option (List ℕ)) where
     };
     written = WritesFront-append contents first mid last text e.text wrote e.written;
   }
-  Feeds-behind T a b new first mid last front piece rest whole text errors.Read goes wrote parts e = absurd e
-  Feeds-behind T a b new first mid last front piece rest whole text (errors.Load fault) goes wrote parts e = absurd e
+  Feeds-after T a b new first mid last front piece rest whole text errors.Read goes wrote parts e = absurd e
+  Feeds-after T a b new first mid last front piece rest whole text (errors.Load fault) goes wrote parts e = absurd e
 
-  -- the end of the input behind its last line
-  pub Ends-behind : {T : Type 0} (c new : Conversation State) (first mid last : Tally W) (r : Result T ServeError) → is_unbroken c.line ≡ true → (length c.line == 0) ≡ false
+  -- the end of the input after its last line
+  pub Ends-after : {T : Type 0} (c new : Conversation State) (first mid last : Tally W) (r : Result T ServeError) → is_unbroken c.line ≡ true → (length c.line == 0) ≡ false
       → LineAnswered contents c new first mid → EndsBody contents new mid last r → Ends contents c first last r
-  Ends-behind c new first mid last (Ok done) h some line e = record {
+  Ends-after c new first mid last (Ok done) h some line e = record {
     marks = line.goes.marks ++ e.marks;
     written = rw (answers_from-last c new line.text e.marks line.goes h some) (WritesAll-append contents first mid last line.text (answers_from machine new [] true e.marks) line.written e.written);
   }
-  Ends-behind c new first mid last (Err errors.Memory) h some line e = absurd e
-  Ends-behind c new first mid last (Err errors.Write) h some line e = record {
+  Ends-after c new first mid last (Err errors.Memory) h some line e = absurd e
+  Ends-after c new first mid last (Err errors.Write) h some line e = record {
     marks = line.goes.marks ++ e.marks;
     written = rw (answers_from-last c new line.text e.marks line.goes h some) (WritesFront-append contents first mid last line.text (answers_from machine new [] true e.marks) line.written e.written);
   }
-  Ends-behind c new first mid last (Err errors.Read) h some line e = absurd e
-  Ends-behind c new first mid last (Err (errors.Load fault)) h some line e = absurd e
+  Ends-after c new first mid last (Err errors.Read) h some line e = absurd e
+  Ends-after c new first mid last (Err (errors.Load fault)) h some line e = absurd e
 
   -- the end of the input without a last line
   pub Ends-unlined : {T : Type 0} (c : Conversation State) (before after : Tally W) (r : Result T ServeError) → EndsBody contents c before after r → Ends contents c before after r

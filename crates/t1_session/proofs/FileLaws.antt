@@ -9,8 +9,8 @@ use Rattle.t1_parts.specs.SourceParts.{SourceParts}
 use Rattle.t1_source.specs.Kerning.{pairs}
 use Rattle.t1_parts.specs.Reading.{reads}
 use Rattle.t1_code.specs.Pfb.{whole_file}
-use Rattle.t1_session.specs.declared.request.Request.TheVariants as requests
-use Rattle.t1_font.specs.Assembly.{counts_check, length_check, source_file, file_check}
+use Rattle.t1_session.specs.declared.command.Command.TheVariants as commands
+use Rattle.t1_font.specs.Assembly.{source_file, file_check}
 use Rattle.t1_session.specs.Machine.{HasFile, OpensWithFile, KeepsFile, judged, judged_file, perform, scratch}
 use Rattle.t1_session.specs.State.{State}
 
@@ -18,19 +18,10 @@ file_of_checked : (r : Result (List ℕ) Fault) (u : Unit {0}) → ◌≡◌ {A 
 file_of_checked (Ok file) u h = (file, refl)
 file_of_checked (Err fault) u h = absurd (cc)
 
-first_ok : (a b : Result (Unit {0}) Fault) (u : Unit {0}) → ◌≡◌ {A = Result (Unit {0}) Fault} (a >>= λ checked. b) (Ok u) → (v : Unit {0}) × (a ≡ Ok v)
-first_ok (Ok v) b u h = (v, refl)
-first_ok (Err fault) b u h = absurd (cc)
-
-has_length : (form : SourceParts) (u : Unit {0}) → length_check form ≡ Ok u → (file : List ℕ) × (source_file whole_file form ≡ Ok file)
-unfolding length_check
-has_length form u h = file_of_checked (source_file whole_file form) u h
-
 -- a source without a fault has its file
 pub checked_has_file : (form : SourceParts) (u : Unit {0}) → file_check form ≡ Ok u → (file : List ℕ) × (source_file whole_file form ≡ Ok file)
 unfolding file_check
-checked_has_file form u h =
-    let checked = first_ok (length_check form) (counts_check form.items) u h in has_length form checked.0 checked.1
+checked_has_file form u h = file_of_checked (source_file whole_file form) u h
 
 opened_with : (form : SourceParts) (kerning : List Pair) (r : Result (Unit {0}) Fault) (s : State) → file_check form ≡ r
     → ◌≡◌ {A = Result State Fault} (r >>= λ checked. Ok (record { source = form; pairs = kerning })) (Ok s) → HasFile s
@@ -59,6 +50,6 @@ judged_keeps old (Err rule) h = h
 
 pub keeps_file : KeepsFile
 unfolding perform
-keeps_file s (requests.Edit edit) h = judged_keeps s (edited s.source s.pairs edit) h
-keeps_file s (requests.Print print) h = h
-keeps_file s (requests.Broken rule) h = h
+keeps_file s (commands.Edit edit) h = judged_keeps s (edited s.source s.pairs edit) h
+keeps_file s (commands.Print print) h = h
+keeps_file s (commands.Broken rule) h = h

@@ -5,7 +5,7 @@ use Rattle.std.specs.List.{onto_first}
 use Rattle.std.proofs.lemmas.Bool.{eqb-true, and_parts}
 use Rattle.std.proofs.lemmas.List.Sums.{sum_by-cons}
 use Rattle.t1_text.specs.Lines.{unified, split_lines}
-use Rattle.t1_session.specs.Lines.{ended_lines, lines_so_far, behind_return, ends_line, is_unbroken}
+use Rattle.t1_session.specs.Lines.{ended_lines, lines_so_far, input_after, ends_line, is_unbroken}
 
 pub not_false : (q : Bool) → not q ≡ true → q ≡ false
 not_false true h = cc
@@ -82,32 +82,32 @@ unbroken_pushed true xs b h n = is_unbroken-push xs b h n
 unbroken_pushed false xs b h n = h
 
 -- a byte that isn't an LF belongs to no CR before it
-behind-other : (a : Bool) (b : ℕ) (rest : List ℕ) → (b == 10) ≡ false → behind_return a (b ∷ rest) ≡ b ∷ rest
-behind-other true b rest h = rw (other_ten b h) refl
-behind-other false b rest h = refl
+after-other : (a : Bool) (b : ℕ) (rest : List ℕ) → (b == 10) ≡ false → input_after a (b ∷ rest) ≡ b ∷ rest
+after-other true b rest h = rw (other_ten b h) refl
+after-other false b rest h = refl
 
 -- a byte of a line
 pub unified-byte : (a : Bool) (b : ℕ) (rest : List ℕ) → (b == 13) ≡ false → (b == 10) ≡ false
-    → unified (behind_return a (b ∷ rest)) ≡ b ∷ unified rest
-unified-byte a b rest n13 n10 = rw (behind-other a b rest n10, n13) refl
+    → unified (input_after a (b ∷ rest)) ≡ b ∷ unified rest
+unified-byte a b rest n13 n10 = rw (after-other a b rest n10, n13) refl
 
--- a CR takes the LF behind it along
-unified-return : (rest : List ℕ) → unified (13 ∷ rest) ≡ 10 ∷ unified (behind_return true rest)
+-- a CR takes the LF after it along
+unified-return : (rest : List ℕ) → unified (13 ∷ rest) ≡ 10 ∷ unified (input_after true rest)
 unified-return [] = refl
 unified-return (c ∷ rest) = return_cases (10 == c) c rest refl where
-  return_cases : (q : Bool) (c : ℕ) (rest : List ℕ) → (10 == c) ≡ q → unified (13 ∷ c ∷ rest) ≡ 10 ∷ unified (behind_return true (c ∷ rest))
+  return_cases : (q : Bool) (c : ℕ) (rest : List ℕ) → (10 == c) ≡ q → unified (13 ∷ c ∷ rest) ≡ 10 ∷ unified (input_after true (c ∷ rest))
   return_cases true c rest e = let is : 10 ≡ c = eqb-true 10 c e in rw (← is) refl
   return_cases false c rest e = rw e refl
 
 end_cases : (p q a : Bool) (b : ℕ) (rest : List ℕ) → (b == 13) ≡ p → (b == 10) ≡ q → p || (q && not a) ≡ true
-    → unified (behind_return a (b ∷ rest)) ≡ 10 ∷ unified (behind_return p rest)
-end_cases true q a b rest e f h = let is : b ≡ 13 = eqb-true b 13 e in rw (is, behind-other a 13 rest refl) (unified-return rest)
+    → unified (input_after a (b ∷ rest)) ≡ 10 ∷ unified (input_after p rest)
+end_cases true q a b rest e f h = let is : b ≡ 13 = eqb-true b 13 e in rw (is, after-other a 13 rest refl) (unified-return rest)
 end_cases false true true b rest e f h = cc
 end_cases false true false b rest e f h = let is : b ≡ 10 = eqb-true b 10 f in rw is refl
 end_cases false false a b rest e f h = cc
 
 -- a byte that ends a line is read as its LF
-pub unified-end : (a : Bool) (b : ℕ) (rest : List ℕ) → ends_line a b ≡ true → unified (behind_return a (b ∷ rest)) ≡ 10 ∷ unified (behind_return (b == 13) rest)
+pub unified-end : (a : Bool) (b : ℕ) (rest : List ℕ) → ends_line a b ≡ true → unified (input_after a (b ∷ rest)) ≡ 10 ∷ unified (input_after (b == 13) rest)
 unified-end a b rest h = end_cases (b == 13) (b == 10) a b rest refl refl h
 
 not_end_cases : (p q a : Bool) → p || (q && not a) ≡ false → q ≡ false → p ≡ false
@@ -122,6 +122,6 @@ swallowed_cases : (a : Bool) → not a ≡ false → a ≡ true
 swallowed_cases true h = refl
 swallowed_cases false h = cc
 
--- an LF that ends no line stands behind a CR
-pub behind_a_return : (a : Bool) → ends_line a 10 ≡ false → a ≡ true
-behind_a_return a h = swallowed_cases a h
+-- an LF that ends no line stands after a CR
+pub after_a_return : (a : Bool) → ends_line a 10 ≡ false → a ≡ true
+after_a_return a h = swallowed_cases a h

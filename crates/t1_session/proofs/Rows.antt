@@ -9,11 +9,11 @@ use Rattle.t1_text.specs.Lines.{unified}
 use Rattle.t1_source.specs.declared.edit.Edit.TheVariants as edits
 use Rattle.t1_source.specs.declared.edit.Rule.TheVariants.{E7, E8}
 use Rattle.t1_session.specs.declared.print.Print.TheVariants as prints
-use Rattle.t1_session.specs.declared.request.Request.TheVariants as requests
-use Rattle.t1_session.specs.declared.reply.Reply.TheVariants.{Accepted, Broken, Faulty, OutOfMemory}
+use Rattle.t1_session.specs.declared.command.Command.TheVariants as commands
+use Rattle.t1_session.specs.declared.answer.Answer.TheVariants.{Accepted, Broken, Faulty, OutOfMemory}
 use Rattle.t1_session.specs.Lines.{lines_so_far}
-use Rattle.t1_session.specs.Requests.{requests_of, line_request, removal, print_of, body_request, bodied_edit, open_request, takes_body, ends_body, number_of}
-use Rattle.t1_session.specs.Replies.{reply_text, fault_text}
+use Rattle.t1_session.specs.Commands.{commands_of, line_command, removal, print_of, body_command, bodied_edit, open_command, takes_body, ends_body, number_of}
+use Rattle.t1_session.specs.AnswerTexts.{answer_text, fault_text}
 
 -- CR LF ends one line; an unfinished line counts once the input has ended
 lines_at_end : lines_so_far true (unified (codes "a" ++ 13 ∷ 10 ∷ 13 ∷ codes "b")) ≡ codes "a" ∷ [] ∷ codes "b" ∷ []
@@ -23,30 +23,30 @@ lines_before_end : lines_so_far false (unified (codes "a" ++ 13 ∷ 10 ∷ 13 �
 lines_before_end = refl
 
 -- a command without a body, a line without words, a print
-removes : requests_of false None (codes " remove  glyph A" ∷ codes " " ∷ codes "print pfb" ∷ []) ≡ requests.Edit (edits.RemoveGlyph (codes "A")) ∷ requests.Print prints.Pfb ∷ []
-unfolding takes_body line_request removal print_of
+removes : commands_of false None (codes " remove  glyph A" ∷ codes " " ∷ codes "print pfb" ∷ []) ≡ commands.Edit (edits.RemoveGlyph (codes "A")) ∷ commands.Print prints.Pfb ∷ []
+unfolding takes_body line_command removal print_of
 removes = refl
 
 -- a body up to a line that is a dot
-replaces : requests_of false None (codes "replace glyph A" ∷ codes "endchar" ∷ codes ". ." ∷ codes " ." ∷ []) ≡ requests.Edit (edits.ReplaceGlyph (codes "A") (codes "endchar" ++ 10 ∷ codes ". ." ++ 10 ∷ [])) ∷ []
-unfolding takes_body ends_body body_request bodied_edit
+replaces : commands_of false None (codes "replace glyph A" ∷ codes "endchar" ∷ codes ". ." ∷ codes " ." ∷ []) ≡ commands.Edit (edits.ReplaceGlyph (codes "A") (codes "endchar" ++ 10 ∷ codes ". ." ++ 10 ∷ [])) ∷ []
+unfolding takes_body ends_body body_command bodied_edit
 replaces = refl
 
 -- an open body is no command before the input ends; then it breaks E7, and E8 where a word is too many
-open_before_end : requests_of false None (codes "add glyph A" ∷ codes "endchar" ∷ []) ≡ []
+open_before_end : commands_of false None (codes "add glyph A" ∷ codes "endchar" ∷ []) ≡ []
 unfolding takes_body ends_body
 open_before_end = refl
 
-open_at_end : requests_of true None (codes "add glyph A;B" ∷ codes "endchar" ∷ []) ≡ requests.Broken E7 ∷ []
-unfolding takes_body ends_body open_request
+open_at_end : commands_of true None (codes "add glyph A;B" ∷ codes "endchar" ∷ []) ≡ commands.Broken E7 ∷ []
+unfolding takes_body ends_body open_command
 open_at_end = refl
 
-unknown_at_end : requests_of true None (codes "add glyph A B" ∷ codes "endchar" ∷ []) ≡ requests.Broken E8 ∷ []
-unfolding takes_body ends_body open_request
+unknown_at_end : commands_of true None (codes "add glyph A B" ∷ codes "endchar" ∷ []) ≡ commands.Broken E8 ∷ []
+unfolding takes_body ends_body open_command
 unknown_at_end = refl
 
-not_yet : line_request (codes "print" ∷ codes "afm" ∷ []) ≡ requests.Broken E8
-unfolding line_request print_of
+not_yet : line_command (codes "print" ∷ codes "afm" ∷ []) ≡ commands.Broken E8
+unfolding line_command print_of
 not_yet = refl
 
 -- a word that is no number word stands for a number past every range
@@ -55,22 +55,22 @@ unfolding number_of number_word is_number_word
 no_number = refl
 
 -- answers
-accepted : reply_text Accepted ≡ codes "ok" ++ 10 ∷ []
-unfolding reply_text
+accepted : answer_text Accepted ≡ codes "ok" ++ 10 ∷ []
+unfolding answer_text
 accepted = refl
 
-refused_by_rule : reply_text (Broken E8) ≡ codes "refused E8" ++ 10 ∷ []
-unfolding reply_text
+refused_by_rule : answer_text (Broken E8) ≡ codes "refused E8" ++ 10 ∷ []
+unfolding answer_text
 refused_by_rule = refl
 
-refused_by_fault : reply_text (Faulty (fault_at (Glyph (codes "space")) F20)) ≡ codes "refused F20 glyph space" ++ 10 ∷ []
-unfolding reply_text fault_text
+refused_by_fault : answer_text (Faulty (fault_at (Glyph (codes "space")) F20)) ≡ codes "refused F20 glyph space" ++ 10 ∷ []
+unfolding answer_text fault_text
 refused_by_fault = refl
 
-refused_without_place : reply_text (Faulty (fault_at Nowhere F23)) ≡ codes "refused F23" ++ 10 ∷ []
-unfolding reply_text fault_text
+refused_without_place : answer_text (Faulty (fault_at Nowhere F23)) ≡ codes "refused F23" ++ 10 ∷ []
+unfolding answer_text fault_text
 refused_without_place = refl
 
-refused_for_memory : reply_text OutOfMemory ≡ codes "refused memory" ++ 10 ∷ []
-unfolding reply_text
+refused_for_memory : answer_text OutOfMemory ≡ codes "refused memory" ++ 10 ∷ []
+unfolding answer_text
 refused_for_memory = refl

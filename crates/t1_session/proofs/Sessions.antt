@@ -8,7 +8,7 @@ use Rattle.t1_code.specs.Counted.{Tally, WritesAll}
 use Rattle.t1_code.proofs.Writing.{writing, WritesAll-append, WritesFront-append, WritesFront-longer}
 use Rattle.t1_session.specs.declared.error.ServeError.{ServeError}
 use Rattle.t1_session.specs.declared.error.ServeError.TheVariants as errors
-use Rattle.t1_session.specs.Answers.{Conversation, answer, answers_from, fresh}
+use Rattle.t1_session.specs.Answers.{Conversation, session_answers, answers_from, fresh}
 use Rattle.t1_session.specs.Machine.{machine}
 use Rattle.t1_session.specs.State.{State}
 use Rattle.t1_session.specs.Dialogues.{Goes, IsQuiet, Feeds, Ends}
@@ -16,16 +16,16 @@ use Rattle.t1_session.specs.Serving.{Streams, Reads, ReadsAndFails, StopsAtRead,
 use Rattle.t1_session.proofs.Conversations.{Goes-both, quiet}
 
 -- what was written so far is the answer to what was read, as input that goes on
-told_so_far : (s : State) (c : Conversation State) (input text : List ℕ) (goes : Goes (fresh s) c input text) → IsQuiet c
-    → answer machine s input false (goes.marks ++ []) ≡ text
-told_so_far s c input text goes q =
-    ap (λ x. answer machine s x false (goes.marks ++ [])) (sym (append-nil input)) ∙ goes.on [] false [] ∙ ap (λ x. text ++ x) (q []) ∙ append-nil text
+answered_so_far : (s : State) (c : Conversation State) (input text : List ℕ) (goes : Goes (fresh s) c input text) → IsQuiet c
+    → session_answers machine s input false (goes.marks ++ []) ≡ text
+answered_so_far s c input text goes q =
+    ap (λ x. session_answers machine s x false (goes.marks ++ [])) (sym (append-nil input)) ∙ goes.on [] false [] ∙ ap (λ x. text ++ x) (q []) ∙ append-nil text
 
 -- what was written so far begins the answer to it as whole input
-told_to_end : (s : State) (c : Conversation State) (input text : List ℕ) (goes : Goes (fresh s) c input text) (more : List Bool)
-    → answer machine s input true (goes.marks ++ more) ≡ text ++ answers_from machine c [] true more
-told_to_end s c input text goes more =
-    ap (λ x. answer machine s x true (goes.marks ++ more)) (sym (append-nil input)) ∙ goes.on [] true more
+answered_to_end : (s : State) (c : Conversation State) (input text : List ℕ) (goes : Goes (fresh s) c input text) (more : List Bool)
+    → session_answers machine s input true (goes.marks ++ more) ≡ text ++ answers_from machine c [] true more
+answered_to_end s c input text goes more =
+    ap (λ x. session_answers machine s x true (goes.marks ++ more)) (sym (append-nil input)) ∙ goes.on [] true more
 
 module _ {R W : Type 0} (remaining : R → Option (List ℕ)) (contents : W → Option (List ℕ)) where
   pub stopped_at_read : (s : State) (c : Conversation State) (old new : Streams R W) (input text : List ℕ) → Goes (fresh s) c input text → IsQuiet c
@@ -34,7 +34,7 @@ module _ {R W : Type 0} (remaining : R → Option (List ℕ)) (contents : W → 
     input = input;
     marks = goes.marks ++ [];
     reads = read;
-    writes = rw (told_so_far s c input text goes q) wrote;
+    writes = rw (answered_so_far s c input text goes q) wrote;
   }
 
   -- the input was read to its end
@@ -46,20 +46,20 @@ module _ {R W : Type 0} (remaining : R → Option (List ℕ)) (contents : W → 
     marks = goes.marks ++ e.marks;
     reads = read;
     at_end = at_end;
-    writes = rw (told_to_end s c input text goes e.marks) (WritesAll-append contents old.writer mid new.writer text (answers_from machine c [] true e.marks) wrote e.written);
+    writes = rw (answered_to_end s c input text goes e.marks) (WritesAll-append contents old.writer mid new.writer text (answers_from machine c [] true e.marks) wrote e.written);
   }
   Converses-ended s c old new mid input text (Err errors.Memory) goes q read at_end wrote e = record {
     front = input;
     rest = [];
     marks = goes.marks ++ [];
     reads = rw (append-nil input) read;
-    writes = rw (told_so_far s c input text goes q, e) wrote;
+    writes = rw (answered_so_far s c input text goes q, e) wrote;
   }
   Converses-ended s c old new mid input text (Err errors.Write) goes q read at_end wrote e = record {
     input = input;
     marks = goes.marks ++ e.marks;
     reads = read;
-    writes = rw (told_to_end s c input text goes e.marks) (WritesFront-append contents old.writer mid new.writer text (answers_from machine c [] true e.marks) wrote e.written);
+    writes = rw (answered_to_end s c input text goes e.marks) (WritesFront-append contents old.writer mid new.writer text (answers_from machine c [] true e.marks) wrote e.written);
   }
   Converses-ended s c old new mid input text (Err errors.Read) goes q read at_end wrote e = absurd e
   Converses-ended s c old new mid input text (Err (errors.Load fault)) goes q read at_end wrote e = absurd e
@@ -78,7 +78,7 @@ module _ {R W : Type 0} (remaining : R → Option (List ℕ)) (contents : W → 
         rest = rest;
         marks = far.marks ++ [];
         reads = rw whole read;
-        writes = rw (told_so_far s e.reaches.reached (input ++ front) (text ++ e.text) far e.quiet) (WritesAll-append contents old.writer mid new.writer text e.text wrote e.written);
+        writes = rw (answered_so_far s e.reaches.reached (input ++ front) (text ++ e.text) far e.quiet) (WritesAll-append contents old.writer mid new.writer text e.text wrote e.written);
       }
   Converses-fed T s c d old new mid input piece text errors.Write goes read wrote e =
       let front = e.reaches.front in
@@ -86,13 +86,13 @@ module _ {R W : Type 0} (remaining : R → Option (List ℕ)) (contents : W → 
       let reached = e.reaches.reached in
       let far = Goes-both (fresh s) c reached input front text e.text goes e.reaches.goes in
       let whole : input ++ piece ≡ (input ++ front) ++ rest = ap (λ x. input ++ x) e.reaches.parts ∙ sym (append_assoc input front rest) in
-      let told : answer machine s (input ++ piece) true (far.marks ++ []) ≡ (text ++ e.text) ++ answers_from machine reached rest true [] =
-      ap (λ x. answer machine s x true (far.marks ++ [])) whole ∙ far.on rest true [] in
+      let answered : session_answers machine s (input ++ piece) true (far.marks ++ []) ≡ (text ++ e.text) ++ answers_from machine reached rest true [] =
+      ap (λ x. session_answers machine s x true (far.marks ++ [])) whole ∙ far.on rest true [] in
       record {
         input = input ++ piece;
         marks = far.marks ++ [];
         reads = read;
-        writes = rw told (WritesFront-longer contents old.writer new.writer (text ++ e.text) (answers_from machine reached rest true [])
+        writes = rw answered (WritesFront-longer contents old.writer new.writer (text ++ e.text) (answers_from machine reached rest true [])
             (WritesFront-append contents old.writer mid new.writer text e.text wrote e.written));
       }
   Converses-fed T s c d old new mid input piece text errors.Read goes read wrote e = absurd e

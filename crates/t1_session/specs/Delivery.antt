@@ -9,7 +9,7 @@ use Rattle.t1_code.specs.Counted.{Tally, WritesAll, WritesFront}
 use Rattle.t1_session.specs.declared.error.ServeError.{ServeError}
 use Rattle.t1_session.specs.declared.error.ServeError.TheVariants as errors
 
--- profile: a fault of what is loaded is told in Load
+-- profile: a fault of what is loaded is reported in Load
 abbrev pub told_by_refusal : Refusal → ServeError
 told_by_refusal (refusals.Fault fault) = errors.Load fault
 told_by_refusal refusals.Memory = errors.Memory

@@ -5,11 +5,11 @@ use Rattle.t1_session.specs.declared.dialogue.Dialogue.{Dialogue}
 use Rattle.t1_session.specs.declared.dialogue.Opened.{Opened}
 use Rattle.t1_session.specs.declared.error.ServeError.{ServeError}
 use Rattle.t1_session.specs.declared.error.ServeError.TheVariants as errors
-use Rattle.t1_session.specs.declared.request.Request.{Request}
-use Rattle.t1_session.specs.declared.reply.Reply.{Reply}
-use Rattle.t1_session.specs.Requests.{Opening, requests_of, may_want_memory}
-use Rattle.t1_session.specs.Replies.{reply_text}
-use Rattle.t1_session.specs.Answers.{Conversation, answers, answers_from, reply_to}
+use Rattle.t1_session.specs.declared.command.Command.{Command}
+use Rattle.t1_session.specs.declared.answer.Answer.{Answer}
+use Rattle.t1_session.specs.Commands.{Opening, commands_of, may_want_memory}
+use Rattle.t1_session.specs.AnswerTexts.{answer_text}
+use Rattle.t1_session.specs.Answers.{Conversation, answers, answers_from, answer_to}
 use Rattle.t1_session.specs.Machine.{machine}
 use Rattle.t1_session.specs.State.{State}
 
@@ -78,8 +78,8 @@ Feeds contents old new before after piece (Err (errors.Load fault)) = ⊥
 pub record LineGoes (old new : Conversation State) (text : List ℕ) : Type 0 where
   pub marks : List Bool
   pub on : (lines : List (List ℕ)) (ended : Bool) (more : List Bool) →
-      answers machine old.state (requests_of ended old.opening (old.line ∷ lines)) (marks ++ more) ≡
-      text ++ answers machine new.state (requests_of ended new.opening lines) more
+      answers machine old.state (commands_of ended old.opening (old.line ∷ lines)) (marks ++ more) ≡
+      text ++ answers machine new.state (commands_of ended new.opening lines) more
   pub no_line : new.line ≡ []
   pub same : new.after_return ≡ old.after_return
 
@@ -105,15 +105,15 @@ EndsLine contents old new before after (Err errors.Read) = ⊥
 EndsLine contents old new before after (Err (errors.Load fault)) = ⊥
 
 -- a command was performed, or met want of memory and left everything as it was
-abbrev pub Replies : {E : Type 0} → State → State → Request → Result Reply E → Type 0
-Replies old new r (Ok reply) = (reply ≡ (machine.perform old r).reply) × (new ≡ (machine.perform old r).next)
-Replies old new r (Err e) = (may_want_memory r ≡ true) × (new ≡ old)
+abbrev pub IsPerformed : {E : Type 0} → State → State → Command → Result Answer E → Type 0
+IsPerformed old new r (Ok answer) = (answer ≡ (machine.perform old r).answer) × (new ≡ (machine.perform old r).next)
+IsPerformed old new r (Err e) = (may_want_memory r ≡ true) × (new ≡ old)
 
 -- the answer to one command, marked or not
-pub record Performs {W T : Type 0} (contents : W → Option (List ℕ)) (old new : State) (before after : Tally W) (r : Request) (result : Result T ServeError) : Type 0 where
+pub record AnswersCommand {W T : Type 0} (contents : W → Option (List ℕ)) (old new : State) (before after : Tally W) (r : Command) (result : Result T ServeError) : Type 0 where
   pub mark : Bool
-  pub sends : Sends contents before after (reply_text (reply_to machine old r mark).reply) result
-  pub next : new ≡ (reply_to machine old r mark).next
+  pub sends : Sends contents before after (answer_text (answer_to machine old r mark).answer) result
+  pub next : new ≡ (answer_to machine old r mark).next
 
 -- all the answers to the end of the input went out
 pub record EndAnswered {W : Type 0} (contents : W → Option (List ℕ)) (old : Conversation State) (before after : Tally W) : Type 0 where
@@ -133,7 +133,7 @@ Ends contents old before after (Err errors.Write) = EndStops contents old before
 Ends contents old before after (Err errors.Read) = ⊥
 Ends contents old before after (Err (errors.Load fault)) = ⊥
 
--- the end of the input behind its last line, for which no memory is wanted
+-- the end of the input after its last line, for which no memory is wanted
 abbrev pub EndsBody : {W T : Type 0} → (W → Option (List ℕ)) → Conversation State → Tally W → Tally W → Result T ServeError → Type 0
 EndsBody contents old before after (Ok done) = EndAnswered contents old before after
 EndsBody contents old before after (Err errors.Memory) = ⊥

@@ -4,7 +4,7 @@ pub mod Dialogues
 pub mod Files
 pub mod Lines
 pub mod Machine
-pub mod Replies
-pub mod Requests
+pub mod AnswerTexts
+pub mod Commands
 pub mod Serving
 pub mod State

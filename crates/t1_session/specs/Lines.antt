@@ -11,9 +11,9 @@ ended_lines text = count_by (λ c. c == 10) text
 abbrev pub lines_so_far : Bool → List ℕ → List (List ℕ)
 lines_so_far ended text = if ended then split_lines text else take (ended_lines text) (split_lines text)
 
--- profile, session input: an LF directly behind a CR belongs to it
-abbrev pub behind_return : Bool → List ℕ → List ℕ
-behind_return after_return input = if after_return && begins_with 10 input then drop 1 input else input
+-- profile, session input: an LF directly after a CR belongs to it
+abbrev pub input_after : Bool → List ℕ → List ℕ
+input_after after_return input = if after_return && begins_with 10 input then drop 1 input else input
 
 -- profile, session input: a CR ends its line at once, and so does an LF that belongs to no CR
 abbrev pub ends_line : Bool → ℕ → Bool

@@ -11,42 +11,42 @@ use Rattle.t1_code.specs.Pfb.{whole_file}
 use Rattle.t1_source.specs.declared.edit.Rule.{Rule}
 use Rattle.t1_session.specs.declared.print.Print.{Print}
 use Rattle.t1_session.specs.declared.print.Print.TheVariants as prints
-use Rattle.t1_session.specs.declared.reply.Reply.{Reply}
-use Rattle.t1_session.specs.declared.reply.Reply.TheVariants.{Accepted, Broken, Faulty, Data}
-use Rattle.t1_session.specs.declared.request.Request.{Request}
-use Rattle.t1_session.specs.declared.request.Request.TheVariants as requests
+use Rattle.t1_session.specs.declared.answer.Answer.{Answer}
+use Rattle.t1_session.specs.declared.answer.Answer.TheVariants.{Accepted, Broken, Faulty, Data}
+use Rattle.t1_session.specs.declared.command.Command.{Command}
+use Rattle.t1_session.specs.declared.command.Command.TheVariants as commands
 use Rattle.t1_session.specs.Answers.{Performed, Machine}
 use Rattle.t1_font.specs.Assembly.{source_file, file_check}
 use Rattle.t1_source.specs.Editing.{edited}
-use Rattle.t1_session.specs.Requests.{may_want_memory}
+use Rattle.t1_session.specs.Commands.{may_want_memory}
 use Rattle.t1_session.specs.State.{State}
 
 -- profile, edits: the edited source is refused by the first fault of its bodies, or by F23
 abbrev pub judged_file : State → State → Result (Unit {0}) Fault → Performed State
-judged_file old new (Ok checked) = record { reply = Accepted; next = new }
-judged_file old new (Err fault) = record { reply = Faulty fault; next = old }
+judged_file old new (Ok checked) = record { answer = Accepted; next = new }
+judged_file old new (Err fault) = record { answer = Faulty fault; next = old }
 
 -- profile, edits: an edit that is refused leaves the state as it was
 abbrev pub judged : State → Result (SourceParts × List Pair) Rule → Performed State
 judged old (Ok made) = judged_file old (record { source = made.0; pairs = made.1 }) (file_check made.0)
-judged old (Err rule) = record { reply = Broken rule; next = old }
+judged old (Err rule) = record { answer = Broken rule; next = old }
 
 -- what a print of the PFB file is answered; the source of a session has no fault
-abbrev pub file_reply : Result (List ℕ) Fault → Reply
-file_reply (Ok file) = Data file
-file_reply (Err fault) = Faulty fault
+abbrev pub file_answer : Result (List ℕ) Fault → Answer
+file_answer (Ok file) = Data file
+file_answer (Err fault) = Faulty fault
 
 -- profile, session commands: what a print shows
-abbrev pub printed : State → Print → Reply
+abbrev pub printed : State → Print → Answer
 printed s prints.Source = Data (text s.source)
 printed s prints.Kern = Data (kern s.pairs)
-printed s prints.Pfb = file_reply (source_file whole_file s.source)
+printed s prints.Pfb = file_answer (source_file whole_file s.source)
 
 -- profile, session commands: what a command is answered, and the state after it
-unfoldable pub perform : State → Request → Performed State
-perform s (requests.Edit edit) = judged s (edited s.source s.pairs edit)
-perform s (requests.Print print) = record { reply = printed s print; next = s }
-perform s (requests.Broken rule) = record { reply = Broken rule; next = s }
+unfoldable pub perform : State → Command → Performed State
+perform s (commands.Edit edit) = judged s (edited s.source s.pairs edit)
+perform s (commands.Print print) = record { answer = printed s print; next = s }
+perform s (commands.Broken rule) = record { answer = Broken rule; next = s }
 
 -- profile, answers: a command that met want of memory leaves the state as it was
 abbrev pub machine : Machine State
@@ -70,4 +70,4 @@ OpensWithFile = (source pair_lines : List ℕ) (s : State) → scratch source pa
 
 -- so has the source after a command
 abbrev pub KeepsFile : Type 0
-KeepsFile = (s : State) (r : Request) → HasFile s → HasFile (perform s r).next
+KeepsFile = (s : State) (r : Command) → HasFile s → HasFile (perform s r).next

@@ -5,7 +5,7 @@ use Rattle.t1_frac.specs.declared.fault.Fault.{Fault}
 use Rattle.t1_code.specs.Counted.{Tally, WritesAll, WritesFront, one_more}
 use Rattle.t1_session.specs.declared.error.ServeError.{ServeError}
 use Rattle.t1_session.specs.declared.error.ServeError.TheVariants as errors
-use Rattle.t1_session.specs.Answers.{answer}
+use Rattle.t1_session.specs.Answers.{session_answers}
 use Rattle.t1_session.specs.Machine.{machine}
 use Rattle.t1_session.specs.State.{State}
 
@@ -35,14 +35,14 @@ module _ {R W : Type 0} (remaining : R → Option (List ℕ)) (contents : W → 
     pub marks : List Bool
     pub reads : Reads remaining old.reader new.reader input
     pub at_end : IsAtEnd (remaining new.reader.inner)
-    pub writes : WritesAll contents old.writer new.writer (answer machine state input true marks)
+    pub writes : WritesAll contents old.writer new.writer (session_answers machine state input true marks)
 
   -- Read: the answer to what was read, as input that goes on, was written
   pub record StopsAtRead (state : State) (old new : Streams R W) : Type 0 where
     pub input : List ℕ
     pub marks : List Bool
     pub reads : ReadsAndFails remaining old.reader new.reader input
-    pub writes : WritesAll contents old.writer new.writer (answer machine state input false marks)
+    pub writes : WritesAll contents old.writer new.writer (session_answers machine state input false marks)
 
   -- Memory: the answer to a beginning of what was read, as input that goes on, was written
   pub record StopsForMemory (state : State) (old new : Streams R W) : Type 0 where
@@ -50,14 +50,14 @@ module _ {R W : Type 0} (remaining : R → Option (List ℕ)) (contents : W → 
     pub rest : List ℕ
     pub marks : List Bool
     pub reads : Reads remaining old.reader new.reader (front ++ rest)
-    pub writes : WritesAll contents old.writer new.writer (answer machine state front false marks)
+    pub writes : WritesAll contents old.writer new.writer (session_answers machine state front false marks)
 
   -- Write: a beginning of the answer to what was read, as whole input, was written
   pub record StopsAtWrite (state : State) (old new : Streams R W) : Type 0 where
     pub input : List ℕ
     pub marks : List Bool
     pub reads : Reads remaining old.reader new.reader input
-    pub writes : WritesFront contents old.writer new.writer (answer machine state input true marks)
+    pub writes : WritesFront contents old.writer new.writer (session_answers machine state input true marks)
 
   -- a session from the state that it opened with
   abbrev pub Converses : {T : Type 0} → State → Streams R W → Streams R W → Result T ServeError → Type 0
@@ -73,9 +73,9 @@ module _ {R W : Type 0} (remaining : R → Option (List ℕ)) (contents : W → 
   Refuses fault (Err errors.Read) = ⊥
   Refuses fault (Err errors.Memory) = Unit {0}
   Refuses fault (Err errors.Write) = ⊥
-  Refuses fault (Err (errors.Load told)) = told ≡ fault
+  Refuses fault (Err (errors.Load reported)) = reported ≡ fault
 
-  -- a whole session: from the state that it opens with; or nothing is read or written, and the refusal is told
+  -- a whole session: from the state that it opens with; or nothing is read or written, and the refusal is reported
   abbrev pub Serves : {T : Type 0} → Result State Fault → Streams R W → Streams R W → Result T ServeError → Type 0
   Serves (Ok state) old new result = Converses state old new result
   Serves (Err fault) old new result = (new ≡ old) × Refuses fault result

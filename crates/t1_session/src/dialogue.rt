@@ -2,11 +2,11 @@
 ghost use Rattle.std.specs.Prelude.{◌≡◌, true, ◌∷◌, [], None, Some};
 ghost use Rattle.t1_session.specs.Lines.{is_unbroken, ends_line};
 
-use crate::answering::answer;
-use crate::error::ServeError;
-use crate::request::{
-    body_request, ends_body, is_blank_line, line_request, open_request, takes_body,
+use crate::answering::answer_command;
+use crate::command::{
+    body_command, ends_body, is_blank_line, line_command, open_command, takes_body,
 };
+use crate::error::ServeError;
 use crate::session::Session;
 use std::alloc::Global;
 use std::io::Write;
@@ -31,7 +31,7 @@ pub struct Dialogue {
     ghost unbroken: { is_unbroken line.items ≡ true },
 }
 
-/// Whether a byte ends a line. An LF behind a CR belongs to it.
+/// Whether a byte ends a line. An LF after a CR belongs to it.
 fn ends_line(after_return: bool, byte: u8) -> bool
     ensures { result ≡ ends_line after_return byte }
 {
@@ -124,8 +124,8 @@ impl Dialogue {
         if is_blank_line(&line) {
             return Ok(());
         }
-        let made = line_request(alloc, &line);
-        answer(alloc, &mut self.session, made, writer)
+        let made = line_command(alloc, &line);
+        answer_command(alloc, &mut self.session, made, writer)
     }
 
     /// Ends a line of a body.
@@ -141,8 +141,8 @@ impl Dialogue {
         let Opened { heading, mut body } = opening;
         if ends_body(&self.line) {
             self.line.clear();
-            let made = body_request(alloc, &heading, Bytes::new(body));
-            return answer(alloc, &mut self.session, made, writer);
+            let made = body_command(alloc, &heading, Bytes::new(body));
+            return answer_command(alloc, &mut self.session, made, writer);
         }
         body.extend_from_slice(&self.line)?;
         body.push(b'\n')?;
@@ -166,7 +166,7 @@ impl Dialogue {
         self.end_body(alloc, writer)
     }
 
-    /// Ends the input behind its last line.
+    /// Ends the input after its last line.
     fn end_body<W: Write>(
         &mut self,
         alloc: Global,
@@ -178,8 +178,8 @@ impl Dialogue {
         match self.opening.take() {
             None => Ok(()),
             Some(opening) => {
-                let made = Ok(open_request(&opening.heading));
-                answer(alloc, &mut self.session, made, writer)
+                let made = Ok(open_command(&opening.heading));
+                answer_command(alloc, &mut self.session, made, writer)
             }
         }
     }

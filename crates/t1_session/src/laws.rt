@@ -2,7 +2,7 @@
 ghost use Rattle.t1_session.specs.Machine.{OpensWithFile, KeepsFile};
 ghost use Rattle.t1_session.specs.Files.{MetricsTellFirstFault};
 
-/// The source of a session always has its PFB file, so that a print tells no fault.
+/// The source of a session always has its PFB file, so that a print reports no fault.
 pub fn a_session_has_its_file()
     ensures opens { OpensWithFile }
     ensures keeps { KeepsFile }

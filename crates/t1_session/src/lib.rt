@@ -2,16 +2,16 @@
 //! prints one.
 #![tactic(auto)]
 
+mod answer;
 mod answering;
 mod assembling;
+mod command;
 mod dialogue;
 mod error;
 pub mod laws;
 mod measuring;
 mod numbers;
 mod print;
-mod reply;
-mod request;
 mod serving;
 mod session;
 #[cfg(test)]

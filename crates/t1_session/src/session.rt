@@ -4,7 +4,7 @@ use std::alloc::{AllocError, Global};
 use std::marker::Model;
 use t1_source::{Cause, Edit, Pairs, Source, read_pairs, read_source};
 
-/// A session over a source and its kerning pairs. Its source has no fault that its PFB file would tell.
+/// A session over a source and its kerning pairs. Its source has no fault that refuses its PFB file.
 #[derive(Drop)]
 pub struct Session {
     source: Source,
@@ -24,24 +24,24 @@ ghost use Rattle.t1_frac.specs.Outcome.{Gives};
 ghost use Rattle.t1_source.specs.Kerning.{kern};
 ghost use Rattle.t1_parts.specs.Printing.{text};
 ghost use Rattle.t1_source.specs.Editing.{edited};
-ghost use Rattle.t1_session.specs.Machine.{perform, printed, judged, judged_file, file_reply, scratch};
+ghost use Rattle.t1_session.specs.Machine.{perform, printed, judged, judged_file, file_answer, scratch};
 ghost use Rattle.t1_font.specs.Assembly.{source_file, file_check};
-ghost use Rattle.t1_session.specs.Requests.{may_want_memory};
+ghost use Rattle.t1_session.specs.Commands.{may_want_memory};
 ghost use Rattle.t1_code.specs.Pfb.{whole_file};
 
-use t1_font::{checked_bodies, file_of};
+use crate::answer::Answer;
+use crate::command::Command;
 use crate::print::Print;
-use crate::reply::Reply;
-use crate::request::Request;
+use t1_font::{checked_bodies, file_of};
 use t1_frac::{Bytes, Refusal};
 
 /// The answer to a print of the PFB file.
-fn file_reply(alloc: Global, source: &Source) -> Result<Reply, AllocError>
-    ensures { IfOk result (λ reply. reply ≡ file_reply (source_file whole_file source.now)) }
+fn file_answer(alloc: Global, source: &Source) -> Result<Answer, AllocError>
+    ensures { IfOk result (λ answer. answer ≡ file_answer (source_file whole_file source.now)) }
 {
     match file_of(alloc, source) {
-        Ok(file) => Ok(Reply::Data(Bytes::new(file))),
-        Err(Refusal::Fault(fault)) => Ok(Reply::Faulty(fault)),
+        Ok(file) => Ok(Answer::Data(Bytes::new(file))),
+        Err(Refusal::Fault(fault)) => Ok(Answer::Faulty(fault)),
         Err(Refusal::Memory) => Err(AllocError),
     }
 }
@@ -61,36 +61,36 @@ impl Session {
 
     /// Performs a command. Where memory runs out the session is as before.
     #[tactic(auto, unfolding(crate::specs::Machine::perform))]
-    pub fn perform(&mut self, alloc: Global, request: Request) -> Result<Reply, AllocError>
-        ensures reply { IfOk result (λ reply. reply ≡ (perform self.old request).reply) }
-        ensures next { OnOk result (self.new ≡ (perform self.old request).next) }
-        ensures want { OnErr result (may_want_memory request ≡ true) }
+    pub fn perform(&mut self, alloc: Global, command: Command) -> Result<Answer, AllocError>
+        ensures answer { IfOk result (λ answer. answer ≡ (perform self.old command).answer) }
+        ensures next { OnOk result (self.new ≡ (perform self.old command).next) }
+        ensures want { OnErr result (may_want_memory command ≡ true) }
         ensures err { OnErr result (self.new ≡ self.old) }
     {
-        match request {
-            Request::Edit(edit) => self.edit(alloc, &edit),
-            Request::Print(print) => self.print(alloc, print),
-            Request::Broken(rule) => Ok(Reply::Broken(rule)),
+        match command {
+            Command::Edit(edit) => self.edit(alloc, &edit),
+            Command::Print(print) => self.print(alloc, print),
+            Command::Broken(rule) => Ok(Answer::Broken(rule)),
         }
     }
 
     /// Takes an edit, or refuses it and stays as it is.
-    fn edit(&mut self, alloc: Global, edit: &Edit) -> Result<Reply, AllocError>
-        ensures reply { IfOk result (λ reply. reply ≡ (judged self.old (edited self.old.source self.old.pairs edit.now)).reply) }
+    fn edit(&mut self, alloc: Global, edit: &Edit) -> Result<Answer, AllocError>
+        ensures answer { IfOk result (λ answer. answer ≡ (judged self.old (edited self.old.source self.old.pairs edit.now)).answer) }
         ensures next { OnOk result (self.new ≡ (judged self.old (edited self.old.source self.old.pairs edit.now)).next) }
         ensures err { OnErr result (self.new ≡ self.old) }
     {
         match self.source.edited(&self.pairs, edit) {
             Ok((source, pairs)) => self.take(alloc, source, pairs),
-            Err(Cause::Rule(rule)) => Ok(Reply::Broken(rule)),
-            Err(Cause::Fault(fault)) => Ok(Reply::Faulty(fault)),
+            Err(Cause::Rule(rule)) => Ok(Answer::Broken(rule)),
+            Err(Cause::Fault(fault)) => Ok(Answer::Faulty(fault)),
             Err(Cause::Memory) => Err(AllocError),
         }
     }
 
     /// Takes an edited source with its pairs, unless the source has a fault.
-    fn take(&mut self, alloc: Global, source: Source, pairs: Pairs) -> Result<Reply, AllocError>
-        ensures reply { IfOk result (λ reply. reply ≡ (judged_file self.old (record { source = source; pairs = pairs }) (file_check source)).reply) }
+    fn take(&mut self, alloc: Global, source: Source, pairs: Pairs) -> Result<Answer, AllocError>
+        ensures answer { IfOk result (λ answer. answer ≡ (judged_file self.old (record { source = source; pairs = pairs }) (file_check source)).answer) }
         ensures next { OnOk result (self.new ≡ (judged_file self.old (record { source = source; pairs = pairs }) (file_check source)).next) }
         ensures err { OnErr result (self.new ≡ self.old) }
     {
@@ -98,21 +98,21 @@ impl Session {
             Ok(_bodies) => {
                 self.source = source;
                 self.pairs = pairs;
-                Ok(Reply::Accepted)
+                Ok(Answer::Accepted)
             }
-            Err(Refusal::Fault(fault)) => Ok(Reply::Faulty(fault)),
+            Err(Refusal::Fault(fault)) => Ok(Answer::Faulty(fault)),
             Err(Refusal::Memory) => Err(AllocError),
         }
     }
 
     /// Answers a print. The whole text is there before any of it is written.
-    fn print(&self, alloc: Global, print: Print) -> Result<Reply, AllocError>
-        ensures { IfOk result (λ reply. reply ≡ printed self.now print) }
+    fn print(&self, alloc: Global, print: Print) -> Result<Answer, AllocError>
+        ensures { IfOk result (λ answer. answer ≡ printed self.now print) }
     {
         match print {
-            Print::Source => Ok(Reply::Data(Bytes::new(self.source.text()?))),
-            Print::Kern => Ok(Reply::Data(Bytes::new(self.pairs.text()?))),
-            Print::Pfb => file_reply(alloc, &self.source),
+            Print::Source => Ok(Answer::Data(Bytes::new(self.source.text()?))),
+            Print::Kern => Ok(Answer::Data(Bytes::new(self.pairs.text()?))),
+            Print::Pfb => file_answer(alloc, &self.source),
         }
     }
 }

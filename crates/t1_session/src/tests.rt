@@ -77,17 +77,17 @@ struct Short {
     taken: Vec<u8>,
     size: usize,
     room: usize,
-    tells: bool,
+    reports: bool,
     flushes: u64,
 }
 
 impl Short {
-    fn new(alloc: Global, size: usize, room: usize, tells: bool) -> Self {
+    fn new(alloc: Global, size: usize, room: usize, reports: bool) -> Self {
         Short {
             taken: Vec::new(alloc),
             size,
             room,
-            tells,
+            reports,
             flushes: 0,
         }
     }
@@ -96,7 +96,7 @@ impl Short {
 impl Write for Short {
     fn write(&mut self, bytes: &[u8]) -> io::Result<usize> {
         let count = bytes.len().min(self.size).min(self.room);
-        if bytes.len() > MAX_PUT || (count == 0 && self.tells) {
+        if bytes.len() > MAX_PUT || (count == 0 && self.reports) {
             return Err(ErrorKind::Other.into());
         }
         self.taken.extend_from_slice(bytes.split_at(count).0)?;
@@ -200,10 +200,10 @@ fn stops_at_a_write(rt: HostRuntime) -> Result<(), Fail> {
     let font = font(alloc)?;
     let input = input(alloc)?;
     let expected = answers(alloc, input.len())?;
-    for tells in [true, false] {
+    for reports in [true, false] {
         for room in 0..expected.len() {
             let mut reader = Counted::new(input.as_slice());
-            let mut writer = Counted::new(Short::new(alloc, usize::MAX, room, tells));
+            let mut writer = Counted::new(Short::new(alloc, usize::MAX, room, reports));
             let result = serve(alloc, &font, b"", &mut reader, &mut writer);
             assert!(rt; matches!(result, Err(ServeError::Write)));
             assert_eq!(rt; writer.failures(), 1);

@@ -1,10 +1,10 @@
 use Rattle.std.proofs.Common.{◌≡◌, ◌∙◌, sym, ap, true, refl, Some}
 use Rattle.t1_frac.specs.Words.{words}
-use Rattle.t1_session.specs.Requests.{Opening, ends_body, body_request}
+use Rattle.t1_session.specs.Commands.{Opening, ends_body, body_command}
 use Rattle.t1_session.specs.Answers.{Conversation}
 use Rattle.t1_session.specs.State.{State}
 use Rattle.t1_session.specs.Dialogues.{opening_of, conversation_of}
-use Rattle.t1_session.proofs.Conversations.{EndsLine-performed}
+use Rattle.t1_session.proofs.Conversations.{EndsLine-answered}
 use Rattle.t1_session.proofs.dialogue.Dialogue.end_body_line.Goals as goal
 
 pub returns-then-ends_body : goal.returns-then-ends_body
@@ -12,7 +12,7 @@ returns-then-ends_body g c =
     let is : ends_body c.args.self.now.line.items ≡ true = ap ends_body (sym c.deref.ensures.value) ∙ sym c.ends_body.ensures ∙ c.if-ends_body.true in
     let o : Opening = opening_of c.args.opening in
     let old : Conversation State = record (conversation_of c.args.self.now) { opening = Some o } in
-    let new : Conversation State = record (conversation_of c.args.self.now) { state = c.answer.new.session; line = c.clear.new.self.items } in
-    EndsLine-performed g.W.Write.contents old new c.args.writer.now c.answer.new.writer (body_request (words o.heading) o.body) c.answer.result
+    let new : Conversation State = record (conversation_of c.args.self.now) { state = c.answer_command.new.session; line = c.clear.new.self.items } in
+    EndsLine-answered g.W.Write.contents old new c.args.writer.now c.answer_command.new.writer (body_command (words o.heading) o.body) c.answer_command.result
     (λ lines ended. rw (is, c.requires) refl) c.clear.ensures.items refl
-    (c.answer.ensures (body_request (words o.heading) o.body) (rw (← c.deref-then-ends_body.ensures.value, ← c.new.ensures) c.body_request-made.ensures))
+    (c.answer_command.ensures (body_command (words o.heading) o.body) (rw (← c.deref-then-ends_body.ensures.value, ← c.new.ensures) c.body_command-made.ensures))

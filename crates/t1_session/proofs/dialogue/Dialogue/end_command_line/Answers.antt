@@ -1,10 +1,10 @@
 use Rattle.std.proofs.Common.{◌≡◌, ◌∙◌, sym, ap, refl, List, [], ℕ, true, false}
 use Rattle.t1_frac.specs.Words.{words}
-use Rattle.t1_session.specs.Requests.{takes_body, is_wordless, line_request}
+use Rattle.t1_session.specs.Commands.{takes_body, is_wordless, line_command}
 use Rattle.t1_session.specs.Answers.{Conversation}
 use Rattle.t1_session.specs.State.{State}
 use Rattle.t1_session.specs.Dialogues.{conversation_of}
-use Rattle.t1_session.proofs.Conversations.{EndsLine-performed, LineGoes-silent}
+use Rattle.t1_session.proofs.Conversations.{EndsLine-answered, LineGoes-silent}
 use Rattle.t1_code.proofs.Writing.{writing}
 use Rattle.t1_session.proofs.dialogue.Dialogue.end_command_line.Goals as goal
 
@@ -32,7 +32,7 @@ returns g c =
     let plain : takes_body (words text) ≡ false = ap (λ l. takes_body (words l)) (sym kept ∙ sym c.deref.ensures.value) ∙ sym c.takes_body.ensures ∙ c.if-takes_body.false in
     let some : is_wordless (words text) ≡ false = ap (λ l. is_wordless (words l)) (sym kept ∙ sym c.deref-2.ensures.value) ∙ sym c.is_blank_line.ensures ∙ c.if-is_blank_line.false in
     let old : Conversation State = conversation_of c.args.self.now in
-    let new : Conversation State = record old { state = c.answer.new.session; line = c.replace-line.new.dest.items } in
-    EndsLine-performed g.W.Write.contents old new c.args.writer.now c.answer.new.writer (line_request (words text)) c.answer.result
+    let new : Conversation State = record old { state = c.answer_command.new.session; line = c.replace-line.new.dest.items } in
+    EndsLine-answered g.W.Write.contents old new c.args.writer.now c.answer_command.new.writer (line_command (words text)) c.answer_command.result
     (λ lines ended. rw (c.requires, plain, some) refl) cleared refl
-    (c.answer.ensures (line_request (words text)) (rw (← kept, ← c.deref-3.ensures.value) c.line_request-made.ensures))
+    (c.answer_command.ensures (line_command (words text)) (rw (← kept, ← c.deref-3.ensures.value) c.line_command-made.ensures))

@@ -4,7 +4,7 @@ use Rattle.std.proofs.lemmas.Result.{err_from_is_err_and}
 use Rattle.t1_code.proofs.Writing.{writing}
 use Rattle.t1_session.specs.Lines.{ends_line}
 use Rattle.t1_session.specs.Dialogues.{conversation_of}
-use Rattle.t1_session.proofs.LineLaws.{unbroken_pushed, differs, not_return, behind_a_return}
+use Rattle.t1_session.proofs.LineLaws.{unbroken_pushed, differs, not_return, after_a_return}
 use Rattle.t1_session.proofs.Conversations.{Feeds-ended, stopped_at_once, Goes-byte, Goes-line_feed}
 use Rattle.t1_session.proofs.dialogue.Dialogue.push.Goals as goal
 
@@ -35,9 +35,9 @@ returns g c =
 pub returns-then-byte-eq10 : goal.returns-then-byte-eq10
 returns-then-byte-eq10 g c =
     let is : c.args.byte ≡ 10 = c.if-byte-eq10.true in
-    let behind = behind_a_return c.args.self.now.after_return (ap (ends_line c.args.self.now.after_return) (sym is) ∙ sym c.ends_line-is_end.ensures ∙ c.if-is_end.false) in
+    let after = after_a_return c.args.self.now.after_return (ap (ends_line c.args.self.now.after_return) (sym is) ∙ sym c.ends_line-is_end.ensures ∙ c.if-is_end.false) in
     record {
       text = [];
-      goes = rw is (Goes-line_feed (conversation_of c.args.self.now) behind);
+      goes = rw is (Goes-line_feed (conversation_of c.args.self.now) after);
       written = (writing g.W.Write.contents).none c.args.writer.now;
     }

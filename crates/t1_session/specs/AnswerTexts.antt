@@ -7,8 +7,8 @@ use Rattle.t1_frac.specs.declared.fault.Place.{Place}
 use Rattle.t1_frac.specs.declared.fault.Place.TheVariants.{Nowhere, Line, Subr, Glyph}
 use Rattle.t1_source.specs.declared.edit.Rule.{Rule}
 use Rattle.t1_source.specs.declared.edit.Rule.TheVariants.{E1, E2, E3, E4, E5, E6, E7, E8, E9, E10}
-use Rattle.t1_session.specs.declared.reply.Reply.{Reply}
-use Rattle.t1_session.specs.declared.reply.Reply.TheVariants.{Accepted, Broken, Faulty, OutOfMemory, Data}
+use Rattle.t1_session.specs.declared.answer.Answer.{Answer}
+use Rattle.t1_session.specs.declared.answer.Answer.TheVariants.{Accepted, Broken, Faulty, OutOfMemory, Data}
 
 -- profile, answers: the code of an edit rule
 abbrev pub rule_name : Rule → List ℕ
@@ -62,7 +62,7 @@ code_name F46 = codes "F46"
 code_name F47 = codes "F47"
 code_name F48 = codes "F48"
 
--- profile, answers: where a fault stands, behind its code
+-- profile, answers: where a fault stands, after its code
 abbrev pub place_text : Place → List ℕ
 place_text Nowhere = []
 place_text (Line n) = codes " line " ++ decimal n
@@ -80,14 +80,14 @@ place_number (Glyph name) = 0
 unfoldable pub fault_text : Fault → List ℕ
 fault_text fault = code_name fault.code ++ place_text fault.place
 
--- profile, answers: what a print shows, behind its length
+-- profile, answers: what a print shows, after its length
 abbrev pub data_text : List ℕ → List ℕ
 data_text bytes = codes "data " ++ decimal (length bytes) ++ 10 ∷ bytes ++ 10 ∷ []
 
 -- profile, answers: the bytes of an answer
-unfoldable pub reply_text : Reply → List ℕ
-reply_text Accepted = codes "ok" ++ 10 ∷ []
-reply_text (Broken rule) = codes "refused " ++ rule_name rule ++ 10 ∷ []
-reply_text (Faulty fault) = codes "refused " ++ fault_text fault ++ 10 ∷ []
-reply_text OutOfMemory = codes "refused memory" ++ 10 ∷ []
-reply_text (Data bytes) = data_text bytes
+unfoldable pub answer_text : Answer → List ℕ
+answer_text Accepted = codes "ok" ++ 10 ∷ []
+answer_text (Broken rule) = codes "refused " ++ rule_name rule ++ 10 ∷ []
+answer_text (Faulty fault) = codes "refused " ++ fault_text fault ++ 10 ∷ []
+answer_text OutOfMemory = codes "refused memory" ++ 10 ∷ []
+answer_text (Data bytes) = data_text bytes

@@ -2,7 +2,7 @@
 ghost use Rattle.std.specs.Str.{bytes_eq};
 ghost use Rattle.std.specs.Prelude.{◌≡◌, ◌||◌, option_map, length, ◌<◌, IfOk, IfSome, MatchOption, ◌∷◌, []};
 ghost use Rattle.t1_frac.specs.Words.{words};
-ghost use Rattle.t1_session.specs.Requests.{one_word, two_words, three_words, removal, print_of, line_request, body_request, bodied_edit, open_request, takes_body, ends_body, edit_of, is_wordless, number_of, Makes};
+ghost use Rattle.t1_session.specs.Commands.{one_word, two_words, three_words, removal, print_of, line_command, body_command, bodied_edit, open_command, takes_body, ends_body, edit_of, is_wordless, number_of, Makes};
 ghost use Rattle.t1_source.specs.declared.edit.Edit.TheVariants as edits;
 
 use crate::numbers::number_of;
@@ -13,7 +13,7 @@ use t1_source::{Edit, Rule};
 
 /// One command.
 #[derive(Debug, Drop)]
-pub enum Request {
+pub enum Command {
     Edit(Edit),
     Print(Print),
     /// No command, or one whose body the input left open.
@@ -21,7 +21,7 @@ pub enum Request {
 }
 
 /// A line that is no command.
-const UNKNOWN: Request = Request::Broken(Rule::E8);
+const UNKNOWN: Command = Command::Broken(Rule::E8);
 
 /// The only word of a line.
 fn one_word(line: &[u8]) -> Option<&[u8]>
@@ -52,57 +52,57 @@ fn three_words(line: &[u8]) -> Option<(&[u8], &[u8], &[u8])>
     Some((first, second, third))
 }
 
-/// `remove glyph NAME`, `remove subr N`, behind the first word.
-#[tactic(auto, unfolding(crate::specs::Requests::removal))]
-fn removal(alloc: Global, line: &[u8]) -> Result<Request, AllocError>
+/// `remove glyph NAME`, `remove subr N`, after the first word.
+#[tactic(auto, unfolding(crate::specs::Commands::removal))]
+fn removal(alloc: Global, line: &[u8]) -> Result<Command, AllocError>
     ensures { Makes result (removal (words line.now)) }
 {
     let Some((kind, rest)) = next_word(line) else {
         return Ok(UNKNOWN);
     };
     match (kind, one_word(rest)) {
-        (b"glyph", Some(name)) => Ok(Request::Edit(Edit::RemoveGlyph(Bytes::copied(alloc, name)?))),
-        (b"subr", Some(number)) => Ok(Request::Edit(Edit::RemoveSubr(number_of(number)))),
+        (b"glyph", Some(name)) => Ok(Command::Edit(Edit::RemoveGlyph(Bytes::copied(alloc, name)?))),
+        (b"subr", Some(number)) => Ok(Command::Edit(Edit::RemoveSubr(number_of(number)))),
         _ => Ok(UNKNOWN),
     }
 }
 
-/// `print source`, `print kern`, `print pfb`, behind the first word.
-#[tactic(auto, unfolding(crate::specs::Requests::print_of))]
-fn print_of(line: &[u8]) -> Request
+/// `print source`, `print kern`, `print pfb`, after the first word.
+#[tactic(auto, unfolding(crate::specs::Commands::print_of))]
+fn print_of(line: &[u8]) -> Command
     ensures { result ≡ print_of (one_word (words line.now)) }
 {
     match one_word(line) {
-        Some(b"source") => Request::Print(Print::Source),
-        Some(b"kern") => Request::Print(Print::Kern),
-        Some(b"pfb") => Request::Print(Print::Pfb),
+        Some(b"source") => Command::Print(Print::Source),
+        Some(b"kern") => Command::Print(Print::Kern),
+        Some(b"pfb") => Command::Print(Print::Pfb),
         _ => UNKNOWN,
     }
 }
 
-/// `encode CODE NAME`, behind the first word.
-fn encoding(alloc: Global, line: &[u8]) -> Result<Request, AllocError>
+/// `encode CODE NAME`, after the first word.
+fn encoding(alloc: Global, line: &[u8]) -> Result<Command, AllocError>
     ensures { Makes result (edit_of (λ w. edits.Encode (number_of w.0) w.1) (two_words (words line.now))) }
 {
     let Some((code, name)) = two_words(line) else {
         return Ok(UNKNOWN);
     };
     let name = Bytes::copied(alloc, name)?;
-    Ok(Request::Edit(Edit::Encode(number_of(code), name)))
+    Ok(Command::Edit(Edit::Encode(number_of(code), name)))
 }
 
-/// `unencode CODE`, behind the first word.
-fn unencoding(line: &[u8]) -> Request
+/// `unencode CODE`, after the first word.
+fn unencoding(line: &[u8]) -> Command
     ensures { result ≡ edit_of (λ code. edits.Unencode (number_of code)) (one_word (words line.now)) }
 {
     match one_word(line) {
-        Some(code) => Request::Edit(Edit::Unencode(number_of(code))),
+        Some(code) => Command::Edit(Edit::Unencode(number_of(code))),
         None => UNKNOWN,
     }
 }
 
-/// `kern LEFT RIGHT N`, behind the first word.
-fn kerning(alloc: Global, line: &[u8]) -> Result<Request, AllocError>
+/// `kern LEFT RIGHT N`, after the first word.
+fn kerning(alloc: Global, line: &[u8]) -> Result<Command, AllocError>
     ensures { Makes result (edit_of (λ w. edits.Kern w.0 w.1 (number_of w.2)) (three_words (words line.now))) }
 {
     let Some((left, right, value)) = three_words(line) else {
@@ -110,11 +110,11 @@ fn kerning(alloc: Global, line: &[u8]) -> Result<Request, AllocError>
     };
     let left = Bytes::copied(alloc, left)?;
     let right = Bytes::copied(alloc, right)?;
-    Ok(Request::Edit(Edit::Kern(left, right, number_of(value))))
+    Ok(Command::Edit(Edit::Kern(left, right, number_of(value))))
 }
 
-/// `unkern LEFT RIGHT`, behind the first word.
-fn unkerning(alloc: Global, line: &[u8]) -> Result<Request, AllocError>
+/// `unkern LEFT RIGHT`, after the first word.
+fn unkerning(alloc: Global, line: &[u8]) -> Result<Command, AllocError>
     ensures { Makes result (edit_of (λ w. edits.Unkern w.0 w.1) (two_words (words line.now))) }
 {
     let Some((left, right)) = two_words(line) else {
@@ -122,13 +122,13 @@ fn unkerning(alloc: Global, line: &[u8]) -> Result<Request, AllocError>
     };
     let left = Bytes::copied(alloc, left)?;
     let right = Bytes::copied(alloc, right)?;
-    Ok(Request::Edit(Edit::Unkern(left, right)))
+    Ok(Command::Edit(Edit::Unkern(left, right)))
 }
 
 /// The command of a line that takes no body. An unknown one takes no memory.
-#[tactic(auto, unfolding(crate::specs::Requests::line_request))]
-pub fn line_request(alloc: Global, line: &[u8]) -> Result<Request, AllocError>
-    ensures { Makes result (line_request (words line.now)) }
+#[tactic(auto, unfolding(crate::specs::Commands::line_command))]
+pub fn line_command(alloc: Global, line: &[u8]) -> Result<Command, AllocError>
+    ensures { Makes result (line_command (words line.now)) }
 {
     let Some((verb, rest)) = next_word(line) else {
         return Ok(UNKNOWN);
@@ -151,7 +151,7 @@ pub fn line_request(alloc: Global, line: &[u8]) -> Result<Request, AllocError>
 }
 
 /// The edit of the three words of a heading, and its body.
-#[tactic(auto, unfolding(crate::specs::Requests::bodied_edit))]
+#[tactic(auto, unfolding(crate::specs::Commands::bodied_edit))]
 fn bodied_edit(
     alloc: Global,
     verb: &[u8],
@@ -180,23 +180,23 @@ fn bodied_edit(
 }
 
 /// The command of a line that takes a body, and its whole body.
-#[tactic(auto, unfolding(crate::specs::Requests::body_request))]
-pub fn body_request(alloc: Global, heading: &[u8], body: Bytes) -> Result<Request, AllocError>
-    ensures { Makes result (body_request (words heading.now) body) }
+#[tactic(auto, unfolding(crate::specs::Commands::body_command))]
+pub fn body_command(alloc: Global, heading: &[u8], body: Bytes) -> Result<Command, AllocError>
+    ensures { Makes result (body_command (words heading.now) body) }
 {
     let Some((verb, kind, subject)) = three_words(heading) else {
         return Ok(UNKNOWN);
     };
-    Ok(Request::Edit(bodied_edit(alloc, verb, kind, subject, body)?))
+    Ok(Command::Edit(bodied_edit(alloc, verb, kind, subject, body)?))
 }
 
 /// The command of a line whose body the input left open.
-#[tactic(auto, unfolding(crate::specs::Requests::open_request))]
-pub fn open_request(heading: &[u8]) -> Request
-    ensures { result ≡ open_request (words heading.now) }
+#[tactic(auto, unfolding(crate::specs::Commands::open_command))]
+pub fn open_command(heading: &[u8]) -> Command
+    ensures { result ≡ open_command (words heading.now) }
 {
     match three_words(heading) {
-        Some(_) => Request::Broken(Rule::E7),
+        Some(_) => Command::Broken(Rule::E7),
         None => UNKNOWN,
     }
 }
@@ -216,7 +216,7 @@ pub fn is_blank_line(line: &[u8]) -> bool
 }
 
 /// Whether a line takes a body, by its first two words.
-#[tactic(auto, unfolding(crate::specs::Requests::takes_body))]
+#[tactic(auto, unfolding(crate::specs::Commands::takes_body))]
 pub fn takes_body(line: &[u8]) -> bool
     ensures { result ≡ takes_body (words line.now) }
 {
@@ -230,7 +230,7 @@ pub fn takes_body(line: &[u8]) -> bool
 }
 
 /// Whether a line ends a body: it is `.`, apart from blanks.
-#[tactic(auto, unfolding(crate::specs::Requests::ends_body))]
+#[tactic(auto, unfolding(crate::specs::Commands::ends_body))]
 pub fn ends_body(line: &[u8]) -> bool
     ensures { result ≡ ends_body line.now }
 {

@@ -2,7 +2,7 @@
 ghost use Rattle.std.specs.Prelude.{◌≡◌, OnOk, OnErr, ◌++◌, decimal, length};
 ghost use Rattle.t1_code.specs.Counted.{WritesAll, WritesFront};
 ghost use Rattle.t1_code.specs.Parts.{bytes_of};
-ghost use Rattle.t1_session.specs.Replies.{rule_name, code_name, place_number, place_text, fault_text, data_text, reply_text};
+ghost use Rattle.t1_session.specs.AnswerTexts.{rule_name, code_name, place_number, place_text, fault_text, data_text, answer_text};
 
 use itoa::Buffer;
 use std::io::{self, Write};
@@ -12,7 +12,7 @@ use t1_source::Rule;
 
 /// What a command is answered.
 #[derive(Debug, Drop)]
-pub enum Reply {
+pub enum Answer {
     /// The edit was taken.
     Accepted,
     /// The command broke a rule.
@@ -129,7 +129,7 @@ fn place_slices<'a>(
 }
 
 /// Writes a fault by its code and place, between two texts.
-#[tactic(auto, unfolding(crate::specs::Replies::fault_text))]
+#[tactic(auto, unfolding(crate::specs::AnswerTexts::fault_text))]
 fn put_fault<W: Write>(
     writer: &mut Counted<W>,
     before: &[u8],
@@ -146,7 +146,7 @@ fn put_fault<W: Write>(
     put_slices(writer, &slices)
 }
 
-/// What a print shows, in slices behind its length.
+/// What a print shows, in slices after its length.
 fn data_slices<'a>(bytes: &'a [u8], digits: &'a str) -> [&'a [u8]; 5]
     requires { digits.now ≡ decimal (length bytes.now) }
     ensures { bytes_of result ≡ data_text bytes.now }
@@ -154,7 +154,7 @@ fn data_slices<'a>(bytes: &'a [u8], digits: &'a str) -> [&'a [u8]; 5]
     [b"data ", digits.as_bytes(), b"\n", bytes, b"\n"]
 }
 
-/// Writes what a print shows, behind its length.
+/// Writes what a print shows, after its length.
 fn put_data<W: Write>(writer: &mut Counted<W>, bytes: &[u8]) -> io::Result<()>
     ensures ok { OnOk result (WritesAll W.contents writer.old writer.new (data_text bytes.now)) }
     ensures err { OnErr result (WritesFront W.contents writer.old writer.new (data_text bytes.now)) }
@@ -164,17 +164,17 @@ fn put_data<W: Write>(writer: &mut Counted<W>, bytes: &[u8]) -> io::Result<()>
     put_slices(writer, &data_slices(bytes, digits))
 }
 
-/// Writes a reply. It takes no memory.
-#[tactic(auto, unfolding(crate::specs::Replies::reply_text))]
-pub fn put_reply<W: Write>(writer: &mut Counted<W>, reply: &Reply) -> io::Result<()>
-    ensures ok { OnOk result (WritesAll W.contents writer.old writer.new (reply_text reply.now)) }
-    ensures err { OnErr result (WritesFront W.contents writer.old writer.new (reply_text reply.now)) }
+/// Writes an answer. It takes no memory.
+#[tactic(auto, unfolding(crate::specs::AnswerTexts::answer_text))]
+pub fn put_answer<W: Write>(writer: &mut Counted<W>, answer: &Answer) -> io::Result<()>
+    ensures ok { OnOk result (WritesAll W.contents writer.old writer.new (answer_text answer.now)) }
+    ensures err { OnErr result (WritesFront W.contents writer.old writer.new (answer_text answer.now)) }
 {
-    match reply {
-        Reply::Accepted => writer.put_all(b"ok\n"),
-        Reply::Broken(rule) => put_slices(writer, &[b"refused ", rule_name(*rule), b"\n"]),
-        Reply::Faulty(fault) => put_fault(writer, b"refused ", fault, b"\n"),
-        Reply::OutOfMemory => writer.put_all(b"refused memory\n"),
-        Reply::Data(bytes) => put_data(writer, bytes.as_slice()),
+    match answer {
+        Answer::Accepted => writer.put_all(b"ok\n"),
+        Answer::Broken(rule) => put_slices(writer, &[b"refused ", rule_name(*rule), b"\n"]),
+        Answer::Faulty(fault) => put_fault(writer, b"refused ", fault, b"\n"),
+        Answer::OutOfMemory => writer.put_all(b"refused memory\n"),
+        Answer::Data(bytes) => put_data(writer, bytes.as_slice()),
     }
 }

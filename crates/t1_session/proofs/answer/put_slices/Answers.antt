@@ -3,7 +3,7 @@ use Rattle.std.proofs.lemmas.List.{drop_all}
 use Rattle.t1_code.specs.Parts.{bytes_of}
 use Rattle.t1_code.proofs.Encrypting.{flat_map-drop}
 use Rattle.t1_code.proofs.Writing.{writing, Written-none, Written-step, Written-fails, Written-all, at_error}
-use Rattle.t1_session.proofs.reply.put_slices.Goals as goal
+use Rattle.t1_session.proofs.answer.put_slices.Goals as goal
 
 pub loop-slice-init : goal.loop-slice-init
 loop-slice-init g c = Written-none (writing g.W.Write.contents) c.args.writer.now (bytes_of c.args.slices.now)

@@ -7,8 +7,8 @@ use Rattle.t1_source.specs.declared.edit.Edit.{Edit}
 use Rattle.t1_source.specs.declared.edit.Edit.TheVariants.{ReplaceGlyph, AddGlyph, RemoveGlyph, ReplaceSubr, AddSubr, RemoveSubr, Encode, Unencode, Kern, Unkern}
 use Rattle.t1_source.specs.declared.edit.Rule.TheVariants.{E7, E8}
 use Rattle.t1_session.specs.declared.print.Print.TheVariants as prints
-use Rattle.t1_session.specs.declared.request.Request.{Request}
-use Rattle.t1_session.specs.declared.request.Request.TheVariants as requests
+use Rattle.t1_session.specs.declared.command.Command.{Command}
+use Rattle.t1_session.specs.declared.command.Command.TheVariants as commands
 
 -- a command whose body is being read: the line that opened it, and its body so far
 pub record Opening : Type 0 where
@@ -33,16 +33,16 @@ three_words (a ∷ b ∷ c ∷ []) = Some (a, b, c)
 three_words _ = None
 
 -- profile, edit rules: E8, an unknown command or a wrong number of words
-abbrev pub unknown : Request
-unknown = requests.Broken E8
+abbrev pub unknown : Command
+unknown = commands.Broken E8
 
 -- the edit of these words, where they are as many as it takes
-abbrev pub edit_of : {X : Type 0} → (X → Edit) → Option X → Request
+abbrev pub edit_of : {X : Type 0} → (X → Edit) → Option X → Command
 edit_of f None = unknown
-edit_of f (Some x) = requests.Edit (f x)
+edit_of f (Some x) = commands.Edit (f x)
 
 -- profile, session commands: `remove glyph NAME`, `remove subr N`
-unfoldable pub removal : List (List ℕ) → Request
+unfoldable pub removal : List (List ℕ) → Command
 removal [] = unknown
 removal (kind ∷ rest) =
     if bytes_eq kind (codes "glyph") then edit_of RemoveGlyph (one_word rest)
@@ -50,18 +50,18 @@ removal (kind ∷ rest) =
     else unknown
 
 -- profile, session commands: `print source`, `print kern`, `print pfb`
-unfoldable pub print_of : Option (List ℕ) → Request
+unfoldable pub print_of : Option (List ℕ) → Command
 print_of None = unknown
 print_of (Some word) =
-    if bytes_eq word (codes "source") then requests.Print prints.Source
-    else if bytes_eq word (codes "kern") then requests.Print prints.Kern
-    else if bytes_eq word (codes "pfb") then requests.Print prints.Pfb
+    if bytes_eq word (codes "source") then commands.Print prints.Source
+    else if bytes_eq word (codes "kern") then commands.Print prints.Kern
+    else if bytes_eq word (codes "pfb") then commands.Print prints.Pfb
     else unknown
 
 -- profile, session commands: those that take no body
-unfoldable pub line_request : List (List ℕ) → Request
-line_request [] = unknown
-line_request (verb ∷ rest) =
+unfoldable pub line_command : List (List ℕ) → Command
+line_command [] = unknown
+line_command (verb ∷ rest) =
     if bytes_eq verb (codes "remove") then removal rest
     else if bytes_eq verb (codes "encode") then edit_of (λ w. Encode (number_of w.0) w.1) (two_words rest)
     else if bytes_eq verb (codes "unencode") then edit_of (λ code. Unencode (number_of code)) (one_word rest)
@@ -78,16 +78,16 @@ bodied_edit w body =
     else (if bytes_eq w.0 (codes "replace") then ReplaceSubr (number_of w.2) body else AddSubr (number_of w.2) body)
 
 -- a command with its whole body
-unfoldable pub body_request : List (List ℕ) → List ℕ → Request
-body_request heading body = edit_of (λ w. bodied_edit w body) (three_words heading)
+unfoldable pub body_command : List (List ℕ) → List ℕ → Command
+body_command heading body = edit_of (λ w. bodied_edit w body) (three_words heading)
 
--- profile, edit rules: E7, the input ended inside a body; it comes behind E8
-abbrev pub left_open : Option (List ℕ × List ℕ × List ℕ) → Request
+-- profile, edit rules: E7, the input ended inside a body; it comes after E8
+abbrev pub left_open : Option (List ℕ × List ℕ × List ℕ) → Command
 left_open None = unknown
-left_open (Some w) = requests.Broken E7
+left_open (Some w) = commands.Broken E7
 
-unfoldable pub open_request : List (List ℕ) → Request
-open_request heading = left_open (three_words heading)
+unfoldable pub open_command : List (List ℕ) → Command
+open_command heading = left_open (three_words heading)
 
 -- profile, session commands: a line takes a body by its first two words, whatever follows
 unfoldable pub takes_body : List (List ℕ) → Bool
@@ -109,28 +109,28 @@ is_wordless [] = true
 is_wordless (word ∷ rest) = false
 
 -- the command of a line that takes no body
-abbrev pub alone : List (List ℕ) → List Request
-alone line = if is_wordless line then [] else line_request line ∷ []
+abbrev pub alone : List (List ℕ) → List Command
+alone line = if is_wordless line then [] else line_command line ∷ []
 
 -- the commands of the lines, where the body of an opened one comes first; once the input has ended, a body that it
 -- leaves open makes a command too
-abbrev pub requests_of : Bool → Option Opening → List (List ℕ) → List Request
-requests_of ended None [] = []
-requests_of ended (Some o) [] = if ended then open_request (words o.heading) ∷ [] else []
-requests_of ended None (line ∷ lines) =
-    if takes_body (words line) then requests_of ended (Some (record { heading = line; body = [] })) lines
-    else alone (words line) ++ requests_of ended None lines
-requests_of ended (Some o) (line ∷ lines) =
-    if ends_body line then body_request (words o.heading) o.body ∷ requests_of ended None lines
-    else requests_of ended (Some (record { heading = o.heading; body = o.body ++ line ++ 10 ∷ [] })) lines
+abbrev pub commands_of : Bool → Option Opening → List (List ℕ) → List Command
+commands_of ended None [] = []
+commands_of ended (Some o) [] = if ended then open_command (words o.heading) ∷ [] else []
+commands_of ended None (line ∷ lines) =
+    if takes_body (words line) then commands_of ended (Some (record { heading = line; body = [] })) lines
+    else alone (words line) ++ commands_of ended None lines
+commands_of ended (Some o) (line ∷ lines) =
+    if ends_body line then body_command (words o.heading) o.body ∷ commands_of ended None lines
+    else commands_of ended (Some (record { heading = o.heading; body = o.body ++ line ++ 10 ∷ [] })) lines
 
 -- which commands may meet want of memory
-abbrev pub may_want_memory : Request → Bool
-may_want_memory (requests.Edit edit) = true
-may_want_memory (requests.Print print) = true
-may_want_memory (requests.Broken rule) = false
+abbrev pub may_want_memory : Command → Bool
+may_want_memory (commands.Edit edit) = true
+may_want_memory (commands.Print print) = true
+may_want_memory (commands.Broken rule) = false
 
 -- a call makes this command, or wants memory for one that may
-abbrev pub Makes : {E : Type 0} → Result Request E → Request → Type 0
-Makes (Ok request) wanted = request ≡ wanted
+abbrev pub Makes : {E : Type 0} → Result Command E → Command → Type 0
+Makes (Ok command) wanted = command ≡ wanted
 Makes (Err e) wanted = may_want_memory wanted ≡ true
