@@ -1,6 +1,6 @@
 -- Look-ups among what is kept by name.
 use Rattle.std.proofs.Common.{◌≡◌, ℕ, ◌+◌, ◌<◌, length, get_or, drop, drop-cons, add-one, Bool, true, false, cond, List, [], ◌∷◌, refl, sym, ap, subst, arith, ◌∙◌, Option, Some, None, inl, inr, map}
-use Rattle.std.specs.Prelude.{Result, Ok, Err, ◌||◌, ◌≤◌, zero, suc}
+use Rattle.std.specs.Prelude.{Result, Ok, Err, OnErr, ◌||◌, ◌≤◌, zero, suc}
 use Rattle.std.specs.List.{list_any}
 use Rattle.std.specs.Option.{option_map, option_copied}
 use Rattle.std.specs.Borrow.{Bor}
@@ -10,7 +10,7 @@ use Rattle.std.proofs.lemmas.Bool.{cases_Bool}
 use Rattle.std.proofs.lemmas.Slice.Eq.{bytes_eq-Decides}
 use Rattle.t1_frac.specs.declared.fault.Code.{Code}
 use Rattle.t1_run.specs.Run.{FontBodies, Drawing, NumberedRun, own}
-use Rattle.t1_font.specs.Runs.{Kept, drawing_kept, kept_of, run_kept, own_among, counted, IsAfter}
+use Rattle.t1_font.specs.Runs.{Kept, drawing_kept, kept_of, run_kept, own_among, counted, CountsSome, IsAfter}
 use Rattle.indexmap.specs.IndexMap.{insert_entry}
 
 -- what is found, behind a borrow
@@ -116,3 +116,12 @@ counted-up count (suc n) = omega (arith, counted-up count n)
 pub after-earlier : (count n : ℕ) (kept : Result NumberedRun Code) → IsAfter (counted count n) (Some kept) → IsAfter count (Some kept)
 after-earlier count n (Err code) h = tt
 after-earlier count n (Ok run) h = omega (arith, counted-up count n, h)
+
+-- one run more than these was counted
+pub counts-one-more : (runs old made count new : ℕ) → made < runs → count ≡ counted old made → new ≡ counted count 1 → CountsSome runs old new
+counts-one-more runs old made count new h same step = (suc made, omega (arith, h), step ∙ ap (λ n. counted n 1) same)
+
+-- what holds anyway holds where a call refuses
+pub on-err : {T E X : Type 0} (r : Result T E) → X → OnErr r X
+on-err (Ok done) h = tt
+on-err (Err refused) h = h

@@ -11,5 +11,6 @@ pub mod Naming
 pub mod Ordering
 pub mod Outlining
 pub mod Rows
+pub mod SourceMetrics
 pub mod SubrsFirst
 pub mod UsageRows

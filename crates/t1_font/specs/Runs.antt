@@ -6,10 +6,10 @@ use Rattle.std.specs.Str.{bytes_eq}
 use Rattle.t1_frac.specs.declared.fault.Code.{Code}
 use Rattle.t1_frac.specs.declared.fault.Refusal.{Refusal}
 use Rattle.t1_frac.specs.declared.fault.Refusal.TheVariants as refusals
-use Rattle.t1_run.specs.Run.{FontBodies, Drawing, Numbered, own}
+use Rattle.t1_run.specs.Run.{FontBodies, Drawing, NumberedRun, own}
 
 -- profile: what is kept of a run: what it draws, or its first fault
-abbrev pub drawing_kept : Result Numbered Code → Result Drawing Code
+abbrev pub drawing_kept : Result NumberedRun Code → Result Drawing Code
 drawing_kept (Ok run) = Ok run.drawing
 drawing_kept (Err code) = Err code
 

@@ -1,12 +1,12 @@
 //! A font's AFM file.
-ghost use Rattle.std.specs.Prelude.{Ok};
+ghost use Rattle.std.specs.Prelude.{◌≡◌, Ok, IfOk};
 ghost use Rattle.t1_code.specs.Parts.{Prints};
 ghost use Rattle.t1_afm.specs.Afm.{afm};
 ghost use Rattle.t1_font.specs.FontMetrics.{metrics_of};
 
 use crate::font_metrics::metrics;
 use crate::glyphs::MeasuredGlyphs;
-use std::alloc::Global;
+use std::alloc::{AllocError, Global};
 use std::io::Write;
 use t1_afm::write_afm;
 use t1_code::{Counted, OutError};
@@ -25,4 +25,21 @@ pub fn write_source_afm<W: Write>(
 {
     let metrics = metrics(alloc, source, pairs, glyphs)?;
     write_afm(&metrics, out)
+}
+
+/// The AFM file of a source, its pairs and its measured glyphs.
+pub fn afm_file_of(
+    alloc: Global,
+    source: &Source,
+    pairs: &Pairs,
+    glyphs: &MeasuredGlyphs,
+) -> Result<Vec<u8>, AllocError>
+    ensures { IfOk result (λ file. file.items ≡ afm (metrics_of source.now pairs.now glyphs.now)) }
+{
+    let mut out = Counted::new(Vec::new(alloc));
+    match write_source_afm(alloc, source, pairs, glyphs, &mut out) {
+        Ok(()) => Ok(out.into_inner()),
+        // A vector fails to take bytes only where it can't grow.
+        Err(_) => Err(AllocError),
+    }
 }

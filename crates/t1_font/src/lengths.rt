@@ -1,5 +1,6 @@
 //! Whether a source's PFB file can have a part that is too long.
 ghost use Rattle.std.specs.Prelude.{◌≡◌, ◌≤◌, ◌<◌, ◌+◌, ◌*◌, ◌^◌, ◌-◌, min, length, true, Ok, IfOk, IsOk};
+ghost use Rattle.std.specs.List.{list_all};
 ghost use Rattle.t1_frac.specs.Outcome.{Gives};
 ghost use Rattle.t1_text.specs.Lines.{joined};
 ghost use Rattle.t1_font.specs.Bodies.{bodies as bodies_of, bodies_check, plain_bodies, SameBodies};
@@ -121,11 +122,18 @@ fn is_counted(item: &Item) -> bool
     }
 }
 
+/// Whether all counts have at most nine digits.
+fn are_counted(items: &[Item]) -> bool
+    ensures { result ≡ list_all is_counted items.now }
+{
+    items.iter().all(|item| is_counted(item))
+}
+
 /// F23 where a count has more than nine digits.
 fn check_counts(items: &[Item]) -> Result<(), Refusal>
     ensures { Gives (λ x. x) result (counts_check items.now) }
 {
-    if items.iter().all(is_counted) {
+    if are_counted(items) {
         return Ok(());
     }
     Err(Refusal::from(Code::F23))

@@ -23,12 +23,12 @@ mod private;
 mod runs;
 mod usage;
 
-pub use afm_file::write_source_afm;
+pub use afm_file::{afm_file_of, write_source_afm};
 pub use assembly::{file_of, write_source_pfb};
 pub use bodies::{compiled, compiled_glyph, compiled_subr};
 pub use font_metrics::metrics;
 pub use glyph_metrics::{GlyphMetrics, PlacedParts, glyph_metrics_of};
-pub use glyphs::{MeasuredGlyphs, measured};
+pub use glyphs::{MeasuredGlyphs, measured, measured_source};
 pub use lengths::checked_bodies;
 pub use numbers::SubrNumbers;
 pub use outline::{Outline, outline_of};

@@ -1,10 +1,13 @@
+pub mod AnswerTexts
 pub mod Answers
+pub mod Commands
 pub mod Delivery
 pub mod Dialogues
 pub mod Files
+pub mod FromScratch
 pub mod Lines
 pub mod Machine
-pub mod AnswerTexts
-pub mod Commands
+pub mod Outcomes
 pub mod Serving
 pub mod State
+pub mod Views

@@ -1,14 +1,20 @@
 -- The commands of a session.
-use Rattle.std.specs.Prelude.{◌≡◌, ℕ, List, Result, Ok, Err}
+use Rattle.std.specs.Prelude.{◌≡◌, ℕ, Bool, true, false, not, List, Option, Some, None, is_some, Result, Ok, Err}
 use Rattle.t1_frac.specs.declared.fault.Fault.{Fault}
 use Rattle.t1_frac.specs.Outcome.{◌>>=◌}
-use Rattle.t1_source.specs.declared.pairs.Pair.{Pair}
 use Rattle.t1_parts.specs.SourceParts.{SourceParts}
 use Rattle.t1_parts.specs.Reading.{reads}
-use Rattle.t1_source.specs.Kerning.{pairs, kern}
 use Rattle.t1_parts.specs.Printing.{text}
-use Rattle.t1_code.specs.Pfb.{whole_file}
+use Rattle.t1_source.specs.declared.pairs.Pair.{Pair}
 use Rattle.t1_source.specs.declared.edit.Rule.{Rule}
+use Rattle.t1_source.specs.declared.edit.Rule.TheVariants.{E11, E12}
+use Rattle.t1_source.specs.Kerning.{pairs, kern}
+use Rattle.t1_source.specs.Editing.{edited}
+use Rattle.t1_code.specs.Pfb.{whole_file}
+use Rattle.t1_afm.specs.Afm.{afm}
+use Rattle.t1_font.specs.Assembly.{source_file}
+use Rattle.t1_font.specs.FontMetrics.{metrics_of}
+use Rattle.t1_font.specs.SourceChecks.{measured_source, source_check, source_usage}
 use Rattle.t1_session.specs.declared.print.Print.{Print}
 use Rattle.t1_session.specs.declared.print.Print.TheVariants as prints
 use Rattle.t1_session.specs.declared.answer.Answer.{Answer}
@@ -16,58 +22,113 @@ use Rattle.t1_session.specs.declared.answer.Answer.TheVariants.{Accepted, Broken
 use Rattle.t1_session.specs.declared.command.Command.{Command}
 use Rattle.t1_session.specs.declared.command.Command.TheVariants as commands
 use Rattle.t1_session.specs.Answers.{Performed, Machine}
-use Rattle.t1_font.specs.Assembly.{source_file, file_check}
-use Rattle.t1_source.specs.Editing.{edited}
-use Rattle.t1_session.specs.Commands.{may_want_memory}
-use Rattle.t1_session.specs.State.{State}
+use Rattle.t1_session.specs.State.{Draft, State}
 
--- profile, edits: the edited source is refused by the first fault of its bodies, or by F23
-abbrev pub judged_file : State → State → Result (Unit {0}) Fault → Performed State
-judged_file old new (Ok checked) = record { answer = Accepted; next = new }
-judged_file old new (Err fault) = record { answer = Faulty fault; next = old }
+-- the state with this source and these pairs, and no batch
+abbrev pub holding : SourceParts → List Pair → State
+holding source pairs = record { source = source; pairs = pairs; batch = None }
 
--- profile, edits: an edit that is refused leaves the state as it was
-abbrev pub judged : State → Result (SourceParts × List Pair) Rule → Performed State
-judged old (Ok made) = judged_file old (record { source = made.0; pairs = made.1 }) (file_check made.0)
-judged old (Err rule) = record { answer = Broken rule; next = old }
+-- a command that changes nothing
+abbrev pub stays : State → Answer → Performed State
+stays s answer = record { answer = answer; next = s }
 
--- what a print of the PFB file is answered; the source of a session has no fault
+-- ---- edits
+
+-- profile, edits: an edited source without a fault becomes the session's, with its pairs; else the session is as before,
+-- and a batch is closed either way
+abbrev pub judged : State → SourceParts × List Pair → Result (Unit {0}) Fault → Performed State
+judged s made (Ok checked) = record { answer = Accepted; next = holding made.0 made.1 }
+judged s made (Err fault) = record { answer = Faulty fault; next = holding s.source s.pairs }
+
+-- profile, edits: an edit outside a batch is judged by the edit rules, then by the first fault of the edited source
+abbrev pub taken : State → Result (SourceParts × List Pair) Rule → Performed State
+taken s (Ok made) = judged s made (source_check made.0)
+taken s (Err rule) = stays s (Broken rule)
+
+-- ---- batches
+
+abbrev pub drafting : SourceParts → List Pair → Option Draft
+drafting source pairs = Some (record { source = source; pairs = pairs })
+
+-- profile, batches: an edit in a batch is judged by the edit rules alone, on the batch's source and pairs
+abbrev pub drafted : State → Result (SourceParts × List Pair) Rule → Performed State
+drafted s (Ok made) = record { answer = Accepted; next = record s { batch = drafting made.0 made.1 } }
+drafted s (Err rule) = stays s (Broken rule)
+
+abbrev pub edit_in : Option Draft → State → (SourceParts → List Pair → Result (SourceParts × List Pair) Rule) → Performed State
+edit_in None s change = taken s (change s.source s.pairs)
+edit_in (Some d) s change = drafted s (change d.source d.pairs)
+
+-- profile, batches: E11 where one is open already
+abbrev pub begin_in : Option Draft → State → Performed State
+begin_in None s = record { answer = Accepted; next = record s { batch = drafting s.source s.pairs } }
+begin_in (Some d) s = stays s (Broken E11)
+
+-- profile, batches: the edits of a batch are judged once, together; E12 where none is open
+abbrev pub commit_in : Option Draft → State → Performed State
+commit_in None s = stays s (Broken E12)
+commit_in (Some d) s = judged s (d.source, d.pairs) (source_check d.source)
+
+abbrev pub abort_in : Option Draft → State → Performed State
+abort_in None s = stays s (Broken E12)
+abort_in (Some d) s = record { answer = Accepted; next = holding s.source s.pairs }
+
+-- ---- prints
+
+-- the AFM file of a source and its pairs, or the source's first fault
+abbrev pub source_metrics : SourceParts → List Pair → Result (List ℕ) Fault
+source_metrics source pairs = measured_source source >>= λ font. Ok (afm (metrics_of source pairs font))
+
+-- what a print of a file is answered; the source of a session has no fault
 abbrev pub file_answer : Result (List ℕ) Fault → Answer
 file_answer (Ok file) = Data file
 file_answer (Err fault) = Faulty fault
 
--- profile, session commands: what a print shows
+-- profile, session commands: what a print shows; in a batch, of the session as before it
 abbrev pub printed : State → Print → Answer
 printed s prints.Source = Data (text s.source)
 printed s prints.Kern = Data (kern s.pairs)
 printed s prints.Pfb = file_answer (source_file whole_file s.source)
+printed s prints.Afm = file_answer (source_metrics s.source s.pairs)
+printed s prints.Uses = file_answer (source_usage s.source)
+
+-- ---- all commands
 
 -- profile, session commands: what a command is answered, and the state after it
 unfoldable pub perform : State → Command → Performed State
-perform s (commands.Edit edit) = judged s (edited s.source s.pairs edit)
-perform s (commands.Print print) = record { answer = printed s print; next = s }
-perform s (commands.Broken rule) = record { answer = Broken rule; next = s }
+perform s (commands.Edit edit) = edit_in s.batch s (λ source pairs. edited source pairs edit)
+perform s (commands.Print print) = stays s (printed s print)
+perform s commands.Begin = begin_in s.batch s
+perform s commands.Commit = commit_in s.batch s
+perform s commands.Abort = abort_in s.batch s
+perform s (commands.Broken rule) = stays s (Broken rule)
 
--- profile, answers: a command that met want of memory leaves the state as it was
+-- profile, answers: which commands may meet want of memory: edits and prints, a `begin` outside a batch, a `commit` in one
+abbrev pub may_want_memory : State → Command → Bool
+may_want_memory s (commands.Edit edit) = true
+may_want_memory s (commands.Print print) = true
+may_want_memory s commands.Begin = not (is_some s.batch)
+may_want_memory s commands.Commit = is_some s.batch
+may_want_memory s commands.Abort = false
+may_want_memory s (commands.Broken rule) = false
+
+-- profile, answers: want of memory leaves the state as it was, but for the batch of a `commit`, which is closed
+abbrev pub after_want : State → Command → State
+after_want s commands.Commit = holding s.source s.pairs
+after_want s _ = s
+
 abbrev pub machine : Machine State
-machine = record { perform = perform; may_want_memory = λ s r. may_want_memory r; after_want = λ s r. s }
+machine = record { perform = perform; may_want_memory = may_want_memory; after_want = after_want }
 
--- the state that a session opens with, or the first fault of the source, of the pairs, of the source's bodies
+-- ---- opening
+
+-- the state that a session of a source and its pairs opens with, or the source's first fault
+abbrev pub opened : SourceParts → List Pair → Result State Fault
+opened source pairs = source_check source >>= λ checked. Ok (holding source pairs)
+
+-- the state that a session opens with, or the first fault of reading the source, of the pairs, of the source
 unfoldable pub scratch : List ℕ → List ℕ → Result State Fault
 scratch source pair_lines = do
-  form ← reads source
+  parts ← reads source
   kerning ← pairs pair_lines
-  checked ← file_check form
-  Ok (record { source = form; pairs = kerning })
-
--- the source of a state has its PFB file
-abbrev pub HasFile : State → Type 0
-HasFile s = (file : List ℕ) × (source_file whole_file s.source ≡ Ok file)
-
--- the source that a session opens with has its file
-abbrev pub OpensWithFile : Type 0
-OpensWithFile = (source pair_lines : List ℕ) (s : State) → scratch source pair_lines ≡ Ok s → HasFile s
-
--- so has the source after a command
-abbrev pub KeepsFile : Type 0
-KeepsFile = (s : State) (r : Command) → HasFile s → HasFile (perform s r).next
+  opened parts kerning

@@ -1,9 +1,15 @@
 -- What contracts see of a session.
-use Rattle.std.specs.Prelude.{List}
-use Rattle.t1_source.specs.declared.pairs.Pair.{Pair}
+use Rattle.std.specs.Prelude.{List, Option}
 use Rattle.t1_parts.specs.SourceParts.{SourceParts}
+use Rattle.t1_source.specs.declared.pairs.Pair.{Pair}
 
--- a source and its kerning pairs
+-- profile, batches: the source and the pairs after the edits of a batch so far
+pub record Draft : Type 0 where
+  pub source : SourceParts
+  pub pairs : List Pair
+
+-- a source, its kerning pairs, and the batch that is open, or none
 pub record State : Type 0 where
   pub source : SourceParts
   pub pairs : List Pair
+  pub batch : Option Draft

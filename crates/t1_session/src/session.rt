@@ -1,118 +1,260 @@
-//! The state of a session, and what its commands do to it.
-
-use std::alloc::{AllocError, Global};
+//! A session: a font that is kept current under edits.
 use std::marker::Model;
-use t1_source::{Cause, Edit, Pairs, Source, read_pairs, read_source};
+use t1_font::MeasuredGlyphs;
+use t1_source::{Pairs, Source};
+use std::alloc::Global;
 
-/// A session over a source and its kerning pairs. Its source has no fault that refuses its PFB file.
+/// A font under edits: its source and its pairs, with the metrics of its glyphs, and the batch that is open. The source
+/// has no fault. Contracts see the source, the pairs and the batch.
 #[derive(Drop)]
 pub struct Session {
+    alloc: Global,
+    source: Source,
+    pairs: Pairs,
+    glyphs: MeasuredGlyphs,
+    batch: Option<Batch>,
+}
+
+/// The source and the pairs after the edits of a batch so far.
+#[derive(Drop)]
+struct Batch {
     source: Source,
     pairs: Pairs,
 }
 
 impl Model for Session {
+    ghost use Rattle.std.specs.Prelude.{◌≡◌, Ok, option_map};
+    ghost use Rattle.t1_font.specs.SourceChecks.{measured_source};
     ghost use Rattle.t1_session.specs.State.{State};
+    ghost use Rattle.t1_session.specs.Views.{draft_of};
 
     ghost Value = { State };
 
-    ghost view = { λ session. record { source = session.source; pairs = session.pairs } };
+    ghost view = { λ s. record { source = s.source; pairs = s.pairs; batch = option_map draft_of s.batch } };
+
+    ghost invariant = { λ s. measured_source s.source ≡ Ok s.glyphs };
 }
 
-ghost use Rattle.std.specs.Prelude.{◌≡◌, true, IfOk, OnOk, OnErr};
+ghost use Rattle.std.specs.Prelude.{◌≡◌, Ok, IfOk, OnOk, OnErr, is_some, true};
 ghost use Rattle.t1_frac.specs.Outcome.{Gives};
+ghost use Rattle.t1_source.specs.Editing.{edited};
 ghost use Rattle.t1_source.specs.Kerning.{kern};
 ghost use Rattle.t1_parts.specs.Printing.{text};
-ghost use Rattle.t1_source.specs.Editing.{edited};
-ghost use Rattle.t1_session.specs.Machine.{perform, printed, judged, judged_file, file_answer, scratch};
-ghost use Rattle.t1_font.specs.Assembly.{source_file, file_check};
-ghost use Rattle.t1_session.specs.Commands.{may_want_memory};
-ghost use Rattle.t1_code.specs.Pfb.{whole_file};
+ghost use Rattle.t1_code.specs.Parts.{Prints};
+ghost use Rattle.t1_font.specs.SourceChecks.{measured_source, source_check};
+ghost use Rattle.t1_session.specs.declared.command.Command.TheVariants as commands;
+ghost use Rattle.t1_session.specs.FromScratch.{pfb_from_scratch, metrics_from_scratch, uses_from_scratch};
+ghost use Rattle.t1_session.specs.Machine.{opened, perform, may_want_memory, after_want, taken, drafted, judged};
+ghost use Rattle.t1_session.specs.Outcomes.{Takes, TakesOrReturns};
 
-use crate::answer::Answer;
-use crate::command::Command;
-use crate::print::Print;
-use t1_font::{checked_bodies, file_of};
-use t1_frac::{Bytes, Refusal};
-
-/// The answer to a print of the PFB file.
-fn file_answer(alloc: Global, source: &Source) -> Result<Answer, AllocError>
-    ensures { IfOk result (λ answer. answer ≡ file_answer (source_file whole_file source.now)) }
-{
-    match file_of(alloc, source) {
-        Ok(file) => Ok(Answer::Data(Bytes::new(file))),
-        Err(Refusal::Fault(fault)) => Ok(Answer::Faulty(fault)),
-        Err(Refusal::Memory) => Err(AllocError),
-    }
-}
+use std::io::Write;
+use t1_code::{Counted, OutError};
+use t1_font::{measured_source, usage_text, write_source_afm, write_source_pfb};
+use t1_frac::Refusal;
+use t1_run::Meter;
+use t1_source::{Cause, Edit, Rule};
 
 impl Session {
-    /// The session of a source and its pairs, or the first fault: of reading the source, of the pairs, of the
-    /// source's bodies, F23.
-    #[tactic(auto, unfolding(crate::specs::Machine::scratch))]
-    pub fn open(alloc: Global, source: &[u8], pairs: &[u8]) -> Result<Session, Refusal>
-        ensures { Gives (λ session. session) result (scratch source.now pairs.now) }
+    /// The session of a source and its pairs, or the source's first fault: of a body, F23, or of a glyph, in the order of
+    /// the source. A refusal drops both.
+    #[tactic(auto, using(crate::proofs::SessionLaws::check_refused, crate::proofs::SessionLaws::check_passed))]
+    pub fn open(alloc: Global, source: Source, pairs: Pairs) -> Result<Session, Refusal>
+        ensures { Gives (λ session. session) result (opened source pairs) }
     {
-        let source = read_source(alloc, source)?;
-        let pairs = read_pairs(alloc, pairs)?;
-        let _bodies = checked_bodies(alloc, &source)?;
-        Ok(Session { source, pairs })
+        let glyphs = measured_source(alloc, &source, &mut Meter::new())?;
+        Ok(Session {
+            alloc,
+            source,
+            pairs,
+            glyphs,
+            batch: None,
+        })
     }
 
-    /// Performs a command. Where memory runs out the session is as before.
+    /// Whether a batch is open.
+    pub fn in_batch(&self) -> bool
+        ensures { result ≡ is_some self.now.batch }
+    {
+        self.batch.is_some()
+    }
+
+    /// Takes an edit, or refuses it. Outside a batch the first edit rule that it breaks refuses it, else the first fault of
+    /// the edited source; in a batch the edit rules alone. A refusal drops the edit and changes nothing.
+    pub fn apply(&mut self, edit: Edit) -> Result<(), Cause>
+        ensures { Takes self.old (commands.Edit edit) result self.new }
+    {
+        self.take(&edit)
+    }
+
+    /// Does what `apply` does, and hands the edit back with a refusal.
+    pub fn try_apply(&mut self, edit: Edit) -> Result<(), (Cause, Edit)>
+        ensures { TakesOrReturns self.old (commands.Edit edit) edit result self.new }
+    {
+        match self.take(&edit) {
+            Ok(()) => Ok(()),
+            Err(cause) => Err((cause, edit)),
+        }
+    }
+
+    /// Opens a batch; E11 where one is open.
     #[tactic(auto, unfolding(crate::specs::Machine::perform))]
-    pub fn perform(&mut self, alloc: Global, command: Command) -> Result<Answer, AllocError>
-        ensures answer { IfOk result (λ answer. answer ≡ (perform self.old command).answer) }
-        ensures next { OnOk result (self.new ≡ (perform self.old command).next) }
-        ensures want { OnErr result (may_want_memory command ≡ true) }
-        ensures err { OnErr result (self.new ≡ self.old) }
+    pub fn begin(&mut self) -> Result<(), Cause>
+        ensures { Takes self.old commands.Begin result self.new }
     {
-        match command {
-            Command::Edit(edit) => self.edit(alloc, &edit),
-            Command::Print(print) => self.print(alloc, print),
-            Command::Broken(rule) => Ok(Answer::Broken(rule)),
+        if self.batch.is_some() {
+            return Err(Cause::Rule(Rule::E11));
+        }
+        let source = self.source.copied()?;
+        let pairs = self.pairs.copied()?;
+        self.batch = Some(Batch { source, pairs });
+        Ok(())
+    }
+
+    /// Closes the batch, and takes its source and its pairs unless the source has a fault; E12 where none is open. A
+    /// refusal, also for want of memory, leaves the session as before the batch.
+    #[tactic(auto, unfolding(crate::specs::Machine::perform))]
+    pub fn commit(&mut self) -> Result<(), Cause>
+        ensures { Takes self.old commands.Commit result self.new }
+    {
+        match self.batch.take() {
+            Some(batch) => self.accept(batch.source, batch.pairs),
+            None => Err(Cause::Rule(Rule::E12)),
         }
     }
 
-    /// Takes an edit, or refuses it and stays as it is.
-    fn edit(&mut self, alloc: Global, edit: &Edit) -> Result<Answer, AllocError>
-        ensures answer { IfOk result (λ answer. answer ≡ (judged self.old (edited self.old.source self.old.pairs edit.now)).answer) }
-        ensures next { OnOk result (self.new ≡ (judged self.old (edited self.old.source self.old.pairs edit.now)).next) }
-        ensures err { OnErr result (self.new ≡ self.old) }
+    /// Closes the batch and drops its edits; E12 where none is open. It takes no memory.
+    #[tactic(auto, unfolding(crate::specs::Machine::perform))]
+    pub fn abort(&mut self) -> Result<(), Cause>
+        ensures { Takes self.old commands.Abort result self.new }
     {
-        match self.source.edited(&self.pairs, edit) {
-            Ok((source, pairs)) => self.take(alloc, source, pairs),
-            Err(Cause::Rule(rule)) => Ok(Answer::Broken(rule)),
-            Err(Cause::Fault(fault)) => Ok(Answer::Faulty(fault)),
-            Err(Cause::Memory) => Err(AllocError),
+        match self.batch.take() {
+            Some(_) => Ok(()),
+            None => Err(Cause::Rule(Rule::E12)),
         }
     }
 
-    /// Takes an edited source with its pairs, unless the source has a fault.
-    fn take(&mut self, alloc: Global, source: Source, pairs: Pairs) -> Result<Answer, AllocError>
-        ensures answer { IfOk result (λ answer. answer ≡ (judged_file self.old (record { source = source; pairs = pairs }) (file_check source)).answer) }
-        ensures next { OnOk result (self.new ≡ (judged_file self.old (record { source = source; pairs = pairs }) (file_check source)).next) }
-        ensures err { OnErr result (self.new ≡ self.old) }
+    /// Takes an edit, or refuses it.
+    #[tactic(auto, unfolding(crate::specs::Machine::perform))]
+    fn take(&mut self, edit: &Edit) -> Result<(), Cause>
+        ensures { Takes self.old (commands.Edit edit.now) result self.new }
     {
-        match checked_bodies(alloc, &source) {
-            Ok(_bodies) => {
+        if self.batch.is_some() {
+            return self.draft(edit);
+        }
+        let (source, pairs) = self.source.edited(&self.pairs, edit)?;
+        self.accept(source, pairs)
+    }
+
+    /// Takes a source without a fault and its pairs in the place of its own.
+    fn accept(&mut self, source: Source, pairs: Pairs) -> Result<(), Cause>
+        requires { self.old.batch ≡ None }
+        ensures { Took self.old (judged self.old (source, pairs) (source_check source)) true self.old result self.new }
+    {
+        match measured_source(self.alloc, &source, &mut Meter::new()) {
+            Ok(glyphs) => {
                 self.source = source;
                 self.pairs = pairs;
-                Ok(Answer::Accepted)
+                self.glyphs = glyphs;
+                Ok(())
             }
-            Err(Refusal::Fault(fault)) => Ok(Answer::Faulty(fault)),
-            Err(Refusal::Memory) => Err(AllocError),
+            Err(Refusal::Fault(fault)) => Err(Cause::Fault(fault)),
+            Err(Refusal::Memory) => Err(Cause::Memory),
         }
     }
 
-    /// Answers a print. The whole text is there before any of it is written.
-    fn print(&self, alloc: Global, print: Print) -> Result<Answer, AllocError>
-        ensures { IfOk result (λ answer. answer ≡ printed self.now print) }
+    /// Takes an edit into the open batch.
+    fn draft(&mut self, edit: &Edit) -> Result<(), Cause>
+        requires { is_some self.old.batch ≡ true }
+        ensures { Took self.old (edit_in self.old.batch self.old (λ source pairs. edited source pairs edit.now)) true self.old result self.new }
     {
+        let Some(batch) = &self.batch else {
+            unreachable!()
+        };
+        let (source, pairs) = batch.source.edited(&batch.pairs, edit)?;
+        self.batch = Some(Batch { source, pairs });
+        Ok(())
+    }
+
+    /// The metrics of the glyphs, of a session whose texts read back as what it holds.
+    fn known(&self) -> &MeasuredGlyphs
+        ensures measured { measured_source self.now.source ≡ Ok result.now }
+        ensures source { reads (text self.now.source) ≡ Ok self.now.source }
+        ensures pairs { pairs (kern self.now.pairs) ≡ Ok self.now.pairs }
+    {
+        text_of_source_read(&self.source);
+        text_of_pairs_read(&self.pairs);
+        &self.glyphs
+    }
+
+    /// Writes the PFB file: that of the printed source and pairs from scratch.
+    pub fn print_pfb<W: Write>(&self, out: &mut Counted<W>) -> Result<(), OutError>
+        ensures { Prints W.contents out.old out.new (pfb_from_scratch self.now) result }
+    {
+        let _glyphs = self.known();
+        write_source_pfb(self.alloc, &self.source, out)
+    }
+
+    /// Writes the AFM file: that of the printed source and pairs from scratch.
+    pub fn print_afm<W: Write>(&self, out: &mut Counted<W>) -> Result<(), OutError>
+        ensures { Prints W.contents out.old out.new (metrics_from_scratch self.now) result }
+    {
+        let glyphs = self.known();
+        write_source_afm(self.alloc, &self.source, &self.pairs, glyphs, out)
+    }
+
+    /// Writes the usage table: that of the printed source from scratch.
+    pub fn print_uses<W: Write>(&self, out: &mut Counted<W>) -> Result<(), OutError>
+        ensures { Prints W.contents out.old out.new (uses_from_scratch self.now) result }
+    {
+        let glyphs = self.known();
+        let text = usage_text(self.alloc, glyphs.metrics())?;
+        put_text(&text, out)
+    }
+
+    /// Writes the source in its printed form.
+    pub fn print_source<W: Write>(&self, out: &mut Counted<W>) -> Result<(), OutError>
+        ensures { Prints W.contents out.old out.new (Ok (text self.now.source)) result }
+    {
+        let text = self.source.text()?;
+        put_text(&text, out)
+    }
+
+    /// Writes the pairs in their printed form.
+    pub fn print_kern<W: Write>(&self, out: &mut Counted<W>) -> Result<(), OutError>
+        ensures { Prints W.contents out.old out.new (Ok (kern self.now.pairs)) result }
+    {
+        let text = self.pairs.text()?;
+        put_text(&text, out)
+    }
+
+    /// The text that a print shows.
+    fn shown(&self, print: Print) -> Result<Vec<u8>, AllocError>
+        ensures { IfOk result (λ shown. Data shown.items ≡ printed self.now print) }
+    {
+        let glyphs = self.known();
         match print {
-            Print::Source => Ok(Answer::Data(Bytes::new(self.source.text()?))),
-            Print::Kern => Ok(Answer::Data(Bytes::new(self.pairs.text()?))),
-            Print::Pfb => file_answer(alloc, &self.source),
+            Print::Source => self.source.text(),
+            Print::Kern => self.pairs.text(),
+            Print::Pfb => pfb_file_of(self.alloc, &self.source),
+            Print::Afm => afm_file_of(self.alloc, &self.source, &self.pairs, glyphs),
+            Print::Uses => usage_text(self.alloc, glyphs.metrics()),
+        }
+    }
+
+    /// Performs a command. Where memory runs out the session is as before, but for the batch of a commit.
+    pub(crate) fn perform(&mut self, command: Command) -> Result<Answer, AllocError>
+        ensures answer { IfOk result (λ answer. answer ≡ (perform self.old command).answer) }
+        ensures next { OnOk result (self.new ≡ (perform self.old command).next) }
+        ensures want { OnErr result (may_want_memory self.old command ≡ true) }
+        ensures err { OnErr result (self.new ≡ after_want self.old command) }
+    {
+        match command {
+            Command::Edit(edit) => answer_of(self.take(&edit)),
+            Command::Begin => answer_of(self.begin()),
+            Command::Commit => answer_of(self.commit()),
+            Command::Abort => answer_of(self.abort()),
+            Command::Print(print) => Ok(Answer::Data(Bytes::new(self.shown(print)?))),
+            Command::Broken(rule) => Ok(Answer::Broken(rule)),
         }
     }
 }

@@ -1,0 +1,26 @@
+-- What a call that performs a command answers, and what it leaves.
+use Rattle.std.specs.Prelude.{◌≡◌, Bool, true, Result, Ok, Err}
+use Rattle.t1_source.specs.declared.edit.Cause.{Cause}
+use Rattle.t1_source.specs.declared.edit.Cause.TheVariants as causes
+use Rattle.t1_session.specs.declared.answer.Answer.TheVariants.{Accepted, Broken, Faulty}
+use Rattle.t1_session.specs.declared.command.Command.{Command}
+use Rattle.t1_session.specs.Answers.{Performed}
+use Rattle.t1_session.specs.Machine.{perform, may_want_memory, after_want}
+use Rattle.t1_session.specs.State.{State}
+
+-- profile: what was to be performed was accepted; or refused, by a rule, which changes nothing, or by a fault; or memory
+-- ran out, where it may, and left this state
+abbrev pub Took : {T : Type 0} → State → Performed State → Bool → State → Result T Cause → State → Type 0
+Took old p may_want want (Ok done) new = (p.answer ≡ Accepted) × (new ≡ p.next)
+Took old p may_want want (Err (causes.Rule rule)) new = (p.answer ≡ Broken rule) × (p.next ≡ old) × (new ≡ old)
+Took old p may_want want (Err (causes.Fault fault)) new = (p.answer ≡ Faulty fault) × (new ≡ p.next)
+Took old p may_want want (Err causes.Memory) new = (may_want ≡ true) × (new ≡ want)
+
+-- profile: a command was performed
+abbrev pub Takes : {T : Type 0} → State → Command → Result T Cause → State → Type 0
+Takes old c result new = Took old (perform old c) (may_want_memory old c) (after_want old c) result new
+
+-- the same, of a call that hands what it took back with each refusal
+abbrev pub TakesOrReturns : {T E : Type 0} → State → Command → E → Result T (Cause × E) → State → Type 0
+TakesOrReturns {T} old c given (Ok done) new = Takes {T = T} old c (Ok done) new
+TakesOrReturns {T} old c given (Err refused) new = Takes {T = T} old c (Err refused.0) new × (refused.1 ≡ given)
