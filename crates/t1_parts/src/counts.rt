@@ -1,10 +1,9 @@
 //! The counts on section lines.
 
-ghost use Rattle.std.specs.Prelude.{◌≡◌, IfOk};
+ghost use Rattle.std.specs.Prelude.{◌≡◌};
 ghost use Rattle.t1_parts.specs.Counts.{subrs_needed, glyphs_needed, raised, raised_item};
 
 use crate::item::Item;
-use std::alloc::{AllocError, Global};
 use t1_text::last_is;
 
 /// The highest Subr number plus one.
@@ -37,32 +36,27 @@ fn glyphs_needed(items: &[Item]) -> u64
     needed
 }
 
-/// A section line with its count raised to what is needed.
-fn raised_item(subrs: u64, glyphs: u64, item: Item) -> Item
-    ensures { result ≡ raised_item subrs glyphs item }
+/// Raises the count of a section line to what is needed.
+fn raise_item(item: &mut Item, subrs: u64, glyphs: u64)
+    ensures { item.new ≡ raised_item subrs glyphs item.old }
 {
-    match item {
-        Item::Section(before, count, after) => {
-            let needed = if last_is(b"/CharStrings", before.as_slice()) {
-                glyphs
-            } else {
-                subrs
-            };
-            Item::Section(before, count.max(needed), after)
-        }
-        other => other,
+    if let Item::Section(before, count, _after) = item {
+        let needed = if last_is(b"/CharStrings", before.as_slice()) {
+            glyphs
+        } else {
+            subrs
+        };
+        *count = (*count).max(needed);
     }
 }
 
-/// The items with the counts of their section lines raised to what is needed.
-pub fn raised(alloc: Global, items: Vec<Item>) -> Result<Vec<Item>, AllocError>
-    ensures { IfOk result (λ raised_items. raised_items.items ≡ raised items.items) }
+/// Raises the counts of the section lines to what is needed, in their places.
+pub fn raise(items: &mut Vec<Item>)
+    ensures { items.new.items ≡ raised items.old.items }
 {
-    let subrs = subrs_needed(&items);
-    let glyphs = glyphs_needed(&items);
-    let mut found = Vec::new(alloc);
-    for item in items {
-        found.push(raised_item(subrs, glyphs, item))?;
+    let subrs = subrs_needed(items);
+    let glyphs = glyphs_needed(items);
+    for item in items.iter_mut() {
+        raise_item(item, subrs, glyphs);
     }
-    Ok(found)
 }

@@ -1,3 +1,4 @@
+pub mod ChangeLaws
 pub mod CodeLaws
 pub mod CountedLaws
 pub mod EditedCountLaws
@@ -12,6 +13,7 @@ pub mod PairsWellFormedLaws
 pub mod PrintedLaws
 pub mod PrintingRows
 pub mod PutLaws
+pub mod SearchLaws
 pub mod SectionLineLaws
 pub mod SlotLaws
 pub mod SourceAgainLaws

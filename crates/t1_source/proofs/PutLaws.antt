@@ -24,10 +24,10 @@ right_total = record {
   congr = λ p q r. nat_list_cmp_total.congr p.right q.right r.right;
 }
 
-pair_total : IsTotalOrder pair_cmp
+pub pair_total : IsTotalOrder pair_cmp
 pair_total = then_total left_total right_total
 
-less : (o : Ordering) → is_lt o ≡ true → o ≡ Less
+pub less : (o : Ordering) → is_lt o ≡ true → o ≡ Less
 less Less h = refl
 less Equal h = cc
 less Greater h = cc

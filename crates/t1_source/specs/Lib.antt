@@ -1,3 +1,4 @@
+pub mod Changes
 pub mod Codes
 pub mod Editing
 pub mod Kerning

@@ -6,14 +6,12 @@
 mod codes;
 mod edit;
 mod editing;
-mod kerning;
 pub mod laws;
 mod pairs;
-mod rules;
-mod slots;
 mod source;
 
 pub use edit::{Cause, Edit, Rule};
+pub use editing::Change;
 pub use pairs::{Pair, Pairs, read_pairs};
 pub use source::{Source, read_source};
 pub use t1_parts::Item;

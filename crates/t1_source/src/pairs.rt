@@ -52,8 +52,8 @@ impl Model for Sorted {
     ghost view = { λ s. pairs_of_entries s.values.entries };
 }
 
-ghost use Rattle.std.specs.Prelude.{◌≡◌, ◌∷◌, ◌+◌, ◌<◌, ◌^◌, [], ◌++◌, IfOk, OnOk, length, option_to_list, true, None, MatchOption};
-ghost use Rattle.std.specs.List.{list_any};
+ghost use Rattle.std.specs.Prelude.{◌≡◌, ◌∷◌, ◌+◌, ◌<◌, ◌≤◌, ◌^◌, [], ◌++◌, IfOk, OnOk, OnErr, length, slice_set, option_to_list, true, None, MatchOption};
+ghost use Rattle.std.specs.List.{insert, list_any, remove};
 ghost use Rattle.t1_frac.specs.declared.fault.Place.TheVariants as places;
 ghost use Rattle.t1_frac.specs.Outcome.{Gives, told_at};
 ghost use Rattle.t1_frac.specs.Words.{words};
@@ -245,16 +245,13 @@ impl Pair {
     pub fn copied(&self, alloc: Global) -> Result<Pair, AllocError>
         ensures { IfOk result (λ copy. copy ≡ self.now) }
     {
-        self.with_value(alloc, self.value)
-    }
-
-    /// A copy with another value.
-    pub(crate) fn with_value(&self, alloc: Global, value: i32) -> Result<Pair, AllocError>
-        ensures { IfOk result (λ made. made ≡ record { left = self.now.left; right = self.now.right; value = value }) }
-    {
         let left = Bytes::copied(alloc, self.left.as_slice())?;
         let right = Bytes::copied(alloc, self.right.as_slice())?;
-        Ok(Pair { left, right, value })
+        Ok(Pair {
+            left,
+            right,
+            value: self.value,
+        })
     }
 }
 
@@ -279,19 +276,39 @@ impl Pairs {
     pub fn copied(&self) -> Result<Pairs, AllocError>
         ensures { IfOk result (λ copy. copy ≡ self.now) }
     {
-        let pairs = copied_pairs(self.alloc, self.list())?;
-        Ok(self.with_list(pairs))
+        Ok(Pairs {
+            alloc: self.alloc,
+            pairs: copied_pairs(self.alloc, self.list())?,
+        })
     }
 
-    /// Other pairs, with the same allocator.
-    pub(crate) fn with_list(&self, pairs: Vec<Pair>) -> Pairs
-        requires { are_pairs pairs.items ≡ true }
-        ensures { result ≡ pairs.items }
+    /// Puts a pair in the place of another.
+    pub(crate) fn put(&mut self, at: usize, pair: Pair)
+        requires within { at < length self.old }
+        requires made { are_pairs (slice_set self.old at pair) ≡ true }
+        ensures { self.new ≡ slice_set self.old at pair }
     {
-        Pairs {
-            alloc: self.alloc,
-            pairs,
-        }
+        self.pairs[at] = pair;
+    }
+
+    /// Puts a new pair in. Where memory runs out, nothing has changed.
+    pub(crate) fn insert(&mut self, at: usize, pair: Pair) -> Result<(), AllocError>
+        requires within { at ≤ length self.old }
+        requires made { are_pairs (insert self.old at pair) ≡ true }
+        ensures ok { OnOk result (self.new ≡ insert self.old at pair) }
+        ensures err { OnErr result (self.new ≡ self.old) }
+    {
+        self.pairs.insert(at, pair)?;
+        Ok(())
+    }
+
+    /// Takes a pair out.
+    pub(crate) fn remove(&mut self, at: usize)
+        requires within { at < length self.old }
+        requires made { are_pairs (remove self.old at) ≡ true }
+        ensures { self.new ≡ remove self.old at }
+    {
+        let _pair = self.pairs.remove(at);
     }
 
     /// The pairs in printed order.

@@ -1,17 +1,13 @@
 //! A source that was read.
 
 use crate::codes::{array_code, array_names, standard_code, standard_names};
-use crate::edit::{Cause, Edit};
-use crate::editing::{
-    added_glyph, added_subr, removed_glyph, removed_subr, replaced_glyph, replaced_subr,
-};
-use crate::kerning::{kerned, unkerned};
-use t1_parts::{Gathered, Item, check_clear, check_lead, copied_items, has_standard, header_of, lead_of, operator_of, parts_of, private_items, push_items, push_lines, raised, tail_of};
-use crate::pairs::Pairs;
-use crate::slots::{encoded, unencoded};
 use std::alloc::{AllocError, Global};
 use std::marker::Model;
 use t1_frac::{Bytes, Code, Refusal};
+use t1_parts::{
+    Gathered, Item, check_clear, check_lead, copied_items, has_standard, header_of, lead_of,
+    operator_of, parts_of, private_items, push_items, push_lines, raise, tail_of,
+};
 use t1_text::{Line, copied_bytes, copied_lines, cut_lines, same};
 
 /// The readable source of a font: its clear lines, the items of its private part and its tail.
@@ -35,24 +31,8 @@ impl Model for Source {
     ghost invariant = { λ source. IsWellFormed (record { clear = source.clear.items; items = source.items.items; tail = source.tail.items }) };
 }
 
-/// What an edit makes of a source.
-#[derive(Debug, Drop)]
-pub struct Draft {
-    clear: Vec<Bytes>,
-    items: Vec<Item>,
-    tail: Vec<Bytes>,
-}
-
-impl Model for Draft {
-    ghost use Rattle.t1_parts.specs.SourceParts.{SourceParts};
-
-    ghost Value = { SourceParts };
-
-    ghost view = { λ draft. record { clear = draft.clear.items; items = draft.items.items; tail = draft.tail.items } };
-}
-
-ghost use Rattle.std.specs.Prelude.{◌≡◌, ◌<◌, ℕ, IfOk, option_map, true};
-ghost use Rattle.std.specs.List.{list_all};
+ghost use Rattle.std.specs.Prelude.{◌≡◌, ◌<◌, ◌≤◌, ℕ, [], length, slice_set, slice_index_or, IfOk, OnOk, OnErr, option_map, true};
+ghost use Rattle.std.specs.List.{insert, list_all, remove};
 ghost use Rattle.t1_frac.specs.Outcome.{Gives};
 ghost use Rattle.t1_text.specs.Lines.{is_line};
 ghost use Rattle.t1_parts.specs.Reading.{whole_check, reads_lines, reads, standard};
@@ -62,7 +42,9 @@ ghost use Rattle.t1_parts.specs.Operator.{operator};
 ghost use Rattle.t1_parts.specs.Header.{header};
 ghost use Rattle.t1_source.specs.Codes.{code_of, name_at, name_of_code};
 ghost use Rattle.t1_parts.specs.Printing.{text};
-ghost use Rattle.t1_source.specs.Editing.{Edits, edited, with_items, with_clear};
+ghost use Rattle.t1_source.specs.Changes.{IsInPlaceOf};
+ghost use Rattle.t1_source.specs.Editing.{with_items, with_clear};
+ghost use Rattle.t1_parts.specs.declared.item.Item.TheVariants as variants;
 
 /// Judges the items of a private part as a whole.
 #[tactic(auto, unfolding(t1_parts::specs::Reading::whole_check))]
@@ -87,7 +69,8 @@ fn read_lines(alloc: Global, lines: &[Line]) -> Result<Source, Refusal>
     check_clear(&clear)?;
     let items = private_items(alloc, parts.clear.len() as u64 + 1, parts.private)?;
     check_whole(&items)?;
-    let items = raised(alloc, items.into_items(alloc)?)?;
+    let mut items = items.into_items(alloc)?;
+    raise(&mut items);
     let tail = tail_of(alloc, parts.tail)?;
     Ok(Source {
         alloc,
@@ -108,6 +91,22 @@ pub fn read_source(alloc: Global, bytes: &[u8]) -> Result<Source, Refusal>
     read_lines(alloc, &lines)
 }
 
+/// Puts an item in the place of another.
+fn put(items: &mut Vec<Item>, at: usize, item: Item)
+    requires { at < length items.old.items }
+    ensures { items.new.items ≡ slice_set items.old.items at item }
+{
+    items[at] = item;
+}
+
+/// Takes an item out.
+fn take_out(items: &mut Vec<Item>, at: usize)
+    requires { at < length items.old.items }
+    ensures { items.new.items ≡ remove items.old.items at }
+{
+    let _item = items.remove(at);
+}
+
 impl Source {
     /// The allocator of the call that made it.
     pub(crate) fn alloc(&self) -> Global {
@@ -124,42 +123,6 @@ impl Source {
             items: copied_items(self.alloc, self.items.as_slice())?,
             tail: copied_bytes(self.alloc, self.tail.as_slice())?,
         })
-    }
-
-    /// The source with these items, and with its counts raised to what they need.
-    pub(crate) fn with_items(&self, items: Vec<Item>) -> Result<Draft, AllocError>
-        ensures { IfOk result (λ made. made ≡ with_items self.now items.items) }
-    {
-        Ok(Draft {
-            clear: copied_bytes(self.alloc, self.clear.as_slice())?,
-            items: raised(self.alloc, items)?,
-            tail: copied_bytes(self.alloc, self.tail.as_slice())?,
-        })
-    }
-
-    /// The source with these clear lines.
-    pub(crate) fn with_clear(&self, clear: Vec<Bytes>) -> Result<Draft, AllocError>
-        ensures { IfOk result (λ made. made ≡ with_clear self.now clear.items) }
-    {
-        Ok(Draft {
-            clear,
-            items: copied_items(self.alloc, self.items.as_slice())?,
-            tail: copied_bytes(self.alloc, self.tail.as_slice())?,
-        })
-    }
-
-    /// The source that a draft is.
-    fn with_draft(&self, draft: Draft) -> Source
-        requires { IsWellFormed draft }
-        ensures { result ≡ draft }
-    {
-        let Draft { clear, items, tail } = draft;
-        Source {
-            alloc: self.alloc,
-            clear,
-            items,
-            tail,
-        }
     }
 
     /// The items, of a source that was read or edited.
@@ -254,38 +217,44 @@ impl Source {
         has_standard(self.clear.as_slice())
     }
 
-    /// The source and the pairs after an edit, or the first rule that it breaks. Nothing handed in is changed.
-    #[tactic(auto, unfolding(crate::specs::Editing::edited))]
-    pub fn edited(&self, pairs: &Pairs, edit: &Edit) -> Result<(Source, Pairs), Cause>
-        ensures { Edits (λ made. made) result (edited self.now pairs.now edit.now) }
+    /// Puts an item in the place of one of its kind and key.
+    pub(crate) fn put_item(&mut self, at: usize, item: Item)
+        requires within { at < length self.old.items }
+        requires kind { IsInPlaceOf (slice_index_or self.old.items at (variants.Plain [])) item }
+        requires made { IsWellFormed (with_items self.old (slice_set self.old.items at item)) }
+        ensures { self.new ≡ with_items self.old (slice_set self.old.items at item) }
     {
         let _items = self.kept_items();
-        let source = match edit {
-            Edit::ReplaceGlyph(name, body) => {
-                self.with_draft(replaced_glyph(self, name.as_slice(), body.as_slice())?)
-            }
-            Edit::AddGlyph(name, body) => {
-                self.with_draft(added_glyph(self, name.as_slice(), body.as_slice())?)
-            }
-            Edit::RemoveGlyph(name) => self.with_draft(removed_glyph(self, name.as_slice())?),
-            Edit::ReplaceSubr(number, body) => {
-                self.with_draft(replaced_subr(self, *number, body.as_slice())?)
-            }
-            Edit::AddSubr(number, body) => {
-                self.with_draft(added_subr(self, *number, body.as_slice())?)
-            }
-            Edit::RemoveSubr(number) => self.with_draft(removed_subr(self, *number)?),
-            Edit::Encode(code, name) => self.with_draft(encoded(self, *code, name.as_slice())?),
-            Edit::Unencode(code) => self.with_draft(unencoded(self, *code)?),
-            Edit::Kern(left, right, value) => {
-                let pairs = kerned(pairs, left.as_slice(), right.as_slice(), *value)?;
-                return Ok((self.copied()?, pairs));
-            }
-            Edit::Unkern(left, right) => {
-                let pairs = unkerned(pairs, left.as_slice(), right.as_slice())?;
-                return Ok((self.copied()?, pairs));
-            }
-        };
-        Ok((source, pairs.copied()?))
+        put(&mut self.items, at, item);
+    }
+
+    /// Puts a new item in and raises the counts. Where memory runs out, nothing has changed.
+    pub(crate) fn insert_item(&mut self, at: usize, item: Item) -> Result<(), AllocError>
+        requires within { at ≤ length self.old.items }
+        requires made { IsWellFormed (with_items self.old (insert self.old.items at item)) }
+        ensures ok { OnOk result (self.new ≡ with_items self.old (insert self.old.items at item)) }
+        ensures err { OnErr result (self.new ≡ self.old) }
+    {
+        self.items.insert(at, item)?;
+        raise(&mut self.items);
+        Ok(())
+    }
+
+    /// Takes an item out.
+    pub(crate) fn remove_item(&mut self, at: usize)
+        requires within { at < length self.old.items }
+        requires made { IsWellFormed (with_items self.old (remove self.old.items at)) }
+        ensures { self.new ≡ with_items self.old (remove self.old.items at) }
+    {
+        let _items = self.kept_items();
+        take_out(&mut self.items, at);
+    }
+
+    /// Puts other lines in the place of the clear part.
+    pub(crate) fn put_clear(&mut self, clear: Vec<Bytes>)
+        requires { IsWellFormed (with_clear self.old clear.items) }
+        ensures { self.new ≡ with_clear self.old clear.items }
+    {
+        self.clear = clear;
     }
 }

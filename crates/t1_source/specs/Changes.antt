@@ -1,0 +1,54 @@
+-- What edits change of a source and its pairs.
+use Rattle.std.specs.Prelude.{◌≡◌, ◌<◌, ◌≤◌, Bool, true, false, List, [], length}
+use Rattle.std.specs.List.{insert, remove, slice_set, slice_index_or}
+use Rattle.t1_parts.specs.declared.item.Item.{Item}
+use Rattle.t1_parts.specs.declared.item.Item.TheVariants.{Plain, Section, Subr, Glyph}
+use Rattle.t1_parts.specs.SourceParts.{SourceParts}
+use Rattle.t1_source.specs.declared.editing.change.Change.{Change}
+use Rattle.t1_source.specs.declared.editing.change.Change.TheVariants.{PutItem, InsertItem, RemoveItem, PutClear, PutPair, InsertPair, RemovePair}
+use Rattle.t1_source.specs.declared.pairs.Pair.{Pair}
+use Rattle.t1_source.specs.Editing.{with_items, with_clear}
+use Rattle.t1_source.specs.Kerning.{are_pairs}
+use Rattle.t1_source.specs.WellFormed.{IsWellFormed}
+
+-- the source and the pairs after a change
+abbrev pub changed : Change → SourceParts → List Pair → SourceParts × List Pair
+changed (PutItem at item) s k = (with_items s (slice_set s.items at item), k)
+changed (InsertItem at item) s k = (with_items s (insert s.items at item), k)
+changed (RemoveItem at) s k = (with_items s (remove s.items at), k)
+changed (PutClear lines) s k = (with_clear s lines.items, k)
+changed (PutPair at pair) s k = (s, slice_set k at pair)
+changed (InsertPair at pair) s k = (s, insert k at pair)
+changed (RemovePair at) s k = (s, remove k at)
+
+-- both are the Subr of one number, or the glyph of one name
+abbrev pub IsInPlaceOf : Item → Item → Type 0
+IsInPlaceOf (Subr m ws c) (Subr n vs d) = m ≡ n
+IsInPlaceOf (Glyph g ws c) (Glyph h vs d) = g ≡ h
+IsInPlaceOf _ _ = ⊥
+
+-- the place is one of the source or of the pairs, and an entry comes in the place of one of its kind and key
+abbrev pub Fits : Change → SourceParts → List Pair → Type 0
+Fits (PutItem at item) s k = (at < length s.items) × IsInPlaceOf (slice_index_or s.items at (Plain [])) item
+Fits (InsertItem at item) s k = at ≤ length s.items
+Fits (RemoveItem at) s k = at < length s.items
+Fits (PutClear lines) s k = Unit {0}
+Fits (PutPair at pair) s k = at < length k
+Fits (InsertPair at pair) s k = at ≤ length k
+Fits (RemovePair at) s k = at < length k
+
+-- the change can be made of this source and these pairs, and leaves what is true of all that were read or edited
+pub record Serves (change : Change) (s : SourceParts) (k : List Pair) : Type 0 where
+  pub fits : Fits change s k
+  pub source : IsWellFormed (changed change s k).0
+  pub pairs : are_pairs (changed change s k).1 ≡ true
+
+-- whether the change takes room: where an item or a pair is put in
+abbrev pub takes_room : Change → Bool
+takes_room (InsertItem at item) = true
+takes_room (InsertPair at pair) = true
+takes_room (PutItem at item) = false
+takes_room (RemoveItem at) = false
+takes_room (PutClear lines) = false
+takes_room (PutPair at pair) = false
+takes_room (RemovePair at) = false

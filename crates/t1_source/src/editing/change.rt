@@ -1,0 +1,24 @@
+//! What an edit changes, made before anything is changed.
+
+use crate::pairs::Pair;
+use t1_frac::Bytes;
+use t1_parts::Item;
+
+/// What an edit changes of a source or of its pairs.
+#[derive(Debug, Drop)]
+pub enum Change {
+    /// The item at a place is replaced by one of its kind and key.
+    PutItem(usize, Item),
+    /// A new item comes to stand at a place, and the counts are raised.
+    InsertItem(usize, Item),
+    /// The item at a place is taken out.
+    RemoveItem(usize),
+    /// The clear part gets other lines.
+    PutClear(Vec<Bytes>),
+    /// The pair at a place is replaced by one of its names.
+    PutPair(usize, Pair),
+    /// A new pair comes to stand at a place.
+    InsertPair(usize, Pair),
+    /// The pair at a place is taken out.
+    RemovePair(usize),
+}

@@ -1,0 +1,25 @@
+//! The closing texts of entries.
+
+ghost use Rattle.std.specs.Prelude.{◌≡◌, ◌<◌, length};
+ghost use Rattle.t1_source.specs.Editing.{closing_of, closing_at};
+
+use t1_parts::Item;
+
+/// The closing text of an entry.
+pub fn closing_of(item: &Item) -> &[u8]
+    ensures { result.now ≡ closing_of item.now }
+{
+    match item {
+        Item::Subr(_, _, closing) => closing.as_slice(),
+        Item::Glyph(_, _, closing) => closing.as_slice(),
+        _ => b"",
+    }
+}
+
+/// The closing text of the item at a place.
+pub fn closing_at(at: usize, items: &[Item]) -> &[u8]
+    requires { at < length items.now }
+    ensures { result.now ≡ closing_at at items.now }
+{
+    closing_of(&items[at])
+}

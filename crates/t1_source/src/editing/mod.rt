@@ -1,0 +1,94 @@
+//! Edits of a source and its pairs, in two steps: what an edit changes is made first, then it is put in place.
+
+mod change;
+mod entries;
+mod glyphs;
+mod kerning;
+mod rules;
+mod slots;
+mod subrs;
+
+pub use change::Change;
+
+ghost use Rattle.std.specs.Prelude.{◌≡◌, IfOk, IsOk, OnOk, OnErr, false};
+ghost use Rattle.t1_source.specs.Changes.{changed, Fits, Serves, takes_room};
+ghost use Rattle.t1_source.specs.Editing.{Edits, edited};
+
+use crate::edit::{Cause, Edit};
+use crate::editing::glyphs::{adding_glyph, removing_glyph, replacing_glyph};
+use crate::editing::kerning::{kerning_pair, unkerning_pair};
+use crate::editing::slots::{encoding_code, unencoding_code};
+use crate::editing::subrs::{adding_subr, removing_subr, replacing_subr};
+use crate::pairs::Pairs;
+use crate::source::Source;
+use std::alloc::AllocError;
+
+impl Source {
+    /// What an edit changes, or the first rule that it breaks.
+    #[tactic(auto, unfolding(crate::specs::Editing::edited))]
+    fn found_change(&self, pairs: &Pairs, edit: &Edit) -> Result<Change, Cause>
+        ensures change { Edits (λ change. changed change self.now pairs.now) result (edited self.now pairs.now edit.now) }
+        ensures fits { IfOk result (λ change. Fits change self.now pairs.now) }
+    {
+        match edit {
+            Edit::ReplaceGlyph(name, body) => {
+                replacing_glyph(self, name.as_slice(), body.as_slice())
+            }
+            Edit::AddGlyph(name, body) => adding_glyph(self, name.as_slice(), body.as_slice()),
+            Edit::RemoveGlyph(name) => removing_glyph(self, name.as_slice()),
+            Edit::ReplaceSubr(number, body) => replacing_subr(self, *number, body.as_slice()),
+            Edit::AddSubr(number, body) => adding_subr(self, *number, body.as_slice()),
+            Edit::RemoveSubr(number) => removing_subr(self, *number),
+            Edit::Encode(code, name) => encoding_code(self, *code, name.as_slice()),
+            Edit::Unencode(code) => unencoding_code(self, *code),
+            Edit::Kern(left, right, value) => {
+                kerning_pair(pairs, left.as_slice(), right.as_slice(), *value)
+            }
+            Edit::Unkern(left, right) => unkerning_pair(pairs, left.as_slice(), right.as_slice()),
+        }
+    }
+
+    /// What an edit changes, or the first rule that it breaks. Nothing is changed, and nothing that stays is copied but
+    /// the clear part, where the encoding is edited.
+    pub fn prepared(&self, pairs: &Pairs, edit: &Edit) -> Result<Change, Cause>
+        ensures change { Edits (λ change. changed change self.now pairs.now) result (edited self.now pairs.now edit.now) }
+        ensures serves { IfOk result (λ change. Serves change self.now pairs.now) }
+    {
+        let _items = self.kept_items();
+        let _list = pairs.list();
+        let change = self.found_change(pairs, edit)?;
+        Ok(change)
+    }
+
+    /// Makes a change that was prepared for this source and these pairs. Only an item or a pair that is put in takes
+    /// memory: where it runs out, nothing has changed.
+    pub fn commit(&mut self, pairs: &mut Pairs, change: Change) -> Result<(), AllocError>
+        requires { Serves change self.old pairs.old }
+        ensures source { OnOk result (self.new ≡ (changed change self.old pairs.old).0) }
+        ensures pairs { OnOk result (pairs.new ≡ (changed change self.old pairs.old).1) }
+        ensures err { OnErr result ((self.new ≡ self.old) × (pairs.new ≡ pairs.old)) }
+        ensures still { takes_room change ≡ false → IsOk result }
+    {
+        match change {
+            Change::PutItem(at, item) => self.put_item(at, item),
+            Change::InsertItem(at, item) => self.insert_item(at, item)?,
+            Change::RemoveItem(at) => self.remove_item(at),
+            Change::PutClear(lines) => self.put_clear(lines),
+            Change::PutPair(at, pair) => pairs.put(at, pair),
+            Change::InsertPair(at, pair) => pairs.insert(at, pair)?,
+            Change::RemovePair(at) => pairs.remove(at),
+        }
+        Ok(())
+    }
+
+    /// The source and the pairs after an edit, or the first rule that it breaks. Nothing handed in is changed.
+    pub fn edited(&self, pairs: &Pairs, edit: &Edit) -> Result<(Source, Pairs), Cause>
+        ensures { Edits (λ made. made) result (edited self.now pairs.now edit.now) }
+    {
+        let change = self.prepared(pairs, edit)?;
+        let mut source = self.copied()?;
+        let mut pairs = pairs.copied()?;
+        source.commit(&mut pairs, change)?;
+        Ok((source, pairs))
+    }
+}

@@ -1,0 +1,153 @@
+//! Edits of Subrs.
+
+ghost use Rattle.std.specs.Prelude.{◌≡◌, ◌≤◌, ◌<◌, List, length, IfOk, IfSome, codes};
+ghost use Rattle.std.specs.List.{list_any, position};
+ghost use Rattle.t1_parts.specs.Entries.{is_subr};
+ghost use Rattle.t1_parts.specs.Sections.{is_subrs_line};
+ghost use Rattle.t1_source.specs.Changes.{changed, Fits};
+ghost use Rattle.t1_source.specs.Editing.{Edits, added_subr, among_subrs_items, beside_pairs, closing_among, has_section, is_subr_entry, removed_subr, replaced_subr, through_last};
+ghost use Rattle.t1_source.specs.declared.pairs.Pair.{Pair};
+
+use crate::edit::{Cause, Rule};
+use crate::editing::change::Change;
+use crate::editing::entries::{closing_at, closing_of};
+use crate::editing::rules::{body_words, good_body, keeps, number_up_to};
+use crate::source::Source;
+use t1_frac::Bytes;
+use t1_parts::{Item, is_subrs_line};
+
+/// Whether an item is the Subr of this number.
+fn is_subr(number: u16, item: &Item) -> bool
+    ensures { result ≡ is_subr number item.now }
+{
+    match item {
+        Item::Subr(other, _, _) => number == *other,
+        _ => false,
+    }
+}
+
+/// Where the Subr of this number stands.
+fn subr_at(items: &[Item], number: u16) -> Option<usize>
+    ensures value { result ≡ position (is_subr number) items.now }
+    ensures within { IfSome result (λ at. at < length items.now) }
+{
+    items.iter().position(|item| is_subr(number, item))
+}
+
+/// Whether the Subr of this number is there.
+fn has_subr(items: &[Item], number: u16) -> bool
+    ensures { result ≡ list_any (is_subr number) items.now }
+{
+    items.iter().any(|item| is_subr(number, item))
+}
+
+/// Whether an item is a Subr.
+fn is_subr_entry(item: &Item) -> bool
+    ensures { result ≡ is_subr_entry item.now }
+{
+    match item {
+        Item::Subr(_, _, _) => true,
+        _ => false,
+    }
+}
+
+/// The closing text of a new Subr.
+fn subr_closing(items: &[Item]) -> &[u8]
+    ensures { result.now ≡ closing_among is_subr_entry (codes "noaccess put") items.now }
+{
+    let mut rest = items;
+    while let Some((item, after)) = rest.split_first() {
+        if is_subr_entry(item) {
+            return closing_of(item);
+        }
+        rest = after;
+    }
+    b"noaccess put"
+}
+
+/// Whether an item is a Subr or the Subrs line.
+#[tactic(auto, unfolding(crate::specs::Editing::among_subrs_items))]
+fn among_subrs(item: &Item) -> bool
+    ensures { result ≡ among_subrs_items item.now }
+{
+    is_subr_entry(item) || is_subrs_line(item)
+}
+
+/// How many items stand through the last Subr, or the Subrs line.
+#[tactic(auto, using(crate::proofs::LastLaws::last_passes, crate::proofs::LastLaws::last_fails, crate::proofs::LastLaws::none_passes))]
+fn through_subrs(items: &[Item]) -> usize
+    ensures within { result ≤ length items.now }
+    ensures value { result ≡ through_last among_subrs_items items.now }
+{
+    let mut rest = items;
+    while let Some((item, before)) = rest.split_last() {
+        if among_subrs(item) {
+            return rest.len();
+        }
+        rest = before;
+    }
+    0
+}
+
+/// Whether one of the items is the Subrs line.
+fn has_subrs_line(items: &[Item]) -> bool
+    ensures { result ≡ list_any is_subrs_line items.now }
+{
+    items.iter().any(|item| is_subrs_line(item))
+}
+
+/// Whether the font has a Subrs section.
+fn has_section(source: &Source) -> Result<(), Rule>
+    ensures { result ≡ has_section source.now }
+{
+    keeps(Rule::E9, has_subrs_line(source.items()))
+}
+
+/// A Subr with another body.
+#[tactic(auto, unfolding(crate::specs::Editing::replaced_subr))]
+pub fn replacing_subr(source: &Source, number: i64, body: &[u8]) -> Result<Change, Cause>
+    ensures change { (k : List Pair) → Edits (λ change. changed change source.now k) result (beside_pairs k (replaced_subr source.now number body.now)) }
+    ensures fits { (k : List Pair) → IfOk result (λ change. Fits change source.now k) }
+{
+    let number = number_up_to(32000, number)?;
+    good_body(body)?;
+    has_section(source)?;
+    let Some(at) = subr_at(source.items(), number) else {
+        return Err(Cause::Rule(Rule::E1));
+    };
+    let alloc = source.alloc();
+    let words = body_words(alloc, body)?;
+    let closing = Bytes::copied(alloc, closing_at(at, source.items()))?;
+    Ok(Change::PutItem(at, Item::Subr(number, words, closing)))
+}
+
+/// A new Subr.
+#[tactic(auto, unfolding(crate::specs::Editing::added_subr))]
+pub fn adding_subr(source: &Source, number: i64, body: &[u8]) -> Result<Change, Cause>
+    ensures change { (k : List Pair) → Edits (λ change. changed change source.now k) result (beside_pairs k (added_subr source.now number body.now)) }
+    ensures fits { (k : List Pair) → IfOk result (λ change. Fits change source.now k) }
+{
+    let number = number_up_to(32000, number)?;
+    good_body(body)?;
+    has_section(source)?;
+    keeps(Rule::E2, !has_subr(source.items(), number))?;
+    let alloc = source.alloc();
+    let words = body_words(alloc, body)?;
+    let closing = Bytes::copied(alloc, subr_closing(source.items()))?;
+    let subr = Item::Subr(number, words, closing);
+    Ok(Change::InsertItem(through_subrs(source.items()), subr))
+}
+
+/// A Subr taken out.
+#[tactic(auto, unfolding(crate::specs::Editing::removed_subr))]
+pub fn removing_subr(source: &Source, number: i64) -> Result<Change, Cause>
+    ensures change { (k : List Pair) → Edits (λ change. changed change source.now k) result (beside_pairs k (removed_subr source.now number)) }
+    ensures fits { (k : List Pair) → IfOk result (λ change. Fits change source.now k) }
+{
+    let number = number_up_to(32000, number)?;
+    has_section(source)?;
+    let Some(at) = subr_at(source.items(), number) else {
+        return Err(Cause::Rule(Rule::E1));
+    };
+    Ok(Change::RemoveItem(at))
+}
