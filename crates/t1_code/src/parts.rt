@@ -1,7 +1,7 @@
 //! The parts of a PFB file, and the file.
 
 use std::io;
-use t1_frac::Fault;
+use t1_frac::{Code, Fault, Place};
 use thiserror::Error;
 
 /// A piece of the private text.
@@ -52,5 +52,22 @@ impl From<io::Error> for OutError {
 
     fn from(_error: io::Error) -> OutError {
         OutError::Write
+    }
+}
+
+impl From<Code> for OutError {
+    ghost use Rattle.std.specs.Prelude.{◌≡◌};
+    ghost use Rattle.t1_code.specs.declared.parts.OutError.TheVariants.{Fault};
+    ghost use Rattle.t1_frac.specs.Outcome.{fault_at};
+    ghost use Rattle.t1_frac.specs.declared.fault.Place.TheVariants.{Nowhere};
+
+    ghost from_gives = { λ code error. error ≡ Fault (fault_at Nowhere code) };
+
+    /// The fault of a whole file, which has no place.
+    fn from(code: Code) -> OutError {
+        OutError::Fault(Fault {
+            code,
+            place: Place::Nowhere,
+        })
     }
 }
