@@ -1,4 +1,7 @@
+pub mod Carrying
 pub mod Counting
+pub mod Digits
+pub mod Enciphering
 pub mod Encrypting
 pub mod Fitting
 pub mod Framing
@@ -8,4 +11,5 @@ pub mod Places
 pub mod Reading
 pub mod Rows
 pub mod Scanning
+pub mod Segmenting
 pub mod Writing

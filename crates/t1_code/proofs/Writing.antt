@@ -1,10 +1,10 @@
 -- One write after another.
 use Rattle.std.proofs.Common.{◌≡◌, ℕ, ◌≤◌, List, [], ◌++◌, Option, take, drop, refl, sym, ap, ◌∙◌, append_assoc, append-nil, subst, Result, Ok, Err}
-use Rattle.std.specs.Result.{OnErr, OnOk}
+use Rattle.std.specs.Result.{IsErrAnd, MatchResult, OnErr, OnOk}
 use Rattle.std.proofs.lemmas.List.{take-append-drop, take-take}
 use Rattle.std.proofs.KnownBytes.{Appends-trans, Appends-nil}
 use Rattle.std.specs.Io.KnownBytes.{Appends}
-use Rattle.t1_code.specs.Counted.{Tally, WritesAll, WritesFront, Outlet, outlet, Passes, Stops, one_more}
+use Rattle.t1_code.specs.Counted.{Tally, WritesAll, WritesFront, Outlet, outlet, Passes, Stops, Puts, Writes, one_more}
 
 -- The laws of a way to write, with All for a call that wrote all its bytes and Front for one that failed after a beginning of them.
 pub record IsWriting {S : Type 0} (All Front : S → S → List ℕ → Type 0) : Type 0 where
@@ -113,6 +113,14 @@ module _ {S : Type 0} {All Front : S → S → List ℕ → Type 0} (laws : IsWr
   Written-ends_failing (Err e) start old new bytes last p q =
       Written-fails start old new bytes last [] (subst (Written start old bytes) (sym (append-nil last)) p) q
 
+  -- the last part goes out, and its call's result is handed on
+  pub Written-last : {T E : Type 0} (r : Result T E) (start old new : S) (bytes last : List ℕ) → Written start old bytes last
+      → MatchResult r (λ done. All old new last) (λ error. Front old new last) → MatchResult r (λ done. All start new bytes) (λ error. Front start new bytes)
+  Written-last (Ok x) start old new bytes last p q =
+      Written-all start new bytes (Written-step start old new bytes last [] (subst (Written start old bytes) (sym (append-nil last)) p) q)
+  Written-last (Err e) start old new bytes last p q =
+      Written-fails start old new bytes last [] (subst (Written start old bytes) (sym (append-nil last)) p) q
+
 -- one call took a beginning of what it was handed, which was a beginning of the rest
 pub Written-more : {W : Type 0} (contents : W → Option (List ℕ)) (start old new : Tally W) (bytes rest : List ℕ) (handed count : ℕ) → Written (writing contents) start old bytes rest
     → count ≤ handed → Appends (contents old.inner) (contents new.inner) (take count (take handed rest)) → new.failures ≡ old.failures → new.turns ≡ old.turns
@@ -127,3 +135,18 @@ Written-more contents start old new bytes rest handed count p within appends fai
 pub at_error : {T E Q : Type 0} (r : Result T E) → Q → OnErr r Q
 at_error (Ok x) q = tt
 at_error (Err e) q = q
+
+-- at the end what waits goes out too, and its call's result is handed on
+pub Puts-sent : {W T E : Type 0} (contents : W → Option (List ℕ)) (r : Result T E) (old : Tally W) (b : Outlet W) (new : Tally W) (bytes : List ℕ)
+    → Passes contents (outlet old []) b bytes → OnOk r (WritesAll contents b.tally new b.waiting) → OnErr r (WritesFront contents b.tally new b.waiting) → Writes contents old new bytes r
+Puts-sent contents (Ok x) old b new bytes p q f = subst (WritesAll contents old new) (sym p.parts) (WritesAll-append contents old b.tally new p.sent b.waiting p.writes q)
+Puts-sent contents (Err e) old b new bytes p q f = subst (WritesFront contents old new) (sym p.parts) (WritesFront-append contents old b.tally new p.sent b.waiting p.writes f)
+
+-- a failed call's stop, handed on with its fault
+pub Puts-stopped : {W T E : Type 0} (contents : W → Option (List ℕ)) (r : Result T E) (error : E) (old new : Outlet W) (bytes : List ℕ) → r ≡ Err error → Stops contents old new bytes → Puts contents old new bytes r
+Puts-stopped contents r error old new bytes e p = rw e p
+
+-- two clauses of a call, as one
+pub Puts-either : {W T E : Type 0} (contents : W → Option (List ℕ)) (r : Result T E) (old new : Outlet W) (bytes : List ℕ) → OnOk r (Passes contents old new bytes) → OnErr r (Stops contents old new bytes) → Puts contents old new bytes r
+Puts-either contents (Ok x) old new bytes p q = p
+Puts-either contents (Err e) old new bytes p q = q

@@ -1,7 +1,6 @@
 -- Readers and writers that count their calls, and what calls over them leave.
-use Rattle.std.specs.Prelude.{◌≡◌, ℕ, ◌+◌, ◌-◌, ◌^◌, min, nat_lt, if◌then◌else◌, List, ◌++◌, Option, Result, is_ok}
+use Rattle.std.specs.Prelude.{◌≡◌, ℕ, ◌+◌, ◌-◌, ◌^◌, min, nat_lt, if◌then◌else◌, List, ◌++◌, Option, Result, is_ok, MatchResult}
 use Rattle.std.specs.Io.KnownBytes.{Appends}
-use Rattle.t1_code.specs.Cipher.{cipher, key_after}
 
 -- a reader or writer, its failed calls, and its reads
 pub record Tally (T : Type 0) : Type 0 where
@@ -40,6 +39,10 @@ pub record WritesFront {W : Type 0} (contents : W → Option (List ℕ)) (old ne
   pub failures : new.failures ≡ one_more old.failures
   pub turns : new.turns ≡ old.turns
 
+-- a call that writes bytes: they all went out at Ok, and at Err a beginning of them, and a call failed
+abbrev pub Writes : {W T E : Type 0} → (W → Option (List ℕ)) → Tally W → Tally W → List ℕ → Result T E → Type 0
+Writes contents old new bytes result = MatchResult result (λ done. WritesAll contents old new bytes) (λ error. WritesFront contents old new bytes)
+
 -- a writer, and the bytes that wait in front of it
 pub record Outlet (T : Type 0) : Type 0 where
   pub tally : Tally T
@@ -58,7 +61,6 @@ pub record Passes {W : Type 0} (contents : W → Option (List ℕ)) (old new : O
 abbrev pub Stops : {W : Type 0} → (W → Option (List ℕ)) → Outlet W → Outlet W → List ℕ → Type 0
 Stops contents old new bytes = WritesFront contents old.tally new.tally (old.waiting ++ bytes)
 
--- the bytes passed encrypted, and the key is the one behind them
-pub record Encrypts {W : Type 0} (contents : W → Option (List ℕ)) (old new : Outlet W) (old_key new_key : ℕ) (plain : List ℕ) : Type 0 where
-  pub passes : Passes contents old new (cipher old_key plain)
-  pub key : new_key ≡ key_after old_key (cipher old_key plain)
+-- a call that passes bytes on: they all passed at Ok, and at Err a beginning went out and a call failed
+abbrev pub Puts : {W T E : Type 0} → (W → Option (List ℕ)) → Outlet W → Outlet W → List ℕ → Result T E → Type 0
+Puts contents old new bytes result = MatchResult result (λ done. Passes contents old new bytes) (λ error. Stops contents old new bytes)

@@ -1,7 +1,11 @@
 pub mod Charstring
 pub mod Cipher
 pub mod Counted
+pub mod Eexec
 pub mod Encoding
+pub mod Hexadecimal
 pub mod Parts
+pub mod Pfa
 pub mod Pfb
+pub mod Segments
 pub mod Words

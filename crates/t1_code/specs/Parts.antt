@@ -11,7 +11,8 @@ use Rattle.t1_code.specs.declared.parts.Parts.{Parts}
 use Rattle.t1_code.specs.declared.parts.Piece.{Piece}
 use Rattle.t1_code.specs.declared.parts.Piece.TheVariants.{Plain, Entry}
 use Rattle.t1_code.specs.Counted.{Tally, WritesAll, WritesFront}
-use Rattle.t1_code.specs.Pfb.{entry_text, pfb_of, whole_file}
+use Rattle.t1_code.specs.Pfa.{pfa_of}
+use Rattle.t1_code.specs.Pfb.{entry_text, pfb_of}
 
 -- Type 1 Font Format, Chapter 2: the bytes of a piece of the private text
 abbrev pub piece_text : Piece → List ℕ
@@ -30,9 +31,13 @@ bytes_of slices = flat_map (λ slice. slice.now) slices
 abbrev pub private_text : Parts → List ℕ
 private_text parts = flat_map piece_text parts.pieces.now
 
--- the PFB file of the parts, each part in one segment
-abbrev pub file_of : Parts → Result (List ℕ) Fault
-file_of parts = pfb_of whole_file parts.clear.now (private_text parts) parts.trailer.now
+-- the PFB file of the parts, in segments of this size
+abbrev pub file_of : ℕ → Parts → Result (List ℕ) Fault
+file_of size parts = pfb_of size parts.clear.now (private_text parts) parts.trailer.now
+
+-- the PFA file of the parts
+abbrev pub hexadecimal_file_of : Parts → Result (List ℕ) Fault
+hexadecimal_file_of parts = pfa_of parts.clear.now (private_text parts) parts.trailer.now
 
 -- A call that writes a text: the whole text at Ok; a beginning of it and a failed call at Write; nothing at a fault, which is the text's own; and nothing where memory ran out.
 abbrev pub Prints : {W T : Type 0} → (W → Option (List ℕ)) → Tally W → Tally W → Result (List ℕ) Fault → Result T OutError → Type 0

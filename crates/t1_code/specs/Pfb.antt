@@ -47,9 +47,11 @@ whole_file = 2 ^ 31 - 1
 abbrev pub is_too_long : List ℕ → Bool
 is_too_long bytes = nat_lt (2 ^ 31 - 1) (length bytes)
 
+-- profile: there is no file where a part is too long, whatever the file's form
+abbrev pub has_long_part : List ℕ → List ℕ → List ℕ → Bool
+has_long_part clear private trailer = is_too_long clear || is_too_long (eexec private) || is_too_long trailer
+
 -- the file of the three parts in blocks of this size, or why there is none
 abbrev pub pfb_of : ℕ → List ℕ → List ℕ → List ℕ → Result (List ℕ) Fault
 pfb_of size clear private trailer =
-    if is_too_long clear || is_too_long (eexec private) || is_too_long trailer
-    then Err (fault_at Nowhere F23)
-    else Ok (pfb size clear private trailer)
+    if has_long_part clear private trailer then Err (fault_at Nowhere F23) else Ok (pfb size clear private trailer)

@@ -84,3 +84,14 @@ impl Chunk {
         Ok(())
     }
 }
+
+/// Passes bytes on as they are.
+pub fn put_plain<W: Write>(out: &mut Counted<W>, chunk: &mut Chunk, bytes: &[u8]) -> io::Result<()>
+    ensures ok { OnOk result (Passes W.contents (outlet out.old chunk.old) (outlet out.new chunk.new) bytes.now) }
+    ensures err { OnErr result (Stops W.contents (outlet out.old chunk.old) (outlet out.new chunk.new) bytes.now) }
+{
+    for byte in bytes {
+        chunk.pass(out, *byte)?;
+    }
+    Ok(())
+}

@@ -1,4 +1,4 @@
-//! Charstring code, its encryption, and the PFB file of an assembled font.
+//! Charstring code, its encryption, and the PFB and PFA files of an assembled font.
 #![tactic(auto)]
 
 mod body;
@@ -7,23 +7,31 @@ mod chunk;
 mod cipher;
 mod command;
 mod counted;
+mod eexec;
 mod encoding;
+mod hexadecimal;
 pub mod laws;
 mod number;
 mod parts;
+mod pfa;
 mod pfb;
+mod pieces;
+mod segments;
 mod words;
 
 pub use body::Body;
 pub use charstring::{assemble, charstring_of, encrypted_charstring};
-pub use chunk::Chunk;
+pub use chunk::{Chunk, put_plain};
 pub use cipher::encrypt;
 pub use command::Command;
 pub use counted::{Counted, MAX_PUT};
+pub use eexec::EEXEC_LEAD;
 pub use encoding::standard_name;
 pub use number::number_word;
 pub use parts::{OutError, Parts, Piece};
-pub use pfb::{EEXEC_LEAD, MAX_PART, put_plain, write_pfb};
+pub use pfa::write_pfa;
+pub use pfb::{WHOLE_PARTS, write_pfb};
+pub use pieces::MAX_PART;
 pub use words::compile;
 
 #[cfg(test)]

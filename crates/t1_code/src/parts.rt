@@ -2,7 +2,7 @@
 
 use std::alloc::AllocError;
 use std::io;
-use t1_frac::{Fault, Refusal};
+use t1_frac::{Code, Fault, Place, Refusal};
 use thiserror::Error;
 
 /// A piece of the private text.
@@ -78,5 +78,22 @@ impl From<AllocError> for OutError {
 
     fn from(_error: AllocError) -> OutError {
         OutError::Memory
+    }
+}
+
+impl From<Code> for OutError {
+    ghost use Rattle.std.specs.Prelude.{◌≡◌};
+    ghost use Rattle.t1_code.specs.declared.parts.OutError.TheVariants.{Fault};
+    ghost use Rattle.t1_frac.specs.Outcome.{fault_at};
+    ghost use Rattle.t1_frac.specs.declared.fault.Place.TheVariants.{Nowhere};
+
+    ghost from_gives = { λ code error. error ≡ Fault (fault_at Nowhere code) };
+
+    /// The fault of a whole file, which has no place.
+    fn from(code: Code) -> OutError {
+        OutError::Fault(Fault {
+            code,
+            place: Place::Nowhere,
+        })
     }
 }

@@ -1,34 +1,66 @@
-use Rattle.std.proofs.Common.{◌<◌, ◌^◌, length, arith}
-use Rattle.t1_code.specs.Cipher.{eexec}
+use Rattle.std.proofs.lemmas.Result.{err_from_is_err_and}
 use Rattle.t1_code.specs.Counted.{outlet}
 use Rattle.t1_code.specs.Parts.{private_text}
-use Rattle.t1_code.proofs.Framing.{file_clear_fails, file_binary_fails, file_trailer_fails, file_trailed}
-use Rattle.t1_code.proofs.Writing.{passing, Written-ends, Written-ends_failing, at_error}
+use Rattle.t1_code.proofs.Framing.{file_parts}
+use Rattle.t1_code.proofs.Writing.{passing, Written-from, Written-step, Written-fails, Written-last, Puts-either}
 use Rattle.t1_code.proofs.pfb.put_file.Goals as goal
 
-pub returns-in_err-put_segment-clause-err : goal.returns-in_err-put_segment-clause-err
-returns-in_err-put_segment-clause-err g c =
-    let private_fits : length (eexec (private_text c.args.parts.now)) < 2 ^ 31 = omega (arith, c.requires.whole, c.requires.short) in
-    at_error c.from_residual.result (file_clear_fails c.args.parts.now.clear.now (private_text c.args.parts.now) c.args.parts.now.trailer.now c.requires.clear private_fits c.requires.trailer g.W.Write.contents (outlet c.args.out.now c.args.chunk.now) (outlet c.put_segment.new.out c.put_segment.new.chunk) c.in_err-put_segment.ensures.err)
+pub returns-in_err-put_part : goal.returns-in_err-put_part
+returns-in_err-put_part g c =
+    let parts = c.args.parts.now in
+    let a = outlet c.args.out.now c.args.chunk.now in
+    let start = Written-from (passing g.W.Write.contents) a _ _ (file_parts c.args.size parts.clear.now (private_text parts) parts.trailer.now c.requires.some) in
+    let p = err_from_is_err_and c.from_residual.result c.from_residual.ensures.1 in
+    rw p.1 (Written-fails (passing g.W.Write.contents) a a (outlet c.put_part.new.out c.put_part.new.chunk) _ _ _ start c.in_err-put_part.ensures)
 
-pub returns-in_err-put_binary-clause-err : goal.returns-in_err-put_binary-clause-err
-returns-in_err-put_binary-clause-err g c =
-    let private_fits : length (eexec (private_text c.args.parts.now)) < 2 ^ 31 = omega (arith, c.requires.whole, c.requires.short) in
-    at_error c.from_residual-in_err-put_binary.result (file_binary_fails c.args.parts.now.clear.now (private_text c.args.parts.now) c.args.parts.now.trailer.now c.requires.clear private_fits c.requires.trailer g.W.Write.contents (outlet c.args.out.now c.args.chunk.now) (outlet c.put_segment.new.out c.put_segment.new.chunk) (outlet c.put_binary.new.out c.put_binary.new.chunk) c.in_ok-put_segment.ensures.ok c.in_err-put_binary.ensures.err)
+pub returns-in_err-segmenter : goal.returns-in_err-segmenter
+returns-in_err-segmenter g c =
+    let parts = c.args.parts.now in
+    let a = outlet c.args.out.now c.args.chunk.now in
+    let start = Written-from (passing g.W.Write.contents) a _ _ (file_parts c.args.size parts.clear.now (private_text parts) parts.trailer.now c.requires.some) in
+    let b = outlet c.put_part.new.out c.put_part.new.chunk in
+    let cleared = Written-step (passing g.W.Write.contents) a a b _ _ _ start c.in_ok-put_part.ensures in
+    let p = err_from_is_err_and c.from_residual-in_err-segmenter.result c.from_residual-in_err-segmenter.ensures.1 in
+    rw p.1 (Written-fails (passing g.W.Write.contents) a b (outlet c.begin.new.out c.begin.new.chunk) _ _ _ cleared (rw c.requires.whole at c.in_err-segmenter.ensures.text))
 
-pub returns-in_err-put_segment-2-clause-err : goal.returns-in_err-put_segment-2-clause-err
-returns-in_err-put_segment-2-clause-err g c =
-    let private_fits : length (eexec (private_text c.args.parts.now)) < 2 ^ 31 = omega (arith, c.requires.whole, c.requires.short) in
-    at_error c.from_residual-in_err-put_segment-2.result (file_trailer_fails c.args.parts.now.clear.now (private_text c.args.parts.now) c.args.parts.now.trailer.now c.requires.clear private_fits c.requires.trailer g.W.Write.contents (outlet c.args.out.now c.args.chunk.now) (outlet c.put_segment.new.out c.put_segment.new.chunk) (outlet c.put_binary.new.out c.put_binary.new.chunk) (outlet c.put_segment-2.new.out c.put_segment-2.new.chunk) c.in_ok-put_segment.ensures.ok c.in_ok-put_binary.ensures.ok c.in_err-put_segment-2.ensures.err)
+pub returns-in_err-put_private : goal.returns-in_err-put_private
+returns-in_err-put_private g c =
+    let parts = c.args.parts.now in
+    let a = outlet c.args.out.now c.args.chunk.now in
+    let start = Written-from (passing g.W.Write.contents) a _ _ (file_parts c.args.size parts.clear.now (private_text parts) parts.trailer.now c.requires.some) in
+    let b = outlet c.put_part.new.out c.put_part.new.chunk in
+    let cleared = Written-step (passing g.W.Write.contents) a a b _ _ _ start c.in_ok-put_part.ensures in
+    let d = outlet c.begin.new.out c.begin.new.chunk in
+    let headed = Written-step (passing g.W.Write.contents) a b d _ _ _ cleared (rw c.requires.whole at c.in_ok-segmenter.ensures.text) in
+    let p = err_from_is_err_and c.from_residual-in_err-put_private.result c.from_residual-in_err-put_private.ensures.1 in
+    rw p.1 (Written-fails (passing g.W.Write.contents) a d (outlet c.put_private.new.out c.put_private.new.chunk) _ _ _ headed (rw (c.in_ok-segmenter.ensures.state, c.requires.whole) at c.in_err-put_private.ensures))
 
-pub returns-clause-ok : goal.returns-clause-ok
-returns-clause-ok g c =
-    let private_fits : length (eexec (private_text c.args.parts.now)) < 2 ^ 31 = omega (arith, c.requires.whole, c.requires.short) in
-    let trailed = (file_trailed c.args.parts.now.clear.now (private_text c.args.parts.now) c.args.parts.now.trailer.now c.requires.clear private_fits c.requires.trailer g.W.Write.contents (outlet c.args.out.now c.args.chunk.now) (outlet c.put_segment.new.out c.put_segment.new.chunk) (outlet c.put_binary.new.out c.put_binary.new.chunk) (outlet c.put_segment-2.new.out c.put_segment-2.new.chunk) c.in_ok-put_segment.ensures.ok c.in_ok-put_binary.ensures.ok c.in_ok-put_segment-2.ensures.ok) in
-    Written-ends (passing g.W.Write.contents) c.put_plain.result (outlet c.args.out.now c.args.chunk.now) (outlet c.put_segment-2.new.out c.put_segment-2.new.chunk) (outlet c.put_plain.new.out c.put_plain.new.chunk) _ _ trailed c.put_plain.ensures.ok
+pub returns-in_err-put_part-2 : goal.returns-in_err-put_part-2
+returns-in_err-put_part-2 g c =
+    let parts = c.args.parts.now in
+    let a = outlet c.args.out.now c.args.chunk.now in
+    let start = Written-from (passing g.W.Write.contents) a _ _ (file_parts c.args.size parts.clear.now (private_text parts) parts.trailer.now c.requires.some) in
+    let b = outlet c.put_part.new.out c.put_part.new.chunk in
+    let cleared = Written-step (passing g.W.Write.contents) a a b _ _ _ start c.in_ok-put_part.ensures in
+    let d = outlet c.begin.new.out c.begin.new.chunk in
+    let headed = Written-step (passing g.W.Write.contents) a b d _ _ _ cleared (rw c.requires.whole at c.in_ok-segmenter.ensures.text) in
+    let e = outlet c.put_private.new.out c.put_private.new.chunk in
+    let cut = Written-step (passing g.W.Write.contents) a d e _ _ _ headed (rw (c.in_ok-segmenter.ensures.state, c.requires.whole) at c.in_ok-put_private.ensures) in
+    let p = err_from_is_err_and c.from_residual-in_err-put_part-2.result c.from_residual-in_err-put_part-2.ensures.1 in
+    rw p.1 (Written-fails (passing g.W.Write.contents) a e (outlet c.put_part-2.new.out c.put_part-2.new.chunk) _ _ _ cut c.in_err-put_part-2.ensures)
 
-pub returns-clause-err : goal.returns-clause-err
-returns-clause-err g c =
-    let private_fits : length (eexec (private_text c.args.parts.now)) < 2 ^ 31 = omega (arith, c.requires.whole, c.requires.short) in
-    let trailed = (file_trailed c.args.parts.now.clear.now (private_text c.args.parts.now) c.args.parts.now.trailer.now c.requires.clear private_fits c.requires.trailer g.W.Write.contents (outlet c.args.out.now c.args.chunk.now) (outlet c.put_segment.new.out c.put_segment.new.chunk) (outlet c.put_binary.new.out c.put_binary.new.chunk) (outlet c.put_segment-2.new.out c.put_segment-2.new.chunk) c.in_ok-put_segment.ensures.ok c.in_ok-put_binary.ensures.ok c.in_ok-put_segment-2.ensures.ok) in
-    Written-ends_failing (passing g.W.Write.contents) c.put_plain.result (outlet c.args.out.now c.args.chunk.now) (outlet c.put_segment-2.new.out c.put_segment-2.new.chunk) (outlet c.put_plain.new.out c.put_plain.new.chunk) _ _ trailed c.put_plain.ensures.err
+pub returns : goal.returns
+returns g c =
+    let parts = c.args.parts.now in
+    let a = outlet c.args.out.now c.args.chunk.now in
+    let start = Written-from (passing g.W.Write.contents) a _ _ (file_parts c.args.size parts.clear.now (private_text parts) parts.trailer.now c.requires.some) in
+    let b = outlet c.put_part.new.out c.put_part.new.chunk in
+    let cleared = Written-step (passing g.W.Write.contents) a a b _ _ _ start c.in_ok-put_part.ensures in
+    let d = outlet c.begin.new.out c.begin.new.chunk in
+    let headed = Written-step (passing g.W.Write.contents) a b d _ _ _ cleared (rw c.requires.whole at c.in_ok-segmenter.ensures.text) in
+    let e = outlet c.put_private.new.out c.put_private.new.chunk in
+    let cut = Written-step (passing g.W.Write.contents) a d e _ _ _ headed (rw (c.in_ok-segmenter.ensures.state, c.requires.whole) at c.in_ok-put_private.ensures) in
+    let f = outlet c.put_part-2.new.out c.put_part-2.new.chunk in
+    let trailed = Written-step (passing g.W.Write.contents) a e f _ _ _ cut c.in_ok-put_part-2.ensures in
+    Written-last (passing g.W.Write.contents) c.put_plain.result a f (outlet c.put_plain.new.out c.put_plain.new.chunk) _ _ trailed
+    (Puts-either g.W.Write.contents c.put_plain.result _ _ _ c.put_plain.ensures.ok c.put_plain.ensures.err)

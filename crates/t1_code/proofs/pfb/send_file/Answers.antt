@@ -1,20 +1,11 @@
 use Rattle.t1_code.specs.Counted.{outlet}
 use Rattle.t1_code.specs.Parts.{private_text}
-use Rattle.t1_code.specs.Pfb.{pfb, whole_file}
-use Rattle.t1_code.proofs.Writing.{Passes-sent, Passes-unsent, at_error}
+use Rattle.t1_code.specs.Pfb.{pfb}
+use Rattle.t1_code.proofs.Writing.{Puts-sent}
 use Rattle.t1_code.proofs.pfb.send_file.Goals as goal
 
-pub returns-in_err-put_file-clause-err : goal.returns-in_err-put_file-clause-err
-returns-in_err-put_file-clause-err g c = at_error c.from_residual.result (rw c.new-chunk.ensures at c.in_err-put_file.ensures.err)
-
-pub returns-clause-ok : goal.returns-clause-ok
-returns-clause-ok g c =
-    Passes-sent g.W.Write.contents c.send.result c.args.out.now (outlet c.put_file.new.out c.put_file.new.chunk) c.send.new.out
-    (pfb whole_file c.args.parts.now.clear.now (private_text c.args.parts.now) c.args.parts.now.trailer.now)
-    (rw c.new-chunk.ensures at c.in_ok-put_file.ensures.ok) c.send.ensures.ok
-
-pub returns-clause-err : goal.returns-clause-err
-returns-clause-err g c =
-    Passes-unsent g.W.Write.contents c.send.result c.args.out.now (outlet c.put_file.new.out c.put_file.new.chunk) c.send.new.out
-    (pfb whole_file c.args.parts.now.clear.now (private_text c.args.parts.now) c.args.parts.now.trailer.now)
-    (rw c.new-chunk.ensures at c.in_ok-put_file.ensures.ok) c.send.ensures.err
+pub returns : goal.returns
+returns g c =
+    Puts-sent g.W.Write.contents c.send.result c.args.out.now (outlet c.put_file.new.out c.put_file.new.chunk) c.send.new.out
+    (pfb c.args.size c.args.parts.now.clear.now (private_text c.args.parts.now) c.args.parts.now.trailer.now)
+    (rw c.new-chunk.ensures at c.in_ok-put_file.ensures) c.send.ensures.ok c.send.ensures.err

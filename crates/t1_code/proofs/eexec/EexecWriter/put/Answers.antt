@@ -1,0 +1,28 @@
+use Rattle.std.proofs.Common.{◌≡◌, ◌++◌, ◌∙◌, length, refl, sym, ap, arith}
+use Rattle.std.proofs.lemmas.List.{take-append-drop}
+use Rattle.std.proofs.lemmas.Result.{err_from_is_err_and}
+use Rattle.t1_code.specs.Counted.{outlet}
+use Rattle.t1_code.specs.Eexec.{EexecState}
+use Rattle.t1_code.proofs.Carrying.{Carried-step, Carried-fails}
+use Rattle.t1_code.proofs.Enciphering.{enciphering}
+use Rattle.t1_code.proofs.eexec.EexecWriter.put.Goals as goal
+
+pub returns-in_err-put-clause-text : goal.returns-in_err-put-clause-text
+returns-in_err-put-clause-text g c =
+    let p = err_from_is_err_and c.from_residual.result c.from_residual.ensures.1 in
+    let state : EexecState = record { key = c.loop-rest.self-inside.cipher.key; form = c.loop-rest.self-inside.form } in
+    let front = c.split_at.result.0.now in
+    let after = c.split_at.result.1.now in
+    let parts : c.loop-rest.rest.now ≡ front ++ after = rw (c.split_at.ensures.front, c.split_at.ensures.back) (sym (take-append-drop c.min.result c.loop-rest.rest.now)) in
+    rw p.1 (Carried-fails g.W.Write.contents enciphering (outlet c.args.out.now c.args.chunk.now) (outlet c.loop-rest.out c.loop-rest.chunk) (outlet c.put.new.out c.put.new.chunk)
+    c.args.self.now state c.args.bytes.now front after (rw parts at c.loop-rest.invariant) (rw c.encrypt_into-encrypted.ensures.bytes at c.in_err-put.ensures.text))
+
+pub loop-rest-preserved : goal.loop-rest-preserved
+loop-rest-preserved g c =
+    let state : EexecState = record { key = c.loop-rest.self-inside.cipher.key; form = c.loop-rest.self-inside.form } in
+    let front = c.split_at.result.0.now in
+    let after = c.split_at.result.1.now in
+    let parts : c.loop-rest.rest.now ≡ front ++ after = rw (c.split_at.ensures.front, c.split_at.ensures.back) (sym (take-append-drop c.min.result c.loop-rest.rest.now)) in
+    Carried-step g.W.Write.contents enciphering (outlet c.args.out.now c.args.chunk.now) (outlet c.loop-rest.out c.loop-rest.chunk) (outlet c.put.new.out c.put.new.chunk)
+    c.args.self.now state _ c.args.bytes.now front after (rw parts at c.loop-rest.invariant) (rw c.encrypt_into-encrypted.ensures.bytes at c.in_ok-put.ensures.text)
+    (rw (c.encrypt_into-encrypted.ensures.key, c.in_ok-put.ensures.state, c.encrypt_into-encrypted.ensures.bytes) refl)

@@ -1,0 +1,20 @@
+use Rattle.std.proofs.Common.{◌<◌, length, refl, arith, []}
+use Rattle.std.proofs.lemmas.Result.{err_from_is_err_and}
+use Rattle.t1_code.specs.Counted.{outlet}
+use Rattle.t1_code.specs.Parts.{bytes_of}
+use Rattle.t1_code.proofs.Carrying.{Carried-turn, Carried-turn-fails}
+use Rattle.t1_code.proofs.Enciphering.{enciphering}
+use Rattle.t1_code.proofs.eexec.EexecWriter.put_slices.Goals as goal
+
+pub returns-in_err-put-clause-text : goal.returns-in_err-put-clause-text
+returns-in_err-put-clause-text g c =
+    let inside : c.loop-slice.slice-index < length c.args.slices.now = omega arith in
+    let p = err_from_is_err_and c.from_residual.result c.from_residual.ensures.1 in
+    rw p.1 (Carried-turn-fails g.W.Write.contents enciphering (λ slice. slice.now) c.args.slices.now c.loop-slice.slice-index _ (record { ref_ptr = (0, 0); now = [] }) inside refl
+    (outlet c.args.out.now c.args.chunk.now) (outlet c.loop-slice.out c.loop-slice.chunk) (outlet c.put.new.out c.put.new.chunk) _ _ _ c.loop-slice.invariant c.in_err-put.ensures.text)
+
+pub loop-slice-preserved : goal.loop-slice-preserved
+loop-slice-preserved g c =
+    let inside : c.loop-slice.slice-index < length c.args.slices.now = omega arith in
+    Carried-turn g.W.Write.contents enciphering (λ slice. slice.now) c.args.slices.now c.loop-slice.slice-index _ (record { ref_ptr = (0, 0); now = [] }) inside refl
+    (outlet c.args.out.now c.args.chunk.now) (outlet c.loop-slice.out c.loop-slice.chunk) (outlet c.put.new.out c.put.new.chunk) _ _ _ _ c.loop-slice.invariant c.in_ok-put.ensures.text c.in_ok-put.ensures.state

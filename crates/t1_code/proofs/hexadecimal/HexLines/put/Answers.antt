@@ -1,0 +1,23 @@
+use Rattle.std.proofs.Common.{◌+◌, [], ◌∷◌, get_or, drop, arith}
+use Rattle.std.proofs.lemmas.List.{drop_more}
+use Rattle.std.proofs.lemmas.Result.{err_from_is_err_and}
+use Rattle.t1_code.specs.Counted.{outlet}
+use Rattle.t1_code.proofs.Carrying.{Carried-step, Carried-fails}
+use Rattle.t1_code.proofs.Digits.{lining}
+use Rattle.t1_code.proofs.hexadecimal.HexLines.put.Goals as goal
+
+pub returns-in_err-put_byte-clause-text : goal.returns-in_err-put_byte-clause-text
+returns-in_err-put_byte-clause-text g c =
+    let bytes = c.args.bytes.now in
+    let i = c.loop-byte.byte-index in
+    let p = err_from_is_err_and c.from_residual.result c.from_residual.ensures.1 in
+    rw p.1 (Carried-fails g.W.Write.contents lining (outlet c.args.out.now c.args.chunk.now) (outlet c.loop-byte.out c.loop-byte.chunk) (outlet c.put_byte.new.out c.put_byte.new.chunk)
+    c.args.self.now.room c.loop-byte.self.room bytes (get_or bytes i 0 ∷ []) (drop (i + 1) bytes) (rw (drop_more bytes i 0 (omega arith)) at c.loop-byte.invariant) c.in_err-put_byte.ensures.text)
+
+pub loop-byte-preserved : goal.loop-byte-preserved
+loop-byte-preserved g c =
+    let bytes = c.args.bytes.now in
+    let i = c.loop-byte.byte-index in
+    Carried-step g.W.Write.contents lining (outlet c.args.out.now c.args.chunk.now) (outlet c.loop-byte.out c.loop-byte.chunk) (outlet c.put_byte.new.out c.put_byte.new.chunk)
+    c.args.self.now.room c.loop-byte.self.room c.put_byte.new.self.room bytes (get_or bytes i 0 ∷ []) (drop (i + 1) bytes) (rw (drop_more bytes i 0 (omega arith)) at c.loop-byte.invariant)
+    c.in_ok-put_byte.ensures.text c.in_ok-put_byte.ensures.state

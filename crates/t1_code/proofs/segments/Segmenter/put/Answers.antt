@@ -1,0 +1,50 @@
+use Rattle.std.proofs.Common.{◌≡◌, ◌∙◌, ◌++◌, ◌<◌, ◌≤◌, length, refl, sym, ap, subst, arith}
+use Rattle.std.proofs.lemmas.List.{take-append-drop}
+use Rattle.std.proofs.lemmas.Result.{err_from_is_err_and}
+use Rattle.t1_code.specs.Counted.{outlet}
+use Rattle.t1_code.specs.Segments.{opened}
+use Rattle.t1_code.proofs.Segmenting.{some_of, room_opens, head_fails, front_fails, front_passes}
+use Rattle.t1_code.proofs.segments.Segmenter.put.Goals as goal
+
+pub returns-in_err-open-clause-text : goal.returns-in_err-open-clause-text
+returns-in_err-open-clause-text g c =
+    let p = err_from_is_err_and c.from_residual.result c.from_residual.ensures.1 in
+    let some : 0 < length c.loop-rest.rest.now = some_of (length c.loop-rest.rest.now) (sym c.is_empty.ensures ∙ c.loop-rest-test.true) in
+    rw p.1 (head_fails g.W.Write.contents (outlet c.args.out.now c.args.chunk.now) c.args.self.now c.args.bytes.now (outlet c.loop-rest.out c.loop-rest.chunk) (outlet c.open.new.out c.open.new.chunk)
+    c.loop-rest.self c.loop-rest.rest.now c.loop-rest.invariant some c.in_err-open.ensures.text)
+
+pub returns-in_err-put_plain-clause-text : goal.returns-in_err-put_plain-clause-text
+returns-in_err-put_plain-clause-text g c =
+    let p = err_from_is_err_and c.from_residual-in_err-put_plain.result c.from_residual-in_err-put_plain.ensures.1 in
+    let s = c.loop-rest.self in
+    let front = c.split_at.result.0.now in
+    let after = c.split_at.result.1.now in
+    let parts : c.loop-rest.rest.now ≡ front ++ after = rw (c.split_at.ensures.front, c.split_at.ensures.back) (sym (take-append-drop c.min.result c.loop-rest.rest.now)) in
+    let is_open = c.self.view_is ∙ c.in_ok-open.ensures.state in
+    let room : c.self.inside.room ≡ (opened s).room = ap (λ v. v.room) is_open in
+    let size : c.self.inside.size ≡ (opened s).size = ap (λ v. v.size) is_open in
+    let opens = room_opens s (omega (arith, size, c.self.invariant.0)) in
+    let left : 0 < length c.loop-rest.rest.now = some_of (length c.loop-rest.rest.now) (sym c.is_empty.ensures ∙ c.loop-rest-test.true) in
+    let some : 0 < length front = omega (arith, opens, left, room, c.min.ensures, c.split_at.ensures.front_len) in
+    let short : length front ≤ (opened s).room = omega (arith, room, c.min.ensures, c.split_at.ensures.front_len) in
+    rw p.1 (front_fails g.W.Write.contents (outlet c.args.out.now c.args.chunk.now) c.args.self.now c.args.bytes.now (outlet c.loop-rest.out c.loop-rest.chunk) (outlet c.open.new.out c.open.new.chunk)
+    (outlet c.put_plain.new.out c.put_plain.new.chunk) s c.loop-rest.rest.now front after c.loop-rest.invariant parts some short c.in_ok-open.ensures.text c.in_err-put_plain.ensures.err)
+
+pub loop-rest-preserved : goal.loop-rest-preserved
+loop-rest-preserved g c =
+    let s = c.loop-rest.self in
+    let front = c.split_at.result.0.now in
+    let after = c.split_at.result.1.now in
+    let parts : c.loop-rest.rest.now ≡ front ++ after = rw (c.split_at.ensures.front, c.split_at.ensures.back) (sym (take-append-drop c.min.result c.loop-rest.rest.now)) in
+    let is_open = c.self.view_is ∙ c.in_ok-open.ensures.state in
+    let room : c.self.inside.room ≡ (opened s).room = ap (λ v. v.room) is_open in
+    let size : c.self.inside.size ≡ (opened s).size = ap (λ v. v.size) is_open in
+    let opens = room_opens s (omega (arith, size, c.self.invariant.0)) in
+    let left : 0 < length c.loop-rest.rest.now = some_of (length c.loop-rest.rest.now) (sym c.is_empty.ensures ∙ c.loop-rest-test.true) in
+    let some : 0 < length front = omega (arith, opens, left, room, c.min.ensures, c.split_at.ensures.front_len) in
+    let short : length front ≤ (opened s).room = omega (arith, room, c.min.ensures, c.split_at.ensures.front_len) in
+    let left_is : c.self.inside.left ≡ (opened s).left = ap (λ v. v.left) is_open in
+    let kind : c.self.inside.kind ≡ (opened s).kind = ap (λ v. v.kind) is_open in
+    front_passes g.W.Write.contents (outlet c.args.out.now c.args.chunk.now) c.args.self.now c.args.bytes.now (outlet c.loop-rest.out c.loop-rest.chunk) (outlet c.open.new.out c.open.new.chunk)
+    (outlet c.put_plain.new.out c.put_plain.new.chunk) s _ c.loop-rest.rest.now front after c.loop-rest.invariant parts some short c.in_ok-open.ensures.text c.in_ok-put_plain.ensures.ok
+    (rw (c.saturating_sub-self-inside.ensures, kind, size, room, left_is) refl)

@@ -1,0 +1,28 @@
+-- The private text on its way into a file, encrypted in one of two forms.
+use Rattle.std.specs.Prelude.{ℕ, List}
+use Rattle.t1_code.specs.declared.eexec.Form.{Form}
+use Rattle.t1_code.specs.declared.eexec.Form.TheVariants.{Binary, Hexadecimal}
+use Rattle.t1_code.specs.Cipher.{cipher, key_after}
+use Rattle.t1_code.specs.Hexadecimal.{in_lines, room_after}
+use Rattle.t1_code.specs.Segments.{in_segments, segmenting_after}
+
+-- the encrypted text in its form
+abbrev pub formed : Form → List ℕ → List ℕ
+formed (Binary s) bytes = in_segments s bytes
+formed (Hexadecimal line) bytes = in_lines line.room bytes
+
+abbrev pub form_after : Form → List ℕ → Form
+form_after (Binary s) bytes = Binary (segmenting_after s bytes)
+form_after (Hexadecimal line) bytes = Hexadecimal (record { room = room_after line.room bytes })
+
+-- a form and the key that stands there
+pub record EexecState : Type 0 where
+  pub key : ℕ
+  pub form : Form
+
+-- the private text, encrypted in its form
+abbrev pub enciphered : EexecState → List ℕ → List ℕ
+enciphered s plain = formed s.form (cipher s.key plain)
+
+abbrev pub state_after : EexecState → List ℕ → EexecState
+state_after s plain = record { key = key_after s.key (cipher s.key plain); form = form_after s.form (cipher s.key plain) }

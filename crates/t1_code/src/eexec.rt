@@ -1,0 +1,159 @@
+//! The private text on its way into a file: encrypted, in segments or in lines of digits.
+ghost use Rattle.std.specs.Prelude.{◌≡◌, ◌≤◌, length, OnOk};
+ghost use Rattle.std.specs.List.{flat_map};
+ghost use Rattle.t1_code.specs.Cipher.{cipher as encrypted, eexec, key_after};
+ghost use Rattle.t1_code.specs.Counted.{Puts, outlet};
+ghost use Rattle.t1_code.specs.Eexec.{formed, form_after, EexecState, enciphered, state_after};
+ghost use Rattle.t1_code.specs.Parts.{piece_text, bytes_of};
+
+use crate::chunk::Chunk;
+use crate::cipher::Cipher;
+use crate::counted::{Counted, MAX_PUT};
+use crate::hexadecimal::HexLines;
+use crate::parts::Piece;
+use crate::pieces::{charstring_len, slices};
+use crate::segments::Segmenter;
+use itoa::Buffer;
+use std::io::{self, Write};
+use std::marker::Model;
+
+/// How many zero bytes stand in front of the private text.
+pub const EEXEC_LEAD: usize = 4;
+
+/// The key that eexec encryption begins with.
+const EEXEC_KEY: u16 = 55_665;
+
+/// How encrypted text stands in a file.
+#[derive(Drop)]
+pub(crate) enum Form {
+    /// As bytes in segments of a PFB file.
+    Binary(Segmenter),
+    /// As lines of hexadecimal digits.
+    Hexadecimal(HexLines),
+}
+
+impl Form {
+    /// Passes encrypted bytes on.
+    fn put<W: Write>(
+        &mut self,
+        out: &mut Counted<W>,
+        chunk: &mut Chunk,
+        bytes: &[u8],
+    ) -> io::Result<()>
+        ensures text { Puts W.contents (outlet out.old chunk.old) (outlet out.new chunk.new) (formed self.old bytes.now) result }
+        ensures state { OnOk result (self.new ≡ form_after self.old bytes.now) }
+    {
+        match self {
+            Form::Binary(segmenter) => segmenter.put(out, chunk, bytes),
+            Form::Hexadecimal(lines) => lines.put(out, chunk, bytes),
+        }
+    }
+}
+
+/// Encrypts the private text, in turns, by way of a buffer. Contracts see the key that stands there and the form.
+#[derive(Drop)]
+pub(crate) struct EexecWriter {
+    cipher: Cipher,
+    form: Form,
+    buffer: [u8; MAX_PUT],
+}
+
+impl Model for EexecWriter {
+    ghost use Rattle.t1_code.specs.Eexec.{EexecState};
+
+    ghost Value = { EexecState };
+
+    ghost view = { λ s. record { key = s.cipher.key; form = s.form } };
+}
+
+/// Puts the cipher bytes of plain ones, no more than the buffer holds, at the buffer's front.
+fn encrypt_into<'a>(cipher: &mut Cipher, buffer: &'a mut [u8; MAX_PUT], plain: &[u8]) -> &'a [u8]
+    requires { length plain.now ≤ 4096 }
+    ensures bytes { result.now ≡ encrypted cipher.old.key plain.now }
+    ensures key { cipher.new.key ≡ key_after cipher.old.key (encrypted cipher.old.key plain.now) }
+{
+    let place = buffer.split_at_mut(plain.len()).0;
+    place.copy_from_slice(plain);
+    cipher.encrypt(place);
+    place
+}
+
+impl EexecWriter {
+    pub(crate) fn new(form: Form) -> EexecWriter
+        ensures key { result.key ≡ 55665 }
+        ensures form { result.form ≡ form }
+    {
+        EexecWriter {
+            cipher: Cipher { key: EEXEC_KEY },
+            form,
+            buffer: [0; MAX_PUT],
+        }
+    }
+
+    /// Passes bytes on encrypted.
+    fn put<W: Write>(
+        &mut self,
+        out: &mut Counted<W>,
+        chunk: &mut Chunk,
+        bytes: &[u8],
+    ) -> io::Result<()>
+        ensures text { Puts W.contents (outlet out.old chunk.old) (outlet out.new chunk.new) (enciphered self.old bytes.now) result }
+        ensures state { OnOk result (self.new ≡ state_after self.old bytes.now) }
+    {
+        let mut rest = bytes;
+        while !rest.is_empty() {
+            let (front, after) = rest.split_at(rest.len().min(MAX_PUT));
+            let encrypted = encrypt_into(&mut self.cipher, &mut self.buffer, front);
+            self.form.put(out, chunk, encrypted)?;
+            rest = after;
+        }
+        Ok(())
+    }
+
+    /// Passes slices on encrypted, one after another.
+    fn put_slices<W: Write>(
+        &mut self,
+        out: &mut Counted<W>,
+        chunk: &mut Chunk,
+        slices: &[&[u8]],
+    ) -> io::Result<()>
+        ensures text { Puts W.contents (outlet out.old chunk.old) (outlet out.new chunk.new) (enciphered self.old (bytes_of slices.now)) result }
+        ensures state { OnOk result (self.new ≡ state_after self.old (bytes_of slices.now)) }
+    {
+        for slice in slices {
+            self.put(out, chunk, slice)?;
+        }
+        Ok(())
+    }
+
+    /// Passes pieces of the private text on encrypted.
+    fn put_pieces<W: Write>(
+        &mut self,
+        out: &mut Counted<W>,
+        chunk: &mut Chunk,
+        pieces: &[Piece],
+    ) -> io::Result<()>
+        ensures text { Puts W.contents (outlet out.old chunk.old) (outlet out.new chunk.new) (enciphered self.old (flat_map piece_text pieces.now)) result }
+    {
+        for piece in pieces {
+            let mut buffer = Buffer::new();
+            let digits = buffer.format(charstring_len(piece));
+            self.put_slices(out, chunk, &slices(piece, digits))?;
+        }
+        Ok(())
+    }
+}
+
+/// Passes the private text on, after its leading bytes, encrypted and in this form.
+pub(crate) fn put_private<W: Write>(
+    out: &mut Counted<W>,
+    chunk: &mut Chunk,
+    form: Form,
+    pieces: &[Piece],
+) -> io::Result<()>
+    ensures { Puts W.contents (outlet out.old chunk.old) (outlet out.new chunk.new) (formed form (eexec (flat_map piece_text pieces.now))) result }
+{
+    let mut writer = EexecWriter::new(form);
+    writer.put(out, chunk, &[0; EEXEC_LEAD])?;
+    writer.put_pieces(out, chunk, pieces)
+}

@@ -1,0 +1,54 @@
+//! The PFA file, written part by part.
+ghost use Rattle.std.specs.Prelude.{◌≡◌, ◌≢◌, Err, OnOk, OnErr};
+ghost use Rattle.std.specs.List.{flat_map};
+ghost use Rattle.t1_code.specs.Cipher.{eexec};
+ghost use Rattle.t1_code.specs.Counted.{Puts, Writes, outlet};
+ghost use Rattle.t1_code.specs.Parts.{piece_text, private_text, hexadecimal_file_of, Prints};
+ghost use Rattle.t1_code.specs.Pfa.{hexadecimal_lines, pfa};
+
+use crate::chunk::{Chunk, put_plain};
+use crate::counted::Counted;
+use crate::eexec::{Form, put_private};
+use crate::hexadecimal::HexLines;
+use crate::parts::{OutError, Parts, Piece};
+use crate::pieces::private_part_len;
+use std::io::{self, Write};
+
+/// Passes the encrypted private text on in lines of hexadecimal digits.
+fn put_digits<W: Write>(out: &mut Counted<W>, chunk: &mut Chunk, pieces: &[Piece]) -> io::Result<()>
+    ensures { Puts W.contents (outlet out.old chunk.old) (outlet out.new chunk.new) (hexadecimal_lines (eexec (flat_map piece_text pieces.now))) result }
+{
+    put_private(out, chunk, Form::Hexadecimal(HexLines::new()), pieces)?;
+    put_plain(out, chunk, b"\n")
+}
+
+/// Passes on the file.
+fn put_file<W: Write>(out: &mut Counted<W>, chunk: &mut Chunk, parts: &Parts) -> io::Result<()>
+    ensures { Puts W.contents (outlet out.old chunk.old) (outlet out.new chunk.new) (pfa parts.now.clear.now (private_text parts.now) parts.now.trailer.now) result }
+{
+    put_plain(out, chunk, parts.clear)?;
+    put_digits(out, chunk, parts.pieces)?;
+    put_plain(out, chunk, parts.trailer)
+}
+
+/// Writes the file by way of a chunk.
+fn send_file<W: Write>(out: &mut Counted<W>, parts: &Parts) -> io::Result<()>
+    ensures { Writes W.contents out.old out.new (pfa parts.now.clear.now (private_text parts.now) parts.now.trailer.now) result }
+{
+    let mut chunk = Chunk::new();
+    put_file(out, &mut chunk, parts)?;
+    chunk.send(out)
+}
+
+/// Writes the PFA file of the parts: the clear text, the encrypted private text in lines of 64 lower-case hexadecimal
+/// digits, and the trailer. F23 where a part has more than 2^31 - 1 bytes, with nothing written; the private part
+/// counts its four leading bytes too, and each byte once. No call of the writer is handed more than 4,096 bytes. It
+/// takes no memory.
+pub fn write_pfa<W: Write>(parts: &Parts, out: &mut Counted<W>) -> Result<(), OutError>
+    ensures prints { Prints W.contents out.old out.new (hexadecimal_file_of parts.now) result }
+    ensures no_memory { result ≢ Err OutError.Memory }
+{
+    private_part_len(parts)?;
+    send_file(out, parts)?;
+    Ok(())
+}

@@ -1,0 +1,118 @@
+//! A part of a PFB file, cut into segments.
+ghost use Rattle.std.specs.Prelude.{◌≡◌, ◌^◌, ◌<◌, ◌≤◌, min, length, IfOk, OnOk};
+ghost use Rattle.t1_code.specs.Counted.{Puts, outlet};
+ghost use Rattle.t1_code.specs.Segments.{Segmenting, head_due, opened, past, in_segments, segmenting_after};
+ghost use Rattle.t1_code.specs.Pfb.{segment_head as head, segments};
+
+use crate::chunk::{Chunk, put_plain};
+use crate::counted::Counted;
+use std::io::{self, Write};
+use std::marker::Model;
+
+/// The first six bytes of a segment.
+fn segment_head(kind: u8, len: usize) -> [u8; 6]
+    requires { len < 2 ^ 31 }
+    ensures { result ≡ head kind len }
+{
+    let [a, b, c, d] = (len as u32).to_le_bytes();
+    [128, kind, a, b, c, d]
+}
+
+/// Cuts a part into segments of one size as its bytes pass.
+#[derive(Drop)]
+pub(crate) struct Segmenter {
+    kind: u8,
+    size: usize,
+    room: usize,
+    left: usize,
+}
+
+impl Model for Segmenter {
+    ghost use Rattle.std.specs.Prelude.{◌≤◌, ◌<◌, ◌^◌};
+    ghost use Rattle.t1_code.specs.Segments.{Segmenting};
+
+    ghost Value = { Segmenting };
+
+    ghost view = { λ s. record { kind = s.kind; size = s.size; room = s.room; left = s.left } };
+
+    ghost invariant = { λ s. (1 ≤ s.size) × (s.size < 2 ^ 31) };
+}
+
+impl Segmenter {
+    /// Begins a part of so many bytes, and passes the head of its first segment on.
+    pub(crate) fn begin<W: Write>(
+        out: &mut Counted<W>,
+        chunk: &mut Chunk,
+        kind: u8,
+        size: usize,
+        len: usize,
+    ) -> io::Result<Segmenter>
+        requires some { 1 ≤ size }
+        requires short { size < 2 ^ 31 }
+        ensures text { Puts W.contents (outlet out.old chunk.old) (outlet out.new chunk.new) (head kind (min size len)) result }
+        ensures state { IfOk result (λ segmenter. segmenter ≡ record { kind = kind; size = size; room = size; left = len }) }
+    {
+        put_plain(out, chunk, &segment_head(kind, size.min(len)))?;
+        Ok(Segmenter {
+            kind,
+            size,
+            room: size,
+            left: len,
+        })
+    }
+
+    /// Begins a segment where the present one takes no byte more.
+    fn open<W: Write>(&mut self, out: &mut Counted<W>, chunk: &mut Chunk) -> io::Result<()>
+        ensures text { Puts W.contents (outlet out.old chunk.old) (outlet out.new chunk.new) (head_due self.old) result }
+        ensures state { OnOk result (self.new ≡ opened self.old) }
+    {
+        if self.room > 0 {
+            return Ok(());
+        }
+        put_plain(
+            out,
+            chunk,
+            &segment_head(self.kind, self.size.min(self.left)),
+        )?;
+        self.room = self.size;
+        Ok(())
+    }
+
+    /// Passes bytes of the part on.
+    pub(crate) fn put<W: Write>(
+        &mut self,
+        out: &mut Counted<W>,
+        chunk: &mut Chunk,
+        bytes: &[u8],
+    ) -> io::Result<()>
+        ensures text { Puts W.contents (outlet out.old chunk.old) (outlet out.new chunk.new) (in_segments self.old bytes.now) result }
+        ensures state { OnOk result (self.new ≡ segmenting_after self.old bytes.now) }
+    {
+        let mut rest = bytes;
+        while !rest.is_empty() {
+            self.open(out, chunk)?;
+            let (front, after) = rest.split_at(rest.len().min(self.room));
+            put_plain(out, chunk, front)?;
+            self.room -= front.len();
+            self.left = self.left.saturating_sub(front.len());
+            rest = after;
+        }
+        Ok(())
+    }
+}
+
+/// Passes a part on in segments of its type with so many bytes each.
+pub(crate) fn put_part<W: Write>(
+    out: &mut Counted<W>,
+    chunk: &mut Chunk,
+    kind: u8,
+    size: usize,
+    bytes: &[u8],
+) -> io::Result<()>
+    requires some { 1 ≤ size }
+    requires short { size < 2 ^ 31 }
+    ensures { Puts W.contents (outlet out.old chunk.old) (outlet out.new chunk.new) (segments size kind bytes.now) result }
+{
+    let mut segmenter = Segmenter::begin(out, chunk, kind, size, bytes.len())?;
+    segmenter.put(out, chunk, bytes)
+}
