@@ -16,6 +16,7 @@ use Rattle.t1_source.specs.WellFormed.{is_counted}
 use Rattle.t1_code.specs.Words.{commands}
 use Rattle.t1_code.specs.Charstring.{charstring}
 use Rattle.t1_code.specs.Cipher.{encrypted_charstring}
+use Rattle.t1_code.specs.Pfa.{pfa_of}
 use Rattle.t1_code.specs.Pfb.{entry_text, pfb_of, whole_file}
 use Rattle.t1_font.specs.declared.private.PrivateLine.{PrivateLine}
 use Rattle.t1_font.specs.declared.private.PrivateLine.TheVariants as lines
@@ -46,6 +47,11 @@ trailer_text tail = joined (replicate 8 (replicate 64 48) ++ tail)
 unfoldable pub source_file : ℕ → SourceParts → Result (List ℕ) Fault
 source_file size source =
     private_text (lead source) (operator source) source.items >>= λ private. pfb_of size (joined source.clear) private (trailer_text source.tail)
+
+-- the PFA file of a source, or the first fault of its bodies, or F23
+unfoldable pub source_pfa : SourceParts → Result (List ℕ) Fault
+source_pfa source =
+    private_text (lead source) (operator source) source.items >>= λ private. pfa_of (joined source.clear) private (trailer_text source.tail)
 
 -- profile: the first fault of the bodies, or F23 where a part of the PFB file is too long
 unfoldable pub length_check : SourceParts → Result (Unit {0}) Fault

@@ -28,7 +28,7 @@ pub fn write_source_afm<W: Write>(
 }
 
 /// The AFM file of a source, its pairs and its measured glyphs.
-pub fn afm_file_of(
+pub fn afm_of_source(
     alloc: Global,
     source: &Source,
     pairs: &Pairs,

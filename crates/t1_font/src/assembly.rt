@@ -1,16 +1,17 @@
 //! A source assembled to its PFB file.
-ghost use Rattle.std.specs.Prelude.{◌≡◌, ◌++◌, IfOk, OnOk, replicate};
+ghost use Rattle.std.specs.Prelude.{◌≡◌, ◌≤◌, ◌-◌, ◌^◌, ◌++◌, IfOk, OnOk, replicate};
 ghost use Rattle.std.specs.List.{flat_map};
 ghost use Rattle.t1_text.specs.Lines.{joined};
 ghost use Rattle.t1_code.specs.Parts.{piece_text, Prints};
-ghost use Rattle.t1_code.specs.Pfb.{pfb_of, whole_file};
-ghost use Rattle.t1_font.specs.Assembly.{source_file, trailer_text};
+ghost use Rattle.t1_code.specs.Pfa.{pfa_of};
+ghost use Rattle.t1_code.specs.Pfb.{pfb_of};
+ghost use Rattle.t1_font.specs.Assembly.{source_file, source_pfa, trailer_text};
 ghost use Rattle.t1_frac.specs.Outcome.{Gives};
 
 use crate::private::{lines_of, pieces_of};
 use std::alloc::{AllocError, Global};
 use std::io::Write;
-use t1_code::{Counted, OutError, Parts, Piece, write_pfb};
+use t1_code::{Counted, OutError, Parts, Piece, write_pfa, write_pfb};
 use t1_frac::{Bytes, Refusal};
 use t1_parts::push_lines;
 use t1_source::Source;
@@ -44,48 +45,102 @@ fn trailer(alloc: Global, tail: &[Bytes]) -> Result<Vec<u8>, AllocError>
 }
 
 /// Writes the PFB file of three parts, or answers F23 with nothing written.
-fn write_parts<W: Write>(
+fn write_pfb_parts<W: Write>(
     clear: &[u8],
     pieces: &[Piece],
     trailer: &[u8],
+    size: usize,
     out: &mut Counted<W>,
 ) -> Result<(), OutError>
-    ensures { Prints W.contents out.old out.new (pfb_of whole_file clear.now (flat_map piece_text pieces.now) trailer.now) result }
+    requires some { 1 ≤ size }
+    requires short { size ≤ 2 ^ 31 - 1 }
+    ensures { Prints W.contents out.old out.new (pfb_of size clear.now (flat_map piece_text pieces.now) trailer.now) result }
 {
     let parts = Parts {
         clear,
         pieces,
         trailer,
     };
-    write_pfb(&parts, out)
+    write_pfb(&parts, size, out)
 }
 
-/// Writes the PFB file of a source: the whole file at `Ok`, a beginning of it at `Write`. A fault is the first of the
-/// bodies, at its entry, else F23; nothing is written then, nor where memory runs out.
+/// Writes the PFB file of a source in segments of so many bytes, [`WHOLE_PARTS`] for one a part: the whole file at `Ok`,
+/// a beginning of it at `Write`. A fault is the first of the bodies, at its entry, else F23; nothing is written then, nor
+/// where memory runs out.
 #[tactic(auto, unfolding(crate::specs::Assembly::source_file))]
 pub fn write_source_pfb<W: Write>(
     alloc: Global,
     source: &Source,
+    size: usize,
     out: &mut Counted<W>,
 ) -> Result<(), OutError>
-    ensures { Prints W.contents out.old out.new (source_file whole_file source.now) result }
+    requires some { 1 ≤ size }
+    requires short { size ≤ 2 ^ 31 - 1 }
+    ensures { Prints W.contents out.old out.new (source_file size source.now) result }
 {
     let lines = lines_of(alloc, source.lead(), source.operator(), source.items())?;
     let pieces = pieces_of(alloc, &lines)?;
     let clear = clear_text(alloc, source.clear())?;
     let trailer = trailer(alloc, source.tail())?;
-    write_parts(&clear, &pieces, &trailer, out)
+    write_pfb_parts(&clear, &pieces, &trailer, size, out)
 }
 
-/// The PFB file of a source, or the first fault of its bodies, or F23.
-pub fn file_of(alloc: Global, source: &Source) -> Result<Vec<u8>, Refusal>
-    ensures { Gives (λ file. file.items) result (source_file whole_file source.now) }
+/// Writes the PFA file of three parts, or answers F23 with nothing written.
+fn write_pfa_parts<W: Write>(
+    clear: &[u8],
+    pieces: &[Piece],
+    trailer: &[u8],
+    out: &mut Counted<W>,
+) -> Result<(), OutError>
+    ensures { Prints W.contents out.old out.new (pfa_of clear.now (flat_map piece_text pieces.now) trailer.now) result }
+{
+    let parts = Parts {
+        clear,
+        pieces,
+        trailer,
+    };
+    write_pfa(&parts, out)
+}
+
+/// Writes the PFA file of a source, with the answers of `write_source_pfb`.
+#[tactic(auto, unfolding(crate::specs::Assembly::source_pfa))]
+pub fn write_source_pfa<W: Write>(
+    alloc: Global,
+    source: &Source,
+    out: &mut Counted<W>,
+) -> Result<(), OutError>
+    ensures { Prints W.contents out.old out.new (source_pfa source.now) result }
+{
+    let lines = lines_of(alloc, source.lead(), source.operator(), source.items())?;
+    let pieces = pieces_of(alloc, &lines)?;
+    let clear = clear_text(alloc, source.clear())?;
+    let trailer = trailer(alloc, source.tail())?;
+    write_pfa_parts(&clear, &pieces, &trailer, out)
+}
+
+/// The PFB file of a source in segments of so many bytes, or the first fault of its bodies, or F23.
+pub fn pfb_of_source(alloc: Global, source: &Source, size: usize) -> Result<Vec<u8>, Refusal>
+    requires some { 1 ≤ size }
+    requires short { size ≤ 2 ^ 31 - 1 }
+    ensures { Gives (λ file. file.items) result (source_file size source.now) }
 {
     let mut out = Counted::new(Vec::new(alloc));
-    match write_source_pfb(alloc, source, &mut out) {
+    match write_source_pfb(alloc, source, size, &mut out) {
         Ok(()) => Ok(out.into_inner()),
         Err(OutError::Fault(fault)) => Err(Refusal::Fault(fault)),
         // A vector fails to take bytes only where it can't grow.
+        Err(_) => Err(Refusal::Memory),
+    }
+}
+
+/// The PFA file of a source, or the first fault of its bodies, or F23.
+pub fn pfa_of_source(alloc: Global, source: &Source) -> Result<Vec<u8>, Refusal>
+    ensures { Gives (λ file. file.items) result (source_pfa source.now) }
+{
+    let mut out = Counted::new(Vec::new(alloc));
+    match write_source_pfa(alloc, source, &mut out) {
+        Ok(()) => Ok(out.into_inner()),
+        Err(OutError::Fault(fault)) => Err(Refusal::Fault(fault)),
         Err(_) => Err(Refusal::Memory),
     }
 }

@@ -8,11 +8,11 @@ ghost use Rattle.t1_code.specs.Pfb.{whole_file};
 ghost use Rattle.t1_font.specs.Assembly.{counts_check, file_check, length_check, item_line, private_text, source_file};
 ghost use Rattle.t1_source.specs.WellFormed.{is_counted};
 
-use crate::assembly::{ZEROS_LEN, file_of};
+use crate::assembly::{ZEROS_LEN, pfb_of_source};
 use crate::bodies::compiled;
 use itoa::Buffer;
 use std::alloc::Global;
-use t1_code::{EEXEC_LEAD, MAX_PART};
+use t1_code::{EEXEC_LEAD, MAX_PART, WHOLE_PARTS};
 use t1_frac::{Bytes, Code, Refusal, Words};
 use t1_run::Plain;
 use t1_source::{Item, Source};
@@ -105,7 +105,7 @@ fn check_length(alloc: Global, source: &Source) -> Result<(), Refusal>
     if is_short(source) {
         return Ok(());
     }
-    let _file = file_of(alloc, source)?;
+    let _file = pfb_of_source(alloc, source, WHOLE_PARTS)?;
     Ok(())
 }
 

@@ -23,8 +23,8 @@ mod private;
 mod runs;
 mod usage;
 
-pub use afm_file::{afm_file_of, write_source_afm};
-pub use assembly::{file_of, write_source_pfb};
+pub use afm_file::{afm_of_source, write_source_afm};
+pub use assembly::{pfa_of_source, pfb_of_source, write_source_pfa, write_source_pfb};
 pub use bodies::{compiled, compiled_glyph, compiled_subr};
 pub use font_metrics::metrics;
 pub use glyph_metrics::{GlyphMetrics, PlacedParts, glyph_metrics_of};

@@ -6,7 +6,7 @@ use Rattle.t1_frac.specs.declared.fault.Fault.{Fault}
 use Rattle.t1_frac.specs.declared.fault.Place.{Place}
 use Rattle.t1_frac.specs.declared.fault.Place.TheVariants.{Nowhere, Line, Subr, Glyph}
 use Rattle.t1_source.specs.declared.edit.Rule.{Rule}
-use Rattle.t1_source.specs.declared.edit.Rule.TheVariants.{E1, E2, E3, E4, E5, E6, E7, E8, E9, E10}
+use Rattle.t1_source.specs.declared.edit.Rule.TheVariants.{E1, E2, E3, E4, E5, E6, E7, E8, E9, E10, E11, E12}
 use Rattle.t1_session.specs.declared.answer.Answer.{Answer}
 use Rattle.t1_session.specs.declared.answer.Answer.TheVariants.{Accepted, Broken, Faulty, OutOfMemory, Data}
 
@@ -22,6 +22,8 @@ rule_name E7 = codes "E7"
 rule_name E8 = codes "E8"
 rule_name E9 = codes "E9"
 rule_name E10 = codes "E10"
+rule_name E11 = codes "E11"
+rule_name E12 = codes "E12"
 
 -- profile, answers: the code of a fault
 abbrev pub code_name : Code → List ℕ

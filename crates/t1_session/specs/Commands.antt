@@ -49,14 +49,21 @@ removal (kind ∷ rest) =
     else if bytes_eq kind (codes "subr") then edit_of (λ n. RemoveSubr (number_of n)) (one_word rest)
     else unknown
 
--- profile, session commands: `print source`, `print kern`, `print pfb`
+-- profile, session commands: `print source`, `print kern`, `print pfb`, `print afm`, `print uses`
 unfoldable pub print_of : Option (List ℕ) → Command
 print_of None = unknown
 print_of (Some word) =
     if bytes_eq word (codes "source") then commands.Print prints.Source
     else if bytes_eq word (codes "kern") then commands.Print prints.Kern
     else if bytes_eq word (codes "pfb") then commands.Print prints.Pfb
+    else if bytes_eq word (codes "afm") then commands.Print prints.Afm
+    else if bytes_eq word (codes "uses") then commands.Print prints.Uses
     else unknown
+
+-- profile, session commands: `begin`, `commit`, `abort`, without further words
+abbrev pub lone : Command → List (List ℕ) → Command
+lone command [] = command
+lone command (word ∷ rest) = unknown
 
 -- profile, session commands: those that take no body
 unfoldable pub line_command : List (List ℕ) → Command
@@ -68,6 +75,9 @@ line_command (verb ∷ rest) =
     else if bytes_eq verb (codes "kern") then edit_of (λ w. Kern w.0 w.1 (number_of w.2)) (three_words rest)
     else if bytes_eq verb (codes "unkern") then edit_of (λ w. Unkern w.0 w.1) (two_words rest)
     else if bytes_eq verb (codes "print") then print_of (one_word rest)
+    else if bytes_eq verb (codes "begin") then lone commands.Begin rest
+    else if bytes_eq verb (codes "commit") then lone commands.Commit rest
+    else if bytes_eq verb (codes "abort") then lone commands.Abort rest
     else unknown
 
 -- profile, session commands: `replace glyph NAME`, `replace subr N`, `add glyph NAME`, `add subr N`, with their body
@@ -124,13 +134,16 @@ commands_of ended (Some o) (line ∷ lines) =
     if ends_body line then body_command (words o.heading) o.body ∷ commands_of ended None lines
     else commands_of ended (Some (record { heading = o.heading; body = o.body ++ line ++ 10 ∷ [] })) lines
 
--- which commands may meet want of memory
-abbrev pub may_want_memory : Command → Bool
-may_want_memory (commands.Edit edit) = true
-may_want_memory (commands.Print print) = true
-may_want_memory (commands.Broken rule) = false
+-- profile, answers: which commands take memory while they are made from their words
+abbrev pub takes_words : Command → Bool
+takes_words (commands.Edit edit) = true
+takes_words (commands.Print print) = false
+takes_words commands.Begin = false
+takes_words commands.Commit = false
+takes_words commands.Abort = false
+takes_words (commands.Broken rule) = false
 
--- a call makes this command, or wants memory for one that may
+-- a call makes this command, or wants memory for one that takes words with it
 abbrev pub Makes : {E : Type 0} → Result Command E → Command → Type 0
 Makes (Ok command) wanted = command ≡ wanted
-Makes (Err e) wanted = may_want_memory wanted ≡ true
+Makes (Err e) wanted = takes_words wanted ≡ true

@@ -1,4 +1,5 @@
 pub mod AnswerTexts
+pub mod Answering
 pub mod Answers
 pub mod Commands
 pub mod Delivery
@@ -10,4 +11,3 @@ pub mod Machine
 pub mod Outcomes
 pub mod Serving
 pub mod State
-pub mod Views

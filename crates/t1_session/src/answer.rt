@@ -2,13 +2,15 @@
 ghost use Rattle.std.specs.Prelude.{◌≡◌, OnOk, OnErr, ◌++◌, decimal, length};
 ghost use Rattle.t1_code.specs.Counted.{WritesAll, WritesFront};
 ghost use Rattle.t1_code.specs.Parts.{bytes_of};
+ghost use Rattle.t1_session.specs.Answering.{Answers, ShowsText, ShowsFile};
 ghost use Rattle.t1_session.specs.AnswerTexts.{rule_name, code_name, place_number, place_text, fault_text, data_text, answer_text};
 
 use itoa::Buffer;
+use std::alloc::AllocError;
 use std::io::{self, Write};
 use t1_code::Counted;
-use t1_frac::{Bytes, Code, Fault, Place};
-use t1_source::Rule;
+use t1_frac::{Bytes, Code, Fault, Place, Refusal};
+use t1_source::{Cause, Rule};
 
 /// What a command is answered.
 #[derive(Debug, Drop)]
@@ -23,6 +25,36 @@ pub enum Answer {
     OutOfMemory,
     /// What a print shows.
     Data(Bytes),
+}
+
+/// What is answered to a command that was performed, or refused; want of memory is passed on.
+pub fn answer_of(performed: Result<(), Cause>) -> Result<Answer, AllocError>
+    ensures { Answers performed result }
+{
+    match performed {
+        Ok(()) => Ok(Answer::Accepted),
+        Err(Cause::Rule(rule)) => Ok(Answer::Broken(rule)),
+        Err(Cause::Fault(fault)) => Ok(Answer::Faulty(fault)),
+        Err(Cause::Memory) => Err(AllocError),
+    }
+}
+
+/// What a print of a text is answered.
+pub fn text_answer(text: Result<Vec<u8>, AllocError>) -> Result<Answer, AllocError>
+    ensures { ShowsText text result }
+{
+    Ok(Answer::Data(Bytes::new(text?)))
+}
+
+/// What a print of a file is answered.
+pub fn file_answer(file: Result<Vec<u8>, Refusal>) -> Result<Answer, AllocError>
+    ensures { ShowsFile file result }
+{
+    match file {
+        Ok(file) => Ok(Answer::Data(Bytes::new(file))),
+        Err(Refusal::Fault(fault)) => Ok(Answer::Faulty(fault)),
+        Err(Refusal::Memory) => Err(AllocError),
+    }
 }
 
 /// The printed code of a rule.
@@ -40,6 +72,8 @@ fn rule_name(rule: Rule) -> &'static [u8]
         Rule::E8 => b"E8",
         Rule::E9 => b"E9",
         Rule::E10 => b"E10",
+        Rule::E11 => b"E11",
+        Rule::E12 => b"E12",
     }
 }
 

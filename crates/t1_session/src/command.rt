@@ -2,7 +2,7 @@
 ghost use Rattle.std.specs.Str.{bytes_eq};
 ghost use Rattle.std.specs.Prelude.{◌≡◌, ◌||◌, option_map, length, ◌<◌, IfOk, IfSome, MatchOption, ◌∷◌, []};
 ghost use Rattle.t1_frac.specs.Words.{words};
-ghost use Rattle.t1_session.specs.Commands.{one_word, two_words, three_words, removal, print_of, line_command, body_command, bodied_edit, open_command, takes_body, ends_body, edit_of, is_wordless, number_of, Makes};
+ghost use Rattle.t1_session.specs.Commands.{one_word, two_words, three_words, removal, print_of, line_command, body_command, bodied_edit, open_command, takes_body, ends_body, edit_of, lone, is_wordless, number_of, Makes};
 ghost use Rattle.t1_source.specs.declared.edit.Edit.TheVariants as edits;
 
 use crate::numbers::number_of;
@@ -16,6 +16,9 @@ use t1_source::{Edit, Rule};
 pub enum Command {
     Edit(Edit),
     Print(Print),
+    Begin,
+    Commit,
+    Abort,
     /// No command, or one whose body the input left open.
     Broken(Rule),
 }
@@ -67,7 +70,7 @@ fn removal(alloc: Global, line: &[u8]) -> Result<Command, AllocError>
     }
 }
 
-/// `print source`, `print kern`, `print pfb`, after the first word.
+/// `print source`, `print kern`, `print pfb`, `print afm`, `print uses`, after the first word.
 #[tactic(auto, unfolding(crate::specs::Commands::print_of))]
 fn print_of(line: &[u8]) -> Command
     ensures { result ≡ print_of (one_word (words line.now)) }
@@ -76,6 +79,8 @@ fn print_of(line: &[u8]) -> Command
         Some(b"source") => Command::Print(Print::Source),
         Some(b"kern") => Command::Print(Print::Kern),
         Some(b"pfb") => Command::Print(Print::Pfb),
+        Some(b"afm") => Command::Print(Print::Afm),
+        Some(b"uses") => Command::Print(Print::Uses),
         _ => UNKNOWN,
     }
 }
@@ -125,6 +130,16 @@ fn unkerning(alloc: Global, line: &[u8]) -> Result<Command, AllocError>
     Ok(Command::Edit(Edit::Unkern(left, right)))
 }
 
+/// A command without further words.
+fn lone(command: Command, line: &[u8]) -> Command
+    ensures { result ≡ lone command (words line.now) }
+{
+    match next_word(line) {
+        None => command,
+        Some(_) => UNKNOWN,
+    }
+}
+
 /// The command of a line that takes no body. An unknown one takes no memory.
 #[tactic(auto, unfolding(crate::specs::Commands::line_command))]
 pub fn line_command(alloc: Global, line: &[u8]) -> Result<Command, AllocError>
@@ -145,6 +160,12 @@ pub fn line_command(alloc: Global, line: &[u8]) -> Result<Command, AllocError>
         unkerning(alloc, rest)
     } else if verb == b"print".as_slice() {
         Ok(print_of(rest))
+    } else if verb == b"begin".as_slice() {
+        Ok(lone(Command::Begin, rest))
+    } else if verb == b"commit".as_slice() {
+        Ok(lone(Command::Commit, rest))
+    } else if verb == b"abort".as_slice() {
+        Ok(lone(Command::Abort, rest))
     } else {
         Ok(UNKNOWN)
     }

@@ -5,6 +5,7 @@
 mod answer;
 mod answering;
 mod assembling;
+mod batch;
 mod command;
 mod dialogue;
 mod error;
@@ -21,3 +22,4 @@ pub use assembling::assemble_source;
 pub use error::ServeError;
 pub use measuring::measure_source;
 pub use serving::serve;
+pub use session::Session;

@@ -1,8 +1,9 @@
 //! A session: a font that is kept current under edits.
+use crate::batch::Batch;
+use std::alloc::Global;
 use std::marker::Model;
 use t1_font::MeasuredGlyphs;
 use t1_source::{Pairs, Source};
-use std::alloc::Global;
 
 /// A font under edits: its source and its pairs, with the metrics of its glyphs, and the batch that is open. The source
 /// has no fault. Contracts see the source, the pairs and the batch.
@@ -15,43 +16,43 @@ pub struct Session {
     batch: Option<Batch>,
 }
 
-/// The source and the pairs after the edits of a batch so far.
-#[derive(Drop)]
-struct Batch {
-    source: Source,
-    pairs: Pairs,
-}
-
 impl Model for Session {
-    ghost use Rattle.std.specs.Prelude.{◌≡◌, Ok, option_map};
+    ghost use Rattle.std.specs.Prelude.{◌≡◌, Ok};
     ghost use Rattle.t1_font.specs.SourceChecks.{measured_source};
     ghost use Rattle.t1_session.specs.State.{State};
-    ghost use Rattle.t1_session.specs.Views.{draft_of};
 
     ghost Value = { State };
 
-    ghost view = { λ s. record { source = s.source; pairs = s.pairs; batch = option_map draft_of s.batch } };
+    ghost view = { λ s. record { source = s.source; pairs = s.pairs; batch = s.batch } };
 
     ghost invariant = { λ s. measured_source s.source ≡ Ok s.glyphs };
 }
 
-ghost use Rattle.std.specs.Prelude.{◌≡◌, Ok, IfOk, OnOk, OnErr, is_some, true};
+ghost use Rattle.std.specs.Prelude.{◌≡◌, Ok, IfOk, OnOk, OnErr, None, is_some, true};
 ghost use Rattle.t1_frac.specs.Outcome.{Gives};
-ghost use Rattle.t1_source.specs.Editing.{edited};
-ghost use Rattle.t1_source.specs.Kerning.{kern};
+ghost use Rattle.t1_source.specs.Kerning.{kern, pairs};
 ghost use Rattle.t1_parts.specs.Printing.{text};
+ghost use Rattle.t1_parts.specs.Reading.{reads};
 ghost use Rattle.t1_code.specs.Parts.{Prints};
 ghost use Rattle.t1_font.specs.SourceChecks.{measured_source, source_check};
 ghost use Rattle.t1_session.specs.declared.command.Command.TheVariants as commands;
 ghost use Rattle.t1_session.specs.FromScratch.{pfb_from_scratch, metrics_from_scratch, uses_from_scratch};
-ghost use Rattle.t1_session.specs.Machine.{opened, perform, may_want_memory, after_want, taken, drafted, judged};
-ghost use Rattle.t1_session.specs.Outcomes.{Takes, TakesOrReturns};
+ghost use Rattle.t1_session.specs.declared.answer.Answer.TheVariants.{Data};
+ghost use Rattle.t1_session.specs.Machine.{opened, perform, may_want_memory, after_want, judged, printed};
+ghost use Rattle.t1_session.specs.Outcomes.{Takes, TakesOrReturns, Took};
 
+use crate::answer::{Answer, answer_of, file_answer, text_answer};
+use crate::command::Command;
+use crate::print::{Print, put_text};
+use std::alloc::AllocError;
 use std::io::Write;
-use t1_code::{Counted, OutError};
-use t1_font::{measured_source, usage_text, write_source_afm, write_source_pfb};
+use t1_code::{Counted, OutError, WHOLE_PARTS};
+use t1_font::{
+    afm_of_source, measured_source, pfb_of_source, usage_text, write_source_afm, write_source_pfb,
+};
 use t1_frac::Refusal;
 use t1_run::Meter;
+use t1_source::laws::{text_of_pairs_read, text_of_source_read};
 use t1_source::{Cause, Edit, Rule};
 
 impl Session {
@@ -104,9 +105,7 @@ impl Session {
         if self.batch.is_some() {
             return Err(Cause::Rule(Rule::E11));
         }
-        let source = self.source.copied()?;
-        let pairs = self.pairs.copied()?;
-        self.batch = Some(Batch { source, pairs });
+        self.batch = Some(Batch::of(&self.source, &self.pairs)?);
         Ok(())
     }
 
@@ -117,7 +116,10 @@ impl Session {
         ensures { Takes self.old commands.Commit result self.new }
     {
         match self.batch.take() {
-            Some(batch) => self.accept(batch.source, batch.pairs),
+            Some(batch) => {
+                let (source, pairs) = batch.into_parts();
+                self.accept(source, pairs)
+            }
             None => Err(Cause::Rule(Rule::E12)),
         }
     }
@@ -138,8 +140,8 @@ impl Session {
     fn take(&mut self, edit: &Edit) -> Result<(), Cause>
         ensures { Takes self.old (commands.Edit edit.now) result self.new }
     {
-        if self.batch.is_some() {
-            return self.draft(edit);
+        if let Some(batch) = &mut self.batch {
+            return batch.edit(edit);
         }
         let (source, pairs) = self.source.edited(&self.pairs, edit)?;
         self.accept(source, pairs)
@@ -162,19 +164,6 @@ impl Session {
         }
     }
 
-    /// Takes an edit into the open batch.
-    fn draft(&mut self, edit: &Edit) -> Result<(), Cause>
-        requires { is_some self.old.batch ≡ true }
-        ensures { Took self.old (edit_in self.old.batch self.old (λ source pairs. edited source pairs edit.now)) true self.old result self.new }
-    {
-        let Some(batch) = &self.batch else {
-            unreachable!()
-        };
-        let (source, pairs) = batch.source.edited(&batch.pairs, edit)?;
-        self.batch = Some(Batch { source, pairs });
-        Ok(())
-    }
-
     /// The metrics of the glyphs, of a session whose texts read back as what it holds.
     fn known(&self) -> &MeasuredGlyphs
         ensures measured { measured_source self.now.source ≡ Ok result.now }
@@ -191,7 +180,7 @@ impl Session {
         ensures { Prints W.contents out.old out.new (pfb_from_scratch self.now) result }
     {
         let _glyphs = self.known();
-        write_source_pfb(self.alloc, &self.source, out)
+        write_source_pfb(self.alloc, &self.source, WHOLE_PARTS, out)
     }
 
     /// Writes the AFM file: that of the printed source and pairs from scratch.
@@ -227,21 +216,22 @@ impl Session {
         put_text(&text, out)
     }
 
-    /// The text that a print shows.
-    fn shown(&self, print: Print) -> Result<Vec<u8>, AllocError>
-        ensures { IfOk result (λ shown. Data shown.items ≡ printed self.now print) }
+    /// What a print is answered. The whole text is there before any of it is written.
+    fn shown(&self, print: Print) -> Result<Answer, AllocError>
+        ensures { IfOk result (λ answer. answer ≡ printed self.now print) }
     {
         let glyphs = self.known();
         match print {
-            Print::Source => self.source.text(),
-            Print::Kern => self.pairs.text(),
-            Print::Pfb => pfb_file_of(self.alloc, &self.source),
-            Print::Afm => afm_file_of(self.alloc, &self.source, &self.pairs, glyphs),
-            Print::Uses => usage_text(self.alloc, glyphs.metrics()),
+            Print::Source => text_answer(self.source.text()),
+            Print::Kern => text_answer(self.pairs.text()),
+            Print::Pfb => file_answer(pfb_of_source(self.alloc, &self.source, WHOLE_PARTS)),
+            Print::Afm => text_answer(afm_of_source(self.alloc, &self.source, &self.pairs, glyphs)),
+            Print::Uses => text_answer(usage_text(self.alloc, glyphs.metrics())),
         }
     }
 
     /// Performs a command. Where memory runs out the session is as before, but for the batch of a commit.
+    #[tactic(auto, unfolding(crate::specs::Machine::perform))]
     pub(crate) fn perform(&mut self, command: Command) -> Result<Answer, AllocError>
         ensures answer { IfOk result (λ answer. answer ≡ (perform self.old command).answer) }
         ensures next { OnOk result (self.new ≡ (perform self.old command).next) }
@@ -253,7 +243,7 @@ impl Session {
             Command::Begin => answer_of(self.begin()),
             Command::Commit => answer_of(self.commit()),
             Command::Abort => answer_of(self.abort()),
-            Command::Print(print) => Ok(Answer::Data(Bytes::new(self.shown(print)?))),
+            Command::Print(print) => self.shown(print),
             Command::Broken(rule) => Ok(Answer::Broken(rule)),
         }
     }

@@ -48,6 +48,10 @@ pub enum Rule {
     E9,
     /// No such pair or slot.
     E10,
+    /// A batch is open already.
+    E11,
+    /// No batch is open.
+    E12,
 }
 
 /// Why an edit is refused: the first rule that it breaks, a fault of the font that it would make, or want of memory.
