@@ -6,5 +6,6 @@ pub mod Lines
 pub mod Machine
 pub mod AnswerTexts
 pub mod Commands
+pub mod Conversation
 pub mod Serving
 pub mod State

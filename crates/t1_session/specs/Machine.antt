@@ -1,5 +1,5 @@
 -- The commands of a session.
-use Rattle.std.specs.Prelude.{◌≡◌, ℕ, List, Result, Ok, Err}
+use Rattle.std.specs.Prelude.{◌≡◌, ℕ, Bool, true, false, List, Result, Ok, Err}
 use Rattle.t1_frac.specs.declared.fault.Fault.{Fault}
 use Rattle.t1_frac.specs.Outcome.{◌>>=◌}
 use Rattle.t1_source.specs.declared.pairs.Pair.{Pair}
@@ -18,7 +18,6 @@ use Rattle.t1_session.specs.declared.command.Command.TheVariants as commands
 use Rattle.t1_session.specs.Answers.{Performed, Machine}
 use Rattle.t1_font.specs.Assembly.{source_file, file_check}
 use Rattle.t1_source.specs.Editing.{edited}
-use Rattle.t1_session.specs.Commands.{may_want_memory}
 use Rattle.t1_session.specs.State.{State}
 
 -- profile, edits: the edited source is refused by the first fault of its bodies, or by F23
@@ -48,9 +47,19 @@ perform s (commands.Edit edit) = judged s (edited s.source s.pairs edit)
 perform s (commands.Print print) = record { answer = printed s print; next = s }
 perform s (commands.Broken rule) = record { answer = Broken rule; next = s }
 
+-- profile, answers: which commands may meet want of memory: edits and prints
+abbrev pub may_want_memory : State → Command → Bool
+may_want_memory s (commands.Edit edit) = true
+may_want_memory s (commands.Print print) = true
+may_want_memory s (commands.Broken rule) = false
+
 -- profile, answers: a command that met want of memory leaves the state as it was
+abbrev pub after_want : State → Command → State
+after_want s command = s
+
+-- how a session performs its commands
 abbrev pub machine : Machine State
-machine = record { perform = perform; may_want_memory = λ s r. may_want_memory r; after_want = λ s r. s }
+machine = record { perform = perform; may_want_memory = may_want_memory; after_want = after_want }
 
 -- the state that a session opens with, or the first fault of the source, of the pairs, of the source's bodies
 unfoldable pub scratch : List ℕ → List ℕ → Result State Fault

@@ -24,9 +24,8 @@ ghost use Rattle.t1_frac.specs.Outcome.{Gives};
 ghost use Rattle.t1_source.specs.Kerning.{kern};
 ghost use Rattle.t1_parts.specs.Printing.{text};
 ghost use Rattle.t1_source.specs.Editing.{edited};
-ghost use Rattle.t1_session.specs.Machine.{perform, printed, judged, judged_file, file_answer, scratch};
+ghost use Rattle.t1_session.specs.Machine.{perform, may_want_memory, after_want, printed, judged, judged_file, file_answer, scratch};
 ghost use Rattle.t1_font.specs.Assembly.{source_file, file_check};
-ghost use Rattle.t1_session.specs.Commands.{may_want_memory};
 ghost use Rattle.t1_code.specs.Pfb.{whole_file};
 
 use crate::answer::Answer;
@@ -64,8 +63,8 @@ impl Session {
     pub fn perform(&mut self, alloc: Global, command: Command) -> Result<Answer, AllocError>
         ensures answer { IfOk result (λ answer. answer ≡ (perform self.old command).answer) }
         ensures next { OnOk result (self.new ≡ (perform self.old command).next) }
-        ensures want { OnErr result (may_want_memory command ≡ true) }
-        ensures err { OnErr result (self.new ≡ self.old) }
+        ensures want { OnErr result (may_want_memory self.old command ≡ true) }
+        ensures err { OnErr result (self.new ≡ after_want self.old command) }
     {
         match command {
             Command::Edit(edit) => self.edit(alloc, &edit),
