@@ -5,7 +5,8 @@ use Rattle.std.specs.List.{onto_first}
 use Rattle.std.proofs.lemmas.Bool.{eqb-true, and_parts}
 use Rattle.std.proofs.lemmas.List.Sums.{sum_by-cons}
 use Rattle.t1_text.specs.Lines.{unified, split_lines}
-use Rattle.t1_session.specs.Lines.{ended_lines, lines_so_far, input_after, ends_line, is_unbroken}
+use Rattle.t1_session.specs.Lines.{ended_lines, finished_lines}
+use Rattle.t1_session.specs.Conversation.{input_after, ends_line, is_unbroken}
 
 pub not_false : (q : Bool) → not q ≡ true → q ≡ false
 not_false true h = cc
@@ -56,22 +57,22 @@ ended-unbroken (b ∷ bs) h =
     let s = and_parts (not (b == 10)) (is_unbroken bs) h in
     sum_by-cons (λ c. cond (c == 10) 1 0) b bs ∙ rw (not_false (b == 10) s.0) (omega (arith, ended-unbroken bs s.1))
 
-pub lines_so_far-line : (ended : Bool) (xs rest : List ℕ) → is_unbroken xs ≡ true → lines_so_far ended (xs ++ 10 ∷ rest) ≡ xs ∷ lines_so_far ended rest
-lines_so_far-line true xs rest h = split-line xs rest h
-lines_so_far-line false xs rest h = rw (ended-line xs rest h, split-line xs rest h) refl
+pub finished_lines-line : (ended : Bool) (xs rest : List ℕ) → is_unbroken xs ≡ true → finished_lines ended (xs ++ 10 ∷ rest) ≡ xs ∷ finished_lines ended rest
+finished_lines-line true xs rest h = split-line xs rest h
+finished_lines-line false xs rest h = rw (ended-line xs rest h, split-line xs rest h) refl
 
-pub lines_so_far-unbroken : (xs : List ℕ) → is_unbroken xs ≡ true → lines_so_far false xs ≡ []
-lines_so_far-unbroken xs h = rw (ended-unbroken xs h) refl
+pub finished_lines-unbroken : (xs : List ℕ) → is_unbroken xs ≡ true → finished_lines false xs ≡ []
+finished_lines-unbroken xs h = rw (ended-unbroken xs h) refl
 
-pub lines_so_far-last : (xs : List ℕ) → is_unbroken xs ≡ true → lines_so_far true xs ≡ last_line xs
-lines_so_far-last xs h = split-unbroken xs h
+pub finished_lines-last : (xs : List ℕ) → is_unbroken xs ≡ true → finished_lines true xs ≡ last_line xs
+finished_lines-last xs h = split-unbroken xs h
 
 pub last_line_of : (line : List ℕ) → (length line == 0) ≡ false → last_line line ≡ line ∷ []
 last_line_of [] h = cc
 last_line_of (b ∷ bs) h = refl
 
 -- a line without its end stays so as a byte that ends no line comes to it
-is_unbroken-push : (xs : List ℕ) (b : ℕ) → is_unbroken xs ≡ true → (b == 10) ≡ false → is_unbroken (xs ++ b ∷ []) ≡ true
+pub is_unbroken-push : (xs : List ℕ) (b : ℕ) → is_unbroken xs ≡ true → (b == 10) ≡ false → is_unbroken (xs ++ b ∷ []) ≡ true
 is_unbroken-push [] b h n = rw n refl
 is_unbroken-push (x ∷ xs) b h n =
     let s = and_parts (not (x == 10)) (is_unbroken xs) h in

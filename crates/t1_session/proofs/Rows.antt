@@ -11,15 +11,15 @@ use Rattle.t1_source.specs.declared.edit.Rule.TheVariants.{E7, E8}
 use Rattle.t1_session.specs.declared.print.Print.TheVariants as prints
 use Rattle.t1_session.specs.declared.command.Command.TheVariants as commands
 use Rattle.t1_session.specs.declared.answer.Answer.TheVariants.{Accepted, Broken, Faulty, OutOfMemory}
-use Rattle.t1_session.specs.Lines.{lines_so_far}
+use Rattle.t1_session.specs.Lines.{finished_lines}
 use Rattle.t1_session.specs.Commands.{commands_of, line_command, removal, print_of, body_command, bodied_edit, open_command, takes_body, ends_body, number_of}
 use Rattle.t1_session.specs.AnswerTexts.{answer_text, fault_text}
 
 -- CR LF ends one line; an unfinished line counts once the input has ended
-lines_at_end : lines_so_far true (unified (codes "a" ++ 13 ∷ 10 ∷ 13 ∷ codes "b")) ≡ codes "a" ∷ [] ∷ codes "b" ∷ []
+lines_at_end : finished_lines true (unified (codes "a" ++ 13 ∷ 10 ∷ 13 ∷ codes "b")) ≡ codes "a" ∷ [] ∷ codes "b" ∷ []
 lines_at_end = refl
 
-lines_before_end : lines_so_far false (unified (codes "a" ++ 13 ∷ 10 ∷ 13 ∷ codes "b")) ≡ codes "a" ∷ [] ∷ []
+lines_before_end : finished_lines false (unified (codes "a" ++ 13 ∷ 10 ∷ 13 ∷ codes "b")) ≡ codes "a" ∷ [] ∷ []
 lines_before_end = refl
 
 -- a command without a body, a line without words, a print

@@ -2,10 +2,12 @@
 use Rattle.std.specs.Prelude.{unwrap_or, ℕ, ℤ, pos, negsuc, ◌-◌, ◌^◌, Bool, true, false, ◌&&◌, ◌||◌, nat_lt, if◌then◌else◌, List, [], ◌∷◌, ◌++◌, Option, Some, None, Result, Ok, Err, ◌≡◌, codes}
 use Rattle.std.specs.Str.{bytes_eq}
 use Rattle.t1_frac.specs.Words.{words}
+use Rattle.t1_text.specs.Lines.{unified}
 use Rattle.t1_code.specs.Words.{number_word}
 use Rattle.t1_source.specs.declared.edit.Edit.{Edit}
 use Rattle.t1_source.specs.declared.edit.Edit.TheVariants.{ReplaceGlyph, AddGlyph, RemoveGlyph, ReplaceSubr, AddSubr, RemoveSubr, Encode, Unencode, Kern, Unkern}
 use Rattle.t1_source.specs.declared.edit.Rule.TheVariants.{E7, E8}
+use Rattle.t1_session.specs.Lines.{finished_lines}
 use Rattle.t1_session.specs.declared.print.Print.TheVariants as prints
 use Rattle.t1_session.specs.declared.command.Command.{Command}
 use Rattle.t1_session.specs.declared.command.Command.TheVariants as commands
@@ -134,16 +136,21 @@ commands_of ended (Some o) (line ∷ lines) =
     if ends_body line then body_command (words o.heading) o.body ∷ commands_of ended None lines
     else commands_of ended (Some (record { heading = o.heading; body = o.body ++ line ++ 10 ∷ [] })) lines
 
--- profile, answers: which commands take memory while they are made from their words
-abbrev pub takes_words : Command → Bool
-takes_words (commands.Edit edit) = true
-takes_words (commands.Print print) = false
-takes_words commands.Begin = false
-takes_words commands.Commit = false
-takes_words commands.Abort = false
-takes_words (commands.Broken rule) = false
+-- profile, session commands: the commands of an input; once it has ended, those of all its lines and of a body that it
+-- leaves open, until then those of the lines that have their end
+abbrev pub input_commands : Bool → List ℕ → List Command
+input_commands ended input = commands_of ended None (finished_lines ended (unified input))
 
--- a call makes this command, or wants memory for one that takes words with it
+-- whether a command is an edit, whose names and body are kept while it is performed
+abbrev pub is_edit : Command → Bool
+is_edit (commands.Edit edit) = true
+is_edit (commands.Print print) = false
+is_edit commands.Begin = false
+is_edit commands.Commit = false
+is_edit commands.Abort = false
+is_edit (commands.Broken rule) = false
+
+-- a call makes this command, or wants memory for an edit
 abbrev pub Makes : {E : Type 0} → Result Command E → Command → Type 0
 Makes (Ok command) wanted = command ≡ wanted
-Makes (Err e) wanted = takes_words wanted ≡ true
+Makes (Err e) wanted = is_edit wanted ≡ true

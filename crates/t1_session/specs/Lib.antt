@@ -2,6 +2,7 @@ pub mod AnswerTexts
 pub mod Answering
 pub mod Answers
 pub mod Commands
+pub mod Conversation
 pub mod Delivery
 pub mod Dialogues
 pub mod Files

@@ -1,11 +1,12 @@
 -- What a whole session reads and writes.
-use Rattle.std.specs.Prelude.{◌≡◌, ℕ, Bool, true, false, List, ◌++◌, Option, Result, Ok, Err}
+use Rattle.std.specs.Prelude.{◌≡◌, ◌⊎◌, ℕ, Bool, true, false, List, [], ◌∷◌, ◌++◌, Option, Result, Ok, Err}
 use Rattle.std.specs.Io.KnownBytes.{Consumes, IsAtEnd}
 use Rattle.t1_frac.specs.declared.fault.Fault.{Fault}
 use Rattle.t1_code.specs.Counted.{Tally, WritesAll, WritesFront, one_more}
 use Rattle.t1_session.specs.declared.error.ServeError.{ServeError}
 use Rattle.t1_session.specs.declared.error.ServeError.TheVariants as errors
 use Rattle.t1_session.specs.Answers.{session_answers}
+use Rattle.t1_session.specs.Commands.{input_commands}
 use Rattle.t1_session.specs.Machine.{machine}
 use Rattle.t1_session.specs.State.{State}
 
@@ -44,12 +45,15 @@ module _ {R W : Type 0} (remaining : R → Option (List ℕ)) (contents : W → 
     pub reads : ReadsAndFails remaining old.reader new.reader input
     pub writes : WritesAll contents old.writer new.writer (session_answers machine state input false marks)
 
-  -- Memory: the answer to a beginning of what was read, as input that goes on, was written
+  -- Memory: the answer to a beginning of what was read, as input that goes on, was written; the next byte, for which there
+  -- was no memory, finishes no command
   pub record StopsForMemory (state : State) (old new : Streams R W) : Type 0 where
     pub front : List ℕ
+    pub byte : ℕ
     pub rest : List ℕ
     pub marks : List Bool
-    pub reads : Reads remaining old.reader new.reader (front ++ rest)
+    pub reads : Reads remaining old.reader new.reader (front ++ byte ∷ rest)
+    pub finishes_none : input_commands false (front ++ byte ∷ []) ≡ input_commands false front
     pub writes : WritesAll contents old.writer new.writer (session_answers machine state front false marks)
 
   -- Write: a beginning of the answer to what was read, as whole input, was written
@@ -67,6 +71,14 @@ module _ {R W : Type 0} (remaining : R → Option (List ℕ)) (contents : W → 
   Converses state old new (Err errors.Write) = StopsAtWrite state old new
   Converses state old new (Err (errors.Load fault)) = ⊥
 
+  -- want of memory before the session was open: nothing was read or written
+  abbrev pub NeverOpens : {T : Type 0} → Streams R W → Streams R W → Result T ServeError → Type 0
+  NeverOpens old new (Ok done) = ⊥
+  NeverOpens old new (Err errors.Read) = ⊥
+  NeverOpens old new (Err errors.Memory) = new ≡ old
+  NeverOpens old new (Err errors.Write) = ⊥
+  NeverOpens old new (Err (errors.Load fault)) = ⊥
+
   -- the refusal of what no session can be opened on: its fault, or want of memory
   abbrev pub Refuses : {T : Type 0} → Fault → Result T ServeError → Type 0
   Refuses fault (Ok done) = ⊥
@@ -75,7 +87,8 @@ module _ {R W : Type 0} (remaining : R → Option (List ℕ)) (contents : W → 
   Refuses fault (Err errors.Write) = ⊥
   Refuses fault (Err (errors.Load reported)) = reported ≡ fault
 
-  -- a whole session: from the state that it opens with; or nothing is read or written, and the refusal is reported
+  -- a whole session: from the state that it opens with, unless memory ran out before; or nothing is read or written, and the
+  -- refusal is reported
   abbrev pub Serves : {T : Type 0} → Result State Fault → Streams R W → Streams R W → Result T ServeError → Type 0
-  Serves (Ok state) old new result = Converses state old new result
+  Serves (Ok state) old new result = Converses state old new result ⊎ NeverOpens old new result
   Serves (Err fault) old new result = (new ≡ old) × Refuses fault result

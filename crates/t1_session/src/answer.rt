@@ -1,6 +1,6 @@
 //! What commands are answered, and how it is written.
 ghost use Rattle.std.specs.Prelude.{◌≡◌, OnOk, OnErr, ◌++◌, decimal, length};
-ghost use Rattle.t1_code.specs.Counted.{WritesAll, WritesFront};
+ghost use Rattle.t1_code.specs.Counted.{WritesAll, WritesFront, Passes, Stops, outlet};
 ghost use Rattle.t1_code.specs.Parts.{bytes_of};
 ghost use Rattle.t1_session.specs.Answering.{Answers, ShowsText, ShowsFile};
 ghost use Rattle.t1_session.specs.AnswerTexts.{rule_name, code_name, place_number, place_text, fault_text, data_text, answer_text};
@@ -8,7 +8,7 @@ ghost use Rattle.t1_session.specs.AnswerTexts.{rule_name, code_name, place_numbe
 use itoa::Buffer;
 use std::alloc::AllocError;
 use std::io::{self, Write};
-use t1_code::Counted;
+use t1_code::{Chunk, Counted, put_plain};
 use t1_frac::{Bytes, Code, Fault, Place, Refusal};
 use t1_source::{Cause, Rule};
 
@@ -121,15 +121,29 @@ fn code_name(code: Code) -> &'static [u8]
     }
 }
 
-/// Writes slices, one after another.
+/// Passes slices on, one after another.
+fn pass_slices<W: Write>(
+    writer: &mut Counted<W>,
+    chunk: &mut Chunk,
+    slices: &[&[u8]],
+) -> io::Result<()>
+    ensures ok { OnOk result (Passes W.contents (outlet writer.old chunk.old) (outlet writer.new chunk.new) (bytes_of slices.now)) }
+    ensures err { OnErr result (Stops W.contents (outlet writer.old chunk.old) (outlet writer.new chunk.new) (bytes_of slices.now)) }
+{
+    for slice in slices {
+        put_plain(writer, chunk, slice)?;
+    }
+    Ok(())
+}
+
+/// Writes slices, one after another, by way of a chunk: one call of the writer takes up to 4,096 bytes of them.
 fn put_slices<W: Write>(writer: &mut Counted<W>, slices: &[&[u8]]) -> io::Result<()>
     ensures ok { OnOk result (WritesAll W.contents writer.old writer.new (bytes_of slices.now)) }
     ensures err { OnErr result (WritesFront W.contents writer.old writer.new (bytes_of slices.now)) }
 {
-    for slice in slices {
-        writer.put_all(slice)?;
-    }
-    Ok(())
+    let mut chunk = Chunk::new();
+    pass_slices(writer, &mut chunk, slices)?;
+    chunk.send(writer)
 }
 
 /// The number that stands in a place.

@@ -4,7 +4,7 @@ ghost use Rattle.t1_session.specs.AnswerTexts.{answer_text};
 ghost use Rattle.t1_session.specs.Commands.{Makes};
 ghost use Rattle.t1_session.specs.Answers.{answer_to};
 ghost use Rattle.t1_session.specs.Machine.{machine};
-ghost use Rattle.t1_session.specs.Dialogues.{Sends, AnswersCommand, IsPerformed};
+ghost use Rattle.t1_session.specs.Conversation.{Sends, AnswersCommand, IsPerformed};
 
 use crate::answer::{Answer, put_answer};
 use crate::command::Command;

@@ -1,6 +1,6 @@
 //! A session in the midst of its input.
 ghost use Rattle.std.specs.Prelude.{◌≡◌, true, ◌∷◌, [], None, Some};
-ghost use Rattle.t1_session.specs.Lines.{is_unbroken, ends_line};
+ghost use Rattle.t1_session.specs.Conversation.{is_unbroken, ends_line};
 
 use crate::answering::answer_command;
 use crate::command::{
@@ -39,8 +39,8 @@ fn ends_line(after_return: bool, byte: u8) -> bool
 }
 
 impl Dialogue {
-    ghost use Rattle.t1_session.specs.Answers.{fresh};
-    ghost use Rattle.t1_session.specs.Dialogues.{conversation_of, opening_of, EndsLine, Feeds, Ends, EndsBody};
+    ghost use Rattle.t1_session.specs.Conversation.{fresh, EndsCommandLine, EndsLine, Feeds, Ends};
+    ghost use Rattle.t1_session.specs.Dialogues.{conversation_of, opening_of};
 
     /// A session before its first byte.
     pub fn new(alloc: Global, session: Session) -> Dialogue
@@ -104,14 +104,14 @@ impl Dialogue {
         }
     }
 
-    /// Ends a line that begins a command, or that has no words.
+    /// Ends a line that begins a command, or that has no words. Want of memory is answered as any command is.
     fn end_command_line<W: Write>(
         &mut self,
         alloc: Global,
         writer: &mut Counted<W>,
     ) -> Result<(), ServeError>
         requires { self.old.opening ≡ None }
-        ensures { EndsLine W.contents (conversation_of self.old) (conversation_of self.new) writer.old writer.new result }
+        ensures { EndsCommandLine W.contents (conversation_of self.old) (conversation_of self.new) writer.old writer.new result }
     {
         let line = mem::replace(&mut self.line, Vec::new(alloc));
         if takes_body(&line) {
@@ -151,7 +151,8 @@ impl Dialogue {
         Ok(())
     }
 
-    /// Ends the input. A last line without its end counts where it isn't empty.
+    /// Ends the input. A last line without its end counts where it isn't empty; a body that is open then is a command
+    /// too. Want of memory is answered as any command is.
     pub fn finish<W: Write>(
         mut self,
         alloc: Global,
@@ -159,28 +160,48 @@ impl Dialogue {
     ) -> Result<(), ServeError>
         ensures { Ends W.contents (conversation_of self) writer.old writer.new result }
     {
-        if self.line.is_empty() {
-            return self.end_body(alloc, writer);
+        match self.opening.take() {
+            None => self.finish_command_line(alloc, writer),
+            Some(opening) => self.finish_body(alloc, opening, writer),
         }
-        self.end_line(alloc, writer)?;
-        self.end_body(alloc, writer)
     }
 
-    /// Ends the input after its last line.
-    fn end_body<W: Write>(
+    /// Ends the input in a line that begins a command, or that has no words.
+    fn finish_command_line<W: Write>(
         &mut self,
         alloc: Global,
         writer: &mut Counted<W>,
     ) -> Result<(), ServeError>
-        requires { self.old.line.items ≡ [] }
-        ensures { EndsBody W.contents (conversation_of self.old) writer.old writer.new result }
+        requires { self.old.opening ≡ None }
+        ensures { Ends W.contents (conversation_of self.old) writer.old writer.new result }
     {
-        match self.opening.take() {
-            None => Ok(()),
-            Some(opening) => {
-                let made = Ok(open_command(&opening.heading));
-                answer_command(alloc, &mut self.session, made, writer)
-            }
+        if takes_body(&self.line) {
+            let made = Ok(open_command(&self.line));
+            return answer_command(alloc, &mut self.session, made, writer);
         }
+        if is_blank_line(&self.line) {
+            return Ok(());
+        }
+        let made = line_command(alloc, &self.line);
+        answer_command(alloc, &mut self.session, made, writer)
+    }
+
+    /// Ends the input in a line of a body, which may be the line that ends it.
+    fn finish_body<W: Write>(
+        &mut self,
+        alloc: Global,
+        opening: Opened,
+        writer: &mut Counted<W>,
+    ) -> Result<(), ServeError>
+        requires { self.old.opening ≡ None }
+        ensures { Ends W.contents (record (conversation_of self.old) { opening = Some (opening_of opening) }) writer.old writer.new result }
+    {
+        let Opened { heading, body } = opening;
+        if ends_body(&self.line) {
+            let made = body_command(alloc, &heading, Bytes::new(body));
+            return answer_command(alloc, &mut self.session, made, writer);
+        }
+        let made = Ok(open_command(&heading));
+        answer_command(alloc, &mut self.session, made, writer)
     }
 }

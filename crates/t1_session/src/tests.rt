@@ -78,6 +78,7 @@ struct Short {
     size: usize,
     room: usize,
     reports: bool,
+    writes: u64,
     flushes: u64,
 }
 
@@ -88,6 +89,7 @@ impl Short {
             size,
             room,
             reports,
+            writes: 0,
             flushes: 0,
         }
     }
@@ -95,6 +97,7 @@ impl Short {
 
 impl Write for Short {
     fn write(&mut self, bytes: &[u8]) -> io::Result<usize> {
+        self.writes = self.writes.saturating_add(1);
         let count = bytes.len().min(self.size).min(self.room);
         if bytes.len() > MAX_PUT || (count == 0 && self.reports) {
             return Err(ErrorKind::Other.into());
@@ -166,6 +169,19 @@ fn answers_in_pieces(rt: HostRuntime) -> Result<(), Fail> {
         assert_eq!(rt; writer.flushes, 16);
         assert_eq!(rt; writer.taken.as_slice(), expected.as_slice());
     }
+    Ok(())
+}
+
+#[test]
+fn writes_each_answer_at_once(rt: HostRuntime) -> Result<(), Fail> {
+    let alloc = rt.alloc();
+    let input = input(alloc)?;
+    let mut reader = Counted::new(input.as_slice());
+    let mut writer = Counted::new(Short::new(alloc, usize::MAX, usize::MAX, true));
+    serve(alloc, &font(alloc)?, b"", &mut reader, &mut writer)?;
+    let writer = writer.into_inner();
+    assert_eq!(rt; writer.writes, 16);
+    assert_eq!(rt; writer.flushes, 16);
     Ok(())
 }
 

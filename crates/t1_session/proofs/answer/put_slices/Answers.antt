@@ -1,26 +1,17 @@
-use Rattle.std.proofs.Common.{◌<◌, [], length, refl, arith}
-use Rattle.std.proofs.lemmas.List.{drop_all}
+use Rattle.t1_code.specs.Counted.{outlet}
 use Rattle.t1_code.specs.Parts.{bytes_of}
-use Rattle.t1_code.proofs.Encrypting.{flat_map-drop}
-use Rattle.t1_code.proofs.Writing.{writing, Written-none, Written-step, Written-fails, Written-all, at_error}
+use Rattle.t1_code.proofs.Writing.{Passes-sent, Passes-unsent, at_error}
 use Rattle.t1_session.proofs.answer.put_slices.Goals as goal
 
-pub loop-slice-init : goal.loop-slice-init
-loop-slice-init g c = Written-none (writing g.W.Write.contents) c.args.writer.now (bytes_of c.args.slices.now)
-
-pub loop-slice-preserved : goal.loop-slice-preserved
-loop-slice-preserved g c =
-    let inside : c.loop-slice.slice-index < length c.args.slices.now = omega arith in
-    Written-step (writing g.W.Write.contents) _ _ _ _ _ _
-    (rw (flat_map-drop (λ slice. slice.now) c.args.slices.now c.loop-slice.slice-index _ (record { ref_ptr = (0, 0); now = [] }) inside refl) at c.loop-slice.invariant) c.in_ok-put_all.ensures.ok
-
-pub returns-in_err-put_all-clause-err : goal.returns-in_err-put_all-clause-err
-returns-in_err-put_all-clause-err g c =
-    let inside : c.loop-slice.slice-index < length c.args.slices.now = omega arith in
-    at_error c.from_residual.result (Written-fails (writing g.W.Write.contents) _ _ _ _ _ _
-    (rw (flat_map-drop (λ slice. slice.now) c.args.slices.now c.loop-slice.slice-index _ (record { ref_ptr = (0, 0); now = [] }) inside refl) at c.loop-slice.invariant) c.in_err-put_all.ensures.err)
+pub returns-in_err-pass_slices-clause-err : goal.returns-in_err-pass_slices-clause-err
+returns-in_err-pass_slices-clause-err g c = at_error c.from_residual.result (rw c.new-chunk.ensures at c.in_err-pass_slices.ensures.err)
 
 pub returns-clause-ok : goal.returns-clause-ok
 returns-clause-ok g c =
-    Written-all (writing g.W.Write.contents) c.args.writer.now c.loop-slice.writer (bytes_of c.args.slices.now)
-    (rw (drop_all c.loop-slice.slice-index c.args.slices.now (omega arith)) at c.loop-slice.invariant)
+    Passes-sent g.W.Write.contents c.send.result c.args.writer.now (outlet c.pass_slices.new.writer c.pass_slices.new.chunk) c.send.new.out
+    (bytes_of c.args.slices.now) (rw c.new-chunk.ensures at c.in_ok-pass_slices.ensures.ok) c.send.ensures.ok
+
+pub returns-clause-err : goal.returns-clause-err
+returns-clause-err g c =
+    Passes-unsent g.W.Write.contents c.send.result c.args.writer.now (outlet c.pass_slices.new.writer c.pass_slices.new.chunk) c.send.new.out
+    (bytes_of c.args.slices.now) (rw c.new-chunk.ensures at c.in_ok-pass_slices.ensures.ok) c.send.ensures.err

@@ -4,7 +4,7 @@ use Rattle.std.proofs.lemmas.Result.{err_from_is_err_and}
 use Rattle.std.specs.Io.KnownBytes.{Consumes}
 use Rattle.t1_code.specs.Counted.{one_more}
 use Rattle.t1_code.proofs.Writing.{WritesAll-append}
-use Rattle.t1_session.specs.Answers.{fresh}
+use Rattle.t1_session.specs.Conversation.{fresh}
 use Rattle.t1_session.specs.Dialogues.{conversation_of}
 use Rattle.t1_session.specs.Serving.{streams}
 use Rattle.t1_session.proofs.Conversations.{Goes-both, quiet}
@@ -25,7 +25,7 @@ returns-then-count-eq0 g c =
     let none : Consumes (remaining c.pieces.reader.inner) (remaining c.take.new.self.inner) [] = rw c.if-count-eq0.true at c.in-Ok.ensures.bytes.0 in
     let room : 0 < length c.take.new.buffer = omega arith in
     Converses-ended remaining g.W.Write.contents c.args.session (conversation_of c.pieces.dialogue) (streams c.args.reader.now c.args.writer.now) (streams c.take.new.self c.finish.new.writer)
-    c.pieces.writer i.0 i.2.text c.finish.result i.2.goes (quiet (conversation_of c.pieces.dialogue) c.pieces.dialogue.unbroken)
+    c.pieces.writer i.0 i.2.text c.finish.result i.2.goes
     (record { consumes = rw (← append-nil i.0) (Consumes-trans _ _ _ i.0 [] i.1.consumes none); failures = c.in-Ok.ensures.failures ∙ i.1.failures })
     (c.in-Ok.ensures.bytes.1 c.if-count-eq0.true room) i.2.written c.finish.ensures
 

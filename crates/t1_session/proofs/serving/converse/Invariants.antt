@@ -1,6 +1,6 @@
 use Rattle.std.proofs.Common.{ℕ, List, ◌-◌, ◌^◌}
-use Rattle.t1_session.specs.Answers.{fresh}
-use Rattle.t1_session.specs.Dialogues.{Answered, conversation_of}
+use Rattle.t1_session.specs.Conversation.{Answered, fresh}
+use Rattle.t1_session.specs.Dialogues.{conversation_of}
 use Rattle.t1_session.specs.Serving.{Reads}
 use Rattle.t1_session.proofs.serving.converse.Given as goal
 

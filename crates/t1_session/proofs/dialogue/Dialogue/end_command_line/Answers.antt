@@ -1,10 +1,9 @@
 use Rattle.std.proofs.Common.{◌≡◌, ◌∙◌, sym, ap, refl, List, [], ℕ, true, false}
 use Rattle.t1_frac.specs.Words.{words}
 use Rattle.t1_session.specs.Commands.{takes_body, is_wordless, line_command}
-use Rattle.t1_session.specs.Answers.{Conversation}
-use Rattle.t1_session.specs.State.{State}
+use Rattle.t1_session.specs.Conversation.{Conversation}
 use Rattle.t1_session.specs.Dialogues.{conversation_of}
-use Rattle.t1_session.proofs.Conversations.{EndsLine-answered, LineGoes-silent}
+use Rattle.t1_session.proofs.Conversations.{EndsCommandLine-answered, LineGoes-silent}
 use Rattle.t1_code.proofs.Writing.{writing}
 use Rattle.t1_session.proofs.dialogue.Dialogue.end_command_line.Goals as goal
 
@@ -16,8 +15,8 @@ returns-then-is_blank_line g c =
     let text : List ℕ = c.args.self.now.line.items in
     let plain : takes_body (words text) ≡ false = ap (λ l. takes_body (words l)) (sym kept ∙ sym c.deref.ensures.value) ∙ sym c.takes_body.ensures ∙ c.if-takes_body.false in
     let none : is_wordless (words text) ≡ true = ap (λ l. is_wordless (words l)) (sym kept ∙ sym c.deref-2.ensures.value) ∙ sym c.is_blank_line.ensures ∙ c.if-is_blank_line.true in
-    let old : Conversation State = conversation_of c.args.self.now in
-    let new : Conversation State = record old { line = c.replace-line.new.dest.items } in
+    let old : Conversation = conversation_of c.args.self.now in
+    let new : Conversation = record old { line = c.replace-line.new.dest.items } in
     record {
       text = [];
       goes = LineGoes-silent old new (λ lines ended. rw (c.requires, plain, none) refl) refl cleared refl;
@@ -31,8 +30,8 @@ returns g c =
     let text : List ℕ = c.args.self.now.line.items in
     let plain : takes_body (words text) ≡ false = ap (λ l. takes_body (words l)) (sym kept ∙ sym c.deref.ensures.value) ∙ sym c.takes_body.ensures ∙ c.if-takes_body.false in
     let some : is_wordless (words text) ≡ false = ap (λ l. is_wordless (words l)) (sym kept ∙ sym c.deref-2.ensures.value) ∙ sym c.is_blank_line.ensures ∙ c.if-is_blank_line.false in
-    let old : Conversation State = conversation_of c.args.self.now in
-    let new : Conversation State = record old { state = c.answer_command.new.session; line = c.replace-line.new.dest.items } in
-    EndsLine-answered g.W.Write.contents old new c.args.writer.now c.answer_command.new.writer (line_command (words text)) c.answer_command.result
+    let old : Conversation = conversation_of c.args.self.now in
+    let new : Conversation = record old { state = c.answer_command.new.session; line = c.replace-line.new.dest.items } in
+    EndsCommandLine-answered g.W.Write.contents old new c.args.writer.now c.answer_command.new.writer (line_command (words text)) c.answer_command.result
     (λ lines ended. rw (c.requires, plain, some) refl) cleared refl
     (c.answer_command.ensures (line_command (words text)) (rw (← kept, ← c.deref-3.ensures.value) c.line_command-made.ensures))

@@ -1,5 +1,6 @@
 use Rattle.std.proofs.Common.{take}
-use Rattle.t1_session.specs.Dialogues.{Answered, conversation_of}
+use Rattle.t1_session.specs.Conversation.{Answered}
+use Rattle.t1_session.specs.Dialogues.{conversation_of}
 use Rattle.t1_session.proofs.dialogue.Dialogue.feed.Given as goal
 
 -- the bytes so far were answered

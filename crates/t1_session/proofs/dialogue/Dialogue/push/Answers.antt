@@ -2,10 +2,10 @@ use Rattle.std.proofs.Common.{◌≡◌, ◌∙◌, sym, [], ap, ◌∷◌}
 use Rattle.std.specs.Prelude.{is_ok}
 use Rattle.std.proofs.lemmas.Result.{err_from_is_err_and}
 use Rattle.t1_code.proofs.Writing.{writing}
-use Rattle.t1_session.specs.Lines.{ends_line}
+use Rattle.t1_session.specs.Conversation.{ends_line}
 use Rattle.t1_session.specs.Dialogues.{conversation_of}
 use Rattle.t1_session.proofs.LineLaws.{unbroken_pushed, differs, not_return, after_a_return}
-use Rattle.t1_session.proofs.Conversations.{Feeds-ended, stopped_at_once, Goes-byte, Goes-line_feed}
+use Rattle.t1_session.proofs.Conversations.{Feeds-ended, stopped_at_once, byte_alone, Goes-byte, Goes-line_feed}
 use Rattle.t1_session.proofs.dialogue.Dialogue.push.Goals as goal
 
 pub returns-then-is_end : goal.returns-then-is_end
@@ -20,7 +20,10 @@ invariant_of-self-2 g c =
 pub returns-in_err-push : goal.returns-in_err-push
 returns-in_err-push g c =
     let p = err_from_is_err_and c.from_residual.result c.from_residual.ensures.1 in
-    rw (p.1, p.2) (stopped_at_once g.W.Write.contents (conversation_of c.args.self.now) c.args.writer.now (c.args.byte ∷ []) c.args.self.now.unbroken)
+    let old = conversation_of c.args.self.now in
+    let n10 = differs c.args.byte 10 c.if-byte-eq10.false in
+    let n13 = not_return c.args.self.now.after_return c.args.byte (sym c.ends_line-is_end.ensures ∙ c.if-is_end.false) n10 in
+    rw (p.1, p.2) (stopped_at_once g.W.Write.contents old c.args.writer.now c.args.byte c.args.self.now.unbroken (byte_alone old c.args.byte c.args.self.now.unbroken n13 n10))
 
 pub returns : goal.returns
 returns g c =
