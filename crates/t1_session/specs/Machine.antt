@@ -132,3 +132,17 @@ scratch source pair_lines = do
   parts ← reads source
   kerning ← pairs pair_lines
   opened parts kerning
+
+-- ---- a session has no fault
+
+-- the source of a state has no fault
+abbrev pub IsFaultless : State → Type 0
+IsFaultless s = source_check s.source ≡ Ok tt
+
+-- a session opens without a fault
+abbrev pub OpensFaultless : Type 0
+OpensFaultless = (source pair_lines : List ℕ) (s : State) → scratch source pair_lines ≡ Ok s → IsFaultless s
+
+-- and stays so through every command
+abbrev pub KeepsFaultless : Type 0
+KeepsFaultless = (s : State) (command : Command) → IsFaultless s → IsFaultless (perform s command).next

@@ -10,7 +10,7 @@ use crate::answer::{Answer, put_answer};
 use crate::command::Command;
 use crate::error::ServeError;
 use crate::session::Session;
-use std::alloc::{AllocError, Global};
+use std::alloc::AllocError;
 use std::io::Write;
 use t1_code::Counted;
 
@@ -25,25 +25,23 @@ fn send<W: Write>(writer: &mut Counted<W>, answer: &Answer) -> Result<(), ServeE
 
 /// Performs the command that was made, where there was the memory for it.
 fn try_answer(
-    alloc: Global,
     session: &mut Session,
     made: Result<Command, AllocError>,
 ) -> Result<Answer, AllocError>
     ensures { (wanted : Command) → Makes made wanted → IsPerformed session.old session.new wanted result }
 {
-    session.perform(alloc, made?)
+    session.perform(made?)
 }
 
 /// Performs a command, and answers it, also where memory ran out.
 pub fn answer_command<W: Write>(
-    alloc: Global,
     session: &mut Session,
     made: Result<Command, AllocError>,
     writer: &mut Counted<W>,
 ) -> Result<(), ServeError>
     ensures { (wanted : Command) → Makes made wanted → AnswersCommand W.contents session.old session.new writer.old writer.new wanted result }
 {
-    match try_answer(alloc, session, made) {
+    match try_answer(session, made) {
         Ok(answer) => send(writer, &answer),
         Err(_) => send(writer, &Answer::OutOfMemory),
     }

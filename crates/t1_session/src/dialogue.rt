@@ -125,7 +125,7 @@ impl Dialogue {
             return Ok(());
         }
         let made = line_command(alloc, &line);
-        answer_command(alloc, &mut self.session, made, writer)
+        answer_command(&mut self.session, made, writer)
     }
 
     /// Ends a line of a body.
@@ -142,7 +142,7 @@ impl Dialogue {
         if ends_body(&self.line) {
             self.line.clear();
             let made = body_command(alloc, &heading, Bytes::new(body));
-            return answer_command(alloc, &mut self.session, made, writer);
+            return answer_command(&mut self.session, made, writer);
         }
         body.extend_from_slice(&self.line)?;
         body.push(b'\n')?;
@@ -177,13 +177,13 @@ impl Dialogue {
     {
         if takes_body(&self.line) {
             let made = Ok(open_command(&self.line));
-            return answer_command(alloc, &mut self.session, made, writer);
+            return answer_command(&mut self.session, made, writer);
         }
         if is_blank_line(&self.line) {
             return Ok(());
         }
         let made = line_command(alloc, &self.line);
-        answer_command(alloc, &mut self.session, made, writer)
+        answer_command(&mut self.session, made, writer)
     }
 
     /// Ends the input in a line of a body, which may be the line that ends it.
@@ -199,9 +199,9 @@ impl Dialogue {
         let Opened { heading, body } = opening;
         if ends_body(&self.line) {
             let made = body_command(alloc, &heading, Bytes::new(body));
-            return answer_command(alloc, &mut self.session, made, writer);
+            return answer_command(&mut self.session, made, writer);
         }
         let made = Ok(open_command(&heading));
-        answer_command(alloc, &mut self.session, made, writer)
+        answer_command(&mut self.session, made, writer)
     }
 }

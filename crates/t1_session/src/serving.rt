@@ -1,5 +1,6 @@
 //! A whole session, over a reader and a writer.
 ghost use Rattle.std.specs.Prelude.{◌≡◌};
+ghost use Rattle.t1_frac.specs.Outcome.{Gives};
 ghost use Rattle.t1_session.specs.Serving.{streams, Serves, Converses};
 ghost use Rattle.t1_session.specs.Machine.{scratch};
 
@@ -10,6 +11,18 @@ use std::alloc::Global;
 use std::io::{Read, Write};
 use t1_code::Counted;
 use t1_frac::Refusal;
+use t1_source::{read_pairs, read_source};
+
+/// The session of the bytes of a source and of a kerning file, or the first fault: of reading the source, of the pairs, of
+/// the source.
+#[tactic(auto, unfolding(crate::specs::Machine::scratch))]
+fn loaded(alloc: Global, source: &[u8], pairs: &[u8]) -> Result<Session, Refusal>
+    ensures { Gives (λ session. session) result (scratch source.now pairs.now) }
+{
+    let source = read_source(alloc, source)?;
+    let pairs = read_pairs(alloc, pairs)?;
+    Session::open(alloc, source, pairs)
+}
 
 /// Runs a session over a source and its pairs: reads commands to the end of the input, and answers each before the
 /// next read.
@@ -22,7 +35,7 @@ pub fn serve<R: Read, W: Write>(
 ) -> Result<(), ServeError>
     ensures { Serves R.remaining W.contents (scratch source.now pairs.now) (streams reader.old writer.old) (streams reader.new writer.new) result }
 {
-    match Session::open(alloc, source, pairs) {
+    match loaded(alloc, source, pairs) {
         Ok(session) => converse(alloc, session, reader, writer),
         Err(Refusal::Fault(fault)) => Err(ServeError::Load(fault)),
         Err(Refusal::Memory) => Err(ServeError::Memory),

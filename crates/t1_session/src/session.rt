@@ -58,7 +58,7 @@ use t1_source::{Cause, Edit, Rule};
 impl Session {
     /// The session of a source and its pairs, or the source's first fault: of a body, F23, or of a glyph, in the order of
     /// the source. A refusal drops both.
-    #[tactic(auto, using(crate::proofs::SessionLaws::check_refused, crate::proofs::SessionLaws::check_passed))]
+    #[tactic(auto, using(crate::proofs::StateLaws::check_refused, crate::proofs::StateLaws::check_passed))]
     pub fn open(alloc: Global, source: Source, pairs: Pairs) -> Result<Session, Refusal>
         ensures { Gives (λ session. session) result (opened source pairs) }
     {

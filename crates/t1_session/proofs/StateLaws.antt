@@ -1,0 +1,142 @@
+-- What the source of a session gives.
+use Rattle.std.proofs.Common.{◌≡◌, ℕ, List, Option, Some, None, Result, Ok, Err, refl, ap, sym, ◌∙◌, subst}
+use Rattle.t1_frac.specs.declared.fault.Fault.{Fault}
+use Rattle.t1_frac.specs.Outcome.{◌>>=◌}
+use Rattle.t1_parts.specs.SourceParts.{SourceParts}
+use Rattle.t1_parts.specs.Printing.{text}
+use Rattle.t1_parts.specs.Reading.{reads}
+use Rattle.t1_source.specs.declared.edit.Rule.{Rule}
+use Rattle.t1_source.specs.declared.edit.Edit.{Edit}
+use Rattle.t1_source.specs.declared.pairs.Pair.{Pair}
+use Rattle.t1_source.specs.Editing.{edited}
+use Rattle.t1_source.specs.Kerning.{pairs, kern}
+use Rattle.t1_code.specs.Pfb.{whole_file}
+use Rattle.t1_afm.specs.Afm.{afm}
+use Rattle.t1_font.specs.Assembly.{counts_check, file_check, length_check, source_file}
+use Rattle.t1_font.specs.FontMetrics.{metrics_of}
+use Rattle.t1_font.specs.MeasuredGlyphs.{MeasuredFont, measured}
+use Rattle.t1_font.specs.SourceChecks.{measured_source, source_check, source_usage}
+use Rattle.t1_font.specs.Usage.{usage_table}
+use Rattle.t1_font.proofs.SourceMetrics.{by-source-metrics}
+use Rattle.t1_session.specs.declared.command.Command.{Command}
+use Rattle.t1_session.specs.declared.command.Command.TheVariants as commands
+use Rattle.t1_session.specs.FromScratch.{texts_of, from_scratch, pfb_from_scratch, metrics_from_scratch, uses_from_scratch}
+use Rattle.t1_session.specs.Machine.{IsFaultless, OpensFaultless, KeepsFaultless, abort_in, begin_in, commit_in, drafted, edit_in, holding, judged, opened, perform, scratch, source_metrics, taken}
+use Rattle.t1_session.specs.State.{Draft, State}
+
+-- ---- by the metrics of its glyphs
+
+pub check_passed : (s : SourceParts) (font : MeasuredFont) → measured_source s ≡ Ok font → source_check s ≡ Ok tt
+check_passed s font e = (by-source-metrics s).check ∙ ap (λ (r : Result MeasuredFont Fault). r >>= λ metrics. Ok (tt {0})) e
+
+pub check_refused : (s : SourceParts) (fault : Fault) → measured_source s ≡ Err fault → source_check s ≡ Err fault
+check_refused s fault e = (by-source-metrics s).check ∙ ap (λ (r : Result MeasuredFont Fault). r >>= λ metrics. Ok (tt {0})) e
+
+pub usage_is : (s : SourceParts) (font : MeasuredFont) → measured_source s ≡ Ok font → source_usage s ≡ Ok (usage_table font.metrics)
+usage_is s font e = (by-source-metrics s).usage ∙ ap (λ (r : Result MeasuredFont Fault). r >>= λ (found : MeasuredFont). Ok (usage_table found.metrics)) e
+
+pub metrics_are : (s : SourceParts) (k : List Pair) (font : MeasuredFont) → measured_source s ≡ Ok font → source_metrics s k ≡ Ok (afm (metrics_of s k font))
+metrics_are s k font e = ap (λ (r : Result MeasuredFont Fault). r >>= λ (found : MeasuredFont). Ok (afm (metrics_of s k found))) e
+
+-- ---- its file
+
+first-ok : {A B : Type 0} (a : Result A Fault) (f : A → Result B Fault) (b : B) → (a >>= f) ≡ Ok b → (x : A) × (a ≡ Ok x)
+first-ok (Ok x) f b h = (x, refl)
+first-ok (Err fault) f b h = absurd (cc)
+
+file-checked : (s : SourceParts) (font : MeasuredFont) → measured_source s ≡ Ok font → (u : Unit {0}) × (file_check s ≡ Ok u)
+unfolding measured_source
+file-checked s font e = first-ok (file_check s) (λ checked. measured s.items) font e
+
+length-checked : (s : SourceParts) (u : Unit {0}) → file_check s ≡ Ok u → (v : Unit {0}) × (length_check s ≡ Ok v)
+unfolding file_check
+length-checked s u e = first-ok (length_check s) (λ checked. counts_check s.items) u e
+
+file-made : (s : SourceParts) (u : Unit {0}) → length_check s ≡ Ok u → (file : List ℕ) × (source_file whole_file s ≡ Ok file)
+unfolding length_check
+file-made s u e = first-ok (source_file whole_file s) (λ file. Ok tt) u e
+
+pub has_file : (s : SourceParts) (font : MeasuredFont) → measured_source s ≡ Ok font → (file : List ℕ) × (source_file whole_file s ≡ Ok file)
+has_file s font e =
+    let checked = file-checked s font e in
+    let long = length-checked s checked.0 checked.1 in
+    file-made s long.0 long.1
+
+-- ---- its texts from scratch
+
+module _ (s : State) (font : MeasuredFont) (known : measured_source s.source ≡ Ok font)
+    (source : reads (text s.source) ≡ Ok s.source) (kerning : pairs (kern s.pairs) ≡ Ok s.pairs) where
+  all-texts : (file : List ℕ) → source_file whole_file s.source ≡ Ok file
+      → from_scratch s ≡ Ok (record { pfb = file; metrics = afm (metrics_of s.source s.pairs font); uses = usage_table font.metrics })
+  unfolding texts_of
+  all-texts file made = rw (source, kerning, known, made) refl
+
+  pub pfb_scratch : pfb_from_scratch s ≡ source_file whole_file s.source
+  pfb_scratch =
+      let file = has_file s.source font known in
+      ap (λ r. r >>= λ texts. Ok texts.pfb) (all-texts file.0 file.1) ∙ sym file.1
+
+  pub metrics_scratch : metrics_from_scratch s ≡ Ok (afm (metrics_of s.source s.pairs font))
+  metrics_scratch =
+      let file = has_file s.source font known in
+      ap (λ r. r >>= λ texts. Ok texts.metrics) (all-texts file.0 file.1)
+
+  pub uses_scratch : uses_from_scratch s ≡ Ok (usage_table font.metrics)
+  uses_scratch =
+      let file = has_file s.source font known in
+      ap (λ r. r >>= λ texts. Ok texts.uses) (all-texts file.0 file.1)
+
+-- ---- no fault
+
+opened-faultless : (parts : SourceParts) (k : List Pair) (r : Result (Unit {0}) Fault) (s : State) → source_check parts ≡ r
+    → ◌≡◌ {A = Result State Fault} (r >>= λ checked. Ok (holding parts k)) (Ok s) → IsFaultless s
+opened-faultless parts k (Ok checked) s e h =
+    let same : holding parts k ≡ s = cc in subst IsFaultless same e
+opened-faultless parts k (Err fault) s e h = absurd (cc)
+
+opened-from : (a : Result SourceParts Fault) (b : Result (List Pair) Fault) (s : State)
+    → ◌≡◌ {A = Result State Fault} (a >>= λ parts. b >>= λ kerning. opened parts kerning) (Ok s) → IsFaultless s
+opened-from (Ok parts) (Ok kerning) s h = opened-faultless parts kerning (source_check parts) s refl h
+opened-from (Ok parts) (Err fault) s h = absurd (cc)
+opened-from (Err fault) b s h = absurd (cc)
+
+pub opens_faultless : OpensFaultless
+unfolding scratch
+opens_faultless source pair_lines s h = opened-from (reads source) (pairs pair_lines) s h
+
+judged-faultless : (s : State) (made : SourceParts × List Pair) (r : Result (Unit {0}) Fault) → source_check made.0 ≡ r → IsFaultless s → IsFaultless (judged s made r).next
+judged-faultless s made (Ok checked) e h = e
+judged-faultless s made (Err fault) e h = h
+
+taken-faultless : (s : State) (r : Result (SourceParts × List Pair) Rule) → IsFaultless s → IsFaultless (taken s r).next
+taken-faultless s (Ok made) h = judged-faultless s made (source_check made.0) refl h
+taken-faultless s (Err rule) h = h
+
+drafted-faultless : (s : State) (r : Result (SourceParts × List Pair) Rule) → IsFaultless s → IsFaultless (drafted s r).next
+drafted-faultless s (Ok made) h = h
+drafted-faultless s (Err rule) h = h
+
+edit-faultless : (b : Option Draft) (s : State) (change : SourceParts → List Pair → Result (SourceParts × List Pair) Rule) → IsFaultless s → IsFaultless (edit_in b s change).next
+edit-faultless None s change h = taken-faultless s (change s.source s.pairs) h
+edit-faultless (Some d) s change h = drafted-faultless s (change d.source d.pairs) h
+
+begin-faultless : (b : Option Draft) (s : State) → IsFaultless s → IsFaultless (begin_in b s).next
+begin-faultless None s h = h
+begin-faultless (Some d) s h = h
+
+commit-faultless : (b : Option Draft) (s : State) → IsFaultless s → IsFaultless (commit_in b s).next
+commit-faultless None s h = h
+commit-faultless (Some d) s h = judged-faultless s (d.source, d.pairs) (source_check d.source) refl h
+
+abort-faultless : (b : Option Draft) (s : State) → IsFaultless s → IsFaultless (abort_in b s).next
+abort-faultless None s h = h
+abort-faultless (Some d) s h = h
+
+pub keeps_faultless : KeepsFaultless
+unfolding perform
+keeps_faultless s (commands.Edit edit) h = edit-faultless s.batch s (λ source pairs. edited source pairs edit) h
+keeps_faultless s (commands.Print print) h = h
+keeps_faultless s commands.Begin h = begin-faultless s.batch s h
+keeps_faultless s commands.Commit h = commit-faultless s.batch s h
+keeps_faultless s commands.Abort h = abort-faultless s.batch s h
+keeps_faultless s (commands.Broken rule) h = h
