@@ -1,9 +1,7 @@
 -- A text that goes out changed, part by part, by what went before.
-use Rattle.std.proofs.Common.{◌≡◌, ℕ, ◌+◌, ◌<◌, List, [], ◌++◌, length, get_or, drop, refl, sym, ap, ◌∙◌, append-nil, suc, Option, Result, Ok, Err}
-use Rattle.std.specs.Result.{IsErrAnd, MatchResult}
+use Rattle.std.proofs.Common.{◌≡◌, ℕ, ◌+◌, ◌<◌, List, [], ◌++◌, length, get_or, drop, refl, sym, ◌∙◌, append-nil, Option}
 use Rattle.std.specs.List.{flat_map}
-use Rattle.std.proofs.Math.Seq.{drop-cons}
-use Rattle.t1_code.specs.Counted.{Outlet, Passes, Stops, Puts}
+use Rattle.t1_code.specs.Counted.{Outlet, Passes, Stops}
 use Rattle.t1_code.proofs.Encrypting.{flat_map-drop}
 use Rattle.t1_code.proofs.Writing.{passing, Written, Written-none, Written-step, Written-fails, Written-all}
 

@@ -1,5 +1,5 @@
 -- The digits of bytes, with the ends of lines.
-use Rattle.std.proofs.Common.{◌≡◌, ℕ, zero, suc, ◌+◌, ◌-◌, ◌*◌, ◌<◌, List, [], ◌∷◌, ◌++◌, length, refl, sym, ap, ◌∙◌, append_assoc, arith}
+use Rattle.std.proofs.Common.{◌≡◌, ℕ, zero, suc, ◌-◌, ◌*◌, ◌<◌, List, [], ◌∷◌, ◌++◌, length, refl, ap, ◌∙◌, arith}
 use Rattle.std.specs.List.{flat_map, onto_first}
 use Rattle.t1_code.specs.Hexadecimal.{in_lines, line_end_due, next_room, refilled, room_after}
 use Rattle.t1_code.specs.Pfa.{digits_of_byte, line_of_digits, hexadecimal_lines}

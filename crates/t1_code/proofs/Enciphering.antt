@@ -4,7 +4,6 @@ use Rattle.t1_code.specs.declared.eexec.Form.{Form}
 use Rattle.t1_code.specs.declared.eexec.Form.TheVariants.{Binary, Hexadecimal}
 use Rattle.t1_code.specs.Cipher.{cipher, key_after, eexec}
 use Rattle.t1_code.specs.Eexec.{EexecState, formed, form_after, enciphered, state_after}
-use Rattle.t1_code.specs.Hexadecimal.{room_after}
 use Rattle.t1_code.proofs.Carrying.{IsChange}
 use Rattle.t1_code.proofs.Digits.{lining}
 use Rattle.t1_code.proofs.Encrypting.{cipher-append, key_after-append}

@@ -1,6 +1,6 @@
 -- One write after another.
 use Rattle.std.proofs.Common.{◌≡◌, ℕ, ◌≤◌, List, [], ◌++◌, Option, take, drop, refl, sym, ap, ◌∙◌, append_assoc, append-nil, subst, Result, Ok, Err}
-use Rattle.std.specs.Result.{IsErrAnd, MatchResult, OnErr, OnOk}
+use Rattle.std.specs.Result.{MatchResult, OnErr, OnOk}
 use Rattle.std.proofs.lemmas.List.{take-append-drop, take-take}
 use Rattle.std.proofs.KnownBytes.{Appends-trans, Appends-nil}
 use Rattle.std.specs.Io.KnownBytes.{Appends}
@@ -150,3 +150,18 @@ Puts-stopped contents r error old new bytes e p = rw e p
 pub Puts-either : {W T E : Type 0} (contents : W → Option (List ℕ)) (r : Result T E) (old new : Outlet W) (bytes : List ℕ) → OnOk r (Passes contents old new bytes) → OnErr r (Stops contents old new bytes) → Puts contents old new bytes r
 Puts-either contents (Ok x) old new bytes p q = p
 Puts-either contents (Err e) old new bytes p q = q
+
+module _ {W : Type 0} (contents : W → Option (List ℕ)) where
+  -- what waited goes out, and nothing waits
+  pub Puts-emptied : {T E : Type 0} (r : Result T E) (old new : Tally W) (waiting left : List ℕ) → OnOk r (WritesAll contents old new waiting) → OnOk r (left ≡ []) → OnErr r (WritesFront contents old new waiting)
+      → Puts contents (outlet old waiting) (outlet new left) [] r
+  Puts-emptied (Ok x) old new waiting left p e q = record { sent = waiting; parts = ap (λ l. waiting ++ l) (sym e); writes = p }
+  Puts-emptied (Err x) old new waiting left p e q = rw append-nil q
+
+  -- the front of the rest waits too, after room was made for it
+  pub Written-kept : (start old : Outlet W) (tally : Tally W) (waiting kept bytes rest front after : List ℕ) → Written (passing contents) start old bytes rest → rest ≡ front ++ after
+      → Passes contents old (outlet tally waiting) [] → kept ≡ waiting ++ front → Written (passing contents) start (outlet tally kept) bytes after
+  Written-kept start old tally waiting kept bytes rest front after p e q is =
+      let keeps : Passes contents (outlet tally waiting) (outlet tally (waiting ++ front)) front = record { sent = []; parts = refl; writes = (writing contents).none tally } in
+      rw is (Written-step (passing contents) start old (outlet tally (waiting ++ front)) bytes front after (rw e at p)
+      ((passing contents).join old (outlet tally waiting) (outlet tally (waiting ++ front)) [] front q keeps))

@@ -1,5 +1,8 @@
 -- Charstring and eexec encryption (Type 1 Font Format, Chapter 7).
-use Rattle.std.specs.Prelude.{◌≡◌, ℕ, ◌+◌, ◌*◌, ◌/◌, ◌%◌, ◌<◌, List, [], ◌∷◌, ◌++◌, length, take, replicate, fold, slice_index, bit_xor}
+use Rattle.std.specs.Prelude.{◌≡◌, ℕ, ◌+◌, ◌*◌, ◌/◌, ◌%◌, ◌<◌, List, [], ◌∷◌, ◌++◌, length, take, replicate, fold, slice_index, bit_xor, Result, Ok}
+use Rattle.t1_frac.specs.declared.fault.Code.{Code}
+use Rattle.t1_frac.specs.Outcome.{◌>>=◌}
+use Rattle.t1_code.specs.Charstring.{charstring_of_words}
 
 -- Type 1 Font Format, Chapter 7: the key after a cipher byte
 abbrev pub next_key : ℕ → ℕ → ℕ
@@ -31,3 +34,7 @@ encrypted_charstring lead plain = encrypted_behind 4330 lead plain
 -- Type 1 Font Format, Chapter 7: eexec, with four leading bytes
 unfoldable pub eexec : List ℕ → List ℕ
 eexec plain = encrypted_behind 55665 4 plain
+
+-- Type 1 Font Format, Chapter 7: the encrypted charstring of a body's words, or the fault of the words
+unfoldable pub encrypted_words : ℕ → List (List ℕ) → Result (List ℕ) Code
+encrypted_words lead words = charstring_of_words words >>= λ plain. Ok (encrypted_charstring lead plain)

@@ -1,17 +1,13 @@
 //! Charstring code from commands.
-ghost use Rattle.std.specs.Prelude.{◌≡◌, ◌≤◌, ◌<◌, ◌+◌, ◌++◌, pos, ◌≤ℤ◌, neg_ℤ, IfOk, OnOk};
-ghost use Rattle.t1_frac.specs.Outcome.{Gives, told_at};
-ghost use Rattle.t1_frac.specs.declared.fault.Place.TheVariants.{Nowhere};
+ghost use Rattle.std.specs.Prelude.{◌≡◌, ◌≤◌, ◌<◌, ◌+◌, ◌++◌, take, length, pos, ◌≤ℤ◌, neg_ℤ, IfOk, OnOk};
 ghost use Rattle.t1_code.specs.Cipher.{encrypted_charstring as encrypted};
-ghost use Rattle.t1_code.specs.Charstring.{two_bytes, number_bytes, command_bytes, operator_bytes, charstring, charstring_of_words};
+ghost use Rattle.t1_code.specs.Charstring.{two_bytes, number_bytes, command_bytes, operator_bytes, charstring};
 
 use crate::cipher::{CHARSTRING_KEY, Cipher};
 use crate::command::Command;
-use crate::words::compile;
 use std::alloc::{AllocError, Global};
-use t1_frac::{Refusal, Words};
 
-/// The two bytes of a size, behind the first byte of its kind.
+/// The two bytes of a size, after the first byte of its kind.
 fn two_bytes_of(first: u8, size: u16) -> [u8; 2]
     requires first { first ≤ 251 }
     requires low { 108 ≤ size }
@@ -23,8 +19,10 @@ fn two_bytes_of(first: u8, size: u16) -> [u8; 2]
 }
 
 /// Adds the shortest spelling of a number.
+#[inline(always)]
 fn push_number(code: &mut Vec<u8>, number: i32) -> Result<(), AllocError>
-    ensures { OnOk result (code.new.items ≡ code.old.items ++ number_bytes number) }
+    ensures front { take (length code.old.items) code.new.items ≡ code.old.items }
+    ensures value { OnOk result (code.new.items ≡ code.old.items ++ number_bytes number) }
 {
     match number {
         -107..=107 => code.extend_from_slice(&[(number + 139) as u8]),
@@ -74,8 +72,10 @@ impl Command {
 }
 
 /// Adds the bytes of a command.
-fn push_command(code: &mut Vec<u8>, command: Command) -> Result<(), AllocError>
-    ensures { OnOk result (code.new.items ≡ code.old.items ++ command_bytes command) }
+#[inline(always)]
+pub(crate) fn push_command(code: &mut Vec<u8>, command: Command) -> Result<(), AllocError>
+    ensures front { take (length code.old.items) code.new.items ≡ code.old.items }
+    ensures value { OnOk result (code.new.items ≡ code.old.items ++ command_bytes command) }
 {
     match command {
         Command::Num(number) => push_number(code, number),
@@ -102,7 +102,7 @@ pub fn charstring_of(alloc: Global, commands: &[Command]) -> Result<Vec<u8>, All
     Ok(code)
 }
 
-/// The charstring of commands behind its leading bytes, encrypted as a font's private text holds it.
+/// The charstring of commands after its leading bytes, encrypted as a font's private text holds it.
 pub fn encrypted_charstring(
     alloc: Global,
     lead: u8,
@@ -117,12 +117,4 @@ pub fn encrypted_charstring(
     }
     .encrypt(&mut code);
     Ok(code)
-}
-
-/// The charstring of a body's words, not encrypted, or the fault of the words as `compile` tells it.
-pub fn assemble(alloc: Global, words: &Words) -> Result<Vec<u8>, Refusal>
-    ensures { Gives (λ code. code.items) result (told_at Nowhere (charstring_of_words words.now)) }
-{
-    let body = compile(alloc, words)?;
-    Ok(charstring_of(alloc, body.commands())?)
 }

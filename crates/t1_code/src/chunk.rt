@@ -1,6 +1,6 @@
 //! Bytes on their way to a writer, which is handed a chunk of them at a time.
-ghost use Rattle.std.specs.Prelude.{◌≡◌, ◌<◌, false, [], ◌∷◌, ◌++◌, length, OnOk, OnErr};
-ghost use Rattle.t1_code.specs.Counted.{WritesAll, WritesFront, Passes, Stops, outlet};
+ghost use Rattle.std.specs.Prelude.{◌≡◌, ◌<◌, ◌≤◌, ◌+◌, [], ◌++◌, length, take, OnOk, OnErr};
+ghost use Rattle.t1_code.specs.Counted.{WritesAll, WritesFront, Passes, Puts, Stops, outlet};
 
 use crate::counted::{Counted, MAX_PUT};
 use std::io::{self, Write};
@@ -23,6 +23,15 @@ impl Model for Chunk {
     ghost invariant = { λ chunk. chunk.len ≤ 4096 };
 }
 
+/// Puts more bytes in the place of those that stand from there on.
+fn put_at(bytes: &mut [u8], place: usize, more: &[u8])
+    requires { place + length more.now ≤ length bytes.old }
+    ensures len { length bytes.new ≡ length bytes.old }
+    ensures front { take (place + length more.now) bytes.new ≡ take place bytes.old ++ more.now }
+{
+    bytes[place..place + more.len()].copy_from_slice(more);
+}
+
 impl Chunk {
     /// No byte waits.
     pub fn new() -> Self
@@ -34,19 +43,20 @@ impl Chunk {
         }
     }
 
-    /// Puts a byte behind the others.
-    fn keep(&mut self, byte: u8)
-        requires { length self.old < 4096 }
-        ensures { self.new ≡ self.old ++ byte ∷ [] }
+    /// Puts bytes after the others.
+    fn keep(&mut self, bytes: &[u8])
+        requires { length self.old + length bytes.now ≤ 4096 }
+        ensures { self.new ≡ self.old ++ bytes.now }
     {
-        self.bytes[self.len] = byte;
-        self.len += 1;
+        put_at(&mut self.bytes, self.len, bytes);
+        self.len += bytes.len();
     }
 
-    fn is_full(&self) -> bool
-        ensures room { result ≡ false → length self.now < 4096 }
+    /// How many bytes more it takes.
+    fn room(&self) -> usize
+        ensures { length self.now + result ≡ 4096 }
     {
-        self.len == MAX_PUT
+        MAX_PUT - self.len
     }
 
     fn as_slice(&self) -> &[u8]
@@ -72,16 +82,15 @@ impl Chunk {
         Ok(())
     }
 
-    /// Takes a byte, after it made room where it was full.
-    pub fn pass<W: Write>(&mut self, out: &mut Counted<W>, byte: u8) -> io::Result<()>
-        ensures ok { OnOk result (Passes W.contents (outlet out.old self.old) (outlet out.new self.new) (byte ∷ [])) }
-        ensures err { OnErr result (Stops W.contents (outlet out.old self.old) (outlet out.new self.new) (byte ∷ [])) }
+    /// Sends what waits where no byte more goes in.
+    fn make_room<W: Write>(&mut self, out: &mut Counted<W>) -> io::Result<()>
+        ensures text { Puts W.contents (outlet out.old self.old) (outlet out.new self.new) [] result }
+        ensures room { OnOk result (length self.new < 4096) }
     {
-        if self.is_full() {
-            self.send(out)?;
+        if self.room() > 0 {
+            return Ok(());
         }
-        self.keep(byte);
-        Ok(())
+        self.send(out)
     }
 }
 
@@ -90,8 +99,12 @@ pub fn put_plain<W: Write>(out: &mut Counted<W>, chunk: &mut Chunk, bytes: &[u8]
     ensures ok { OnOk result (Passes W.contents (outlet out.old chunk.old) (outlet out.new chunk.new) bytes.now) }
     ensures err { OnErr result (Stops W.contents (outlet out.old chunk.old) (outlet out.new chunk.new) bytes.now) }
 {
-    for byte in bytes {
-        chunk.pass(out, *byte)?;
+    let mut rest = bytes;
+    while !rest.is_empty() {
+        chunk.make_room(out)?;
+        let (front, after) = rest.split_at(rest.len().min(chunk.room()));
+        chunk.keep(front);
+        rest = after;
     }
     Ok(())
 }

@@ -15,6 +15,7 @@ pub(crate) struct Cipher {
 
 impl Cipher {
     /// The cipher byte of a plain byte.
+    #[inline(always)]
     pub(crate) fn byte(&mut self, plain: u8) -> u8
         ensures byte { result ≡ bit_xor plain (self.old.key / 256) }
         ensures key { self.new.key ≡ next_key self.old.key result }
@@ -27,14 +28,17 @@ impl Cipher {
         cipher
     }
 
-    /// Puts the cipher bytes in the place of the plain ones.
+    /// Puts the cipher bytes in the place of the plain ones. The key goes along in a cipher of its own, which needs no
+    /// memory between two bytes.
     pub(crate) fn encrypt(&mut self, bytes: &mut [u8])
         ensures bytes { bytes.new ≡ cipher self.old.key bytes.old }
         ensures key { self.new.key ≡ key_after self.old.key bytes.new }
     {
+        let mut cipher = Cipher { key: self.key };
         for byte in bytes.iter_mut() {
-            *byte = self.byte(*byte);
+            *byte = cipher.byte(*byte);
         }
+        self.key = cipher.key;
     }
 }
 

@@ -1,6 +1,7 @@
 //! Charstring code, its encryption, and the PFB and PFA files of an assembled font.
 #![tactic(auto)]
 
+mod assembly;
 mod body;
 mod charstring;
 mod chunk;
@@ -19,8 +20,9 @@ mod pieces;
 mod segments;
 mod words;
 
+pub use assembly::{assemble, assemble_onto, encrypt_words};
 pub use body::Body;
-pub use charstring::{assemble, charstring_of, encrypted_charstring};
+pub use charstring::{charstring_of, encrypted_charstring};
 pub use chunk::{Chunk, put_plain};
 pub use cipher::encrypt;
 pub use command::Command;

@@ -1,5 +1,5 @@
 //! Number words.
-ghost use Rattle.std.specs.Prelude.{◌≡◌, ◌-◌, ◌^◌, ◌≤◌, true, false, length, take, min, MatchOption};
+ghost use Rattle.std.specs.Prelude.{◌≡◌, ◌+◌, ◌-◌, ◌*◌, ◌^◌, ◌≤◌, true, false, length, take, min, MatchOption};
 ghost use Rattle.std.specs.List.{list_all, prefix_len};
 ghost use Rattle.std.specs.Char.{is_ascii_digit};
 ghost use Rattle.t1_code.specs.Words.{digits_of_word, decimal_value, number_word};
@@ -12,6 +12,17 @@ pub(crate) fn digits(word: &[u8]) -> &[u8]
         [b'-', digits @ ..] => digits,
         _ => word,
     }
+}
+
+/// The number that goes on with this digit, up to 2^64 - 1.
+fn with_digit(value: u64, digit: u8) -> u64
+    requires { digit ≤ 9 }
+    ensures { result ≡ min (10 * value + digit) (2 ^ 64 - 1) }
+{
+    if value < 1 << 60 {
+        return value * 10 + u64::from(digit);
+    }
+    value.saturating_mul(10).saturating_add(u64::from(digit))
 }
 
 /// The number that the digits at the front of a text write, or 2^64 - 1 where it is more, and how many digits there
@@ -27,9 +38,7 @@ pub(crate) fn leading_number(text: &[u8]) -> (u64, usize)
         if !byte.is_ascii_digit() {
             return (value, count);
         }
-        value = value
-            .saturating_mul(10)
-            .saturating_add(u64::from(*byte - 48));
+        value = with_digit(value, *byte - 48);
         count += 1;
     }
     (value, count)

@@ -73,6 +73,41 @@ impl Write for Small {
     }
 }
 
+/// The charstring of the small font's one glyph, encrypted behind four leading bytes.
+const SPACE: [u8; 9] = [0x10, 0xBF, 0x31, 0x70, 0x79, 0xC7, 0x57, 0xBF, 0x91];
+
+/// The pieces of the small font's private text.
+const PIECES: [Piece; 3] = [
+    Piece::Plain(b"/CharStrings 1 dict dup begin\n"),
+    Piece::Entry {
+        head: b"/space",
+        operator: b"RD",
+        charstring: &SPACE,
+        closing: b"ND",
+    },
+    Piece::Plain(b"end\nmark currentfile closefile\n"),
+];
+
+/// Eight lines of 64 zeros, and the line after them.
+fn trailer(alloc: Global) -> Result<Vec<u8>, Fail> {
+    let mut trailer = Vec::new(alloc);
+    for _ in 0..8 {
+        trailer.extend_from_slice(&[b'0'; 64])?;
+        trailer.push(b'\n')?;
+    }
+    trailer.extend_from_slice(b"cleartomark\n")?;
+    Ok(trailer)
+}
+
+/// The parts of the small font.
+fn small_font<'a>(trailer: &'a [u8]) -> Parts<'a> {
+    Parts {
+        clear: b"%!\n/Encoding StandardEncoding def\ncurrentfile eexec\n",
+        pieces: &PIECES,
+        trailer,
+    }
+}
+
 fn is_small_font(file: &[u8]) -> bool {
     let start = [0x80, 0x01, 0x34, 0x00, 0x00, 0x00, 0x25, 0x21, 0x0A];
     let binary = [
@@ -86,41 +121,80 @@ fn is_small_font(file: &[u8]) -> bool {
         && file.ends_with(&[0x80, 0x03])
 }
 
+/// The same file in blocks of 40 bytes: two segments, three and fourteen.
+fn is_small_font_in_blocks(file: &[u8]) -> bool {
+    let clear_end = [0x80, 0x01, 0x0C, 0x00, 0x00, 0x00, 0x74, 0x66];
+    let binary = [0x80, 0x02, 0x28, 0x00, 0x00, 0x00, 0xD9, 0xD6, 0x6F, 0x63];
+    let next = [0x80, 0x02, 0x28, 0x00, 0x00, 0x00, 0x5E, 0x53, 0x1D, 0x43];
+    let last = [0x80, 0x02, 0x0A, 0x00, 0x00, 0x00, 0x6E, 0x29, 0x6D, 0x5A];
+    file.len() == 790
+        && file.starts_with(&[0x80, 0x01, 0x28, 0x00, 0x00, 0x00, 0x25, 0x21])
+        && file[46..].starts_with(&clear_end)
+        && file[64..].starts_with(&binary)
+        && file[110..].starts_with(&next)
+        && file[156..].starts_with(&last)
+        && file.ends_with(&[0x80, 0x03])
+}
+
+/// The encrypted private text of the small font, as an encryption of its own wrote it.
+const DIGITS: &str = "d9d66f6370eee3ab068e8c1efa81b201c643594025b5e986d74368bdfaaab61a
+c5e6483703fcbbb05e531d434f1b0b6e1ee02d09c26f4a8ed779587e29f0cf35
+b3aef780104819281b82c6fac18cfb516e296d5a833439e0e21b
+";
+
 #[test]
 fn writes_a_small_font(rt: HostRuntime) -> Result<(), Fail> {
     let alloc = rt.alloc();
-    let compiled = compile(alloc, &body(alloc, "0 250 hsbw endchar")?)?;
-    let charstring = encrypted_charstring(alloc, 4, compiled.commands())?;
-    let pieces = [
-        Piece::Plain(b"/CharStrings 1 dict dup begin\n"),
-        Piece::Entry {
-            head: b"/space",
-            operator: b"RD",
-            charstring: &charstring,
-            closing: b"ND",
-        },
-        Piece::Plain(b"end\nmark currentfile closefile\n"),
-    ];
-    let mut trailer = Vec::new(alloc);
-    for _ in 0..8 {
-        trailer.extend_from_slice(&[b'0'; 64])?;
-        trailer.push(b'\n')?;
-    }
-    trailer.extend_from_slice(b"cleartomark\n")?;
-    let parts = Parts {
-        clear: b"%!\n/Encoding StandardEncoding def\ncurrentfile eexec\n",
-        pieces: &pieces,
-        trailer: &trailer,
-    };
+    let trailer = trailer(alloc)?;
     let mut out = Counted::new(Vec::new(alloc));
-    write_pfb(&parts, &mut out)?;
+    write_pfb(&small_font(&trailer), WHOLE_PARTS, &mut out)?;
     assert_eq!(rt; out.failures(), 0);
     assert!(rt; is_small_font(&out.into_inner()));
-    let mut small = Counted::new(Small {
+    Ok(())
+}
+
+#[test]
+fn writes_a_byte_a_call(rt: HostRuntime) -> Result<(), Fail> {
+    let alloc = rt.alloc();
+    let trailer = trailer(alloc)?;
+    let mut out = Counted::new(Small {
         taken: Vec::new(alloc),
     });
-    write_pfb(&parts, &mut small)?;
-    assert_eq!(rt; small.failures(), 0);
-    assert!(rt; is_small_font(&small.into_inner().taken));
+    write_pfb(&small_font(&trailer), 532, &mut out)?;
+    assert_eq!(rt; out.failures(), 0);
+    assert!(rt; is_small_font(&out.into_inner().taken));
+    Ok(())
+}
+
+#[test]
+fn writes_blocks(rt: HostRuntime) -> Result<(), Fail> {
+    let alloc = rt.alloc();
+    let trailer = trailer(alloc)?;
+    let mut out = Counted::new(Vec::new(alloc));
+    write_pfb(&small_font(&trailer), 40, &mut out)?;
+    assert!(rt; is_small_font_in_blocks(&out.into_inner()));
+    Ok(())
+}
+
+#[test]
+fn writes_single_bytes(rt: HostRuntime) -> Result<(), Fail> {
+    let alloc = rt.alloc();
+    let trailer = trailer(alloc)?;
+    let mut out = Counted::new(Vec::new(alloc));
+    write_pfb(&small_font(&trailer), 1, &mut out)?;
+    assert_eq!(rt; out.into_inner().len(), 4720);
+    Ok(())
+}
+
+#[test]
+fn writes_hexadecimal(rt: HostRuntime) -> Result<(), Fail> {
+    let alloc = rt.alloc();
+    let trailer = trailer(alloc)?;
+    let mut out = Counted::new(Vec::new(alloc));
+    write_pfa(&small_font(&trailer), &mut out)?;
+    let file = out.into_inner();
+    assert_eq!(rt; file.len(), 767);
+    assert!(rt; file[52..].starts_with(DIGITS.as_bytes()));
+    assert!(rt; file.ends_with(&trailer));
     Ok(())
 }

@@ -1,5 +1,5 @@
 //! The words of a body, read as commands.
-ghost use Rattle.std.specs.Prelude.{◌≡◌, ◌<◌, ◌≤◌, [], ◌∷◌, false, length, IfSome, MatchOption};
+ghost use Rattle.std.specs.Prelude.{◌≡◌, ◌<◌, ◌≤◌, [], ◌∷◌, false, nat_lt, length, IfSome, MatchOption};
 ghost use Rattle.t1_frac.specs.Outcome.{Gives, told_at};
 ghost use Rattle.t1_frac.specs.Words.{word_goes_on, words};
 ghost use Rattle.t1_frac.specs.declared.fault.Place.TheVariants.{Nowhere};
@@ -18,7 +18,10 @@ const MAX_WORDS: usize = 65_535;
 fn number_command(minus: bool, size: u64) -> Result<Command, Code>
     ensures { result ≡ number_command (in_32_bits (signed minus size)) }
 {
-    let size = i128::from(size);
+    if size > 1 << 31 {
+        return Err(Code::F21);
+    }
+    let size = size as i64;
     match i32::try_from(if minus { -size } else { size }) {
         Ok(number) => Ok(Command::Num(number)),
         Err(_) => Err(Code::F21),
@@ -67,7 +70,8 @@ fn named(word: &[u8]) -> Result<Command, Code>
 }
 
 /// What the first word of a line says, and the bytes after the word; nothing where the line has no word.
-fn next_command(line: &[u8]) -> Option<(Result<Command, Code>, &[u8])>
+#[inline(always)]
+pub(crate) fn next_command(line: &[u8]) -> Option<(Result<Command, Code>, &[u8])>
     ensures shorter { IfSome result (λ found. length found.1.now < length line.now) }
     ensures value { MatchOption
         result
@@ -97,6 +101,14 @@ fn word_count(text: &[u8]) -> usize
     count
 }
 
+/// Whether a text has more words than a body may have.
+#[tactic(auto, using(crate::proofs::Counting::words_within))]
+pub(crate) fn is_too_long(text: &[u8]) -> bool
+    ensures { result ≡ nat_lt 65535 (length (words text.now)) }
+{
+    text.len() > MAX_WORDS && word_count(text) > MAX_WORDS
+}
+
 /// The commands of a text's words.
 fn read_words(alloc: Global, text: &[u8]) -> Result<Vec<Command>, Refusal>
     ensures { Gives (λ read. read.items) result (told_at Nowhere (commands_of_words (words text.now))) }
@@ -112,12 +124,12 @@ fn read_words(alloc: Global, text: &[u8]) -> Result<Vec<Command>, Refusal>
 
 /// The commands of a body's words: F22 past 65,535 words, then the first word's fault that has one, F20 for an
 /// unknown word and F21 for a number that doesn't fit 32 bits.
-#[tactic(auto, using(crate::proofs::Counting::words_within), unfolding(crate::specs::Words::commands))]
+#[tactic(auto, unfolding(crate::specs::Words::commands))]
 pub fn compile(alloc: Global, words: &Words) -> Result<Body, Refusal>
     ensures { Gives (λ body. body) result (told_at Nowhere (commands words.now)) }
 {
     let text = words.as_bytes();
-    if text.len() > MAX_WORDS && word_count(text) > MAX_WORDS {
+    if is_too_long(text) {
         return Err(Refusal::from(Code::F22));
     }
     Ok(Body::new(read_words(alloc, text)?))

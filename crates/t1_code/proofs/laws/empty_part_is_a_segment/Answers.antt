@@ -1,4 +1,3 @@
-use Rattle.std.proofs.Common.{◌-◌, ◌^◌}
 use Rattle.t1_code.proofs.Framing.{empty_segment}
 use Rattle.t1_code.proofs.laws.empty_part_is_a_segment.Goals as goal
 

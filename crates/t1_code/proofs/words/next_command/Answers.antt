@@ -1,4 +1,4 @@
-use Rattle.std.proofs.Common.{◌∙◌, ap, sym, arith}
+use Rattle.std.proofs.Common.{◌∙◌}
 use Rattle.t1_code.proofs.Scanning.{number_line, named_line, words_trimmed}
 use Rattle.t1_code.proofs.words.next_command.Goals as goal
 

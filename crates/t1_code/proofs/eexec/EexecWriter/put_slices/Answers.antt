@@ -1,7 +1,6 @@
 use Rattle.std.proofs.Common.{◌<◌, length, refl, arith, []}
 use Rattle.std.proofs.lemmas.Result.{err_from_is_err_and}
 use Rattle.t1_code.specs.Counted.{outlet}
-use Rattle.t1_code.specs.Parts.{bytes_of}
 use Rattle.t1_code.proofs.Carrying.{Carried-turn, Carried-turn-fails}
 use Rattle.t1_code.proofs.Enciphering.{enciphering}
 use Rattle.t1_code.proofs.eexec.EexecWriter.put_slices.Goals as goal
