@@ -65,7 +65,7 @@ unfolding takes_body line_command print_of
 commands_at_end = refl
 
 -- a machine that takes every command, and the answers to two of them, of which the first met want of memory
-agreeing : Machine (Unit {0})
+abbrev agreeing : Machine (Unit {0})
 agreeing = record { perform = λ s command. record { answer = Accepted; next = tt }; may_want_memory = λ s command. true; after_want = λ s command. tt }
 
 answers_of_two : session_answers agreeing tt (codes "unencode 65" ++ 10 ∷ codes "unencode 66" ++ 10 ∷ []) false (true ∷ []) ≡ codes "refused memory" ++ 10 ∷ codes "ok" ++ 10 ∷ []
