@@ -7,22 +7,15 @@ use Rattle.t1_frac.specs.Words.{words}
 use Rattle.t1_session.specs.declared.error.ServeError.{ServeError}
 use Rattle.t1_session.specs.declared.error.ServeError.TheVariants as errors
 use Rattle.t1_session.specs.declared.command.Command.{Command}
-use Rattle.t1_session.specs.declared.command.Command.TheVariants as commands
 use Rattle.t1_text.specs.Lines.{unified}
 use Rattle.t1_session.specs.Lines.{finished_lines}
-use Rattle.t1_session.specs.Commands.{Opening, commands_of, takes_body, alone, ends_body, body_command, open_command, is_edit}
+use Rattle.t1_session.specs.Commands.{Opening, commands_of, takes_body, alone, ends_body, body_command, open_command}
 use Rattle.t1_session.specs.AnswerTexts.{answer_text}
 use Rattle.t1_session.specs.Answers.{answers, answer_to}
-use Rattle.t1_session.specs.Machine.{machine, may_want_memory}
+use Rattle.t1_session.specs.Machine.{machine}
 use Rattle.t1_session.specs.State.{State}
 use Rattle.t1_session.specs.Conversation.{Conversation, commands_from, input_after, is_unbroken, ends_line, Performs, Goes, IsQuiet, AnswersCommand, LineGoes, LineAnswered, EndsCommandLine, IsBodyLine, EndsLine, Answered, StopsForMemory, Feeds, Ends}
 use Rattle.t1_session.proofs.LineLaws.{finished_lines-line, finished_lines-unbroken, finished_lines-last, last_line, unified-byte, unified-end, is_unbroken-push}
-
--- an edit may meet want of memory
-pub edit_may_want : (s : State) (q : Command) → is_edit q ≡ true → may_want_memory s q ≡ true
-edit_may_want s (commands.Edit edit) h = refl
-edit_may_want s (commands.Print print) h = cc
-edit_may_want s (commands.Broken rule) h = cc
 
 -- a body that is open is no command before the input ends
 none_more : (o : Option Opening) → commands_of false o [] ≡ []
@@ -75,6 +68,7 @@ Goes-byte c b n13 n10 = record {
 
 -- it finishes no command
 pub byte_alone : (c : Conversation) (b : ℕ) → is_unbroken c.line ≡ true → (b == 13) ≡ false → (b == 10) ≡ false → commands_from c (b ∷ []) false ≡ []
+unfolding commands_from Goes-byte
 byte_alone c b h n13 n10 =
     (Goes-byte c b n13 n10).spells [] false ∙ quiet (record c { line = c.line ++ b ∷ []; after_return = false }) (is_unbroken-push c.line b h n10)
 

@@ -12,8 +12,9 @@ use Rattle.t1_session.specs.declared.print.Print.TheVariants as prints
 use Rattle.t1_session.specs.declared.command.Command.TheVariants as commands
 use Rattle.t1_session.specs.declared.answer.Answer.TheVariants.{Accepted, Broken, Faulty, OutOfMemory}
 use Rattle.t1_session.specs.Lines.{finished_lines}
-use Rattle.t1_session.specs.Commands.{commands_of, line_command, removal, print_of, body_command, bodied_edit, open_command, takes_body, ends_body, number_of}
+use Rattle.t1_session.specs.Commands.{commands_of, input_commands, line_command, removal, print_of, body_command, bodied_edit, open_command, takes_body, ends_body, number_of}
 use Rattle.t1_session.specs.AnswerTexts.{answer_text, fault_text}
+use Rattle.t1_session.specs.Answers.{Machine, session_answers}
 
 -- CR LF ends one line; an unfinished line counts once the input has ended
 lines_at_end : finished_lines true (unified (codes "a" ++ 13 ∷ 10 ∷ 13 ∷ codes "b")) ≡ codes "a" ∷ [] ∷ codes "b" ∷ []
@@ -53,6 +54,23 @@ not_yet = refl
 no_number : number_of (codes "-9.5") ≡ pos (2 ^ 63 - 1)
 unfolding number_of number_word is_number_word
 no_number = refl
+
+-- the commands of an input that goes on, and of a whole one
+commands_before_end : input_commands false (codes "print kern" ++ 13 ∷ codes "print pfb") ≡ commands.Print prints.Kern ∷ []
+unfolding takes_body line_command print_of
+commands_before_end = refl
+
+commands_at_end : input_commands true (codes "print kern" ++ 13 ∷ codes "print pfb") ≡ commands.Print prints.Kern ∷ commands.Print prints.Pfb ∷ []
+unfolding takes_body line_command print_of
+commands_at_end = refl
+
+-- a machine that takes every command, and the answers to two of them, of which the first met want of memory
+abbrev agreeing : Machine (Unit {0})
+agreeing = record { perform = λ s command. record { answer = Accepted; next = tt }; may_want_memory = λ s command. true; after_want = λ s command. tt }
+
+answers_of_two : session_answers agreeing tt (codes "unencode 65" ++ 10 ∷ codes "unencode 66" ++ 10 ∷ []) false (true ∷ []) ≡ codes "refused memory" ++ 10 ∷ codes "ok" ++ 10 ∷ []
+unfolding takes_body line_command number_of answer_text
+answers_of_two = refl
 
 -- answers
 accepted : answer_text Accepted ≡ codes "ok" ++ 10 ∷ []

@@ -1,15 +1,23 @@
-use Rattle.std.proofs.Common.{◌∙◌, ◌++◌, [], List, ℕ, ◌<◌, ap, append-nil, length, arith}
-use Rattle.std.proofs.KnownBytes.{Consumes-trans, Consumes-kept}
+use Rattle.std.proofs.Common.{◌∙◌, ◌++◌, [], List, ℕ, ◌<◌, ap, sym, refl, subst, append-nil, length, arith}
+use Rattle.std.proofs.KnownBytes.{Consumes-nil, Consumes-trans, Consumes-kept}
 use Rattle.std.proofs.lemmas.Result.{err_from_is_err_and}
 use Rattle.std.specs.Io.KnownBytes.{Consumes}
 use Rattle.t1_code.specs.Counted.{one_more}
 use Rattle.t1_code.proofs.Writing.{WritesAll-append}
-use Rattle.t1_session.specs.Conversation.{fresh}
+use Rattle.t1_session.specs.Conversation.{Answered, fresh}
 use Rattle.t1_session.specs.Dialogues.{conversation_of}
 use Rattle.t1_session.specs.Serving.{streams}
-use Rattle.t1_session.proofs.Conversations.{Goes-both, quiet}
+use Rattle.t1_session.proofs.Conversations.{Answered-none, Goes-both, quiet}
 use Rattle.t1_session.proofs.Sessions.{stopped_at_read, Converses-ended, Converses-fed}
 use Rattle.t1_session.proofs.serving.converse.Goals as goal
+
+pub pieces-init : goal.pieces-init
+pieces-init g c =
+    let sink = c.args.writer.now in (
+      [],
+      record { consumes = Consumes-nil (g.R.Read.remaining c.args.reader.now.inner); failures = refl },
+      subst (λ d. Answered g.W.Write.contents (fresh c.args.session) d sink sink []) (sym c.new-dialogue.ensures) (Answered-none g.W.Write.contents (fresh c.args.session) sink),
+    )
 
 pub returns-in-Err : goal.returns-in-Err
 returns-in-Err g c =

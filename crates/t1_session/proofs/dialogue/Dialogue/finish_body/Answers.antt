@@ -20,6 +20,6 @@ returns g c =
     let is : ends_body c.args.self.now.line.items ≡ false = ap ends_body (sym c.deref.ensures.value) ∙ sym c.ends_body.ensures ∙ c.if-ends_body.false in
     let o : Opening = opening_of c.args.opening in
     let old : Conversation = record (conversation_of c.args.self.now) { opening = Some o } in
-    Ends-answered g.W.Write.contents old c.answer_command.new.session c.args.writer.now c.answer_command.new.writer (open_command (words o.heading)) c.answer_command.result
+    Ends-answered g.W.Write.contents old c.answer_command-2.new.session c.args.writer.now c.answer_command-2.new.writer (open_command (words o.heading)) c.answer_command-2.result
     (left_at_end old o c.args.self.now.unbroken refl is)
-    (c.answer_command.ensures (open_command (words o.heading)) (rw (← c.deref-2.ensures.value) c.open_command.ensures))
+    (c.answer_command-2.ensures (open_command (words o.heading)) (rw (← c.deref-2.ensures.value) c.open_command.ensures))

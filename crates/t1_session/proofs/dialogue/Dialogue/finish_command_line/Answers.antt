@@ -31,5 +31,5 @@ returns g c =
     let plain : takes_body (words text) ≡ false = ap (λ l. takes_body (words l)) (sym c.deref.ensures.value) ∙ sym c.takes_body.ensures ∙ c.if-takes_body.false in
     let some : is_wordless (words text) ≡ false = ap (λ l. is_wordless (words l)) (sym c.deref-2.ensures.value) ∙ sym c.is_blank_line.ensures ∙ c.if-is_blank_line.false in
     let one : commands_from old [] true ≡ line_command (words text) ∷ [] = alone_at_end old c.args.self.now.unbroken (rw c.requires refl) plain ∙ rw some refl in
-    Ends-answered g.W.Write.contents old c.answer_command.new.session c.args.writer.now c.answer_command.new.writer (line_command (words text)) c.answer_command.result
-    one (c.answer_command.ensures (line_command (words text)) (rw (← c.deref-3.ensures.value) c.line_command-made.ensures))
+    Ends-answered g.W.Write.contents old c.answer_command-2.new.session c.args.writer.now c.answer_command-2.new.writer (line_command (words text)) c.answer_command-2.result
+    one (c.answer_command-2.ensures (line_command (words text)) (rw (← c.deref-3.ensures.value) c.line_command-made.ensures))
