@@ -9,18 +9,22 @@ use Rattle.t1_code.specs.declared.parts.OutError.{OutError}
 use Rattle.t1_code.specs.declared.parts.OutError.TheVariants as out
 use Rattle.t1_code.specs.Counted.{Tally}
 use Rattle.t1_code.specs.Parts.{Prints}
-use Rattle.t1_code.specs.Pfb.{whole_file}
 use Rattle.t1_afm.specs.Afm.{afm}
-use Rattle.t1_font.specs.Assembly.{source_file, file_check}
+use Rattle.t1_font.specs.Assembly.{source_file, source_pfa, file_check}
 use Rattle.t1_font.specs.FontMetrics.{metrics_of}
 use Rattle.t1_font.specs.MeasuredGlyphs.{MeasuredFont, measured}
-use Rattle.t1_session.specs.Files.{assembled, metrics_file}
+use Rattle.t1_session.specs.Files.{assembled, assembled_pfa, metrics_file}
 use Rattle.t1_session.specs.Delivery.{Delivers, told_by_writing}
 
 -- the PFB file of the bytes of a source
 pub file_read : (size : ℕ) (bytes : List ℕ) (s : SourceParts) → reads bytes ≡ Ok s → assembled size bytes ≡ source_file size s
 unfolding assembled
 file_read size bytes s read = rw read refl
+
+-- the PFA file of the bytes of a source
+pub pfa_read : (bytes : List ℕ) (s : SourceParts) → reads bytes ≡ Ok s → assembled_pfa bytes ≡ source_pfa s
+unfolding assembled_pfa
+pfa_read bytes s read = rw read refl
 
 -- the AFM file of a source, its pairs and its glyphs, which have no fault
 pub metrics_parts : (source kerning : List ℕ) (s : SourceParts) (ps : List Pair) (glyphs : MeasuredFont)

@@ -7,7 +7,7 @@ use Rattle.t1_parts.specs.SourceParts.{SourceParts}
 use Rattle.t1_source.specs.Kerning.{pairs}
 use Rattle.t1_parts.specs.Reading.{reads}
 use Rattle.t1_afm.specs.Afm.{afm}
-use Rattle.t1_font.specs.Assembly.{source_file, file_check}
+use Rattle.t1_font.specs.Assembly.{source_file, source_pfa, file_check}
 use Rattle.t1_font.specs.FontMetrics.{metrics_of}
 use Rattle.t1_font.specs.MeasuredGlyphs.{measured}
 use Rattle.t1_font.specs.SourceChecks.{source_check}
@@ -16,6 +16,10 @@ use Rattle.t1_font.specs.SourceChecks.{source_check}
 -- of the bodies, or F23
 unfoldable pub assembled : ℕ → List ℕ → Result (List ℕ) Fault
 assembled size bytes = reads bytes >>= λ source. source_file size source
+
+-- the same, of the PFA file
+unfoldable pub assembled_pfa : List ℕ → Result (List ℕ) Fault
+assembled_pfa bytes = reads bytes >>= λ source. source_pfa source
 
 -- profile, order of faults: the AFM file of a source and its pairs, or the first fault of reading the source, of the
 -- pairs, of the bodies, F23, or of a glyph

@@ -18,7 +18,7 @@ mod session;
 #[cfg(test)]
 mod tests;
 
-pub use assembling::assemble_source;
+pub use assembling::{assemble_blocks, assemble_pfa, assemble_source};
 pub use error::ServeError;
 pub use measuring::measure_source;
 pub use serving::serve;
