@@ -2,11 +2,13 @@ pub mod Agreeing
 pub mod Asked
 pub mod CompositeRows
 pub mod Continuing
+pub mod FoundByUsers
 pub mod Moved
 pub mod Outlines
 pub mod Rows
 pub mod Searched
 pub mod Steps
+pub mod Untouched
 pub mod Within
 pub mod WithinOutlines
 pub mod WithinRuns

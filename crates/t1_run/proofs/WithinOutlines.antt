@@ -1,5 +1,5 @@
 -- Outlines, also of composites, are within the limits.
-use Rattle.std.proofs.Common.{◌≡◌, ℕ, zero, suc, List, [], ◌∷◌, ◌++◌, subst, Option, Some, None}
+use Rattle.std.proofs.Common.{◌≡◌, ℕ, zero, suc, List, [], ◌∷◌, ◌++◌, refl, subst, Option, Some, None}
 use Rattle.std.specs.Prelude.{All, Result, Ok, Err, IfOk, IfSome}
 use Rattle.std.proofs.lemmas.List.Elements.{All-nil, All-cons}
 use Rattle.t1_frac.specs.Fraction.{Fraction}
@@ -11,10 +11,11 @@ use Rattle.t1_run.specs.declared.outline.Point.{Point}
 use Rattle.t1_run.specs.declared.outline.Segment.{Segment}
 use Rattle.t1_run.specs.declared.outline.Segment.TheVariants.{Line, Curve}
 use Rattle.t1_run.specs.Composite.{accent_move, moved_point, moved_segment, moved_outline, joined, joined_with, with_parts, drawn, outline_within, outline, IsPoint, IsWithin}
-use Rattle.t1_run.specs.Run.{FontBodies, Drawing, own}
-use Rattle.t1_run.specs.Within.{DrawnWithinLaw}
+use Rattle.t1_code.specs.declared.command.Command.{Command}
+use Rattle.t1_run.specs.Run.{FontBodies, Drawing, own, ending, outcome_of}
+use Rattle.t1_run.specs.Within.{DrawnWithinLaw, AreRuns, OutlinesWithinLaw}
 use Rattle.t1_run.proofs.Within.{IsValue, IsPlace, IsPlaced, IsDrawn, AllDrawn, bind-ok, each-append, sum-place, difference-place, moved-placed, outline-stays}
-use Rattle.t1_run.proofs.WithinRuns.{PartsWithin, DrawingWithin, OwnWithin, own-within}
+use Rattle.t1_run.proofs.WithinRuns.{PartsWithin, DrawingWithin, OwnWithin, own-within, outcome-within, ending-within}
 
 -- a distance in lowest terms
 record IsMove (by : Point) : Type 0 where
@@ -81,9 +82,12 @@ drawn-drawn part parts None h = tt
 drawn-drawn part parts (Some (Err fault)) h = tt
 drawn-drawn part parts (Some (Ok d)) h = with_parts-drawn part parts d.composite d h
 
+runs-drawn : (run : List ℕ → Option (Result Drawing Code)) → ((g : List ℕ) → OwnWithin (run g)) → (depth : ℕ) → PartsDrawn (outline_within run depth)
+runs-drawn run within zero g = drawn-drawn (λ part. Err F46) (λ part. tt) (run g) (within g)
+runs-drawn run within (suc depth) g = drawn-drawn (outline_within run depth) (runs-drawn run within depth) (run g) (within g)
+
 outline_within-drawn : (m : FontBodies) (depth : ℕ) → PartsDrawn (outline_within (own m) depth)
-outline_within-drawn m zero g = drawn-drawn (λ part. Err F46) (λ part. tt) (own m g) (own-within m g)
-outline_within-drawn m (suc depth) g = drawn-drawn (outline_within (own m) depth) (outline_within-drawn m depth) (own m g) (own-within m g)
+outline_within-drawn m depth = runs-drawn (own m) (own-within m) depth
 
 outline-drawn : (m : FontBodies) (g : List ℕ) → IfOk (outline m g) AllDrawn
 unfolding outline
@@ -114,7 +118,7 @@ each-within (Err fault) h = tt
 pub outline-within_limits : (m : FontBodies) (g : List ℕ) → IfOk (outline m g) (All IsWithin)
 outline-within_limits m g = each-within (outline m g) (outline-drawn m g)
 
--- ---- the law
+-- ---- the laws
 
 own-drawn : (m : FontBodies) (g : List ℕ) (d : Drawing) → own m g ≡ Some (Ok d) → DrawingWithin d
 own-drawn m g d e = subst OwnWithin e (own-within m g)
@@ -124,3 +128,29 @@ drawn_within = record {
   own_segments = λ m g d e. outline-stays d.segments (own-drawn m g d e).segments;
   outlines = λ m g segments e. outline-stays segments (subst (λ r. IfOk r AllDrawn) e (outline-drawn m g));
 }
+
+runs-within : (run : List ℕ → Option (Result Drawing Code)) → AreRuns run → (g : List ℕ) → OwnWithin (run g)
+runs-within run are g = by (run g) refl where
+  by : (r : Option (Result Drawing Code)) → run g ≡ r → OwnWithin r
+  by None e = tt
+  by (Some (Err fault)) e = tt
+  by (Some (Ok d)) e = let of = are g d e in own-drawn of.0 of.1.0 d of.1.1
+
+pub outlines_within : OutlinesWithinLaw
+outlines_within = record {
+  of_font = λ m depth g. each-within (outline_within (own m) depth g) (outline_within-drawn m depth g);
+  of_runs = λ run are depth g. each-within (outline_within run depth g) (runs-drawn run (runs-within run are) depth g);
+}
+
+-- ---- what ends within the limits
+
+-- each segment that a run draws is within the limits
+abbrev pub DrawsWithin : Result Drawing Code → Type 0
+DrawsWithin r = IfOk r (λ d. All IsWithin d.segments)
+
+drawing-draws : (r : Result Drawing Code) → IfOk r DrawingWithin → DrawsWithin r
+drawing-draws (Ok d) h = all-within d.segments h.segments
+drawing-draws (Err fault) h = tt
+
+pub ending-draws : (m : FontBodies) (body : List Command) (r : Result Drawing Code) → outcome_of (ending m body) ≡ r → DrawsWithin r
+ending-draws m body r e = subst DrawsWithin e (drawing-draws (outcome_of (ending m body)) (outcome-within (ending m body) (ending-within m body)))

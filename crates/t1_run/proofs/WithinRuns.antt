@@ -21,7 +21,7 @@ pub record PartsWithin (c : Composite) : Type 0 where
   pub adx : IsValue c.adx
   pub ady : IsValue c.ady
 
-abbrev EndWithin : Ending → Type 0
+abbrev pub EndWithin : Ending → Type 0
 EndWithin (Finished s asked) = StateWithin s
 EndWithin (Returned s asked) = StateWithin s
 EndWithin (Ended composite s asked) = IfSome composite PartsWithin × StateWithin s
@@ -99,7 +99,7 @@ initial-within = record {
   segments = tt;
 }
 
-ending-within : (m : FontBodies) (body : List Command) → EndWithin (ending m body)
+pub ending-within : (m : FontBodies) (body : List Command) → EndWithin (ending m body)
 unfolding ending
 ending-within m body = words-within m (call_within m 10) (calls-within m 10) body initial [] initial-within
 
@@ -120,7 +120,7 @@ drawing-within : (metric : Option Metric) (composite : Option Composite) (s : St
 drawing-within None composite s k c h = tt
 drawing-within (Some metric) composite s k c h = record { width = k.width; bearing = k.bearing; segments = h.segments; parts = c }
 
-outcome-within : (e : Ending) → EndWithin e → IfOk (outcome_of e) DrawingWithin
+pub outcome-within : (e : Ending) → EndWithin e → IfOk (outcome_of e) DrawingWithin
 outcome-within (Finished s asked) h = tt
 outcome-within (Returned s asked) h = tt
 outcome-within (Ended composite s asked) h = drawing-within s.metric composite s h.1.metric h.0 h.1

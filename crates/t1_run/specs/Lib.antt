@@ -3,8 +3,10 @@ pub mod Footprint
 pub mod Machine
 pub mod Operands
 pub mod OtherSubrs
+pub mod Overlay
 pub mod Run
 pub mod State
 pub mod Step
+pub mod Touched
 pub mod Within
 pub mod Words

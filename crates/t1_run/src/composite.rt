@@ -1,13 +1,13 @@
 //! The outline of a composite.
 
-ghost use Rattle.std.specs.Prelude.{◌≡◌, MatchResult};
+ghost use Rattle.std.specs.Prelude.{◌≡◌, All, IfOk, MatchResult, OnOk};
 ghost use Rattle.t1_frac.specs.Outcome.{Gives, Refuses, told_at};
-ghost use Rattle.t1_run.specs.Composite.{accent_move as move_of, moved_outline, joined};
+ghost use Rattle.t1_run.specs.Composite.{accent_move as move_of, moved_outline, joined, IsWithin};
 ghost use Rattle.t1_run.specs.Machine.{AppendsMoved};
 
 use crate::moving::moved_segment;
-use crate::outline::{Composite, Point, Segment};
 use crate::outcome::Run;
+use crate::outline::{Composite, Point, Segment};
 use std::alloc::Global;
 use t1_frac::{Code, Place, Refusal};
 
@@ -26,10 +26,11 @@ pub fn accent_move(bearing: &Point, composite: &Composite) -> Result<Point, Code
 
 /// Adds the segments, moved.
 fn push_moved(outline: &mut Vec<Segment>, segments: &[Segment], by: &Point) -> Result<(), Refusal>
-    ensures { MatchResult
+    ensures moved { MatchResult
         result
         (λ _. AppendsMoved (moved_outline by.now segments.now) outline.old.items outline.new.items)
         (λ refused. Refuses refused (told_at Place.Nowhere (moved_outline by.now segments.now))) }
+    ensures within { OnOk result (All IsWithin outline.old.items → All IsWithin outline.new.items) }
 {
     for segment in segments {
         outline.push(moved_segment(segment, by)?)?;
@@ -38,7 +39,8 @@ fn push_moved(outline: &mut Vec<Segment>, segments: &[Segment], by: &Point) -> R
 }
 
 /// The outline of a glyph from its own run and the outlines of its base and accent: its own segments, the base's, and
-/// the accent's moved. A glyph that is no composite has its own segments alone.
+/// the accent's moved. A glyph that is no composite has its own segments alone. Its points are within the limits where
+/// those of the base are.
 #[tactic(auto, unfolding(crate::specs::Composite::joined))]
 pub fn join(
     alloc: Global,
@@ -46,10 +48,11 @@ pub fn join(
     base: &[Segment],
     accent: &[Segment],
 ) -> Result<Vec<Segment>, Refusal>
-    ensures { Gives
+    ensures joined { Gives
         (λ outline. outline.items)
         result
         (told_at Place.Nowhere (joined own.now.drawing base.now accent.now)) }
+    ensures within { IfOk result (λ outline. All IsWithin base.now → All IsWithin outline.items) }
 {
     let mut outline = Vec::new(alloc);
     let Some(parts) = own.composite() else {

@@ -1,7 +1,8 @@
 //! Laws of runs.
 
 ghost use Rattle.t1_run.specs.Footprint.{FootprintLaw, OutlineFootprintLaw, ExactLaw, PartsLaw, StepsLaw};
-ghost use Rattle.t1_run.specs.Within.{DrawnWithinLaw};
+ghost use Rattle.t1_run.specs.Touched.{UntouchedLaw, FoundByUsersLaw};
+ghost use Rattle.t1_run.specs.Within.{DrawnWithinLaw, OutlinesWithinLaw};
 
 /// What a glyph's own body draws, or its fault, and its footprint are the same in all fonts that agree on the
 /// footprint. The keys of a footprint are Subr numbers, also computed ones, and glyph names.
@@ -35,4 +36,21 @@ pub fn steps()
 /// denominators refuses any of their points.
 pub fn drawn_within()
     ensures { DrawnWithinLaw }
+{}
+
+/// The points of an outline without a fault are within the limits of coordinates and denominators: of a font's glyph, and
+/// of a glyph by runs that were kept, each the run of some font.
+pub fn outlines_within()
+    ensures { OutlinesWithinLaw }
+{}
+
+/// A glyph that draws, and that edits of the font's bodies don't touch, has the same run and the same outline in the
+/// edited font.
+pub fn untouched()
+    ensures { UntouchedLaw }
+{}
+
+/// The glyphs that tables of users reach, from the glyphs that use what edits name, are the glyphs that the edits touch.
+pub fn found_by_users()
+    ensures { FoundByUsersLaw }
 {}

@@ -11,7 +11,9 @@ mod meter;
 mod moving;
 mod operands;
 mod othersubrs;
+mod outcome;
 mod outline;
+mod overlay;
 mod plain;
 mod recorded;
 mod results;
@@ -20,16 +22,16 @@ mod runner;
 mod seac;
 mod state;
 mod step;
-mod outcome;
 
 pub use bodies::Bodies;
 pub use composite::{accent_move, join};
 pub use meter::Meter;
 pub use moving::{moved_point, moved_segment};
+pub use outcome::Run;
 pub use outline::{Composite, Point, Segment};
+pub use overlay::Overlay;
 pub use plain::Plain;
 pub use runner::run;
-pub use outcome::Run;
 
 #[cfg(test)]
 mod tests;

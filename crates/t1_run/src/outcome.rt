@@ -1,8 +1,9 @@
 //! What a run tells.
 
-ghost use Rattle.std.specs.Prelude.{◌≡◌, IfOk, Option};
+ghost use Rattle.std.specs.Prelude.{◌≡◌, All, IfOk, Option};
 ghost use Rattle.std.specs.Option.{option_copied};
 ghost use Rattle.t1_frac.specs.Outcome.{Gives, told_at};
+ghost use Rattle.t1_run.specs.Composite.{IsWithin};
 ghost use Rattle.t1_run.specs.Machine.{state_of};
 ghost use Rattle.t1_run.specs.Run.{drawing_of};
 
@@ -38,6 +39,11 @@ impl Model for Run {
       };
       serial = r.serial;
     } };
+
+    ghost use Rattle.t1_run.specs.Composite.{IsWithin};
+    ghost use Rattle.std.specs.Prelude.{All};
+
+    ghost invariant = { λ r. All IsWithin r.segments.items };
 }
 
 impl Run {
@@ -47,6 +53,7 @@ impl Run {
         composite: Option<Composite>,
         serial: u64,
     ) -> Result<Run, Refusal>
+        requires { IfOk (drawing_of state.metric composite (state_of state)) (λ drawing. All IsWithin drawing.segments) }
         ensures drawing { Gives (λ run. run.drawing) result (told_at Place.Nowhere (drawing_of state.metric composite (state_of state))) }
         ensures serial { IfOk result (λ run. run.serial ≡ serial) }
     {
@@ -85,9 +92,10 @@ impl Run {
         self.metric.bearing
     }
 
-    /// What the glyph itself draws, without its parts.
+    /// What the glyph itself draws, without its parts. Its points are within the limits.
     pub fn segments(&self) -> &[Segment]
-        ensures { result.now ≡ self.now.drawing.segments }
+        ensures value { result.now ≡ self.now.drawing.segments }
+        ensures within { All IsWithin result.now }
     {
         self.segments.as_slice()
     }

@@ -7,10 +7,10 @@ ghost use Rattle.t1_run.specs.Run.{ending, outcome_of, own, font};
 
 use crate::bodies::Bodies;
 use crate::meter::Meter;
+use crate::outcome::Run;
 use crate::returns::ReturnStack;
 use crate::seac::find_parts;
 use crate::state::{Control, State};
-use crate::outcome::Run;
 use std::alloc::Global;
 use t1_code::Command;
 use t1_frac::{Code, Place, Refusal};

@@ -1,12 +1,13 @@
-use Rattle.std.proofs.Common.{◌≡◌, List, length, sym, ◌∙◌, ap, subst, ◌<◌, rules, refl}
+use Rattle.std.proofs.Common.{Some, None, ◌≡◌, List, length, sym, ◌∙◌, ap, subst, ◌<◌, rules, refl}
 use Rattle.std.proofs.lemmas.Result.{err_from_is_err_and}
 use Rattle.t1_frac.specs.Outcome.{told_at}
 use Rattle.t1_frac.specs.declared.fault.Place.TheVariants.{Nowhere}
 use Rattle.t1_code.specs.declared.command.Command.{Command}
 use Rattle.t1_run.specs.Machine.{state_of, told}
-use Rattle.t1_run.specs.Run.{FontBodies}
+use Rattle.t1_run.specs.Run.{FontBodies, font, drawing_of}
 use Rattle.t1_run.specs.State.{State}
 use Rattle.t1_run.proofs.Continuing.{Continues, Continues-start, Continues-call, Continues-back, outcome-end, outcome-missing, outcome-full, outcome-compose, refused-step, refused-parts, found-parts}
+use Rattle.t1_run.proofs.WithinOutlines.{ending-draws}
 use Rattle.t1_run.proofs.runner.run_body.Goals as goal
 
 at_rest : {m : FontBodies} {body rest rest' : List Command} {waiting : List (List Command)} {s : State}
@@ -72,3 +73,20 @@ returns-in_err-step-clause-drawing g c =
     let h = at_rest c.words.invariant c.in-Some.ensures.cases.0 in
     let p = err_from_is_err_and c.from_residual.result c.from_residual.ensures.1 in
     rw (p.1, p.2) (refused-step _ h c.in_err-step.ensures.told)
+
+pub ended-requires : goal.ended-requires
+ended-requires g c =
+    let m = font (g.B.Bodies.subrs c.args.bodies.now) (g.B.Bodies.glyphs c.args.bodies.now) in
+    let after = state_of c.step.new.self in
+    let h = at_rest c.words.invariant c.in-Some.ensures.cases.0 in
+    let e = c.in_ok-step.ensures.told ∙ ap (λ x. told x after) c.in-End.is in
+    ending-draws m c.args.body.now (drawing_of after.metric None after) (outcome-end h e)
+
+pub ended-requires-in-Compose : goal.ended-requires-in-Compose
+ended-requires-in-Compose g c =
+    let m = font (g.B.Bodies.subrs c.args.bodies.now) (g.B.Bodies.glyphs c.args.bodies.now) in
+    let after = state_of c.step.new.self in
+    let h = at_rest c.words.invariant c.in-Some.ensures.cases.0 in
+    let e = c.in_ok-step.ensures.told ∙ ap (λ x. told x after) c.in-Compose.is in
+    let found = found-parts _ _ c.in_ok-parts-in-Compose.ensures in
+    ending-draws m c.args.body.now (drawing_of after.metric (Some c.in_ok-parts-in-Compose.parts) after) (outcome-compose h e found)
