@@ -30,7 +30,7 @@ use Rattle.t1_font.specs.declared.glyph_metrics.GlyphMetrics.{GlyphMetrics}
 use Rattle.t1_font.specs.Bodies.{bodies, bodies_check, words_check, glyph_among, SameBodies}
 use Rattle.t1_font.specs.Glyphs.{Glyph as Drawn, glyphs, glyphs_by, glyph_names}
 use Rattle.t1_font.specs.Runs.{Kept, kept_of, own_among}
-use Rattle.t1_font.specs.MeasuredGlyphs.{glyph_metrics, glyph_metrics_among, measured, AreWithin, MeasuredFont}
+use Rattle.t1_font.specs.MeasuredGlyphs.{glyph_metrics, glyph_metrics_among, measured, MeasuredFont}
 use Rattle.t1_font.proofs.Keeping.{bytes_self}
 
 -- ---- the glyphs of a source are there
@@ -133,11 +133,6 @@ outline-is m g = refl
 kept-outline : (runs : List Kept) (items : List Item) → KeepsOwn runs items → (g : List ℕ) → outline_within (kept_of runs) 4 g ≡ outline (bodies items) g
 kept-outline runs items kept g =
     ap (λ run. outline_within run 4 g) (same-function (kept_of runs) (own (bodies items)) kept) ∙ outline-is (bodies items) g
-
-pub are-within : (runs : List Kept) (items : List Item) → KeepsOwn runs items → AreWithin runs
-are-within runs items kept = record {
-  outlines = λ g. subst (λ r. IfOk r (All IsWithin)) (sym (kept-outline runs items kept g)) (outline-within_limits (bodies items) g);
-}
 
 metrics-are : (runs : List Kept) (items : List Item) (names : List (List ℕ)) → KeepsOwn runs items
     → glyph_metrics_among runs names ≡ (glyphs (bodies items) names >>= (λ gs. Ok (map glyph_metrics gs)))

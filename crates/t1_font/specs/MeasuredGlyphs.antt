@@ -1,10 +1,10 @@
 -- What is told of a font's glyphs.
-use Rattle.std.specs.Prelude.{ℕ, List, All, map, Result, Ok, IfOk}
+use Rattle.std.specs.Prelude.{ℕ, List, map, Result, Ok}
 use Rattle.t1_frac.specs.declared.fault.Code.{Code}
 use Rattle.t1_frac.specs.declared.fault.Fault.{Fault}
 use Rattle.t1_frac.specs.Outcome.{◌>>=◌}
 use Rattle.t1_parts.specs.declared.item.Item.{Item}
-use Rattle.t1_run.specs.Composite.{outline_within, IsWithin}
+use Rattle.t1_run.specs.Composite.{outline_within}
 use Rattle.t1_afm.specs.declared.bbox.BBox.{BBox}
 use Rattle.t1_afm.specs.Box.{drawn_box, font_box}
 use Rattle.t1_font.specs.declared.glyph_metrics.GlyphMetrics.{GlyphMetrics}
@@ -31,10 +31,6 @@ glyph_metrics_at runs name =
 unfoldable pub glyph_metrics_among : List Kept → List (List ℕ) → Result (List GlyphMetrics) Fault
 glyph_metrics_among runs names =
     glyphs_by (kept_of runs) (outline_within (kept_of runs) 4) names >>= (λ glyphs. Ok (map glyph_metrics glyphs))
-
--- each outline, by the runs that are kept, is within the limits
-pub record AreWithin (runs : List Kept) : Type 0 where
-  pub outlines : (name : List ℕ) → IfOk (outline_within (kept_of runs) 4 name) (All IsWithin)
 
 -- profile: what is told of the glyphs, in the order of their entries, and the font's box
 pub record MeasuredFont : Type 0 where

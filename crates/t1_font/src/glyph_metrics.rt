@@ -6,7 +6,7 @@ ghost use Rattle.t1_run.specs.Composite.{IsWithin};
 ghost use Rattle.t1_afm.specs.Box.{drawn_box as box_drawn, united};
 ghost use Rattle.t1_font.specs.Glyphs.{placed_parts_of, run_there};
 ghost use Rattle.t1_font.specs.Runs.{kept_of};
-ghost use Rattle.t1_font.specs.MeasuredGlyphs.{glyph_metrics_at, glyph_metrics_among, AreWithin};
+ghost use Rattle.t1_font.specs.MeasuredGlyphs.{glyph_metrics_at, glyph_metrics_among};
 
 use crate::numbers::SubrNumbers;
 use crate::outline::outline_of;
@@ -80,7 +80,6 @@ fn run_of<'a>(runs: &'a Runs, name: &[u8]) -> Result<&'a Run, Code>
 /// What is told of a glyph, or its first fault, at no place.
 #[tactic(auto, unfolding(crate::specs::MeasuredGlyphs::glyph_metrics_at))]
 fn unplaced_metrics(alloc: Global, runs: &Runs, name: &[u8]) -> Result<GlyphMetrics, Refusal>
-    requires { AreWithin runs.now }
     ensures { Gives
         (λ glyph. glyph)
         result
@@ -100,7 +99,6 @@ fn unplaced_metrics(alloc: Global, runs: &Runs, name: &[u8]) -> Result<GlyphMetr
 
 /// What is told of a glyph, or its first fault, at the glyph.
 fn placed_metrics(alloc: Global, runs: &Runs, name: &[u8]) -> Result<GlyphMetrics, Refusal>
-    requires { AreWithin runs.now }
     ensures { Gives
         (λ glyph. glyph)
         result
@@ -118,7 +116,6 @@ fn placed_metrics(alloc: Global, runs: &Runs, name: &[u8]) -> Result<GlyphMetric
 /// What is told of these glyphs, in their order, or the first fault of a glyph.
 #[tactic(auto, unfolding(crate::specs::MeasuredGlyphs::glyph_metrics_among))]
 pub fn glyph_metrics_of(alloc: Global, runs: &Runs, names: &[&[u8]]) -> Result<Vec<GlyphMetrics>, Refusal>
-    requires { AreWithin runs.now }
     ensures { Gives
         (λ metrics. metrics.items)
         result

@@ -1,8 +1,8 @@
 //! The outlines of glyphs whose runs are kept.
-ghost use Rattle.std.specs.Prelude.{◌≡◌};
+ghost use Rattle.std.specs.Prelude.{◌≡◌, All, IfOk};
 ghost use Rattle.t1_frac.specs.Outcome.{Gives, told_at};
 ghost use Rattle.t1_frac.specs.declared.fault.Place.TheVariants.{Nowhere};
-ghost use Rattle.t1_run.specs.Composite.{outline_within};
+ghost use Rattle.t1_run.specs.Composite.{outline_within, IsWithin};
 ghost use Rattle.t1_font.specs.Outlines.{segments_of};
 ghost use Rattle.t1_font.specs.Runs.{kept_of};
 
@@ -36,7 +36,8 @@ fn outline_at<'a>(
     depth: u8,
     name: &[u8],
 ) -> Result<Outline<'a>, Refusal>
-    ensures { Gives segments_of result (told_at Nowhere (outline_within (kept_of runs.now) depth name.now)) }
+    ensures outline { Gives segments_of result (told_at Nowhere (outline_within (kept_of runs.now) depth name.now)) }
+    ensures within { IfOk result (λ outline. All IsWithin (segments_of outline)) }
 {
     let run = match runs.get(name) {
         None => return Err(Refusal::from(Code::F45)),
@@ -55,9 +56,10 @@ fn outline_at<'a>(
     Ok(Outline::Joined(joined))
 }
 
-/// The outline of a glyph, whose composites nest four deep at most, or its first fault.
+/// The outline of a glyph, whose composites nest four deep at most, or its first fault. Its points are within the limits.
 pub fn outline_of<'a>(alloc: Global, runs: &'a Runs, name: &[u8]) -> Result<Outline<'a>, Refusal>
-    ensures { Gives segments_of result (told_at Nowhere (outline_within (kept_of runs.now) 4 name.now)) }
+    ensures outline { Gives segments_of result (told_at Nowhere (outline_within (kept_of runs.now) 4 name.now)) }
+    ensures within { IfOk result (λ outline. All IsWithin (segments_of outline)) }
 {
     outline_at(alloc, runs, 4, name)
 }

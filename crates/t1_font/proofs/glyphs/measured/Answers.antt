@@ -5,20 +5,13 @@ use Rattle.t1_afm.specs.Box.{united}
 use Rattle.t1_font.specs.Bodies.{plain_bodies}
 use Rattle.t1_font.specs.Runs.{own_among}
 use Rattle.t1_font.specs.MeasuredGlyphs.{glyph_metrics_among}
-use Rattle.t1_font.proofs.Measuring.{names-there, keeps-own, are-within, all-told, all-refused}
+use Rattle.t1_font.proofs.Measuring.{names-there, keeps-own, all-told, all-refused}
 use Rattle.t1_font.proofs.glyphs.measured.Goals as goal
 
 pub runs_of-requires : goal.runs_of-requires
 runs_of-requires c =
     names-there (plain_bodies c.args.bodies.now) c.args.items.now c.deref.result.now tt c.requires.checked c.requires.bodies
     (ap (map (λ name. name.now)) c.deref.ensures.value ∙ c.in_ok-names.ensures)
-
-pub glyph_metrics_of-requires : goal.glyph_metrics_of-requires
-glyph_metrics_of-requires c =
-    let m = plain_bodies c.args.bodies.now in
-    let items = c.args.items.now in
-    let names = ap (map (λ name. name.now)) c.deref.ensures.value ∙ c.in_ok-names.ensures in
-    are-within c.in_ok-runs.runs items (keeps-own m items c.in_ok-runs.runs c.requires.bodies (λ g. c.in_ok-runs.ensures.kept g ∙ ap (λ l. own_among m l g) names))
 
 pub returns-in_err-metrics-clause-told : goal.returns-in_err-metrics-clause-told
 returns-in_err-metrics-clause-told c =

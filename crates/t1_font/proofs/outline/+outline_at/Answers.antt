@@ -9,26 +9,26 @@ use Rattle.t1_font.specs.Runs.{drawing_kept, kept_of}
 use Rattle.t1_font.proofs.Drawing.{refuses-code, refuses-first, refuses-next, faulty, composed}
 use Rattle.t1_font.proofs.outline.+outline_at.Goals as goal
 
-pub returns-in-Some-Err : goal.returns-in-Some-Err
-returns-in-Some-Err t c =
+pub returns-in-Some-Err-clause-outline : goal.returns-in-Some-Err-clause-outline
+returns-in-Some-Err-clause-outline t c =
     let run = kept_of c.args.runs.now in
     refuses-code c.from-in-Some-Err.result c.in-Some-Err.code (outline_within run c.args.depth c.args.name.now) c.from-in-Some-Err.ensures
     (faulty run c.args.depth c.args.name.now c.in-Some-Err.code (sym (ap (λ kept. Some (drawing_kept kept)) c.in-Some-Err.field-0-is) ∙ c.in-Some-Err.ensures))
 
-pub returns-in_err-base : goal.returns-in_err-base
-returns-in_err-base t c =
+pub returns-in_err-base-clause-outline : goal.returns-in_err-base-clause-outline
+returns-in_err-base-clause-outline t c =
     let run = kept_of c.args.runs.now in
     let part = outline_within run (c.args.depth - 1) in
     let d = c.in-Some-Ok.run'.drawing in
     let parts = c.in-Some.parts.now in
     let own = sym (ap (λ kept. Some (drawing_kept kept)) c.in-Some-Ok.field-0-is) ∙ c.in-Some-Ok.ensures in
     let p = err_from_is_err_and c.from_residual.result c.from_residual.ensures.1 in
-    let base = subst (λ name. Refuses c.in_err-base.field-0.0 (told_at Nowhere (part name))) c.as_slice.ensures c.in_err-base.ensures in
+    let base = subst (λ name. Refuses c.in_err-base.field-0.0 (told_at Nowhere (part name))) c.as_slice.ensures c.in_err-base.ensures.outline in
     rw (p.1, p.2, composed run c.args.depth c.args.name.now d parts c.if-depth-eq0.false own c.in-Some.ensures)
     (refuses-first Nowhere c.in_err-base.field-0.0 (part parts.base) (λ base. part parts.accent >>= (λ accent. joined d base accent)) base)
 
-pub returns-in_err-accent : goal.returns-in_err-accent
-returns-in_err-accent t c =
+pub returns-in_err-accent-clause-outline : goal.returns-in_err-accent-clause-outline
+returns-in_err-accent-clause-outline t c =
     let run = kept_of c.args.runs.now in
     let part = outline_within run (c.args.depth - 1) in
     let d = c.in-Some-Ok.run'.drawing in
@@ -36,14 +36,14 @@ returns-in_err-accent t c =
     let own = sym (ap (λ kept. Some (drawing_kept kept)) c.in-Some-Ok.field-0-is) ∙ c.in-Some-Ok.ensures in
     let p = err_from_is_err_and c.from_residual-in_err-accent.result c.from_residual-in_err-accent.ensures.1 in
     let refused = c.in_err-accent.field-0.0 in
-    let base = sym (ap (λ name. told_at Nowhere (part name)) c.as_slice.ensures) ∙ c.in_ok-base.ensures in
-    let accent = subst (λ name. Refuses refused (told_at Nowhere (part name))) c.as_slice-2.ensures c.in_err-accent.ensures in
+    let base = sym (ap (λ name. told_at Nowhere (part name)) c.as_slice.ensures) ∙ c.in_ok-base.ensures.outline in
+    let accent = subst (λ name. Refuses refused (told_at Nowhere (part name))) c.as_slice-2.ensures c.in_err-accent.ensures.outline in
     rw (p.1, p.2, composed run c.args.depth c.args.name.now d parts c.if-depth-eq0.false own c.in-Some.ensures)
     (refuses-next Nowhere refused (part parts.base) (segments_of c.in_ok-base.base) (λ base. part parts.accent >>= (λ accent. joined d base accent)) base
     (refuses-first Nowhere refused (part parts.accent) (λ accent. joined d (segments_of c.in_ok-base.base) accent) accent))
 
-pub returns-in_err-joined : goal.returns-in_err-joined
-returns-in_err-joined t c =
+pub returns-in_err-joined-clause-outline : goal.returns-in_err-joined-clause-outline
+returns-in_err-joined-clause-outline t c =
     let run = kept_of c.args.runs.now in
     let part = outline_within run (c.args.depth - 1) in
     let d = c.in-Some-Ok.run'.drawing in
@@ -51,11 +51,11 @@ returns-in_err-joined t c =
     let own = sym (ap (λ kept. Some (drawing_kept kept)) c.in-Some-Ok.field-0-is) ∙ c.in-Some-Ok.ensures in
     let p = err_from_is_err_and c.from_residual-in_err-joined.result c.from_residual-in_err-joined.ensures.1 in
     let refused = c.in_err-joined.field-0.0 in
-    let base = sym (ap (λ name. told_at Nowhere (part name)) c.as_slice.ensures) ∙ c.in_ok-base.ensures in
-    let accent = sym (ap (λ name. told_at Nowhere (part name)) c.as_slice-2.ensures) ∙ c.in_ok-accent.ensures in
+    let base = sym (ap (λ name. told_at Nowhere (part name)) c.as_slice.ensures) ∙ c.in_ok-base.ensures.outline in
+    let accent = sym (ap (λ name. told_at Nowhere (part name)) c.as_slice-2.ensures) ∙ c.in_ok-accent.ensures.outline in
     let both =
     subst (λ segments. Refuses refused (told_at Nowhere (joined d segments (segments_of c.in_ok-accent.accent)))) c.as_slice-3.ensures
-    (subst (λ segments. Refuses refused (told_at Nowhere (joined d c.as_slice-3.result.now segments))) c.as_slice-4.ensures c.in_err-joined.ensures) in
+    (subst (λ segments. Refuses refused (told_at Nowhere (joined d c.as_slice-3.result.now segments))) c.as_slice-4.ensures c.in_err-joined.ensures.joined) in
     rw (p.1, p.2, composed run c.args.depth c.args.name.now d parts c.if-depth-eq0.false own c.in-Some.ensures)
     (refuses-next Nowhere refused (part parts.base) (segments_of c.in_ok-base.base) (λ base. part parts.accent >>= (λ accent. joined d base accent)) base
     (refuses-next Nowhere refused (part parts.accent) (segments_of c.in_ok-accent.accent) (λ accent. joined d (segments_of c.in_ok-base.base) accent) accent both))
