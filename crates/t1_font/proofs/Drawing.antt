@@ -31,6 +31,13 @@ refuses-next place refused (Ok y) x next e h =
     subst (λ z. Refuses refused (told_at place (next z))) (sym same) h
 refuses-next place refused (Err code) x next e h = absurd (cc)
 
+pub gives-next : {A B : Type 0} (place : Place) (r : Result A Code) (x : A) (y : B) (next : A → Result B Code)
+    → told_at place r ≡ Ok x → told_at place (next x) ≡ Ok y → told_at place (r >>= next) ≡ Ok y
+gives-next place (Ok z) x y next e h =
+    let same : z ≡ x = cc in
+    subst (λ w. told_at place (next w) ≡ Ok y) (sym same) h
+gives-next place (Err code) x y next e h = absurd (cc)
+
 pub refuses-then : {A B : Type 0} (refused : Refusal) (r : Result A TheFault) (next : A → Result B TheFault) → Refuses refused r → Refuses refused (r >>= next)
 refuses-then Memory r next h = tt
 refuses-then (Fault fault) (Ok x) next h = absurd (cc)

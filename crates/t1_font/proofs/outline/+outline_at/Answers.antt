@@ -6,7 +6,7 @@ use Rattle.t1_frac.specs.declared.fault.Place.TheVariants.{Nowhere}
 use Rattle.t1_run.specs.Composite.{outline_within, joined}
 use Rattle.t1_font.specs.Outlines.{segments_of}
 use Rattle.t1_font.specs.Runs.{drawing_kept, kept_of}
-use Rattle.t1_font.proofs.Drawing.{refuses-code, refuses-first, refuses-next, faulty, composed}
+use Rattle.t1_font.proofs.Drawing.{gives-next, refuses-code, refuses-first, refuses-next, faulty, composed}
 use Rattle.t1_font.proofs.outline.+outline_at.Goals as goal
 
 pub returns-in-Some-Err-clause-outline : goal.returns-in-Some-Err-clause-outline
@@ -59,3 +59,20 @@ returns-in_err-joined-clause-outline t c =
     rw (p.1, p.2, composed run c.args.depth c.args.name.now d parts c.if-depth-eq0.false own c.in-Some.ensures)
     (refuses-next Nowhere refused (part parts.base) (segments_of c.in_ok-base.base) (λ base. part parts.accent >>= (λ accent. joined d base accent)) base
     (refuses-next Nowhere refused (part parts.accent) (segments_of c.in_ok-accent.accent) (λ accent. joined d (segments_of c.in_ok-base.base) accent) accent both))
+
+pub returns-clause-outline : goal.returns-clause-outline
+returns-clause-outline t c =
+    let run = kept_of c.args.runs.now in
+    let part = outline_within run (c.args.depth - 1) in
+    let d = c.in-Some-Ok.run'.drawing in
+    let parts = c.in-Some.parts.now in
+    let own = sym (ap (λ kept. Some (drawing_kept kept)) c.in-Some-Ok.field-0-is) ∙ c.in-Some-Ok.ensures in
+    let base = sym (ap (λ name. told_at Nowhere (part name)) c.as_slice.ensures) ∙ c.in_ok-base.ensures.outline in
+    let accent = sym (ap (λ name. told_at Nowhere (part name)) c.as_slice-2.ensures) ∙ c.in_ok-accent.ensures.outline in
+    let both =
+    sym (ap (λ segments. told_at Nowhere (joined d segments (segments_of c.in_ok-accent.accent))) c.as_slice-3.ensures)
+    ∙ sym (ap (λ segments. told_at Nowhere (joined d c.as_slice-3.result.now segments)) c.as_slice-4.ensures)
+    ∙ c.in_ok-joined.ensures.joined in
+    ap (told_at Nowhere) (composed run c.args.depth c.args.name.now d parts c.if-depth-eq0.false own c.in-Some.ensures)
+    ∙ gives-next Nowhere (part parts.base) (segments_of c.in_ok-base.base) c.in_ok-joined.joined.items (λ base. part parts.accent >>= (λ accent. joined d base accent)) base
+    (gives-next Nowhere (part parts.accent) (segments_of c.in_ok-accent.accent) c.in_ok-joined.joined.items (λ accent. joined d (segments_of c.in_ok-base.base) accent) accent both)
