@@ -1,7 +1,10 @@
 -- What the source of a session gives.
-use Rattle.std.proofs.Common.{◌≡◌, ℕ, List, Option, Some, None, Result, Ok, Err, refl, ap, sym, ◌∙◌, subst}
+use Rattle.std.proofs.Common.{◌≡◌, ℕ, true, List, Option, Some, None, Result, Ok, Err, refl, ap, sym, ◌∙◌, subst}
+use Rattle.std.specs.Prelude.{IfOk}
 use Rattle.t1_frac.specs.declared.fault.Fault.{Fault}
-use Rattle.t1_frac.specs.Outcome.{◌>>=◌}
+use Rattle.t1_frac.specs.declared.fault.Refusal.{Refusal}
+use Rattle.t1_frac.specs.declared.fault.Refusal.TheVariants as refusals
+use Rattle.t1_frac.specs.Outcome.{Refuses, ◌>>=◌}
 use Rattle.t1_parts.specs.SourceParts.{SourceParts}
 use Rattle.t1_parts.specs.Printing.{text}
 use Rattle.t1_parts.specs.Reading.{reads}
@@ -17,11 +20,20 @@ use Rattle.t1_font.specs.FontMetrics.{metrics_of}
 use Rattle.t1_font.specs.MeasuredGlyphs.{MeasuredFont, measured}
 use Rattle.t1_font.specs.SourceChecks.{measured_source, source_check, source_usage}
 use Rattle.t1_font.specs.Usage.{usage_table}
+use Rattle.std.specs.List.{list_all}
+use Rattle.t1_source.specs.WellFormed.{is_counted}
+use Rattle.t1_font.proofs.Counted.{counted-source}
 use Rattle.t1_font.proofs.SourceMetrics.{by-source-metrics}
+use Rattle.std.specs.declared.vec.Vec.{Vec}
+use Rattle.t1_session.specs.declared.answer.Answer.{Answer}
+use Rattle.t1_session.specs.declared.answer.Answer.TheVariants.{Accepted, Faulty, Data}
+use Rattle.t1_session.specs.declared.print.Print.TheVariants as prints
+use Rattle.t1_session.specs.Answering.{ShowsText}
 use Rattle.t1_session.specs.declared.command.Command.{Command}
 use Rattle.t1_session.specs.declared.command.Command.TheVariants as commands
 use Rattle.t1_session.specs.FromScratch.{texts_of, from_scratch, pfb_from_scratch, metrics_from_scratch, uses_from_scratch}
-use Rattle.t1_session.specs.Machine.{IsFaultless, OpensFaultless, KeepsFaultless, abort_in, begin_in, commit_in, drafted, edit_in, holding, judged, opened, perform, scratch, source_metrics, taken}
+use Rattle.t1_session.specs.Machine.{IsFaultless, OpensFaultless, KeepsFaultless, abort_in, begin_in, commit_in, drafted, edit_in, holding, judged, opened, perform, printed, scratch, source_metrics, taken}
+use Rattle.t1_session.specs.Outcomes.{Took, refused_source}
 use Rattle.t1_session.specs.State.{Draft, State}
 
 -- ---- by the metrics of its glyphs
@@ -37,6 +49,28 @@ usage_is s font e = (by-source-metrics s).usage ∙ ap (λ (r : Result MeasuredF
 
 pub metrics_are : (s : SourceParts) (k : List Pair) (font : MeasuredFont) → measured_source s ≡ Ok font → source_metrics s k ≡ Ok (afm (metrics_of s k font))
 metrics_are s k font e = ap (λ (r : Result MeasuredFont Fault). r >>= λ (found : MeasuredFont). Ok (afm (metrics_of s k found))) e
+
+-- ---- a source judged
+
+pub holding_alone : (s : SourceParts) (k : List Pair) (batch : Option Draft) → batch ≡ None → ◌≡◌ {A = State} (record { source = s; pairs = k; batch = batch }) (holding s k)
+holding_alone s k batch none = ap (λ (b : Option Draft). record { source = s; pairs = k; batch = b }) none
+
+pub accepted : (old new : State) (s : SourceParts) (k : List Pair) (font : MeasuredFont) → measured_source s ≡ Ok font → new ≡ holding s k
+    → ((judged old (s, k) (source_check s)).answer ≡ Accepted) × (new ≡ (judged old (s, k) (source_check s)).next)
+accepted old new s k font known is = rw (check_passed s font known) (refl, is)
+
+pub refused : (old : State) (s : SourceParts) (k : List Pair) (fault : Fault) → measured_source s ≡ Err fault → old.batch ≡ None
+    → ((judged old (s, k) (source_check s)).answer ≡ Faulty fault) × (old ≡ (judged old (s, k) (source_check s)).next)
+refused old s k fault known none = rw (check_refused s fault known) (refl, holding_alone old.source old.pairs old.batch none)
+
+pub refused_took : (refusal : Refusal) (old : State) (s : SourceParts) (k : List Pair) → Refuses refusal (measured_source s) → old.batch ≡ None
+    → Took {T = Unit {0}} old (judged old (s, k) (source_check s)) true old (Err (refused_source refusal)) old
+refused_took refusals.Memory old s k h none = (refl, refl)
+refused_took (refusals.Fault fault) old s k h none = refused old s k fault h none
+
+pub open_refused : (refusal : Refusal) (s : SourceParts) (k : List Pair) → Refuses refusal (measured_source s) → Refuses refusal (opened s k)
+open_refused refusals.Memory s k h = tt
+open_refused (refusals.Fault fault) s k h = ap (λ (r : Result (Unit {0}) Fault). r >>= λ checked. Ok (holding s k)) (check_refused s fault h)
 
 -- ---- its file
 
@@ -61,6 +95,19 @@ has_file s font e =
     let checked = file-checked s font e in
     let long = length-checked s checked.0 checked.1 in
     file-made s long.0 long.1
+
+-- its counts have at most nine digits
+pub counts_short : (s : SourceParts) (font : MeasuredFont) → measured_source s ≡ Ok font → list_all is_counted s.items ≡ true
+counts_short s font e = let checked = file-checked s font e in counted-source s checked.1
+
+-- the AFM file that a print shows
+pub afm_shown : {A E F : Type 0} (given : Result (Vec ℕ A) E) (result : Result Answer F) (s : State) (file : List ℕ)
+    → ShowsText given result → IfOk given (λ found. found.items ≡ file) → source_metrics s.source s.pairs ≡ Ok file
+    → IfOk result (λ answer. answer ≡ printed s prints.Afm)
+afm_shown (Ok found) (Ok answer) s file shows is known = rw known (shows ∙ ap (λ (l : List ℕ). Data l) is)
+afm_shown (Ok found) (Err f) s file shows is known = tt
+afm_shown (Err e) (Ok answer) s file shows is known = absurd shows
+afm_shown (Err e) (Err f) s file shows is known = tt
 
 -- ---- its texts from scratch
 

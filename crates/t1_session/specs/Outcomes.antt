@@ -1,5 +1,7 @@
 -- What a call that performs a command answers, and what it leaves.
 use Rattle.std.specs.Prelude.{◌≡◌, Bool, true, Result, Ok, Err}
+use Rattle.t1_frac.specs.declared.fault.Refusal.{Refusal}
+use Rattle.t1_frac.specs.declared.fault.Refusal.TheVariants as refusals
 use Rattle.t1_source.specs.declared.edit.Cause.{Cause}
 use Rattle.t1_source.specs.declared.edit.Cause.TheVariants as causes
 use Rattle.t1_source.specs.declared.edit.Edit.{Edit}
@@ -9,6 +11,11 @@ use Rattle.t1_session.specs.declared.command.Command.{Command}
 use Rattle.t1_session.specs.Answers.{Performed}
 use Rattle.t1_session.specs.Machine.{perform, may_want_memory, after_want}
 use Rattle.t1_session.specs.State.{Draft, State}
+
+-- an edit whose source is refused is refused for the same reason
+abbrev pub refused_source : Refusal → Cause
+refused_source (refusals.Fault fault) = causes.Fault fault
+refused_source refusals.Memory = causes.Memory
 
 -- profile: what was to be performed was accepted; or refused, by a rule, which changes nothing, or by a fault; or memory
 -- ran out, where it may, and left this state

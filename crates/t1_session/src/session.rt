@@ -39,7 +39,7 @@ ghost use Rattle.t1_session.specs.declared.command.Command.TheVariants as comman
 ghost use Rattle.t1_session.specs.FromScratch.{pfb_from_scratch, metrics_from_scratch, uses_from_scratch};
 ghost use Rattle.t1_session.specs.declared.answer.Answer.TheVariants.{Data};
 ghost use Rattle.t1_session.specs.Machine.{opened, perform, may_want_memory, after_want, judged, printed};
-ghost use Rattle.t1_session.specs.Outcomes.{Takes, TakesOrReturns, Took};
+ghost use Rattle.t1_session.specs.Outcomes.{Takes, TakesOrReturns, Took, refused_source};
 
 use crate::answer::{Answer, answer_of, file_answer, text_answer};
 use crate::command::Command;
@@ -54,6 +54,16 @@ use t1_frac::Refusal;
 use t1_run::Meter;
 use t1_source::laws::{text_of_pairs_read, text_of_source_read};
 use t1_source::{Cause, Edit, Rule};
+
+/// Why an edit is refused whose source is refused.
+fn cause_of(refusal: Refusal) -> Cause
+    ensures { result ≡ refused_source refusal }
+{
+    match refusal {
+        Refusal::Fault(fault) => Cause::Fault(fault),
+        Refusal::Memory => Cause::Memory,
+    }
+}
 
 impl Session {
     /// The session of a source and its pairs, or the source's first fault: of a body, F23, or of a glyph, in the order of
@@ -159,12 +169,12 @@ impl Session {
                 self.glyphs = glyphs;
                 Ok(())
             }
-            Err(Refusal::Fault(fault)) => Err(Cause::Fault(fault)),
-            Err(Refusal::Memory) => Err(Cause::Memory),
+            Err(refusal) => Err(cause_of(refusal)),
         }
     }
 
     /// The metrics of the glyphs, of a session whose texts read back as what it holds.
+    #[tactic(auto, using(crate::proofs::StateLaws::counts_short))]
     fn known(&self) -> &MeasuredGlyphs
         ensures measured { measured_source self.now.source ≡ Ok result.now }
         ensures source { reads (text self.now.source) ≡ Ok self.now.source }
@@ -176,6 +186,7 @@ impl Session {
     }
 
     /// Writes the PFB file: that of the printed source and pairs from scratch.
+    #[tactic(auto, using(crate::proofs::StateLaws::pfb_scratch))]
     pub fn print_pfb<W: Write>(&self, out: &mut Counted<W>) -> Result<(), OutError>
         ensures { Prints W.contents out.old out.new (pfb_from_scratch self.now) result }
     {
@@ -192,6 +203,7 @@ impl Session {
     }
 
     /// Writes the usage table: that of the printed source from scratch.
+    #[tactic(auto, using(crate::proofs::StateLaws::uses_scratch))]
     pub fn print_uses<W: Write>(&self, out: &mut Counted<W>) -> Result<(), OutError>
         ensures { Prints W.contents out.old out.new (uses_from_scratch self.now) result }
     {
@@ -217,6 +229,7 @@ impl Session {
     }
 
     /// What a print is answered. The whole text is there before any of it is written.
+    #[tactic(auto, using(crate::proofs::StateLaws::metrics_are, crate::proofs::StateLaws::usage_is))]
     fn shown(&self, print: Print) -> Result<Answer, AllocError>
         ensures { IfOk result (λ answer. answer ≡ printed self.now print) }
     {
