@@ -58,34 +58,34 @@ capped n = if fits_64_bits n then n else pos (2 ^ 63 - 1)
 unfoldable pub number_word : List ℕ → Option ℤ
 number_word word = if is_number_word word then Some (capped (number_written word)) else None
 
--- Type 1 Font Format, Chapter 6 (charstring commands): each command and the word that names it
+-- Type 1 Font Format, Chapter 6 (charstring command encoding): each command and the word that names it, by their codes
 unfoldable pub operator_words : List (List ℕ × Command)
 operator_words =
-    (codes "rrcurveto", RRCurveTo) ∷
+    (codes "hstem", HStem) ∷
+    (codes "vstem", VStem) ∷
+    (codes "vmoveto", VMoveTo) ∷
     (codes "rlineto", RLineTo) ∷
     (codes "hlineto", HLineTo) ∷
     (codes "vlineto", VLineTo) ∷
-    (codes "vhcurveto", VHCurveTo) ∷
-    (codes "hvcurveto", HVCurveTo) ∷
-    (codes "rmoveto", RMoveTo) ∷
-    (codes "hmoveto", HMoveTo) ∷
-    (codes "vmoveto", VMoveTo) ∷
+    (codes "rrcurveto", RRCurveTo) ∷
     (codes "closepath", ClosePath) ∷
     (codes "callsubr", CallSubr) ∷
-    (codes "hstem", HStem) ∷
-    (codes "vstem", VStem) ∷
-    (codes "hsbw", Hsbw) ∷
-    (codes "endchar", EndChar) ∷
     (codes "return", Return) ∷
-    (codes "callothersubr", CallOtherSubr) ∷
-    (codes "pop", Pop) ∷
-    (codes "div", Div) ∷
-    (codes "hstem3", HStem3) ∷
-    (codes "vstem3", VStem3) ∷
     (codes "dotsection", DotSection) ∷
-    (codes "setcurrentpoint", SetCurrentPoint) ∷
+    (codes "vstem3", VStem3) ∷
+    (codes "hstem3", HStem3) ∷
     (codes "seac", Seac) ∷
     (codes "sbw", Sbw) ∷
+    (codes "div", Div) ∷
+    (codes "callothersubr", CallOtherSubr) ∷
+    (codes "pop", Pop) ∷
+    (codes "setcurrentpoint", SetCurrentPoint) ∷
+    (codes "hsbw", Hsbw) ∷
+    (codes "endchar", EndChar) ∷
+    (codes "rmoveto", RMoveTo) ∷
+    (codes "hmoveto", HMoveTo) ∷
+    (codes "vhcurveto", VHCurveTo) ∷
+    (codes "hvcurveto", HVCurveTo) ∷
     []
 
 -- the command that a word names
