@@ -73,7 +73,7 @@ impl Write for Small {
     }
 }
 
-/// The charstring of the small font's one glyph, encrypted behind four leading bytes.
+/// The charstring of the small font's one glyph, encrypted after four leading bytes.
 const SPACE: [u8; 9] = [0x10, 0xBF, 0x31, 0x70, 0x79, 0xC7, 0x57, 0xBF, 0x91];
 
 /// The pieces of the small font's private text.
