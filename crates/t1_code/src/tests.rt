@@ -198,3 +198,37 @@ fn writes_hexadecimal(rt: HostRuntime) -> Result<(), Fail> {
     assert!(rt; file.ends_with(&trailer));
     Ok(())
 }
+
+/// A writer over memory that takes no more than its first call hands it.
+#[derive(Drop)]
+struct Once {
+    taken: Vec<u8>,
+}
+
+impl Write for Once {
+    fn write(&mut self, bytes: &[u8]) -> io::Result<usize> {
+        if !self.taken.is_empty() {
+            return Err(ErrorKind::Other.into());
+        }
+        self.taken.extend_from_slice(bytes)?;
+        Ok(bytes.len())
+    }
+
+    fn flush(&mut self) -> io::Result<()> {
+        Ok(())
+    }
+}
+
+#[test]
+fn stops_at_a_failed_write(rt: HostRuntime) -> Result<(), Fail> {
+    let alloc = rt.alloc();
+    let trailer = trailer(alloc)?;
+    let mut out = Counted::new(Once {
+        taken: Vec::new(alloc),
+    });
+    let result = write_pfb(&small_font(&trailer), 1, &mut out);
+    assert!(rt; matches!(result, Err(OutError::Write)));
+    assert_eq!(rt; out.failures(), 1);
+    assert_eq!(rt; out.into_inner().taken.len(), MAX_PUT);
+    Ok(())
+}
