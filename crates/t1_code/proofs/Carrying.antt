@@ -1,25 +1,20 @@
 -- A text that goes out changed, part by part, by what went before.
-use Rattle.std.proofs.Common.{◌≡◌, ℕ, ◌+◌, ◌<◌, List, [], ◌++◌, length, get_or, drop, refl, sym, ◌∙◌, append-nil, Option}
+use Rattle.std.proofs.Common.{◌≡◌, ℕ, ◌+◌, ◌<◌, List, [], ◌++◌, length, get_or, drop, sym, ◌∙◌, append-nil, Option}
 use Rattle.std.specs.List.{flat_map}
 use Rattle.t1_code.specs.Counted.{Outlet, Passes, Stops}
 use Rattle.t1_code.proofs.Encrypting.{flat_map-drop}
-use Rattle.t1_code.proofs.Writing.{passing, Written, Written-none, Written-step, Written-fails, Written-all}
+use Rattle.t1_code.proofs.Writing.{passing, Written, Written-step, Written-fails}
 
 -- The laws of a change: what a text becomes from a state, and the state after it.
 pub record IsChange {S : Type 0} (changed : S → List ℕ → List ℕ) (after : S → List ℕ → S) : Type 0 where
-  pub none : (s : S) → changed s [] ≡ []
   pub join : (s : S) (xs ys : List ℕ) → changed s (xs ++ ys) ≡ changed s xs ++ changed (after s xs) ys
   pub twice : (s : S) (xs ys : List ℕ) → after s (xs ++ ys) ≡ after (after s xs) ys
-  pub still : (s : S) → after s [] ≡ s
 
 module _ {W S : Type 0} (contents : W → Option (List ℕ)) {changed : S → List ℕ → List ℕ} {after : S → List ℕ → S} (laws : IsChange changed after) where
   -- a beginning of the text went out changed, and the rest is left from the present state
   pub record Carried (start now : Outlet W) (first state : S) (text rest : List ℕ) : Type 0 where
     pub written : Written (passing contents) start now (changed first text) (changed state rest)
     pub last : after state rest ≡ after first text
-
-  pub Carried-none : (w : Outlet W) (state : S) (text : List ℕ) → Carried w w state state text text
-  Carried-none w state text = record { written = Written-none (passing contents) w (changed state text); last = refl }
 
   pub Carried-step : (start old new : Outlet W) (first state next : S) (text front rest : List ℕ) → Carried start old first state text (front ++ rest)
       → Passes contents old new (changed state front) → next ≡ after state front → Carried start new first next text rest
@@ -38,12 +33,6 @@ module _ {W S : Type 0} (contents : W → Option (List ℕ)) {changed : S → Li
       → Stops contents old new (changed state rest) → Stops contents start new (changed first text)
   Carried-breaks start old new first state text rest p q =
       Written-fails (passing contents) start old new (changed first text) (changed state rest) [] (rw append-nil p.written) q
-
-  pub Carried-all : (start new : Outlet W) (first state : S) (text : List ℕ) → Carried start new first state text [] → Passes contents start new (changed first text)
-  Carried-all start new first state text p = Written-all (passing contents) start new (changed first text) (rw (laws.none state) at p.written)
-
-  pub Carried-last : (start new : Outlet W) (first state : S) (text : List ℕ) → Carried start new first state text [] → state ≡ after first text
-  Carried-last start new first state text p = sym (laws.still state) ∙ p.last
 
 module _ {W S X : Type 0} (contents : W → Option (List ℕ)) {changed : S → List ℕ → List ℕ} {after : S → List ℕ → S} (laws : IsChange changed after) (f : X → List ℕ) (xs : List X) (i : ℕ) (x d : X) (inside : i < length xs) (is : x ≡ get_or xs i d) where
   pub Carried-turn : (start old new : Outlet W) (first state next : S) (text : List ℕ) → Carried contents laws start old first state text (flat_map f (drop i xs))

@@ -17,7 +17,7 @@ room_after-append room [] ys = refl
 room_after-append room (x ∷ xs) ys = room_after-append (next_room room) xs ys
 
 pub lining : IsChange in_lines room_after
-lining = record { none = λ room. refl; join = in_lines-append; twice = room_after-append; still = λ room. refl }
+lining = record { join = in_lines-append; twice = room_after-append }
 
 onto_some : (digit : ℕ) (blocks : List (List ℕ)) → 0 < length (onto_first digit blocks)
 onto_some digit [] = omega arith

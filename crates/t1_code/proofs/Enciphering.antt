@@ -9,10 +9,6 @@ use Rattle.t1_code.proofs.Digits.{lining}
 use Rattle.t1_code.proofs.Encrypting.{cipher-append, key_after-append}
 use Rattle.t1_code.proofs.Segmenting.{cutting}
 
-formed-none : (form : Form) → formed form [] ≡ []
-formed-none (Binary s) = refl
-formed-none (Hexadecimal line) = refl
-
 formed-append : (form : Form) (xs ys : List ℕ) → formed form (xs ++ ys) ≡ formed form xs ++ formed (form_after form xs) ys
 formed-append (Binary s) xs ys = cutting.join s xs ys
 formed-append (Hexadecimal line) xs ys = lining.join line.room xs ys
@@ -20,13 +16,6 @@ formed-append (Hexadecimal line) xs ys = lining.join line.room xs ys
 form_after-append : (form : Form) (xs ys : List ℕ) → form_after form (xs ++ ys) ≡ form_after (form_after form xs) ys
 form_after-append (Binary s) xs ys = ap Binary (cutting.twice s xs ys)
 form_after-append (Hexadecimal line) xs ys = ap (λ n. Hexadecimal (record { room = n })) (lining.twice line.room xs ys)
-
-form_after-none : (form : Form) → form_after form [] ≡ form
-form_after-none (Binary s) = refl
-form_after-none (Hexadecimal line) = refl
-
-pub forming : IsChange formed form_after
-forming = record { none = formed-none; join = formed-append; twice = form_after-append; still = form_after-none }
 
 enciphered-append : (s : EexecState) (xs ys : List ℕ) → enciphered s (xs ++ ys) ≡ enciphered s xs ++ enciphered (state_after s xs) ys
 enciphered-append s xs ys =
@@ -39,11 +28,8 @@ state_after-append s xs ys =
     let key = key_after-append s.key (cipher s.key xs) (cipher next ys) in
     rw (cipher-append s.key xs ys) (rw (form, key) refl)
 
-state_after-none : (s : EexecState) → state_after s [] ≡ s
-state_after-none s = rw (form_after-none s.form) refl
-
 pub enciphering : IsChange enciphered state_after
-enciphering = record { none = λ s. formed-none s.form; join = enciphered-append; twice = state_after-append; still = state_after-none }
+enciphering = record { join = enciphered-append; twice = state_after-append }
 
 abbrev pub zeros : List ℕ
 zeros = 0 ∷ 0 ∷ 0 ∷ 0 ∷ []

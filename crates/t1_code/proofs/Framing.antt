@@ -18,6 +18,12 @@ pub segments_fit : (size kind : ℕ) (bytes : List ℕ) → length bytes ≤ siz
 unfolding segments
 segments_fit size kind bytes h = rw (blocks_fit size size bytes h) (append-nil (segment kind bytes))
 
+pub whole_segments : (clear private trailer : List ℕ) → length clear ≤ 2 ^ 31 - 1 → length (eexec private) ≤ 2 ^ 31 - 1 → length trailer ≤ 2 ^ 31 - 1
+    → pfb (2 ^ 31 - 1) clear private trailer ≡ segment 1 clear ++ segment 2 (eexec private) ++ segment 1 trailer ++ 128 ∷ 3 ∷ []
+unfolding pfb
+whole_segments clear private trailer c p t =
+    rw (segments_fit (2 ^ 31 - 1) 1 clear c, segments_fit (2 ^ 31 - 1) 2 (eexec private) p, segments_fit (2 ^ 31 - 1) 1 trailer t) refl
+
 pub empty_segment : (size kind : ℕ) → segments size kind [] ≡ segment kind []
 unfolding segments
 empty_segment size kind = append-nil (segment kind [])

@@ -1,5 +1,6 @@
 pub mod Adding
 pub mod Carrying
+pub mod Commands
 pub mod Counting
 pub mod Digits
 pub mod Enciphering
@@ -13,4 +14,5 @@ pub mod Reading
 pub mod Rows
 pub mod Scanning
 pub mod Segmenting
+pub mod Tables
 pub mod Writing

@@ -103,7 +103,7 @@ number_from word digits e some all = rw (e, lt-ltb 0 (length digits) some, all) 
 count_within : (text : List ℕ) → prefix_len is_ascii_digit text ≤ length text
 count_within text = prefix_len-le-length is_ascii_digit text
 
--- the first word is a number word where digits are all that it has behind its minus
+-- the first word is a number word where digits are all that it has after its minus
 pub number_first : (text : List ℕ) → 0 < prefix_len is_ascii_digit (digits_of_word text) → word_goes_on (drop (prefix_len is_ascii_digit (digits_of_word text)) (digits_of_word text)) ≡ false
     → (is_number_word (first_word text) ≡ true)
     × (number_written (first_word text) ≡ signed (starts_with_minus text) (decimal_value (take (prefix_len is_ascii_digit (digits_of_word text)) (digits_of_word text))))
@@ -131,7 +131,7 @@ no_number : (word : List ℕ) → digits_of_word word ≡ [] → is_number_word 
 unfolding is_number_word
 no_number word e = rw e refl
 
--- the first word has another byte behind its digits, or no digit
+-- the first word has another byte after its digits, or no digit
 pub other_first : (text : List ℕ) → word_goes_on (drop (prefix_len is_ascii_digit (digits_of_word text)) (digits_of_word text)) ≡ true → is_number_word (first_word text) ≡ false
 other_first text on = not_number (first_word text) (first_word (digits_of_word text)) (first_split text).0 (other_byte (digits_of_word text) on)
 

@@ -19,7 +19,7 @@ segmenting_after-append s [] ys = refl
 segmenting_after-append s (x ∷ xs) ys = segmenting_after-append (past 1 (opened s)) xs ys
 
 pub cutting : IsChange in_segments segmenting_after
-cutting = record { none = λ s. refl; join = in_segments-append; twice = segmenting_after-append; still = λ s. refl }
+cutting = record { join = in_segments-append; twice = segmenting_after-append }
 
 -- ---- bytes that the present segment takes
 

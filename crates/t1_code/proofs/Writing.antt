@@ -142,10 +142,6 @@ pub Puts-sent : {W T E : Type 0} (contents : W → Option (List ℕ)) (r : Resul
 Puts-sent contents (Ok x) old b new bytes p q f = subst (WritesAll contents old new) (sym p.parts) (WritesAll-append contents old b.tally new p.sent b.waiting p.writes q)
 Puts-sent contents (Err e) old b new bytes p q f = subst (WritesFront contents old new) (sym p.parts) (WritesFront-append contents old b.tally new p.sent b.waiting p.writes f)
 
--- a failed call's stop, handed on with its fault
-pub Puts-stopped : {W T E : Type 0} (contents : W → Option (List ℕ)) (r : Result T E) (error : E) (old new : Outlet W) (bytes : List ℕ) → r ≡ Err error → Stops contents old new bytes → Puts contents old new bytes r
-Puts-stopped contents r error old new bytes e p = rw e p
-
 -- two clauses of a call, as one
 pub Puts-either : {W T E : Type 0} (contents : W → Option (List ℕ)) (r : Result T E) (old new : Outlet W) (bytes : List ℕ) → OnOk r (Passes contents old new bytes) → OnErr r (Stops contents old new bytes) → Puts contents old new bytes r
 Puts-either contents (Ok x) old new bytes p q = p

@@ -56,15 +56,16 @@ operator_bytes HMoveTo = 22 ∷ []
 operator_bytes VHCurveTo = 30 ∷ []
 operator_bytes HVCurveTo = 31 ∷ []
 
+-- Type 1 Font Format, Chapter 6: the bytes of a command or number
 abbrev pub command_bytes : Command → List ℕ
 command_bytes (Num n) = number_bytes n
 command_bytes command = operator_bytes command
 
--- the charstring of commands
+-- Type 1 Font Format, Chapter 6: the charstring of commands, one after another
 abbrev pub charstring : List Command → List ℕ
 charstring commands = flat_map command_bytes commands
 
--- the charstring of a body's words, or the fault of the words
+-- profile: the charstring of a body's words, or the fault of the words
 abbrev pub charstring_of_words : List (List ℕ) → Result (List ℕ) Code
 charstring_of_words words = commands words >>= λ read. Ok (charstring read)
 
@@ -91,21 +92,22 @@ SpellsNumber (v ∷ a ∷ b ∷ c ∷ d ∷ []) n =
     (v ≡ 255) × (a < 256) × (b < 256) × (c < 256) × (d < 256) × (n ≡ cast_signed w32 (((a * 256 + b) * 256 + c) * 256 + d))
 SpellsNumber (v ∷ a ∷ b ∷ c ∷ d ∷ e ∷ rest) n = ⊥
 
--- which bytes spell which command or number
+-- Type 1 Font Format, Chapter 6: which bytes spell which command or number
 abbrev pub Spells : List ℕ → Command → Type 0
 Spells bytes (Num n) = SpellsNumber bytes n
 Spells bytes command = bytes ≡ operator_bytes command
 
--- bytes spell a list of commands, one spelling after another
+-- Type 1 Font Format, Chapter 6: bytes spell a list of commands, one spelling after another
 abbrev pub SpellsAll : List ℕ → List Command → Type 0
 SpellsAll bytes [] = bytes ≡ []
 SpellsAll bytes (command ∷ commands) =
     (front : List ℕ) × (rest : List ℕ) × (bytes ≡ front ++ rest) × Spells front command × SpellsAll rest commands
 
--- a number is one that a charstring can hold
+-- Type 1 Font Format, Chapter 6 (charstring number encoding): a number is one that a charstring can hold
 abbrev pub Fits32Bits : Command → Type 0
 Fits32Bits (Num n) = FitsSigned w32 n
 Fits32Bits command = Unit {0}
 
+-- the same of all numbers among commands (Type 1 Font Format, Chapter 6)
 abbrev pub AllFit : List Command → Type 0
 AllFit commands = AllByRecursion Fits32Bits commands

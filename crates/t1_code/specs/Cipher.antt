@@ -8,7 +8,7 @@ use Rattle.t1_code.specs.Charstring.{charstring_of_words}
 abbrev pub next_key : ℕ → ℕ → ℕ
 next_key key cipher_byte = ((cipher_byte + key) * 52845 + 22719) % 65536
 
--- the key after these cipher bytes
+-- Type 1 Font Format, Chapter 7: the key after these cipher bytes
 abbrev pub key_after : ℕ → List ℕ → ℕ
 key_after key cipher_bytes = fold next_key key cipher_bytes
 
@@ -18,7 +18,7 @@ cipher key [] = []
 cipher key (plain ∷ plains) =
     bit_xor plain (key / 256) ∷ cipher (next_key key (bit_xor plain (key / 256))) plains
 
--- the same, place by place: the key at a place is the one after the cipher bytes before it
+-- Type 1 Font Format, Chapter 7: the same, place by place: the key at a place is the one after the cipher bytes before it
 pub record IsCipher (key : ℕ) (plain encrypted : List ℕ) : Type 0 where
   pub same_length : length encrypted ≡ length plain
   pub each : (i : ℕ) → i < length plain → slice_index encrypted i ≡ bit_xor (slice_index plain i) (key_after key (take i encrypted) / 256)

@@ -6,23 +6,25 @@ use Rattle.t1_code.specs.Cipher.{cipher, key_after}
 use Rattle.t1_code.specs.Hexadecimal.{in_lines, room_after}
 use Rattle.t1_code.specs.Segments.{in_segments, segmenting_after}
 
--- the encrypted text in its form
+-- Type 1 Font Format, Chapter 7 (eexec): the encrypted text in its form, binary or hexadecimal
 abbrev pub formed : Form → List ℕ → List ℕ
 formed (Binary s) bytes = in_segments s bytes
 formed (Hexadecimal line) bytes = in_lines line.room bytes
 
+-- profile: where a form goes on after these bytes
 abbrev pub form_after : Form → List ℕ → Form
 form_after (Binary s) bytes = Binary (segmenting_after s bytes)
 form_after (Hexadecimal line) bytes = Hexadecimal (record { room = room_after line.room bytes })
 
--- a form and the key that stands there
+-- profile: a form and the key that stands there
 pub record EexecState : Type 0 where
   pub key : ℕ
   pub form : Form
 
--- the private text, encrypted in its form
+-- Type 1 Font Format, Chapter 7 (eexec): the private text, encrypted in its form
 abbrev pub enciphered : EexecState → List ℕ → List ℕ
 enciphered s plain = formed s.form (cipher s.key plain)
 
+-- profile: the key and the form after a text
 abbrev pub state_after : EexecState → List ℕ → EexecState
 state_after s plain = record { key = key_after s.key (cipher s.key plain); form = form_after s.form (cipher s.key plain) }

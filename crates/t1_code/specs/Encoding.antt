@@ -157,10 +157,10 @@ standard_names =
     (251, codes "germandbls") ∷
     []
 
--- the name that StandardEncoding gives a code
+-- PostScript Language Reference, Appendix E (StandardEncoding): the name of a code
 unfoldable pub standard_name : ℕ → Option (List ℕ)
 standard_name code = lookup (nat_eq code) standard_names
 
--- the same in a table of the code
+-- profile: the same in a table of the code
 abbrev pub named_in : List (ℕ × Bor (List ℕ)) → ℕ → Option (List ℕ)
 named_in table code = lookup (nat_eq code) (map (λ row. (row.0, row.1.now)) table)

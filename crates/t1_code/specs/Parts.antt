@@ -19,11 +19,12 @@ abbrev pub piece_text : Piece → List ℕ
 piece_text (Plain bytes) = bytes.now
 piece_text (Entry head operator charstring closing) = entry_text head.now operator.now charstring.now closing.now
 
+-- profile: the length that an entry's line says, and none for other bytes
 abbrev pub charstring_length : Piece → ℕ
 charstring_length (Plain bytes) = 0
 charstring_length (Entry head operator charstring closing) = length charstring.now
 
--- the bytes of slices, one after another
+-- profile: the bytes of slices, one after another
 abbrev pub bytes_of : List (Bor (List ℕ)) → List ℕ
 bytes_of slices = flat_map (λ slice. slice.now) slices
 
@@ -31,15 +32,15 @@ bytes_of slices = flat_map (λ slice. slice.now) slices
 abbrev pub private_text : Parts → List ℕ
 private_text parts = flat_map piece_text parts.pieces.now
 
--- the PFB file of the parts, in segments of this size
+-- Technical Note 5040, 3.3: the PFB file of the parts, in segments of this size
 abbrev pub file_of : ℕ → Parts → Result (List ℕ) Fault
 file_of size parts = pfb_of size parts.clear.now (private_text parts) parts.trailer.now
 
--- the PFA file of the parts
+-- Type 1 Font Format, Chapter 2: the PFA file of the parts
 abbrev pub hexadecimal_file_of : Parts → Result (List ℕ) Fault
 hexadecimal_file_of parts = pfa_of parts.clear.now (private_text parts) parts.trailer.now
 
--- A call that writes a text: the whole text at Ok; a beginning of it and a failed call at Write; nothing at a fault, which is the text's own; and nothing where memory ran out.
+-- profile: a call that writes a text: the whole text at Ok; a beginning of it and a failed call at Write; nothing at a fault, which is the text's own; and nothing where memory ran out
 abbrev pub Prints : {W T : Type 0} → (W → Option (List ℕ)) → Tally W → Tally W → Result (List ℕ) Fault → Result T OutError → Type 0
 Prints contents old new text (Ok done) = (whole : List ℕ) × (text ≡ Ok whole) × WritesAll contents old new whole
 Prints contents old new text (Err out.Write) = (whole : List ℕ) × (text ≡ Ok whole) × WritesFront contents old new whole

@@ -6,7 +6,7 @@ use Rattle.t1_frac.specs.declared.fault.Fault.{Fault}
 use Rattle.t1_frac.specs.declared.fault.Place.TheVariants.{Nowhere}
 use Rattle.t1_frac.specs.Outcome.{fault_at}
 use Rattle.t1_code.specs.Cipher.{eexec}
-use Rattle.t1_code.specs.Pfb.{blocks_from, has_long_part}
+use Rattle.t1_code.specs.Pfb.{blocks_from, has_long_part, line_end}
 
 -- profile: hexadecimal digits are `0` to `9` and `a` to `f`
 abbrev pub hexadecimal_digit : ℕ → ℕ
@@ -18,7 +18,7 @@ digits_of_byte byte = hexadecimal_digit (byte / 16) ∷ hexadecimal_digit (byte 
 
 -- profile: a line ends in LF
 abbrev pub line_of_digits : List ℕ → List ℕ
-line_of_digits digits = digits ++ 10 ∷ []
+line_of_digits digits = digits ++ line_end ∷ []
 
 -- profile: lines have 64 digits each, the last one the rest
 unfoldable pub hexadecimal_lines : List ℕ → List ℕ
@@ -28,7 +28,7 @@ hexadecimal_lines bytes = flat_map line_of_digits (blocks_from 64 64 (flat_map d
 unfoldable pub pfa : List ℕ → List ℕ → List ℕ → List ℕ
 pfa clear private trailer = clear ++ hexadecimal_lines (eexec private) ++ trailer
 
--- the file of the three parts, or why there is none
+-- profile: the file of the three parts, or why there is none
 abbrev pub pfa_of : List ℕ → List ℕ → List ℕ → Result (List ℕ) Fault
 pfa_of clear private trailer =
     if has_long_part clear private trailer then Err (fault_at Nowhere F23) else Ok (pfa clear private trailer)

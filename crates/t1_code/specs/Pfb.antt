@@ -8,24 +8,45 @@ use Rattle.t1_frac.specs.declared.fault.Place.TheVariants.{Nowhere}
 use Rattle.t1_frac.specs.Outcome.{fault_at}
 use Rattle.t1_code.specs.Cipher.{eexec}
 
--- profile: a closing text stands behind a space
+-- profile: the bytes between the words of a line, and at its end
+abbrev pub space : ℕ
+space = 32
+
+abbrev pub line_end : ℕ
+line_end = 10
+
+-- Technical Note 5040, 3.3: the byte that each segment begins with, and the types of segments
+abbrev pub marker : ℕ
+marker = 128
+
+abbrev pub ascii_segment : ℕ
+ascii_segment = 1
+
+abbrev pub binary_segment : ℕ
+binary_segment = 2
+
+abbrev pub end_of_file : ℕ
+end_of_file = 3
+
+-- profile: a closing text stands after a space
 abbrev pub closing_text : List ℕ → List ℕ
 closing_text [] = []
-closing_text (byte ∷ bytes) = 32 ∷ byte ∷ bytes
+closing_text (byte ∷ bytes) = space ∷ byte ∷ bytes
 
 -- Type 1 Font Format, Chapter 2: the line of an entry: its number or name, the length of its binary data, the operator that reads them, the data, the closing text
 abbrev pub entry_text : List ℕ → List ℕ → List ℕ → List ℕ → List ℕ
 entry_text head operator charstring closing =
-    head ++ 32 ∷ decimal (length charstring) ++ 32 ∷ operator ++ 32 ∷ charstring ++ closing_text closing ++ 10 ∷ []
+    head ++ space ∷ decimal (length charstring) ++ space ∷ operator ++ space ∷ charstring ++ closing_text closing ++ line_end ∷ []
 
 -- Technical Note 5040, 3.3: a segment is 128, its type, its length with the low byte first, and its bytes
 abbrev pub segment_head : ℕ → ℕ → List ℕ
-segment_head kind count = 128 ∷ kind ∷ to_le_bytes w32 count
+segment_head kind count = marker ∷ kind ∷ to_le_bytes w32 count
 
+-- Technical Note 5040, 3.3: a segment with its head
 unfoldable pub segment : ℕ → List ℕ → List ℕ
 segment kind bytes = segment_head kind (length bytes) ++ bytes
 
--- the bytes in blocks of this size, the last with the rest, where the first block has this much room left
+-- profile: the bytes in blocks of this size, the last with the rest, where the first block has this much room left
 abbrev pub blocks_from : ℕ → ℕ → List ℕ → List (List ℕ)
 blocks_from size room [] = [] ∷ []
 blocks_from size zero (byte ∷ bytes) = [] ∷ onto_first byte (blocks_from size (size - 1) bytes)
@@ -37,7 +58,8 @@ segments size kind bytes = flat_map (segment kind) (blocks_from size size bytes)
 
 -- Technical Note 5040, 3.3: ASCII segments, binary segments, ASCII segments, and the end of the file
 unfoldable pub pfb : ℕ → List ℕ → List ℕ → List ℕ → List ℕ
-pfb size clear private trailer = segments size 1 clear ++ segments size 2 (eexec private) ++ segments size 1 trailer ++ 128 ∷ 3 ∷ []
+pfb size clear private trailer =
+    segments size ascii_segment clear ++ segments size binary_segment (eexec private) ++ segments size ascii_segment trailer ++ marker ∷ end_of_file ∷ []
 
 -- profile: the largest block, which holds each part whole
 abbrev pub whole_file : ℕ
@@ -51,7 +73,7 @@ is_too_long bytes = nat_lt (2 ^ 31 - 1) (length bytes)
 abbrev pub has_long_part : List ℕ → List ℕ → List ℕ → Bool
 has_long_part clear private trailer = is_too_long clear || is_too_long (eexec private) || is_too_long trailer
 
--- the file of the three parts in blocks of this size, or why there is none
+-- profile: the file of the three parts in blocks of this size, or why there is none
 abbrev pub pfb_of : ℕ → List ℕ → List ℕ → List ℕ → Result (List ℕ) Fault
 pfb_of size clear private trailer =
     if has_long_part clear private trailer then Err (fault_at Nowhere F23) else Ok (pfb size clear private trailer)

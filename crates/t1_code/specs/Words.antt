@@ -16,6 +16,7 @@ use Rattle.t1_code.specs.declared.command.Command.TheVariants.{Num, HStem, VStem
 abbrev pub digits_of_word : List ℕ → List ℕ
 digits_of_word word = if starts_with_minus word then drop 1 word else word
 
+-- profile: whether a word is a number word
 unfoldable pub is_number_word : List ℕ → Bool
 is_number_word word = nat_lt 0 (length (digits_of_word word)) && list_all is_ascii_digit (digits_of_word word)
 
@@ -24,6 +25,7 @@ abbrev pub fits_32_bits : ℤ → Bool
 fits_32_bits (pos n) = nat_lt n (2 ^ 31)
 fits_32_bits (negsuc n) = nat_lt n (2 ^ 31)
 
+-- profile: a number that doesn't fit is a fault
 abbrev pub in_32_bits : ℤ → Result ℤ Code
 in_32_bits n = if fits_32_bits n then Ok n else Err F21
 
@@ -31,11 +33,11 @@ in_32_bits n = if fits_32_bits n then Ok n else Err F21
 abbrev pub decimal_value : List ℕ → ℕ
 decimal_value digits = fold (λ value digit. 10 * value + (digit - 48)) 0 digits
 
--- the number of this size, less than nothing behind a minus
+-- profile: the number of this size, less than nothing after a minus
 abbrev pub signed : Bool → ℕ → ℤ
 signed minus size = if minus then neg_ℤ (pos size) else pos size
 
--- the number that a number word writes
+-- profile: the number that a number word writes
 abbrev pub number_written : List ℕ → ℤ
 number_written word = signed (starts_with_minus word) (decimal_value (digits_of_word word))
 
@@ -43,6 +45,7 @@ number_written word = signed (starts_with_minus word) (decimal_value (digits_of_
 abbrev pub first_word : List ℕ → List ℕ
 first_word text = take (position_or_len is_blank text) text
 
+-- profile: the same, where it fits
 unfoldable pub number_of_word : List ℕ → Result ℤ Code
 number_of_word word = in_32_bits (number_written word)
 
@@ -51,6 +54,7 @@ abbrev pub fits_64_bits : ℤ → Bool
 fits_64_bits (pos n) = nat_lt n (2 ^ 63)
 fits_64_bits (negsuc n) = nat_lt n (2 ^ 63)
 
+-- profile: the number, capped so
 abbrev pub capped : ℤ → ℤ
 capped n = if fits_64_bits n then n else pos (2 ^ 63 - 1)
 
@@ -58,62 +62,65 @@ capped n = if fits_64_bits n then n else pos (2 ^ 63 - 1)
 unfoldable pub number_word : List ℕ → Option ℤ
 number_word word = if is_number_word word then Some (capped (number_written word)) else None
 
--- Type 1 Font Format, Chapter 6 (charstring commands): each command and the word that names it
+-- Type 1 Font Format, Chapter 6 (charstring command encoding): each command and the word that names it, by their codes
 unfoldable pub operator_words : List (List ℕ × Command)
 operator_words =
-    (codes "rrcurveto", RRCurveTo) ∷
+    (codes "hstem", HStem) ∷
+    (codes "vstem", VStem) ∷
+    (codes "vmoveto", VMoveTo) ∷
     (codes "rlineto", RLineTo) ∷
     (codes "hlineto", HLineTo) ∷
     (codes "vlineto", VLineTo) ∷
-    (codes "vhcurveto", VHCurveTo) ∷
-    (codes "hvcurveto", HVCurveTo) ∷
-    (codes "rmoveto", RMoveTo) ∷
-    (codes "hmoveto", HMoveTo) ∷
-    (codes "vmoveto", VMoveTo) ∷
+    (codes "rrcurveto", RRCurveTo) ∷
     (codes "closepath", ClosePath) ∷
     (codes "callsubr", CallSubr) ∷
-    (codes "hstem", HStem) ∷
-    (codes "vstem", VStem) ∷
-    (codes "hsbw", Hsbw) ∷
-    (codes "endchar", EndChar) ∷
     (codes "return", Return) ∷
-    (codes "callothersubr", CallOtherSubr) ∷
-    (codes "pop", Pop) ∷
-    (codes "div", Div) ∷
-    (codes "hstem3", HStem3) ∷
-    (codes "vstem3", VStem3) ∷
     (codes "dotsection", DotSection) ∷
-    (codes "setcurrentpoint", SetCurrentPoint) ∷
+    (codes "vstem3", VStem3) ∷
+    (codes "hstem3", HStem3) ∷
     (codes "seac", Seac) ∷
     (codes "sbw", Sbw) ∷
+    (codes "div", Div) ∷
+    (codes "callothersubr", CallOtherSubr) ∷
+    (codes "pop", Pop) ∷
+    (codes "setcurrentpoint", SetCurrentPoint) ∷
+    (codes "hsbw", Hsbw) ∷
+    (codes "endchar", EndChar) ∷
+    (codes "rmoveto", RMoveTo) ∷
+    (codes "hmoveto", HMoveTo) ∷
+    (codes "vhcurveto", VHCurveTo) ∷
+    (codes "hvcurveto", HVCurveTo) ∷
     []
 
--- the command that a word names
+-- profile: the command that a word names
 unfoldable pub operator_named : List ℕ → Option Command
 operator_named word = lookup (bytes_eq word) operator_words
 
--- the same in a table of the code
+-- profile: the same in a table of the code
 abbrev pub named_in : List (Bor (List ℕ) × Command) → List ℕ → Option Command
 named_in table word = lookup (bytes_eq word) (map (λ row. (row.0.now, row.1)) table)
 
+-- profile: a number among commands
 abbrev pub number_command : Result ℤ Code → Result Command Code
 number_command (Ok n) = Ok (Num n)
 number_command (Err code) = Err code
 
+-- profile: a word that names no command is a fault
 abbrev pub or_unknown : Option Command → Result Command Code
 or_unknown None = Err F20
 or_unknown (Some command) = Ok command
 
--- what a word says: a number, a command, or why it says nothing
+-- profile: what a word says: a number, a command, or why it says nothing
 unfoldable pub command_of_word : List ℕ → Result Command Code
 command_of_word word = if is_number_word word then number_command (number_of_word word) else or_unknown (operator_named word)
 
--- the commands of the words, or the fault of the first word that has one
+-- profile: the commands with this one before them, or the first fault
 abbrev pub command_then : Result Command Code → Result (List Command) Code → Result (List Command) Code
 command_then (Ok command) (Ok commands) = Ok (command ∷ commands)
 command_then (Ok command) (Err code) = Err code
 command_then (Err code) rest = Err code
 
+-- profile: the commands of the words, or the fault of the first word that has one
 abbrev pub commands_of_words : List (List ℕ) → Result (List Command) Code
 commands_of_words [] = Ok []
 commands_of_words (word ∷ words) = command_then (command_of_word word) (commands_of_words words)

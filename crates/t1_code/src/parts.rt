@@ -18,7 +18,7 @@ pub enum Piece<'a> {
         operator: &'a [u8],
         /// The encrypted charstring, its leading bytes included.
         charstring: &'a [u8],
-        /// What stands behind the charstring; it may be empty.
+        /// What stands after the charstring; it may be empty.
         closing: &'a [u8],
     },
 }
@@ -30,7 +30,7 @@ pub struct Parts<'a> {
     pub clear: &'a [u8],
     /// The private text, before it is encrypted.
     pub pieces: &'a [Piece<'a>],
-    /// The text behind the encrypted part: the zeros and the lines after them.
+    /// The text after the encrypted part: the zeros and the lines after them.
     pub trailer: &'a [u8],
 }
 

@@ -10,11 +10,20 @@ use crate::counted::Counted;
 use crate::eexec::{Form, put_private};
 use crate::parts::{OutError, Parts};
 use crate::pieces::{MAX_PART, private_part_len};
-use crate::segments::{Segmenter, put_part};
+use crate::segments::{MARKER, Segmenter, put_part};
 use std::io::{self, Write};
 
 /// The block length of a file that holds each part whole, in one segment.
 pub const WHOLE_PARTS: usize = MAX_PART;
+
+/// The type of a segment of text.
+const ASCII: u8 = 1;
+
+/// The type of a segment of encrypted bytes.
+const BINARY: u8 = 2;
+
+/// The type that ends the file.
+const END: u8 = 3;
 
 /// Passes on the file in blocks of this size. The private text with its leading bytes has the length that is given.
 fn put_file<W: Write>(
@@ -29,11 +38,11 @@ fn put_file<W: Write>(
     requires whole { private_len ≡ length (eexec (private_text parts.now)) }
     ensures { Puts W.contents (outlet out.old chunk.old) (outlet out.new chunk.new) (pfb size parts.now.clear.now (private_text parts.now) parts.now.trailer.now) result }
 {
-    put_part(out, chunk, 1, size, parts.clear)?;
-    let segmenter = Segmenter::begin(out, chunk, 2, size, private_len)?;
+    put_part(out, chunk, ASCII, size, parts.clear)?;
+    let segmenter = Segmenter::begin(out, chunk, BINARY, size, private_len)?;
     put_private(out, chunk, Form::Binary(segmenter), parts.pieces)?;
-    put_part(out, chunk, 1, size, parts.trailer)?;
-    put_plain(out, chunk, &[128, 3])
+    put_part(out, chunk, ASCII, size, parts.trailer)?;
+    put_plain(out, chunk, &[MARKER, END])
 }
 
 /// Writes the file by way of a chunk.

@@ -11,6 +11,9 @@ use crate::parts::{Parts, Piece};
 use itoa::Buffer;
 use t1_frac::Code;
 
+/// The most bytes of a part.
+pub const MAX_PART: usize = (1 << 31) - 1;
+
 /// How long the charstring of a piece is.
 pub(crate) fn charstring_len(piece: &Piece) -> usize
     ensures { result ≡ charstring_length piece.now }
@@ -60,7 +63,7 @@ fn total_len(slices: &[&[u8]]) -> usize
 }
 
 /// How long the private text is, up to 2^64 - 1.
-pub(crate) fn private_len(pieces: &[Piece]) -> usize
+fn private_len(pieces: &[Piece]) -> usize
     ensures { result ≡ min (length (flat_map piece_text pieces.now)) (2 ^ 64 - 1) }
 {
     let mut total: usize = 0;
@@ -71,9 +74,6 @@ pub(crate) fn private_len(pieces: &[Piece]) -> usize
     }
     total
 }
-
-/// The most bytes of a part.
-pub const MAX_PART: usize = (1 << 31) - 1;
 
 /// How long the private part is, its leading bytes included; F23 where a part of the file is too long.
 pub(crate) fn private_part_len(parts: &Parts) -> Result<usize, Code>

@@ -9,13 +9,16 @@ use crate::counted::Counted;
 use std::io::{self, Write};
 use std::marker::Model;
 
+/// The byte that each segment begins with.
+pub(crate) const MARKER: u8 = 128;
+
 /// The first six bytes of a segment.
 fn segment_head(kind: u8, len: usize) -> [u8; 6]
     requires { len < 2 ^ 31 }
     ensures { result ≡ head kind len }
 {
     let [a, b, c, d] = (len as u32).to_le_bytes();
-    [128, kind, a, b, c, d]
+    [MARKER, kind, a, b, c, d]
 }
 
 /// Cuts a part into segments of one size as its bytes pass.

@@ -73,7 +73,7 @@ impl Write for Small {
     }
 }
 
-/// The charstring of the small font's one glyph, encrypted behind four leading bytes.
+/// The charstring of the small font's one glyph, encrypted after four leading bytes.
 const SPACE: [u8; 9] = [0x10, 0xBF, 0x31, 0x70, 0x79, 0xC7, 0x57, 0xBF, 0x91];
 
 /// The pieces of the small font's private text.
@@ -196,5 +196,39 @@ fn writes_hexadecimal(rt: HostRuntime) -> Result<(), Fail> {
     assert_eq!(rt; file.len(), 767);
     assert!(rt; file[52..].starts_with(DIGITS.as_bytes()));
     assert!(rt; file.ends_with(&trailer));
+    Ok(())
+}
+
+/// A writer over memory that takes no more than its first call hands it.
+#[derive(Drop)]
+struct Once {
+    taken: Vec<u8>,
+}
+
+impl Write for Once {
+    fn write(&mut self, bytes: &[u8]) -> io::Result<usize> {
+        if !self.taken.is_empty() {
+            return Err(ErrorKind::Other.into());
+        }
+        self.taken.extend_from_slice(bytes)?;
+        Ok(bytes.len())
+    }
+
+    fn flush(&mut self) -> io::Result<()> {
+        Ok(())
+    }
+}
+
+#[test]
+fn stops_at_a_failed_write(rt: HostRuntime) -> Result<(), Fail> {
+    let alloc = rt.alloc();
+    let trailer = trailer(alloc)?;
+    let mut out = Counted::new(Once {
+        taken: Vec::new(alloc),
+    });
+    let result = write_pfb(&small_font(&trailer), 1, &mut out);
+    assert!(rt; matches!(result, Err(OutError::Write)));
+    assert_eq!(rt; out.failures(), 1);
+    assert_eq!(rt; out.into_inner().taken.len(), MAX_PUT);
     Ok(())
 }
