@@ -74,7 +74,3 @@ raised_step s g s' g' at items now x y es eg h e here made =
     ∙ ap (λ k. raised_front s g k items) (more at) where
       more : (n : ℕ) → suc n ≡ n + 1
       more n = omega arith
-
-pub raised_all : (s g : ℕ) (items : List Item) → raised_front s g (length items) items ≡ map (raised_item s g) items
-raised_all s g [] = refl
-raised_all s g (i ∷ items) = ap (λ t. raised_item s g i ∷ t) (raised_all s g items)

@@ -1,5 +1,5 @@
 -- Entries of a private part: Subrs and glyphs.
-use Rattle.std.specs.Prelude.{slice_index, ℕ, Bool, false, not, ◌+◌, ◌||◌, ◌&&◌, ◌==◌, if◌then◌else◌, Option, Some, None, Result, Err, ok_or, option_map, List, [], ◌∷◌, ◌++◌, codes}
+use Rattle.std.specs.Prelude.{slice_index, ℕ, Bool, false, not, ◌+◌, ◌&&◌, ◌==◌, if◌then◌else◌, Option, Some, None, Result, Err, ok_or, option_map, List, [], ◌∷◌, ◌++◌, codes}
 use Rattle.std.specs.List.{list_all, list_any, before_first, after_first, position_or_len}
 use Rattle.std.specs.Str.{bytes_eq}
 use Rattle.t1_frac.specs.declared.fault.Code.{Code}

@@ -144,7 +144,11 @@ pub fn body_of(alloc: Global, first: &[u8], later: &[Line]) -> Result<Option<Ent
 }
 
 /// The body that opens on the first of these lines.
-pub fn opened_body(alloc: Global, line: &[u8], later: &[Line]) -> Result<Option<EntryBody>, AllocError>
+pub fn opened_body(
+    alloc: Global,
+    line: &[u8],
+    later: &[Line],
+) -> Result<Option<EntryBody>, AllocError>
     ensures value { IfOk result (λ body. body ≡ opened_body line.now later.now) }
     ensures within { IfOk result (λ body. IfSome body (λ b. b.more ≤ length later.now)) }
 {

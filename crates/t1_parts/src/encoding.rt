@@ -8,7 +8,9 @@ ghost use Rattle.t1_text.specs.Names.{up_to};
 ghost use Rattle.t1_parts.specs.Encoding.{opens_encoding, ends_array, is_standard, is_array, is_bad_slot, array_lines, from_encoding, opening_check, later_check, later_checks, clear_check, chooses_standard, code_of_token, slot_of_tokens, octal_of};
 
 use t1_frac::{Bytes, Code, Refusal};
-use t1_text::{decimal_up_to, fault_on, first_is, is_decimal, last_is, name_of_token, next_token, same};
+use t1_text::{
+    decimal_up_to, fault_on, first_is, is_decimal, last_is, name_of_token, next_token, same,
+};
 
 /// Whether a line opens the encoding.
 fn opens_encoding(line: &[u8]) -> bool

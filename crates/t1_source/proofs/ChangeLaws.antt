@@ -1,6 +1,6 @@
 -- Items in the place of others, and items taken out, need no raising of counts.
-use Rattle.std.proofs.Common.{◌≡◌, ℕ, ◌+◌, ◌<◌, ◌≤◌, zero, suc, max, Bool, true, false, if◌then◌else◌, List, [], ◌∷◌, ◌++◌, map, fold, take, drop, length, refl, sym, ◌∙◌, ap, subst, arith, Some}
-use Rattle.std.specs.List.{position, insert, remove, slice_set, slice_index_or}
+use Rattle.std.proofs.Common.{◌≡◌, ℕ, ◌+◌, ◌<◌, ◌≤◌, zero, suc, max, Bool, true, false, if◌then◌else◌, List, [], ◌∷◌, map, fold, length, refl, sym, ◌∙◌, ap, arith, Some}
+use Rattle.std.specs.List.{position, remove, slice_set, slice_index_or}
 use Rattle.std.proofs.lemmas.Bool.{eqb-true}
 use Rattle.std.proofs.lemmas.Slice.Eq.{bytes_eq-Decides}
 use Rattle.t1_parts.specs.Entries.{is_subr, is_glyph}

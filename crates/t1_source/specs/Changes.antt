@@ -2,7 +2,7 @@
 use Rattle.std.specs.Prelude.{◌≡◌, ◌<◌, ◌≤◌, Bool, true, false, List, [], length}
 use Rattle.std.specs.List.{insert, remove, slice_set, slice_index_or}
 use Rattle.t1_parts.specs.declared.item.Item.{Item}
-use Rattle.t1_parts.specs.declared.item.Item.TheVariants.{Plain, Section, Subr, Glyph}
+use Rattle.t1_parts.specs.declared.item.Item.TheVariants.{Plain, Subr, Glyph}
 use Rattle.t1_parts.specs.SourceParts.{SourceParts}
 use Rattle.t1_source.specs.declared.editing.change.Change.{Change}
 use Rattle.t1_source.specs.declared.editing.change.Change.TheVariants.{PutItem, InsertItem, RemoveItem, PutClear, PutPair, InsertPair, RemovePair}

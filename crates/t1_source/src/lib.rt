@@ -1,6 +1,8 @@
-//! The readable source of a Type 1 font: its lines, sections and entries, read and told apart.
+//! The readable source of a Type 1 font and its kerning pairs: read, printed and edited.
 //!
-//! [`read_source`] gives the [`Source`] of some bytes, or the first fault with its line.
+//! [`read_source`] gives the [`Source`] of some bytes, or the first fault with its line; [`read_pairs`] gives the
+//! [`Pairs`]. [`Source::prepared`] gives the [`Change`] that an [`Edit`] makes, or the first [`Rule`] that it breaks, and
+//! [`Source::commit`] puts it in place; [`Source::edited`] does both on copies.
 #![tactic(auto)]
 
 mod codes;

@@ -249,3 +249,106 @@ fn edits(rt: HostRuntime) -> Result<(), Fail> {
     assert_eq!(rt; pairs.text()?.as_slice(), b"KPX A V -92\n".as_slice());
     Ok(())
 }
+
+fn bytes(alloc: Global, text: &[u8]) -> Result<Bytes, Fail> {
+    Ok(Bytes::copied(alloc, text)?)
+}
+
+/// The source and the pairs after an edit that was committed in place.
+fn committed(source: Source, pairs: Pairs, edit: &Edit) -> Result<(Source, Pairs), Fail> {
+    let mut source = source;
+    let mut pairs = pairs;
+    let change = source.prepared(&pairs, edit)?;
+    source.commit(&mut pairs, change)?;
+    Ok((source, pairs))
+}
+
+#[test]
+fn commits_a_new_glyph(rt: HostRuntime) -> Result<(), Fail> {
+    let alloc = rt.alloc();
+    let edit = Edit::AddGlyph(bytes(alloc, b"B")?, bytes(alloc, b"15 722 hsbw endchar")?);
+    let (source, _pairs) = committed(small(alloc)?, kerning(alloc)?, &edit)?;
+    assert_eq!(rt;
+        source.text()?.as_slice(),
+        b"%!
+/FullName (Demo (Roman\\)) readonly) def
+/Encoding StandardEncoding def
+currentfile eexec
+/rd {string currentfile exch readstring pop} executeonly def
+/lenIV 0 def
+/CharStrings 2 dict dup begin
+/space {
+\t0 250 hsbw
+\tendchar
+\t} ND
+/B {
+\t15 722 hsbw
+\tendchar
+\t} ND
+end
+mark currentfile closefile
+cleartomark
+"
+            .as_slice()
+    );
+    Ok(())
+}
+
+#[test]
+fn commits_a_slot(rt: HostRuntime) -> Result<(), Fail> {
+    let alloc = rt.alloc();
+    let edit = Edit::Encode(65, bytes(alloc, b"A")?);
+    let (source, _pairs) = committed(slotted(alloc)?, kerning(alloc)?, &edit)?;
+    assert_eq!(rt;
+        joined(alloc, source.clear())?.as_slice(),
+        b"/Encoding 256 array
+0 1 255 {1 index exch /.notdef put} for
+dup 65 /A put
+dup 32 /space put
+dup 66 /space put
+dup 66 /B put
+readonly def
+currentfile eexec
+"
+            .as_slice()
+    );
+    Ok(())
+}
+
+#[test]
+fn commits_a_pair_in_its_place(rt: HostRuntime) -> Result<(), Fail> {
+    let alloc = rt.alloc();
+    let edit = Edit::Kern(bytes(alloc, b"B")?, bytes(alloc, b"A")?, 5);
+    let (_source, pairs) = committed(small(alloc)?, kerning(alloc)?, &edit)?;
+    assert_eq!(rt;
+        pairs.text()?.as_slice(),
+        b"KPX A V -92\nKPX B A 5\nKPX V A 7\n".as_slice()
+    );
+    Ok(())
+}
+
+#[test]
+fn commits_a_removed_pair(rt: HostRuntime) -> Result<(), Fail> {
+    let alloc = rt.alloc();
+    let edit = Edit::Unkern(bytes(alloc, b"A")?, bytes(alloc, b"V")?);
+    let (_source, pairs) = committed(small(alloc)?, kerning(alloc)?, &edit)?;
+    assert_eq!(rt; pairs.text()?.as_slice(), b"KPX V A 7\n".as_slice());
+    Ok(())
+}
+
+#[test]
+fn wants_a_section_before_a_number(rt: HostRuntime) -> Result<(), Fail> {
+    let alloc = rt.alloc();
+    let refused = small(alloc)?.prepared(&kerning(alloc)?, &Edit::RemoveSubr(40));
+    assert!(rt; matches!(refused, Err(Cause::Rule(Rule::E9))));
+    Ok(())
+}
+
+#[test]
+fn wants_an_array(rt: HostRuntime) -> Result<(), Fail> {
+    let alloc = rt.alloc();
+    let edit = Edit::Encode(65, bytes(alloc, b"A")?);
+    let refused = small(alloc)?.prepared(&kerning(alloc)?, &edit);
+    assert!(rt; matches!(refused, Err(Cause::Rule(Rule::E5))));
+    Ok(())
+}

@@ -104,10 +104,7 @@ pub fn replacing_glyph(source: &Source, name: &[u8], body: &[u8]) -> Result<Chan
     let alloc = source.alloc();
     let words = body_words(alloc, body)?;
     let closing = Bytes::copied(alloc, closing_at(at, source.items()))?;
-    Ok(Change::PutItem(
-        at,
-        Item::Glyph(Bytes::copied(alloc, name)?, words, closing),
-    ))
+    Ok(Change::PutItem(at, Item::Glyph(Bytes::copied(alloc, name)?, words, closing)))
 }
 
 /// A new glyph.

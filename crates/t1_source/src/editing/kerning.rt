@@ -43,12 +43,7 @@ fn place_of(pairs: &Pairs, left: &[u8], right: &[u8]) -> Result<usize, usize>
 
 /// A pair put in, or given another value.
 #[tactic(auto, unfolding(crate::specs::Editing::kerned))]
-pub fn kerning_pair(
-    pairs: &Pairs,
-    left: &[u8],
-    right: &[u8],
-    value: i64,
-) -> Result<Change, Cause>
+pub fn kerning_pair(pairs: &Pairs, left: &[u8], right: &[u8], value: i64) -> Result<Change, Cause>
     ensures change { (s : SourceParts) → Edits (λ change. changed change s pairs.now) result (beside_source s (kerned pairs.now left.now right.now value)) }
     ensures fits { (s : SourceParts) → IfOk result (λ change. Fits change s pairs.now) }
 {

@@ -8,8 +8,6 @@ mod rules;
 mod slots;
 mod subrs;
 
-pub use change::Change;
-
 ghost use Rattle.std.specs.Prelude.{◌≡◌, IfOk, IsOk, OnOk, OnErr, false};
 ghost use Rattle.t1_source.specs.Changes.{changed, Fits, Serves, takes_room};
 ghost use Rattle.t1_source.specs.Editing.{Edits, edited};
@@ -21,6 +19,7 @@ use crate::editing::slots::{encoding_code, unencoding_code};
 use crate::editing::subrs::{adding_subr, removing_subr, replacing_subr};
 use crate::pairs::Pairs;
 use crate::source::Source;
+pub use change::Change;
 use std::alloc::AllocError;
 
 impl Source {
