@@ -1,2 +1,4 @@
+pub mod Checking
 pub mod Reading
 pub mod Status
+pub mod Writing
