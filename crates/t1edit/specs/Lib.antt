@@ -1,4 +1,5 @@
 pub mod Checking
+pub mod Explaining
 pub mod Reading
 pub mod Status
 pub mod Topics

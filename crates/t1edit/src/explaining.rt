@@ -1,6 +1,7 @@
 //! What a code, a rule or an exit status means.
-
-
+ghost use Rattle.std.specs.Prelude.{option_map};
+ghost use Rattle.t1edit.specs.Explaining.{Explains};
+ghost use Rattle.t1edit.specs.Topics.{explanation as explanation_of};
 
 use crate::status::{Misuse, Stop};
 use crate::topic::{Section, explanation};
@@ -15,7 +16,9 @@ pub fn explain<W: Write>(
     sections: &[Section],
     code: Option<&str>,
     out: &mut Counted<W>,
-) -> Result<(), Stop> {
+) -> Result<(), Stop>
+    ensures { Explains W.contents out.old out.new (explanation_of sections.now (option_map (λ word. word.now) code.entry)) result }
+{
     let Ok(explained) = explanation(alloc, sections, code) else {
         return Err(Stop::Failed(ServeError::Memory));
     };

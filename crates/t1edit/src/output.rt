@@ -96,8 +96,8 @@ impl Output {
         rt: &HostRuntime,
         answer: Result<(), ServeError>,
     ) -> Result<(), ServeError>
-        ensures ok { IfOk result (λ _. IsOk answer.entry) }
-        ensures err { OnErr answer.entry (result ≡ answer.entry) }
+        ensures ok { IfOk result (λ _. IsOk answer) }
+        ensures err { OnErr answer (result ≡ answer) }
     {
         let Output { out, draft } = self;
         let Some(draft) = draft else {
