@@ -5,9 +5,15 @@
         font.edit("replace", "glyph", "A", body="10 600 hsbw 300 hlineto closepath endchar")
         pfb = font.print("pfb")
 
-An edit that is refused raises Refused, and has changed nothing.
+        with font.batch():
+            font.edit("remove", "glyph", "Aacute")
+            font.edit("remove", "glyph", "acute")
+
+An edit that is refused raises Refused, and has changed nothing. The edits of a batch are judged together at its end; where
+they are refused, or where an exception leaves the batch, all of them are dropped.
 """
 
+import contextlib
 import subprocess
 
 
@@ -48,8 +54,19 @@ class Session:
         if answer != "ok":
             raise Refused(answer.removeprefix("refused "))
 
+    @contextlib.contextmanager
+    def batch(self):
+        """A batch of edits, for a with statement."""
+        self.edit("begin")
+        try:
+            yield self
+        except BaseException:
+            self.edit("abort")
+            raise
+        self.edit("commit")
+
     def print(self, what):
-        """The bytes of what is printed: 'source', 'kern' or 'pfb'."""
+        """The bytes of what is printed: 'source', 'kern', 'pfb', 'afm' or 'uses'."""
         answer = self._ask([f"print {what}"])
         head, _, length = answer.partition(" ")
         if head != "data":

@@ -17,11 +17,14 @@ Commands, a line each:
   print source                         the source as it stands
   print kern                           the kerning pairs
   print pfb                            the assembled font
+  print afm                            its AFM file
+  print uses                           the Subrs and glyphs that each glyph stands on
+  begin, commit, abort                 a batch of edits, which are judged together
 
 A body ends with a line that holds a single dot.
 
 Answers, a line each:
-  ok               the edit was made
+  ok               it is done
   refused E4       the command broke a rule, and changed nothing
   refused F20 subr 7
                    the edited font would have this fault, and nothing changed

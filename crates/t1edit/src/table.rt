@@ -189,7 +189,8 @@ const BODIES: Section = Section {
             code: "F23",
             meaning: "a part of the PFB file of more than 2,147,483,647 bytes",
             text: "The clear text, the private text and the trailer of the file are each at most so long,\n\
-                since a PFB file holds lengths in 32 bits.\n\
+                since a PFB file holds lengths in 32 bits. A section with a count of more than nine digits\n\
+                has this fault too.\n\
                 \n\
                 What to do: split the font.\n",
         },
@@ -484,6 +485,24 @@ const RULES: Section = Section {
                 has.\n\
                 \n\
                 What to do: nothing, if it was to be gone. 'print kern' and 'print source' show what there is.\n",
+        },
+        Topic {
+            code: "E11",
+            meaning: "a batch is open already",
+            text: "\tbegin\n\
+                \tbegin\n\
+                \n\
+                What to do: end the batch with commit or abort before the next one.\n",
+        },
+        Topic {
+            code: "E12",
+            meaning: "no batch is open",
+            text: "\tcommit\n\
+                \n\
+                commit or abort comes without a begin, or the batch has ended: a commit ends it also where it is\n\
+                refused.\n\
+                \n\
+                What to do: begin a batch first.\n",
         },
     ],
 };
