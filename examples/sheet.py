@@ -7,6 +7,7 @@ usage: sheet.py SOURCE FILE.svg
 It needs FreeType's module for Python (Debian: python3-freetype). A font without a FontMatrix gets the usual one.
 """
 
+import html
 import io
 import os
 import re
@@ -53,7 +54,7 @@ def cell(at, name, width, box, outline):
         f'<g transform="translate({x} {y})"><g transform="scale(1 -1)">'
         f'<path d="M0 -250 V750 M{width} -250 V750" class="advance"/>'
         f'<rect x="{left}" y="{bottom}" width="{right - left}" height="{top - bottom}" class="box"/>'
-        f'<path d="{outline}" class="glyph"/></g><text y="350">{name}</text></g>\n'
+        f'<path d="{outline}" class="glyph"/></g><text y="350">{html.escape(name)}</text></g>\n'
     )
 
 
