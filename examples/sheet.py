@@ -71,7 +71,7 @@ def main(source, target):
         cells.append(cell(at, name, int(width), tuple(map(int, box)), path(face.glyph.outline)))
     rows = -(-len(cells) // COLUMNS)
     with open(target, "w", encoding="utf-8") as file:
-        file.write(f'<svg xmlns="http://www.w3.org/2000/svg" viewBox="0 0 {COLUMNS * CELL} {rows * CELL}">\n')
+        file.write(f'<svg xmlns="http://www.w3.org/2000/svg" width="1600" viewBox="0 0 {COLUMNS * CELL} {rows * CELL}">\n')
         file.write("<style>.glyph{fill:black} .box{fill:none;stroke:red;stroke-width:4} .advance{stroke:gray;stroke-width:2}")
         file.write(f" text{{font:{LABEL}px sans-serif}}</style>\n")
         file.writelines(cells)

@@ -32,7 +32,8 @@ fn kern<'a>(alloc: Global, help: &'a str) -> Arg<'a> {
 }
 
 /// The help of a kerning file that may be standard input.
-const KERN: &str = "A file with the kerning pairs, of which the KPX lines count; - for standard input";
+const KERN: &str =
+    "A file with the kerning pairs, of which the KPX lines count; - for standard input";
 
 /// The help of a kerning file.
 const KERN_FILE: &str = "A file with the kerning pairs, of which the KPX lines count";

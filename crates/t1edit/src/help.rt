@@ -1,4 +1,4 @@
-//! What the helps say behind the arguments.
+//! What the helps say after the arguments.
 
 use crate::table::{OF_ASSEMBLING, OF_MEASURING, SECTIONS};
 use crate::topic::{Section, list};

@@ -28,7 +28,10 @@ use table::SECTIONS;
 
 /// The paths that the command line gives: of the source, and of the kerning file where it names one.
 fn paths<'a>(matches: &ArgMatches<'a>) -> (&'a str, Option<&'a str>) {
-    (matches.get_str("SOURCE").unwrap_or(""), matches.get_str("kern"))
+    (
+        matches.get_str("SOURCE").unwrap_or(""),
+        matches.get_str("kern"),
+    )
 }
 
 /// The bytes of the source and of the kerning file, both read before anything is judged; no pairs where no file is
@@ -47,10 +50,7 @@ fn inputs(
 }
 
 /// The bytes of the source and of the kerning file, of which one may be standard input.
-fn inputs_of(
-    rt: &HostRuntime,
-    matches: &ArgMatches<'_>,
-) -> Result<(Vec<u8>, Vec<u8>), Stop> {
+fn inputs_of(rt: &HostRuntime, matches: &ArgMatches<'_>) -> Result<(Vec<u8>, Vec<u8>), Stop> {
     let (source, kern) = paths(matches);
     if is_standard_input(source) && kern.is_some_and(is_standard_input) {
         return Err(Stop::Misused(Misuse::InputTwice));

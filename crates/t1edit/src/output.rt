@@ -91,11 +91,7 @@ impl Output {
 
     /// Ends the output of a call that has answered: a draft takes its place where the call wrote all, and is removed
     /// where it did not, or where it cannot take its place.
-    pub fn finish(
-        self,
-        rt: &HostRuntime,
-        answer: Result<(), ServeError>,
-    ) -> Result<(), ServeError>
+    pub fn finish(self, rt: &HostRuntime, answer: Result<(), ServeError>) -> Result<(), ServeError>
         ensures ok { IfOk result (λ _. IsOk answer) }
         ensures err { OnErr answer (result ≡ answer) }
     {
