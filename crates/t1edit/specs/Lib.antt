@@ -1,2 +1,6 @@
+pub mod Checking
+pub mod Explaining
 pub mod Reading
 pub mod Status
+pub mod Topics
+pub mod Writing

@@ -1,42 +1,110 @@
 //! What the command line looks like.
 
+use crate::help::Helps;
 use clap::{Arg, ArgAction, Command};
 use std::alloc::{AllocError, Global};
+
+const VERSION: &str = "0.1.0";
 
 /// The argument that names the source.
 fn source<'a>(alloc: Global) -> Arg<'a> {
     Arg::new(alloc, "SOURCE")
-        .help("The readable source of a Type 1 font")
+        .help("The readable source of a Type 1 font, as t1disasm writes it; - for standard input")
+        .required(true)
+        .action(ArgAction::Set)
+}
+
+/// The argument that names the source of a session.
+fn source_file<'a>(alloc: Global) -> Arg<'a> {
+    Arg::new(alloc, "SOURCE")
+        .help("The readable source of a Type 1 font, as t1disasm writes it")
         .required(true)
         .action(ArgAction::Set)
 }
 
 /// The option that names a kerning file.
-fn kern<'a>(alloc: Global) -> Arg<'a> {
+fn kern<'a>(alloc: Global, help: &'a str) -> Arg<'a> {
     Arg::new(alloc, "kern")
         .long("kern")
         .value_name("FILE")
-        .help("A file with the kerning pairs, of which the KPX lines count")
+        .help(help)
         .action(ArgAction::Set)
 }
 
-/// The commands of the program.
-pub fn command<'a>(alloc: Global) -> Result<Command<'a>, AllocError> {
-    let assemble = Command::new(alloc, "assemble")
-        .about("Writes the PFB file of a source to standard output")
-        .arg(source(alloc))?;
-    let measure = Command::new(alloc, "measure")
-        .about("Writes the AFM file of a source to standard output")
-        .arg(kern(alloc))?
-        .arg(source(alloc))?;
-    let session = Command::new(alloc, "session")
+/// The help of a kerning file that may be standard input.
+const KERN: &str =
+    "A file with the kerning pairs, of which the KPX lines count; - for standard input";
+
+/// The help of a kerning file.
+const KERN_FILE: &str = "A file with the kerning pairs, of which the KPX lines count";
+
+/// The option that names a file for the output.
+fn output<'a>(alloc: Global) -> Arg<'a> {
+    Arg::new(alloc, "output")
+        .short('o')
+        .long("output")
+        .value_name("FILE")
+        .help("Writes to this file in place of standard output, whole or not at all")
+        .action(ArgAction::Set)
+}
+
+/// The argument that names what is to be explained.
+fn code<'a>(alloc: Global) -> Arg<'a> {
+    Arg::new(alloc, "CODE")
+        .help("A code as F37, a rule as E4, or an exit status as 3; without it, all are listed")
+        .action(ArgAction::Set)
+}
+
+fn assemble<'a>(alloc: Global, helps: &'a Helps) -> Result<Command<'a>, AllocError> {
+    Command::new(alloc, "assemble")
+        .about("Writes the PFB file of a source")
+        .after_long_help(helps.assemble.as_str())
+        .arg(output(alloc))?
+        .arg(source(alloc))
+}
+
+fn measure<'a>(alloc: Global, helps: &'a Helps) -> Result<Command<'a>, AllocError> {
+    Command::new(alloc, "measure")
+        .about("Runs every glyph and writes the AFM file of a source")
+        .after_long_help(helps.measure.as_str())
+        .arg(kern(alloc, KERN))?
+        .arg(output(alloc))?
+        .arg(source(alloc))
+}
+
+fn check<'a>(alloc: Global, helps: &'a Helps) -> Result<Command<'a>, AllocError> {
+    Command::new(alloc, "check")
+        .about("Judges a source as measure does, and writes nothing")
+        .after_long_help(helps.measure.as_str())
+        .arg(kern(alloc, KERN))?
+        .arg(source(alloc))
+}
+
+fn session<'a>(alloc: Global, helps: &'a Helps) -> Result<Command<'a>, AllocError> {
+    Command::new(alloc, "session")
         .about("Edits and prints a source by commands from standard input")
-        .arg(kern(alloc))?
-        .arg(source(alloc))?;
+        .after_long_help(helps.session.as_str())
+        .arg(kern(alloc, KERN_FILE))?
+        .arg(source_file(alloc))
+}
+
+fn explain<'a>(alloc: Global) -> Result<Command<'a>, AllocError> {
+    Command::new(alloc, "explain")
+        .about("Says what a code, a rule or an exit status means, and what to do")
+        .arg(code(alloc))
+}
+
+/// The commands of the program.
+pub fn command<'a>(alloc: Global, helps: &'a Helps) -> Result<Command<'a>, AllocError> {
     Command::new(alloc, "t1edit")
+        .version(VERSION)
         .about("An assembler for Adobe Type 1 fonts")
+        .after_help("t1edit explain CODE says what a code of standard error means, and what to do.")
+        .after_long_help(helps.program.as_str())
         .subcommand_required(true)
-        .subcommand(assemble)?
-        .subcommand(measure)?
-        .subcommand(session)
+        .subcommand(assemble(alloc, helps)?)?
+        .subcommand(measure(alloc, helps)?)?
+        .subcommand(check(alloc, helps)?)?
+        .subcommand(session(alloc, helps)?)?
+        .subcommand(explain(alloc)?)
 }

@@ -1,4 +1,4 @@
-//! Files, read whole.
+//! What the program reads: files, or standard input in their place, read whole.
 ghost use Rattle.std.specs.Prelude.{◌≡◌, Err, IfOk, IfErr};
 ghost use Rattle.std.specs.Io.KnownBytes.{Consumes, IsAtEnd};
 ghost use Rattle.t1_code.specs.Counted.{one_more};
@@ -12,6 +12,14 @@ use t1_session::ServeError;
 
 /// How many bytes a reader is asked for at a time.
 const BUFFER_LEN: usize = 4_096;
+
+/// The word that names standard input in place of a file.
+const STANDARD_INPUT: &str = "-";
+
+/// Whether a word of the command line names standard input.
+pub fn is_standard_input(path: &str) -> bool {
+    path == STANDARD_INPUT
+}
 
 /// All bytes that a reader gives up to its end.
 fn read_whole<R: Read>(alloc: Global, reader: &mut Counted<R>) -> Result<Vec<u8>, ServeError>
@@ -34,10 +42,13 @@ fn read_whole<R: Read>(alloc: Global, reader: &mut Counted<R>) -> Result<Vec<u8>
     }
 }
 
-/// The bytes of a file.
-pub fn read_file(rt: &HostRuntime, path: &str) -> Result<Vec<u8>, ServeError>
+/// The bytes of a file, or of standard input where the path is `-`.
+pub fn read_input(rt: &HostRuntime, path: &str) -> Result<Vec<u8>, ServeError>
     ensures { IfErr result FailsToRead }
 {
+    if is_standard_input(path) {
+        return read_whole(rt.alloc(), &mut Counted::new(rt.stdin()));
+    }
     match File::open(rt, path) {
         Ok(file) => read_whole(rt.alloc(), &mut Counted::new(file)),
         Err(_) => Err(ServeError::Read),

@@ -1,72 +1,118 @@
 //! `t1edit`: the command line over whole fonts.
 #![tactic(auto)]
 
+mod checking;
 mod command_line;
+mod explaining;
+mod help;
 mod input;
+mod output;
 mod status;
+mod table;
+mod topic;
 
+use checking::check_source;
 use clap::error::ErrorKind;
 use clap::{ArgMatches, Error};
 use command_line::command;
-use input::read_file;
-use status::{USAGE, ending};
+use explaining::explain;
+use help::help_texts;
+use input::{is_standard_input, read_input};
+use output::Output;
+use status::{Misuse, Stop, USAGE, ending, run_ending};
 use std::process::ExitCode;
 use std::{env, io};
 use t1_code::Counted;
 use t1_session::{ServeError, assemble_source, measure_source, serve};
+use table::SECTIONS;
 
-/// The bytes of the source that the command line names.
-fn source_of(rt: &HostRuntime, matches: &ArgMatches<'_>) -> Result<Vec<u8>, ServeError> {
-    read_file(rt, matches.get_str("SOURCE").unwrap_or(""))
+/// The paths that the command line gives: of the source, and of the kerning file where it names one.
+fn paths<'a>(matches: &ArgMatches<'a>) -> (&'a str, Option<&'a str>) {
+    (
+        matches.get_str("SOURCE").unwrap_or(""),
+        matches.get_str("kern"),
+    )
 }
 
-/// The bytes of the kerning file, none where the command line names no file.
-fn pairs_of(rt: &HostRuntime, matches: &ArgMatches<'_>) -> Result<Vec<u8>, ServeError> {
-    match matches.get_str("kern") {
-        Some(path) => read_file(rt, path),
-        None => Ok(Vec::new(rt.alloc())),
+/// The bytes of the source and of the kerning file, both read before anything is judged; no pairs where no file is
+/// named.
+fn inputs(
+    rt: &HostRuntime,
+    source: &str,
+    kern: Option<&str>,
+) -> Result<(Vec<u8>, Vec<u8>), ServeError> {
+    let source = read_input(rt, source)?;
+    let pairs = match kern {
+        Some(path) => read_input(rt, path)?,
+        None => Vec::new(rt.alloc()),
+    };
+    Ok((source, pairs))
+}
+
+/// The bytes of the source and of the kerning file, of which one may be standard input.
+fn inputs_of(rt: &HostRuntime, matches: &ArgMatches<'_>) -> Result<(Vec<u8>, Vec<u8>), Stop> {
+    let (source, kern) = paths(matches);
+    if is_standard_input(source) && kern.is_some_and(is_standard_input) {
+        return Err(Stop::Misused(Misuse::InputTwice));
     }
+    Ok(inputs(rt, source, kern)?)
 }
 
-/// Writes the PFB file of a source to standard output.
-fn assemble(rt: &HostRuntime, matches: &ArgMatches<'_>) -> Result<(), ServeError> {
-    let source = source_of(rt, matches)?;
-    let mut out = Counted::new(rt.stdout());
-    assemble_source(rt.alloc(), &source, &mut out)
+/// Writes the PFB file of a source.
+fn assemble(rt: &HostRuntime, matches: &ArgMatches<'_>) -> Result<(), Stop> {
+    let source = read_input(rt, paths(matches).0)?;
+    let mut output = Output::open(rt, matches.get_str("output"))?;
+    let answer = assemble_source(rt.alloc(), &source, &mut output.out);
+    Ok(output.finish(rt, answer)?)
 }
 
-/// Writes the AFM file of a source to standard output.
-fn measure(rt: &HostRuntime, matches: &ArgMatches<'_>) -> Result<(), ServeError> {
-    let source = source_of(rt, matches)?;
-    let pairs = pairs_of(rt, matches)?;
-    let mut out = Counted::new(rt.stdout());
-    measure_source(rt.alloc(), &source, &pairs, &mut out)
+/// Writes the AFM file of a source.
+fn measure(rt: &HostRuntime, matches: &ArgMatches<'_>) -> Result<(), Stop> {
+    let (source, pairs) = inputs_of(rt, matches)?;
+    let mut output = Output::open(rt, matches.get_str("output"))?;
+    let answer = measure_source(rt.alloc(), &source, &pairs, &mut output.out);
+    Ok(output.finish(rt, answer)?)
+}
+
+/// Judges a source and its pairs.
+fn check(rt: &HostRuntime, matches: &ArgMatches<'_>) -> Result<(), Stop> {
+    let (source, pairs) = inputs_of(rt, matches)?;
+    Ok(check_source(rt.alloc(), &source, &pairs)?)
 }
 
 /// Serves the commands of standard input on a source.
-fn session(rt: &HostRuntime, matches: &ArgMatches<'_>) -> Result<(), ServeError> {
-    let source = source_of(rt, matches)?;
-    let pairs = pairs_of(rt, matches)?;
+fn session(rt: &HostRuntime, matches: &ArgMatches<'_>) -> Result<(), Stop> {
+    let (source, kern) = paths(matches);
+    if is_standard_input(source) || kern.is_some_and(is_standard_input) {
+        return Err(Stop::Misused(Misuse::InputOfSession));
+    }
+    let (source, pairs) = inputs(rt, source, kern)?;
     let mut input = Counted::new(rt.stdin());
     let mut out = Counted::new(rt.stdout());
-    serve(rt.alloc(), &source, &pairs, &mut input, &mut out)
+    Ok(serve(rt.alloc(), &source, &pairs, &mut input, &mut out)?)
+}
+
+/// The status of a run, with a line on standard error where it stopped.
+fn ended(rt: &HostRuntime, outcome: &Result<(), Stop>) -> ExitCode {
+    ExitCode::from(run_ending(outcome, &mut rt.stderr()))
 }
 
 /// The status of an error, with its line on standard error.
-fn told(rt: &HostRuntime, error: &ServeError) -> ExitCode {
+fn failed(rt: &HostRuntime, error: &ServeError) -> ExitCode {
     ExitCode::from(ending(error, &mut rt.stderr()))
 }
 
-/// The status of a command line that clap doesn't accept, with clap's text.
+/// The status of a command line that clap doesn't take for a command, with clap's text: a help, the version, or what is
+/// wrong.
 fn refused(rt: &HostRuntime, error: &Error) -> ExitCode {
     if error.kind() == ErrorKind::OutOfMemory {
-        return told(rt, &ServeError::Memory);
+        return failed(rt, &ServeError::Memory);
     }
     let printed = error.print(rt);
     if error.use_stderr() {
         ExitCode::from(USAGE)
     } else if printed.is_err() {
-        told(rt, &ServeError::Write)
+        failed(rt, &ServeError::Write)
     } else {
         ExitCode::SUCCESS
     }
@@ -74,35 +120,40 @@ fn refused(rt: &HostRuntime, error: &Error) -> ExitCode {
 
 /// Runs the command that the words spell.
 fn run(rt: &HostRuntime, words: &[String]) -> ExitCode {
-    let Ok(command) = command(rt.alloc()) else {
-        return told(rt, &ServeError::Memory);
+    let Ok(helps) = help_texts(rt.alloc()) else {
+        return failed(rt, &ServeError::Memory);
+    };
+    let Ok(command) = command(rt.alloc(), &helps) else {
+        return failed(rt, &ServeError::Memory);
     };
     let matches = match command.try_get_matches_from(words) {
         Ok(matches) => matches,
         Err(error) => return refused(rt, &error),
     };
-    let result = match matches.subcommand() {
+    let outcome = match matches.subcommand() {
         Some(("assemble", matches)) => assemble(rt, matches),
         Some(("measure", matches)) => measure(rt, matches),
+        Some(("check", matches)) => check(rt, matches),
         Some(("session", matches)) => session(rt, matches),
+        Some(("explain", matches)) => {
+            let mut out = Counted::new(rt.stdout());
+            explain(rt.alloc(), &SECTIONS, matches.get_str("CODE"), &mut out)
+        }
         _ => Ok(()),
     };
-    match result {
-        Ok(()) => ExitCode::SUCCESS,
-        Err(error) => told(rt, &error),
-    }
+    ended(rt, &outcome)
 }
 
 fn main(rt: HostRuntime) -> ExitCode {
     let args = match env::args(&rt) {
         Ok(args) => args,
         Err(error) if error.kind() == io::ErrorKind::OutOfMemory => {
-            return told(&rt, &ServeError::Memory);
+            return failed(&rt, &ServeError::Memory);
         }
-        Err(_) => return ExitCode::from(USAGE),
+        Err(_) => return ended(&rt, &Err(Stop::Misused(Misuse::NoText))),
     };
     let Ok(words) = args.collect::<Vec<String>>(rt.alloc()) else {
-        return told(&rt, &ServeError::Memory);
+        return failed(&rt, &ServeError::Memory);
     };
     run(&rt, &words)
 }

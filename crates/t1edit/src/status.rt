@@ -1,16 +1,67 @@
 //! How the program ends.
 ghost use Rattle.std.specs.Prelude.{◌≡◌};
-ghost use Rattle.t1edit.specs.Status.{status_of};
+ghost use Rattle.t1edit.specs.Status.{status_of, status_of_stop, status_of_run};
 
 use std::io::{self, Write};
-use t1_frac::{Fault, Place};
+use t1_frac::{Fault, Place, Refusal};
 use t1_session::ServeError;
 
 /// The status of a command line that isn't accepted.
 pub const USAGE: u8 = 2;
 
-/// Writes the line that tells a fault.
-fn tell<W: Write>(fault: &Fault, writer: &mut W) -> io::Result<()> {
+/// What is wrong with a command line that has the words of one.
+#[derive(Clone, Copy, Debug, PartialEq, Eq)]
+pub enum Misuse {
+    /// Standard input can't be the source and the kerning file at once.
+    InputTwice,
+    /// A session has its commands from standard input.
+    InputOfSession,
+    /// There is no such code, rule or status.
+    UnknownCode,
+    /// An argument is no text in UTF-8.
+    NoText,
+}
+
+impl Misuse {
+    fn line(self) -> &'static [u8] {
+        match self {
+            Misuse::InputTwice => b"t1edit: only one of SOURCE and FILE can be standard input\n",
+            Misuse::InputOfSession => {
+                b"t1edit: a session has its commands from standard input, so neither SOURCE nor FILE can be -\n"
+            }
+            Misuse::UnknownCode => b"t1edit: no such code; 't1edit explain' lists all of them\n",
+            Misuse::NoText => b"t1edit: an argument is no UTF-8 text\n",
+        }
+    }
+}
+
+/// Why a run ends before its work is done.
+#[derive(Debug, Drop)]
+pub enum Stop {
+    Misused(Misuse),
+    Failed(ServeError),
+}
+
+impl From<Misuse> for Stop {
+    fn from(misuse: Misuse) -> Stop {
+        Stop::Misused(misuse)
+    }
+}
+
+impl From<ServeError> for Stop {
+    fn from(error: ServeError) -> Stop {
+        Stop::Failed(error)
+    }
+}
+
+impl From<Refusal> for Stop {
+    fn from(refused: Refusal) -> Stop {
+        Stop::Failed(ServeError::from(refused))
+    }
+}
+
+/// Writes the line that reports a fault.
+fn report<W: Write>(fault: &Fault, writer: &mut W) -> io::Result<()> {
     let code = fault.code;
     write!(writer, "t1edit: {code:?}")?;
     match &fault.place {
@@ -29,11 +80,34 @@ fn tell<W: Write>(fault: &Fault, writer: &mut W) -> io::Result<()> {
 pub fn ending<W: Write>(error: &ServeError, writer: &mut W) -> u8
     ensures { result ≡ status_of error.now }
 {
-    let (_told, status) = match error {
-        ServeError::Load(fault) => (tell(fault, writer), 1),
+    let (_written, status) = match error {
+        ServeError::Load(fault) => (report(fault, writer), 1),
         ServeError::Read => (writer.write_all(b"t1edit: read failed\n"), 3),
         ServeError::Write => (writer.write_all(b"t1edit: write failed\n"), 3),
         ServeError::Memory => (writer.write_all(b"t1edit: out of memory\n"), 4),
     };
     status
+}
+
+/// The exit status of a run that stopped, whose line is written.
+fn stopped<W: Write>(stop: &Stop, writer: &mut W) -> u8
+    ensures { result ≡ status_of_stop stop.now }
+{
+    match stop {
+        Stop::Misused(misuse) => {
+            let _written = writer.write_all(misuse.line());
+            USAGE
+        }
+        Stop::Failed(error) => ending(error, writer),
+    }
+}
+
+/// The exit status of a run, whose line is written where it stopped.
+pub fn run_ending<W: Write>(outcome: &Result<(), Stop>, writer: &mut W) -> u8
+    ensures { result ≡ status_of_run outcome.now }
+{
+    match outcome {
+        Ok(()) => 0,
+        Err(stop) => stopped(stop, writer),
+    }
 }

@@ -1,0 +1,50 @@
+-- What is said of a code, a rule or a status: how it is found, and what is printed.
+use Rattle.std.specs.Prelude.{ℕ, List, [], ◌∷◌, ◌++◌, Option, Some, None, option_map, codes, if◌then◌else◌}
+use Rattle.std.specs.Str.{bytes_eq}
+use Rattle.t1edit.specs.declared.topic.Topic.{Topic}
+use Rattle.t1edit.specs.declared.topic.Section.{Section}
+
+-- profile: the first topic with this code
+abbrev pub topic_in : List Topic → List ℕ → Option Topic
+topic_in [] code = None
+topic_in (topic ∷ topics) code = if bytes_eq topic.code.now code then Some topic else topic_in topics code
+
+abbrev pub or_else : {X : Type 0} → Option X → Option X → Option X
+or_else None other = other
+or_else (Some x) other = Some x
+
+-- profile: the first topic of the sections with this code
+abbrev pub topic_of : List Section → List ℕ → Option Topic
+topic_of [] code = None
+topic_of (section ∷ sections) code = or_else (topic_in section.topics.now code) (topic_of sections code)
+
+-- the line of a topic in a list: its code and its meaning in a few words
+unfoldable pub line_text : Topic → List ℕ
+line_text topic = topic.code.now ++ (codes ": " ++ (topic.meaning.now ++ codes "\n"))
+
+-- the lines of topics, indented
+abbrev pub lines_text : List Topic → List ℕ
+lines_text [] = []
+lines_text (topic ∷ topics) = (codes "  " ++ line_text topic) ++ lines_text topics
+
+-- the lines of a section's topics, below its title
+unfoldable pub section_text : Section → List ℕ
+section_text section = section.title.now ++ (codes ":\n" ++ lines_text section.topics.now)
+
+-- the lists of sections, with an empty line between each two
+abbrev pub other_sections_text : List Section → List ℕ
+other_sections_text [] = []
+other_sections_text (section ∷ sections) = (codes "\n" ++ section_text section) ++ other_sections_text sections
+
+abbrev pub list_text : List Section → List ℕ
+list_text [] = []
+list_text (section ∷ sections) = section_text section ++ other_sections_text sections
+
+-- all that is said of a topic
+unfoldable pub whole_text : Topic → List ℕ
+whole_text topic = line_text topic ++ (codes "\n" ++ topic.text.now)
+
+-- profile: what is said of a code, if anything; the list of all where no code is given
+abbrev pub explanation : List Section → Option (List ℕ) → Option (List ℕ)
+explanation sections None = Some (list_text sections)
+explanation sections (Some code) = option_map whole_text (topic_of sections code)

@@ -1,0 +1,21 @@
+//! Judging a font without writing its metrics.
+ghost use Rattle.t1_frac.specs.Outcome.{Gives};
+ghost use Rattle.t1edit.specs.Checking.{verdict};
+
+use std::alloc::Global;
+use std::io;
+use t1_code::Counted;
+use t1_frac::Refusal;
+use t1_session::{ServeError, measure_source};
+
+/// Judges a source and a kerning file as measuring them does, and writes nothing: `Ok` where they have an AFM file, else
+/// the fault that measuring reports.
+pub fn check_source(alloc: Global, source: &[u8], pairs: &[u8]) -> Result<(), Refusal>
+    ensures { Gives (λ _. tt) result (verdict source.now pairs.now) }
+{
+    match measure_source(alloc, source, pairs, &mut Counted::new(io::sink())) {
+        Ok(()) | Err(ServeError::Write) => Ok(()),
+        Err(ServeError::Load(fault)) => Err(Refusal::Fault(fault)),
+        Err(ServeError::Read | ServeError::Memory) => Err(Refusal::Memory),
+    }
+}

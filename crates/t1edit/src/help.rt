@@ -1,0 +1,70 @@
+//! What the helps say after the arguments.
+
+use crate::table::{OF_ASSEMBLING, OF_MEASURING, SECTIONS};
+use crate::topic::{Section, list};
+use std::alloc::{AllocError, Global};
+
+/// What the help of a session says of its commands.
+const SESSION: &str = "\
+Commands, a line each:
+  replace glyph NAME, replace subr N   another body; the lines of the body follow
+  add glyph NAME, add subr N           a new entry; the lines of the body follow
+  remove glyph NAME, remove subr N     an entry less
+  encode CODE NAME                     a name for a code of the encoding array
+  unencode CODE                        no name for a code of the encoding array
+  kern LEFT RIGHT N                    the value of a kerning pair
+  unkern LEFT RIGHT                    a kerning pair less
+  print source                         the source as it stands
+  print kern                           the kerning pairs
+  print pfb                            the assembled font
+  print afm                            its AFM file
+  print uses                           the Subrs and glyphs that each glyph stands on
+  begin, commit, abort                 a batch of edits, which are judged together
+
+A body ends with a line that holds a single dot.
+
+Answers, a line each:
+  ok               it is done
+  refused E4       the command broke a rule, and changed nothing
+  refused F20 subr 7
+                   the edited font would have this fault, and nothing changed
+  refused memory   there wasn't memory enough, and nothing changed
+  data LENGTH      a print: so many bytes follow, and a line end
+
+Example:
+  $ printf 'add glyph B\\n0 500 hsbw 9 hlineto endchar\\n.\\nremove glyph nosuch\\nprint kern\\n' |
+      t1edit session --kern font.afm font.t1
+  ok
+  refused E1
+  data 11
+  KPX A V -92
+";
+
+/// The texts of the helps.
+#[derive(Drop)]
+pub struct Helps {
+    pub program: String,
+    pub assemble: String,
+    pub measure: String,
+    pub session: String,
+}
+
+/// A text, and what the sections list.
+fn with_list(alloc: Global, text: &str, sections: &[Section]) -> Result<String, AllocError> {
+    let mut help = String::from_str(alloc, text)?;
+    if !text.is_empty() {
+        help.push_str("\n")?;
+    }
+    help.push_str(list(alloc, sections)?.as_str())?;
+    Ok(help)
+}
+
+/// The texts of the helps, whose lists come from the one table.
+pub fn help_texts(alloc: Global) -> Result<Helps, AllocError> {
+    Ok(Helps {
+        program: list(alloc, &SECTIONS)?,
+        assemble: list(alloc, &OF_ASSEMBLING)?,
+        measure: list(alloc, &OF_MEASURING)?,
+        session: with_list(alloc, SESSION, &SECTIONS)?,
+    })
+}

@@ -1,0 +1,560 @@
+//! Every code, rule and status that the program answers, with its meaning: the one table of their texts.
+
+use crate::topic::{Section, Topic};
+
+const READING: Section = Section {
+    title: "Faults of reading a source",
+    topics: &[
+        Topic {
+            code: "F1",
+            meaning: "no line ends in 'currentfile eexec'",
+            text: "\tcurrentfile eexec % private\n\
+                \n\
+                The clear part of a font ends with the first line whose last words are these two.\n\
+                \n\
+                What to do: let the line end there, and give a comment a line of its own. A PFB or PFA\n\
+                file isn't a source; t1disasm makes one of it.\n",
+        },
+        Topic {
+            code: "F2",
+            meaning: "no line ends in 'mark currentfile closefile'",
+            text: "\tcurrentfile closefile\n\
+                \n\
+                The private part of a font ends with the first line whose last words are these three.\n\
+                \n\
+                What to do: write the three words at the end of one line. A source that was cut off lacks\n\
+                the line; so does a PFB or PFA file, which isn't a source until t1disasm has read it.\n",
+        },
+        Topic {
+            code: "F3",
+            meaning: "no CharStrings section",
+            text: "\t/CharStrings 1 array dup begin\n\
+                \n\
+                The glyphs follow a line of the private part that holds /CharStrings, a number and dict,\n\
+                one after another.\n\
+                \n\
+                What to do: write these three on one line, before the first glyph.\n",
+        },
+        Topic {
+            code: "F4",
+            meaning: "a second section of a kind, or sections in the wrong order",
+            text: "\t/CharStrings 1 dict dup begin\n\
+                \t/Subrs 0 array\n\
+                \n\
+                A font has at most one Subrs line and exactly one CharStrings line, in this order, and no\n\
+                line is both.\n\
+                \n\
+                What to do: put the Subrs first. Of a font with several sets of Subrs or of CharStrings,\n\
+                keep one set of each.\n",
+        },
+        Topic {
+            code: "F5",
+            meaning: "no encoding, or one of another kind",
+            text: "\t/Encoding ISOLatin1Encoding def\n\
+                \n\
+                One line of the clear part begins with /Encoding. It is '/Encoding StandardEncoding def',\n\
+                or the first line of an array, as '/Encoding 256 array', whose last line ends in def.\n\
+                \n\
+                What to do: write any other encoding as an array with a line 'dup CODE /NAME put' for\n\
+                each code.\n",
+        },
+        Topic {
+            code: "F6",
+            meaning: "a line of the encoding array isn't understood",
+            text: "\t/Encoding 256 array\n\
+                \tdup 65 /A put dup 66 /B put\n\
+                \treadonly def\n\
+                \n\
+                In an encoding array a line that begins with dup is 'dup CODE /NAME put' and nothing more.\n\
+                CODE is from 0 to 255, in decimal, or in octal after 8#.\n\
+                \n\
+                What to do: give each code a line of its own, and mend the code or the name.\n",
+        },
+        Topic {
+            code: "F7",
+            meaning: "an entry without its end",
+            text: "\t/space { 0 250 hsbw endchar ND\n\
+                \n\
+                The body of a Subr or glyph goes from { to the first }. It holds no other {, and ends\n\
+                before the line that ends the private part. The line that is reported is the first of the\n\
+                entry.\n\
+                \n\
+                What to do: look for the missing } after that line.\n",
+        },
+        Topic {
+            code: "F8",
+            meaning: "a bad name or number of an entry",
+            text: "\t/space;1 { 0 250 hsbw endchar } ND\n\
+                \n\
+                The name of a glyph has 1 to 127 bytes from ! to ~, and none of ( ) < > [ ] { } / % ;\n\
+                The number of a Subr is from 0 to 32000.\n\
+                \n\
+                What to do: rename the glyph, or renumber the Subr and the calls of it.\n",
+        },
+        Topic {
+            code: "F9",
+            meaning: "a Subr's number again",
+            text: "\t/Subrs 1 array\n\
+                \tdup 0 {return} NP\n\
+                \tdup 0 {return} NP\n\
+                \n\
+                Two Subrs have one number. The line that is reported is the first of the later one.\n\
+                \n\
+                What to do: take one of them out, or give it another number.\n",
+        },
+        Topic {
+            code: "F10",
+            meaning: "a glyph's name again",
+            text: "\t/space { 0 250 hsbw endchar } ND\n\
+                \t/space { 0 300 hsbw endchar } ND\n\
+                \n\
+                Two glyphs have one name. The line that is reported is the first of the later one.\n\
+                \n\
+                What to do: take one of them out, or give it another name.\n",
+        },
+        Topic {
+            code: "F11",
+            meaning: "lenIV isn't a number from 0 to 64",
+            text: "\t/lenIV -1 def\n\
+                \n\
+                lenIV says how many bytes stand in front of each charstring of the assembled font. -1,\n\
+                for charstrings that aren't encrypted, isn't supported.\n\
+                \n\
+                What to do: write '/lenIV 4 def', or take the line out. A source holds charstrings as\n\
+                words, so nothing else has to change.\n",
+        },
+    ],
+};
+
+const KERNING: Section = Section {
+    title: "Faults of reading a kerning file",
+    topics: &[
+        Topic {
+            code: "F12",
+            meaning: "a KPX line isn't understood",
+            text: "\tKPX A V -9.5\n\
+                \n\
+                A line that begins with KPX is 'KPX LEFT RIGHT N': two names of glyphs, and a whole number\n\
+                from -32000 to 32000.\n\
+                \n\
+                What to do: round values that aren't whole, and take out what follows the number.\n",
+        },
+        Topic {
+            code: "F13",
+            meaning: "a form of kerning that isn't supported",
+            text: "\tKPH <41> <56> 10 0\n\
+                \n\
+                Lines that begin with KP, KPH, KPY or StartKernPairs1 kern along y, by codes, or in another\n\
+                direction of writing. They aren't skipped, since the metrics would lack them.\n\
+                \n\
+                What to do: write the pairs as KPX lines, or take these lines out.\n",
+        },
+    ],
+};
+
+const BODIES: Section = Section {
+    title: "Faults of a body, and of the PFB file",
+    topics: &[
+        Topic {
+            code: "F20",
+            meaning: "an unknown word",
+            text: "\t/V { 15 722 hsbw 0 700 moveto endchar } ND\n\
+                \n\
+                A word of a body is a whole number, as 5 or -5, or a command of the Type 1 format.\n\
+                \n\
+                What to do: write the word as the format has it: rmoveto for moveto, 5 for +5, and 11 2 div\n\
+                for 5.5. Words stand between blanks: endchar% is read, endchar/x isn't.\n",
+        },
+        Topic {
+            code: "F21",
+            meaning: "a number that doesn't fit 32 bits",
+            text: "\t/V { 15 2147483648 hsbw endchar } ND\n\
+                \n\
+                A number of a charstring is from -2147483648 to 2147483647.\n\
+                \n\
+                What to do: mend the number. Most commands take no more than 32000.\n",
+        },
+        Topic {
+            code: "F22",
+            meaning: "a body of more than 65,535 words",
+            text: "\t/V { 15 722 hsbw\n\
+                \t0 hmoveto % 32766 times in a row\n\
+                \tendchar } ND\n\
+                \n\
+                A body has at most 65,535 words, as a string of PostScript has bytes.\n\
+                \n\
+                What to do: move parts that recur, or the second half, to Subrs.\n",
+        },
+        Topic {
+            code: "F23",
+            meaning: "a part of the PFB file of more than 2,147,483,647 bytes",
+            text: "The clear text, the private text and the trailer of the file are each at most so long,\n\
+                since a PFB file holds lengths in 32 bits. A section with a count of more than nine digits\n\
+                has this fault too.\n\
+                \n\
+                What to do: split the font.\n",
+        },
+    ],
+};
+
+const RUNS: Section = Section {
+    title: "Faults of running a glyph",
+    topics: &[
+        Topic {
+            code: "F30",
+            meaning: "too few operands",
+            text: "\t/V { 15 722 hsbw 5 rlineto endchar } ND\n\
+                \n\
+                A command has fewer values before it than it takes. Most commands use up all values, so\n\
+                none are left of the line before.\n\
+                \n\
+                What to do: give the command its values; here 5 0 rlineto, or 5 hlineto.\n",
+        },
+        Topic {
+            code: "F31",
+            meaning: "more than 24 values",
+            text: "\t/V { 1 2 3 4 5 6 7 8 9 10 11 12 13 14 15 16 17 18 19 20 21 22 23 24 25 hsbw endchar } ND\n\
+                \n\
+                The stack of operands holds 24 values.\n\
+                \n\
+                What to do: look for a command that is missing among the numbers.\n",
+        },
+        Topic {
+            code: "F32",
+            meaning: "no such Subr",
+            text: "\t/V { 15 722 hsbw 40 callsubr endchar } ND\n\
+                \n\
+                The glyph, or a Subr that it calls, calls a Subr that the font lacks, or a negative number.\n\
+                \n\
+                What to do: add the Subr, or mend the number before callsubr.\n",
+        },
+        Topic {
+            code: "F33",
+            meaning: "Subrs nested more than ten deep",
+            text: "\tdup 3 { 3 callsubr return } NP\n\
+                \t/V { 15 722 hsbw 3 callsubr endchar } ND\n\
+                \n\
+                While ten Subrs wait for their return, an eleventh is called; here Subr 3 calls itself.\n\
+                \n\
+                What to do: write one of the inner Subrs out where it is called.\n",
+        },
+        Topic {
+            code: "F34",
+            meaning: "return outside a Subr",
+            text: "\t/V { 15 722 hsbw return } ND\n\
+                \n\
+                Only a Subr returns.\n\
+                \n\
+                What to do: end the body of a glyph with endchar, or with seac.\n",
+        },
+        Topic {
+            code: "F35",
+            meaning: "no endchar",
+            text: "\t/V { 15 722 hsbw 10 hlineto closepath } ND\n\
+                \n\
+                The body of the glyph ended, and neither endchar nor seac had ended its run. The endchar\n\
+                may stand in a Subr that the glyph calls.\n\
+                \n\
+                What to do: put endchar at the end.\n",
+        },
+        Topic {
+            code: "F36",
+            meaning: "the side bearing is missing or set twice",
+            text: "\t/V { 0 700 rmoveto endchar } ND\n\
+                \n\
+                A glyph begins with hsbw or sbw, before it moves, draws or ends, and has one of them.\n\
+                \n\
+                What to do: begin the glyph with its side bearing and width, as 15 722 hsbw, and take out\n\
+                any other.\n",
+        },
+        Topic {
+            code: "F37",
+            meaning: "an operand or a quotient is too large",
+            text: "\t/V { 15 722 hsbw 40000 hmoveto endchar } ND\n\
+                \n\
+                Operands are from -32000 to 32000. Those of div may be larger, and its quotient is at most\n\
+                2147483648 in size.\n\
+                \n\
+                What to do: go a long way in several steps, or bring the glyph to a smaller grid.\n",
+        },
+        Topic {
+            code: "F38",
+            meaning: "division by zero",
+            text: "\t/V { 15 722 hsbw 1 0 div hmoveto endchar } ND\n\
+                \n\
+                What to do: mend the second of the two values before div.\n",
+        },
+        Topic {
+            code: "F39",
+            meaning: "a fraction is too fine",
+            text: "\t/V { 15 722 hsbw 1 2000000 div hmoveto endchar } ND\n\
+                \n\
+                Fractions are kept exactly, with denominators of at most 1,048,576, in a quotient and in\n\
+                each coordinate. Sums of different fractions get larger ones.\n\
+                \n\
+                What to do: use smaller denominators, and few different ones.\n",
+        },
+        Topic {
+            code: "F40",
+            meaning: "a coordinate is too large",
+            text: "\t/V { 15 722 hsbw\n\
+                \t32000 hmoveto % 33 times in a row\n\
+                \tendchar } ND\n\
+                \n\
+                A coordinate, or the move of an accent, is at most 1,048,576 in size.\n\
+                \n\
+                What to do: look for a move or a line with a wrong value.\n",
+        },
+        Topic {
+            code: "F41",
+            meaning: "a flex out of order",
+            text: "\t/V { 15 722 hsbw 1 callsubr 10 hlineto endchar } ND\n\
+                \n\
+                A flex is started (othersubr 1, usually by Subr 1), gets seven points by moves (othersubr 2,\n\
+                usually by Subr 2), and is ended (othersubr 0, usually by Subr 0). No line, curve, seac or\n\
+                endchar may come in between, nor a second start.\n\
+                \n\
+                What to do: complete the flex, or draw it as two curves.\n",
+        },
+        Topic {
+            code: "F42",
+            meaning: "an othersubr that isn't supported, or with another count of arguments",
+            text: "\t/V { 15 722 hsbw 0 14 callothersubr endchar } ND\n\
+                \n\
+                Supported are 0 with 3 arguments, 1 and 2 with none, 3 with 1, and 12 and 13 with 0 to 22.\n\
+                What others do depends on PostScript code in the font: 14 to 18 are those of multiple\n\
+                master fonts.\n\
+                \n\
+                What to do: mend the two numbers before callothersubr. Of a multiple master font, make an\n\
+                instance first.\n",
+        },
+        Topic {
+            code: "F43",
+            meaning: "pop without a value",
+            text: "\t/V { 15 722 hsbw pop endchar } ND\n\
+                \n\
+                pop takes what the last callothersubr left: 0 leaves two values, 3 leaves one, others none.\n\
+                \n\
+                What to do: take the pop out, or put the callothersubr before it.\n",
+        },
+        Topic {
+            code: "F44",
+            meaning: "a code of seac without a name",
+            text: "\t/V { 15 722 hsbw 0 0 0 1 32 seac } ND\n\
+                \n\
+                The last two values before seac are the codes of the base and the accent in\n\
+                StandardEncoding, whatever the font's own encoding is. 149 codes have a name there.\n\
+                \n\
+                What to do: use the codes of StandardEncoding, or draw both parts in place of seac.\n",
+        },
+        Topic {
+            code: "F45",
+            meaning: "a part of seac is missing",
+            text: "\t/V { 15 722 hsbw 0 0 0 66 194 seac } ND\n\
+                \n\
+                StandardEncoding names the base and the accent, here B and acute, and the font lacks one of\n\
+                them.\n\
+                \n\
+                What to do: add the missing glyph, or draw it in place of seac.\n",
+        },
+        Topic {
+            code: "F46",
+            meaning: "composites nested more than four deep",
+            text: "\t/V { 15 722 hsbw 0 0 0 86 194 seac } ND\n\
+                \n\
+                A part of a composite may be a composite, up to four levels of them; here V is a part of\n\
+                itself, without end.\n\
+                \n\
+                What to do: build the inner composite of simple glyphs.\n",
+        },
+        Topic {
+            code: "F47",
+            meaning: "too many steps",
+            text: "\tdup 3 {\n\
+                \t0 hmoveto % 30000 times in a row\n\
+                \treturn } NP\n\
+                \t/V { 15 722 hsbw 3 callsubr 3 callsubr endchar } ND\n\
+                \n\
+                A run of a glyph executes at most 100,000 numbers and commands, those in Subrs with it.\n\
+                Each part of a composite is a run of its own.\n\
+                \n\
+                What to do: look for Subrs that call Subrs many times, and simplify the outline.\n",
+        },
+        Topic {
+            code: "F48",
+            meaning: "a whole number is wanted",
+            text: "\t/V { 15 722 hsbw 1 2 div callsubr endchar } ND\n\
+                \n\
+                The number of a Subr, of an othersubr and of its arguments, and the codes of seac, are\n\
+                whole numbers.\n\
+                \n\
+                What to do: mend the div whose quotient is used there.\n",
+        },
+    ],
+};
+
+const RULES: Section = Section {
+    title: "Rules of a session's commands",
+    topics: &[
+        Topic {
+            code: "E1",
+            meaning: "replace or remove: no such glyph or Subr",
+            text: "\tremove glyph B\n\
+                \n\
+                What to do: mend the name or number, or use add. 'print source' shows what there is.\n",
+        },
+        Topic {
+            code: "E2",
+            meaning: "add: there already",
+            text: "\tadd glyph A\n\
+                \t0 250 hsbw endchar\n\
+                \t.\n\
+                \n\
+                What to do: use replace, or another name or number.\n",
+        },
+        Topic {
+            code: "E3",
+            meaning: "a bad name",
+            text: "\tremove glyph a;b\n\
+                \n\
+                A name has 1 to 127 bytes from ! to ~, and none of ( ) < > [ ] { } / % ; so it is written\n\
+                without the / of PostScript.\n\
+                \n\
+                What to do: mend the name.\n",
+        },
+        Topic {
+            code: "E4",
+            meaning: "not a number, or out of range",
+            text: "\tencode 256 A\n\
+                \n\
+                A number has an optional - and digits. Subrs are from 0 to 32000, codes from 0 to 255, and\n\
+                values of pairs from -32000 to 32000.\n\
+                \n\
+                What to do: mend the number.\n",
+        },
+        Topic {
+            code: "E5",
+            meaning: "the encoding is StandardEncoding",
+            text: "\tencode 65 A\n\
+                \n\
+                Only an encoding array can be edited.\n\
+                \n\
+                What to do: give the source an array in place of '/Encoding StandardEncoding def'.\n",
+        },
+        Topic {
+            code: "E6",
+            meaning: "{ or } in a body",
+            text: "\treplace glyph A\n\
+                \t10 600 hsbw endchar }\n\
+                \t.\n\
+                \n\
+                A body is given without its braces: the words alone, up to a line with a single dot.\n\
+                \n\
+                What to do: take the braces out. In a comment, after %, they do no harm.\n",
+        },
+        Topic {
+            code: "E7",
+            meaning: "the input ended inside a body",
+            text: "\treplace glyph A\n\
+                \t10 600 hsbw endchar\n\
+                \n\
+                What to do: end the body with a line that holds a single dot.\n",
+        },
+        Topic {
+            code: "E8",
+            meaning: "an unknown command, or a wrong number of words",
+            text: "\tprint everything\n\
+                \n\
+                What to do: see 't1edit session --help' for the commands and their words.\n",
+        },
+        Topic {
+            code: "E9",
+            meaning: "the font has no Subrs section",
+            text: "\tadd subr 0\n\
+                \treturn\n\
+                \t.\n\
+                \n\
+                What to do: give the source a Subrs line before its CharStrings line, as '/Subrs 1 array'.\n",
+        },
+        Topic {
+            code: "E10",
+            meaning: "no such pair or slot",
+            text: "\tunkern A V\n\
+                \n\
+                unkern names a pair that isn't kerned, or unencode a code that no line of the encoding array\n\
+                has.\n\
+                \n\
+                What to do: nothing, if it was to be gone. 'print kern' and 'print source' show what there is.\n",
+        },
+        Topic {
+            code: "E11",
+            meaning: "a batch is open already",
+            text: "\tbegin\n\
+                \tbegin\n\
+                \n\
+                What to do: end the batch with commit or abort before the next one.\n",
+        },
+        Topic {
+            code: "E12",
+            meaning: "no batch is open",
+            text: "\tcommit\n\
+                \n\
+                commit or abort comes without a begin, or the batch has ended: a commit ends it also where it is\n\
+                refused.\n\
+                \n\
+                What to do: begin a batch first.\n",
+        },
+    ],
+};
+
+const STATUSES: Section = Section {
+    title: "Exit statuses",
+    topics: &[
+        Topic {
+            code: "0",
+            meaning: "done",
+            text: "All was written. A session ends with 0 too where some of its commands were refused: its\n\
+                answers say so.\n",
+        },
+        Topic {
+            code: "1",
+            meaning: "the source or the kerning file has a fault",
+            text: "Standard error has the first fault, its code and its place, as 't1edit: F38 glyph Aacute',\n\
+                'F22 subr 7', 'F7 line 5' or 'F1'. Lines are counted from 1. Nothing was written.\n\
+                \n\
+                What to do: 't1edit explain CODE' says it.\n",
+        },
+        Topic {
+            code: "2",
+            meaning: "the command line isn't one of the program's",
+            text: "Nothing was read. Standard error says what is wrong.\n\
+                \n\
+                What to do: see 't1edit --help'.\n",
+        },
+        Topic {
+            code: "3",
+            meaning: "reading or writing failed",
+            text: "Standard error has 't1edit: read failed' or 't1edit: write failed'. What was written to\n\
+                standard output by then is a beginning of the whole; a file that -o names is as it was.\n\
+                \n\
+                What to do: see that the files are there and may be read, and that there is room to write.\n",
+        },
+        Topic {
+            code: "4",
+            meaning: "memory ran out",
+            text: "Standard error has 't1edit: out of memory'. A session may go on after 'refused memory', which\n\
+                answers a command for which there wasn't memory enough and which changed nothing.\n\
+                \n\
+                What to do: give the program more memory, or split the font.\n",
+        },
+    ],
+};
+
+/// All of them, in the order in which they are listed.
+pub const SECTIONS: [Section; 6] = [READING, KERNING, BODIES, RUNS, RULES, STATUSES];
+
+/// What assembling can answer.
+pub const OF_ASSEMBLING: [Section; 3] = [READING, BODIES, STATUSES];
+
+/// What measuring and checking can answer.
+pub const OF_MEASURING: [Section; 5] = [READING, KERNING, BODIES, RUNS, STATUSES];

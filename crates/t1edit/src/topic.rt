@@ -1,0 +1,130 @@
+//! The meaning of a code: how it is found, and how it is printed.
+ghost use Rattle.std.specs.Prelude.{◌≡◌, ◌++◌, option_map, string_bytes, IfOk, OnOk};
+ghost use Rattle.t1edit.specs.Topics.{topic_in, topic_of, line_text, section_text, other_sections_text, list_text, lines_text, whole_text as text_of, explanation as explanation_of};
+
+use std::alloc::{AllocError, Global};
+
+/// A code, a rule or a status, and its meaning.
+pub struct Topic {
+    pub code: &'static str,
+    /// What it means, in a few words.
+    pub meaning: &'static str,
+    /// Lines of a source, a kerning file or a session that cause it, where lines can, each after a tab; then what it
+    /// means at length, and what to do.
+    pub text: &'static str,
+}
+
+/// Topics of one kind.
+pub struct Section {
+    pub title: &'static str,
+    pub topics: &'static [Topic],
+}
+
+/// The first of the topics that has this code.
+fn find(topics: &'static [Topic], code: &str) -> Option<&'static Topic>
+    ensures { option_map (λ topic. topic.now) result ≡ topic_in topics.now code.now }
+{
+    for topic in topics {
+        if topic.code.as_bytes() == code.as_bytes() {
+            return Some(topic);
+        }
+    }
+    None
+}
+
+/// The first topic of the sections that has this code.
+fn find_in(sections: &[Section], code: &str) -> Option<&'static Topic>
+    ensures { option_map (λ topic. topic.now) result ≡ topic_of sections.now code.now }
+{
+    for section in sections {
+        if let Some(topic) = find(section.topics, code) {
+            return Some(topic);
+        }
+    }
+    None
+}
+
+/// Adds a topic's line: its code and its meaning in a few words.
+#[tactic(auto, unfolding(crate::specs::Topics::line_text))]
+fn push_line(text: &mut String, topic: &Topic) -> Result<(), AllocError>
+    ensures { OnOk result (string_bytes text.new ≡ string_bytes text.old ++ line_text topic.now) }
+{
+    text.push_str(topic.code)?;
+    text.push_str(": ")?;
+    text.push_str(topic.meaning)?;
+    text.push_str("\n")
+}
+
+/// Adds the lines of topics, indented.
+fn push_lines(text: &mut String, topics: &[Topic]) -> Result<(), AllocError>
+    ensures { OnOk result (string_bytes text.new ≡ string_bytes text.old ++ lines_text topics.now) }
+{
+    for topic in topics {
+        text.push_str("  ")?;
+        push_line(text, topic)?;
+    }
+    Ok(())
+}
+
+/// Adds a section's title, and the line of each of its topics.
+#[tactic(auto, unfolding(crate::specs::Topics::section_text))]
+fn push_section(text: &mut String, section: &Section) -> Result<(), AllocError>
+    ensures { OnOk result (string_bytes text.new ≡ string_bytes text.old ++ section_text section.now) }
+{
+    text.push_str(section.title)?;
+    text.push_str(":\n")?;
+    push_lines(text, section.topics)
+}
+
+/// Adds sections, each after an empty line.
+fn push_others(text: &mut String, sections: &[Section]) -> Result<(), AllocError>
+    ensures { OnOk result (string_bytes text.new ≡ string_bytes text.old ++ other_sections_text sections.now) }
+{
+    for section in sections {
+        text.push_str("\n")?;
+        push_section(text, section)?;
+    }
+    Ok(())
+}
+
+/// A list of all topics of the sections, each with its meaning in a few words.
+pub fn list(alloc: Global, sections: &[Section]) -> Result<String, AllocError>
+    ensures { IfOk result (λ text. string_bytes text ≡ list_text sections.now) }
+{
+    let mut text = String::new(alloc);
+    let Some((first, others)) = sections.split_first() else {
+        return Ok(text);
+    };
+    push_section(&mut text, first)?;
+    push_others(&mut text, others)?;
+    Ok(text)
+}
+
+/// All that is to be said of a topic.
+#[tactic(auto, unfolding(crate::specs::Topics::whole_text))]
+fn whole_text(alloc: Global, topic: &Topic) -> Result<String, AllocError>
+    ensures { IfOk result (λ text. string_bytes text ≡ text_of topic.now) }
+{
+    let mut text = String::new(alloc);
+    push_line(&mut text, topic)?;
+    text.push_str("\n")?;
+    text.push_str(topic.text)?;
+    Ok(text)
+}
+
+/// What is said of the code, or nothing where the sections don't have it; the list of all where no code is given.
+pub fn explanation(
+    alloc: Global,
+    sections: &[Section],
+    code: Option<&str>,
+) -> Result<Option<String>, AllocError>
+    ensures { IfOk result (λ text. option_map string_bytes text ≡ explanation_of sections.now (option_map (λ word. word.now) code.entry)) }
+{
+    let Some(code) = code else {
+        return Ok(Some(list(alloc, sections)?));
+    };
+    match find_in(sections, code) {
+        Some(topic) => Ok(Some(whole_text(alloc, topic)?)),
+        None => Ok(None),
+    }
+}

@@ -1,0 +1,38 @@
+#!/usr/bin/env python3
+"""Changes one glyph in a loop, by a session, and shows the metrics that move.
+
+usage: nudge.py SOURCE GLYPH BODY..
+
+Each BODY is given to the glyph in turn. What is refused is reported, and changes nothing; after the others, the lines of
+the AFM file that are new are shown.
+"""
+
+import os
+import sys
+
+from client import Refused, Session
+
+
+def metrics(font):
+    """The lines of the AFM file of the font as it stands."""
+    return font.print("afm").decode("latin-1").splitlines()
+
+
+def main(source, glyph, *bodies):
+    with Session(source, program=os.environ.get("T1EDIT", "t1edit")) as font:
+        before = metrics(font)
+        for body in bodies:
+            print(f"{glyph}: {body}")
+            try:
+                font.edit("replace", "glyph", glyph, body=body)
+            except Refused as refused:
+                print(f"    refused {refused}")
+                continue
+            now = metrics(font)
+            for line in now:
+                if line not in before:
+                    print(f"    {line}")
+            before = now
+
+
+main(*sys.argv[1:])
