@@ -14,7 +14,7 @@ use Rattle.t1_session.specs.AnswerTexts.{answer_text}
 use Rattle.t1_session.specs.Answers.{answers, answer_to}
 use Rattle.t1_session.specs.Machine.{machine}
 use Rattle.t1_session.specs.State.{State}
-use Rattle.t1_session.specs.Conversation.{Conversation, commands_from, input_after, is_unbroken, ends_line, Performs, Goes, IsQuiet, AnswersCommand, LineGoes, LineAnswered, EndsCommandLine, IsBodyLine, EndsLine, Answered, StopsForMemory, Feeds, Ends}
+use Rattle.t1_session.specs.Conversation.{Conversation, commands_from, input_after, is_unbroken, ends_line, Performs, Goes, IsQuiet, AnswersCommand, LineGoes, EndsCommandLine, IsBodyLine, EndsLine, Answered, StopsForMemory, Feeds, Ends}
 use Rattle.t1_session.proofs.LineLaws.{finished_lines-line, finished_lines-unbroken, finished_lines-last, last_line, unified-byte, unified-end, is_unbroken-push}
 
 -- a body that is open is no command before the input ends

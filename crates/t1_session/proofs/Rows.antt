@@ -46,17 +46,18 @@ unknown_at_end : commands_of true None (codes "add glyph A B" ∷ codes "endchar
 unfolding takes_body ends_body open_command
 unknown_at_end = refl
 
-afm_print : line_command (codes "print" ∷ codes "afm" ∷ []) ≡ commands.Print prints.Afm
+unknown_print : line_command (codes "print" ∷ codes "otf" ∷ []) ≡ commands.Broken E8
 unfolding line_command print_of
-afm_print = refl
+unknown_print = refl
 
-begin_alone : line_command (codes "begin" ∷ []) ≡ commands.Begin
+-- a command of one word, and the same with a further one
+begins : line_command (codes "begin" ∷ []) ≡ commands.Begin
 unfolding line_command
-begin_alone = refl
+begins = refl
 
-begin_with_more : line_command (codes "begin" ∷ codes "x" ∷ []) ≡ commands.Broken E8
+begins_with_more : line_command (codes "begin" ∷ codes "x" ∷ []) ≡ commands.Broken E8
 unfolding line_command
-begin_with_more = refl
+begins_with_more = refl
 
 -- a word that is no number word stands for a number past every range
 no_number : number_of (codes "-9.5") ≡ pos (2 ^ 63 - 1)

@@ -1,5 +1,5 @@
 -- The commands that the lines of a session spell.
-use Rattle.std.specs.Prelude.{unwrap_or, ℕ, ℤ, pos, negsuc, ◌-◌, ◌^◌, Bool, true, false, ◌&&◌, ◌||◌, nat_lt, if◌then◌else◌, List, [], ◌∷◌, ◌++◌, Option, Some, None, Result, Ok, Err, ◌≡◌, codes}
+use Rattle.std.specs.Prelude.{unwrap_or, ℕ, ℤ, pos, ◌-◌, ◌^◌, Bool, true, false, ◌&&◌, ◌||◌, if◌then◌else◌, List, [], ◌∷◌, ◌++◌, Option, Some, None, Result, Ok, Err, ◌≡◌, codes}
 use Rattle.std.specs.Str.{bytes_eq}
 use Rattle.t1_frac.specs.Words.{words}
 use Rattle.t1_text.specs.Lines.{unified}

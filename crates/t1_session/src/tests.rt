@@ -17,7 +17,24 @@ const METRICS: &[u8] =
     b"StartFontMetrics 4.1\nFontBBox 0 0 0 0\nEncodingScheme AdobeStandardEncoding\nStartCharMetrics 1\nC 32 ; WX 250 ; N space ; B 0 0 0 0 ;\nEndCharMetrics\nEndFontMetrics\n";
 
 /// Commands on it, and their answers.
-const TURNS: [(&[u8], &[u8]); 17] = [
+const TURNS: [(&[u8], &[u8]); 31] = [
+    (b"print kern\n", b"data 0\n\n"),
+    (
+        b"print afm\n",
+        b"data 162\nStartFontMetrics 4.1\nFontBBox 0 0 0 0\nEncodingScheme AdobeStandardEncoding\nStartCharMetrics 1\nC 32 ; WX 250 ; N space ; B 0 0 0 0 ;\nEndCharMetrics\nEndFontMetrics\n\n",
+    ),
+    (b"print uses\n", b"data 10\nU space ;\n\n"),
+    (b"commit\n", b"refused E12\n"),
+    (b"begin\n", b"ok\n"),
+    (b"begin\n", b"refused E11\n"),
+    (b"begin x\n", b"refused E8\n"),
+    (b"replace glyph space\n0 moveto\n.\n", b"ok\n"),
+    (b"print uses\n", b"data 10\nU space ;\n\n"),
+    (b"commit\n", b"refused F20 glyph space\n"),
+    (b"abort\n", b"refused E12\n"),
+    (b"begin\n", b"ok\n"),
+    (b"kern A V 5\n", b"ok\n"),
+    (b"abort\n", b"ok\n"),
     (b"print kern\n", b"data 0\n\n"),
     (b"frobnicate\n", b"refused E8\n"),
     (b"kern A V -92\n", b"ok\n"),
@@ -48,6 +65,9 @@ const TURNS: [(&[u8], &[u8]); 17] = [
     (b"unkern A V\n", b"ok\n"),
     (b"unkern A V\n", b"refused E10\n"),
 ];
+
+/// How many commands these are.
+const COMMANDS: u64 = 30;
 
 /// A reader that gives a text in pieces, and then ends or fails.
 #[derive(Drop)]
@@ -166,7 +186,7 @@ fn answers_in_pieces(rt: HostRuntime) -> Result<(), Fail> {
         serve(alloc, &font, b"", &mut reader, &mut writer)?;
         assert_eq!(rt; reader.failures(), 0);
         let writer = writer.into_inner();
-        assert_eq!(rt; writer.flushes, 16);
+        assert_eq!(rt; writer.flushes, COMMANDS);
         assert_eq!(rt; writer.taken.as_slice(), expected.as_slice());
     }
     Ok(())
@@ -180,8 +200,8 @@ fn writes_each_answer_at_once(rt: HostRuntime) -> Result<(), Fail> {
     let mut writer = Counted::new(Short::new(alloc, usize::MAX, usize::MAX, true));
     serve(alloc, &font(alloc)?, b"", &mut reader, &mut writer)?;
     let writer = writer.into_inner();
-    assert_eq!(rt; writer.writes, 16);
-    assert_eq!(rt; writer.flushes, 16);
+    assert_eq!(rt; writer.writes, COMMANDS);
+    assert_eq!(rt; writer.flushes, COMMANDS);
     Ok(())
 }
 
@@ -287,7 +307,7 @@ fn prints_the_pfb(rt: HostRuntime) -> Result<(), Fail> {
     assert!(rt; written.starts_with(b"data 694\n\x80\x01\x34\x00\x00\x00%!\n"));
     let written = answered(
         alloc,
-        b"replace glyph space\n0 1132 hsbw endchar\n.\nprint pfb\nreplace glyph space\n0 moveto\n.\nprint pfb\nprint afm\n",
+        b"replace glyph space\n0 1132 hsbw endchar\n.\nprint pfb\nreplace glyph space\n0 moveto\n.\nprint pfb\nprint otf\n",
     )?;
     assert_eq!(rt; written.len(), 3 + 9 + 698 + 1 + 24 + 9 + 698 + 1 + 11);
     assert!(rt; written.starts_with(b"ok\ndata 698\n"));
