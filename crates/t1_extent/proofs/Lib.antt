@@ -1,0 +1,17 @@
+pub mod Canonical
+pub mod Order
+pub mod Flags
+pub mod Folding
+pub mod Shifting
+pub mod Moving
+pub mod Checking
+pub mod Summaries
+pub mod Exacts
+pub mod Sums
+pub mod Slices
+pub mod Curves
+pub mod Ends
+pub mod Nested
+pub mod BoxLaws
+pub mod Limited
+pub mod Accents

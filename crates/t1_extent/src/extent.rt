@@ -1,0 +1,92 @@
+//! How far an outline reaches.
+
+ghost use Rattle.std.specs.Prelude.{◌≡◌, ◌≤◌, ◌*◌, ◌^◌, IfOk, MatchResult, Some, Ok, Err, false};
+ghost use Rattle.t1_extent.specs.Extremes.{reaching as reaching_of, rounded as rounded_of, shifted_by, limit_check, move_check};
+ghost use Rattle.t1_extent.specs.Exacts.{value_of, extremes_of};
+ghost use Rattle.t1_frac.specs.Fraction.{floor_of, ceiling_of};
+ghost use Rattle.t1_frac.specs.Limits.{exceeds};
+
+use crate::exact::Exact;
+use t1_afm::BBox;
+use t1_frac::Code;
+use t1_run::Point;
+
+/// The exact extremes of points.
+#[derive(Clone, Copy, Debug)]
+pub struct Extent {
+    pub left: Exact,
+    pub bottom: Exact,
+    pub right: Exact,
+    pub top: Exact,
+}
+
+/// A side within the limits, rounded down.
+#[tactic(auto, using(crate::proofs::Limited::floor_limited))]
+fn rounded_down(side: &Exact) -> i32
+    requires { exceeds (2 ^ 20) (value_of side.now) ≡ false }
+    ensures { result ≡ floor_of (value_of side.now) }
+{
+    side.floor() as i32
+}
+
+/// A side within the limits, rounded up.
+#[tactic(auto, using(crate::proofs::Limited::ceiling_limited))]
+fn rounded_up(side: &Exact) -> i32
+    requires { exceeds (2 ^ 20) (value_of side.now) ≡ false }
+    ensures { result ≡ ceiling_of (value_of side.now) }
+{
+    side.ceil() as i32
+}
+
+impl Extent {
+    /// The extremes of both.
+    pub fn reaching(&self, other: &Extent) -> Extent
+        ensures { extremes_of result ≡ reaching_of (extremes_of self.now) (extremes_of other.now) }
+    {
+        Extent {
+            left: self.left.lesser(&other.left),
+            bottom: self.bottom.lesser(&other.bottom),
+            right: self.right.greater(&other.right),
+            top: self.top.greater(&other.top),
+        }
+    }
+
+    /// The box around the extremes, rounded outward. They are within the limits of coordinates.
+    #[tactic(auto, using(crate::proofs::Limited::four_sides))]
+    pub fn rounded(&self) -> BBox
+        requires { limit_check (Some (extremes_of self.now)) ≡ Ok tt }
+        ensures { result ≡ rounded_of (extremes_of self.now) }
+    {
+        BBox {
+            left: rounded_down(&self.left),
+            bottom: rounded_down(&self.bottom),
+            right: rounded_up(&self.right),
+            top: rounded_up(&self.top),
+        }
+    }
+
+    /// The extremes, moved, or F40 where one of them is past 1,048,576.
+    #[tactic(auto, using(crate::proofs::Exacts::none_out))]
+    pub fn shifted(&self, by: &Point) -> Result<Extent, Code>
+        requires left { self.now.left.den * by.now.x.den ≤ 2 ^ 38 }
+        requires bottom { self.now.bottom.den * by.now.y.den ≤ 2 ^ 38 }
+        requires right { self.now.right.den * by.now.x.den ≤ 2 ^ 38 }
+        requires top { self.now.top.den * by.now.y.den ≤ 2 ^ 38 }
+        ensures outcome { MatchResult
+            result
+            (λ _. move_check by.now (Some (extremes_of self.now)) ≡ Ok tt)
+            (λ code. move_check by.now (Some (extremes_of self.now)) ≡ Err code) }
+        ensures value { IfOk result (λ e. extremes_of e ≡ shifted_by by.now (extremes_of self.now)) }
+    {
+        let left = self.left.shifted(&by.x)?;
+        let bottom = self.bottom.shifted(&by.y)?;
+        let right = self.right.shifted(&by.x)?;
+        let top = self.top.shifted(&by.y)?;
+        Ok(Extent {
+            left,
+            bottom,
+            right,
+            top,
+        })
+    }
+}
