@@ -1,9 +1,9 @@
 -- Fractions that aren't in lowest terms, compared and rounded.
-use Rattle.std.proofs.Common.{◌≡◌, ℕ, ◌+◌, ◌*◌, ◌<◌, ◌≤◌, ◌^◌, ℤ, pos, negsuc, ◌*ℤ◌, Bool, true, false, arith, refl, sym, ◌∙◌, ap, mul-pos}
-use Rattle.std.specs.Prelude.{◌||◌, if◌then◌else◌, MatchResult, IfOk, Result, Ok, Err, Some}
+use Rattle.std.proofs.Common.{◌≡◌, ℕ, ◌+◌, ◌*◌, ◌<◌, ◌≤◌, ◌^◌, ◌⊎◌, inl, inr, ℤ, pos, negsuc, ◌*ℤ◌, Bool, true, false, arith, refl, sym, ◌∙◌, ap, mul-pos}
+use Rattle.std.specs.Prelude.{◌||◌, if◌then◌else◌, MatchResult, IfOk, Result, Ok, Err, Option, Some, None}
 use Rattle.std.specs.Int.{int_div_euclid}
 use Rattle.std.specs.Int.RustNames.{unsigned_abs, int_lt}
-use Rattle.std.proofs.Math.Nat.{div-le_self, mul-le-mul_right, mul-lt-mul_of_pos_right}
+use Rattle.std.proofs.Math.Nat.{div-le_self, mul-le-mul, mul-le-mul_right, mul-lt-mul_of_pos_right}
 use Rattle.std.proofs.lemmas.Int.{ints}
 use borrow.Author.Differences.{up, down, product_is, lt-true, lt-false}
 use mir.Syntax.{w128}
@@ -19,10 +19,10 @@ use Rattle.t1_run.specs.declared.outline.Point.{Point}
 use Rattle.t1_extent.specs.Exacts.{raw, value_of}
 use Rattle.t1_frac.proofs.Exact.{lowest_same}
 use Rattle.t1_frac.proofs.Rounded.{round_alike}
-use Rattle.t1_extent.specs.Extremes.{Extremes, is_less, shifted, shift_checked, move_check}
+use Rattle.t1_extent.specs.Extremes.{Extremes, is_less, lesser, greater, reaching, unite, shifted, shift_checked, limit_check, move_check}
 use Rattle.t1_extent.proofs.Canonical.{lowest_above}
 use Rattle.t1_extent.proofs.Order.{IsUnder, under_trans, under_from_same, less_false}
-use Rattle.t1_extent.proofs.Checking.{is_below, is_above, below_under, above_under, exceeds_is}
+use Rattle.t1_extent.proofs.Checking.{is_below, is_above, check, below_under, above_under, exceeds_is}
 use Rattle.t1_extent.proofs.Shifting.{shifted_lowest}
 
 -- a is less than b
@@ -83,11 +83,11 @@ ceiling_value a h = (round_alike (lowest a) a (lowest_above a h) h (lowest_same 
 
 -- ---- rounding in 64 bits
 
-euclid_small : (z : ℤ) (d : ℕ) → unsigned_abs z ≤ 2 ^ 58 → unsigned_abs (int_div_euclid z (pos d)) ≤ 2 ^ 59
+euclid_small : (z : ℤ) (d : ℕ) → unsigned_abs z ≤ 2 ^ 60 → unsigned_abs (int_div_euclid z (pos d)) ≤ 2 ^ 61
 euclid_small (pos n) d h = omega (arith, div-le_self n d, h)
 euclid_small (negsuc n) d h = omega (arith, div-le_self n d, h)
 
-pub floor_small : (z : ℤ) (d : ℕ) → unsigned_abs z ≤ 2 ^ 58 → unsigned_abs (int_div_euclid z (pos d)) ≤ 2 ^ 59
+pub floor_small : (z : ℤ) (d : ℕ) → unsigned_abs z ≤ 2 ^ 60 → unsigned_abs (int_div_euclid z (pos d)) ≤ 2 ^ 61
 floor_small z d h = euclid_small z d h
 
 -- ---- limits
@@ -140,7 +140,7 @@ read_wide x h = omega (arith, ints, h)
 pub distance_den : (u bd : ℕ) (d : ℤ) → u ≡ unsigned_abs (read d) → d ≡ pos bd → bd ≤ 2 ^ 20 → u ≡ bd
 distance_den u bd d e f h = e ∙ ap unsigned_abs (ap read f ∙ read_small (pos bd) (omega (arith, h)))
 
-pub left_term : (x num : ℤ) (u bd : ℕ) → x ≡ read num *ℤ pos u → unsigned_abs num ≤ 2 ^ 58 → u ≡ bd → x ≡ num *ℤ pos bd
+pub left_term : (x num : ℤ) (u bd : ℕ) → x ≡ read num *ℤ pos u → unsigned_abs num ≤ 2 ^ 60 → u ≡ bd → x ≡ num *ℤ pos bd
 left_term x num u bd e h f = e ∙ ap (λ n. n *ℤ pos u) (read_small num (omega (arith, h))) ∙ ap (λ k. num *ℤ pos k) f
 
 pub right_term : (x n num : ℤ) (d : ℕ) → x ≡ read n *ℤ pos d → mag n < 2 ^ 63 → n ≡ num → x ≡ num *ℤ pos d
@@ -155,6 +155,10 @@ pub shifted_value : (r : Result Exact Code) (a : Exact) (d p : Fraction) → 0 <
     → IfOk r (λ e. value_of e ≡ shifted d (value_of a))
 shifted_value (Ok e) a d p ha hd is h = ap lowest (h.0 ∙ is) ∙ sym (shifted_lowest d (raw a) hd ha)
 shifted_value (Err c) a d p ha hd is h = tt
+
+pub product_small : (a b : ℕ) → (a ≤ 2 ^ 20) ⊎ (b ≡ 1) → a ≤ 2 ^ 40 → b ≤ 2 ^ 20 → a * b ≤ 2 ^ 40
+product_small a b (inl fine) h k = let x : a * b ≤ 2 ^ 20 * 2 ^ 20 = mul-le-mul fine k in omega (arith, x)
+product_small a b (inr one) h k = rw one (omega (arith, h))
 
 -- ---- four sides
 
@@ -229,3 +233,48 @@ top_out by e c h =
 pub none_out : (by : Point) (e : Extremes) (l b r t : Fraction) → shift_checked by.x e.left ≡ Ok l → shift_checked by.y e.bottom ≡ Ok b → shift_checked by.x e.right ≡ Ok r
     → shift_checked by.y e.top ≡ Ok t → move_check by (Some e) ≡ Ok tt
 none_out by e l b r t hl hb hr ht = rw (inside_is by.x e.left l hl, inside_is by.x e.right r hr, inside_is by.y e.bottom b hb, inside_is by.y e.top t ht) refl
+
+pub shifted_fine : (r : Result Exact Code) (a : Exact) (d p : Fraction) → p ≡ plus (raw a) d
+    → MatchResult r (λ e. (raw e ≡ p) × (exceeds (2 ^ 20) p ≡ false)) (λ c. (c ≡ F40) × (exceeds (2 ^ 20) p ≡ true))
+    → IfOk r (λ e. e.den ≡ a.den * d.den)
+shifted_fine (Ok e) a d p is h = ap (λ (f : Fraction). f.den) (h.0 ∙ is)
+shifted_fine (Err c) a d p is h = tt
+
+-- ---- the limit of two in one
+
+lesser_inside : (a b : Fraction) → exceeds (2 ^ 20) a ≡ false → exceeds (2 ^ 20) b ≡ false → exceeds (2 ^ 20) (lesser a b) ≡ false
+lesser_inside a b h k = by (is_less b a)
+  where
+    by : (t : Bool) → exceeds (2 ^ 20) (if t then b else a) ≡ false
+    by true = k
+    by false = h
+
+greater_inside : (a b : Fraction) → exceeds (2 ^ 20) a ≡ false → exceeds (2 ^ 20) b ≡ false → exceeds (2 ^ 20) (greater a b) ≡ false
+greater_inside a b h k = by (is_less a b)
+  where
+    by : (t : Bool) → exceeds (2 ^ 20) (if t then b else a) ≡ false
+    by true = k
+    by false = h
+
+-- the four sides that the limit lets through
+pub four_sides : (e : Extremes) → limit_check (Some e) ≡ Ok tt
+    → (exceeds (2 ^ 20) e.left ≡ false) × (exceeds (2 ^ 20) e.bottom ≡ false) × (exceeds (2 ^ 20) e.right ≡ false) × (exceeds (2 ^ 20) e.top ≡ false)
+four_sides e h = by (exceeds (2 ^ 20) e.left) (exceeds (2 ^ 20) e.right) (exceeds (2 ^ 20) e.bottom) (exceeds (2 ^ 20) e.top) h
+  where
+    by : (l r b t : Bool) → check ((l || r) || (b || t)) ≡ Ok tt → (l ≡ false) × (b ≡ false) × (r ≡ false) × (t ≡ false)
+    by false false false false h = (refl, refl, refl, refl)
+    by true r b t h = absurd (cc)
+    by false true b t h = absurd (cc)
+    by false false true t h = absurd (cc)
+    by false false false true h = absurd (cc)
+
+pub reaching_inside : (d e : Extremes) → limit_check (Some d) ≡ Ok tt → limit_check (Some e) ≡ Ok tt → limit_check (Some (reaching d e)) ≡ Ok tt
+reaching_inside d e h k =
+    let x = four_sides d h in
+    let y = four_sides e k in
+    rw (lesser_inside d.left e.left x.0 y.0, greater_inside d.right e.right x.2 y.2, lesser_inside d.bottom e.bottom x.1 y.1, greater_inside d.top e.top x.3 y.3) refl
+
+pub unite_inside : (d e : Option Extremes) → limit_check d ≡ Ok tt → limit_check e ≡ Ok tt → limit_check (unite d e) ≡ Ok tt
+unite_inside None e h k = k
+unite_inside (Some d) None h k = h
+unite_inside (Some d) (Some e) h k = reaching_inside d e h k

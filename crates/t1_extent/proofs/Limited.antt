@@ -127,15 +127,3 @@ pub ceiling_limited : (a : Fraction) → 0 < a.den → exceeds (2 ^ 20) (lowest 
 ceiling_limited a above e =
     let k = floor_small (negated (lowest a)) (negated_in_range (lowest a) (tested (lowest a) (lowest_above a above) e)) in
     omega (arith, ints, k)
-
--- the four sides that the limit lets through
-pub four_sides : (e : Extremes) → limit_check (Some e) ≡ Ok tt
-    → (exceeds (2 ^ 20) e.left ≡ false) × (exceeds (2 ^ 20) e.bottom ≡ false) × (exceeds (2 ^ 20) e.right ≡ false) × (exceeds (2 ^ 20) e.top ≡ false)
-four_sides e h = by (exceeds (2 ^ 20) e.left) (exceeds (2 ^ 20) e.right) (exceeds (2 ^ 20) e.bottom) (exceeds (2 ^ 20) e.top) h
-  where
-    by : (l r b t : Bool) → check ((l || r) || (b || t)) ≡ Ok tt → (l ≡ false) × (b ≡ false) × (r ≡ false) × (t ≡ false)
-    by false false false false h = (refl, refl, refl, refl)
-    by true r b t h = absurd (cc)
-    by false true b t h = absurd (cc)
-    by false false true t h = absurd (cc)
-    by false false false true h = absurd (cc)

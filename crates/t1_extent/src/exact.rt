@@ -11,21 +11,21 @@ pub struct Exact {
     num: i64,
     den: u64,
     ghost above: { 0 < den },
-    ghost fine: { den ≤ 2 ^ 38 },
-    ghost size: { unsigned_abs num ≤ 2 ^ 58 },
+    ghost fine: { den ≤ 2 ^ 40 },
+    ghost size: { unsigned_abs num ≤ 2 ^ 60 },
 }
 
 /// A numerator over a denominator's multiple.
 fn scaled(num: i64, den: u64) -> i128
-    requires { den ≤ 2 ^ 38 }
+    requires { den ≤ 2 ^ 40 }
     ensures value { result ≡ num *ℤ pos den }
-    ensures size { unsigned_abs result ≤ 2 ^ 102 }
+    ensures size { unsigned_abs result ≤ 2 ^ 104 }
 {
     i128::from(num) * i128::from(den)
 }
 
 impl Exact {
-    ghost use Rattle.std.specs.Prelude.{◌*◌, true, false, MatchResult, IfOk, Ok, Err};
+    ghost use Rattle.std.specs.Prelude.{ℕ, ◌*◌, ◌⊎◌, true, false, MatchResult, IfOk, Ok, Err};
     ghost use Rattle.t1_frac.specs.Fraction.{whole as whole_of, plus, negated as negated_of, floor_of, ceiling_of};
     ghost use Rattle.t1_frac.specs.Limits.{exceeds, IsCoordinate};
     ghost use Rattle.t1_frac.specs.declared.fault.Code.TheVariants.{F40};
@@ -46,7 +46,8 @@ impl Exact {
     /// A coordinate.
     pub fn of(a: &Frac) -> Exact
         requires { IsCoordinate a.now }
-        ensures { raw result ≡ a.now }
+        ensures value { raw result ≡ a.now }
+        ensures fine { result.den ≤ 2 ^ 20 }
     {
         Exact {
             num: a.num(),
@@ -57,7 +58,8 @@ impl Exact {
     /// A sum over 64^3.
     pub fn over_cube(sum: i64) -> Exact
         requires { unsigned_abs sum ≤ 2 ^ 38 }
-        ensures { raw result ≡ cube_of sum }
+        ensures value { raw result ≡ cube_of sum }
+        ensures fine { result.den ≤ 2 ^ 20 }
     {
         Exact {
             num: sum,
@@ -85,14 +87,16 @@ impl Exact {
 
     /// The lesser of two.
     pub fn lesser(&self, other: &Exact) -> Exact
-        ensures { value_of result ≡ lesser_of (value_of self.now) (value_of other.now) }
+        ensures value { value_of result ≡ lesser_of (value_of self.now) (value_of other.now) }
+        ensures fine { (n : ℕ) → self.now.den ≤ n → other.now.den ≤ n → result.den ≤ n }
     {
         if other.is_less(self) { *other } else { *self }
     }
 
     /// The greater of two.
     pub fn greater(&self, other: &Exact) -> Exact
-        ensures { value_of result ≡ greater_of (value_of self.now) (value_of other.now) }
+        ensures value { value_of result ≡ greater_of (value_of self.now) (value_of other.now) }
+        ensures fine { (n : ℕ) → self.now.den ≤ n → other.now.den ≤ n → result.den ≤ n }
     {
         if self.is_less(other) { *other } else { *self }
     }
@@ -101,7 +105,7 @@ impl Exact {
     #[tactic(auto, using(crate::proofs::Exacts::floor_small))]
     fn floor_wide(&self) -> i128
         ensures value { result ≡ floor_of (raw self.now) }
-        ensures size { unsigned_abs result ≤ 2 ^ 59 }
+        ensures size { unsigned_abs result ≤ 2 ^ 61 }
     {
         i128::from(self.num).div_euclid(i128::from(self.den))
     }
@@ -136,7 +140,7 @@ impl Exact {
     /// A numerator over a denominator, or F40 past 1,048,576 in size.
     fn limited(num: i128, den: u64) -> Result<Exact, Code>
         requires above { 0 < den }
-        requires fine { den ≤ 2 ^ 38 }
+        requires fine { den ≤ 2 ^ 40 }
         ensures { MatchResult
             result
             (λ e. (raw e ≡ record { num = num; den = den }) × (exceeds (2 ^ 20) (record { num = num; den = den }) ≡ false))
@@ -161,13 +165,15 @@ impl Exact {
     }
 
     /// It, moved, or F40 past 1,048,576 in size.
+    #[tactic(auto, using(crate::proofs::Exacts::product_small))]
     pub fn shifted(&self, by: &Frac) -> Result<Exact, Code>
-        requires { self.now.den * by.now.den ≤ 2 ^ 38 }
+        requires { (self.now.den ≤ 2 ^ 20) ⊎ (by.now.den ≡ 1) }
         ensures outcome { MatchResult
             result
             (λ e. shift_checked by.now (value_of self.now) ≡ Ok (value_of e))
             (λ c. shift_checked by.now (value_of self.now) ≡ Err c) }
         ensures value { IfOk result (λ e. value_of e ≡ shifted_of by.now (value_of self.now)) }
+        ensures fine { IfOk result (λ e. e.den ≡ self.now.den * by.now.den) }
     {
         let num = self.moved_num(by);
         let den = self.den * by.den().unsigned_abs();

@@ -1,8 +1,8 @@
 //! How far an outline reaches.
 
-ghost use Rattle.std.specs.Prelude.{◌≡◌, ◌≤◌, ◌*◌, ◌^◌, IfOk, MatchResult, Some, Ok, Err, false};
-ghost use Rattle.t1_extent.specs.Extremes.{reaching as reaching_of, rounded as rounded_of, shifted_by, limit_check, move_check};
-ghost use Rattle.t1_extent.specs.Exacts.{value_of, extremes_of};
+ghost use Rattle.std.specs.Prelude.{◌≡◌, ℕ, ◌≤◌, ◌⊎◌, ◌^◌, IfOk, MatchResult, Some, Ok, Err, false};
+ghost use Rattle.t1_extent.specs.Extremes.{reaching as reaching_of, rounded as rounded_of, shifted_by, limit_check, move_check, IsWhole};
+ghost use Rattle.t1_extent.specs.Exacts.{value_of, extremes_of, AreFine};
 ghost use Rattle.t1_frac.specs.Fraction.{floor_of, ceiling_of};
 ghost use Rattle.t1_frac.specs.Limits.{exceeds};
 
@@ -41,7 +41,8 @@ fn rounded_up(side: &Exact) -> i32
 impl Extent {
     /// The extremes of both.
     pub fn reaching(&self, other: &Extent) -> Extent
-        ensures { extremes_of result ≡ reaching_of (extremes_of self.now) (extremes_of other.now) }
+        ensures value { extremes_of result ≡ reaching_of (extremes_of self.now) (extremes_of other.now) }
+        ensures fine { (n : ℕ) → AreFine n self.now → AreFine n other.now → AreFine n result }
     {
         Extent {
             left: self.left.lesser(&other.left),
@@ -52,7 +53,7 @@ impl Extent {
     }
 
     /// The box around the extremes, rounded outward. They are within the limits of coordinates.
-    #[tactic(auto, using(crate::proofs::Limited::four_sides))]
+    #[tactic(auto, using(crate::proofs::Exacts::four_sides))]
     pub fn rounded(&self) -> BBox
         requires { limit_check (Some (extremes_of self.now)) ≡ Ok tt }
         ensures { result ≡ rounded_of (extremes_of self.now) }
@@ -65,18 +66,18 @@ impl Extent {
         }
     }
 
-    /// The extremes, moved, or F40 where one of them is past 1,048,576.
+    /// The extremes, moved, or F40 where one of them is past 1,048,576. Their denominators are at most 1,048,576, as
+    /// those of an outline's own extremes, or the distance is whole.
     #[tactic(auto, using(crate::proofs::Exacts::none_out))]
     pub fn shifted(&self, by: &Point) -> Result<Extent, Code>
-        requires left { self.now.left.den * by.now.x.den ≤ 2 ^ 38 }
-        requires bottom { self.now.bottom.den * by.now.y.den ≤ 2 ^ 38 }
-        requires right { self.now.right.den * by.now.x.den ≤ 2 ^ 38 }
-        requires top { self.now.top.den * by.now.y.den ≤ 2 ^ 38 }
+        requires { AreFine (2 ^ 20) self.now ⊎ IsWhole by.now }
         ensures outcome { MatchResult
             result
             (λ _. move_check by.now (Some (extremes_of self.now)) ≡ Ok tt)
             (λ code. move_check by.now (Some (extremes_of self.now)) ≡ Err code) }
         ensures value { IfOk result (λ e. extremes_of e ≡ shifted_by by.now (extremes_of self.now)) }
+        ensures within { IfOk result (λ e. limit_check (Some (extremes_of e)) ≡ Ok tt) }
+        ensures fine { IfOk result (λ e. (n : ℕ) → IsWhole by.now → AreFine n self.now → AreFine n e) }
     {
         let left = self.left.shifted(&by.x)?;
         let bottom = self.bottom.shifted(&by.y)?;

@@ -17,3 +17,6 @@ pub use exact::Exact;
 pub use extent::Extent;
 pub use reach::{Reach, cubic_reach};
 pub use wholes::{is_whole, is_whole_outline};
+
+#[cfg(test)]
+mod tests;

@@ -1,4 +1,4 @@
-use Rattle.t1_extent.proofs.Exacts.{distance_den, terms_are, shifted_from, shifted_value}
+use Rattle.t1_extent.proofs.Exacts.{distance_den, terms_are, shifted_from, shifted_value, shifted_fine}
 use Rattle.t1_extent.proofs.exact.Exact.shifted.Goals as goal
 
 pub returns : goal.returns
@@ -8,4 +8,5 @@ returns c =
     record {
       outcome = shifted_from c.limited.result c.args.self.now c.args.by.now _ c.args.self.now.above c.den.ensures.above terms c.limited.ensures;
       value = shifted_value c.limited.result c.args.self.now c.args.by.now _ c.args.self.now.above c.den.ensures.above terms c.limited.ensures;
+      fine = shifted_fine c.limited.result c.args.self.now c.args.by.now _ terms c.limited.ensures;
     }
