@@ -15,3 +15,4 @@ pub mod Nested
 pub mod BoxLaws
 pub mod Limited
 pub mod Accents
+pub mod Reducing

@@ -8,6 +8,7 @@ mod exact;
 mod extent;
 pub mod laws;
 mod reach;
+mod reduced;
 mod wholes;
 
 pub use boxes::moved_box;
@@ -16,6 +17,7 @@ pub use drawn::drawn_extent;
 pub use exact::Exact;
 pub use extent::Extent;
 pub use reach::{Reach, cubic_reach};
+pub use reduced::{Drawn, Reduced};
 pub use wholes::{is_whole, is_whole_outline};
 
 #[cfg(test)]
