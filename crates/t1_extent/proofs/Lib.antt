@@ -16,3 +16,4 @@ pub mod BoxLaws
 pub mod Limited
 pub mod Accents
 pub mod Reducing
+pub mod Runs

@@ -1,5 +1,5 @@
 -- What laws say of extremes.
-use Rattle.std.specs.Prelude.{◌≡◌, ℕ, zero, suc, ◌<◌, ◌≤◌, ◌^◌, ◌&&◌, List, ◌++◌, Option, Some, None, option_map, Result, Ok, Err, IfOk}
+use Rattle.std.specs.Prelude.{◌≡◌, ℕ, zero, suc, ◌<◌, ◌≤◌, ◌^◌, ◌&&◌, List, ◌++◌, Option, Some, None, option_map, Result, Ok, Err, IfOk, IfSome}
 use Rattle.std.specs.List.{AllByRecursion}
 use Rattle.t1_frac.specs.declared.fault.Code.{Code}
 use Rattle.t1_frac.specs.declared.fault.Code.TheVariants.{F45, F46}
@@ -8,7 +8,7 @@ use Rattle.t1_run.specs.declared.outline.Composite.{Composite}
 use Rattle.t1_run.specs.declared.outline.Point.{Point}
 use Rattle.t1_run.specs.declared.outline.Segment.{Segment}
 use Rattle.t1_run.specs.Composite.{accent_move, moved_outline, joined_by, outline_within, IsWithin}
-use Rattle.t1_run.specs.Run.{Drawing}
+use Rattle.t1_run.specs.Run.{FontBodies, Drawing, own}
 use Rattle.t1_afm.specs.Box.{outline_box, drawn_box}
 use Rattle.t1_afm.specs.Points.{points}
 use Rattle.t1_extent.specs.Extremes.{Extremes, corners, extremes, unite, rounded, boxed, shifted_by, limit_check, move_check, moved_box, IsWhole, MovesEasily, IsWholeSegment, is_whole_outline}
@@ -97,6 +97,12 @@ pub record IsAccented (c : Composite) : Type 0 where
 -- how far an accent is moved is a fraction of a run along each axis
 abbrev pub AccentLaw : Type 0
 AccentLaw = (bearing : Point) (c : Composite) → 0 < bearing.x.den → IsAccented c → IfOk (accent_move bearing c) IsDistance
+
+-- what a glyph's own body draws is within the limits, and so is the distance of its accent
+abbrev pub RunsLaw : Type 0
+RunsLaw =
+    (m : FontBodies) (g : List ℕ) (d : Drawing) → own m g ≡ Some (Ok d)
+    → AreWithin d.segments × IfSome d.composite (λ c. IfOk (accent_move d.bearing c) IsDistance)
 
 -- profile: the summary of a composite from those of its own segments, its base and its accent, or its first fault
 abbrev pub joined_summary : Composite → Point → Summary → Summary → Summary → Result Summary Code

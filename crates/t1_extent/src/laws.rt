@@ -1,6 +1,6 @@
 //! Laws of extremes.
 
-ghost use Rattle.t1_extent.specs.Laws.{AccentLaw, BoxLaw, BoxMovesLaw, BothLaw, CheckLaw, DrawnBoxLaw, DrawnMovesLaw, JoinedLaw, LimitsLaw, MovedLaw, WholeOfBothLaw, WholeStaysLaw, WithinLaw};
+ghost use Rattle.t1_extent.specs.Laws.{AccentLaw, BoxLaw, BoxMovesLaw, BothLaw, CheckLaw, DrawnBoxLaw, DrawnMovesLaw, JoinedLaw, LimitsLaw, MovedLaw, RunsLaw, WholeOfBothLaw, WholeStaysLaw, WithinLaw};
 
 /// An outline's box is that of its extremes, rounded outward.
 #[tactic(auto, using(crate::proofs::Summaries::box_law))]
@@ -79,4 +79,9 @@ pub fn whole_stays()
 #[tactic(auto, using(crate::proofs::Accents::accent_law))]
 pub fn accent_distance()
     ensures { AccentLaw }
+{}
+
+/// What a glyph's own body draws is within the limits, and so is the distance by which it moves its accent.
+pub fn runs_are_within()
+    ensures { RunsLaw }
 {}

@@ -39,27 +39,27 @@ fn sides(bbox: &BBox) -> [i32; 4] {
 }
 
 /// The box around the drawn points of a segment.
-fn drawn_sides(segment: Segment) -> Option<[i32; 4]>
-    requires within { IsWithin segment }
-    requires whole { IsWholeSegment segment }
+fn drawn_sides(segment: &Segment) -> Option<[i32; 4]>
+    requires within { IsWithin segment.now }
+    requires whole { IsWholeSegment segment.now }
 {
-    let extent = drawn_extent(&[segment])?;
+    let extent = drawn_extent(&[*segment])?;
     Some(sides(&extent.rounded()))
 }
 
 /// The box around all points of a segment.
-fn corner_sides(segment: Segment) -> Option<[i32; 4]>
-    requires { IsWithin segment }
+fn corner_sides(segment: &Segment) -> Option<[i32; 4]>
+    requires { IsWithin segment.now }
 {
-    let extent = corners_extent(&[segment])?;
+    let extent = corners_extent(&[*segment])?;
     Some(sides(&extent.rounded()))
 }
 
 #[test]
 fn draws_less_than_its_corners(rt: HostRuntime) {
     let bow = curve([0, 100], [100, 100], [100, 0]);
-    assert!(rt; drawn_sides(bow) == Some([0, 0, 100, 75]));
-    assert!(rt; corner_sides(bow) == Some([0, 0, 100, 100]));
+    assert!(rt; drawn_sides(&bow) == Some([0, 0, 100, 75]));
+    assert!(rt; corner_sides(&bow) == Some([0, 0, 100, 100]));
 }
 
 /// The top of the drawn points of a curve, as a fraction of its own.
