@@ -105,9 +105,8 @@ impl Model for Reduced {
 }
 
 impl Reduced {
-    /// What is kept of a run, which is dropped. Its points are within the limits.
+    /// What is kept of a run, which is dropped.
     pub fn of(alloc: Global, run: Run) -> Result<Reduced, AllocError>
-        requires { All IsWithin run.drawing.segments }
         ensures { IfOk result (λ reduced. reduced ≡ run) }
     {
         let drawn = drawn_of(run.segments());

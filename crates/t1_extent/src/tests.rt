@@ -6,10 +6,13 @@ ghost use Rattle.t1_extent.specs.Extremes.{IsWhole, IsWholeSegment, limit_check}
 ghost use Rattle.t1_extent.specs.Exacts.{extremes_of};
 
 use super::*;
+use indexmap::IndexMap;
+use std::alloc::Global;
 use std::test::Fail;
 use t1_afm::BBox;
-use t1_frac::Frac;
-use t1_run::{Point, Segment, moved_segment};
+use t1_code::compile;
+use t1_frac::{Frac, Words};
+use t1_run::{Bodies, Meter, Plain, Point, Run, Segment, moved_segment, run};
 
 fn point(x: i16, y: i16) -> Point
     ensures within { IsPoint result }
@@ -150,4 +153,46 @@ fn whole_outlines_are_known(rt: HostRuntime) {
     let bow = curve([0, 100], [100, 100], [100, 0]);
     assert!(rt; is_whole_outline(&[bow]));
     assert!(rt; is_whole_accent() == Some(false));
+}
+
+/// The run of a glyph with this body.
+fn run_of(alloc: Global, words: &str) -> Result<Run, Fail> {
+    let mut list = Words::new(alloc);
+    list.push_line(words.as_bytes())?;
+    let mut bodies = Plain {
+        subrs: IndexMap::new(alloc),
+        glyphs: IndexMap::new(alloc),
+    };
+    let name = Vec::from_slice(alloc, b"A".as_slice())?;
+    bodies.glyphs.insert(name, compile(alloc, &list)?)?;
+    if bodies.glyph(b"A").is_none() {
+        return Err(Fail::new("no A"));
+    }
+    Ok(run(alloc, &bodies, b"A", &mut Meter::new())?)
+}
+
+/// The box of what is kept of a run.
+fn kept_sides(alloc: Global, words: &str) -> Result<Option<[i32; 4]>, Fail> {
+    let kept = Reduced::of(alloc, run_of(alloc, words)?)?;
+    Ok(kept.bbox().map(|bbox| sides(&bbox)))
+}
+
+#[test]
+fn keeps_an_exact_box(rt: HostRuntime) -> Result<(), Fail> {
+    let kept = kept_sides(
+        rt.alloc(),
+        "0 250 hsbw 0 1366 0 -1366 10 0 rrcurveto endchar",
+    )?;
+    assert!(rt; kept == Some([0, 0, 10, 607]));
+    Ok(())
+}
+
+#[test]
+fn keeps_a_rounded_box(rt: HostRuntime) -> Result<(), Fail> {
+    let kept = kept_sides(
+        rt.alloc(),
+        "93 333 hsbw 1 4 div 500 rmoveto 100 178 rlineto endchar",
+    )?;
+    assert!(rt; kept == Some([93, 500, 194, 678]));
+    Ok(())
 }
