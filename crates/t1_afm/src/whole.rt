@@ -6,7 +6,7 @@ ghost use Rattle.t1_frac.specs.Fraction.{whole, floor_of, ceiling_of};
 ghost use Rattle.t1_afm.specs.Points.{cubic_values};
 ghost use Rattle.t1_afm.specs.Spans.{span_of};
 ghost use Rattle.t1_afm.specs.Bounds.{IsInRange, over_cube};
-ghost use Rattle.t1_afm.specs.Differences.{linear as linear_of, square as square_of, cube as cube_of};
+ghost use Rattle.t1_afm.specs.Differences.{linear as linear_of, square as square_of, cube as cube_of, least_sum, greatest_sum};
 
 use crate::span::Span;
 
@@ -113,13 +113,26 @@ fn ceil(sum: i64) -> i32
     -floor(-sum)
 }
 
-/// The span around the 65 values, value by value.
-fn sampled_span(a: i64, b: i64, c: i64, d: i64) -> Span
+/// The least and the greatest of the 65 values of a cubic, times 64^3, exactly.
+#[derive(Clone, Copy, Debug)]
+pub struct Sums {
+    pub least: i64,
+    pub greatest: i64,
+}
+
+/// The least and the greatest of the 65 values, value by value.
+pub fn cubic_sums(a: i64, b: i64, c: i64, d: i64) -> Sums
     requires a { unsigned_abs a ≤ 2 ^ 20 }
     requires b { unsigned_abs b ≤ 2 ^ 20 }
     requires c { unsigned_abs c ≤ 2 ^ 20 }
     requires d { unsigned_abs d ≤ 2 ^ 20 }
-    ensures { result ≡ span_of (cubic_values (whole a) (whole b) (whole c) (whole d)) }
+    ensures least { result.least ≡ least_sum a b c d }
+    ensures greatest { result.greatest ≡ greatest_sum a b c d }
+    ensures least_range { IsInRange (over_cube result.least) }
+    ensures greatest_range { IsInRange (over_cube result.greatest) }
+    ensures least_size { unsigned_abs result.least ≤ 2 ^ 38 }
+    ensures greatest_size { unsigned_abs result.greatest ≤ 2 ^ 38 }
+    ensures span { record { low = floor_of (over_cube result.least); high = ceiling_of (over_cube result.greatest) } ≡ span_of (cubic_values (whole a) (whole b) (whole c) (whole d)) }
 {
     let mut sample = Sample::start(a, b, c, d);
     let mut least = sample.value;
@@ -129,9 +142,21 @@ fn sampled_span(a: i64, b: i64, c: i64, d: i64) -> Span
         least = least.min(sample.value);
         greatest = greatest.max(sample.value);
     }
+    Sums { least, greatest }
+}
+
+/// The span around the 65 values.
+fn sampled_span(a: i64, b: i64, c: i64, d: i64) -> Span
+    requires a { unsigned_abs a ≤ 2 ^ 20 }
+    requires b { unsigned_abs b ≤ 2 ^ 20 }
+    requires c { unsigned_abs c ≤ 2 ^ 20 }
+    requires d { unsigned_abs d ≤ 2 ^ 20 }
+    ensures { result ≡ span_of (cubic_values (whole a) (whole b) (whole c) (whole d)) }
+{
+    let sums = cubic_sums(a, b, c, d);
     Span {
-        low: floor(least),
-        high: ceil(greatest),
+        low: floor(sums.least),
+        high: ceil(sums.greatest),
     }
 }
 
