@@ -58,11 +58,3 @@ left-last pairs p k u had =
     turn true true false = refl
     turn true false true = refl
     turn true false false = refl
-
-pub kept-and : (b : Bool) → b ≡ (b && true)
-kept-and true = refl
-kept-and false = refl
-
-pub kept-or : (b : Bool) → b ≡ (b || false)
-kept-or true = refl
-kept-or false = refl

@@ -1,16 +1,18 @@
 -- Names that are closed one after another.
-use Rattle.std.proofs.Common.{◌≡◌, ◌≤◌, ◌<◌, ◌+◌, ℕ, Bool, true, List, ◌++◌, length, take, get_or, refl, sym, ap, ◌∙◌, ◌⊎◌, inl, inr, arith}
+use Rattle.std.proofs.Common.{◌≡◌, ◌≤◌, ◌<◌, ◌+◌, ℕ, Bool, true, false, cond, Some, [], ◌∷◌, List, ◌++◌, length, take, get_or, refl, sym, ap, ◌∙◌, ◌⊎◌, inl, inr, arith}
 use Rattle.std.specs.Prelude.{◌||◌}
-use Rattle.std.specs.List.{IsDistinct}
+use Rattle.std.specs.List.{IsDistinct, flat_map}
+use Rattle.std.specs.Map.{lookup}
+use Rattle.std.specs.Option.{option_map}
 use Rattle.std.specs.Str.{bytes_eq}
 use Rattle.std.specs.declared.alloc.Global.{Global}
 use Rattle.std.specs.declared.vec.Vec.{Vec}
 use Rattle.std.proofs.lemmas.List.{take-append-le, take_all}
-use Rattle.std.proofs.lemmas.List.Folds.{list_any_at, list_any_more}
+use Rattle.std.proofs.lemmas.List.Folds.{list_any_at, list_any_more, list_any-append}
 use Rattle.std.proofs.lemmas.Slice.Eq.{bytes_eq-Decides}
 use Rattle.t1_cache.specs.declared.records.GlyphRecord.{GlyphRecord}
-use Rattle.t1_cache.specs.Found.{AreKnown, Reached, Seed, User, Closes}
-use Rattle.t1_cache.specs.Users.{among, glyph_users, has}
+use Rattle.t1_cache.specs.Found.{Reached, Seed, User, Closes}
+use Rattle.t1_cache.specs.Users.{among, glyph_users, has, users_of}
 use Rattle.t1_cache.proofs.Names.{or-cases, or-left, or-right, no-more-names}
 
 -- the users of the first names are there
@@ -61,14 +63,30 @@ closing-last name seed uses ks at was all = record {
   reached = was.reached;
 }
 
--- each name is a seed or has a record
-known : (seed : List ℕ → Bool) (entries : List (Vec ℕ Global × GlyphRecord)) → AreKnown entries → (g : List ℕ) → Reached seed (λ p. among (glyph_users entries p)) g
-    → (seed g ≡ true) ⊎ (has (λ e. e.0.items) entries g ≡ true)
-known seed entries all g (Seed _ h) = inl h
-known seed entries all g (User p _ r h) = inr (all p g h)
+-- all users of glyphs
+abbrev pub all_users : List (Vec ℕ Global × GlyphRecord) → List (Vec ℕ Global)
+all_users entries = flat_map (λ e. e.1.users.keys) entries
+
+listed : (entries : List (Vec ℕ Global × GlyphRecord)) (p u : List ℕ) → among (glyph_users entries p) u ≡ true → has (λ k. k.items) (all_users entries) u ≡ true
+listed [] p u h = absurd (cc)
+listed (e ∷ es) p u h =
+    list_any-append (λ k. bytes_eq u k.items) e.1.users.keys (all_users es)
+    ∙ by (bytes_eq p e.0.items) h (listed es p u)
+  where
+    by : (b : Bool) → among (option_map (λ r. users_of r.users) (cond b (Some e.1) (lookup (λ key. bytes_eq p key.items) es))) u ≡ true
+        → (among (glyph_users es p) u ≡ true → has (λ k. k.items) (all_users es) u ≡ true)
+        → (has (λ k. k.items) e.1.users.keys u || has (λ k. k.items) (all_users es) u) ≡ true
+    by true here later = or-left (has (λ k. k.items) e.1.users.keys u) (has (λ k. k.items) (all_users es) u) here
+    by false there later = or-right (has (λ k. k.items) e.1.users.keys u) (has (λ k. k.items) (all_users es) u) (later there)
+
+-- each name is a seed or a user
+known : (seed : List ℕ → Bool) (entries : List (Vec ℕ Global × GlyphRecord)) → (g : List ℕ) → Reached seed (λ p. among (glyph_users entries p)) g
+    → (seed g ≡ true) ⊎ (has (λ k. k.items) (all_users entries) g ≡ true)
+known seed entries g (Seed _ h) = inl h
+known seed entries g (User p _ r h) = inr (listed entries p g h)
 
 pub closing-bound : {K : Type 0} (name : K → List ℕ) (old : List K) (entries : List (Vec ℕ Global × GlyphRecord)) (ks : List K) (at : ℕ)
-    → AreKnown entries → IsClosing name (has name old) (λ p. among (glyph_users entries p)) ks at → IsDistinct (λ x y. bytes_eq (name x) (name y)) ks
-    → length ks ≤ length old + length entries
-closing-bound name old entries ks at all was distinct =
-    no-more-names name name (λ e. e.0.items) ks old entries distinct (λ g h. known (has name old) entries all g (was.reached g h))
+    → IsClosing name (has name old) (λ p. among (glyph_users entries p)) ks at → IsDistinct (λ x y. bytes_eq (name x) (name y)) ks
+    → length ks ≤ length old + length (all_users entries)
+closing-bound name old entries ks at was distinct =
+    no-more-names name name (λ k. k.items) ks old (all_users entries) distinct (λ g h. known (has name old) entries g (was.reached g h))

@@ -1,13 +1,5 @@
 -- Names that seeds reach through tables of users.
 use Rattle.std.specs.Prelude.{◌≡◌, ℕ, Bool, true, List}
-use Rattle.std.specs.declared.alloc.Global.{Global}
-use Rattle.std.specs.declared.vec.Vec.{Vec}
-use Rattle.t1_cache.specs.declared.records.GlyphRecord.{GlyphRecord}
-use Rattle.t1_cache.specs.Users.{among, glyph_users, has}
-
--- each user has a record
-abbrev pub AreKnown : List (Vec ℕ Global × GlyphRecord) → Type 0
-AreKnown entries = (p u : List ℕ) → among (glyph_users entries p) u ≡ true → has (λ e. e.0.items) entries u ≡ true
 
 -- a seed, or a user of what was reached
 pub data Reached (seed : List ℕ → Bool) (uses : List ℕ → List ℕ → Bool) : List ℕ → Type 0 where

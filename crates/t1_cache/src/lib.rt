@@ -11,8 +11,13 @@ mod records;
 mod renewed;
 mod stale;
 mod users;
+mod uses;
 
 pub use records::{GlyphRecord, Named, Names, Records, SubrRecord};
 pub use renewed::renew;
 pub use stale::found;
 pub use users::move_users;
+pub use uses::leaves_of;
+
+#[cfg(test)]
+mod tests;

@@ -2,7 +2,7 @@
 ghost use Rattle.std.specs.Prelude.{◌≡◌, ◌||◌, ◌++◌, ℕ, List, map, IfOk, OnOk};
 ghost use Rattle.std.specs.Str.{bytes_eq};
 ghost use Rattle.t1_run.specs.Run.{FontBodies};
-ghost use Rattle.t1_cache.specs.Found.{AreKnown, Closes};
+ghost use Rattle.t1_cache.specs.Found.{Closes};
 ghost use Rattle.t1_cache.specs.Tables.{is_seed, AreTables, AreStale};
 ghost use Rattle.t1_cache.specs.Users.{among, glyph_users, has, key_of, subr_users};
 
@@ -41,7 +41,6 @@ fn close<'a>(
     found: &mut IndexSet<&'a [u8]>,
     glyphs: &'a IndexMap<Vec<u8>, GlyphRecord>,
 ) -> Result<(), AllocError>
-    requires { AreKnown glyphs.now.entries }
     ensures { OnOk result (Closes (has (λ name. name.now) found.old.keys) (λ p. among (glyph_users glyphs.now.entries p)) (has (λ name. name.now) found.new.keys)) }
 {
     let mut at = 0;
@@ -101,7 +100,6 @@ pub fn found<'a>(
     records: &'a Records,
     edits: &'a [Named],
 ) -> Result<IndexSet<&'a [u8]>, AllocError>
-    requires { AreKnown records.now.glyphs.entries }
     ensures { IfOk result (λ found. (m : FontBodies) → AreTables m records.now → AreStale m (map key_of edits.now) (has (λ name. name.now) found.keys)) }
 {
     let mut found = IndexSet::new(alloc);

@@ -1,7 +1,7 @@
 use Rattle.std.proofs.Common.{◌+◌, ◌-◌, ◌<◌, ◌≤◌, length, get_or, ℕ, List, [], ap, arith}
 use Rattle.std.specs.Borrow.{Bor}
 use Rattle.t1_cache.specs.Users.{among, glyph_users, has}
-use Rattle.t1_cache.proofs.Closing.{closing-first, closing-more, closing-bound}
+use Rattle.t1_cache.proofs.Closing.{closing-first, closing-more, closing-bound, all_users}
 use Rattle.t1_cache.proofs.stale.close.Goals as goal
 
 pub loop-at-init : goal.loop-at-init
@@ -9,9 +9,9 @@ loop-at-init c = closing-first (λ name. name.now) (λ p. among (glyph_users c.a
 
 pub loop-at-smaller : goal.loop-at-smaller
 loop-at-smaller c =
-    let bound : length c.loop-at.found.keys ≤ length c.args.found.now.keys + length c.args.glyphs.now.entries =
-    closing-bound (λ name. name.now) c.args.found.now.keys c.args.glyphs.now.entries c.loop-at.found.keys c.loop-at.at c.requires c.loop-at.invariant c.len.ensures.unique in
-    let step : length c.args.found.now.keys + length c.args.glyphs.now.entries - (c.loop-at.at + 1) < length c.args.found.now.keys + length c.args.glyphs.now.entries - c.loop-at.at =
+    let bound : length c.loop-at.found.keys ≤ length c.args.found.now.keys + length (all_users c.args.glyphs.now.entries) =
+    closing-bound (λ name. name.now) c.args.found.now.keys c.args.glyphs.now.entries c.loop-at.found.keys c.loop-at.at c.loop-at.invariant c.len.ensures.unique in
+    let step : length c.args.found.now.keys + length (all_users c.args.glyphs.now.entries) - (c.loop-at.at + 1) < length c.args.found.now.keys + length (all_users c.args.glyphs.now.entries) - c.loop-at.at =
     omega (arith, bound, c.loop-at-test.true, c.len.ensures.len) in
     step
 
