@@ -1,0 +1,17 @@
+pub mod Adding
+pub mod Closing
+pub mod Counting
+pub mod Edits
+pub mod Joining
+pub mod Judging
+pub mod Middles
+pub mod Names
+pub mod Newest
+pub mod Overlaying
+pub mod Places
+pub mod Putting
+pub mod Renewing
+pub mod Rows
+pub mod ThroughTables
+pub mod Turns
+pub mod Using

@@ -1,0 +1,130 @@
+-- Names that are put into sets.
+use Rattle.std.proofs.Common.{◌≡◌, ◌≤◌, ◌<◌, ◌+◌, ℕ, Bool, true, false, cond, List, [], ◌∷◌, ◌++◌, map, length, take, get_or, refl, sym, ap, ◌∙◌, ◌⊎◌, inl, inr}
+use Rattle.std.specs.Prelude.{◌||◌, ◌&&◌, not}
+use Rattle.std.specs.Cmp.{IsEquivalence}
+use Rattle.std.specs.List.{list_any, AllByRecursion, IsDistinct}
+use Rattle.std.specs.Str.{bytes_eq}
+use Rattle.std.proofs.lemmas.Bool.{cases_Bool}
+use Rattle.std.proofs.lemmas.Cmp.{nat_list_eq_equiv}
+use Rattle.std.proofs.lemmas.List.{append-nil, length-append, length-map}
+use Rattle.std.proofs.lemmas.List.Folds.{list_any_more, list_any-append}
+use Rattle.std.proofs.lemmas.Slice.Eq.{bytes_eq-Decides}
+use Rattle.std.proofs.lemmas.Map.Made.{length-le_from_is_member}
+use Rattle.indexmap.specs.IndexSet.{insert_key}
+use Rattle.t1_cache.specs.Users.{has}
+
+pub or_assoc : (a b c : Bool) → ((a || b) || c) ≡ (a || (b || c))
+or_assoc true b c = refl
+or_assoc false b c = refl
+
+pub or-cases : (a b : Bool) → (a || b) ≡ true → (a ≡ true) ⊎ (b ≡ true)
+or-cases true b h = inl refl
+or-cases false b h = inr h
+
+pub or-left : (a b : Bool) → a ≡ true → (a || b) ≡ true
+or-left true b h = refl
+or-left false b h = absurd (cc)
+
+pub or-right : (a b : Bool) → b ≡ true → (a || b) ≡ true
+or-right true b h = refl
+or-right false b h = h
+
+-- keys are put in behind the others
+pub inserted-behind : {K : Type 0} (eq : K → K → Bool) (ks : List K) (k : K) → (more : List K) × (insert_key eq ks k ≡ ks ++ more)
+inserted-behind eq ks k =
+    elim (cases_Bool (list_any (eq k) ks)) [
+      | inl there ↦ ([], rw there (sym (append-nil ks)))
+      | inr absent ↦ (k ∷ [], rw absent refl)
+    ]
+
+or_false : (b : Bool) → (b || false) ≡ b
+or_false true = refl
+or_false false = refl
+
+-- a name that is put in is among the names
+pub name-inserted : {K : Type 0} (name : K → List ℕ) (g : List ℕ) (k : K) (ks : List K)
+    → list_any (λ x. bytes_eq g (name x)) (insert_key (λ x y. bytes_eq (name x) (name y)) ks k) ≡ (list_any (λ x. bytes_eq g (name x)) ks || bytes_eq g (name k))
+name-inserted name g k ks =
+    elim (cases_Bool (list_any (λ x. bytes_eq (name k) (name x)) ks)) [
+      | inl there ↦
+          rw there
+          (elim (cases_Bool (bytes_eq g (name k))) [
+            | inl same ↦ rw (same, (bytes_eq-Decides g (name k)).0 same, there) refl
+            | inr other ↦ rw other (sym (or_false (list_any (λ x. bytes_eq g (name x)) ks)))
+          ])
+      | inr absent ↦
+          rw absent (
+          list_any-append (λ x. bytes_eq g (name x)) ks (k ∷ [])
+          ∙ ap (λ b. list_any (λ x. bytes_eq g (name x)) ks || b) (or_false (bytes_eq g (name k))))
+    ]
+
+-- one more of the names
+pub one-more : {K : Type 0} (name : K → List ℕ) (g : List ℕ) (xs : List K) (i : ℕ) (x : K) → i < length xs → x ≡ get_or xs i x
+    → has name (take (i + 1) xs) g ≡ (has name (take i xs) g || bytes_eq g (name x))
+one-more name g xs i x h e =
+    list_any_more (λ k. bytes_eq g (name k)) xs i x h ∙ ap (λ y. has name (take i xs) g || bytes_eq g (name y)) (sym e)
+
+-- ---- sets have no more names than others that have them all
+
+has-map : {K : Type 0} (name : K → List ℕ) (ks : List K) (g : List ℕ) → list_any (bytes_eq g) (map name ks) ≡ has name ks g
+has-map name [] g = refl
+has-map name (k ∷ ks) g = ap (λ b. bytes_eq g (name k) || b) (has-map name ks g)
+
+all-map : {K : Type 0} (name : K → List ℕ) (x : K) (ks : List K)
+    → AllByRecursion (λ y. bytes_eq (name x) (name y) ≡ false) ks → AllByRecursion (λ y. bytes_eq (name x) y ≡ false) (map name ks)
+all-map name x [] h = tt
+all-map name x (k ∷ ks) h = (h.0, all-map name x ks h.1)
+
+distinct-map : {K : Type 0} (name : K → List ℕ) (ks : List K) → IsDistinct (λ x y. bytes_eq (name x) (name y)) ks → IsDistinct bytes_eq (map name ks)
+unfolding IsDistinct
+distinct-map name [] h = tt
+distinct-map name (k ∷ ks) h = (all-map name k ks h.0, distinct-map name ks h.1)
+
+bytes_equiv : IsEquivalence bytes_eq
+bytes_equiv = nat_list_eq_equiv
+
+pub no-more-names : {K L M : Type 0} (name : K → List ℕ) (name' : L → List ℕ) (name'' : M → List ℕ) (ks : List K) (ls : List L) (ms : List M)
+    → IsDistinct (λ x y. bytes_eq (name x) (name y)) ks → ((g : List ℕ) → has name ks g ≡ true → (has name' ls g ≡ true) ⊎ (has name'' ms g ≡ true))
+    → length ks ≤ length ls + length ms
+no-more-names name name' name'' ks ls ms distinct among =
+    let bound : length (map name ks) ≤ length (map name' ls ++ map name'' ms) =
+    length-le_from_is_member bytes_equiv (map name ks) (map name' ls ++ map name'' ms) (distinct-map name ks distinct) all in
+    rw (length-append, length-map, length-map, length-map) at bound
+  where
+    all : (g : List ℕ) → list_any (bytes_eq g) (map name ks) ≡ true → list_any (bytes_eq g) (map name' ls ++ map name'' ms) ≡ true
+    all g h =
+        list_any-append (bytes_eq g) (map name' ls) (map name'' ms)
+        ∙ elim (among g (sym (has-map name ks g) ∙ h)) [
+          | inl l ↦ or-left (list_any (bytes_eq g) (map name' ls)) (list_any (bytes_eq g) (map name'' ms)) (has-map name' ls g ∙ l)
+          | inr r ↦ or-right (list_any (bytes_eq g) (map name' ls)) (list_any (bytes_eq g) (map name'' ms)) (has-map name'' ms g ∙ r)
+        ]
+
+-- ---- a name that is taken out
+
+pub witness : {K : Type 0} (name : K → List ℕ) (ks : List K) (g : List ℕ) → has name ks g ≡ true → (k : K) × (name k ≡ g)
+witness name [] g h = absurd (cc)
+witness name (k ∷ ks) g h =
+    elim (or-cases (bytes_eq g (name k)) (has name ks g) h) [
+      | inl e ↦ (k, sym ((bytes_eq-Decides g (name k)).0 e))
+      | inr r ↦ witness name ks g r
+    ]
+
+but-one : (n u : List ℕ) (was : Bool) → cond (bytes_eq n u) false was ≡ (was && not (bytes_eq u n))
+but-one n u was = ap (λ b. cond b false was) (bytes_equiv.symm n u) ∙ turn (bytes_eq u n) was where
+  turn : (b was : Bool) → cond b false was ≡ (was && not b)
+  turn true true = refl
+  turn true false = refl
+  turn false true = refl
+  turn false false = refl
+
+pub taken-out : {K : Type 0} (name : K → List ℕ) (old new : List K) (n : List ℕ)
+    → ((q : K) → has name new (name q) ≡ cond (bytes_eq n (name q)) false (has name old (name q)))
+    → (u : List ℕ) → has name new u ≡ (has name old u && not (bytes_eq u n))
+taken-out name old new n at u = by (has name new u) (has name old u) refl refl where
+  told : (k : _) → name k ≡ u → has name new u ≡ (has name old u && not (bytes_eq u n))
+  told k e = sym (ap (has name new) e) ∙ at k ∙ ap (λ v. cond (bytes_eq n v) false (has name old v)) e ∙ but-one n u (has name old u)
+
+  by : (a b : Bool) → has name new u ≡ a → has name old u ≡ b → has name new u ≡ (has name old u && not (bytes_eq u n))
+  by true b e f = let w = witness name new u e in told w.0 w.1
+  by false true e f = let w = witness name old u f in told w.0 w.1
+  by false false e f = e ∙ sym (ap (λ b. b && not (bytes_eq u n)) f)

@@ -1,0 +1,166 @@
+-- Records whose users are changed in place.
+use Rattle.std.proofs.Common.{◌≡◌, ◌≤◌, ℕ, Bool, true, false, cond, not, ◌+◌, subst, arith, List, [], ◌∷◌, map, refl, sym, ap, ◌∙◌, Option, Some, inl, inr}
+use Rattle.std.specs.Prelude.{◌||◌, ◌&&◌, nat_eq}
+use Rattle.std.specs.Map.{lookup, set_value}
+use Rattle.std.specs.Option.{option_map}
+use Rattle.std.specs.Str.{bytes_eq}
+use Rattle.std.proofs.lemmas.Bool.{cases_Bool, eqb-true}
+use Rattle.std.proofs.lemmas.Bool.Decides.{nat_tests}
+use Rattle.std.proofs.lemmas.Slice.Eq.{bytes_eq-Decides}
+use Rattle.t1_cache.specs.Users.{has, among, HasRoom, UserSet}
+
+-- a test that tells whether two names are the same
+pub record Tells {Q : Type 0} (eq : Q → Q → Bool) : Type 0 where
+  pub same : (a b : Q) → eq a b ≡ true → a ≡ b
+  pub itself : (a : Q) → eq a a ≡ true
+
+pub bytes_tell : Tells bytes_eq
+bytes_tell = record { same = λ a b e. (bytes_eq-Decides a b).0 e; itself = λ a. (bytes_eq-Decides a a).1 refl }
+
+nat-itself : (a : ℕ) → nat_eq a a ≡ true
+nat-itself a = grind (arith, nat_tests)
+
+pub numbers_tell : Tells nat_eq
+numbers_tell = record { same = eqb-true; itself = nat-itself }
+
+apart : {Q : Type 0} (eq : Q → Q → Bool) → Tells eq → (a b c : Q) → eq a b ≡ true → eq c b ≡ false → eq a c ≡ false
+apart eq t a b c on off =
+    elim (cases_Bool (eq a c)) [
+      | inl e ↦ let both : eq c b ≡ true = ap (λ x. eq x b) (sym (t.same a c e)) ∙ on in let never : true ≡ false = sym both ∙ off in absurd (cc)
+      | inr e ↦ e
+    ]
+
+again : {Y : Type 0} (b : Bool) (x y r : Y) → cond b x r ≡ cond b x (cond b y r)
+again true x y r = refl
+again false x y r = refl
+
+-- a value that is put at a name is found there, and nothing else changes
+put-at : {Q K X : Type 0} (eq : Q → Q → Bool) → Tells eq → (name : K → Q) (p n : Q) (w v : X) (es : List (K × X)) → lookup (λ k. eq n (name k)) es ≡ Some v
+    → lookup (λ k. eq p (name k)) (set_value (λ k. eq n (name k)) es w) ≡ cond (eq p n) (Some w) (lookup (λ k. eq p (name k)) es)
+put-at eq t name p n w v [] h = absurd (cc)
+put-at eq t name p n w v (e ∷ es) h =
+    elim (cases_Bool (eq n (name e.0))) [
+      | inl on ↦ rw (on, t.same n (name e.0) on) (again (eq p (name e.0)) (Some w) (Some e.1) (lookup (λ k. eq p (name k)) es))
+      | inr off ↦
+          let h' : lookup (λ k. eq n (name k)) es ≡ Some v = sym (ap (λ b. cond b (Some e.1) (lookup (λ k. eq n (name k)) es)) off) ∙ h in
+          rw off
+          (elim (cases_Bool (eq p (name e.0))) [
+            | inl here ↦ rw (here, apart eq t p (name e.0) n here off) refl
+            | inr there ↦ rw there (put-at eq t name p n w v es h')
+          ])
+    ]
+
+pub rest-put : {K R X : Type 0} (rest : K × R → X) (es : List (K × R)) (test : K → Bool) (was now : R) → lookup test es ≡ Some was
+    → ((k : K) → rest (k, now) ≡ rest (k, was)) → map rest (set_value test es now) ≡ map rest es
+rest-put rest [] test was now h stays = refl
+rest-put rest (e ∷ es) test was now h stays = by (test e.0) refl (λ h'. rest-put rest es test was now h' stays) where
+  by : (b : Bool) → test e.0 ≡ b → (lookup test es ≡ Some was → map rest (set_value test es now) ≡ map rest es)
+      → map rest (set_value test (e ∷ es) now) ≡ map rest (e ∷ es)
+  by true on later =
+      let h' : Some e.1 ≡ Some was = sym (ap (λ b. cond b (Some e.1) (lookup test es)) on) ∙ h in
+      let is : e.1 ≡ was = cc in
+      ap (λ b. map rest (cond b ((e.0, now) ∷ es) (e ∷ set_value test es now))) on
+      ∙ ap (λ x. x ∷ map rest es) (stays e.0 ∙ ap (λ r. rest (e.0, r)) (sym is))
+  by false off later =
+      ap (λ b. map rest (cond b ((e.0, now) ∷ es) (e ∷ set_value test es now))) off
+      ∙ ap (λ l. rest e ∷ l) (later (sym (ap (λ b. cond b (Some e.1) (lookup test es)) off) ∙ h))
+
+-- the users of the record of a name
+abbrev at : {Q K R : Type 0} → (Q → Q → Bool) → (K → Q) → (R → UserSet) → List (K × R) → Q → Option UserSet
+at eq name users es q = option_map users (lookup (λ k. eq q (name k)) es)
+
+map-cond : {X Y : Type 0} (f : X → Y) (b : Bool) (x : X) (r : Option X) → option_map f (cond b (Some x) r) ≡ cond b (Some (f x)) (option_map f r)
+map-cond f true x r = refl
+map-cond f false x r = refl
+
+pub users-put : {Q K R : Type 0} (eq : Q → Q → Bool) → Tells eq → (name : K → Q) (users : R → UserSet) (es : List (K × R)) (p : Q) (was now : R)
+    → lookup (λ k. eq p (name k)) es ≡ Some was
+    → (q : Q) → at eq name users (set_value (λ k. eq p (name k)) es now) q ≡ cond (eq q p) (Some (users now)) (at eq name users es q)
+users-put eq t name users es p was now h q =
+    ap (option_map users) (put-at eq t name q p now was es h) ∙ map-cond users (eq q p) now (lookup (λ k. eq q (name k)) es)
+
+-- the same users
+pub users-stay : {Q K R : Type 0} (eq : Q → Q → Bool) → Tells eq → (name : K → Q) (users : R → UserSet) (es : List (K × R)) (p : Q) (was now : R)
+    → lookup (λ k. eq p (name k)) es ≡ Some was → users now ≡ users was
+    → (q : Q) → at eq name users (set_value (λ k. eq p (name k)) es now) q ≡ at eq name users es q
+users-stay eq t name users es p was now h same q =
+    users-put eq t name users es p was now h q
+    ∙ elim (cases_Bool (eq q p)) [
+      | inl on ↦
+          ap (λ b. cond b (Some (users now)) (at eq name users es q)) on ∙ ap Some same
+          ∙ ap (option_map users) (sym h) ∙ ap (at eq name users es) (sym (t.same q p on))
+      | inr off ↦ ap (λ b. cond b (Some (users now)) (at eq name users es q)) off
+    ]
+
+pub left : {Q K R : Type 0} (eq : Q → Q → Bool) → Tells eq → (name : K → Q) (users : R → UserSet) (es : List (K × R)) (p : Q) (was now : R) (user : List ℕ)
+    → lookup (λ k. eq p (name k)) es ≡ Some was
+    → ((u : List ℕ) → has (λ k. k.items) (users now).names u ≡ (has (λ k. k.items) (users was).names u && not (bytes_eq u user)))
+    → (q : Q) (u : List ℕ)
+    → among (at eq name users (set_value (λ k. eq p (name k)) es now) q) u ≡ (among (at eq name users es q) u && not (eq q p && bytes_eq u user))
+left eq t name users es p was now user h out q u =
+    ap (λ s. among s u) (users-put eq t name users es p was now h q)
+    ∙ elim (cases_Bool (eq q p)) [
+      | inl on ↦
+          ap (λ b. among (cond b (Some (users now)) (at eq name users es q)) u) on ∙ out u
+          ∙ ap (λ r. among (option_map users r) u && not (bytes_eq u user)) (sym h)
+          ∙ ap (λ x. among (at eq name users es x) u && not (bytes_eq u user)) (sym (t.same q p on))
+          ∙ ap (λ b. among (at eq name users es q) u && not (b && bytes_eq u user)) (sym on)
+      | inr off ↦
+          ap (λ b. among (cond b (Some (users now)) (at eq name users es q)) u) off
+          ∙ all (among (at eq name users es q) u) ∙ ap (λ b. among (at eq name users es q) u && not (b && bytes_eq u user)) (sym off)
+    ]
+  where
+    all : (b : Bool) → b ≡ (b && true)
+    all true = refl
+    all false = refl
+
+pub came : {Q K R : Type 0} (eq : Q → Q → Bool) → Tells eq → (name : K → Q) (users : R → UserSet) (es : List (K × R)) (p : Q) (was now : R) (user : List ℕ)
+    → lookup (λ k. eq p (name k)) es ≡ Some was
+    → ((u : List ℕ) → has (λ k. k.items) (users now).names u ≡ (has (λ k. k.items) (users was).names u || bytes_eq u user))
+    → (q : Q) (u : List ℕ)
+    → among (at eq name users (set_value (λ k. eq p (name k)) es now) q) u ≡ (among (at eq name users es q) u || (eq q p && bytes_eq u user))
+came eq t name users es p was now user h put q u =
+    ap (λ s. among s u) (users-put eq t name users es p was now h q)
+    ∙ elim (cases_Bool (eq q p)) [
+      | inl on ↦
+          ap (λ b. among (cond b (Some (users now)) (at eq name users es q)) u) on ∙ put u
+          ∙ ap (λ r. among (option_map users r) u || bytes_eq u user) (sym h)
+          ∙ ap (λ x. among (at eq name users es x) u || bytes_eq u user) (sym (t.same q p on))
+          ∙ ap (λ b. among (at eq name users es q) u || (b && bytes_eq u user)) (sym on)
+      | inr off ↦
+          ap (λ b. among (cond b (Some (users now)) (at eq name users es q)) u) off
+          ∙ none (among (at eq name users es q) u) ∙ ap (λ b. among (at eq name users es q) u || (b && bytes_eq u user)) (sym off)
+    ]
+  where
+    none : (b : Bool) → b ≡ (b || false)
+    none true = refl
+    none false = refl
+
+pub room-put : {Q K R : Type 0} (eq : Q → Q → Bool) → Tells eq → (name : K → Q) (users : R → UserSet) (es : List (K × R)) (p : Q) (was now : R)
+    → lookup (λ k. eq p (name k)) es ≡ Some was → (users was).room ≤ (users now).room + 1
+    → (q : Q) (count : ℕ) → HasRoom (cond (eq q p) (count + 1) count) (at eq name users es q)
+    → HasRoom count (at eq name users (set_value (λ k. eq p (name k)) es now) q)
+room-put eq t name users es p was now h takes q count had =
+    subst (HasRoom count) (sym (users-put eq t name users es p was now h q))
+    (elim (cases_Bool (eq q p)) [
+      | inl on ↦
+          let found : at eq name users es q ≡ Some (users was) = ap (at eq name users es) (t.same q p on) ∙ ap (option_map users) h in
+          let had' : HasRoom (count + 1) (Some (users was)) = rw (on, found) at had in
+          subst (λ b. HasRoom count (cond b (Some (users now)) (at eq name users es q))) (sym on) (omega (arith, had', takes))
+      | inr off ↦
+          let had' : HasRoom count (at eq name users es q) = rw off at had in
+          subst (λ b. HasRoom count (cond b (Some (users now)) (at eq name users es q))) (sym off) had'
+    ])
+
+pub room-stays : {Q K R : Type 0} (eq : Q → Q → Bool) → Tells eq → (name : K → Q) (users : R → UserSet) (es : List (K × R)) (p : Q) (was now : R)
+    → lookup (λ k. eq p (name k)) es ≡ Some was → (users was).room ≤ (users now).room
+    → (q : Q) (count : ℕ) → HasRoom count (at eq name users es q) → HasRoom count (at eq name users (set_value (λ k. eq p (name k)) es now) q)
+room-stays eq t name users es p was now h keeps q count had =
+    subst (HasRoom count) (sym (users-put eq t name users es p was now h q))
+    (elim (cases_Bool (eq q p)) [
+      | inl on ↦
+          let found : at eq name users es q ≡ Some (users was) = ap (at eq name users es) (t.same q p on) ∙ ap (option_map users) h in
+          let had' : HasRoom count (Some (users was)) = rw found at had in
+          subst (λ b. HasRoom count (cond b (Some (users now)) (at eq name users es q))) (sym on) (omega (arith, had', keeps))
+      | inr off ↦ subst (λ b. HasRoom count (cond b (Some (users now)) (at eq name users es q))) (sym off) had
+    ])

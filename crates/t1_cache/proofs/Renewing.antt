@@ -1,0 +1,171 @@
+-- Records in the order of the new names are those of the edited source.
+use Rattle.std.proofs.Common.{◌≡◌, ℕ, false, List, [], ◌∷◌, map, refl, sym, ap, subst, ◌∙◌, Option, Some, None, inl, inr}
+use Rattle.std.specs.Prelude.{Result, Ok, Err}
+use Rattle.std.specs.List.{AllByRecursion}
+use Rattle.std.proofs.lemmas.Bool.{cases_Bool}
+use Rattle.t1_frac.specs.Outcome.{told_at, ◌>>=◌}
+use Rattle.t1_frac.specs.declared.fault.Code.{Code}
+use Rattle.t1_frac.specs.declared.fault.Fault.{Fault}
+use Rattle.t1_frac.specs.declared.fault.Place.TheVariants as places
+use Rattle.t1_parts.specs.SourceParts.{SourceParts}
+use Rattle.t1_run.specs.declared.outline.Segment.{Segment}
+use Rattle.t1_run.specs.Composite.{outline}
+use Rattle.t1_run.specs.Run.{FontBodies, Drawing, own}
+use Rattle.t1_afm.specs.Box.{drawn_box}
+use Rattle.t1_font.specs.Bodies.{bodies}
+use Rattle.t1_font.specs.declared.glyph_metrics.PlacedParts.{PlacedParts}
+use Rattle.t1_font.specs.Glyphs.{Glyph as Told, placed_parts_of, glyph_of, glyphs, glyph_names}
+use Rattle.t1_font.specs.Assembly.{file_check}
+use Rattle.t1_font.specs.SourceChecks.{source_glyphs}
+use Rattle.t1_run.proofs.Untouched.{untouched_kept}
+use Rattle.t1_cache.specs.Edited.{is_stale}
+use Rattle.t1_cache.specs.Kept.{shown, shown_from}
+use Rattle.t1_cache.specs.Renewed.{Kept}
+use Rattle.t1_cache.specs.Renewal.{IsFromScratch, IsOneOf, IsRenewed, RenewalLaw}
+
+-- ---- equations of lists and results
+
+heads : {X : Type 0} (x y : X) (xs ys : List X) → x ∷ xs ≡ y ∷ ys → x ≡ y
+heads x y xs ys e = cc
+
+tails : {X : Type 0} (x y : X) (xs ys : List X) → x ∷ xs ≡ y ∷ ys → xs ≡ ys
+tails x y xs ys e = cc
+
+given : {X E : Type 0} (r : Result X E) (x y : X) → r ≡ Ok x → r ≡ Ok y → x ≡ y
+given r x y e f = let h : Ok x ≡ Ok y = sym e ∙ f in cc
+
+some : {X : Type 0} (x y : X) → Some x ≡ Some y → x ≡ y
+some x y e = cc
+
+-- ---- what the glyphs of a font tell
+
+pub record TellsOne (m : FontBodies) (g : List ℕ) (t : Told) : Type 0 where
+  pub name : g ≡ t.name
+  pub run : own m g ≡ Some (Ok t.drawing)
+  pub draws : outline m g ≡ Ok t.outline
+
+abbrev IsTold : Result Told Code → Told → Type 0
+IsTold r t = r ≡ Ok t
+
+abbrev Runs : Option (Result Drawing Code) → Drawing → Type 0
+Runs r d = r ≡ Some (Ok d)
+
+abbrev Draws : Result (List Segment) Code → List Segment → Type 0
+Draws r s = r ≡ Ok s
+
+told-one : (g : List ℕ) (run : Option (Result Drawing Code)) (o : Result (List Segment) Code) (t : Told) → glyph_of g run o ≡ Ok t
+    → (g ≡ t.name) × ((run ≡ Some (Ok t.drawing)) × (o ≡ Ok t.outline))
+told-one g None o t e = absurd (cc)
+told-one g (Some (Err code)) o t e = absurd (cc)
+told-one g (Some (Ok d)) (Err code) t e = absurd (cc)
+told-one g (Some (Ok d)) (Ok s) t e = by (placed_parts_of d.bearing d.composite) e where
+  by : (r : Result (Option PlacedParts) Code) → IsTold (r >>= (λ a. Ok (record { name = g; drawing = d; outline = s; parts = a }))) t
+      → (g ≡ t.name) × (Runs (Some (Ok d)) t.drawing × Draws (Ok s) t.outline)
+  by (Err code) e = absurd (cc)
+  by (Ok a) e =
+      let x : Told = record { name = g; drawing = d; outline = s; parts = a } in
+      let is : x ≡ t = given (Ok x) x t refl e in
+      (ap (λ y. y.name) is, (ap (λ y. Some (Ok y.drawing)) is, ap (λ y. Ok y.outline) is))
+
+told-more : (m : FontBodies) (g : List ℕ) (names : List (List ℕ)) (told : List Told) → glyphs m (g ∷ names) ≡ Ok told
+    → (t : Told) × ((ts : List Told) × (TellsOne m g t × ((glyphs m names ≡ Ok ts) × (told ≡ t ∷ ts))))
+told-more m g names told e = by (glyph_of g (own m g) (outline m g)) refl (glyphs m names) refl e where
+  by : (r : Result Told Code) → glyph_of g (own m g) (outline m g) ≡ r → (rest : Result (List Told) Fault) → glyphs m names ≡ rest
+      → (told_at (places.Glyph g) r >>= (λ x. rest >>= (λ xs. Ok (x ∷ xs)))) ≡ Ok told
+      → (t : Told) × ((ts : List Told) × (TellsOne m g t × ((glyphs m names ≡ Ok ts) × (told ≡ t ∷ ts))))
+  by (Ok t) here (Ok ts) there e =
+      let one = told-one g (own m g) (outline m g) t here in
+      (t, (ts, (record { name = one.0; run = one.1.0; draws = one.1.1 }, (there, sym (given (Ok (t ∷ ts)) (t ∷ ts) told refl e)))))
+  by (Ok t) here (Err fault) there e = absurd (cc)
+  by (Err code) here rest there e = absurd (cc)
+
+-- ---- records from scratch
+
+scratch-one : (m : FontBodies) (g : List ℕ) (t : Told) (k : Kept) → TellsOne m g t → shown k ≡ shown_from t → IsFromScratch m k
+scratch-one m g t k one e =
+    let at : k.name ≡ g = ap (λ s. s.name) e ∙ sym one.name in
+    record {
+      segments = t.outline;
+      run = ap (own m) at ∙ one.run ∙ ap (λ s. Some (Ok s.drawing)) (sym e);
+      draws = ap (outline m) at ∙ one.draws;
+      box = ap (λ s. s.box) e;
+    }
+
+pub scratch-all : (m : FontBodies) (names : List (List ℕ)) (told : List Told) (kept : List Kept) → glyphs m names ≡ Ok told → map shown kept ≡ map shown_from told
+    → AllByRecursion (IsFromScratch m) kept
+scratch-all m names told [] e same = tt
+scratch-all m [] told (k ∷ kept) e same =
+    let none : [] ≡ told = given (Ok []) [] told refl e in
+    let never : shown k ∷ map shown kept ≡ [] = same ∙ ap (map shown_from) (sym none) in
+    absurd (cc)
+scratch-all m (g ∷ names) told (k ∷ kept) e same =
+    let more = told-more m g names told e in
+    let both : shown k ∷ map shown kept ≡ shown_from more.0 ∷ map shown_from more.1.0 = same ∙ ap (map shown_from) more.1.1.1.1 in (
+      scratch-one m g more.0 k more.1.1.0 (heads (shown k) (shown_from more.0) (map shown kept) (map shown_from more.1.0) both),
+      scratch-all m names more.1.0 kept more.1.1.1.0 (tails (shown k) (shown_from more.0) (map shown kept) (map shown_from more.1.0) both),
+    )
+
+shown-one : (m : FontBodies) (g : List ℕ) (t : Told) (k : Kept) → TellsOne m g t → k.name ≡ g → IsFromScratch m k → shown k ≡ shown_from t
+shown-one m g t k one at is =
+    let name : k.name ≡ t.name = at ∙ one.name in
+    let drawing : k.run.drawing ≡ t.drawing = given (Ok k.run.drawing) k.run.drawing t.drawing refl (some (Ok k.run.drawing) (Ok t.drawing) (sym is.run ∙ ap (own m) at ∙ one.run)) in
+    let draws : is.segments ≡ t.outline = given (outline m k.name) is.segments t.outline is.draws (ap (outline m) at ∙ one.draws) in
+    let box : k.box ≡ drawn_box t.outline = is.box ∙ ap drawn_box draws in
+    (λ j. record { name = name j; drawing = drawing j; box = box j })
+
+pub shown-all : (m : FontBodies) (names : List (List ℕ)) (told : List Told) (records : List Kept) → glyphs m names ≡ Ok told → map (λ k. k.name) records ≡ names
+    → AllByRecursion (IsFromScratch m) records → map shown records ≡ map shown_from told
+shown-all m [] told [] e order all = ap (map shown_from) (given (Ok []) [] told refl e)
+shown-all m [] told (k ∷ records) e order all = absurd (cc)
+shown-all m (g ∷ names) told [] e order all = absurd (cc)
+shown-all m (g ∷ names) told (k ∷ records) e order all =
+    let more = told-more m g names told e in
+    let first = shown-one m g more.0 k more.1.1.0 (heads k.name g (map (λ k. k.name) records) names order) all.0 in
+    let rest = shown-all m names more.1.0 records more.1.1.1.0 (tails k.name g (map (λ k. k.name) records) names order) all.1 in
+    ap (λ s. s ∷ map shown records) first ∙ ap (λ l. shown_from more.0 ∷ l) rest ∙ ap (map shown_from) (sym more.1.1.1.1)
+
+-- ---- records that are kept, and those that are renewed
+
+one-of : (P : Kept → Type 0) (kept : List Kept) (k : Kept) → AllByRecursion P kept → IsOneOf kept k → P k
+one-of P [] k all i = absurd i
+one-of P (x ∷ kept) k all (inl e) = subst P e all.0
+one-of P (x ∷ kept) k all (inr i) = one-of P kept k all.1 i
+
+all-weaken : {X : Type 0} (P Q : X → Type 0) → ((x : X) → P x → Q x) → (xs : List X) → AllByRecursion P xs → AllByRecursion Q xs
+all-weaken P Q step [] h = tt
+all-weaken P Q step (x ∷ xs) h = (step x h.0, all-weaken P Q step xs h.1)
+
+glyphs-of : (s : SourceParts) (told : List Told) → source_glyphs s ≡ Ok told → glyphs (bodies s.items) (glyph_names s.items) ≡ Ok told
+glyphs-of s told e = by (file_check s) e where
+  by : (r : Result (Unit {0}) Fault) → (r >>= λ checked. glyphs (bodies s.items) (glyph_names s.items)) ≡ Ok told → glyphs (bodies s.items) (glyph_names s.items) ≡ Ok told
+  by (Ok checked) e = e
+  by (Err fault) e = absurd (cc)
+
+pub renewed : RenewalLaw
+renewed keys old new edit told e kept records was order all =
+    record {
+      glyphs = told;
+      faultless = e;
+      from_scratch = shown-all n (glyph_names new.items) told records (glyphs-of new told e) order (all-weaken (IsRenewed keys old new kept) (IsFromScratch n) each records all);
+    }
+  where
+    m : FontBodies
+    m = bodies old.items
+
+    n : FontBodies
+    n = bodies new.items
+
+    fresh : (k : Kept) → IsFromScratch m k → is_stale old keys k.name ≡ false → IsFromScratch n k
+    fresh k is off =
+        let same = untouched_kept keys m n edit.bodies k.name is.segments is.draws off in
+        record { segments = is.segments; run = same.0 ∙ is.run; draws = same.1 ∙ is.draws; box = is.box }
+
+    before : AllByRecursion (IsFromScratch m) kept
+    before = scratch-all m (glyph_names old.items) was.glyphs kept (glyphs-of old was.glyphs was.faultless) was.from_scratch
+
+    each : (k : Kept) → IsRenewed keys old new kept k → IsFromScratch n k
+    each k is =
+        elim (cases_Bool (is_stale old keys k.name)) [
+          | inl on ↦ is.stale on
+          | inr off ↦ fresh k (one-of (IsFromScratch m) kept k before (is.fresh off)) off
+        ]

@@ -1,0 +1,36 @@
+use Rattle.std.proofs.Common.{Vec, Global, ℕ, ◌≡◌, ◌+◌, cond, ap, sym, subst, ◌∙◌, arith}
+use Rattle.std.specs.Prelude.{◌||◌, ◌&&◌}
+use Rattle.std.specs.Str.{bytes_eq}
+use Rattle.t1_cache.specs.declared.records.Named.{Named}
+use Rattle.t1_cache.specs.Users.{has_pair, key_eq, key_of, lists, users_at, wanted, HasRoom}
+use Rattle.t1_cache.proofs.Adding.{key-itself, less-room, wanted-last, joined-last}
+use Rattle.t1_cache.proofs.users.join_all.Goals as goal
+
+pub join-requires : goal.join-requires
+join-requires c =
+    let rest = c.pop.new.self.items in
+    let p : Named × Vec ℕ Global = (c.in-Some.named, c.in-Some.name) in
+    let key = key_of c.in-Some.named in
+    let all : wanted c.loop-named.left.items key ≡ wanted rest key + 1 =
+    ap (λ l. wanted l key) c.in-Some.ensures.items ∙ wanted-last rest p key
+    ∙ ap (λ b. cond b (wanted rest key + 1) (wanted rest key)) (key-itself key) in
+    less-room 1 (wanted c.loop-named.left.items key) (users_at c.loop-named.records key) (omega (arith, all)) (c.loop-named.invariant.room key)
+
+pub loop-named-preserved : goal.loop-named-preserved
+loop-named-preserved c =
+    let rest = c.pop.new.self.items in
+    let p : Named × Vec ℕ Global = (c.in-Some.named, c.in-Some.name) in
+    let told = c.join.ensures in
+    let was = c.loop-named.invariant in
+    let had = lists c.loop-named.records in
+    record {
+      room = λ k.
+          told.room k (wanted rest k)
+          (subst (λ n. HasRoom n (users_at c.loop-named.records k)) (ap (λ l. wanted l k) c.in-Some.ensures.items ∙ wanted-last rest p k) (was.room k));
+      users = λ k u.
+          ap (λ b. b || has_pair rest k u) (told.users k u)
+          ∙ joined-last rest p k u (had k u)
+          ∙ sym (ap (λ l. had k u || has_pair l k u) c.in-Some.ensures.items)
+          ∙ was.users k u;
+      rest = told.rest ∙ was.rest;
+    }

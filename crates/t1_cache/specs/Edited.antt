@@ -1,0 +1,41 @@
+-- What edits name, and the glyphs that they make stale.
+use Rattle.std.specs.Prelude.{◌≡◌, ℕ, ℤ, pos, negsuc, Bool, not, List, [], ◌∷◌, filter}
+use Rattle.t1_parts.specs.SourceParts.{SourceParts}
+use Rattle.t1_source.specs.declared.edit.Edit.{Edit}
+use Rattle.t1_source.specs.declared.edit.Edit.TheVariants.{ReplaceGlyph, AddGlyph, RemoveGlyph, ReplaceSubr, AddSubr, RemoveSubr, Encode, Unencode, Kern, Unkern}
+use Rattle.t1_run.specs.Run.{Key, Subr, Glyph}
+use Rattle.t1_run.specs.Touched.{SameBut, is_named, is_touched}
+use Rattle.t1_font.specs.Bodies.{bodies}
+use Rattle.t1_font.specs.Glyphs.{glyph_names}
+
+abbrev pub subr_key : ℤ → List Key
+subr_key (pos n) = Subr n ∷ []
+subr_key (negsuc n) = []
+
+-- profile: what an edit replaces, adds or removes; nothing where it edits slots or pairs alone
+abbrev pub named : Edit → List Key
+named (ReplaceGlyph g body) = Glyph g ∷ []
+named (AddGlyph g body) = Glyph g ∷ []
+named (RemoveGlyph g) = Glyph g ∷ []
+named (ReplaceSubr n body) = subr_key n
+named (AddSubr n body) = subr_key n
+named (RemoveSubr n) = subr_key n
+named (Encode code g) = []
+named (Unencode code) = []
+named (Kern left right value) = []
+named (Unkern left right) = []
+
+-- one source is another, edited at these keys: the other bodies are the same, and the other glyphs stand in the same order
+pub record IsEditedAt (keys : List Key) (old new : SourceParts) : Type 0 where
+  pub bodies : SameBut keys (bodies old.items) (bodies new.items)
+  pub order : filter (λ g. not (is_named keys g)) (glyph_names old.items) ≡ filter (λ g. not (is_named keys g)) (glyph_names new.items)
+
+-- profile: the glyphs that edits of a source at these keys make stale: those that an edit replaced or added; those whose
+-- own run entered a Subr that an edit replaced or removed; the composites on any of these or on a glyph that an edit
+-- removed. Keys that an edit added are among them: nothing of a source without a fault used them
+abbrev pub is_stale : SourceParts → List Key → List ℕ → Bool
+is_stale s keys g = is_touched (bodies s.items) keys g
+
+-- those of the edited source, in its order
+abbrev pub stale : SourceParts → List Key → SourceParts → List (List ℕ)
+stale old keys new = filter (is_stale old keys) (glyph_names new.items)

@@ -1,0 +1,33 @@
+-- What is kept of a source's glyphs.
+use Rattle.std.specs.Prelude.{◌≡◌, ℕ, List, [], ◌∷◌, map, flat_map, Option, Ok}
+use Rattle.std.specs.List.{AllByRecursion, list_any}
+use Rattle.std.specs.Str.{bytes_eq}
+use Rattle.t1_parts.specs.SourceParts.{SourceParts}
+use Rattle.t1_parts.specs.declared.item.Item.{Item}
+use Rattle.t1_parts.specs.declared.item.Item.TheVariants as items
+use Rattle.t1_run.specs.Run.{FontBodies, Key, Subr, Glyph, Drawing, NumberedRun, own}
+use Rattle.t1_run.specs.Touched.{is_user}
+use Rattle.t1_afm.specs.declared.bbox.BBox.{BBox}
+use Rattle.t1_afm.specs.Box.{drawn_box}
+use Rattle.t1_font.specs.Bodies.{bodies}
+use Rattle.t1_font.specs.Glyphs.{Glyph as Told, glyph_names}
+use Rattle.t1_font.specs.SourceChecks.{source_glyphs}
+use Rattle.t1_cache.specs.Renewed.{Kept}
+
+-- a record, its serial aside
+pub record Shown : Type 0 where
+  pub name : List ℕ
+  pub drawing : Drawing
+  pub box : Option BBox
+
+abbrev pub shown : Kept → Shown
+shown k = record { name = k.name; drawing = k.run.drawing; box = k.box }
+
+abbrev pub shown_from : Told → Shown
+shown_from g = record { name = g.name; drawing = g.drawing; box = drawn_box g.outline }
+
+-- the source has no fault, and the records are those of its glyphs from scratch, in source order
+pub record KeepsAll (s : SourceParts) (records : List Kept) : Type 0 where
+  pub glyphs : List Told
+  pub faultless : source_glyphs s ≡ Ok glyphs
+  pub from_scratch : map shown records ≡ map shown_from glyphs

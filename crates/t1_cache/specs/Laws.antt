@@ -1,0 +1,73 @@
+-- Why it is enough to judge the stale glyphs.
+use Rattle.std.specs.Prelude.{◌≡◌, ◌&&◌, ℕ, Bool, true, false, Option, Some, List, [], ◌∷◌, ◌++◌, filter, length, Result, Ok}
+use Rattle.std.specs.List.{AllByRecursion, list_any}
+use Rattle.std.specs.Str.{bytes_eq}
+use Rattle.t1_parts.specs.declared.item.Item.{Item}
+use Rattle.t1_parts.specs.declared.item.Item.TheVariants as items
+use Rattle.t1_parts.specs.Counts.{raised}
+use Rattle.t1_run.specs.Footprint.{Includes}
+use Rattle.t1_frac.specs.declared.fault.Code.{Code}
+use Rattle.t1_frac.specs.declared.fault.Fault.{Fault}
+use Rattle.t1_frac.specs.Outcome.{◌>>=◌}
+use Rattle.t1_source.specs.declared.edit.Edit.{Edit}
+use Rattle.t1_source.specs.declared.pairs.Pair.{Pair}
+use Rattle.t1_source.specs.Editing.{edited}
+use Rattle.t1_parts.specs.SourceParts.{SourceParts}
+use Rattle.t1_run.specs.Run.{Key, Subr, Glyph, Drawing, own}
+use Rattle.t1_run.specs.Composite.{outline_within, outline}
+use Rattle.t1_code.specs.declared.command.Command.{Command}
+use Rattle.t1_font.specs.Bodies.{bodies}
+use Rattle.t1_font.specs.Glyphs.{Glyph as Told, glyphs, glyph_names}
+use Rattle.t1_cache.specs.Edited.{IsEditedAt, named, is_stale, stale}
+
+-- whether glyphs have no fault, or their first one
+abbrev pub check : {X : Type 0} → Result X Fault → Result (Unit {0}) Fault
+check r = r >>= λ _. Ok tt
+
+-- the first fault of the glyphs of an edited source is that of its stale glyphs
+abbrev pub FirstFaultLaw : Type 0
+FirstFaultLaw =
+    (keys : List Key) (old new : SourceParts) (was : List Told) → IsEditedAt keys old new → glyphs (bodies old.items) (glyph_names old.items) ≡ Ok was
+    → check (glyphs (bodies new.items) (glyph_names new.items)) ≡ check (glyphs (bodies new.items) (stale old keys new))
+
+-- an entry's key is among these
+abbrev pub IsAmong : List Key → Item → Type 0
+IsAmong keys (items.Subr n words closing) = Includes keys (Subr n)
+IsAmong keys (items.Glyph g words closing) = Includes keys (Glyph g)
+IsAmong keys (items.Plain line) = Unit {0}
+IsAmong keys (items.Section before n after) = Unit {0}
+
+-- entries of these keys in the place of others of these keys, with the counts raised, edit a source at the keys
+abbrev pub MiddleLaw : Type 0
+MiddleLaw =
+    (keys : List Key) (old new : SourceParts) (a xs ys b : List Item) → AllByRecursion (IsAmong keys) xs → AllByRecursion (IsAmong keys) ys
+    → old.items ≡ a ++ (xs ++ b) → new.items ≡ raised (a ++ (ys ++ b)) → IsEditedAt keys old new
+
+-- each of the ten edits changes a source at the key that it names, and nowhere else
+abbrev pub EditLaw : Type 0
+EditLaw = (s : SourceParts) (k : List Pair) (edit : Edit) (made : SourceParts) (ps : List Pair) → edited s k edit ≡ Ok (made, ps) → IsEditedAt (named edit) s made
+
+-- edits taken in turn edit a source at the keys of all
+abbrev pub TurnLaw : Type 0
+TurnLaw = (ks ls : List Key) (a b c : SourceParts) → IsEditedAt ks a b → IsEditedAt ls b c → IsEditedAt (ks ++ ls) a c
+
+abbrev pub AreDistinct : List (List ℕ) → Type 0
+AreDistinct [] = Unit {0}
+AreDistinct (g ∷ names) = (list_any (bytes_eq g) names ≡ false) × AreDistinct names
+
+-- names that were found, each once, are as many as the glyphs that pass, where they are these glyphs
+abbrev pub CountLaw : Type 0
+CountLaw =
+    (names found : List (List ℕ)) (p : List ℕ → Bool) → AreDistinct names → AreDistinct found
+    → ((g : List ℕ) → list_any (bytes_eq g) found ≡ (list_any (bytes_eq g) names && p g)) → length found ≡ length (filter p names)
+
+-- where each glyph of the edited font has its run, made again where it is stale and kept where it isn't, the outlines by
+-- these runs are those of the edited font
+abbrev pub NewestLaw : Type 0
+NewestLaw =
+    (keys : List Key) (old new : SourceParts) (was : List Told) → IsEditedAt keys old new → glyphs (bodies old.items) (glyph_names old.items) ≡ Ok was
+    → (run : List ℕ → Option (Result Drawing Code))
+    → ((g : List ℕ) (body : List Command) → (bodies new.items).glyphs g ≡ Some body → is_stale old keys g ≡ true → run g ≡ own (bodies new.items) g)
+    → ((g : List ℕ) (body : List Command) → (bodies new.items).glyphs g ≡ Some body → is_stale old keys g ≡ false → run g ≡ own (bodies old.items) g)
+    → (g : List ℕ) (body : List Command) → (bodies new.items).glyphs g ≡ Some body
+    → (run g ≡ own (bodies new.items) g) × (outline_within run 4 g ≡ outline (bodies new.items) g)

@@ -1,0 +1,10 @@
+pub mod Edited
+pub mod Found
+pub mod Joins
+pub mod Kept
+pub mod Laws
+pub mod Overlay
+pub mod Renewal
+pub mod Renewed
+pub mod Tables
+pub mod Users

@@ -1,0 +1,28 @@
+-- The bodies of an edited font over those of the font before.
+use Rattle.std.specs.Prelude.{◌≡◌, ℕ, List, Option, Some, None}
+use Rattle.t1_code.specs.declared.command.Command.{Command}
+use Rattle.t1_run.specs.Run.{FontBodies, Key, Subr, Glyph, font}
+use Rattle.t1_run.specs.Footprint.{Includes}
+use Rattle.t1_run.specs.Overlay.{changed}
+use Rattle.t1_run.specs.Touched.{SameBut}
+use Rattle.t1_font.specs.Bodies.{SameBodies}
+
+-- profile: a font with some bodies set and some taken out
+abbrev pub overlaid : (ℕ → Option (Option (List Command))) → (List ℕ → Option (Option (List Command))) → FontBodies → FontBodies
+overlaid subrs glyphs m = font (λ n. changed (subrs n) (m.subrs n)) (λ g. changed (glyphs g) (m.glyphs g))
+
+-- what is changed at a key
+abbrev pub change_at : (ℕ → Option (Option (List Command))) → (List ℕ → Option (Option (List Command))) → Key → Option (Option (List Command))
+change_at subrs glyphs (Subr n) = subrs n
+change_at subrs glyphs (Glyph g) = glyphs g
+
+abbrev pub body_at : FontBodies → Key → Option (List Command)
+body_at m (Subr n) = m.subrs n
+body_at m (Glyph g) = m.glyphs g
+
+-- a font that differs from another at these keys alone is the other with what it has at each of them
+abbrev pub OverlayLaw : Type 0
+OverlayLaw =
+    (keys : List Key) (m n : FontBodies) → SameBut keys m n → (subrs : ℕ → Option (Option (List Command))) (glyphs : List ℕ → Option (Option (List Command)))
+    → ((k : Key) (body : Option (List Command)) → change_at subrs glyphs k ≡ Some body → body ≡ body_at n k)
+    → ((k : Key) → change_at subrs glyphs k ≡ None → Includes keys k → ⊥) → SameBodies (overlaid subrs glyphs m) n

@@ -1,0 +1,38 @@
+-- The records of an edited font.
+use Rattle.std.specs.Prelude.{◌≡◌, ◌⊎◌, true, false, List, [], ◌∷◌, map, Some, Ok}
+use Rattle.std.specs.List.{AllByRecursion}
+use Rattle.t1_parts.specs.SourceParts.{SourceParts}
+use Rattle.t1_run.specs.declared.outline.Segment.{Segment}
+use Rattle.t1_run.specs.Run.{FontBodies, Key, own}
+use Rattle.t1_run.specs.Composite.{outline}
+use Rattle.t1_afm.specs.Box.{drawn_box}
+use Rattle.t1_font.specs.Bodies.{bodies}
+use Rattle.t1_font.specs.Glyphs.{Glyph as Told, glyph_names}
+use Rattle.t1_font.specs.SourceChecks.{source_glyphs}
+use Rattle.t1_cache.specs.Edited.{IsEditedAt, is_stale}
+use Rattle.t1_cache.specs.Kept.{KeepsAll}
+use Rattle.t1_cache.specs.Renewed.{Kept}
+
+-- a record tells the own run of its glyph, and the box of its outline
+pub record IsFromScratch (m : FontBodies) (k : Kept) : Type 0 where
+  pub segments : List Segment
+  pub run : own m k.name ≡ Some (Ok k.run.drawing)
+  pub draws : outline m k.name ≡ Ok segments
+  pub box : k.box ≡ drawn_box segments
+
+abbrev pub IsOneOf : List Kept → Kept → Type 0
+IsOneOf [] k = ⊥
+IsOneOf (x ∷ xs) k = (x ≡ k) ⊎ IsOneOf xs k
+
+-- a record of a stale glyph is from scratch, and another is one that was kept
+pub record IsRenewed (keys : List Key) (old new : SourceParts) (kept : List Kept) (k : Kept) : Type 0 where
+  pub stale : is_stale old keys k.name ≡ true → IsFromScratch (bodies new.items) k
+  pub fresh : is_stale old keys k.name ≡ false → IsOneOf kept k
+
+-- records in the order of the new names, each renewed where it is stale and kept else, are those of the edited source,
+-- where it has no fault
+abbrev pub RenewalLaw : Type 0
+RenewalLaw =
+    (keys : List Key) (old new : SourceParts) → IsEditedAt keys old new → (told : List Told) → source_glyphs new ≡ Ok told
+    → (kept records : List Kept) → KeepsAll old kept → map (λ k. k.name) records ≡ glyph_names new.items
+    → AllByRecursion (IsRenewed keys old new kept) records → KeepsAll new records

@@ -1,0 +1,33 @@
+-- Records of glyphs, their users aside, renewed in their places.
+use Rattle.std.specs.Prelude.{ℕ, List, [], ◌∷◌, Option, Result, Ok, if◌then◌else◌}
+use Rattle.std.specs.Map.{lookup}
+use Rattle.std.specs.Option.{option_map}
+use Rattle.std.specs.Str.{bytes_eq}
+use Rattle.std.specs.declared.alloc.Global.{Global}
+use Rattle.std.specs.declared.vec.Vec.{Vec}
+use Rattle.t1_frac.specs.declared.fault.Code.{Code}
+use Rattle.t1_run.specs.Run.{NumberedRun, Drawing}
+use Rattle.t1_afm.specs.declared.bbox.BBox.{BBox}
+use Rattle.t1_cache.specs.declared.records.GlyphRecord.{GlyphRecord}
+use Rattle.t1_cache.specs.declared.records.Records.{Records}
+
+-- profile: a glyph's own run, and the box of its outline where it draws
+pub record Kept : Type 0 where
+  pub name : List ℕ
+  pub run : NumberedRun
+  pub box : Option BBox
+
+abbrev pub kept_of : Vec ℕ Global × GlyphRecord → Kept
+kept_of e = record { name = e.0.items; run = e.1.run; box = e.1.bbox }
+
+abbrev pub record_of : List (Vec ℕ Global × GlyphRecord) → List ℕ → Option GlyphRecord
+record_of entries g = lookup (λ key. bytes_eq g key.items) entries
+
+-- what the run of a glyph's record draws
+abbrev pub run_kept : Records → List ℕ → Option (Result Drawing Code)
+run_kept records g = option_map (λ r. Ok r.run.drawing) (record_of records.glyphs.entries g)
+
+-- the record of this name has another run and box, in its place
+abbrev pub with_run : List ℕ → NumberedRun → Option BBox → List Kept → List Kept
+with_run name run box [] = []
+with_run name run box (k ∷ kept) = if bytes_eq name k.name then record { name = k.name; run = run; box = box } ∷ kept else k ∷ with_run name run box kept

@@ -1,0 +1,100 @@
+-- The users of Subrs and glyphs, as their records list them.
+use Rattle.std.specs.Prelude.{◌≡◌, ◌≤◌, ◌&&◌, ℕ, Bool, false, nat_eq, List, map, Option, Some, None}
+use Rattle.std.specs.List.{list_any, count_by}
+use Rattle.std.specs.Map.{lookup}
+use Rattle.std.specs.Option.{option_map}
+use Rattle.std.specs.Str.{bytes_eq}
+use Rattle.std.specs.declared.alloc.Global.{Global}
+use Rattle.std.specs.declared.vec.Vec.{Vec}
+use Rattle.indexmap.specs.IndexSet.{IndexSet, spare}
+use Rattle.t1_code.specs.declared.command.Command.{Command}
+use Rattle.t1_run.specs.Run.{Key, Subr, Glyph, NumberedRun}
+use Rattle.t1_afm.specs.declared.bbox.BBox.{BBox}
+use Rattle.t1_cache.specs.declared.records.GlyphRecord.{GlyphRecord}
+use Rattle.t1_cache.specs.declared.records.SubrRecord.{SubrRecord}
+use Rattle.t1_cache.specs.declared.records.Records.{Records}
+use Rattle.t1_cache.specs.declared.records.Named.{Named}
+use Rattle.t1_cache.specs.declared.records.Named.TheVariants as named
+
+-- a name is among these
+abbrev pub has : {K : Type 0} → (K → List ℕ) → List K → List ℕ → Bool
+has name ks g = list_any (λ k. bytes_eq g (name k)) ks
+
+-- the names that a record lists, and how many more fit in with no allocation
+pub record UserSet : Type 0 where
+  pub names : List (Vec ℕ Global)
+  pub room : ℕ
+
+abbrev pub users_of : {S : Type 0} → IndexSet (Vec ℕ Global) S → UserSet
+users_of s = record { names = s.keys; room = spare s }
+
+abbrev pub subr_users : List (ℕ × SubrRecord) → ℕ → Option UserSet
+subr_users entries n = option_map (λ r. users_of r.users) (lookup (nat_eq n) entries)
+
+abbrev pub glyph_users : List (Vec ℕ Global × GlyphRecord) → List ℕ → Option UserSet
+glyph_users entries g = option_map (λ r. users_of r.users) (lookup (λ key. bytes_eq g key.items) entries)
+
+-- the users of a Subr or a glyph that has a record
+abbrev pub users_at : Records → Key → Option UserSet
+users_at r (Subr n) = subr_users r.subrs.entries n
+users_at r (Glyph g) = glyph_users r.glyphs.entries g
+
+abbrev pub among : Option UserSet → List ℕ → Bool
+among None u = false
+among (Some users) u = has (λ name. name.items) users.names u
+
+-- profile: the record of a Subr or a glyph lists a glyph as a user
+abbrev pub lists : Records → Key → List ℕ → Bool
+lists r key u = among (users_at r key) u
+
+-- so many users more fit in with no allocation; none, where there is no record
+abbrev pub HasRoom : ℕ → Option UserSet → Type 0
+HasRoom count None = count ≡ 0
+HasRoom count (Some users) = count ≤ users.room
+
+-- ---- records without their users
+
+pub record SubrRest : Type 0 where
+  pub number : ℕ
+  pub body : List Command
+
+pub record GlyphRest : Type 0 where
+  pub name : List ℕ
+  pub body : List Command
+  pub run : NumberedRun
+  pub bbox : Option BBox
+
+pub record Rest : Type 0 where
+  pub subrs : List SubrRest
+  pub glyphs : List GlyphRest
+
+abbrev pub subr_rest : ℕ × SubrRecord → SubrRest
+subr_rest e = record { number = e.0; body = e.1.body }
+
+abbrev pub glyph_rest : Vec ℕ Global × GlyphRecord → GlyphRest
+glyph_rest e = record { name = e.0.items; body = e.1.body; run = e.1.run; bbox = e.1.bbox }
+
+abbrev pub rest_of : Records → Rest
+rest_of r = record { subrs = map subr_rest r.subrs.entries; glyphs = map glyph_rest r.glyphs.entries }
+
+-- ---- users that leave and join
+
+abbrev pub key_of : Named → Key
+key_of (named.Subr n) = Subr n
+key_of (named.Glyph g) = Glyph g
+
+abbrev pub key_eq : Key → Key → Bool
+key_eq (Subr n) (Subr m) = nat_eq n m
+key_eq (Glyph g) (Glyph h) = bytes_eq g h
+key_eq _ _ = false
+
+-- a Subr or a glyph, and the glyph that leaves or joins its users
+abbrev pub Pairs : Type 0
+Pairs = List (Named × Vec ℕ Global)
+
+-- how many of them are of this key
+abbrev pub wanted : Pairs → Key → ℕ
+wanted pairs k = count_by (λ p. key_eq k (key_of p.0)) pairs
+
+abbrev pub has_pair : Pairs → Key → List ℕ → Bool
+has_pair pairs k u = list_any (λ p. key_eq k (key_of p.0) && bytes_eq u p.1.items) pairs

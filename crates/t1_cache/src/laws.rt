@@ -1,0 +1,55 @@
+//! Laws of edited sources, and of what is kept of a font under edits.
+ghost use Rattle.t1_cache.specs.Joins.{JoinsLaw, KeptRunLaw};
+ghost use Rattle.t1_cache.specs.Laws.{CountLaw, EditLaw, FirstFaultLaw, MiddleLaw, NewestLaw, TurnLaw};
+ghost use Rattle.t1_cache.specs.Overlay.{OverlayLaw};
+ghost use Rattle.t1_cache.specs.Renewal.{RenewalLaw};
+
+/// Entries that are put in, taken out or replaced change a source at their keys, and nowhere else.
+pub fn middle()
+    ensures { MiddleLaw }
+{}
+
+/// Each edit changes a source at the key that it names, and nowhere else.
+pub fn edits()
+    ensures { EditLaw }
+{}
+
+/// Edits taken in turn change a source at the keys of all.
+pub fn turn()
+    ensures { TurnLaw }
+{}
+
+/// Bodies with those changed that an edit changes are the bodies of the edited font.
+pub fn overlay()
+    ensures { OverlayLaw }
+{}
+
+/// Of a source that was edited, only stale glyphs can have a fault, and the first of theirs is its first.
+pub fn first_fault()
+    ensures { FirstFaultLaw }
+{}
+
+/// Outlines by kept runs and by runs of stale glyphs that were made again are those of the edited font.
+pub fn newest()
+    ensures { NewestLaw }
+{}
+
+/// A glyph that isn't stale keeps its run.
+pub fn kept_run()
+    ensures { KeptRunLaw }
+{}
+
+/// Names that were found, each once, are as many as the glyphs that they are.
+pub fn count()
+    ensures { CountLaw }
+{}
+
+/// Records in the order of the edited source, renewed where they are stale and kept else, are its records.
+pub fn renewal()
+    ensures { RenewalLaw }
+{}
+
+/// Tables of users that stale glyphs left by their old runs, and joined by their new ones, are those of the edited font.
+pub fn joins()
+    ensures { JoinsLaw }
+{}

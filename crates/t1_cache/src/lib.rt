@@ -1,0 +1,23 @@
+//! What is kept of a font's glyphs under edits: which of them an edit makes stale, and their records renewed.
+//!
+//! [`found`] gives the names of the glyphs that edits make stale, by the users that the records list. [`renew`] puts a new
+//! run and box into a record, and [`move_users`] takes
+//! glyphs out of the users of Subrs and glyphs and puts others in. [`laws`] say why this is enough: all else is as
+//! it would be from scratch.
+#![tactic(auto)]
+
+pub mod laws;
+mod records;
+mod renewed;
+mod stale;
+mod users;
+mod uses;
+
+pub use records::{GlyphRecord, Named, Names, Records, SubrRecord};
+pub use renewed::renew;
+pub use stale::found;
+pub use users::move_users;
+pub use uses::leaves_of;
+
+#[cfg(test)]
+mod tests;

@@ -1,0 +1,40 @@
+//! What is kept of a font's entries.
+
+use indexmap::{IndexMap, IndexSet};
+use t1_afm::BBox;
+use t1_code::Body;
+use t1_frac::Bytes;
+use t1_run::Run;
+
+/// Names of glyphs, each once.
+pub type Names = IndexSet<Vec<u8>>;
+
+/// A Subr: its compiled body, and the glyphs whose own run enters it.
+#[derive(Drop)]
+pub struct SubrRecord {
+    pub body: Body,
+    pub users: Names,
+}
+
+/// A glyph: its compiled body, its own run, the box of its outline where it draws, and the composites on it.
+#[derive(Drop)]
+pub struct GlyphRecord {
+    pub body: Body,
+    pub run: Run,
+    pub bbox: Option<BBox>,
+    pub users: Names,
+}
+
+/// The records of a font's Subrs and glyphs.
+#[derive(Drop)]
+pub struct Records {
+    pub subrs: IndexMap<u16, SubrRecord>,
+    pub glyphs: IndexMap<Vec<u8>, GlyphRecord>,
+}
+
+/// A Subr by its number, or a glyph by its name.
+#[derive(Debug, Drop)]
+pub enum Named {
+    Subr(u16),
+    Glyph(Bytes),
+}

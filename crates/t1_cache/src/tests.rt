@@ -1,0 +1,167 @@
+//! The records of the demo font's composite and its parts, with memory that doesn't run out.
+use super::*;
+use indexmap::{IndexMap, IndexSet};
+use std::alloc::Global;
+use std::test::Fail;
+use t1_code::{Body, compile};
+use t1_frac::{Bytes, Words};
+use t1_run::{Bodies, Meter, Plain, run};
+
+/// Three glyphs of the demo font with their words and the composites on them; acute enters Subr 4.
+const GLYPHS: [(&str, &str, &[&str]); 3] = [
+    ("Aacute", "10 600 hsbw 93 170 214 65 194 seac", &[]),
+    (
+        "A",
+        "10 600 hsbw 300 hlineto 700 vlineto closepath endchar",
+        &["Aacute"],
+    ),
+    (
+        "acute",
+        "93 333 hsbw 500 vmoveto 4 callsubr closepath endchar",
+        &["Aacute"],
+    ),
+];
+
+const SUBR_4: &str = "100 178 rlineto return";
+
+fn body(alloc: Global, words: &str) -> Result<Body, Fail> {
+    let mut list = Words::new(alloc);
+    list.push_line(words.as_bytes())?;
+    Ok(compile(alloc, &list)?)
+}
+
+fn names(alloc: Global, users: &[&str]) -> Result<Names, Fail> {
+    let mut names = IndexSet::new(alloc);
+    for user in users {
+        names.insert(Vec::from_slice(alloc, user.as_bytes())?)?;
+    }
+    Ok(names)
+}
+
+fn bodies(alloc: Global) -> Result<Plain, Fail> {
+    let mut subrs = IndexMap::new(alloc);
+    subrs.insert(4, body(alloc, SUBR_4)?)?;
+    let mut glyphs = IndexMap::new(alloc);
+    for (name, words, _) in &GLYPHS {
+        glyphs.insert(
+            Vec::from_slice(alloc, name.as_bytes())?,
+            body(alloc, words)?,
+        )?;
+    }
+    Ok(Plain { subrs, glyphs })
+}
+
+fn glyph_record(
+    alloc: Global,
+    bodies: &Plain,
+    meter: &mut Meter,
+    glyph: &(&str, &str, &[&str]),
+) -> Result<GlyphRecord, Fail> {
+    let (name, words, users) = glyph;
+    if bodies.glyph(name.as_bytes()).is_none() {
+        return Err(Fail::new("no such glyph"));
+    }
+    Ok(GlyphRecord {
+        body: body(alloc, words)?,
+        run: run(alloc, bodies, name.as_bytes(), meter)?,
+        bbox: None,
+        users: names(alloc, users)?,
+    })
+}
+
+fn records(alloc: Global) -> Result<Records, Fail> {
+    let bodies = bodies(alloc)?;
+    let mut meter = Meter::new();
+    let mut subrs = IndexMap::new(alloc);
+    let subr = SubrRecord {
+        body: body(alloc, SUBR_4)?,
+        users: names(alloc, &["acute"])?,
+    };
+    subrs.insert(4, subr)?;
+    let mut glyphs = IndexMap::new(alloc);
+    for glyph in &GLYPHS {
+        let record = glyph_record(alloc, &bodies, &mut meter, glyph)?;
+        glyphs.insert(Vec::from_slice(alloc, glyph.0.as_bytes())?, record)?;
+    }
+    Ok(Records { subrs, glyphs })
+}
+
+/// Whether an edit of this Subr or glyph makes these glyphs stale, found in this order.
+fn makes_stale(
+    alloc: Global,
+    records: &Records,
+    edit: Named,
+    names: &[&str],
+) -> Result<bool, Fail> {
+    let edits = [edit];
+    let found = found(alloc, records, &edits)?;
+    let found = found.as_slice();
+    Ok(
+        found.len() == names.len()
+            && found
+                .iter()
+                .zip(names)
+                .all(|(name, wanted)| *name == wanted.as_bytes()),
+    )
+}
+
+#[test]
+fn finds_stale_glyphs(rt: HostRuntime) -> Result<(), Fail> {
+    let records = records(rt.alloc())?;
+    let by_subr = makes_stale(rt.alloc(), &records, Named::Subr(4), &["acute", "Aacute"])?;
+    assert!(rt; by_subr);
+    let name = Bytes::copied(rt.alloc(), b"A")?;
+    let by_glyph = makes_stale(rt.alloc(), &records, Named::Glyph(name), &["A", "Aacute"])?;
+    assert!(rt; by_glyph);
+    Ok(())
+}
+
+#[test]
+fn finds_none_by_another_subr(rt: HostRuntime) -> Result<(), Fail> {
+    let records = records(rt.alloc())?;
+    let none = makes_stale(rt.alloc(), &records, Named::Subr(3), &[])?;
+    assert!(rt; none);
+    Ok(())
+}
+
+/// Whether an edit of Subr 4 makes nothing stale once acute left its users.
+fn leaves_subr(alloc: Global) -> Result<bool, Fail> {
+    let mut records = records(alloc)?;
+    let acute: &[u8] = b"acute";
+    let leaves = leaves_of(alloc, &records, &[acute])?;
+    let one = leaves.len() == 1;
+    move_users(&mut records, leaves, Vec::new(alloc));
+    let none = makes_stale(alloc, &records, Named::Subr(4), &[])?;
+    Ok(one && none)
+}
+
+#[test]
+fn moves_users(rt: HostRuntime) -> Result<(), Fail> {
+    let left = leaves_subr(rt.alloc())?;
+    assert!(rt; left);
+    Ok(())
+}
+
+/// The serial of acute's run, and of the run that it had.
+fn renewed_serials(alloc: Global) -> Result<(u64, u64), Fail> {
+    let mut records = records(alloc)?;
+    let bodies = bodies(alloc)?;
+    if bodies.glyph(b"acute").is_none() {
+        return Err(Fail::new("no such glyph"));
+    }
+    let again = run(alloc, &bodies, b"acute", &mut Meter::new())?;
+    let Some(old) = renew(&mut records.glyphs, b"acute", again, None) else {
+        return Err(Fail::new("no record"));
+    };
+    match records.glyphs.get(b"acute".as_slice()) {
+        None => Err(Fail::new("no record")),
+        Some(record) => Ok((record.run.serial(), old.serial())),
+    }
+}
+
+#[test]
+fn renews_a_record(rt: HostRuntime) -> Result<(), Fail> {
+    let serials = renewed_serials(rt.alloc())?;
+    assert!(rt; serials == (1, 3));
+    Ok(())
+}

@@ -1,0 +1,91 @@
+//! What runs use: the Subrs that they enter, and the parts of composites.
+ghost use Rattle.std.specs.Prelude.{◌≡◌, ◌&&◌, ◌||◌, [], ℕ, List, None, Some, IfOk, OnOk};
+ghost use Rattle.std.specs.Str.{bytes_eq};
+ghost use Rattle.t1_run.specs.Footprint.{asks};
+ghost use Rattle.t1_run.specs.Run.{Key};
+ghost use Rattle.t1_run.specs.Touched.{is_user};
+ghost use Rattle.t1_cache.specs.Renewed.{run_kept};
+ghost use Rattle.t1_cache.specs.Users.{has, has_pair, key_eq, key_of};
+
+use crate::records::{Named, Records};
+use std::alloc::{AllocError, Global};
+use t1_frac::Bytes;
+use t1_run::{Composite, Run};
+
+/// Adds a Subr or a glyph, with a glyph that uses it.
+fn push_use(
+    alloc: Global,
+    pairs: &mut Vec<(Named, Vec<u8>)>,
+    named: Named,
+    name: &[u8],
+) -> Result<(), AllocError>
+    ensures { OnOk result ((k : Key) (u : List ℕ) → has_pair pairs.new.items k u ≡ (has_pair pairs.old.items k u || (key_eq k (key_of named) && bytes_eq u name.now))) }
+{
+    pairs.push((named, Vec::from_slice(alloc, name)?))?;
+    Ok(())
+}
+
+/// Adds each of these Subrs, with the glyph whose run enters it.
+fn push_entered(
+    alloc: Global,
+    pairs: &mut Vec<(Named, Vec<u8>)>,
+    entered: &[u16],
+    name: &[u8],
+) -> Result<(), AllocError>
+    ensures { OnOk result ((k : Key) (u : List ℕ) → has_pair pairs.new.items k u ≡ (has_pair pairs.old.items k u || (asks None entered.now k && bytes_eq u name.now))) }
+{
+    for number in entered {
+        push_use(alloc, pairs, Named::Subr(*number), name)?;
+    }
+    Ok(())
+}
+
+/// Adds the parts of a composite, with the composite.
+fn push_parts(
+    alloc: Global,
+    pairs: &mut Vec<(Named, Vec<u8>)>,
+    parts: &Composite,
+    name: &[u8],
+) -> Result<(), AllocError>
+    ensures { OnOk result ((k : Key) (u : List ℕ) → has_pair pairs.new.items k u ≡ (has_pair pairs.old.items k u || (asks (Some parts.now) [] k && bytes_eq u name.now))) }
+{
+    let base = Bytes::copied(alloc, parts.base.as_slice())?;
+    push_use(alloc, pairs, Named::Glyph(base), name)?;
+    let accent = Bytes::copied(alloc, parts.accent.as_slice())?;
+    push_use(alloc, pairs, Named::Glyph(accent), name)?;
+    Ok(())
+}
+
+/// Adds each Subr and each glyph that the run of a glyph uses, with the glyph.
+fn push_uses(
+    alloc: Global,
+    pairs: &mut Vec<(Named, Vec<u8>)>,
+    run: &Run,
+    name: &[u8],
+) -> Result<(), AllocError>
+    ensures { OnOk result ((k : Key) (u : List ℕ) → has_pair pairs.new.items k u ≡ (has_pair pairs.old.items k u || (asks run.now.drawing.composite run.now.drawing.entered k && bytes_eq u name.now))) }
+{
+    push_entered(alloc, pairs, run.entered(), name)?;
+    if let Some(parts) = run.composite() {
+        push_parts(alloc, pairs, parts, name)?;
+    }
+    Ok(())
+}
+
+/// The users that these glyphs leave: each Subr and each glyph that the run of a glyph's record uses, with the glyph.
+pub fn leaves_of(
+    alloc: Global,
+    records: &Records,
+    names: &[&[u8]],
+) -> Result<Vec<(Named, Vec<u8>)>, AllocError>
+    ensures { IfOk result (λ pairs. (k : Key) (u : List ℕ) → has_pair pairs.items k u ≡ (has (λ name. name.now) names.now u && is_user k (run_kept records.now u))) }
+{
+    let mut pairs = Vec::new(alloc);
+    for name in names {
+        let Some(record) = records.glyphs.get(*name) else {
+            continue;
+        };
+        push_uses(alloc, &mut pairs, &record.run, name)?;
+    }
+    Ok(pairs)
+}
