@@ -1,0 +1,117 @@
+# Generators of random inputs for the tests; no part of the product.
+"""A session of the program with random edits, held against the program's own files made from the printed texts."""
+
+import os
+import subprocess
+
+from chance.sessions import Chooser
+from session import FILES, Session, commands
+from source import kern_text
+
+SECONDS = 60
+
+
+class Unjudged(Session):
+    """Source and pairs by the rules of edits alone; a fault is for the program to report."""
+
+    def judged(self, source):
+        return None
+
+    def state(self):
+        return self.source, self.pairs, self.batch
+
+    def restore(self, state):
+        self.source, self.pairs, self.batch = state
+
+
+class Program:
+    """The program's session, a command and its answer at a time."""
+
+    def __init__(self, program, path):
+        words = [program, "session", path]
+        self.running = subprocess.Popen(words, stdin=subprocess.PIPE, stdout=subprocess.PIPE, stderr=subprocess.PIPE)
+
+    def ask(self, text):
+        """The answer without its line end; of a print the bytes."""
+        self.running.stdin.write(text)
+        self.running.stdin.flush()
+        line = self.running.stdout.readline()
+        if not line.startswith(b"data "):
+            return line[:-1]
+        return self.running.stdout.read(int(line[5:]) + 1)[:-1]
+
+    def close(self):
+        _, complaint = self.running.communicate(timeout=SECONDS)
+        return self.running.returncode, complaint
+
+
+class Driver:
+    """Makes edits on a font, and collects what differs."""
+
+    def __init__(self, program, source, room, chance):
+        self.program, self.room, self.failures, self.counts = program, room, [], {}
+        self.model = Unjudged(source, {}, lacks=FILES)
+        self.chooser = Chooser(chance, self.model)
+        self.write("font.t1", source.text())
+        self.session = Program(program, os.path.join(room, "font.t1"))
+
+    def write(self, name, text):
+        with open(os.path.join(self.room, name), "wb") as file:
+            file.write(text)
+
+    def made(self, verb, *options):
+        """What the program makes of the files: its output, or its complaint."""
+        words = [self.program, verb, *options, os.path.join(self.room, "edited.t1")]
+        ran = subprocess.run(words, capture_output=True, timeout=SECONDS)
+        return ran.stdout if ran.returncode == 0 else ran.stderr
+
+    def measured(self):
+        self.write("edited.t1", self.model.source.text())
+        self.write("edited.kern", kern_text(self.model.pairs))
+        return self.made("measure", "--kern", os.path.join(self.room, "edited.kern"))
+
+    def edits(self, count):
+        for _ in range(count):
+            text = b"print"
+            while text.startswith(b"print"):
+                text = self.chooser.command()
+            self.edit(text, *commands(text)[0])
+            if self.failures:
+                break
+        if self.model.batch is not None:
+            self.edit(b"abort\n", (b"abort",), b"", False)
+        status, complaint = self.session.close()
+        if status or complaint:
+            self.failures.append(f"the session ended with status {status}: {complaint.decode(errors='replace')}")
+
+    def edit(self, text, words, body, is_open):
+        before = self.model.state()
+        wanted = self.model.answer(words, body, is_open).rstrip()
+        found = self.session.ask(text)
+        kind = found.split()[0].decode() if found else "none"
+        self.counts[kind] = self.counts.get(kind, 0) + 1
+        if found != wanted and found.startswith(b"refused F") and wanted == b"ok":
+            self.refused_by_fault(text, words, found, before)
+        elif found != wanted:
+            self.failures.append(f"{text!r} is answered {found!r}, and not {wanted!r}")
+        elif wanted == b"ok" and self.model.batch is None:
+            self.compare(text)
+
+    def refused_by_fault(self, text, words, found, before):
+        """The fault must be that of the edited texts from scratch, and the session the one from before."""
+        if before[2] is not None and words != (b"commit",):
+            self.failures.append(f"{text!r} in a batch is answered {found!r}")
+        elif self.measured() != b"t1edit: " + found[8:] + b"\n":
+            self.failures.append(f"{text!r} is answered {found!r}; from scratch it is {self.measured()[:60]!r}")
+        self.model.restore((before[0], before[1], None))
+        self.compare(text)
+
+    def compare(self, text):
+        """The prints, and the files that the program makes of the texts printed."""
+        afm = self.measured()
+        texts = {"source": self.model.source.text(), "kern": kern_text(self.model.pairs), "afm": afm}
+        texts["pfb"] = self.made("assemble")
+        for name, wanted in texts.items():
+            found = self.session.ask(b"print " + name.encode() + b"\n")
+            if found != wanted:
+                self.failures.append(f"after {text[:60]!r} the {name} printed differs")
