@@ -148,10 +148,11 @@ fn in_place_of(
     if permissions.readonly() {
         return Err(ServeError::Write);
     }
-    let Ok(place) = fs::canonicalize(rt, path) else {
-        return Err(ServeError::Write);
-    };
-    beside(rt, place.into_string(), Some(permissions))
+    match fs::canonicalize(rt, path) {
+        Ok(place) => beside(rt, place.into_string(), Some(permissions)),
+        Err(error) if error.kind() == ErrorKind::OutOfMemory => Err(ServeError::Memory),
+        Err(_) => Err(ServeError::Write),
+    }
 }
 
 /// Gives a file these permissions.
