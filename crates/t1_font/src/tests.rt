@@ -175,3 +175,51 @@ fn tells_the_fault_of_a_part_at_the_composite(rt: HostRuntime) -> Result<(), Fai
     assert_eq!(rt; name.as_slice(), b"Aacute".as_slice());
     Ok(())
 }
+
+/// The usage table of the demo font.
+const USES: &str = "\
+    U .notdef ;\n\
+    U Aacute ; P A ; P acute ;\n\
+    U A ;\n\
+    U acute ; S 4 ;\n\
+    U V ;\n\
+    U space ;\n";
+
+#[test]
+fn tells_the_uses_of_the_demo_font(rt: HostRuntime) -> Result<(), Fail> {
+    let alloc = rt.alloc();
+    let source = read_source(alloc, DEMO.as_bytes())?;
+    let glyphs = measured_source(alloc, &source, &mut Meter::new())?;
+    assert_eq!(rt; usage_text(alloc, glyphs.metrics())?.as_slice(), USES.as_bytes());
+    Ok(())
+}
+
+/// The small font.
+const SMALL: &str = "\
+    %!\n\
+    /Encoding StandardEncoding def\n\
+    currentfile eexec\n\
+    /CharStrings 1 dict dup begin\n\
+    /space {\n\
+    \t0 250 hsbw\n\
+    \tendchar\n\
+    \t} ND\n\
+    end\n\
+    mark currentfile closefile\n";
+
+#[test]
+fn writes_the_small_font_in_hexadecimal(rt: HostRuntime) -> Result<(), Fail> {
+    let source = read_source(rt.alloc(), SMALL.as_bytes())?;
+    let file = pfa_of_source(rt.alloc(), &source)?;
+    assert_eq!(rt; file.len(), 767);
+    assert_eq!(rt; file.as_slice().split_at(52).1.split_at(12).0, b"d9d66f6370ee".as_slice());
+    Ok(())
+}
+
+#[test]
+fn writes_the_small_font_in_blocks(rt: HostRuntime) -> Result<(), Fail> {
+    let source = read_source(rt.alloc(), SMALL.as_bytes())?;
+    assert_eq!(rt; pfb_of_source(rt.alloc(), &source, 40)?.len(), 790);
+    assert_eq!(rt; pfb_of_source(rt.alloc(), &source, 532)?.len(), 694);
+    Ok(())
+}
