@@ -1,6 +1,6 @@
 //! What the helps say after the arguments.
 
-use crate::table::{OF_ASSEMBLING, OF_MEASURING, SECTIONS};
+use crate::table::{all_sections, of_assembling, of_measuring};
 use crate::topic::{Section, list};
 use std::alloc::{AllocError, Global};
 
@@ -62,9 +62,9 @@ fn with_list(alloc: Global, text: &str, sections: &[Section]) -> Result<String, 
 /// The texts of the helps, whose lists come from the one table.
 pub fn help_texts(alloc: Global) -> Result<Helps, AllocError> {
     Ok(Helps {
-        program: list(alloc, &SECTIONS)?,
-        assemble: list(alloc, &OF_ASSEMBLING)?,
-        measure: list(alloc, &OF_MEASURING)?,
-        session: with_list(alloc, SESSION, &SECTIONS)?,
+        program: list(alloc, all_sections())?,
+        assemble: list(alloc, of_assembling())?,
+        measure: list(alloc, of_measuring())?,
+        session: with_list(alloc, SESSION, all_sections())?,
     })
 }

@@ -24,7 +24,7 @@ use std::process::ExitCode;
 use std::{env, io};
 use t1_code::Counted;
 use t1_session::{ServeError, assemble_source, measure_source, serve};
-use table::SECTIONS;
+use table::all_sections;
 
 /// The paths that the command line gives: of the source, and of the kerning file where it names one.
 fn paths<'a>(matches: &ArgMatches<'a>) -> (&'a str, Option<&'a str>) {
@@ -137,7 +137,7 @@ fn run(rt: &HostRuntime, words: &[String]) -> ExitCode {
         Some(("session", matches)) => session(rt, matches),
         Some(("explain", matches)) => {
             let mut out = Counted::new(rt.stdout());
-            explain(rt.alloc(), &SECTIONS, matches.get_str("CODE"), &mut out)
+            explain(rt.alloc(), all_sections(), matches.get_str("CODE"), &mut out)
         }
         _ => Ok(()),
     };

@@ -550,11 +550,23 @@ const STATUSES: Section = Section {
     ],
 };
 
+const SECTIONS: [Section; 6] = [READING, KERNING, BODIES, RUNS, RULES, STATUSES];
+
+const OF_ASSEMBLING: [Section; 3] = [READING, BODIES, STATUSES];
+
+const OF_MEASURING: [Section; 5] = [READING, KERNING, BODIES, RUNS, STATUSES];
+
 /// All of them, in the order in which they are listed.
-pub const SECTIONS: [Section; 6] = [READING, KERNING, BODIES, RUNS, RULES, STATUSES];
+pub fn all_sections() -> &'static [Section] {
+    &SECTIONS
+}
 
 /// What assembling can answer.
-pub const OF_ASSEMBLING: [Section; 3] = [READING, BODIES, STATUSES];
+pub fn of_assembling() -> &'static [Section] {
+    &OF_ASSEMBLING
+}
 
 /// What measuring and checking can answer.
-pub const OF_MEASURING: [Section; 5] = [READING, KERNING, BODIES, RUNS, STATUSES];
+pub fn of_measuring() -> &'static [Section] {
+    &OF_MEASURING
+}
