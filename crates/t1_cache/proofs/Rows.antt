@@ -1,5 +1,5 @@
 -- Which glyphs of the demo font edits make stale.
-use Rattle.std.proofs.Common.{◌≡◌, List, [], ◌∷◌, refl}
+use Rattle.std.proofs.Common.{◌≡◌, [], ◌∷◌, refl}
 use Rattle.std.specs.Prelude.{codes}
 use Rattle.std.specs.Fmt.{digits}
 use Rattle.t1_frac.specs.Fraction.{gcd, lowest}

@@ -9,20 +9,20 @@ use Rattle.t1_run.specs.Run.{Key}
 use Rattle.t1_run.specs.Touched.{is_user}
 use Rattle.t1_cache.specs.declared.records.GlyphRecord.{GlyphRecord}
 use Rattle.t1_cache.specs.declared.records.Records.{Records}
-use Rattle.t1_cache.specs.Renewed.{record_of, run_kept}
+use Rattle.t1_cache.specs.Renewed.{record_of, recorded_run}
 
 -- a glyph without a record uses nothing
 pub none-used : (records : Records) (k : Key) (u name : List ℕ) → None ≡ record_of records.glyphs.entries name → bytes_eq u name ≡ true
-    → is_user k (run_kept records u) ≡ false
+    → is_user k (recorded_run records u) ≡ false
 none-used records k u name h e =
-    ap (λ g. is_user k (run_kept records g)) ((bytes_eq-Decides u name).0 e)
+    ap (λ g. is_user k (recorded_run records g)) ((bytes_eq-Decides u name).0 e)
     ∙ ap (λ (r : Option GlyphRecord). is_user k (option_map (λ x. Ok x.run.drawing) r)) (sym h)
 
 -- a glyph with a record uses what its run asked for
 pub run-used : (records : Records) (k : Key) (u name : List ℕ) (r : GlyphRecord) → Some r ≡ record_of records.glyphs.entries name → bytes_eq u name ≡ true
-    → is_user k (run_kept records u) ≡ asks r.run.drawing.composite r.run.drawing.entered k
+    → is_user k (recorded_run records u) ≡ asks r.run.drawing.composite r.run.drawing.entered k
 run-used records k u name r h e =
-    ap (λ g. is_user k (run_kept records g)) ((bytes_eq-Decides u name).0 e)
+    ap (λ g. is_user k (recorded_run records g)) ((bytes_eq-Decides u name).0 e)
     ∙ ap (λ (x : Option GlyphRecord). is_user k (option_map (λ x. Ok x.run.drawing) x)) (sym h)
 
 -- one more glyph, by what it uses

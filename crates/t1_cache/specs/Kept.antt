@@ -1,16 +1,10 @@
 -- What is kept of a source's glyphs.
-use Rattle.std.specs.Prelude.{◌≡◌, ℕ, List, [], ◌∷◌, map, flat_map, Option, Ok}
-use Rattle.std.specs.List.{AllByRecursion, list_any}
-use Rattle.std.specs.Str.{bytes_eq}
+use Rattle.std.specs.Prelude.{◌≡◌, ℕ, List, map, Option, Ok}
 use Rattle.t1_parts.specs.SourceParts.{SourceParts}
-use Rattle.t1_parts.specs.declared.item.Item.{Item}
-use Rattle.t1_parts.specs.declared.item.Item.TheVariants as items
-use Rattle.t1_run.specs.Run.{FontBodies, Key, Subr, Glyph, Drawing, NumberedRun, own}
-use Rattle.t1_run.specs.Touched.{is_user}
+use Rattle.t1_run.specs.Run.{Drawing}
 use Rattle.t1_afm.specs.declared.bbox.BBox.{BBox}
 use Rattle.t1_afm.specs.Box.{drawn_box}
-use Rattle.t1_font.specs.Bodies.{bodies}
-use Rattle.t1_font.specs.Glyphs.{Glyph as Told, glyph_names}
+use Rattle.t1_font.specs.Glyphs.{Glyph as Told}
 use Rattle.t1_font.specs.SourceChecks.{source_glyphs}
 use Rattle.t1_cache.specs.Renewed.{Kept}
 

@@ -24,8 +24,8 @@ abbrev pub record_of : List (Vec ℕ Global × GlyphRecord) → List ℕ → Opt
 record_of entries g = lookup (λ key. bytes_eq g key.items) entries
 
 -- what the run of a glyph's record draws
-abbrev pub run_kept : Records → List ℕ → Option (Result Drawing Code)
-run_kept records g = option_map (λ r. Ok r.run.drawing) (record_of records.glyphs.entries g)
+abbrev pub recorded_run : Records → List ℕ → Option (Result Drawing Code)
+recorded_run records g = option_map (λ r. Ok r.run.drawing) (record_of records.glyphs.entries g)
 
 -- the record of this name has another run and box, in its place
 abbrev pub with_run : List ℕ → NumberedRun → Option BBox → List Kept → List Kept

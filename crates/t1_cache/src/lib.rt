@@ -17,7 +17,7 @@ pub use records::{GlyphRecord, Named, Names, Records, SubrRecord};
 pub use renewed::renew;
 pub use stale::found;
 pub use users::move_users;
-pub use uses::leaves_of;
+pub use uses::{joins_of, leaves_of};
 
 #[cfg(test)]
 mod tests;

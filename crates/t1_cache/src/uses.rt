@@ -1,14 +1,16 @@
 //! What runs use: the Subrs that they enter, and the parts of composites.
-ghost use Rattle.std.specs.Prelude.{◌≡◌, ◌&&◌, ◌||◌, [], ℕ, List, None, Some, IfOk, OnOk};
+ghost use Rattle.std.specs.Prelude.{◌≡◌, ◌&&◌, ◌||◌, [], ℕ, List, None, Some, IfOk, OnOk, Ok, option_map};
 ghost use Rattle.std.specs.Str.{bytes_eq};
 ghost use Rattle.t1_run.specs.Footprint.{asks};
 ghost use Rattle.t1_run.specs.Run.{Key};
 ghost use Rattle.t1_run.specs.Touched.{is_user};
-ghost use Rattle.t1_cache.specs.Renewed.{run_kept};
+ghost use Rattle.t1_font.specs.Runs.{kept_of};
+ghost use Rattle.t1_cache.specs.Renewed.{recorded_run};
 ghost use Rattle.t1_cache.specs.Users.{has, has_pair, key_eq, key_of};
 
 use crate::records::{Named, Records};
 use std::alloc::{AllocError, Global};
+use t1_font::Runs;
 use t1_frac::Bytes;
 use t1_run::{Composite, Run};
 
@@ -78,7 +80,7 @@ pub fn leaves_of(
     records: &Records,
     names: &[&[u8]],
 ) -> Result<Vec<(Named, Vec<u8>)>, AllocError>
-    ensures { IfOk result (λ pairs. (k : Key) (u : List ℕ) → has_pair pairs.items k u ≡ (has (λ name. name.now) names.now u && is_user k (run_kept records.now u))) }
+    ensures { IfOk result (λ pairs. (k : Key) (u : List ℕ) → has_pair pairs.items k u ≡ (has (λ name. name.now) names.now u && is_user k (recorded_run records.now u))) }
 {
     let mut pairs = Vec::new(alloc);
     for name in names {
@@ -86,6 +88,35 @@ pub fn leaves_of(
             continue;
         };
         push_uses(alloc, &mut pairs, &record.run, name)?;
+    }
+    Ok(pairs)
+}
+
+/// The run of a glyph, where it is kept and has no fault.
+fn run_of<'a>(runs: &'a Runs, name: &[u8]) -> Option<&'a Run>
+    ensures { (k : Key) → is_user k (option_map (λ run. Ok run.now.drawing) result) ≡ is_user k (kept_of runs.now name.now) }
+{
+    match runs.get(name) {
+        Some(Ok(run)) => Some(run),
+        _ => None,
+    }
+}
+
+/// The users that these glyphs join: each Subr and each glyph that the run of a glyph uses, with the glyph. A run with a
+/// fault uses nothing.
+pub fn joins_of(
+    alloc: Global,
+    runs: &Runs,
+    names: &[&[u8]],
+) -> Result<Vec<(Named, Vec<u8>)>, AllocError>
+    ensures { IfOk result (λ pairs. (k : Key) (u : List ℕ) → has_pair pairs.items k u ≡ (has (λ name. name.now) names.now u && is_user k (kept_of runs.now u))) }
+{
+    let mut pairs = Vec::new(alloc);
+    for name in names {
+        let Some(run) = run_of(runs, name) else {
+            continue;
+        };
+        push_uses(alloc, &mut pairs, run, name)?;
     }
     Ok(pairs)
 }

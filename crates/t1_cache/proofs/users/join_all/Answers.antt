@@ -1,8 +1,7 @@
 use Rattle.std.proofs.Common.{Vec, Global, ℕ, ◌≡◌, ◌+◌, cond, ap, sym, subst, ◌∙◌, arith}
-use Rattle.std.specs.Prelude.{◌||◌, ◌&&◌}
-use Rattle.std.specs.Str.{bytes_eq}
+use Rattle.std.specs.Prelude.{◌||◌}
 use Rattle.t1_cache.specs.declared.records.Named.{Named}
-use Rattle.t1_cache.specs.Users.{has_pair, key_eq, key_of, lists, users_at, wanted, HasRoom}
+use Rattle.t1_cache.specs.Users.{has_pair, key_of, lists, users_at, wanted, HasRoom}
 use Rattle.t1_cache.proofs.Adding.{key-itself, less-room, wanted-last, joined-last}
 use Rattle.t1_cache.proofs.users.join_all.Goals as goal
 

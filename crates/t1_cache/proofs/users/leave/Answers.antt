@@ -1,8 +1,6 @@
-use Rattle.std.proofs.Common.{ℕ, ◌+◌, cond, ap, subst, sym}
-use Rattle.std.specs.Str.{bytes_eq}
-use Rattle.t1_run.specs.Run.{Key, Subr, Glyph}
+use Rattle.std.proofs.Common.{ℕ}
 use Rattle.t1_cache.specs.declared.records.Records.{Records}
-use Rattle.t1_cache.specs.Users.{glyph_users, key_eq, key_of, users_at, HasRoom}
+use Rattle.t1_cache.specs.Users.{users_at, HasRoom}
 use Rattle.t1_cache.proofs.Adding.{at-key}
 use Rattle.t1_cache.proofs.users.leave.Goals as goal
 

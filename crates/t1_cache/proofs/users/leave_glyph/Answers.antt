@@ -1,5 +1,4 @@
 use Rattle.std.proofs.Common.{ap, map, sym, subst, ◌∙◌, refl}
-use Rattle.std.specs.Prelude.{nat_eq}
 use Rattle.std.specs.Str.{bytes_eq}
 use Rattle.t1_cache.specs.declared.records.GlyphRecord.{GlyphRecord}
 use Rattle.t1_cache.specs.Users.{among, users_of, glyph_users, glyph_rest, HasRoom}

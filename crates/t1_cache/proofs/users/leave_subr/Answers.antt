@@ -1,6 +1,5 @@
 use Rattle.std.proofs.Common.{ap, map, sym, subst, ◌∙◌, refl}
 use Rattle.std.specs.Prelude.{nat_eq}
-use Rattle.std.specs.Str.{bytes_eq}
 use Rattle.t1_cache.specs.declared.records.SubrRecord.{SubrRecord}
 use Rattle.t1_cache.specs.Users.{among, users_of, subr_users, subr_rest, HasRoom}
 use Rattle.t1_cache.proofs.Putting.{left, numbers_tell, rest-put, room-stays}

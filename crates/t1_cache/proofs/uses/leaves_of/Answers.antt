@@ -5,7 +5,7 @@ use Rattle.std.specs.Str.{bytes_eq}
 use Rattle.std.proofs.lemmas.List.Folds.{list_any_more}
 use Rattle.t1_run.specs.Footprint.{asks}
 use Rattle.t1_run.specs.Touched.{is_user}
-use Rattle.t1_cache.specs.Renewed.{run_kept}
+use Rattle.t1_cache.specs.Renewed.{recorded_run}
 use Rattle.t1_cache.specs.Users.{has}
 use Rattle.t1_cache.proofs.Using.{none-used, run-used, glyph-more, none-more}
 use Rattle.t1_cache.proofs.uses.leaves_of.Goals as goal
@@ -17,7 +17,7 @@ loop-name-preserved-in_default c = λ k u.
     let i = c.loop-name.name-index in
     let none : Bor (List ℕ) = record { ref_ptr = (0, 0); now = [] } in
     let name = (get_or names i none).now in
-    let used = is_user k (run_kept records u) in
+    let used = is_user k (recorded_run records u) in
     c.loop-name.invariant k u
     ∙ none-more (has (λ n. n.now) (take i names) u) used (bytes_eq u name) (none-used records k u name c.in_default.ensures.value)
     ∙ ap (λ b. b && used) (sym (list_any_more (λ n. bytes_eq u n.now) names i none (omega arith)))
@@ -29,7 +29,7 @@ loop-name-preserved c = λ k u.
     let i = c.loop-name.name-index in
     let none : Bor (List ℕ) = record { ref_ptr = (0, 0); now = [] } in
     let name = (get_or names i none).now in
-    let used = is_user k (run_kept records u) in
+    let used = is_user k (recorded_run records u) in
     let drawing = c.in-Some.record.now.run.drawing in
     let asked = asks drawing.composite drawing.entered k in
     c.in_ok-push_uses.ensures k u
