@@ -62,9 +62,9 @@ fn with_list(alloc: Global, text: &str, sections: &[Section]) -> Result<String, 
 /// The texts of the helps, whose lists come from the one table.
 pub fn help_texts(alloc: Global) -> Result<Helps, AllocError> {
     Ok(Helps {
-        program: list(alloc, all_sections())?,
-        assemble: list(alloc, of_assembling())?,
-        measure: list(alloc, of_measuring())?,
-        session: with_list(alloc, SESSION, all_sections())?,
+        program: list(alloc, &all_sections())?,
+        assemble: list(alloc, &of_assembling())?,
+        measure: list(alloc, &of_measuring())?,
+        session: with_list(alloc, SESSION, &all_sections())?,
     })
 }

@@ -550,23 +550,50 @@ const STATUSES: Section = Section {
     ],
 };
 
-const SECTIONS: [Section; 6] = [READING, KERNING, BODIES, RUNS, RULES, STATUSES];
+// Each section is handed out by a function of its own, since the prover looks through a whole constant wherever it stands.
 
-const OF_ASSEMBLING: [Section; 3] = [READING, BODIES, STATUSES];
+fn reading() -> Section {
+    READING
+}
 
-const OF_MEASURING: [Section; 5] = [READING, KERNING, BODIES, RUNS, STATUSES];
+fn kerning() -> Section {
+    KERNING
+}
+
+fn bodies() -> Section {
+    BODIES
+}
+
+fn runs() -> Section {
+    RUNS
+}
+
+fn rules() -> Section {
+    RULES
+}
+
+fn statuses() -> Section {
+    STATUSES
+}
 
 /// All of them, in the order in which they are listed.
-pub fn all_sections() -> &'static [Section] {
-    &SECTIONS
+pub fn all_sections() -> [Section; 6] {
+    [
+        reading(),
+        kerning(),
+        bodies(),
+        runs(),
+        rules(),
+        statuses(),
+    ]
 }
 
 /// What assembling can answer.
-pub fn of_assembling() -> &'static [Section] {
-    &OF_ASSEMBLING
+pub fn of_assembling() -> [Section; 3] {
+    [reading(), bodies(), statuses()]
 }
 
 /// What measuring and checking can answer.
-pub fn of_measuring() -> &'static [Section] {
-    &OF_MEASURING
+pub fn of_measuring() -> [Section; 5] {
+    [reading(), kerning(), bodies(), runs(), statuses()]
 }

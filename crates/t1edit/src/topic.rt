@@ -5,6 +5,7 @@ ghost use Rattle.t1edit.specs.Topics.{topic_in, topic_of, line_text, section_tex
 use std::alloc::{AllocError, Global};
 
 /// A code, a rule or a status, and its meaning.
+#[derive(Clone, Copy)]
 pub struct Topic {
     pub code: &'static str,
     /// What it means, in a few words.
@@ -15,6 +16,7 @@ pub struct Topic {
 }
 
 /// Topics of one kind.
+#[derive(Clone, Copy)]
 pub struct Section {
     pub title: &'static str,
     pub topics: &'static [Topic],
