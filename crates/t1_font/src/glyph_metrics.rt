@@ -115,7 +115,11 @@ fn placed_metrics(alloc: Global, runs: &Runs, name: &[u8]) -> Result<GlyphMetric
 
 /// What is told of these glyphs, in their order, or the first fault of a glyph.
 #[tactic(auto, unfolding(crate::specs::MeasuredGlyphs::glyph_metrics_among))]
-pub fn glyph_metrics_of(alloc: Global, runs: &Runs, names: &[&[u8]]) -> Result<Vec<GlyphMetrics>, Refusal>
+pub fn glyph_metrics_of(
+    alloc: Global,
+    runs: &Runs,
+    names: &[&[u8]],
+) -> Result<Vec<GlyphMetrics>, Refusal>
     ensures { Gives
         (λ metrics. metrics.items)
         result

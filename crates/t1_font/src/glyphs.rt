@@ -8,9 +8,9 @@ ghost use Rattle.t1_font.specs.Runs.{Counts};
 ghost use Rattle.t1_font.specs.SourceChecks.{measured_source};
 ghost use Rattle.t1_font.specs.MeasuredGlyphs.{measured};
 
+use crate::glyph_metrics::{GlyphMetrics, font_box, glyph_metrics_of};
 use crate::lengths::checked_bodies;
 use crate::runs::runs_of;
-use crate::glyph_metrics::{GlyphMetrics, font_box, glyph_metrics_of};
 use std::alloc::{AllocError, Global};
 use std::marker::Model;
 use t1_afm::BBox;

@@ -179,7 +179,10 @@ fn piece<'a>(line: &'a PrivateLine<'a>) -> Piece<'a>
 }
 
 /// The private text as the PFB's writer takes it.
-pub fn pieces_of<'a>(alloc: Global, lines: &'a [PrivateLine<'a>]) -> Result<Vec<Piece<'a>>, AllocError>
+pub fn pieces_of<'a>(
+    alloc: Global,
+    lines: &'a [PrivateLine<'a>],
+) -> Result<Vec<Piece<'a>>, AllocError>
     ensures { IfOk result (λ pieces. flat_map piece_text pieces.items ≡ flat_map line_text lines.now) }
 {
     let mut pieces = Vec::with_capacity(alloc, lines.len())?;

@@ -190,7 +190,10 @@ fn tells_the_uses_of_the_demo_font(rt: HostRuntime) -> Result<(), Fail> {
     let alloc = rt.alloc();
     let source = read_source(alloc, DEMO.as_bytes())?;
     let glyphs = measured_source(alloc, &source, &mut Meter::new())?;
-    assert_eq!(rt; usage_text(alloc, glyphs.metrics())?.as_slice(), USES.as_bytes());
+    assert_eq!(rt;
+        usage_text(alloc, glyphs.metrics())?.as_slice(),
+        USES.as_bytes()
+    );
     Ok(())
 }
 
@@ -212,7 +215,10 @@ fn writes_the_small_font_in_hexadecimal(rt: HostRuntime) -> Result<(), Fail> {
     let source = read_source(rt.alloc(), SMALL.as_bytes())?;
     let file = pfa_of_source(rt.alloc(), &source)?;
     assert_eq!(rt; file.len(), 767);
-    assert_eq!(rt; file.as_slice().split_at(52).1.split_at(12).0, b"d9d66f6370ee".as_slice());
+    assert_eq!(rt;
+        file.as_slice().split_at(52).1.split_at(12).0,
+        b"d9d66f6370ee".as_slice()
+    );
     Ok(())
 }
 

@@ -27,4 +27,3 @@ pub fn put_text<W: Write>(text: &[u8], out: &mut Counted<W>) -> Result<(), OutEr
     out.put_all(text)?;
     Ok(())
 }
-

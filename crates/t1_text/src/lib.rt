@@ -5,6 +5,12 @@ mod lines;
 mod names;
 mod tokens;
 
-pub use lines::{Line, copied_bytes, copied_lines, cut_lines, fault_on, first_delimiter, first_line, trimmed};
-pub use names::{count_of, decimal_up_to, is_count, is_decimal, is_name, is_number_word, name_of_token};
-pub use tokens::{after_token, first_is, first_token, is_regular, last_is, next_place, next_token, same};
+pub use lines::{
+    Line, copied_bytes, copied_lines, cut_lines, fault_on, first_delimiter, first_line, trimmed,
+};
+pub use names::{
+    count_of, decimal_up_to, is_count, is_decimal, is_name, is_number_word, name_of_token,
+};
+pub use tokens::{
+    after_token, first_is, first_token, is_regular, last_is, next_place, next_token, same,
+};

@@ -137,7 +137,12 @@ fn run(rt: &HostRuntime, words: &[String]) -> ExitCode {
         Some(("session", matches)) => session(rt, matches),
         Some(("explain", matches)) => {
             let mut out = Counted::new(rt.stdout());
-            explain(rt.alloc(), &all_sections(), matches.get_str("CODE"), &mut out)
+            explain(
+                rt.alloc(),
+                &all_sections(),
+                matches.get_str("CODE"),
+                &mut out,
+            )
         }
         _ => Ok(()),
     };

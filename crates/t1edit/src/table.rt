@@ -578,14 +578,7 @@ fn statuses() -> Section {
 
 /// All of them, in the order in which they are listed.
 pub fn all_sections() -> [Section; 6] {
-    [
-        reading(),
-        kerning(),
-        bodies(),
-        runs(),
-        rules(),
-        statuses(),
-    ]
+    [reading(), kerning(), bodies(), runs(), rules(), statuses()]
 }
 
 /// What assembling can answer.
