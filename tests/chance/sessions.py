@@ -21,7 +21,9 @@ replace glyph NAME|replace subr SUBR|add glyph NAME|add subr SUBR|remove glyph N
 unencode CODE|kern NAME NAME VALUE|unkern NAME NAME|frobnicate|replace glyph|add glyph A B|print|kern A V|begin now
 set leniv VALUE|set leniv CODE|print pfb LENGTH|print pfb 1 2|print pfa 1|commit|abort|abort A|print sources
 """.strip().replace(b"\n", b"|").split(b"|")
-WRONG = b"% } {|}|moveto|2147483648|pop|0 div|32001 hmoveto|93 170 214 65 194 seac|0 0 0 65 32 seac|9 callsubr|".split(b"|")
+WRONG = b"""
+% } {|}|moveto|2147483648|pop|0 div|32001 hmoveto|93 170 214 65 194 seac|0 0 0 65 32 seac|9 callsubr|
+""".strip().split(b"|")
 PRINTS = [b"print pfb", b"print afm", b"print source", b"print kern", b"print uses"]
 ENDS = (b"\n", b"\n", b"\n", b"\n", b"\r\n", b" \r", b"\t\n\n")
 # how often each comes, outside a batch and in one
@@ -68,7 +70,7 @@ class Chooser:
         text = b" ".join(words) + self.chance.choice(ENDS)
         if words[0] in (b"replace", b"add") and words[1:2] in ([b"glyph"], [b"subr"]):
             lines = self.glyph(words[-1]) if words[1] == b"glyph" else self.subr(words[-1])
-            text += b"".join(line + self.chance.choice(ENDS) for line in lines) + self.chance.choice((b".\n", b" .\t\r\n"))
+            text += b"".join(line + self.chance.choice(ENDS) for line in [*lines, self.chance.choice((b".", b" ."))])
         return text
 
     def words(self, kind):
@@ -146,7 +148,7 @@ class Chooser:
         number = int(word) if word.isdigit() else 0
         if number < 3 and self.chance.randrange(4):
             # those of flex stay what they are
-            return [[b"3 0 callothersubr pop pop setcurrentpoint"], [b"0 1 callothersubr"], [b"0 2 callothersubr"]][number]
+            return [[b"3 0 callothersubr pop pop setcurrentpoint", b"0 1 callothersubr", b"0 2 callothersubr"][number]]
         lines = parts(self.chance, self.calls(number))
         return lines + self.chance.choice(([b"return"], [b"return"], []))
 
