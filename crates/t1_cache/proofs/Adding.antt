@@ -20,6 +20,12 @@ pub key-itself : (k : Key) → key_eq k k ≡ true
 key-itself (Subr n) = numbers_tell.itself n
 key-itself (Glyph g) = bytes_tell.itself g
 
+pub key-same : (k j : Key) → key_eq k j ≡ true → k ≡ j
+key-same (Subr n) (Subr m) e = ap Subr (numbers_tell.same n m e)
+key-same (Glyph g) (Glyph h) e = ap Glyph (bytes_tell.same g h e)
+key-same (Subr n) (Glyph h) e = absurd (cc)
+key-same (Glyph g) (Subr m) e = absurd (cc)
+
 pub less-room : (a b : ℕ) (r : Option UserSet) → a ≤ b → HasRoom b r → HasRoom a r
 less-room a b None h had = omega (arith, h, had)
 less-room a b (Some r) h had = omega (arith, h, had)

@@ -10,8 +10,11 @@ use Rattle.t1_run.specs.Run.{FontBodies, Key, Glyph, own, own_of}
 use Rattle.t1_run.specs.Touched.{is_user, is_met}
 use Rattle.t1_run.proofs.FoundByUsers.{found_are_touched}
 use Rattle.t1_run.proofs.Untouched.{untouched_kept}
-use Rattle.t1_cache.specs.Joins.{KeptRunLaw, JoinsLaw}
-use Rattle.t1_cache.specs.Users.{lists, has_pair}
+use Rattle.t1_cache.specs.Joins.{FirstTablesLaw, KeptRunLaw, JoinsLaw, LessTablesLaw}
+use Rattle.t1_cache.specs.Overlay.{body_at}
+use Rattle.t1_cache.specs.Users.{lists, has_pair, key_eq}
+use Rattle.t1_cache.proofs.Adding.{key-same}
+use Rattle.t1_cache.proofs.There.{uses_there}
 
 -- a glyph that is named is met
 met-named : (m : FontBodies) (g : List ℕ) (keys : List Key) → Includes keys (Glyph g) → list_any (is_met m g) keys ≡ true
@@ -24,7 +27,7 @@ met-named m g (k ∷ keys) (inr i) = later (is_met m g k) (list_any (is_met m g)
   later true b h = refl
   later false b h = h
 
-none-run : (m : FontBodies) (g : List ℕ) → m.glyphs g ≡ None → own m g ≡ None
+pub none-run : (m : FontBodies) (g : List ℕ) → m.glyphs g ≡ None → own m g ≡ None
 unfolding own
 none-run m g e = ap (own_of m) e
 
@@ -59,3 +62,34 @@ tables_kept keys m n but draw names stale old new leaves joins before out in_ af
           ap (λ b. cond b (is_user k (own n g)) (is_user k (own m g))) off
           ∙ ap (is_user k) (sym (run_kept keys m n but draw names stale g off))
     ]
+
+pub tables_first : FirstTablesLaw
+tables_first m names all old new leaves joins empty in_ after k g =
+    after k g
+    ∙ ap (λ b. (b && not (has_pair leaves k g)) || has_pair joins k g) (empty k g)
+    ∙ in_ k g
+    ∙ by (m.glyphs g) refl
+  where
+    none : (b : Bool) → (b && false) ≡ false
+    none true = refl
+    none false = refl
+
+    by : (body : Option (List Command)) → m.glyphs g ≡ body → (names g && is_user k (own m g)) ≡ is_user k (own m g)
+    by None e =
+        ap (λ r. names g && is_user k r) (none-run m g e) ∙ none (names g)
+        ∙ ap (is_user k) (sym (none-run m g e))
+    by (Some body) e = ap (λ b. b && is_user k (own m g)) (all g body e)
+
+pub tables_less : LessTablesLaw
+tables_less m key gone old new before after k g =
+    after k g
+    ∙ ap (λ b. b && not (key_eq k key)) (before k g)
+    ∙ by (is_user k (own m g)) refl (key_eq k key) refl
+  where
+    by : (used : Bool) → is_user k (own m g) ≡ used → (here : Bool) → key_eq k key ≡ here → (used && not here) ≡ used
+    by false e here f = refl
+    by true e false f = refl
+    by true e true f =
+        let there = uses_there m g k e in
+        let never : None ≡ Some there.0 = sym gone ∙ ap (body_at m) (sym (key-same k key f)) ∙ there.1 in
+        absurd (cc)

@@ -1,6 +1,8 @@
 pub mod Adding
 pub mod Closing
 pub mod Counting
+pub mod Distinct
+pub mod Drawing
 pub mod Edits
 pub mod Joining
 pub mod Judging
@@ -12,6 +14,7 @@ pub mod Places
 pub mod Putting
 pub mod Renewing
 pub mod Rows
+pub mod There
 pub mod ThroughTables
 pub mod Turns
 pub mod Using

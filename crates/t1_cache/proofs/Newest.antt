@@ -57,7 +57,7 @@ found-cond : (P : List ℕ → Type 0) (g name : List ℕ) (t : Bool) (own : Opt
 found-cond P g name true own rest b here below e = here refl
 found-cond P g name false own rest b here below e = below e
 
-found : (P : List ℕ → Type 0) (g : List ℕ) (b : List Command) (is : List Item) → AllByRecursion P (glyph_names is) → glyph_among is g ≡ Some b → P g
+pub found : (P : List ℕ → Type 0) (g : List ℕ) (b : List Command) (is : List Item) → AllByRecursion P (glyph_names is) → glyph_among is g ≡ Some b → P g
 found P g b [] h e = absurd (cc)
 found P g b (items.Plain l ∷ is) h e = found P g b is h e
 found P g b (items.Section c k a ∷ is) h e = found P g b is h e

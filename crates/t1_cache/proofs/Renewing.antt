@@ -135,7 +135,7 @@ all-weaken : {X : Type 0} (P Q : X → Type 0) → ((x : X) → P x → Q x) →
 all-weaken P Q step [] h = tt
 all-weaken P Q step (x ∷ xs) h = (step x h.0, all-weaken P Q step xs h.1)
 
-glyphs-of : (s : SourceParts) (told : List Told) → source_glyphs s ≡ Ok told → glyphs (bodies s.items) (glyph_names s.items) ≡ Ok told
+pub glyphs-of : (s : SourceParts) (told : List Told) → source_glyphs s ≡ Ok told → glyphs (bodies s.items) (glyph_names s.items) ≡ Ok told
 glyphs-of s told e = by (file_check s) e where
   by : (r : Result (Unit {0}) Fault) → (r >>= λ checked. glyphs (bodies s.items) (glyph_names s.items)) ≡ Ok told → glyphs (bodies s.items) (glyph_names s.items) ≡ Ok told
   by (Ok checked) e = e

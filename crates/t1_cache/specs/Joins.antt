@@ -1,17 +1,26 @@
 -- Which glyphs keep their run, and the users of a font after edits.
-use Rattle.std.specs.Prelude.{◌≡◌, ◌&&◌, ◌||◌, not, ℕ, Bool, false, List, Ok, Some}
+use Rattle.std.specs.Prelude.{◌≡◌, ◌&&◌, ◌||◌, not, ℕ, Bool, true, false, List, Ok, None, Some}
 use Rattle.t1_code.specs.declared.command.Command.{Command}
 use Rattle.t1_run.specs.declared.outline.Segment.{Segment}
 use Rattle.t1_run.specs.Run.{FontBodies, Key, own}
 use Rattle.t1_run.specs.Composite.{outline}
 use Rattle.t1_run.specs.Touched.{SameBut, is_user}
+use Rattle.t1_parts.specs.SourceParts.{SourceParts}
+use Rattle.t1_font.specs.Bodies.{bodies}
+use Rattle.t1_font.specs.Glyphs.{Glyph as Told}
+use Rattle.t1_font.specs.SourceChecks.{source_glyphs}
 use Rattle.t1_cache.specs.declared.records.Records.{Records}
 use Rattle.t1_cache.specs.Tables.{AreStale, AreTables}
-use Rattle.t1_cache.specs.Users.{lists, has_pair, Pairs}
+use Rattle.t1_cache.specs.Overlay.{body_at}
+use Rattle.t1_cache.specs.Users.{lists, has_pair, key_eq, Pairs}
 
 -- each glyph that is there draws
 abbrev pub AllDraw : FontBodies → Type 0
 AllDraw m = (g : List ℕ) (body : List Command) → m.glyphs g ≡ Some body → (o : List Segment) × (outline m g ≡ Ok o)
+
+-- of a source without a fault, each glyph that is there draws
+abbrev pub AllDrawLaw : Type 0
+AllDrawLaw = (s : SourceParts) (told : List Told) → source_glyphs s ≡ Ok told → AllDraw (bodies s.items)
 
 -- of a font without a fault, a glyph that isn't stale has the same own run in the edited font, or none in both
 abbrev pub KeptRunLaw : Type 0
@@ -30,3 +39,17 @@ JoinsLaw =
     → (old new : Records) (leaves joins : Pairs) → AreTables m old → AreLeaves m names leaves → AreLeaves n names joins
     → ((k : Key) (g : List ℕ) → lists new k g ≡ ((lists old k g && not (has_pair leaves k g)) || has_pair joins k g))
     → AreTables n new
+
+-- tables without users that all glyphs joined by their runs are those of the font
+abbrev pub FirstTablesLaw : Type 0
+FirstTablesLaw =
+    (m : FontBodies) (names : List ℕ → Bool) → ((g : List ℕ) (body : List Command) → m.glyphs g ≡ Some body → names g ≡ true)
+    → (old new : Records) (leaves joins : Pairs) → ((k : Key) (g : List ℕ) → lists old k g ≡ false) → AreLeaves m names joins
+    → ((k : Key) (g : List ℕ) → lists new k g ≡ ((lists old k g && not (has_pair leaves k g)) || has_pair joins k g))
+    → AreTables m new
+
+-- tables of a font stay so without the users of what the font doesn't have
+abbrev pub LessTablesLaw : Type 0
+LessTablesLaw =
+    (m : FontBodies) (key : Key) → body_at m key ≡ None → (old new : Records) → AreTables m old
+    → ((k : Key) (g : List ℕ) → lists new k g ≡ (lists old k g && not (key_eq k key))) → AreTables m new

@@ -12,6 +12,7 @@ use Rattle.t1_frac.specs.Outcome.{◌>>=◌}
 use Rattle.t1_source.specs.declared.edit.Edit.{Edit}
 use Rattle.t1_source.specs.declared.pairs.Pair.{Pair}
 use Rattle.t1_source.specs.Editing.{edited}
+use Rattle.t1_source.specs.WellFormed.{IsWellFormed}
 use Rattle.t1_parts.specs.SourceParts.{SourceParts}
 use Rattle.t1_run.specs.Run.{Key, Subr, Glyph, Drawing, own}
 use Rattle.t1_run.specs.Composite.{outline_within, outline}
@@ -54,6 +55,10 @@ TurnLaw = (ks ls : List Key) (a b c : SourceParts) → IsEditedAt ks a b → IsE
 abbrev pub AreDistinct : List (List ℕ) → Type 0
 AreDistinct [] = Unit {0}
 AreDistinct (g ∷ names) = (list_any (bytes_eq g) names ≡ false) × AreDistinct names
+
+-- no two glyphs of a source that was read or edited bear the same name
+abbrev pub DistinctLaw : Type 0
+DistinctLaw = (s : SourceParts) → IsWellFormed s → AreDistinct (glyph_names s.items)
 
 -- names that were found, each once, are as many as the glyphs that pass, where they are these glyphs
 abbrev pub CountLaw : Type 0

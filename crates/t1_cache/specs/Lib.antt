@@ -7,4 +7,5 @@ pub mod Overlay
 pub mod Renewal
 pub mod Renewed
 pub mod Tables
+pub mod There
 pub mod Users

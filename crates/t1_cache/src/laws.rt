@@ -1,8 +1,9 @@
 //! Laws of edited sources, and of what is kept of a font under edits.
-ghost use Rattle.t1_cache.specs.Joins.{JoinsLaw, KeptRunLaw};
-ghost use Rattle.t1_cache.specs.Laws.{CountLaw, EditLaw, FirstFaultLaw, MiddleLaw, NewestLaw, TurnLaw};
+ghost use Rattle.t1_cache.specs.Joins.{AllDrawLaw, FirstTablesLaw, JoinsLaw, KeptRunLaw, LessTablesLaw};
+ghost use Rattle.t1_cache.specs.Laws.{CountLaw, DistinctLaw, EditLaw, FirstFaultLaw, MiddleLaw, NewestLaw, TurnLaw};
 ghost use Rattle.t1_cache.specs.Overlay.{OverlayLaw};
 ghost use Rattle.t1_cache.specs.Renewal.{RenewalLaw};
+ghost use Rattle.t1_cache.specs.There.{UsesThereLaw};
 
 /// Entries that are put in, taken out or replaced change a source at their keys, and nowhere else.
 pub fn middle()
@@ -52,4 +53,29 @@ pub fn renewal()
 /// Tables of users that stale glyphs left by their old runs, and joined by their new ones, are those of the edited font.
 pub fn joins()
     ensures { JoinsLaw }
+{}
+
+/// What the run of a glyph uses, where it has no fault, is there: each Subr that it enters, and each part of a composite.
+pub fn uses_there()
+    ensures { UsesThereLaw }
+{}
+
+/// Of a source without a fault, each glyph that is there draws.
+pub fn all_draw()
+    ensures { AllDrawLaw }
+{}
+
+/// No two glyphs of a source that was read or edited bear the same name.
+pub fn distinct()
+    ensures { DistinctLaw }
+{}
+
+/// Tables without users that all glyphs joined by their runs are those of the font.
+pub fn first_tables()
+    ensures { FirstTablesLaw }
+{}
+
+/// Tables from which a Subr or a glyph was taken out that the font doesn't have are still those of the font.
+pub fn less_tables()
+    ensures { LessTablesLaw }
 {}
