@@ -1,8 +1,9 @@
 -- Outlines of glyphs whose runs are kept.
-use Rattle.std.proofs.Common.{◌≡◌, ℕ, zero, suc, ◌-◌, List, refl, sym, ap, ◌∙◌, subst, Option, Some, arith}
+use Rattle.std.proofs.Common.{◌≡◌, ℕ, zero, suc, ◌-◌, List, refl, sym, ap, ◌∙◌, subst, Option, Some, None, arith}
 use Rattle.std.specs.Prelude.{Result, Ok, Err}
 use Rattle.t1_frac.specs.Outcome.{◌>>=◌, Refuses, refusal, told_at}
 use Rattle.t1_frac.specs.declared.fault.Code.{Code}
+use Rattle.t1_frac.specs.declared.fault.Code.TheVariants.{F45}
 use Rattle.t1_frac.specs.declared.fault.Fault.{Fault as TheFault}
 use Rattle.t1_frac.specs.declared.fault.Place.{Place}
 use Rattle.t1_frac.specs.declared.fault.Place.TheVariants.{Nowhere}
@@ -47,6 +48,10 @@ refuses-then (Fault fault) (Err e) next h = cc
 
 abbrev Kept : Type 0
 Kept = List ℕ → Option (Result Drawing Code)
+
+pub missing : (run : Kept) (depth : ℕ) (name : List ℕ) → None ≡ run name → outline_within run depth name ≡ Err F45
+missing run zero name e = ap (drawn (λ part. Err _)) (sym e)
+missing run (suc depth) name e = ap (drawn (outline_within run depth)) (sym e)
 
 pub faulty : (run : Kept) (depth : ℕ) (name : List ℕ) (code : Code) → Some (Err code) ≡ run name → outline_within run depth name ≡ Err code
 faulty run zero name code e = ap (drawn (λ part. Err _)) (sym e)

@@ -1,6 +1,6 @@
 -- What is told of glyphs, one after another.
 use Rattle.std.proofs.Common.{◌≡◌, ℕ, List, [], ◌∷◌, ◌++◌, map, append_assoc, refl, sym, ap, ◌∙◌, subst}
-use Rattle.std.specs.Prelude.{Result, Ok, Err}
+use Rattle.std.specs.Prelude.{Option, Result, Ok, Err}
 use Rattle.t1_frac.specs.declared.fault.Code.{Code}
 use Rattle.t1_frac.specs.declared.fault.Fault.{Fault}
 use Rattle.t1_frac.specs.declared.fault.Place.{Place}
@@ -9,11 +9,15 @@ use Rattle.t1_frac.specs.declared.fault.Refusal.{Refusal}
 use Rattle.t1_frac.specs.declared.fault.Refusal.TheVariants as refusals
 use Rattle.t1_frac.specs.Outcome.{told_at, ◌>>=◌, Refuses}
 use Rattle.t1_run.specs.Composite.{outline_within}
+use Rattle.t1_run.specs.Run.{Drawing}
 use Rattle.t1_font.specs.declared.glyph_metrics.GlyphMetrics.{GlyphMetrics}
 use Rattle.t1_font.specs.Glyphs.{Glyph, glyph_of, glyphs_by}
-use Rattle.t1_font.specs.Runs.{Kept, kept_of}
 use Rattle.t1_font.proofs.Drawing.{refuses-then}
 use Rattle.t1_font.specs.MeasuredGlyphs.{glyph_metrics, glyph_metrics_at, glyph_metrics_among}
+
+-- what runs that are kept draw, by the names of their glyphs
+abbrev Runs : Type 0
+Runs = List ℕ → Option (Result Drawing Code)
 
 -- a list stands in front of what a definition gives
 abbrev pub behind : {X : Type 0} → List X → Result (List X) Fault → Result (List X) Fault
@@ -27,18 +31,18 @@ told-first place (Ok g) (Ok gs) = refl
 told-first place (Ok g) (Err fault) = refl
 told-first place (Err code) rest = refl
 
-pub metrics-first : (runs : List Kept) (name : List ℕ) (names : List (List ℕ))
+pub metrics-first : (runs : Runs) (name : List ℕ) (names : List (List ℕ))
     → glyph_metrics_among runs (name ∷ names) ≡ (told_at (places.Glyph name) (glyph_metrics_at runs name) >>= (λ s. glyph_metrics_among runs names >>= (λ ss. Ok (s ∷ ss))))
 unfolding glyph_metrics_among glyph_metrics_at
 metrics-first runs name names =
-    told-first (places.Glyph name) (glyph_of name (kept_of runs name) (outline_within (kept_of runs) 4 name)) (glyphs_by (kept_of runs) (outline_within (kept_of runs) 4) names)
+    told-first (places.Glyph name) (glyph_of name (runs name) (outline_within runs 4 name)) (glyphs_by runs (outline_within runs 4) names)
 
 behind-one : {X : Type 0} (front : List X) (x : X) (rest : Result (List X) Fault) → behind (front ++ x ∷ []) rest ≡ behind front (rest >>= (λ xs. Ok (x ∷ xs)))
 behind-one front x (Ok xs) = ap Ok (append_assoc front (x ∷ []) xs)
 behind-one front x (Err fault) = refl
 
 -- a glyph that was told stands in front of the others
-pub one-told : (runs : List Kept) (front : List GlyphMetrics) (name : List ℕ) (names : List (List ℕ)) (s : GlyphMetrics)
+pub one-told : (runs : Runs) (front : List GlyphMetrics) (name : List ℕ) (names : List (List ℕ)) (s : GlyphMetrics)
     → told_at (places.Glyph name) (glyph_metrics_at runs name) ≡ Ok s → behind (front ++ s ∷ []) (glyph_metrics_among runs names) ≡ behind front (glyph_metrics_among runs (name ∷ names))
 one-told runs front name names s e =
     behind-one front s (glyph_metrics_among runs names)
@@ -51,7 +55,7 @@ refuses-behind (refusals.Fault fault) front (Ok xs) h = absurd (cc)
 refuses-behind (refusals.Fault fault) front (Err e) h = cc
 
 -- the first fault refuses all
-pub one-refused : (runs : List Kept) (front : List GlyphMetrics) (name : List ℕ) (names : List (List ℕ)) (refused : Refusal)
+pub one-refused : (runs : Runs) (front : List GlyphMetrics) (name : List ℕ) (names : List (List ℕ)) (refused : Refusal)
     → Refuses refused (told_at (places.Glyph name) (glyph_metrics_at runs name)) → Refuses refused (behind front (glyph_metrics_among runs (name ∷ names)))
 one-refused runs front name names refused h =
     subst (λ r. Refuses refused (behind front r)) (sym (metrics-first runs name names))

@@ -69,6 +69,34 @@ lookup-inserted name g k v (e ∷ es) =
           absurd (cc)))
     ]
 
+-- ---- a name that is taken out
+
+key-found : {K X : Type 0} (name : K → List ℕ) (g : List ℕ) (es : List (K × X)) (x : X) → lookup (λ k. bytes_eq g (name k)) es ≡ Some x → (k : K) × (name k ≡ g)
+key-found name g [] x h = absurd (cc)
+key-found name g (e ∷ es) x h =
+    elim (cases_Bool (bytes_eq g (name e.0))) [
+      | inl same ↦ (e.0, sym (same_bytes g (name e.0) same))
+      | inr other ↦ key-found name g es x (rw other at h)
+    ]
+
+-- a name that was taken out has nothing, and each other name what it had
+pub lookup-taken : {K X : Type 0} (name : K → List ℕ) (old new : List (K × X)) (n : List ℕ)
+    → ((q : K) → lookup (λ k. bytes_eq (name q) (name k)) new ≡ cond (bytes_eq n (name q)) None (lookup (λ k. bytes_eq (name q) (name k)) old))
+    → (g : List ℕ) → lookup (λ k. bytes_eq g (name k)) new ≡ cond (bytes_eq n g) None (lookup (λ k. bytes_eq g (name k)) old)
+lookup-taken {K} {X} name old new n at g = by (lookup (λ k. bytes_eq g (name k)) new) (lookup (λ k. bytes_eq g (name k)) old) refl refl where
+  told : (k : K) → name k ≡ g → lookup (λ k. bytes_eq g (name k)) new ≡ cond (bytes_eq n g) None (lookup (λ k. bytes_eq g (name k)) old)
+  told k e = rw (← e) (at k)
+
+  none : (b : Bool) → ◌≡◌ {A = Option X} None (cond b None None)
+  none true = refl
+  none false = refl
+
+  by : (a b : Option X) → lookup (λ k. bytes_eq g (name k)) new ≡ a → lookup (λ k. bytes_eq g (name k)) old ≡ b
+      → lookup (λ k. bytes_eq g (name k)) new ≡ cond (bytes_eq n g) None (lookup (λ k. bytes_eq g (name k)) old)
+  by (Some x) b e f = let w = key-found name g new x e in told w.0 w.1
+  by None (Some y) e f = let w = key-found name g old y f in told w.0 w.1
+  by None None e f = e ∙ none (bytes_eq n g) ∙ sym (ap (cond (bytes_eq n g) None) f)
+
 -- ---- the runs of some glyphs, one after another
 
 -- what is kept so far, with the runs of the glyphs that are left, is what is kept of all

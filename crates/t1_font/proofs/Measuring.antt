@@ -135,7 +135,7 @@ kept-outline runs items kept g =
     ap (λ run. outline_within run 4 g) (same-function (kept_of runs) (own (bodies items)) kept) ∙ outline-is (bodies items) g
 
 metrics-are : (runs : List Kept) (items : List Item) (names : List (List ℕ)) → KeepsOwn runs items
-    → glyph_metrics_among runs names ≡ (glyphs (bodies items) names >>= (λ gs. Ok (map glyph_metrics gs)))
+    → glyph_metrics_among (kept_of runs) names ≡ (glyphs (bodies items) names >>= (λ gs. Ok (map glyph_metrics gs)))
 unfolding glyph_metrics_among
 metrics-are runs items names kept =
     ap (λ run. glyphs_by run (outline_within (kept_of runs) 4) names >>= (λ gs. Ok (map glyph_metrics gs))) (same-function (kept_of runs) (own (bodies items)) kept)
@@ -172,13 +172,13 @@ fault-of-all (refusals.Fault fault) (Ok gs) h = absurd (cc)
 fault-of-all (refusals.Fault fault) (Err e) h = cc
 
 pub all-told : (items : List Item) (runs : List Kept) (metrics : List GlyphMetrics) (box : BBox) → KeepsOwn runs items
-    → glyph_metrics_among runs (glyph_names items) ≡ Ok metrics → box ≡ united (map (λ s. s.bbox) metrics) → measured items ≡ Ok (record { metrics = metrics; font_box = box })
+    → glyph_metrics_among (kept_of runs) (glyph_names items) ≡ Ok metrics → box ≡ united (map (λ s. s.bbox) metrics) → measured items ≡ Ok (record { metrics = metrics; font_box = box })
 all-told items runs metrics box kept told boxes =
     measured-is items
     ∙ told-all (glyphs (bodies items) (glyph_names items)) metrics box (sym (metrics-are runs items (glyph_names items) kept) ∙ told) boxes
 
 pub all-refused : (items : List Item) (runs : List Kept) (refused : Refusal) → KeepsOwn runs items
-    → Refuses refused (glyph_metrics_among runs (glyph_names items)) → Refuses refused (measured items)
+    → Refuses refused (glyph_metrics_among (kept_of runs) (glyph_names items)) → Refuses refused (measured items)
 all-refused items runs refused kept h =
     subst (Refuses refused) (sym (measured-is items))
     (fault-of-all refused (glyphs (bodies items) (glyph_names items)) (subst (Refuses refused) (metrics-are runs items (glyph_names items) kept) h))

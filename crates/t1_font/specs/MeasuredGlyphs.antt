@@ -1,16 +1,16 @@
 -- What is told of a font's glyphs.
-use Rattle.std.specs.Prelude.{ℕ, List, map, Result, Ok}
+use Rattle.std.specs.Prelude.{ℕ, List, map, Option, Result, Ok}
 use Rattle.t1_frac.specs.declared.fault.Code.{Code}
 use Rattle.t1_frac.specs.declared.fault.Fault.{Fault}
 use Rattle.t1_frac.specs.Outcome.{◌>>=◌}
 use Rattle.t1_parts.specs.declared.item.Item.{Item}
 use Rattle.t1_run.specs.Composite.{outline_within}
+use Rattle.t1_run.specs.Run.{Drawing}
 use Rattle.t1_afm.specs.declared.bbox.BBox.{BBox}
 use Rattle.t1_afm.specs.Box.{drawn_box, font_box}
 use Rattle.t1_font.specs.declared.glyph_metrics.GlyphMetrics.{GlyphMetrics}
 use Rattle.t1_font.specs.Bodies.{bodies}
 use Rattle.t1_font.specs.Glyphs.{Glyph, glyph_of, glyphs_by, glyphs, glyph_names}
-use Rattle.t1_font.specs.Runs.{Kept, kept_of}
 
 -- profile: what is told of a glyph: its name, width and parts, and its box where it draws
 abbrev pub glyph_metrics : Glyph → GlyphMetrics
@@ -22,15 +22,15 @@ glyph_metrics g = record {
   bbox = drawn_box g.outline;
 }
 
--- what is told of a glyph, by the runs that are kept
-unfoldable pub glyph_metrics_at : List Kept → List ℕ → Result GlyphMetrics Code
-glyph_metrics_at runs name =
-    glyph_of name (kept_of runs name) (outline_within (kept_of runs) 4 name) >>= (λ glyph. Ok (glyph_metrics glyph))
+-- what is told of a glyph, by runs that are kept
+unfoldable pub glyph_metrics_at : (List ℕ → Option (Result Drawing Code)) → List ℕ → Result GlyphMetrics Code
+glyph_metrics_at run name =
+    glyph_of name (run name) (outline_within run 4 name) >>= (λ glyph. Ok (glyph_metrics glyph))
 
--- what is told of these glyphs, by the runs that are kept
-unfoldable pub glyph_metrics_among : List Kept → List (List ℕ) → Result (List GlyphMetrics) Fault
-glyph_metrics_among runs names =
-    glyphs_by (kept_of runs) (outline_within (kept_of runs) 4) names >>= (λ glyphs. Ok (map glyph_metrics glyphs))
+-- what is told of these glyphs, by runs that are kept
+unfoldable pub glyph_metrics_among : (List ℕ → Option (Result Drawing Code)) → List (List ℕ) → Result (List GlyphMetrics) Fault
+glyph_metrics_among run names =
+    glyphs_by run (outline_within run 4) names >>= (λ glyphs. Ok (map glyph_metrics glyphs))
 
 -- profile: what is told of the glyphs, in the order of their entries, and the font's box
 pub record MeasuredFont : Type 0 where

@@ -5,12 +5,11 @@ ghost use Rattle.t1_frac.specs.declared.fault.Place.TheVariants as places;
 ghost use Rattle.t1_run.specs.Composite.{IsWithin};
 ghost use Rattle.t1_afm.specs.Box.{drawn_box as box_drawn, united};
 ghost use Rattle.t1_font.specs.Glyphs.{placed_parts_of, run_there};
-ghost use Rattle.t1_font.specs.Runs.{kept_of};
 ghost use Rattle.t1_font.specs.MeasuredGlyphs.{glyph_metrics_at, glyph_metrics_among};
 
+use crate::kept_runs::KeptRuns;
 use crate::numbers::SubrNumbers;
 use crate::outline::outline_of;
-use crate::runs::Runs;
 use std::alloc::Global;
 use t1_afm::{BBox, bounding_box, unite};
 use t1_frac::{Bytes, Code, Fault, Place, Refusal};
@@ -64,26 +63,29 @@ fn placed_parts(alloc: Global, run: &Run) -> Result<Option<PlacedParts>, Refusal
 }
 
 /// The run of a glyph, or its first fault.
-fn run_of<'a>(runs: &'a Runs, name: &[u8]) -> Result<&'a Run, Code>
+fn run_of<'a, R: KeptRuns>(runs: &'a R, name: &[u8]) -> Result<&'a Run, Code>
     ensures { MatchResult
         result
-        (λ run. run_there (kept_of runs.now name.now) ≡ Ok run.now.drawing)
-        (λ code. run_there (kept_of runs.now name.now) ≡ Err code) }
+        (λ run. run_there (R.drawn runs.now name.now) ≡ Ok run.now.drawing)
+        (λ code. run_there (R.drawn runs.now name.now) ≡ Err code) }
 {
-    match runs.get(name) {
+    match runs.run_of(name) {
         None => Err(Code::F45),
-        Some(Err(code)) => Err(*code),
-        Some(Ok(run)) => Ok(run),
+        Some(run) => run,
     }
 }
 
 /// What is told of a glyph, or its first fault, at no place.
 #[tactic(auto, unfolding(crate::specs::MeasuredGlyphs::glyph_metrics_at))]
-fn unplaced_metrics(alloc: Global, runs: &Runs, name: &[u8]) -> Result<GlyphMetrics, Refusal>
+fn unplaced_metrics<R: KeptRuns>(
+    alloc: Global,
+    runs: &R,
+    name: &[u8],
+) -> Result<GlyphMetrics, Refusal>
     ensures { Gives
         (λ glyph. glyph)
         result
-        (told_at places.Nowhere (glyph_metrics_at runs.now name.now)) }
+        (told_at places.Nowhere (glyph_metrics_at (R.drawn runs.now) name.now)) }
 {
     let run = run_of(runs, name)?;
     let outline = outline_of(alloc, runs, name)?;
@@ -98,11 +100,15 @@ fn unplaced_metrics(alloc: Global, runs: &Runs, name: &[u8]) -> Result<GlyphMetr
 }
 
 /// What is told of a glyph, or its first fault, at the glyph.
-fn placed_metrics(alloc: Global, runs: &Runs, name: &[u8]) -> Result<GlyphMetrics, Refusal>
+fn placed_metrics<R: KeptRuns>(
+    alloc: Global,
+    runs: &R,
+    name: &[u8],
+) -> Result<GlyphMetrics, Refusal>
     ensures { Gives
         (λ glyph. glyph)
         result
-        (told_at (places.Glyph name.now) (glyph_metrics_at runs.now name.now)) }
+        (told_at (places.Glyph name.now) (glyph_metrics_at (R.drawn runs.now) name.now)) }
 {
     match unplaced_metrics(alloc, runs, name) {
         Err(Refusal::Fault(fault)) => Err(Refusal::Fault(Fault {
@@ -115,15 +121,15 @@ fn placed_metrics(alloc: Global, runs: &Runs, name: &[u8]) -> Result<GlyphMetric
 
 /// What is told of these glyphs, in their order, or the first fault of a glyph.
 #[tactic(auto, unfolding(crate::specs::MeasuredGlyphs::glyph_metrics_among))]
-pub fn glyph_metrics_of(
+pub fn glyph_metrics_of<R: KeptRuns>(
     alloc: Global,
-    runs: &Runs,
+    runs: &R,
     names: &[&[u8]],
 ) -> Result<Vec<GlyphMetrics>, Refusal>
     ensures { Gives
         (λ metrics. metrics.items)
         result
-        (glyph_metrics_among runs.now (map (λ name. name.now) names.now)) }
+        (glyph_metrics_among (R.drawn runs.now) (map (λ name. name.now) names.now)) }
 {
     let mut metrics = Vec::new(alloc);
     for name in names {

@@ -4,9 +4,8 @@ ghost use Rattle.t1_frac.specs.Outcome.{Gives, told_at};
 ghost use Rattle.t1_frac.specs.declared.fault.Place.TheVariants.{Nowhere};
 ghost use Rattle.t1_run.specs.Composite.{outline_within, IsWithin};
 ghost use Rattle.t1_font.specs.Outlines.{segments_of};
-ghost use Rattle.t1_font.specs.Runs.{kept_of};
 
-use crate::runs::Runs;
+use crate::kept_runs::KeptRuns;
 use std::alloc::Global;
 use t1_frac::{Code, Refusal};
 use t1_run::{Segment, join};
@@ -30,18 +29,18 @@ impl<'a> Outline<'a> {
 }
 
 /// The outline of a glyph, in which composites nest so deep.
-fn outline_at<'a>(
+fn outline_at<'a, R: KeptRuns>(
     alloc: Global,
-    runs: &'a Runs,
+    runs: &'a R,
     depth: u8,
     name: &[u8],
 ) -> Result<Outline<'a>, Refusal>
-    ensures outline { Gives segments_of result (told_at Nowhere (outline_within (kept_of runs.now) depth name.now)) }
+    ensures outline { Gives segments_of result (told_at Nowhere (outline_within (R.drawn runs.now) depth name.now)) }
     ensures within { IfOk result (λ outline. All IsWithin (segments_of outline)) }
 {
-    let run = match runs.get(name) {
+    let run = match runs.run_of(name) {
         None => return Err(Refusal::from(Code::F45)),
-        Some(Err(code)) => return Err(Refusal::from(*code)),
+        Some(Err(code)) => return Err(Refusal::from(code)),
         Some(Ok(run)) => run,
     };
     let Some(parts) = run.composite() else {
@@ -57,8 +56,12 @@ fn outline_at<'a>(
 }
 
 /// The outline of a glyph, whose composites nest four deep at most, or its first fault. Its points are within the limits.
-pub fn outline_of<'a>(alloc: Global, runs: &'a Runs, name: &[u8]) -> Result<Outline<'a>, Refusal>
-    ensures outline { Gives segments_of result (told_at Nowhere (outline_within (kept_of runs.now) 4 name.now)) }
+pub fn outline_of<'a, R: KeptRuns>(
+    alloc: Global,
+    runs: &'a R,
+    name: &[u8],
+) -> Result<Outline<'a>, Refusal>
+    ensures outline { Gives segments_of result (told_at Nowhere (outline_within (R.drawn runs.now) 4 name.now)) }
     ensures within { IfOk result (λ outline. All IsWithin (segments_of outline)) }
 {
     outline_at(alloc, runs, 4, name)

@@ -1,9 +1,10 @@
 //! Runs, kept by the names of their glyphs.
-ghost use Rattle.std.specs.Prelude.{◌≡◌, length, map, ℕ, List, [], Some, All, IsSome, IfOk, OnOk, OnErr, option_map, if◌then◌else◌};
+ghost use Rattle.std.specs.Prelude.{◌≡◌, length, map, ℕ, List, [], None, Some, All, IsSome, IfOk, OnOk, OnErr, option_map, if◌then◌else◌};
 ghost use Rattle.std.specs.Str.{bytes_eq};
 ghost use Rattle.t1_run.specs.Run.{font, own};
 ghost use Rattle.t1_font.specs.Runs.{drawing_kept, kept_of, run_kept, own_among, counted, CountsSome, IsAfter};
 
+use crate::kept_runs::KeptRuns;
 use indexmap::IndexMap;
 use std::alloc::{AllocError, Global};
 use std::marker::Model;
@@ -43,6 +44,14 @@ impl Runs {
         self.by_name.get(name)
     }
 
+    /// Takes out what is kept of the glyph of this name. It takes no memory.
+    pub fn take(&mut self, name: &[u8]) -> Option<Result<Run, Code>>
+        ensures taken { result ≡ run_kept self.old name.now }
+        ensures others { (g : List ℕ) → run_kept self.new g ≡ (if bytes_eq name.now g then None else run_kept self.old g) }
+    {
+        self.by_name.swap_remove(name)
+    }
+
     /// Keeps a run, or its first fault, in the place of an earlier one of that name.
     fn keep(
         &mut self,
@@ -54,6 +63,20 @@ impl Runs {
     {
         self.by_name.insert(Vec::from_slice(alloc, name)?, kept)?;
         Ok(())
+    }
+}
+
+impl KeptRuns for Runs {
+    ghost use Rattle.t1_font.specs.Runs.{kept_of};
+
+    ghost drawn = { kept_of };
+
+    fn run_of(&self, name: &[u8]) -> Option<Result<&Run, Code>> {
+        match self.get(name) {
+            None => None,
+            Some(Ok(run)) => Some(Ok(run)),
+            Some(Err(code)) => Some(Err(*code)),
+        }
     }
 }
 

@@ -8,8 +8,8 @@ use Rattle.t1_font.proofs.Keeping.{name-first}
 use Rattle.t1_font.proofs.glyph_metrics.glyph_metrics_of.Goals as goal
 
 pub loop-name-preserved : goal.loop-name-preserved
-loop-name-preserved c =
-    let runs = c.args.runs.now in
+loop-name-preserved g c =
+    let runs = g.R.KeptRuns.drawn c.args.runs.now in
     let names = c.args.names.now in
     let i = c.loop-name.name-index in
     let none : Bor (List ℕ) = record { ref_ptr = (0, 0); now = [] } in
@@ -21,8 +21,8 @@ loop-name-preserved c =
     ∙ c.loop-name.invariant
 
 pub returns-in_err-placed_metrics : goal.returns-in_err-placed_metrics
-returns-in_err-placed_metrics c =
-    let runs = c.args.runs.now in
+returns-in_err-placed_metrics g c =
+    let runs = g.R.KeptRuns.drawn c.args.runs.now in
     let names = c.args.names.now in
     let i = c.loop-name.name-index in
     let none : Bor (List ℕ) = record { ref_ptr = (0, 0); now = [] } in

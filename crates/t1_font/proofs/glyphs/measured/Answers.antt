@@ -3,7 +3,7 @@ use Rattle.std.proofs.lemmas.Result.{err_from_is_err_and}
 use Rattle.t1_frac.specs.Outcome.{Refuses}
 use Rattle.t1_afm.specs.Box.{united}
 use Rattle.t1_font.specs.Bodies.{plain_bodies}
-use Rattle.t1_font.specs.Runs.{own_among}
+use Rattle.t1_font.specs.Runs.{own_among, kept_of}
 use Rattle.t1_font.specs.MeasuredGlyphs.{glyph_metrics_among}
 use Rattle.t1_font.proofs.Measuring.{names-there, keeps-own, all-told, all-refused}
 use Rattle.t1_font.proofs.glyphs.measured.Goals as goal
@@ -23,7 +23,7 @@ returns-in_err-metrics-clause-told c =
     let names_again = ap (map (λ name. name.now)) c.deref-2.ensures.value ∙ c.in_ok-names.ensures in
     let kept = keeps-own m items runs c.requires.bodies (λ g. c.in_ok-runs.ensures.kept g ∙ ap (λ l. own_among m l g) names) in
     let p = err_from_is_err_and c.from_residual-in_err-metrics.result c.from_residual-in_err-metrics.ensures.1 in
-    rw (p.1, p.2) (all-refused items runs refused kept (subst (λ l. Refuses refused (glyph_metrics_among runs l)) names_again c.in_err-metrics.ensures))
+    rw (p.1, p.2) (all-refused items runs refused kept (subst (λ l. Refuses refused (glyph_metrics_among (kept_of runs) l)) names_again c.in_err-metrics.ensures))
 
 pub returns-clause-told : goal.returns-clause-told
 returns-clause-told c =
@@ -34,5 +34,5 @@ returns-clause-told c =
     let names_again = ap (map (λ name. name.now)) c.deref-2.ensures.value ∙ c.in_ok-names.ensures in
     let kept = keeps-own m items runs c.requires.bodies (λ g. c.in_ok-runs.ensures.kept g ∙ ap (λ l. own_among m l g) names) in
     all-told items runs c.in_ok-metrics.metrics.items c.font_box-font_box.result kept
-    (sym (ap (glyph_metrics_among runs) names_again) ∙ c.in_ok-metrics.ensures)
+    (sym (ap (glyph_metrics_among (kept_of runs)) names_again) ∙ c.in_ok-metrics.ensures)
     (c.font_box-font_box.ensures ∙ ap (λ l. united (map (λ s. s.bbox) l)) c.deref-3.ensures.value)

@@ -1,0 +1,20 @@
+use Rattle.std.proofs.Common.{◌∙◌, sym, ap, cond, None}
+use Rattle.std.specs.Str.{bytes_eq}
+use Rattle.std.specs.Map.{lookup}
+use Rattle.std.specs.Option.{option_copied}
+use Rattle.t1_font.specs.Runs.{run_kept}
+use Rattle.t1_font.proofs.Keeping.{lookup-names, lookup-taken}
+use Rattle.t1_font.proofs.runs.Runs.take.Goals as goal
+
+pub returns-clause-taken : goal.returns-clause-taken
+returns-clause-taken c =
+    c.swap_remove.ensures.value
+    ∙ sym (lookup-names (λ k. k.items) (bytes_eq c.args.name.now) c.self.inside.by_name.entries)
+    ∙ ap (λ runs. run_kept runs c.args.name.now) c.self.view_is
+
+pub returns-clause-others : goal.returns-clause-others
+returns-clause-others c = λ g.
+    let old = c.self.inside.by_name.entries in
+    lookup-names (λ k. k.items) (bytes_eq g) c.swap_remove.new.self.entries
+    ∙ lookup-taken (λ k. k.items) old c.swap_remove.new.self.entries c.args.name.now c.swap_remove.ensures.updates.0 g
+    ∙ ap (cond (bytes_eq c.args.name.now g) None) (sym (lookup-names (λ k. k.items) (bytes_eq g) old) ∙ ap (λ runs. run_kept runs g) c.self.view_is)

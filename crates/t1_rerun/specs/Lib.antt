@@ -1,0 +1,3 @@
+pub mod Newest
+pub mod Renewals
+pub mod Right

@@ -1,0 +1,34 @@
+-- What is kept of a source, and what edits make new of it.
+use Rattle.std.specs.Prelude.{◌≡◌, ◌++◌, ℕ, Bool, not, Ok, List, filter, map}
+use Rattle.std.specs.List.{AllByRecursion, list_any}
+use Rattle.std.specs.Str.{bytes_eq}
+use Rattle.t1_parts.specs.SourceParts.{SourceParts}
+use Rattle.t1_run.specs.Run.{FontBodies}
+use Rattle.t1_font.specs.Assembly.{file_check}
+use Rattle.t1_font.specs.Bodies.{bodies, SameBodies}
+use Rattle.t1_font.specs.Glyphs.{glyph_names}
+use Rattle.t1_cache.specs.declared.records.Named.{Named}
+use Rattle.t1_cache.specs.declared.records.Records.{Records}
+use Rattle.t1_cache.specs.Edited.{IsEditedAt}
+use Rattle.t1_cache.specs.Kept.{KeepsAll}
+use Rattle.t1_cache.specs.Renewed.{kept_of}
+use Rattle.t1_cache.specs.Tables.{AreTables}
+use Rattle.t1_cache.specs.Users.{key_of}
+
+-- the records are those of the source from scratch: its glyphs' runs and boxes, and the users of each Subr and glyph
+pub record IsRight (s : SourceParts) (records : Records) : Type 0 where
+  pub kept : KeepsAll s (map kept_of records.glyphs.entries)
+  pub users : AreTables (bodies s.items) records
+
+-- a glyph of this name is there
+abbrev pub has_glyph : SourceParts → List ℕ → Bool
+has_glyph s g = list_any (bytes_eq g) (glyph_names s.items)
+
+-- a source whose records are right was edited, and the edited one has its file: the bodies and the glyphs' names of the
+-- edited one
+pub record IsEdit (edits : List Named) (old new : SourceParts) (records : Records) (m : FontBodies) (names : List (List ℕ)) : Type 0 where
+  pub right : IsRight old records
+  pub edited : IsEditedAt (map key_of edits) old new
+  pub file : file_check new ≡ Ok tt
+  pub bodies : SameBodies m (bodies new.items)
+  pub names : names ≡ glyph_names new.items

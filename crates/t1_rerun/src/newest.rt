@@ -1,0 +1,30 @@
+//! The newest runs of an edited font.
+ghost use Rattle.t1_rerun.specs.Newest.{newest};
+
+use t1_cache::Records;
+use t1_font::{KeptRuns, Runs};
+use t1_frac::Code;
+use t1_run::Run;
+
+/// Runs that were made again, and the runs of the records for all other glyphs.
+#[derive(Drop)]
+pub struct Newest<'a> {
+    pub runs: &'a Runs,
+    pub records: &'a Records,
+}
+
+impl<'a> KeptRuns for Newest<'a> {
+    ghost use Rattle.t1_rerun.specs.Newest.{newest};
+
+    ghost drawn = { λ n. newest n.runs.now n.records.now };
+
+    fn run_of(&self, name: &[u8]) -> Option<Result<&Run, Code>> {
+        if let Some(run) = self.runs.run_of(name) {
+            return Some(run);
+        }
+        match self.records.glyphs.get(name) {
+            None => None,
+            Some(record) => Some(Ok(&record.run)),
+        }
+    }
+}
