@@ -13,7 +13,7 @@ mod stale;
 mod users;
 mod uses;
 
-pub use records::{GlyphRecord, Named, Names, Records, SubrRecord};
+pub use records::{GlyphRecord, Named, Names, Records, Rerun, SubrRecord};
 pub use renewed::renew;
 pub use stale::found;
 pub use users::move_users;

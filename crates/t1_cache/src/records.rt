@@ -38,3 +38,11 @@ pub enum Named {
     Subr(u16),
     Glyph(Bytes),
 }
+
+/// A glyph that was run again: its new run, and the box of its outline where it draws.
+#[derive(Drop)]
+pub struct Rerun {
+    pub name: Vec<u8>,
+    pub run: Run,
+    pub bbox: Option<BBox>,
+}

@@ -1,11 +1,17 @@
 -- What edits make new of the glyphs that they make stale.
-use Rattle.std.specs.Prelude.{◌≡◌, ◌≤◌, ℕ, Bool, false, List, map}
+use Rattle.std.specs.Prelude.{◌≡◌, ◌≤◌, ◌⊎◌, ℕ, Bool, List, [], ◌∷◌, map, Option, Some, None, Result, Ok, Err}
 use Rattle.std.specs.List.{AllByRecursion, list_any}
 use Rattle.std.specs.Str.{bytes_eq}
+use Rattle.t1_frac.specs.declared.fault.Code.{Code}
 use Rattle.t1_parts.specs.SourceParts.{SourceParts}
-use Rattle.t1_run.specs.Run.{Key}
+use Rattle.t1_run.specs.declared.outline.Segment.{Segment}
+use Rattle.t1_run.specs.Composite.{outline_within}
+use Rattle.t1_run.specs.Run.{Key, Drawing, NumberedRun}
+use Rattle.t1_afm.specs.declared.bbox.BBox.{BBox}
+use Rattle.t1_afm.specs.Box.{drawn_box}
+use Rattle.t1_font.specs.declared.glyph_metrics.GlyphMetrics.{GlyphMetrics}
 use Rattle.t1_font.specs.Bodies.{bodies}
-use Rattle.t1_font.specs.Runs.{counted}
+use Rattle.t1_font.specs.Runs.{Kept as KeptRun, run_kept, counted}
 use Rattle.t1_cache.specs.declared.records.Rerun.{Rerun}
 use Rattle.t1_cache.specs.Edited.{stale}
 use Rattle.t1_cache.specs.Joins.{AreLeaves}
@@ -25,11 +31,39 @@ rerun_names rs = map (λ r. r.name.items) rs
 abbrev pub IsLater : ℕ → Rerun → Type 0
 IsLater count r = counted count 1 ≤ r.run.serial
 
+-- the box of the glyph of this name, among what was measured
+abbrev pub HasBox : List GlyphMetrics → List ℕ → Option BBox → Type 0
+HasBox [] g box = ⊥
+HasBox (m ∷ ms) g box = ((m.name ≡ g) × (m.bbox ≡ box)) ⊎ HasBox ms g box
+
+-- a run that is kept, where it has no fault
+abbrev pub run_in : Option (Result NumberedRun Code) → Option NumberedRun
+run_in None = None
+run_in (Some (Err code)) = None
+run_in (Some (Ok run)) = Some run
+
+-- the run of the glyph is kept, and has no fault
+abbrev pub HasRun : List KeptRun → GlyphMetrics → Type 0
+HasRun runs m = (run : NumberedRun) × (run_kept runs m.name ≡ Some (Ok run))
+
+-- a rerun is a run that was kept, with the box that was measured
+pub record IsRerun (runs : List KeptRun) (metrics : List GlyphMetrics) (r : Rerun) : Type 0 where
+  pub run : run_kept runs r.name.items ≡ Some (Ok r.run)
+  pub box : HasBox metrics r.name.items r.bbox
+
+-- by runs that are kept a glyph draws, and its box is the one that was measured
+pub record IsMeasured (run : List ℕ → Option (Result Drawing Code)) (m : GlyphMetrics) : Type 0 where
+  pub drawing : Drawing
+  pub segments : List Segment
+  pub ran : run m.name ≡ Some (Ok drawing)
+  pub draws : outline_within run 4 m.name ≡ Ok segments
+  pub box : m.bbox ≡ drawn_box segments
+
 -- profile: what edits at these keys make new: the run and the box of each stale glyph, each from scratch; and which
 -- glyphs leave and join the users of what the old runs and the new ones use
 pub record IsRenewal (keys : List Key) (old new : SourceParts) (renewal : Renewal) : Type 0 where
   pub found : List ℕ → Bool
-  pub stale : AreStale (bodies old.items) keys found
+  pub reached : AreStale (bodies old.items) keys found
   pub scratch : AllByRecursion (IsFromScratch (bodies new.items)) (map rerun_kept renewal.reruns.items)
   pub names : (g : List ℕ) → list_any (bytes_eq g) (rerun_names renewal.reruns.items) ≡ list_any (bytes_eq g) (stale old keys new)
   pub leaves : AreLeaves (bodies old.items) found renewal.leaves.items

@@ -1,6 +1,6 @@
 -- What is kept of a source, and what edits make new of it.
-use Rattle.std.specs.Prelude.{◌≡◌, ◌++◌, ℕ, Bool, not, Ok, List, filter, map}
-use Rattle.std.specs.List.{AllByRecursion, list_any}
+use Rattle.std.specs.Prelude.{◌≡◌, ℕ, Bool, Ok, List, map}
+use Rattle.std.specs.List.{list_any}
 use Rattle.std.specs.Str.{bytes_eq}
 use Rattle.t1_parts.specs.SourceParts.{SourceParts}
 use Rattle.t1_run.specs.Run.{FontBodies}
@@ -26,9 +26,9 @@ has_glyph s g = list_any (bytes_eq g) (glyph_names s.items)
 
 -- a source whose records are right was edited, and the edited one has its file: the bodies and the glyphs' names of the
 -- edited one
-pub record IsEdit (edits : List Named) (old new : SourceParts) (records : Records) (m : FontBodies) (names : List (List ℕ)) : Type 0 where
+pub record IsEdit (edits : List Named) (old new : SourceParts) (records : Records) (m : FontBodies) (glyphs : List (List ℕ)) : Type 0 where
   pub right : IsRight old records
   pub edited : IsEditedAt (map key_of edits) old new
   pub file : file_check new ≡ Ok tt
   pub bodies : SameBodies m (bodies new.items)
-  pub names : names ≡ glyph_names new.items
+  pub names : glyphs ≡ glyph_names new.items

@@ -7,8 +7,10 @@
 mod newest;
 mod renewal;
 mod rerun;
+mod reruns;
 mod stale;
 
 pub use newest::Newest;
 pub use renewal::Renewal;
-pub use rerun::rerun;
+pub use reruns::reruns_of;
+pub use stale::stale_among;
