@@ -13,6 +13,7 @@ pub mod Overlaying
 pub mod Places
 pub mod Putting
 pub mod Renewing
+pub mod Rerunning
 pub mod Rows
 pub mod There
 pub mod ThroughTables

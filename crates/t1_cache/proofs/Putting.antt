@@ -73,23 +73,29 @@ map-cond : {X Y : Type 0} (f : X → Y) (b : Bool) (x : X) (r : Option X) → op
 map-cond f true x r = refl
 map-cond f false x r = refl
 
+-- what is read of the records is that of the one that is put, at its name
+pub reads-put : {Q K R X : Type 0} (eq : Q → Q → Bool) → Tells eq → (name : K → Q) (read : R → X) (es : List (K × R)) (p : Q) (was now : R)
+    → lookup (λ k. eq p (name k)) es ≡ Some was
+    → (q : Q) → option_map read (lookup (λ k. eq q (name k)) (set_value (λ k. eq p (name k)) es now)) ≡ cond (eq q p) (Some (read now)) (option_map read (lookup (λ k. eq q (name k)) es))
+reads-put eq t name read es p was now h q =
+    ap (option_map read) (put-at eq t name q p now was es h) ∙ map-cond read (eq q p) now (lookup (λ k. eq q (name k)) es)
+
 pub users-put : {Q K R : Type 0} (eq : Q → Q → Bool) → Tells eq → (name : K → Q) (users : R → UserSet) (es : List (K × R)) (p : Q) (was now : R)
     → lookup (λ k. eq p (name k)) es ≡ Some was
     → (q : Q) → at eq name users (set_value (λ k. eq p (name k)) es now) q ≡ cond (eq q p) (Some (users now)) (at eq name users es q)
-users-put eq t name users es p was now h q =
-    ap (option_map users) (put-at eq t name q p now was es h) ∙ map-cond users (eq q p) now (lookup (λ k. eq q (name k)) es)
+users-put eq t name users es p was now h q = reads-put eq t name users es p was now h q
 
--- the same users
-pub users-stay : {Q K R : Type 0} (eq : Q → Q → Bool) → Tells eq → (name : K → Q) (users : R → UserSet) (es : List (K × R)) (p : Q) (was now : R)
-    → lookup (λ k. eq p (name k)) es ≡ Some was → users now ≡ users was
-    → (q : Q) → at eq name users (set_value (λ k. eq p (name k)) es now) q ≡ at eq name users es q
-users-stay eq t name users es p was now h same q =
-    users-put eq t name users es p was now h q
+-- what is read of the records is the same, where it is the same of the one that is put
+pub reads-stay : {Q K R X : Type 0} (eq : Q → Q → Bool) → Tells eq → (name : K → Q) (read : R → X) (es : List (K × R)) (p : Q) (was now : R)
+    → lookup (λ k. eq p (name k)) es ≡ Some was → read now ≡ read was
+    → (q : Q) → option_map read (lookup (λ k. eq q (name k)) (set_value (λ k. eq p (name k)) es now)) ≡ option_map read (lookup (λ k. eq q (name k)) es)
+reads-stay eq t name read es p was now h same q =
+    reads-put eq t name read es p was now h q
     ∙ elim (cases_Bool (eq q p)) [
       | inl on ↦
-          ap (λ b. cond b (Some (users now)) (at eq name users es q)) on ∙ ap Some same
-          ∙ ap (option_map users) (sym h) ∙ ap (at eq name users es) (sym (t.same q p on))
-      | inr off ↦ ap (λ b. cond b (Some (users now)) (at eq name users es q)) off
+          ap (λ b. cond b (Some (read now)) (option_map read (lookup (λ k. eq q (name k)) es))) on ∙ ap Some same
+          ∙ ap (option_map read) (sym h) ∙ ap (λ x. option_map read (lookup (λ k. eq x (name k)) es)) (sym (t.same q p on))
+      | inr off ↦ ap (λ b. cond b (Some (read now)) (option_map read (lookup (λ k. eq q (name k)) es))) off
     ]
 
 pub left : {Q K R : Type 0} (eq : Q → Q → Bool) → Tells eq → (name : K → Q) (users : R → UserSet) (es : List (K × R)) (p : Q) (was now : R) (user : List ℕ)

@@ -1,3 +1,4 @@
+pub mod Bodies
 pub mod Edited
 pub mod Found
 pub mod Joins

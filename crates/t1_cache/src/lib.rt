@@ -13,8 +13,8 @@ mod stale;
 mod users;
 mod uses;
 
-pub use records::{GlyphRecord, Named, Names, Records, SubrRecord};
-pub use renewed::renew;
+pub use records::{GlyphRecord, Named, Names, Records, Rerun, SubrRecord};
+pub use renewed::{renew, renew_all};
 pub use stale::found;
 pub use users::move_users;
 pub use uses::{joins_of, leaves_of};
