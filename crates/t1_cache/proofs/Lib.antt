@@ -14,6 +14,7 @@ pub mod Places
 pub mod Putting
 pub mod Renewing
 pub mod Rerunning
+pub mod Rooming
 pub mod Rows
 pub mod There
 pub mod ThroughTables

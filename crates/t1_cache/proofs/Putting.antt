@@ -7,6 +7,7 @@ use Rattle.std.specs.Str.{bytes_eq}
 use Rattle.std.proofs.lemmas.Bool.{cases_Bool, eqb-true}
 use Rattle.std.proofs.lemmas.Bool.Decides.{nat_tests}
 use Rattle.std.proofs.lemmas.Slice.Eq.{bytes_eq-Decides}
+use Rattle.indexmap.specs.IndexMap.{insert_entry}
 use Rattle.t1_cache.specs.Users.{has, among, HasRoom, UserSet}
 
 -- a test that tells whether two names are the same
@@ -66,7 +67,7 @@ rest-put rest (e ∷ es) test was now h stays = by (test e.0) refl (λ h'. rest-
       ∙ ap (λ l. rest e ∷ l) (later (sym (ap (λ b. cond b (Some e.1) (lookup test es)) off) ∙ h))
 
 -- the users of the record of a name
-abbrev at : {Q K R : Type 0} → (Q → Q → Bool) → (K → Q) → (R → UserSet) → List (K × R) → Q → Option UserSet
+abbrev pub at : {Q K R : Type 0} → (Q → Q → Bool) → (K → Q) → (R → UserSet) → List (K × R) → Q → Option UserSet
 at eq name users es q = option_map users (lookup (λ k. eq q (name k)) es)
 
 map-cond : {X Y : Type 0} (f : X → Y) (b : Bool) (x : X) (r : Option X) → option_map f (cond b (Some x) r) ≡ cond b (Some (f x)) (option_map f r)
@@ -170,3 +171,30 @@ room-stays eq t name users es p was now h keeps q count had =
           subst (λ b. HasRoom count (cond b (Some (users now)) (at eq name users es q))) (sym on) (omega (arith, had', keeps))
       | inr off ↦ subst (λ b. HasRoom count (cond b (Some (users now)) (at eq name users es q))) (sym off) had
     ])
+
+-- ---- values that are put in
+
+swap : {Y : Type 0} (a b : Bool) (x y r : Y) → (a ≡ true → b ≡ true → x ≡ y) → cond a x (cond b y r) ≡ cond b y (cond a x r)
+swap true true x y r h = h refl refl
+swap true false x y r h = refl
+swap false true x y r h = refl
+swap false false x y r h = refl
+
+-- a value that is put in at a name is found there, and nothing else changes
+pub inserted-at : {Q K X : Type 0} (eq : Q → Q → Bool) → Tells eq → (name : K → Q) (p : Q) (k : K) (v : X) (es : List (K × X))
+    → lookup (λ x. eq p (name x)) (insert_entry (λ x y. eq (name x) (name y)) es k v) ≡ cond (eq p (name k)) (Some v) (lookup (λ x. eq p (name x)) es)
+inserted-at eq t name p k v [] = refl
+inserted-at eq t name p k v (e ∷ es) = by (eq (name k) (name e.0)) refl (inserted-at eq t name p k v es) where
+  by : (b : Bool) → eq (name k) (name e.0) ≡ b
+      → lookup (λ x. eq p (name x)) (insert_entry (λ x y. eq (name x) (name y)) es k v) ≡ cond (eq p (name k)) (Some v) (lookup (λ x. eq p (name x)) es)
+      → lookup (λ x. eq p (name x)) (cond b ((e.0, v) ∷ es) (e ∷ insert_entry (λ x y. eq (name x) (name y)) es k v))
+      ≡ cond (eq p (name k)) (Some v) (cond (eq p (name e.0)) (Some e.1) (lookup (λ x. eq p (name x)) es))
+  by true on rest =
+      again (eq p (name e.0)) (Some v) (Some e.1) (lookup (λ x. eq p (name x)) es)
+      ∙ ap (λ n. cond (eq p n) (Some v) (cond (eq p (name e.0)) (Some e.1) (lookup (λ x. eq p (name x)) es))) (sym (t.same (name k) (name e.0) on))
+  by false off rest =
+      ap (cond (eq p (name e.0)) (Some e.1)) rest
+      ∙ swap (eq p (name e.0)) (eq p (name k)) (Some e.1) (Some v) (lookup (λ x. eq p (name x)) es) (λ there here.
+      let both : eq (name k) (name e.0) ≡ true = ap (λ n. eq n (name e.0)) (sym (t.same p (name k) here)) ∙ there in
+      let never : false ≡ true = sym off ∙ both in
+      absurd (cc))

@@ -3,6 +3,7 @@ ghost use Rattle.t1_cache.specs.Joins.{AllDrawLaw, FirstTablesLaw, JoinsLaw, Kep
 ghost use Rattle.t1_cache.specs.Laws.{CountLaw, DistinctLaw, EditLaw, FirstFaultLaw, MiddleLaw, NewestLaw, TurnLaw};
 ghost use Rattle.t1_cache.specs.Overlay.{OverlayLaw};
 ghost use Rattle.t1_cache.specs.Renewal.{RenewalLaw, RerunsLaw};
+ghost use Rattle.t1_cache.specs.Room.{RoomLaw};
 ghost use Rattle.t1_cache.specs.There.{UsesThereLaw};
 
 /// Entries that are put in, taken out or replaced change a source at their keys, and nowhere else.
@@ -88,4 +89,10 @@ pub fn first_tables()
 /// Tables from which a Subr or a glyph was taken out that the font doesn't have are still those of the font.
 pub fn less_tables()
     ensures { LessTablesLaw }
+{}
+
+/// Records that have the bodies of a font have room for all that join by its runs, once there is room where there is a
+/// record.
+pub fn room()
+    ensures { RoomLaw }
 {}
