@@ -7,14 +7,19 @@ use Rattle.std.proofs.lemmas.Slice.Eq.{bytes_eq-Decides}
 use Rattle.t1_code.specs.declared.command.Command.{Command}
 use Rattle.t1_run.specs.Footprint.{Includes}
 use Rattle.t1_run.specs.Run.{FontBodies, Key, Glyph, own, own_of}
-use Rattle.t1_run.specs.Touched.{is_user, is_met}
+use Rattle.t1_run.specs.Touched.{is_key_of, is_met, is_named, is_touched, is_user, meets_parts, meets_run, touched_within}
 use Rattle.t1_run.proofs.FoundByUsers.{found_are_touched}
 use Rattle.t1_run.proofs.Untouched.{untouched_kept}
-use Rattle.t1_cache.specs.Joins.{FirstTablesLaw, KeptRunLaw, JoinsLaw, LessTablesLaw}
+use Rattle.t1_cache.specs.Joins.{FirstTablesLaw, KeptRunLaw, JoinsLaw, LessTablesLaw, StaleFoundLaw}
 use Rattle.t1_cache.specs.Overlay.{body_at}
 use Rattle.t1_cache.specs.Users.{lists, has_pair, key_eq}
 use Rattle.t1_cache.proofs.Adding.{key-same}
+use Rattle.t1_cache.proofs.Newest.{not-key}
 use Rattle.t1_cache.proofs.There.{uses_there}
+
+right : (a b : Bool) → b ≡ true → (a || b) ≡ true
+right true b h = refl
+right false b h = h
 
 -- a glyph that is named is met
 met-named : (m : FontBodies) (g : List ℕ) (keys : List Key) → Includes keys (Glyph g) → list_any (is_met m g) keys ≡ true
@@ -22,10 +27,7 @@ met-named m g [] i = absurd i
 met-named m g (k ∷ keys) (inl e) =
     let here : is_met m g k ≡ true = ap (is_met m g) e ∙ ap (λ b. b || is_user (Glyph g) (own m g)) ((bytes_eq-Decides g g).1 refl) in
     ap (λ b. b || list_any (is_met m g) keys) here
-met-named m g (k ∷ keys) (inr i) = later (is_met m g k) (list_any (is_met m g) keys) (met-named m g keys i) where
-  later : (a b : Bool) → b ≡ true → (a || b) ≡ true
-  later true b h = refl
-  later false b h = h
+met-named m g (k ∷ keys) (inr i) = right (is_met m g k) (list_any (is_met m g) keys) (met-named m g keys i)
 
 pub none-run : (m : FontBodies) (g : List ℕ) → m.glyphs g ≡ None → own m g ≡ None
 unfolding own
@@ -42,6 +44,39 @@ run_kept keys m n but draw names stale g off = by (m.glyphs g) refl where
       let drew = draw g body e in
       let fresh = sym (found_are_touched m keys names stale.closed stale.found g drew.0 drew.1) ∙ off in
       (untouched_kept keys m n but g drew.0 drew.1 fresh).0
+
+met-all : (m : FontBodies) (g : List ℕ) (keys : List Key) → is_named keys g ≡ true → list_any (is_met m g) keys ≡ true
+met-all m g [] h = h
+met-all m g (k ∷ keys) h = by (is_key_of g k) refl h (met-all m g keys) where
+  by : (b : Bool) → is_key_of g k ≡ b → (b || is_named keys g) ≡ true → (is_named keys g ≡ true → list_any (is_met m g) keys ≡ true)
+      → list_any (is_met m g) (k ∷ keys) ≡ true
+  by true e h rest = ap (λ b. (b || is_user k (own m g)) || list_any (is_met m g) keys) e
+  by false e h rest = right (is_met m g k) (list_any (is_met m g) keys) (rest h)
+
+touched-named : (m : FontBodies) (keys : List Key) (g : List ℕ) → own m g ≡ None → is_named keys g ≡ true → is_touched m keys g ≡ true
+unfolding is_touched
+touched-named m keys g none named =
+    ap (λ r. meets_run keys g r || meets_parts (touched_within 3 m keys) r) none
+    ∙ ap (λ b. b || false) named
+
+pub found_stale : StaleFoundLaw
+found_stale keys m n but draw names stale g body there = by (m.glyphs g) refl where
+  named : m.glyphs g ≡ None → is_named keys g ≡ true
+  named e =
+      elim (cases_Bool (is_named keys g)) [
+        | inl on ↦ on
+        | inr off ↦
+            let never : None ≡ Some body = sym e ∙ but.same (Glyph g) (not-key keys g off) ∙ there in
+            absurd (cc)
+      ]
+
+  by : (was : Option (List Command)) → m.glyphs g ≡ was → names g ≡ is_touched m keys g
+  by None e =
+      stale.closed.seeds g (met-all m g keys (named e))
+      ∙ sym (touched-named m keys g (none-run m g e) (named e))
+  by (Some was) e =
+      let drew = draw g was e in
+      found_are_touched m keys names stale.closed stale.found g drew.0 drew.1
 
 moved : (on was new : Bool) → ((was && not (on && was)) || (on && new)) ≡ cond on new was
 moved true true new = refl

@@ -13,6 +13,8 @@ pub mod Overlaying
 pub mod Places
 pub mod Putting
 pub mod Renewing
+pub mod Rerunning
+pub mod Rooming
 pub mod Rows
 pub mod There
 pub mod ThroughTables

@@ -1,9 +1,12 @@
 -- Names that are put into sets.
-use Rattle.std.proofs.Common.{◌≡◌, ◌≤◌, ◌<◌, ◌+◌, ℕ, Bool, true, false, cond, List, [], ◌∷◌, ◌++◌, map, length, take, get_or, refl, sym, ap, ◌∙◌, ◌⊎◌, inl, inr}
+use Rattle.std.proofs.Common.{◌≡◌, ◌≤◌, ◌<◌, ◌+◌, ℕ, Bool, true, false, cond, List, [], ◌∷◌, ◌++◌, map, length, take, get_or, refl, sym, ap, subst, ◌∙◌, ◌⊎◌, inl, inr}
 use Rattle.std.specs.Prelude.{◌||◌, ◌&&◌, not}
 use Rattle.std.specs.Cmp.{IsEquivalence}
 use Rattle.std.specs.List.{list_any, AllByRecursion, IsDistinct}
+use Rattle.std.specs.Map.{keys_of}
 use Rattle.std.specs.Str.{bytes_eq}
+use Rattle.std.specs.declared.alloc.Global.{Global}
+use Rattle.std.specs.declared.vec.Vec.{Vec}
 use Rattle.std.proofs.lemmas.Bool.{cases_Bool}
 use Rattle.std.proofs.lemmas.Cmp.{nat_list_eq_equiv}
 use Rattle.std.proofs.lemmas.List.{append-nil, length-append, length-map}
@@ -11,6 +14,9 @@ use Rattle.std.proofs.lemmas.List.Folds.{list_any_more, list_any-append}
 use Rattle.std.proofs.lemmas.Slice.Eq.{bytes_eq-Decides}
 use Rattle.std.proofs.lemmas.Map.Made.{length-le_from_is_member}
 use Rattle.indexmap.specs.IndexSet.{insert_key}
+use Rattle.t1_cache.specs.declared.records.GlyphRecord.{GlyphRecord}
+use Rattle.t1_cache.specs.Laws.{AreDistinct}
+use Rattle.t1_cache.specs.Renewed.{names_of}
 use Rattle.t1_cache.specs.Users.{has}
 
 pub or_assoc : (a b c : Bool) → ((a || b) || c) ≡ (a || (b || c))
@@ -75,12 +81,12 @@ all-map : {K : Type 0} (name : K → List ℕ) (x : K) (ks : List K)
 all-map name x [] h = tt
 all-map name x (k ∷ ks) h = (h.0, all-map name x ks h.1)
 
-distinct-map : {K : Type 0} (name : K → List ℕ) (ks : List K) → IsDistinct (λ x y. bytes_eq (name x) (name y)) ks → IsDistinct bytes_eq (map name ks)
+pub distinct-map : {K : Type 0} (name : K → List ℕ) (ks : List K) → IsDistinct (λ x y. bytes_eq (name x) (name y)) ks → IsDistinct bytes_eq (map name ks)
 unfolding IsDistinct
 distinct-map name [] h = tt
 distinct-map name (k ∷ ks) h = (all-map name k ks h.0, distinct-map name ks h.1)
 
-bytes_equiv : IsEquivalence bytes_eq
+pub bytes_equiv : IsEquivalence bytes_eq
 bytes_equiv = nat_list_eq_equiv
 
 pub no-more-names : {K L M : Type 0} (name : K → List ℕ) (name' : L → List ℕ) (name'' : M → List ℕ) (ks : List K) (ls : List L) (ms : List M)
@@ -128,3 +134,25 @@ taken-out name old new n at u = by (has name new u) (has name old u) refl refl w
   by true b e f = let w = witness name new u e in told w.0 w.1
   by false true e f = let w = witness name old u f in told w.0 w.1
   by false false e f = e ∙ sym (ap (λ b. b && not (bytes_eq u n)) f)
+
+-- ---- names that a set or a map has once each
+
+all-absent : (g : List ℕ) (names : List (List ℕ)) → AllByRecursion (λ y. bytes_eq g y ≡ false) names → list_any (bytes_eq g) names ≡ false
+all-absent g [] h = refl
+all-absent g (n ∷ names) h = ap (λ b. b || list_any (bytes_eq g) names) h.0 ∙ all-absent g names h.1
+
+are-distinct : (names : List (List ℕ)) → IsDistinct bytes_eq names → AreDistinct names
+unfolding IsDistinct
+are-distinct [] h = tt
+are-distinct (n ∷ names) h = (all-absent n names h.0, are-distinct names h.1)
+
+-- the names of keys that are distinct by their names
+pub names-once : {K : Type 0} (name : K → List ℕ) (ks : List K) → IsDistinct (λ x y. bytes_eq (name x) (name y)) ks → AreDistinct (map name ks)
+names-once name ks h = are-distinct (map name ks) (distinct-map name ks h)
+
+names-keys : (entries : List (Vec ℕ Global × GlyphRecord)) → map (λ k. k.items) (keys_of entries) ≡ names_of entries
+names-keys [] = refl
+names-keys (e ∷ entries) = ap (λ names. e.0.items ∷ names) (names-keys entries)
+
+pub entries-once : (entries : List (Vec ℕ Global × GlyphRecord)) → IsDistinct (λ x y. bytes_eq x.items y.items) (keys_of entries) → AreDistinct (names_of entries)
+entries-once entries h = subst AreDistinct (names-keys entries) (names-once (λ k. k.items) (keys_of entries) h)

@@ -67,7 +67,7 @@ found P g b (items.Glyph name ws c ∷ is) h e =
     (λ t. rw ((bytes_eq-Decides g name).0 t) h.0) (found P g b is h.1) e
 
 -- a glyph that isn't named is none of the keys
-not-key : (keys : List Key) (g : List ℕ) → is_named keys g ≡ false → Includes keys (Glyph g) → ⊥
+pub not-key : (keys : List Key) (g : List ℕ) → is_named keys g ≡ false → Includes keys (Glyph g) → ⊥
 not-key [] g h i = i
 not-key (k ∷ keys) g h (inl e) =
     let h' = (or-false (is_key_of g k) (is_named keys g) h).0 in

@@ -7,6 +7,7 @@ use Rattle.std.specs.Str.{bytes_eq}
 use Rattle.std.proofs.lemmas.Bool.{cases_Bool, eqb-true}
 use Rattle.std.proofs.lemmas.Bool.Decides.{nat_tests}
 use Rattle.std.proofs.lemmas.Slice.Eq.{bytes_eq-Decides}
+use Rattle.indexmap.specs.IndexMap.{insert_entry}
 use Rattle.t1_cache.specs.Users.{has, among, HasRoom, UserSet}
 
 -- a test that tells whether two names are the same
@@ -66,30 +67,36 @@ rest-put rest (e ∷ es) test was now h stays = by (test e.0) refl (λ h'. rest-
       ∙ ap (λ l. rest e ∷ l) (later (sym (ap (λ b. cond b (Some e.1) (lookup test es)) off) ∙ h))
 
 -- the users of the record of a name
-abbrev at : {Q K R : Type 0} → (Q → Q → Bool) → (K → Q) → (R → UserSet) → List (K × R) → Q → Option UserSet
+abbrev pub at : {Q K R : Type 0} → (Q → Q → Bool) → (K → Q) → (R → UserSet) → List (K × R) → Q → Option UserSet
 at eq name users es q = option_map users (lookup (λ k. eq q (name k)) es)
 
 map-cond : {X Y : Type 0} (f : X → Y) (b : Bool) (x : X) (r : Option X) → option_map f (cond b (Some x) r) ≡ cond b (Some (f x)) (option_map f r)
 map-cond f true x r = refl
 map-cond f false x r = refl
 
+-- what is read of the records is that of the one that is put, at its name
+pub reads-put : {Q K R X : Type 0} (eq : Q → Q → Bool) → Tells eq → (name : K → Q) (read : R → X) (es : List (K × R)) (p : Q) (was now : R)
+    → lookup (λ k. eq p (name k)) es ≡ Some was
+    → (q : Q) → option_map read (lookup (λ k. eq q (name k)) (set_value (λ k. eq p (name k)) es now)) ≡ cond (eq q p) (Some (read now)) (option_map read (lookup (λ k. eq q (name k)) es))
+reads-put eq t name read es p was now h q =
+    ap (option_map read) (put-at eq t name q p now was es h) ∙ map-cond read (eq q p) now (lookup (λ k. eq q (name k)) es)
+
 pub users-put : {Q K R : Type 0} (eq : Q → Q → Bool) → Tells eq → (name : K → Q) (users : R → UserSet) (es : List (K × R)) (p : Q) (was now : R)
     → lookup (λ k. eq p (name k)) es ≡ Some was
     → (q : Q) → at eq name users (set_value (λ k. eq p (name k)) es now) q ≡ cond (eq q p) (Some (users now)) (at eq name users es q)
-users-put eq t name users es p was now h q =
-    ap (option_map users) (put-at eq t name q p now was es h) ∙ map-cond users (eq q p) now (lookup (λ k. eq q (name k)) es)
+users-put eq t name users es p was now h q = reads-put eq t name users es p was now h q
 
--- the same users
-pub users-stay : {Q K R : Type 0} (eq : Q → Q → Bool) → Tells eq → (name : K → Q) (users : R → UserSet) (es : List (K × R)) (p : Q) (was now : R)
-    → lookup (λ k. eq p (name k)) es ≡ Some was → users now ≡ users was
-    → (q : Q) → at eq name users (set_value (λ k. eq p (name k)) es now) q ≡ at eq name users es q
-users-stay eq t name users es p was now h same q =
-    users-put eq t name users es p was now h q
+-- what is read of the records is the same, where it is the same of the one that is put
+pub reads-stay : {Q K R X : Type 0} (eq : Q → Q → Bool) → Tells eq → (name : K → Q) (read : R → X) (es : List (K × R)) (p : Q) (was now : R)
+    → lookup (λ k. eq p (name k)) es ≡ Some was → read now ≡ read was
+    → (q : Q) → option_map read (lookup (λ k. eq q (name k)) (set_value (λ k. eq p (name k)) es now)) ≡ option_map read (lookup (λ k. eq q (name k)) es)
+reads-stay eq t name read es p was now h same q =
+    reads-put eq t name read es p was now h q
     ∙ elim (cases_Bool (eq q p)) [
       | inl on ↦
-          ap (λ b. cond b (Some (users now)) (at eq name users es q)) on ∙ ap Some same
-          ∙ ap (option_map users) (sym h) ∙ ap (at eq name users es) (sym (t.same q p on))
-      | inr off ↦ ap (λ b. cond b (Some (users now)) (at eq name users es q)) off
+          ap (λ b. cond b (Some (read now)) (option_map read (lookup (λ k. eq q (name k)) es))) on ∙ ap Some same
+          ∙ ap (option_map read) (sym h) ∙ ap (λ x. option_map read (lookup (λ k. eq x (name k)) es)) (sym (t.same q p on))
+      | inr off ↦ ap (λ b. cond b (Some (read now)) (option_map read (lookup (λ k. eq q (name k)) es))) off
     ]
 
 pub left : {Q K R : Type 0} (eq : Q → Q → Bool) → Tells eq → (name : K → Q) (users : R → UserSet) (es : List (K × R)) (p : Q) (was now : R) (user : List ℕ)
@@ -164,3 +171,30 @@ room-stays eq t name users es p was now h keeps q count had =
           subst (λ b. HasRoom count (cond b (Some (users now)) (at eq name users es q))) (sym on) (omega (arith, had', keeps))
       | inr off ↦ subst (λ b. HasRoom count (cond b (Some (users now)) (at eq name users es q))) (sym off) had
     ])
+
+-- ---- values that are put in
+
+swap : {Y : Type 0} (a b : Bool) (x y r : Y) → (a ≡ true → b ≡ true → x ≡ y) → cond a x (cond b y r) ≡ cond b y (cond a x r)
+swap true true x y r h = h refl refl
+swap true false x y r h = refl
+swap false true x y r h = refl
+swap false false x y r h = refl
+
+-- a value that is put in at a name is found there, and nothing else changes
+pub inserted-at : {Q K X : Type 0} (eq : Q → Q → Bool) → Tells eq → (name : K → Q) (p : Q) (k : K) (v : X) (es : List (K × X))
+    → lookup (λ x. eq p (name x)) (insert_entry (λ x y. eq (name x) (name y)) es k v) ≡ cond (eq p (name k)) (Some v) (lookup (λ x. eq p (name x)) es)
+inserted-at eq t name p k v [] = refl
+inserted-at eq t name p k v (e ∷ es) = by (eq (name k) (name e.0)) refl (inserted-at eq t name p k v es) where
+  by : (b : Bool) → eq (name k) (name e.0) ≡ b
+      → lookup (λ x. eq p (name x)) (insert_entry (λ x y. eq (name x) (name y)) es k v) ≡ cond (eq p (name k)) (Some v) (lookup (λ x. eq p (name x)) es)
+      → lookup (λ x. eq p (name x)) (cond b ((e.0, v) ∷ es) (e ∷ insert_entry (λ x y. eq (name x) (name y)) es k v))
+      ≡ cond (eq p (name k)) (Some v) (cond (eq p (name e.0)) (Some e.1) (lookup (λ x. eq p (name x)) es))
+  by true on rest =
+      again (eq p (name e.0)) (Some v) (Some e.1) (lookup (λ x. eq p (name x)) es)
+      ∙ ap (λ n. cond (eq p n) (Some v) (cond (eq p (name e.0)) (Some e.1) (lookup (λ x. eq p (name x)) es))) (sym (t.same (name k) (name e.0) on))
+  by false off rest =
+      ap (cond (eq p (name e.0)) (Some e.1)) rest
+      ∙ swap (eq p (name e.0)) (eq p (name k)) (Some e.1) (Some v) (lookup (λ x. eq p (name x)) es) (λ there here.
+      let both : eq (name k) (name e.0) ≡ true = ap (λ n. eq n (name e.0)) (sym (t.same p (name k) here)) ∙ there in
+      let never : false ≡ true = sym off ∙ both in
+      absurd (cc))

@@ -4,7 +4,7 @@ use Rattle.t1_code.specs.declared.command.Command.{Command}
 use Rattle.t1_run.specs.declared.outline.Segment.{Segment}
 use Rattle.t1_run.specs.Run.{FontBodies, Key, own}
 use Rattle.t1_run.specs.Composite.{outline}
-use Rattle.t1_run.specs.Touched.{SameBut, is_user}
+use Rattle.t1_run.specs.Touched.{SameBut, is_touched, is_user}
 use Rattle.t1_parts.specs.SourceParts.{SourceParts}
 use Rattle.t1_font.specs.Bodies.{bodies}
 use Rattle.t1_font.specs.Glyphs.{Glyph as Told}
@@ -27,6 +27,12 @@ abbrev pub KeptRunLaw : Type 0
 KeptRunLaw =
     (keys : List Key) (m n : FontBodies) → SameBut keys m n → AllDraw m → (names : List ℕ → Bool) → AreStale m keys names
     → (g : List ℕ) → names g ≡ false → own n g ≡ own m g
+
+-- of a font without a fault, the glyphs of the edited font that were found are those that the edits touch
+abbrev pub StaleFoundLaw : Type 0
+StaleFoundLaw =
+    (keys : List Key) (m n : FontBodies) → SameBut keys m n → AllDraw m → (names : List ℕ → Bool) → AreStale m keys names
+    → (g : List ℕ) (body : List Command) → n.glyphs g ≡ Some body → names g ≡ is_touched m keys g
 
 -- each stale glyph leaves what its old run used
 abbrev pub AreLeaves : FontBodies → (List ℕ → Bool) → Pairs → Type 0

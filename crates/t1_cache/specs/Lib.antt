@@ -1,3 +1,4 @@
+pub mod Bodies
 pub mod Edited
 pub mod Found
 pub mod Joins
@@ -6,6 +7,7 @@ pub mod Laws
 pub mod Overlay
 pub mod Renewal
 pub mod Renewed
+pub mod Room
 pub mod Tables
 pub mod There
 pub mod Users

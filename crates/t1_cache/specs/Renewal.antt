@@ -1,6 +1,7 @@
 -- The records of an edited font.
-use Rattle.std.specs.Prelude.{◌≡◌, ◌⊎◌, true, false, List, [], ◌∷◌, map, Some, Ok}
-use Rattle.std.specs.List.{AllByRecursion}
+use Rattle.std.specs.Prelude.{◌≡◌, ◌⊎◌, ℕ, true, false, List, [], ◌∷◌, map, Some, Ok}
+use Rattle.std.specs.List.{AllByRecursion, list_any}
+use Rattle.std.specs.Str.{bytes_eq}
 use Rattle.t1_parts.specs.SourceParts.{SourceParts}
 use Rattle.t1_run.specs.declared.outline.Segment.{Segment}
 use Rattle.t1_run.specs.Run.{FontBodies, Key, own}
@@ -11,7 +12,9 @@ use Rattle.t1_font.specs.Glyphs.{Glyph as Told, glyph_names}
 use Rattle.t1_font.specs.SourceChecks.{source_glyphs}
 use Rattle.t1_cache.specs.Edited.{IsEditedAt, is_stale}
 use Rattle.t1_cache.specs.Kept.{KeepsAll}
-use Rattle.t1_cache.specs.Renewed.{Kept}
+use Rattle.t1_cache.specs.declared.records.Rerun.{Rerun}
+use Rattle.t1_cache.specs.Renewed.{Kept, with_reruns}
+use Rattle.t1_cache.specs.Users.{has}
 
 -- a record tells the own run of its glyph, and the box of its outline
 pub record IsFromScratch (m : FontBodies) (k : Kept) : Type 0 where
@@ -36,3 +39,17 @@ RenewalLaw =
     (keys : List Key) (old new : SourceParts) → IsEditedAt keys old new → (told : List Told) → source_glyphs new ≡ Ok told
     → (kept records : List Kept) → KeepsAll old kept → map (λ k. k.name) records ≡ glyph_names new.items
     → AllByRecursion (IsRenewed keys old new kept) records → KeepsAll new records
+
+abbrev pub kept_by : Rerun → Kept
+kept_by r = record { name = r.name.items; run = r.run; box = r.bbox }
+
+-- records in the order of the new names, those kept where they are fresh, of which the stale glyphs were run again, are
+-- those of the edited source, where it has no fault
+abbrev pub RerunsLaw : Type 0
+RerunsLaw =
+    (keys : List Key) (old new : SourceParts) → IsEditedAt keys old new → (told : List Told) → source_glyphs new ≡ Ok told
+    → (kept before : List Kept) (reruns : List Rerun) → KeepsAll old kept → map (λ k. k.name) before ≡ glyph_names new.items
+    → AllByRecursion (λ k. is_stale old keys k.name ≡ false → IsOneOf kept k) before
+    → AllByRecursion (λ r. IsFromScratch (bodies new.items) (kept_by r)) reruns
+    → ((g : List ℕ) → list_any (bytes_eq g) (glyph_names new.items) ≡ true → has (λ r. r.name.items) reruns g ≡ is_stale old keys g)
+    → KeepsAll new (with_reruns reruns before)

@@ -1,5 +1,6 @@
 -- Records of glyphs, their users aside, renewed in their places.
-use Rattle.std.specs.Prelude.{ℕ, List, [], ◌∷◌, Option, Result, Ok, if◌then◌else◌}
+use Rattle.std.specs.Prelude.{ℕ, List, [], ◌∷◌, map, Option, Some, None, Result, Ok, if◌then◌else◌}
+use Rattle.std.specs.List.{find}
 use Rattle.std.specs.Map.{lookup}
 use Rattle.std.specs.Option.{option_map}
 use Rattle.std.specs.Str.{bytes_eq}
@@ -10,6 +11,7 @@ use Rattle.t1_run.specs.Run.{NumberedRun, Drawing}
 use Rattle.t1_afm.specs.declared.bbox.BBox.{BBox}
 use Rattle.t1_cache.specs.declared.records.GlyphRecord.{GlyphRecord}
 use Rattle.t1_cache.specs.declared.records.Records.{Records}
+use Rattle.t1_cache.specs.declared.records.Rerun.{Rerun}
 
 -- profile: a glyph's own run, and the box of its outline where it draws
 pub record Kept : Type 0 where
@@ -19,6 +21,10 @@ pub record Kept : Type 0 where
 
 abbrev pub kept_of : Vec ℕ Global × GlyphRecord → Kept
 kept_of e = record { name = e.0.items; run = e.1.run; box = e.1.bbox }
+
+-- the names of the glyphs that have a record
+abbrev pub names_of : List (Vec ℕ Global × GlyphRecord) → List (List ℕ)
+names_of entries = map (λ e. e.0.items) entries
 
 abbrev pub record_of : List (Vec ℕ Global × GlyphRecord) → List ℕ → Option GlyphRecord
 record_of entries g = lookup (λ key. bytes_eq g key.items) entries
@@ -31,3 +37,16 @@ recorded_run records g = option_map (λ r. Ok r.run.drawing) (record_of records.
 abbrev pub with_run : List ℕ → NumberedRun → Option BBox → List Kept → List Kept
 with_run name run box [] = []
 with_run name run box (k ∷ kept) = if bytes_eq name k.name then record { name = k.name; run = run; box = box } ∷ kept else k ∷ with_run name run box kept
+
+-- the first rerun of the glyph of this name
+abbrev pub rerun_of : List Rerun → List ℕ → Option Rerun
+rerun_of reruns g = find (λ r. bytes_eq g r.name.items) reruns
+
+-- a record with the run and box of a rerun, where there is one
+abbrev pub with_rerun : Option Rerun → Kept → Kept
+with_rerun None k = k
+with_rerun (Some r) k = record { name = k.name; run = r.run; box = r.bbox }
+
+-- the records of the glyphs that were run again have their new runs and boxes; the others stay
+abbrev pub with_reruns : List Rerun → List Kept → List Kept
+with_reruns reruns kept = map (λ k. with_rerun (rerun_of reruns k.name) k) kept

@@ -1,8 +1,9 @@
 //! Laws of edited sources, and of what is kept of a font under edits.
-ghost use Rattle.t1_cache.specs.Joins.{AllDrawLaw, FirstTablesLaw, JoinsLaw, KeptRunLaw, LessTablesLaw};
+ghost use Rattle.t1_cache.specs.Joins.{AllDrawLaw, FirstTablesLaw, JoinsLaw, KeptRunLaw, LessTablesLaw, StaleFoundLaw};
 ghost use Rattle.t1_cache.specs.Laws.{CountLaw, DistinctLaw, EditLaw, FirstFaultLaw, MiddleLaw, NewestLaw, TurnLaw};
 ghost use Rattle.t1_cache.specs.Overlay.{OverlayLaw};
-ghost use Rattle.t1_cache.specs.Renewal.{RenewalLaw};
+ghost use Rattle.t1_cache.specs.Renewal.{RenewalLaw, RerunsLaw};
+ghost use Rattle.t1_cache.specs.Room.{RoomLaw};
 ghost use Rattle.t1_cache.specs.There.{UsesThereLaw};
 
 /// Entries that are put in, taken out or replaced change a source at their keys, and nowhere else.
@@ -50,6 +51,16 @@ pub fn renewal()
     ensures { RenewalLaw }
 {}
 
+/// Records in the order of the edited source, of which the stale glyphs were run again, are its records.
+pub fn reruns()
+    ensures { RerunsLaw }
+{}
+
+/// The glyphs of an edited font that were found are those that the edits touch.
+pub fn stale_found()
+    ensures { StaleFoundLaw }
+{}
+
 /// Tables of users that stale glyphs left by their old runs, and joined by their new ones, are those of the edited font.
 pub fn joins()
     ensures { JoinsLaw }
@@ -78,4 +89,10 @@ pub fn first_tables()
 /// Tables from which a Subr or a glyph was taken out that the font doesn't have are still those of the font.
 pub fn less_tables()
     ensures { LessTablesLaw }
+{}
+
+/// Records that have the bodies of a font have room for all that join by its runs, once there is room where there is a
+/// record.
+pub fn room()
+    ensures { RoomLaw }
 {}

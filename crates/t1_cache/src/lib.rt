@@ -9,12 +9,14 @@
 pub mod laws;
 mod records;
 mod renewed;
+mod room;
 mod stale;
 mod users;
 mod uses;
 
 pub use records::{GlyphRecord, Named, Names, Records, Rerun, SubrRecord};
-pub use renewed::renew;
+pub use renewed::{renew, renew_all};
+pub use room::make_room;
 pub use stale::found;
 pub use users::move_users;
 pub use uses::{joins_of, leaves_of};

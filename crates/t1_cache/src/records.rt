@@ -1,10 +1,13 @@
 //! What is kept of a font's entries.
 
+ghost use Rattle.std.specs.Prelude.{◌≡◌, ℕ, List, Option};
+ghost use Rattle.t1_code.specs.declared.command.Command.{Command};
+
 use indexmap::{IndexMap, IndexSet};
 use t1_afm::BBox;
 use t1_code::Body;
 use t1_frac::Bytes;
-use t1_run::Run;
+use t1_run::{Bodies, Run};
 
 /// Names of glyphs, each once.
 pub type Names = IndexSet<Vec<u8>>;
@@ -30,6 +33,29 @@ pub struct GlyphRecord {
 pub struct Records {
     pub subrs: IndexMap<u16, SubrRecord>,
     pub glyphs: IndexMap<Vec<u8>, GlyphRecord>,
+}
+
+/// The bodies of the Subrs and glyphs that have a record.
+impl Bodies for Records {
+    ghost use Rattle.t1_cache.specs.Bodies.{glyph_body, subr_body};
+
+    ghost subrs = { λ records n. subr_body records.subrs.entries n };
+
+    ghost glyphs = { λ records name. glyph_body records.glyphs.entries name };
+
+    fn subr(&self, n: u16) -> Option<&Body> {
+        match self.subrs.get(&n) {
+            None => None,
+            Some(record) => Some(&record.body),
+        }
+    }
+
+    fn glyph(&self, name: &[u8]) -> Option<&Body> {
+        match self.glyphs.get(name) {
+            None => None,
+            Some(record) => Some(&record.body),
+        }
+    }
 }
 
 /// A Subr by its number, or a glyph by its name.

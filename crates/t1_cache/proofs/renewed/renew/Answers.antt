@@ -1,10 +1,12 @@
 use Rattle.std.proofs.Common.{ap, map, sym, refl, ◌∙◌}
 use Rattle.std.specs.Str.{bytes_eq}
 use Rattle.t1_cache.specs.declared.records.GlyphRecord.{GlyphRecord}
+use Rattle.t1_cache.specs.Bodies.{glyph_body}
 use Rattle.t1_cache.specs.Renewed.{kept_of, with_run}
 use Rattle.t1_cache.specs.Users.{glyph_users, users_of}
 use Rattle.t1_cache.proofs.Places.{with-put, with-none}
-use Rattle.t1_cache.proofs.Putting.{bytes_tell, users-stay}
+use Rattle.t1_cache.proofs.Names.{entries-once}
+use Rattle.t1_cache.proofs.Putting.{bytes_tell, reads-stay}
 use Rattle.t1_cache.proofs.renewed.renew.Goals as goal
 
 pub returns-in-None-clause-records : goal.returns-in-None-clause-records
@@ -23,5 +25,18 @@ pub returns-in-Some-clause-users : goal.returns-in-Some-clause-users
 returns-in-Some-clause-users c = λ p.
     let now : GlyphRecord = record c.in-Some.record.now { run = c.replace.new.dest; bbox = c.args.bbox } in
     ap (λ es. glyph_users es p) (c.get_mut.follows.holds now).0
-    ∙ users-stay bytes_eq bytes_tell (λ k. k.items) (λ r. users_of r.users) c.args.glyphs.now.entries c.args.name.now c.in-Some.record.now now
+    ∙ reads-stay bytes_eq bytes_tell (λ k. k.items) (λ r. users_of r.users) c.args.glyphs.now.entries c.args.name.now c.in-Some.record.now now
     (sym c.in-Some.ensures.value) refl p
+
+pub returns-in-Some-clause-bodies : goal.returns-in-Some-clause-bodies
+returns-in-Some-clause-bodies c = λ p.
+    let now : GlyphRecord = record c.in-Some.record.now { run = c.replace.new.dest; bbox = c.args.bbox } in
+    ap (λ es. glyph_body es p) (c.get_mut.follows.holds now).0
+    ∙ reads-stay bytes_eq bytes_tell (λ k. k.items) (λ r. r.body) c.args.glyphs.now.entries c.args.name.now c.in-Some.record.now now
+    (sym c.in-Some.ensures.value) refl p
+
+pub returns-in-None-clause-once : goal.returns-in-None-clause-once
+returns-in-None-clause-once c = entries-once c.args.glyphs.now.entries c.get_mut.ensures.unique
+
+pub returns-in-Some-clause-once : goal.returns-in-Some-clause-once
+returns-in-Some-clause-once c = entries-once c.args.glyphs.now.entries c.get_mut.ensures.unique

@@ -1,0 +1,33 @@
+use Rattle.std.proofs.Common.{Vec, Global, ℕ, ◌∙◌, ◌+◌, ap, arith, cond, subst, sym, take}
+use Rattle.std.proofs.lemmas.List.{take_all}
+use Rattle.t1_run.specs.Run.{Key}
+use Rattle.t1_cache.specs.declared.records.Named.{Named}
+use Rattle.t1_cache.specs.Room.{MayJoin}
+use Rattle.t1_cache.specs.Users.{key_eq, key_of, users_at, wanted}
+use Rattle.t1_cache.proofs.Rooming.{room-more, roomier-twice, wanted-more}
+use Rattle.t1_cache.proofs.room.make_room.Goals as goal
+
+pub loop-named-preserved : goal.loop-named-preserved
+loop-named-preserved c =
+    let joins = c.args.joins.now in
+    let i = c.loop-named.named-index in
+    let item : Named × Vec ℕ Global = c.loop-named-item.result in
+    let key = key_of item.0 in
+    let old = users_at c.loop-named.records in
+    let new = users_at c.make_room_at.new.records in
+    let told = c.in_ok-make_room_at.ensures in
+    let was = c.loop-named.invariant in
+    let more = λ (k : Key). wanted-more joins i item k c.loop-named-test.true c.loop-named-item.is in
+    record {
+      counts = λ k. told.counts k ∙ ap (λ n. cond (key_eq k key) (n + 1) n) (was.counts k) ∙ sym (more k);
+      room = λ k.
+          subst (λ n. MayJoin n (new k)) (sym (more k))
+          (room-more old new key (wanted (take i joins)) told.sets (subst (λ n. MayJoin (n + 1) (new key)) (was.counts key) told.room) was.room k);
+      sets = λ k. roomier-twice (users_at c.args.records.now k) (old k) (new k) (was.sets k) (told.sets k);
+      rest = told.rest ∙ was.rest;
+    }
+
+pub returns-clause-room : goal.returns-clause-room
+returns-clause-room c = λ k.
+    subst (λ l. MayJoin (wanted l k) (users_at c.loop-named.records k))
+    (take_all c.loop-named.named-index c.args.joins.now (omega arith)) (c.loop-named.invariant.room k)
