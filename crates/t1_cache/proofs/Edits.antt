@@ -1,11 +1,11 @@
 -- Each edit changes a source at the key that it names, and nowhere else.
-use Rattle.std.proofs.Common.{◌≡◌, ℕ, Bool, true, not, ℤ, pos, negsuc, nat_le, ok_or, Result, Ok, Err, List, [], ◌∷◌, ◌++◌, take, drop, filter, codes, refl, sym, ◌∙◌, ap, inl, inr, Some}
-use Rattle.std.specs.List.{list_any, position, insert, remove, slice_set}
+use Rattle.std.proofs.Common.{◌≡◌, ℕ, Bool, true, not, ℤ, pos, negsuc, nat_le, ok_or, Option, None, Result, Ok, Err, List, [], ◌∷◌, ◌++◌, take, drop, filter, codes, refl, sym, ◌∙◌, ap, inl, inr, Some}
+use Rattle.std.specs.List.{list_any, position, position_or_len, insert, remove, slice_set}
 use Rattle.std.proofs.lemmas.Bool.{cases_Bool, eqb-true}
 use Rattle.std.proofs.lemmas.List.{take-append-drop}
 use Rattle.std.proofs.lemmas.Slice.Eq.{bytes_eq-Decides}
 use Rattle.t1_frac.specs.Outcome.{◌>>=◌}
-use Rattle.t1_source.specs.declared.edit.Edit.TheVariants.{ReplaceGlyph, AddGlyph, RemoveGlyph, ReplaceSubr, AddSubr, RemoveSubr, Encode, Unencode, Kern, Unkern}
+use Rattle.t1_source.specs.declared.edit.Edit.TheVariants.{ReplaceGlyph, AddGlyph, RemoveGlyph, ReplaceSubr, AddSubr, RemoveSubr, Encode, Unencode, LenIv, Kern, Unkern}
 use Rattle.t1_source.specs.declared.edit.Rule.{Rule}
 use Rattle.t1_source.specs.declared.edit.Rule.TheVariants.{E1, E2, E4, E10}
 use Rattle.t1_parts.specs.declared.item.Item.{Item}
@@ -13,7 +13,8 @@ use Rattle.t1_parts.specs.declared.item.Item.TheVariants as items
 use Rattle.t1_parts.specs.SourceParts.{SourceParts}
 use Rattle.t1_parts.specs.Counts.{is_glyph_entry, raised}
 use Rattle.t1_parts.specs.Entries.{is_subr, is_glyph}
-use Rattle.t1_source.specs.Editing.{keeps, number_up_to, body_words, good_name, good_body, with_items, with_clear, closing_at, closing_among, through_last, is_subr_entry, among_subrs_items, among_glyphs_items, has_section, replaced_glyph, added_glyph, removed_glyph, replaced_subr, added_subr, removed_subr, array_parts, encoded_lines, encoded, unencoded, is_slot_of, kerned, unkerned, edited}
+use Rattle.t1_source.specs.Editing.{keeps, number_up_to, body_words, good_name, good_body, with_items, with_clear, closing_at, closing_among, through_last, is_subr_entry, among_subrs_items, among_glyphs_items, has_section, replaced_glyph, added_glyph, removed_glyph, replaced_subr, added_subr, removed_subr, array_parts, encoded_lines, encoded, unencoded, lead_edited, is_slot_of, kerned, unkerned, edited}
+use Rattle.t1_source.specs.Leads.{line_with_lead, lead_line, says_lead, is_section_line, line_at, lead_put, items_with_lead}
 use Rattle.t1_source.proofs.PairsWellFormedLaws.{bind_ok}
 use Rattle.t1_source.proofs.WellFormedItemsLaws.{given_some}
 use Rattle.t1_source.proofs.WellFormedEditedLaws.{source_given, source_same}
@@ -179,6 +180,24 @@ unencoded-edits s v made e =
     let third = bind_ok (keeps E10 (list_any (is_slot_of first.0) second.0.lines)) (λ some. Ok (with_clear s (second.0.front ++ filter (λ l. not (is_slot_of first.0 l)) second.0.lines ++ second.0.back))) made second.2 in
     same-edits [] s made (made-clear s made _ third.2)
 
+-- ---- the edit of lenIV
+
+plain-among : (x : Item) → says_lead x ≡ true → IsAmong [] x
+plain-among (items.Plain l) h = tt
+plain-among (items.Section b n a) h = tt
+plain-among (items.Subr n ws c) h = cc
+plain-among (items.Glyph g ws c) h = cc
+
+lead_put-edits : (s made : SourceParts) (n : ℕ) (o : Option ℕ) → position says_lead s.items ≡ o → made.items ≡ raised (lead_put n s.items o) → IsEditedAt [] s made
+lead_put-edits s made n None there is = in-edits [] s made (position_or_len is_section_line s.items) (items.Plain (lead_line n)) tt is
+lead_put-edits s made n (Some at) there is = put-edits [] s made says_lead at (items.Plain (line_with_lead n (line_at at s.items))) there plain-among tt is
+
+lead-edits : (s : SourceParts) (v : ℤ) (made : SourceParts) → lead_edited s v ≡ Ok made → IsEditedAt [] s made
+unfolding lead_edited items_with_lead
+lead-edits s v made e =
+    let number = bind_ok (number_up_to 64 v) (λ n. Ok (with_items s (items_with_lead n s.items))) made e in
+    lead_put-edits s made number.0 (position says_lead s.items) refl (made-items s made _ number.2)
+
 -- ---- all edits
 
 pub edits_named : EditLaw
@@ -191,5 +210,6 @@ edits_named s k (AddSubr n body) made ps e = added_subr-edits s n body made (sou
 edits_named s k (RemoveSubr n) made ps e = removed_subr-edits s n made (source_given k ps (removed_subr s n) made e)
 edits_named s k (Encode code g) made ps e = encoded-edits s code g made (source_given k ps (encoded s code g) made e)
 edits_named s k (Unencode code) made ps e = unencoded-edits s code made (source_given k ps (unencoded s code) made e)
+edits_named s k (LenIv n) made ps e = lead-edits s n made (source_given k ps (lead_edited s n) made e)
 edits_named s k (Kern left right v) made ps e = same-edits [] s made (ap (λ t. t.items) (source_same s ps (kerned k left right v) made e))
 edits_named s k (Unkern left right) made ps e = same-edits [] s made (ap (λ t. t.items) (source_same s ps (unkerned k left right) made e))

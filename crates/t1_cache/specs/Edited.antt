@@ -2,7 +2,7 @@
 use Rattle.std.specs.Prelude.{◌≡◌, ℕ, ℤ, pos, negsuc, Bool, not, List, [], ◌∷◌, filter}
 use Rattle.t1_parts.specs.SourceParts.{SourceParts}
 use Rattle.t1_source.specs.declared.edit.Edit.{Edit}
-use Rattle.t1_source.specs.declared.edit.Edit.TheVariants.{ReplaceGlyph, AddGlyph, RemoveGlyph, ReplaceSubr, AddSubr, RemoveSubr, Encode, Unencode, Kern, Unkern}
+use Rattle.t1_source.specs.declared.edit.Edit.TheVariants.{ReplaceGlyph, AddGlyph, RemoveGlyph, ReplaceSubr, AddSubr, RemoveSubr, Encode, Unencode, LenIv, Kern, Unkern}
 use Rattle.t1_run.specs.Run.{Key, Subr, Glyph}
 use Rattle.t1_run.specs.Touched.{SameBut, is_named, is_touched}
 use Rattle.t1_font.specs.Bodies.{bodies}
@@ -12,7 +12,7 @@ abbrev pub subr_key : ℤ → List Key
 subr_key (pos n) = Subr n ∷ []
 subr_key (negsuc n) = []
 
--- profile: what an edit replaces, adds or removes; nothing where it edits slots or pairs alone
+-- profile: what an edit replaces, adds or removes; nothing where it edits slots, lenIV or pairs alone
 abbrev pub named : Edit → List Key
 named (ReplaceGlyph g body) = Glyph g ∷ []
 named (AddGlyph g body) = Glyph g ∷ []
@@ -22,6 +22,7 @@ named (AddSubr n body) = subr_key n
 named (RemoveSubr n) = subr_key n
 named (Encode code g) = []
 named (Unencode code) = []
+named (LenIv n) = []
 named (Kern left right value) = []
 named (Unkern left right) = []
 

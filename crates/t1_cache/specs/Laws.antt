@@ -44,7 +44,7 @@ MiddleLaw =
     (keys : List Key) (old new : SourceParts) (a xs ys b : List Item) → AllByRecursion (IsAmong keys) xs → AllByRecursion (IsAmong keys) ys
     → old.items ≡ a ++ (xs ++ b) → new.items ≡ raised (a ++ (ys ++ b)) → IsEditedAt keys old new
 
--- each of the ten edits changes a source at the key that it names, and nowhere else
+-- each of the eleven edits changes a source at the key that it names, and nowhere else
 abbrev pub EditLaw : Type 0
 EditLaw = (s : SourceParts) (k : List Pair) (edit : Edit) (made : SourceParts) (ps : List Pair) → edited s k edit ≡ Ok (made, ps) → IsEditedAt (named edit) s made
 
