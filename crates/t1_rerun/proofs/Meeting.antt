@@ -25,8 +25,9 @@ use Rattle.t1_run.specs.Touched.{is_key_of, is_named, is_met, is_user, meets_run
 use Rattle.t1_run.proofs.Agreeing.{own_same}
 use Rattle.t1_run.proofs.FoundByUsers.{found_are_touched}
 use Rattle.t1_run.proofs.Untouched.{or-false}
+use Rattle.t1_font.specs.declared.glyph_metrics.PlacedParts.{PlacedParts}
 use Rattle.t1_font.specs.Bodies.{bodies, glyph_among, SameBodies}
-use Rattle.t1_font.specs.Glyphs.{Glyph as Told, glyph_of, glyphs_by, glyphs, glyph_names}
+use Rattle.t1_font.specs.Glyphs.{Glyph as Told, glyph_of, placed_parts_of, glyphs_by, glyphs, glyph_names}
 use Rattle.t1_font.specs.Runs.{own_among}
 use Rattle.t1_font.specs.SourceChecks.{source_glyphs}
 use Rattle.t1_cache.specs.declared.records.GlyphRecord.{GlyphRecord}
@@ -63,7 +64,7 @@ filter-same : (p q : List ℕ → Bool) (xs : List (List ℕ)) → AllByRecursio
 filter-same p q [] h = refl
 filter-same p q (x ∷ xs) h = ap (λ b. cond b (x ∷ filter p xs) (filter p xs)) h.0 ∙ ap (λ l. cond (q x) (x ∷ l) l) (filter-same p q xs h.1)
 
-among-passing : (p : List ℕ → Bool) (g : List ℕ) (xs : List (List ℕ)) → list_any (bytes_eq g) xs ≡ true → p g ≡ true → list_any (bytes_eq g) (filter p xs) ≡ true
+pub among-passing : (p : List ℕ → Bool) (g : List ℕ) (xs : List (List ℕ)) → list_any (bytes_eq g) xs ≡ true → p g ≡ true → list_any (bytes_eq g) (filter p xs) ≡ true
 among-passing p g [] h e = absurd (cc)
 among-passing p g (x ∷ xs) h e =
     elim (cases_Bool (bytes_eq g x)) [
@@ -79,18 +80,18 @@ among-passing p g (x ∷ xs) h e =
     either true below = or_right (bytes_eq g x) (list_any (bytes_eq g) (filter p xs)) below
     either false below = below
 
-among-off : (p : List ℕ → Bool) (g : List ℕ) (xs : List (List ℕ)) → p g ≡ false → list_any (bytes_eq g) (filter p xs) ≡ false
+pub among-off : (p : List ℕ → Bool) (g : List ℕ) (xs : List (List ℕ)) → p g ≡ false → list_any (bytes_eq g) (filter p xs) ≡ false
 among-off p g [] e = refl
-among-off p g (x ∷ xs) e = by (p x) refl where
+among-off p g (x ∷ xs) e = by (p x) refl (among-off p g xs e) where
   apart : (b : Bool) → p x ≡ true → bytes_eq g x ≡ b → b ≡ false
   apart true passes same = let never : true ≡ false = sym passes ∙ ap p (sym (same_bytes g x same)) ∙ e in cc
   apart false passes same = refl
 
-  by : (b : Bool) → p x ≡ b → list_any (bytes_eq g) (cond b (x ∷ filter p xs) (filter p xs)) ≡ false
-  by true passes = ap (λ t. t || list_any (bytes_eq g) (filter p xs)) (apart (bytes_eq g x) passes refl) ∙ among-off p g xs e
-  by false off = among-off p g xs e
+  by : (b : Bool) → p x ≡ b → list_any (bytes_eq g) (filter p xs) ≡ false → list_any (bytes_eq g) (cond b (x ∷ filter p xs) (filter p xs)) ≡ false
+  by true passes below = ap (λ t. t || list_any (bytes_eq g) (filter p xs)) (apart (bytes_eq g x) passes refl) ∙ below
+  by false off below = below
 
-all-among : (xs ys : List (List ℕ)) → ((x : List ℕ) → list_any (bytes_eq x) xs ≡ true → list_any (bytes_eq x) ys ≡ true)
+pub all-among : (xs ys : List (List ℕ)) → ((x : List ℕ) → list_any (bytes_eq x) xs ≡ true → list_any (bytes_eq x) ys ≡ true)
     → AllByRecursion (λ x. list_any (bytes_eq x) ys ≡ true) xs
 all-among [] ys h = tt
 all-among (x ∷ xs) ys h =
@@ -101,7 +102,7 @@ all-weaken P Q step [] h = tt
 all-weaken P Q step (x ∷ xs) h = (step x h.0, all-weaken P Q step xs h.1)
 
 -- a glyph with a body is among the names
-glyph-among : (items : List Item) (g : List ℕ) (b : List Command) → glyph_among items g ≡ Some b → list_any (bytes_eq g) (glyph_names items) ≡ true
+pub glyph-among : (items : List Item) (g : List ℕ) (b : List Command) → glyph_among items g ≡ Some b → list_any (bytes_eq g) (glyph_names items) ≡ true
 glyph-among items g b e =
     at-glyph (λ x. list_any (bytes_eq x) (glyph_names items) ≡ true) g b items (all-among (glyph_names items) (glyph_names items) (λ x h. h)) e
 
@@ -124,7 +125,7 @@ not-key (k ∷ keys) g h (inl e) =
     absurd (cc)
 not-key (k ∷ keys) g h (inr i) = not-key keys g (or-false (is_key_of g k) (is_named keys g) h).1 i
 
-none-own : (m : FontBodies) (g : List ℕ) → m.glyphs g ≡ None → own m g ≡ None
+pub none-own : (m : FontBodies) (g : List ℕ) → m.glyphs g ≡ None → own m g ≡ None
 unfolding own
 none-own m g e = ap (own_of m) e
 
@@ -169,3 +170,109 @@ module _ (keys : List Key) (old new : SourceParts) (told : List Told) (edit : Is
       filter-same found (is_stale old keys) (glyph_names new.items)
       (all-weaken (λ g. (b : List Command) × ((bodies new.items).glyphs g ≡ Some b)) (λ g. found g ≡ is_stale old keys g)
       (λ g h. found-stale found stale g h.0 h.1) (glyph_names new.items) there)
+
+-- ---- the runs of records
+
+heads-names : (ks : List Kept) → map (λ s. s.name) (map shown ks) ≡ map (λ k. k.name) ks
+heads-names [] = refl
+heads-names (k ∷ ks) = ap (λ l. k.name ∷ l) (heads-names ks)
+
+told-names : (ts : List Told) → map (λ s. s.name) (map shown_from ts) ≡ map (λ t. t.name) ts
+told-names [] = refl
+told-names (t ∷ ts) = ap (λ l. t.name ∷ l) (told-names ts)
+
+name-told : (g : List ℕ) (run : Option (Result Drawing Code)) (o : Result (List Segment) Code) (t : Told) → glyph_of g run o ≡ Ok t → t.name ≡ g
+name-told g None o t e = absurd (cc)
+name-told g (Some (Err code)) o t e = absurd (cc)
+name-told g (Some (Ok d)) (Err code) t e = absurd (cc)
+name-told g (Some (Ok d)) (Ok s) t e = by (placed_parts_of d.bearing d.composite) e where
+  by : (r : Result (Option PlacedParts) Code) → (r >>= (λ a. Ok (record { name = g; drawing = d; outline = s; parts = a }))) ≡ Ok t → t.name ≡ g
+  by (Err code) e = absurd (cc)
+  by (Ok a) e = let same : record { name = g; drawing = d; outline = s; parts = a } ≡ t = cc in sym (ap (λ x. x.name) same)
+
+names-told : (run : List ℕ → Option (Result Drawing Code)) (o : List ℕ → Result (List Segment) Code) (names : List (List ℕ)) (ts : List Told)
+    → glyphs_by run o names ≡ Ok ts → map (λ t. t.name) ts ≡ names
+names-told run o [] ts e = let same : [] ≡ ts = cc in ap (map (λ t. t.name)) (sym same)
+names-told run o (g ∷ names) ts e = one (glyph_of g (run g) (o g)) refl (glyphs_by run o names) refl (names-told run o names) e where
+  one : (r : Result Told Code) → glyph_of g (run g) (o g) ≡ r → (rest : Result (List Told) Fault) → glyphs_by run o names ≡ rest
+      → ((xs : List Told) → glyphs_by run o names ≡ Ok xs → map (λ t. t.name) xs ≡ names)
+      → (told_at (places.Glyph g) r >>= (λ x. rest >>= (λ xs. Ok (x ∷ xs)))) ≡ Ok ts → map (λ t. t.name) ts ≡ g ∷ names
+  one (Ok x) here (Ok xs) there others e =
+      let same : x ∷ xs ≡ ts = cc in
+      ap (map (λ t. t.name)) (sym same) ∙ ap (λ n. n ∷ map (λ t. t.name) xs) (name-told g (run g) (o g) x here) ∙ ap (λ l. g ∷ l) (others xs there)
+  one (Ok x) here (Err fault) there others e = absurd (cc)
+  one (Err code) here rest there others e = absurd (cc)
+
+recorded-run : (m : FontBodies) (g : List ℕ) (entries : List (Vec ℕ Global × GlyphRecord)) → AllByRecursion (IsFromScratch m) (map kept_of entries)
+    → list_any (bytes_eq g) (map (λ k. k.name) (map kept_of entries)) ≡ true → option_map (λ r. Ok r.run.drawing) (record_of entries g) ≡ own m g
+recorded-run m g [] all h = absurd (cc)
+recorded-run m g (e ∷ entries) all h =
+    elim (cases_Bool (bytes_eq g e.0.items)) [
+      | inl same ↦ rw same (sym (ap (own m) (same_bytes g e.0.items same) ∙ all.0.run))
+      | inr other ↦ rw other (recorded-run m g entries all.1 (rw other at h))
+    ]
+
+unrecorded : (g : List ℕ) (entries : List (Vec ℕ Global × GlyphRecord)) → list_any (bytes_eq g) (map (λ k. k.name) (map kept_of entries)) ≡ false → record_of entries g ≡ None
+unrecorded g [] h = refl
+unrecorded g (e ∷ entries) h =
+    let h' = or-false (bytes_eq g e.0.items) (list_any (bytes_eq g) (map (λ k. k.name) (map kept_of entries))) h in
+    rw h'.0 (unrecorded g entries h'.1)
+
+pub own-body : (m : FontBodies) (g : List ℕ) (r : Result Drawing Code) → own m g ≡ Some r → (b : List Command) × (m.glyphs g ≡ Some b)
+own-body m g r e = by (m.glyphs g) refl where
+  by : (body : Option (List Command)) → m.glyphs g ≡ body → (b : List Command) × (m.glyphs g ≡ Some b)
+  by None h = let never : ◌≡◌ {A = Option (Result Drawing Code)} None (Some r) = sym (none-own m g h) ∙ e in absurd (cc)
+  by (Some b) h = (b, h)
+
+module _ (keys : List Key) (old new : SourceParts) (told : List Told) (edit : IsEditedAt keys old new) (was : source_glyphs old ≡ Ok told)
+    (records : Records) (kept : map shown (map kept_of records.glyphs.entries) ≡ map shown_from told) where
+
+  record-names : map (λ k. k.name) (map kept_of records.glyphs.entries) ≡ glyph_names old.items
+  record-names =
+      sym (heads-names (map kept_of records.glyphs.entries)) ∙ ap (map (λ s. s.name)) kept ∙ told-names told
+      ∙ names-told (own (bodies old.items)) (outline (bodies old.items)) (glyph_names old.items) told (glyphs-of old told was)
+
+  -- the run of a glyph's record, or none, is that of the font
+  pub recorded-own : (g : List ℕ) → recorded_run records g ≡ own (bodies old.items) g
+  recorded-own g = by (list_any (bytes_eq g) (glyph_names old.items)) refl where
+    m : FontBodies
+    m = bodies old.items
+
+    lacks : (body : Option (List Command)) → m.glyphs g ≡ body → list_any (bytes_eq g) (glyph_names old.items) ≡ false → m.glyphs g ≡ None
+    lacks None e h = e
+    lacks (Some b) e h = let never : true ≡ false = sym (glyph-among old.items g b e) ∙ h in absurd (cc)
+
+    by : (b : Bool) → list_any (bytes_eq g) (glyph_names old.items) ≡ b → recorded_run records g ≡ own m g
+    by true h =
+        recorded-run m g records.glyphs.entries (scratch-all m (glyph_names old.items) told (map kept_of records.glyphs.entries) (glyphs-of old told was) kept)
+        (ap (list_any (bytes_eq g)) record-names ∙ h)
+    by false h =
+        ap (option_map (λ r. Ok r.run.drawing)) (unrecorded g records.glyphs.entries (ap (list_any (bytes_eq g)) record-names ∙ h))
+        ∙ sym (none-own m g (lacks (m.glyphs g) refl h))
+
+  module _ (m : FontBodies) (bodies-are : SameBodies m (bodies new.items)) where
+    pub own-is : (g : List ℕ) → own m g ≡ own (bodies new.items) g
+    own-is g = sym (own_same m (bodies new.items) g (record { same = λ key i. bodies-are key })).0
+
+    -- the newest runs, and the outlines by them, are those of the edited font
+    pub newest-is : (g : List ℕ) (b : List Command) → (bodies new.items).glyphs g ≡ Some b
+        → (newest_among m (stale old keys new) records g ≡ own (bodies new.items) g)
+        × (outline_within (newest_among m (stale old keys new) records) 4 g ≡ outline (bodies new.items) g)
+    newest-is = newest_drawn keys old new told edit (glyphs-of old told was) (newest_among m (stale old keys new) records) again fresh where
+      again : (g : List ℕ) (b : List Command) → (bodies new.items).glyphs g ≡ Some b → is_stale old keys g ≡ true
+          → newest_among m (stale old keys new) records g ≡ own (bodies new.items) g
+      again g b there on =
+          let s = some-own (bodies new.items) g b there in
+          ap (λ t. option_or (cond t (own m g) None) (recorded_run records g))
+          (among-passing (is_stale old keys) g (glyph_names new.items) (glyph-among new.items g b there) on)
+          ∙ ap (λ r. option_or r (recorded_run records g)) (own-is g ∙ s.1)
+          ∙ sym s.1
+
+      fresh : (g : List ℕ) (b : List Command) → (bodies new.items).glyphs g ≡ Some b → is_stale old keys g ≡ false
+          → newest_among m (stale old keys new) records g ≡ own (bodies old.items) g
+      fresh g b there off =
+          ap (λ t. option_or (cond t (own m g) None) (recorded_run records g)) (among-off (is_stale old keys) g (glyph_names new.items) off)
+          ∙ recorded-own g
+
+pub same-function : {A B : Type 0} (f g : A → B) → ((x : A) → f x ≡ g x) → f ≡ g
+same-function f g h = λ j. λ x. h x j

@@ -1,5 +1,5 @@
 -- What is kept of a source, and what edits make new of it.
-use Rattle.std.specs.Prelude.{◌≡◌, ℕ, Bool, Ok, List, map}
+use Rattle.std.specs.Prelude.{◌≡◌, ◌++◌, ℕ, Bool, not, Ok, List, filter, map}
 use Rattle.std.specs.List.{list_any}
 use Rattle.std.specs.Str.{bytes_eq}
 use Rattle.t1_parts.specs.SourceParts.{SourceParts}
@@ -15,14 +15,22 @@ use Rattle.t1_cache.specs.Renewed.{kept_of}
 use Rattle.t1_cache.specs.Tables.{AreTables}
 use Rattle.t1_cache.specs.Users.{key_of}
 
--- the records are those of the source from scratch: its glyphs' runs and boxes, and the users of each Subr and glyph
+-- the records are those of the source from scratch: the bodies of its Subrs and glyphs, its glyphs' runs and boxes, and
+-- the users of each Subr and glyph
 pub record IsRight (s : SourceParts) (records : Records) : Type 0 where
+  pub bodies : SameBodies (record_bodies records) (bodies s.items)
   pub kept : KeepsAll s (map kept_of records.glyphs.entries)
   pub users : AreTables (bodies s.items) records
 
--- a glyph of this name is there
+-- a source has a glyph of this name
 abbrev pub has_glyph : SourceParts → List ℕ → Bool
 has_glyph s g = list_any (bytes_eq g) (glyph_names s.items)
+
+-- the glyphs of an edited source: those of the source before that are still there, in their order, then the new ones
+abbrev pub IsInOrder : SourceParts → SourceParts → Type 0
+IsInOrder old new =
+    glyph_names new.items
+    ≡ filter (has_glyph new) (glyph_names old.items) ++ filter (λ g. not (has_glyph old g)) (glyph_names new.items)
 
 -- a source whose records are right was edited, and the edited one has its file: the bodies and the glyphs' names of the
 -- edited one

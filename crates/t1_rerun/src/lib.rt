@@ -6,11 +6,10 @@
 
 mod newest;
 mod renewal;
-mod rerun;
+mod judging;
 mod reruns;
 mod stale;
 
 pub use newest::Newest;
 pub use renewal::Renewal;
-pub use reruns::reruns_of;
-pub use stale::stale_among;
+pub use judging::rerun;

@@ -1,5 +1,5 @@
 //! An edited font judged.
-ghost use Rattle.std.specs.Prelude.{◌≡◌, All, IsSome, IfOk, List, ℕ, Ok, OnErr, OnOk, length, map};
+ghost use Rattle.std.specs.Prelude.{◌≡◌, All, IsSome, IfOk, List, ℕ, Ok, length, map};
 ghost use Rattle.std.specs.List.{AllByRecursion};
 ghost use Rattle.t1_frac.specs.Outcome.{Gives};
 ghost use Rattle.t1_parts.specs.SourceParts.{SourceParts};
@@ -17,8 +17,7 @@ use crate::newest::Newest;
 use crate::renewal::Renewal;
 use crate::reruns::reruns_of;
 use crate::stale::stale_among;
-use indexmap::IndexSet;
-use std::alloc::{AllocError, Global};
+use std::alloc::Global;
 use t1_cache::{Named, Records, found, joins_of, leaves_of};
 use t1_font::{GlyphMetrics, Runs, glyph_metrics_of, runs_of};
 use t1_frac::Refusal;
@@ -46,4 +45,33 @@ fn judged<B: Bodies>(
     };
     let metrics = glyph_metrics_of(alloc, &newest, stale)?;
     Ok((runs, metrics))
+}
+
+/// Runs the glyphs that edits make stale, each once, and measures them by the newest runs: what is new of the edited font, or
+/// its first fault. The bodies and the names, in source order, are those of the edited font. The meter counts each run.
+pub fn rerun<B: Bodies>(
+    alloc: Global,
+    records: &Records,
+    bodies: &B,
+    names: &[&[u8]],
+    edits: &[Named],
+    meter: &mut Meter,
+) -> Result<Renewal, Refusal>
+    requires { All (λ name. IsSome (B.glyphs bodies.now name.now)) names.now }
+    ensures checked { (old new : SourceParts) → IsEdit edits.now old new records.now (font (B.subrs bodies.now) (B.glyphs bodies.now)) (map (λ name. name.now) names.now) → Gives (λ _. tt) result (source_check new) }
+    ensures renewal { (old new : SourceParts) → IsEdit edits.now old new records.now (font (B.subrs bodies.now) (B.glyphs bodies.now)) (map (λ name. name.now) names.now) → IfOk result (IsRenewal (map key_of edits.now) old new) }
+    ensures later { IfOk result (λ renewal. AllByRecursion (IsLater meter.old) renewal.reruns.items) }
+    ensures counted { (old new : SourceParts) → IsEdit edits.now old new records.now (font (B.subrs bodies.now) (B.glyphs bodies.now)) (map (λ name. name.now) names.now) → Counts (length (stale old (map key_of edits.now) new)) meter.old meter.new result }
+{
+    let found = found(alloc, records, edits)?;
+    let stale = stale_among(alloc, names, &found)?;
+    let (mut runs, metrics) = judged(alloc, records, bodies, &stale, meter)?;
+    let leaves = leaves_of(alloc, records, found.as_slice())?;
+    let joins = joins_of(alloc, &runs, &stale)?;
+    let reruns = reruns_of(alloc, &mut runs, &metrics)?;
+    Ok(Renewal {
+        reruns,
+        leaves,
+        joins,
+    })
 }

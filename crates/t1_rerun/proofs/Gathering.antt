@@ -1,0 +1,257 @@
+-- What was measured of the stale glyphs is what is new of the edited font.
+use Rattle.std.proofs.Common.{◌≡◌, ℕ, Bool, true, false, cond, List, [], ◌∷◌, map, filter, refl, sym, ◌∙◌, ap, subst, inl, inr, Option, Some, None}
+use Rattle.std.specs.Prelude.{Result, Ok, Err, ◌||◌, ◌&&◌}
+use Rattle.std.specs.List.{AllByRecursion, list_any}
+use Rattle.std.specs.Option.{option_map, option_or}
+use Rattle.std.specs.Str.{bytes_eq}
+use Rattle.std.proofs.lemmas.Bool.{cases_Bool}
+use Rattle.t1_frac.specs.declared.fault.Code.{Code}
+use Rattle.t1_frac.specs.declared.fault.Fault.{Fault}
+use Rattle.t1_frac.specs.declared.fault.Place.TheVariants as places
+use Rattle.t1_frac.specs.declared.fault.Refusal.{Refusal}
+use Rattle.t1_frac.specs.declared.fault.Refusal.TheVariants as refusals
+use Rattle.t1_frac.specs.Outcome.{told_at, ◌>>=◌, Refuses}
+use Rattle.t1_code.specs.declared.command.Command.{Command}
+use Rattle.t1_parts.specs.SourceParts.{SourceParts}
+use Rattle.t1_run.specs.declared.outline.Segment.{Segment}
+use Rattle.t1_run.specs.Composite.{outline, outline_within}
+use Rattle.t1_run.specs.Run.{FontBodies, Key, Drawing, NumberedRun, own}
+use Rattle.t1_run.specs.Touched.{is_user}
+use Rattle.t1_afm.specs.declared.bbox.BBox.{BBox}
+use Rattle.t1_afm.specs.Box.{drawn_box}
+use Rattle.t1_font.specs.declared.glyph_metrics.GlyphMetrics.{GlyphMetrics}
+use Rattle.t1_font.specs.declared.glyph_metrics.PlacedParts.{PlacedParts}
+use Rattle.t1_font.specs.Assembly.{file_check}
+use Rattle.t1_font.specs.Bodies.{bodies, SameBodies}
+use Rattle.t1_font.specs.Glyphs.{Glyph as Told, glyph_of, placed_parts_of, glyphs_by, glyphs, glyph_names}
+use Rattle.t1_font.specs.MeasuredGlyphs.{glyph_metrics, glyph_metrics_among}
+use Rattle.t1_font.specs.Runs.{Kept as KeptRun, drawing_kept, run_kept, kept_of as run_of, own_among}
+use Rattle.t1_font.specs.SourceChecks.{source_glyphs, source_check}
+use Rattle.t1_cache.specs.declared.records.Rerun.{Rerun}
+use Rattle.t1_cache.specs.declared.records.Records.{Records}
+use Rattle.t1_cache.specs.Edited.{IsEditedAt, is_stale, stale}
+use Rattle.t1_cache.specs.Kept.{shown, shown_from}
+use Rattle.t1_cache.specs.Laws.{check}
+use Rattle.t1_cache.specs.Renewal.{IsFromScratch, kept_by}
+use Rattle.t1_cache.specs.Renewed.{kept_of}
+use Rattle.t1_cache.proofs.Judging.{first_fault_stale}
+use Rattle.t1_cache.proofs.Renewing.{glyphs-of}
+use Rattle.t1_rerun.specs.Newest.{newest_among}
+use Rattle.t1_rerun.specs.Renewals.{rerun_names, HasBox, HasRun, IsMeasured, IsRerun}
+use Rattle.t1_rerun.proofs.Meeting.{all-among, among-off, among-passing, glyph-among, none-own, own-is, newest-is, own-body}
+
+abbrev Runs : Type 0
+Runs = List ℕ → Option (Result Drawing Code)
+
+abbrev Outlines : Type 0
+Outlines = List ℕ → Result (List Segment) Code
+
+-- runs and outlines that agree on these names tell the same of them
+glyphs-same : (run run' : Runs) (o o' : Outlines) (names : List (List ℕ)) → AllByRecursion (λ g. (run g ≡ run' g) × (o g ≡ o' g)) names
+    → glyphs_by run o names ≡ glyphs_by run' o' names
+glyphs-same run run' o o' [] h = refl
+glyphs-same run run' o o' (g ∷ names) h =
+    ap (λ r. told_at (places.Glyph g) (glyph_of g r (o g)) >>= (λ x. glyphs_by run o names >>= (λ xs. Ok (x ∷ xs)))) h.0.0
+    ∙ ap (λ r. told_at (places.Glyph g) (glyph_of g (run' g) r) >>= (λ x. glyphs_by run o names >>= (λ xs. Ok (x ∷ xs)))) h.0.1
+    ∙ ap (λ r. told_at (places.Glyph g) (glyph_of g (run' g) (o' g)) >>= (λ x. r >>= (λ xs. Ok (x ∷ xs)))) (glyphs-same run run' o o' names h.1)
+
+-- ---- what is measured
+
+measured-one : (run : Runs) (g : List ℕ) (t : Told) → glyph_of g (run g) (outline_within run 4 g) ≡ Ok t
+    → IsMeasured run (glyph_metrics t) × (t.name ≡ g)
+measured-one run g t e = by (run g) refl (outline_within run 4 g) refl e where
+  parts : (d : Drawing) (s : List Segment) → run g ≡ Some (Ok d) → outline_within run 4 g ≡ Ok s → (r : Result (Option PlacedParts) Code)
+      → (r >>= (λ a. Ok (record { name = g; drawing = d; outline = s; parts = a }))) ≡ Ok t → IsMeasured run (glyph_metrics t) × (t.name ≡ g)
+  parts d s ran draws (Err code) e = absurd (cc)
+  parts d s ran draws (Ok a) e =
+      let same : record { name = g; drawing = d; outline = s; parts = a } ≡ t = cc in
+      subst (λ x. IsMeasured run (glyph_metrics x) × (x.name ≡ g)) same (record { drawing = d; segments = s; ran = ran; draws = draws; box = refl }, refl)
+
+  by : (r : Option (Result Drawing Code)) → run g ≡ r → (o : Result (List Segment) Code) → outline_within run 4 g ≡ o → glyph_of g r o ≡ Ok t
+      → IsMeasured run (glyph_metrics t) × (t.name ≡ g)
+  by None ran o draws e = absurd (cc)
+  by (Some (Err code)) ran o draws e = absurd (cc)
+  by (Some (Ok d)) ran (Err code) draws e = absurd (cc)
+  by (Some (Ok d)) ran (Ok s) draws e = parts d s ran draws (placed_parts_of d.bearing d.composite) e
+
+measured-told : (run : Runs) (names : List (List ℕ)) (ts : List Told) → glyphs_by run (outline_within run 4) names ≡ Ok ts
+    → AllByRecursion (IsMeasured run) (map glyph_metrics ts) × (map (λ m. m.name) (map glyph_metrics ts) ≡ names)
+measured-told run [] ts e = let same : [] ≡ ts = cc in subst (λ l. AllByRecursion (IsMeasured run) (map glyph_metrics l) × (map (λ m. m.name) (map glyph_metrics l) ≡ [])) same (tt, refl)
+measured-told run (g ∷ names) ts e =
+    one (glyph_of g (run g) (outline_within run 4 g)) refl (glyphs_by run (outline_within run 4) names) refl (measured-told run names) e where
+      one : (r : Result Told Code) → glyph_of g (run g) (outline_within run 4 g) ≡ r → (rest : Result (List Told) Fault) → glyphs_by run (outline_within run 4) names ≡ rest
+          → ((xs : List Told) → glyphs_by run (outline_within run 4) names ≡ Ok xs → AllByRecursion (IsMeasured run) (map glyph_metrics xs) × (map (λ m. m.name) (map glyph_metrics xs) ≡ names))
+          → (told_at (places.Glyph g) r >>= (λ x. rest >>= (λ xs. Ok (x ∷ xs)))) ≡ Ok ts
+          → AllByRecursion (IsMeasured run) (map glyph_metrics ts) × (map (λ m. m.name) (map glyph_metrics ts) ≡ g ∷ names)
+      one (Ok x) here (Ok xs) there others e =
+          let same : x ∷ xs ≡ ts = cc in
+          let first = measured-one run g x here in
+          let rest = others xs there in
+          subst (λ l. AllByRecursion (IsMeasured run) (map glyph_metrics l) × (map (λ m. m.name) (map glyph_metrics l) ≡ g ∷ names)) same
+          ((first.0, rest.0), ap (λ n. n ∷ map (λ m. m.name) (map glyph_metrics xs)) first.1 ∙ ap (λ l. g ∷ l) rest.1)
+      one (Ok x) here (Err fault) there others e = absurd (cc)
+      one (Err code) here rest there others e = absurd (cc)
+
+pub measured-all : (run : Runs) (names : List (List ℕ)) (metrics : List GlyphMetrics) → glyph_metrics_among run names ≡ Ok metrics
+    → AllByRecursion (IsMeasured run) metrics × (map (λ m. m.name) metrics ≡ names)
+unfolding glyph_metrics_among
+measured-all run names metrics e = by (glyphs_by run (outline_within run 4) names) refl e where
+  by : (r : Result (List Told) Fault) → glyphs_by run (outline_within run 4) names ≡ r → (r >>= (λ ts. Ok (map glyph_metrics ts))) ≡ Ok metrics
+      → AllByRecursion (IsMeasured run) metrics × (map (λ m. m.name) metrics ≡ names)
+  by (Ok ts) told e =
+      let same : map glyph_metrics ts ≡ metrics = cc in
+      subst (λ l. AllByRecursion (IsMeasured run) l × (map (λ m. m.name) l ≡ names)) same (measured-told run names ts told)
+  by (Err fault) told e = absurd (cc)
+
+-- a glyph that was measured has its run among those that are kept
+measured-names : (g : List ℕ) (metrics : List GlyphMetrics) → list_any (λ m. bytes_eq g m.name) metrics ≡ list_any (bytes_eq g) (map (λ m. m.name) metrics)
+measured-names g [] = refl
+measured-names g (m ∷ metrics) = ap (λ b. bytes_eq g m.name || b) (measured-names g metrics)
+
+box-measured : (run : Runs) (metrics : List GlyphMetrics) (g : List ℕ) (box : Option BBox) → AllByRecursion (IsMeasured run) metrics → HasBox metrics g box
+    → (d : Drawing) × ((s : List Segment) × ((run g ≡ Some (Ok d)) × ((outline_within run 4 g ≡ Ok s) × (box ≡ drawn_box s))))
+box-measured run [] g box all h = absurd h
+box-measured run (m ∷ metrics) g box all (inl h) =
+    (all.0.drawing, (all.0.segments, (ap run (sym h.0) ∙ all.0.ran, (ap (outline_within run 4) (sym h.0) ∙ all.0.draws, sym h.1 ∙ all.0.box))))
+box-measured run (m ∷ metrics) g box all (inr h) = box-measured run metrics g box all.1 h
+
+-- ---- an edited source
+
+module _ (keys : List Key) (old new : SourceParts) (told : List Told) (edit : IsEditedAt keys old new) (was : source_glyphs old ≡ Ok told)
+    (records : Records) (kept : map shown (map kept_of records.glyphs.entries) ≡ map shown_from told)
+    (m : FontBodies) (bodies-are : SameBodies m (bodies new.items))
+    (there : AllByRecursion (λ g. (b : List Command) × ((bodies new.items).glyphs g ≡ Some b)) (stale old keys new)) where
+
+  newest : Runs
+  newest = newest_among m (stale old keys new) records
+
+  each : (names : List (List ℕ)) → AllByRecursion (λ g. (b : List Command) × ((bodies new.items).glyphs g ≡ Some b)) names
+      → AllByRecursion (λ g. (newest g ≡ own (bodies new.items) g) × (outline_within newest 4 g ≡ outline (bodies new.items) g)) names
+  each [] h = tt
+  each (g ∷ names) h = (newest-is keys old new told edit was records kept m bodies-are g h.0.0 h.0.1, each names h.1)
+
+  told-are : glyph_metrics_among newest (stale old keys new) ≡ (glyphs (bodies new.items) (stale old keys new) >>= (λ gs. Ok (map glyph_metrics gs)))
+  unfolding glyph_metrics_among
+  told-are =
+      ap (λ r. r >>= (λ gs. Ok (map glyph_metrics gs)))
+      (glyphs-same newest (own (bodies new.items)) (outline_within newest 4) (outline (bodies new.items)) (stale old keys new) (each (stale old keys new) there))
+
+  module _ (file : file_check new ≡ Ok tt) where
+    checked-is : source_check new ≡ check (glyphs (bodies new.items) (stale old keys new))
+    checked-is =
+        ap (λ r. (r >>= λ checked. glyphs (bodies new.items) (glyph_names new.items)) >>= λ gs. Ok tt) file
+        ∙ first_fault_stale keys old new told edit (glyphs-of old told was)
+
+    -- where the stale glyphs were measured, the source has no fault
+    pub faultless : (metrics : List GlyphMetrics) → glyph_metrics_among newest (stale old keys new) ≡ Ok metrics → source_check new ≡ Ok tt
+    faultless metrics e = checked-is ∙ by (glyphs (bodies new.items) (stale old keys new)) (sym told-are ∙ e) where
+      by : (r : Result (List Told) Fault) → (r >>= (λ gs. Ok (map glyph_metrics gs))) ≡ Ok metrics → check r ≡ Ok tt
+      by (Ok ts) e = refl
+      by (Err fault) e = absurd (cc)
+
+    -- and their first fault is the source's
+    pub refused : (refused : Refusal) → Refuses refused (glyph_metrics_among newest (stale old keys new)) → Refuses refused (source_check new)
+    refused refusal h = subst (Refuses refusal) (sym checked-is) (by refusal (glyphs (bodies new.items) (stale old keys new)) (subst (Refuses refusal) told-are h)) where
+      by : (refusal : Refusal) (r : Result (List Told) Fault) → Refuses refusal (r >>= (λ gs. Ok (map glyph_metrics gs))) → Refuses refusal (check r)
+      by refusals.Memory r h = tt
+      by (refusals.Fault fault) (Ok ts) h = absurd (cc)
+      by (refusals.Fault fault) (Err e) h = cc
+
+  module _ (runs : List KeptRun) (runs-are : (g : List ℕ) → run_of runs g ≡ own_among m (stale old keys new) g)
+      (metrics : List GlyphMetrics) (measured : glyph_metrics_among newest (stale old keys new) ≡ Ok metrics) where
+
+    all-measured : AllByRecursion (IsMeasured newest) metrics × (map (λ x. x.name) metrics ≡ stale old keys new)
+    all-measured = measured-all newest (stale old keys new) metrics measured
+
+    -- a glyph whose run is kept and draws this has it in the edited font
+    kept-own : (g : List ℕ) (r : Result Drawing Code) → run_of runs g ≡ Some r → own (bodies new.items) g ≡ Some r
+    kept-own g r e = sym (own-is keys old new told edit was records kept m bodies-are g) ∙ by (list_any (bytes_eq g) (stale old keys new)) (sym (runs-are g) ∙ e) where
+      by : (b : Bool) → cond b (own m g) None ≡ Some r → own m g ≡ Some r
+      by true h = h
+      by false h = let never : ◌≡◌ {A = Option (Result Drawing Code)} None (Some r) = h in absurd (cc)
+
+    ok-run : (k : Option (Result NumberedRun Code)) (d : Drawing) → option_map drawing_kept k ≡ Some (Ok d) → (r : NumberedRun) × (k ≡ Some (Ok r))
+    ok-run None d e = absurd (cc)
+    ok-run (Some (Err code)) d e = absurd (cc)
+    ok-run (Some (Ok r)) d e = (r, refl)
+
+    -- each glyph that was measured has its run
+    pub have-runs : AllByRecursion (HasRun runs) metrics
+    have-runs = go metrics all-measured.0 (all-of-map (λ x. x.name) metrics (subst (AllByRecursion IsHere) (sym all-measured.1) (all-here (stale old keys new) there among))) where
+      IsHere : List ℕ → Type 0
+      IsHere g = (list_any (bytes_eq g) (stale old keys new) ≡ true) × ((b : List Command) × ((bodies new.items).glyphs g ≡ Some b))
+
+      among : AllByRecursion (λ x. list_any (bytes_eq x) (stale old keys new) ≡ true) (stale old keys new)
+      among = all-among (stale old keys new) (stale old keys new) (λ x h. h)
+
+      all-here : (names : List (List ℕ)) → AllByRecursion (λ g. (b : List Command) × ((bodies new.items).glyphs g ≡ Some b)) names
+          → AllByRecursion (λ x. list_any (bytes_eq x) (stale old keys new) ≡ true) names → AllByRecursion IsHere names
+      all-here [] h i = tt
+      all-here (g ∷ names) h i = ((i.0, h.0), all-here names h.1 i.1)
+
+      all-of-map : (f : GlyphMetrics → List ℕ) (ms : List GlyphMetrics) → AllByRecursion IsHere (map f ms) → AllByRecursion (λ x. IsHere (f x)) ms
+      all-of-map f [] h = tt
+      all-of-map f (x ∷ ms) h = (h.0, all-of-map f ms h.1)
+
+      go : (ms : List GlyphMetrics) → AllByRecursion (IsMeasured newest) ms → AllByRecursion (λ x. IsHere x.name) ms → AllByRecursion (HasRun runs) ms
+      go [] all here = tt
+      go (x ∷ ms) all here =
+          let same = newest-is keys old new told edit was records kept m bodies-are x.name here.0.1.0 here.0.1.1 in
+          let runs_it : run_of runs x.name ≡ Some (Ok all.0.drawing) =
+          runs-are x.name ∙ ap (λ b. cond b (own m x.name) None) here.0.0 ∙ own-is keys old new told edit was records kept m bodies-are x.name ∙ sym same.0 ∙ all.0.ran in
+          (ok-run (run_kept runs x.name) all.0.drawing runs_it, go ms all.1 here.1)
+
+    scratch-one : (r : Rerun) → IsRerun runs metrics r → IsFromScratch (bodies new.items) (kept_by r)
+    scratch-one r is =
+        let g = r.name.items in
+        let box = box-measured newest metrics g r.bbox all-measured.0 is.box in
+        let ran = kept-own g (Ok r.run.drawing) (ap (option_map drawing_kept) is.run) in
+        let body = own-body (bodies new.items) g (Ok r.run.drawing) ran in
+        record {
+          segments = box.1.0;
+          run = ran;
+          draws = sym (newest-is keys old new told edit was records kept m bodies-are g body.0 body.1).1 ∙ box.1.1.1.0;
+          box = box.1.1.1.1;
+        }
+
+    -- the runs and boxes that were gathered are those of the edited font
+    pub scratch-reruns : (rs : List Rerun) → AllByRecursion (IsRerun runs metrics) rs → AllByRecursion (λ r. IsFromScratch (bodies new.items) (kept_by r)) rs
+    scratch-reruns [] all = tt
+    scratch-reruns (r ∷ rs) all = (scratch-one r all.0, scratch-reruns rs all.1)
+
+    pub names-gathered : (rs : List Rerun) → ((g : List ℕ) → list_any (bytes_eq g) (rerun_names rs) ≡ list_any (λ x. bytes_eq g x.name) metrics)
+        → (g : List ℕ) → list_any (bytes_eq g) (rerun_names rs) ≡ list_any (bytes_eq g) (stale old keys new)
+    names-gathered rs names g = names g ∙ measured-names g metrics ∙ ap (list_any (bytes_eq g)) all-measured.1
+
+  -- the users that stale glyphs join by the runs that are kept are those of the edited font
+  pub joins-are : (found : List ℕ → Bool) → filter found (glyph_names new.items) ≡ stale old keys new → (k : Key) (u : List ℕ)
+      → (list_any (bytes_eq u) (stale old keys new) && is_user k (own_among m (stale old keys new) u)) ≡ (found u && is_user k (own (bodies new.items) u))
+  joins-are found is k u = by (list_any (bytes_eq u) (stale old keys new)) refl where
+    n : FontBodies
+    n = bodies new.items
+
+    and_false : (b : Bool) → false ≡ (b && false)
+    and_false true = refl
+    and_false false = refl
+
+    passes : (b : Bool) → found u ≡ b → list_any (bytes_eq u) (stale old keys new) ≡ true → found u ≡ true
+    passes true e h = e
+    passes false e h =
+        let never : true ≡ false = sym h ∙ ap (list_any (bytes_eq u)) (sym is) ∙ among-off found u (glyph_names new.items) e in
+        absurd (cc)
+
+    away : (body : Option (List Command)) → n.glyphs u ≡ body → (b : Bool) → found u ≡ b → list_any (bytes_eq u) (stale old keys new) ≡ false
+        → false ≡ (found u && is_user k (own n u))
+    away None e b f h = and_false (found u) ∙ ap (λ r. found u && is_user k r) (sym (none-own n u e))
+    away (Some body) e false f h = sym (ap (λ t. t && is_user k (own n u)) f)
+    away (Some body) e true f h =
+        let never : true ≡ false = sym (ap (list_any (bytes_eq u)) (sym is) ∙ among-passing found u (glyph_names new.items) (glyph-among new.items u body e) f) ∙ h in
+        absurd (cc)
+
+    by : (b : Bool) → list_any (bytes_eq u) (stale old keys new) ≡ b
+        → (list_any (bytes_eq u) (stale old keys new) && is_user k (own_among m (stale old keys new) u)) ≡ (found u && is_user k (own n u))
+    by true h =
+        ap (λ t. t && is_user k (cond t (own m u) None)) h
+        ∙ ap (is_user k) (own-is keys old new told edit was records kept m bodies-are u)
+        ∙ sym (ap (λ t. t && is_user k (own n u)) (passes (found u) refl h))
+    by false h = ap (λ t. t && is_user k (cond t (own m u) None)) h ∙ away (n.glyphs u) refl (found u) refl h
