@@ -1,4 +1,5 @@
 pub mod Adding
+pub mod Changing
 pub mod Closing
 pub mod Counting
 pub mod Distinct

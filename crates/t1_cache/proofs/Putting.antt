@@ -70,7 +70,7 @@ rest-put rest (e ∷ es) test was now h stays = by (test e.0) refl (λ h'. rest-
 abbrev pub at : {Q K R : Type 0} → (Q → Q → Bool) → (K → Q) → (R → UserSet) → List (K × R) → Q → Option UserSet
 at eq name users es q = option_map users (lookup (λ k. eq q (name k)) es)
 
-map-cond : {X Y : Type 0} (f : X → Y) (b : Bool) (x : X) (r : Option X) → option_map f (cond b (Some x) r) ≡ cond b (Some (f x)) (option_map f r)
+pub map-cond : {X Y : Type 0} (f : X → Y) (b : Bool) (x : X) (r : Option X) → option_map f (cond b (Some x) r) ≡ cond b (Some (f x)) (option_map f r)
 map-cond f true x r = refl
 map-cond f false x r = refl
 

@@ -1,4 +1,5 @@
 pub mod Bodies
+pub mod Changed
 pub mod Edited
 pub mod Found
 pub mod Joins

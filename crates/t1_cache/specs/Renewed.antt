@@ -19,6 +19,9 @@ pub record Kept : Type 0 where
   pub run : NumberedRun
   pub box : Option BBox
 
+abbrev pub kept : List ℕ → NumberedRun → Option BBox → Kept
+kept name run box = record { name = name; run = run; box = box }
+
 abbrev pub kept_of : Vec ℕ Global × GlyphRecord → Kept
 kept_of e = record { name = e.0.items; run = e.1.run; box = e.1.bbox }
 

@@ -1,4 +1,5 @@
 //! Laws of edited sources, and of what is kept of a font under edits.
+ghost use Rattle.t1_cache.specs.Changed.{ChangedBodiesLaw, RestLaw};
 ghost use Rattle.t1_cache.specs.Joins.{AllDrawLaw, FirstTablesLaw, JoinsLaw, KeptRunLaw, LessTablesLaw, StaleFoundLaw};
 ghost use Rattle.t1_cache.specs.Laws.{CountLaw, DistinctLaw, EditLaw, FirstFaultLaw, MiddleLaw, NewestLaw, TurnLaw};
 ghost use Rattle.t1_cache.specs.Overlay.{OverlayLaw};
@@ -95,4 +96,15 @@ pub fn less_tables()
 /// record.
 pub fn room()
     ensures { RoomLaw }
+{}
+
+/// Records that have the bodies of a font, changed at the one key at which another font differs, have the bodies of that
+/// font.
+pub fn changed_bodies()
+    ensures { ChangedBodiesLaw }
+{}
+
+/// Records that differ in their users alone have the same bodies, runs and boxes.
+pub fn rest()
+    ensures { RestLaw }
 {}

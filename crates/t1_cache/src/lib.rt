@@ -6,6 +6,7 @@
 //! it would be from scratch.
 #![tactic(auto)]
 
+mod changed;
 pub mod laws;
 mod records;
 mod renewed;
@@ -14,6 +15,7 @@ mod stale;
 mod users;
 mod uses;
 
+pub use changed::{insert_glyph, insert_subr, put_glyph, put_subr, remove_glyph, remove_subr};
 pub use records::{GlyphRecord, Named, Names, Records, Rerun, SubrRecord};
 pub use renewed::{renew, renew_all};
 pub use room::make_room;

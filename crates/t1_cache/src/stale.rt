@@ -3,6 +3,7 @@ ghost use Rattle.std.specs.Prelude.{◌≡◌, ◌||◌, ◌++◌, ℕ, List, ma
 ghost use Rattle.std.specs.Str.{bytes_eq};
 ghost use Rattle.t1_run.specs.Run.{FontBodies};
 ghost use Rattle.t1_cache.specs.Found.{Closes};
+ghost use Rattle.t1_cache.specs.Laws.{AreDistinct};
 ghost use Rattle.t1_cache.specs.Tables.{is_seed, AreTables, AreStale};
 ghost use Rattle.t1_cache.specs.Users.{among, glyph_users, has, key_of, subr_users};
 
@@ -41,7 +42,8 @@ fn close<'a>(
     found: &mut IndexSet<&'a [u8]>,
     glyphs: &'a IndexMap<Vec<u8>, GlyphRecord>,
 ) -> Result<(), AllocError>
-    ensures { OnOk result (Closes (has (λ name. name.now) found.old.keys) (λ p. among (glyph_users glyphs.now.entries p)) (has (λ name. name.now) found.new.keys)) }
+    ensures closes { OnOk result (Closes (has (λ name. name.now) found.old.keys) (λ p. among (glyph_users glyphs.now.entries p)) (has (λ name. name.now) found.new.keys)) }
+    ensures once { OnOk result (AreDistinct (map (λ name. name.now) found.new.keys)) }
 {
     let mut at = 0;
     while at < found.len() {
@@ -100,7 +102,8 @@ pub fn found<'a>(
     records: &'a Records,
     edits: &'a [Named],
 ) -> Result<IndexSet<&'a [u8]>, AllocError>
-    ensures { IfOk result (λ found. (m : FontBodies) → AreTables m records.now → AreStale m (map key_of edits.now) (has (λ name. name.now) found.keys)) }
+    ensures once { IfOk result (λ found. AreDistinct (map (λ name. name.now) found.keys)) }
+    ensures stale { IfOk result (λ found. (m : FontBodies) → AreTables m records.now → AreStale m (map key_of edits.now) (has (λ name. name.now) found.keys)) }
 {
     let mut found = IndexSet::new(alloc);
     for named in edits {

@@ -165,3 +165,145 @@ fn renews_a_record(rt: HostRuntime) -> Result<(), Fail> {
     assert!(rt; serials == (1, 3));
     Ok(())
 }
+
+/// The run of acute with this meter, as a rerun.
+fn rerun_of_acute(alloc: Global, bodies: &Plain, meter: &mut Meter) -> Result<Rerun, Fail> {
+    if bodies.glyph(b"acute").is_none() {
+        return Err(Fail::new("no such glyph"));
+    }
+    Ok(Rerun {
+        name: Vec::from_slice(alloc, b"acute")?,
+        run: run(alloc, bodies, b"acute", meter)?,
+        bbox: None,
+    })
+}
+
+fn serial_of(records: &Records, name: &[u8]) -> Option<u64> {
+    match records.glyphs.get(name) {
+        None => None,
+        Some(record) => Some(record.run.serial()),
+    }
+}
+
+/// The serials of the runs of acute and A after two reruns of acute.
+fn serials_after_reruns(alloc: Global) -> Result<(Option<u64>, Option<u64>), Fail> {
+    let mut records = records(alloc)?;
+    let bodies = bodies(alloc)?;
+    let mut meter = Meter::new();
+    let mut reruns = Vec::new(alloc);
+    reruns.push(rerun_of_acute(alloc, &bodies, &mut meter)?)?;
+    reruns.push(rerun_of_acute(alloc, &bodies, &mut meter)?)?;
+    renew_all(&mut records.glyphs, reruns);
+    Ok((serial_of(&records, b"acute"), serial_of(&records, b"A")))
+}
+
+#[test]
+fn renews_by_the_first_rerun(rt: HostRuntime) -> Result<(), Fail> {
+    let serials = serials_after_reruns(rt.alloc())?;
+    assert!(rt; serials == (Some(1), Some(2)));
+    Ok(())
+}
+
+/// Whether two glyphs that join the users of Subr 4, and one that joins a Subr without a record, have room beside acute.
+fn has_room_for_two(alloc: Global) -> Result<bool, Fail> {
+    let mut records = records(alloc)?;
+    let mut joins = Vec::new(alloc);
+    joins.push((Named::Subr(4), Vec::from_slice(alloc, b"A")?))?;
+    joins.push((Named::Subr(9), Vec::from_slice(alloc, b"A")?))?;
+    joins.push((Named::Subr(4), Vec::from_slice(alloc, b"Aacute")?))?;
+    make_room(alloc, &mut records, joins.as_slice())?;
+    match records.subrs.get(&4) {
+        None => Err(Fail::new("no record")),
+        Some(record) => Ok(record.users.len() == 1 && record.users.capacity() >= 3),
+    }
+}
+
+#[test]
+fn makes_room(rt: HostRuntime) -> Result<(), Fail> {
+    let room = has_room_for_two(rt.alloc())?;
+    assert!(rt; room);
+    Ok(())
+}
+
+/// How many commands the body of a Subr has.
+fn subr_len(records: &Records, number: u16) -> Option<usize> {
+    match records.subr(number) {
+        None => None,
+        Some(body) => Some(body.commands().len()),
+    }
+}
+
+/// How many commands the body of a glyph has.
+fn glyph_len(records: &Records, name: &[u8]) -> Option<usize> {
+    match records.glyph(name) {
+        None => None,
+        Some(body) => Some(body.commands().len()),
+    }
+}
+
+/// The lengths of Subrs 4 and 5 after Subr 4 is put anew and Subr 5 put in, and after Subr 4 is taken out.
+fn changed_subrs(alloc: Global) -> Result<[Option<usize>; 4], Fail> {
+    let mut records = records(alloc)?;
+    if records.subr(4).is_none() || records.subr(5).is_some() {
+        return Err(Fail::new("other Subrs"));
+    }
+    put_subr(&mut records, 4, body(alloc, "return")?);
+    insert_subr(alloc, &mut records, 5, body(alloc, SUBR_4)?)?;
+    let before = (subr_len(&records, 4), subr_len(&records, 5));
+    remove_subr(&mut records, 4);
+    Ok([
+        before.0,
+        before.1,
+        subr_len(&records, 4),
+        subr_len(&records, 5),
+    ])
+}
+
+#[test]
+fn changes_subrs(rt: HostRuntime) -> Result<(), Fail> {
+    let lens = changed_subrs(rt.alloc())?;
+    assert!(rt; lens == [Some(1), Some(4), None, Some(4)]);
+    Ok(())
+}
+
+/// The lengths of A and B after A is put anew and B put in with the run of A, and after A is taken out.
+fn changed_glyphs(alloc: Global) -> Result<[Option<usize>; 4], Fail> {
+    let mut records = records(alloc)?;
+    let bodies = bodies(alloc)?;
+    if records.glyph(b"A").is_none() || records.glyph(b"B").is_some() {
+        return Err(Fail::new("other glyphs"));
+    }
+    if bodies.glyph(b"A").is_none() {
+        return Err(Fail::new("no such glyph"));
+    }
+    put_glyph(
+        &mut records,
+        b"A",
+        body(alloc, "0 500 hsbw closepath endchar")?,
+    );
+    let name = Vec::from_slice(alloc, b"B")?;
+    let run = run(alloc, &bodies, b"A", &mut Meter::new())?;
+    insert_glyph(
+        alloc,
+        &mut records,
+        name,
+        body(alloc, GLYPHS[1].1)?,
+        run,
+        None,
+    )?;
+    let before = (glyph_len(&records, b"A"), glyph_len(&records, b"B"));
+    remove_glyph(&mut records, b"A");
+    Ok([
+        before.0,
+        before.1,
+        glyph_len(&records, b"A"),
+        glyph_len(&records, b"B"),
+    ])
+}
+
+#[test]
+fn changes_glyphs(rt: HostRuntime) -> Result<(), Fail> {
+    let lens = changed_glyphs(rt.alloc())?;
+    assert!(rt; lens == [Some(5), Some(9), None, Some(9)]);
+    Ok(())
+}

@@ -2,6 +2,7 @@ use Rattle.std.proofs.Common.{◌+◌, ◌-◌, ◌<◌, ◌≤◌, length, get_
 use Rattle.std.specs.Borrow.{Bor}
 use Rattle.t1_cache.specs.Users.{among, glyph_users, has}
 use Rattle.t1_cache.proofs.Closing.{closing-first, closing-more, closing-bound, all_users}
+use Rattle.t1_cache.proofs.Names.{names-once}
 use Rattle.t1_cache.proofs.stale.close.Goals as goal
 
 pub loop-at-init : goal.loop-at-init
@@ -24,3 +25,6 @@ loop-at-preserved c =
     closing-more (λ name. name.now) (has (λ name. name.now) c.args.found.now.keys) (λ p. among (glyph_users c.args.glyphs.now.entries p)) keys c.add_users_of.new.found.keys told.after.0 at
     (record { ref_ptr = (0, 0); now = [] }) (get_or {A = Bor (List ℕ)} c.as_slice.result.now at (record { ref_ptr = (0, 0); now = [] })).now
     c.loop-at.invariant h (ap (λ l. (get_or {A = Bor (List ℕ)} l at (record { ref_ptr = (0, 0); now = [] })).now) c.as_slice.ensures.keys) told.after.1 told.names
+
+pub returns-clause-once : goal.returns-clause-once
+returns-clause-once c = names-once (λ name. name.now) c.loop-at.found.keys c.len.ensures.unique

@@ -18,10 +18,10 @@ loop-named-preserved c = λ g.
     ∙ ap (λ x. list_any seed (take i edits) || seed x) c.named-item.is
     ∙ sym (list_any_more seed edits i c.named-item.result (omega arith))
 
-pub returns : goal.returns
-returns c = λ m tables.
+pub returns-clause-stale : goal.returns-clause-stale
+returns-clause-stale c = λ m tables.
     let edits = c.args.edits.now in
     let records = c.args.records.now in
     stale-closed m records tables edits (has (λ name. name.now) c.loop-named.found.keys)
     (λ g. c.loop-named.invariant g ∙ ap (list_any (is_seed records g)) (take_all c.loop-named.named-index edits (omega arith)))
-    (has (λ name. name.now) c.close.new.found.keys) c.in_ok-close.ensures
+    (has (λ name. name.now) c.close.new.found.keys) c.in_ok-close.ensures.closes

@@ -1,0 +1,32 @@
+-- Records changed at one key.
+use Rattle.std.specs.Prelude.{◌≡◌, List, [], ◌∷◌, map, Option, if◌then◌else◌}
+use Rattle.t1_code.specs.declared.command.Command.{Command}
+use Rattle.t1_run.specs.Run.{FontBodies, Key}
+use Rattle.t1_run.specs.Touched.{SameBut}
+use Rattle.t1_font.specs.Bodies.{SameBodies}
+use Rattle.t1_cache.specs.declared.records.Records.{Records}
+use Rattle.t1_cache.specs.Bodies.{record_bodies}
+use Rattle.t1_cache.specs.Overlay.{body_at}
+use Rattle.t1_cache.specs.Renewed.{kept_of}
+use Rattle.t1_cache.specs.Users.{key_eq, rest_of}
+
+-- the records have this body, or none, at the key, and at each other key what they had
+abbrev pub SetsBody : Key → Option (List Command) → Records → Records → Type 0
+SetsBody key body old new = (k : Key) → body_at (record_bodies new) k ≡ (if key_eq k key then body else body_at (record_bodies old) k)
+
+-- the same records in the same order
+abbrev pub AreUnchanged : Records → Records → Type 0
+AreUnchanged old new = (new.subrs.entries ≡ old.subrs.entries) × (new.glyphs.entries ≡ old.glyphs.entries)
+
+-- records that have the bodies of a font, and then what another font has at the one key where the two may differ, have
+-- the bodies of that font
+abbrev pub ChangedBodiesLaw : Type 0
+ChangedBodiesLaw =
+    (key : Key) (m n : FontBodies) → SameBut (key ∷ []) m n → (old new : Records) → SameBodies (record_bodies old) m
+    → SetsBody key (body_at n key) old new → SameBodies (record_bodies new) n
+
+-- records that differ in their users alone have the same bodies, runs and boxes
+abbrev pub RestLaw : Type 0
+RestLaw =
+    (old new : Records) → rest_of new ≡ rest_of old
+    → SameBodies (record_bodies new) (record_bodies old) × (map kept_of new.glyphs.entries ≡ map kept_of old.glyphs.entries)

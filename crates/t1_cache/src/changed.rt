@@ -1,0 +1,103 @@
+//! Records changed at one Subr or one glyph.
+ghost use Rattle.std.specs.Prelude.{◌≡◌, ◌&&◌, ◌++◌, [], ◌∷◌, ℕ, List, None, Some, IsSome, OnErr, OnOk, filter, map, not};
+ghost use Rattle.std.specs.Str.{bytes_eq};
+ghost use Rattle.t1_run.specs.Run.{Key, Subr, Glyph};
+ghost use Rattle.t1_cache.specs.Bodies.{record_bodies};
+ghost use Rattle.t1_cache.specs.Changed.{AreUnchanged, SetsBody};
+ghost use Rattle.t1_cache.specs.Overlay.{body_at};
+ghost use Rattle.t1_cache.specs.Renewed.{kept, kept_of};
+ghost use Rattle.t1_cache.specs.Users.{key_eq, lists, users_at, HasRoom};
+
+use crate::records::{GlyphRecord, Records, SubrRecord};
+use indexmap::IndexSet;
+use std::alloc::{AllocError, Global};
+use t1_afm::BBox;
+use t1_code::Body;
+use t1_run::Run;
+
+/// Puts another body into the record of a Subr. It takes no memory and can't fail.
+pub fn put_subr(records: &mut Records, number: u16, body: Body)
+    requires { IsSome (body_at (record_bodies records.old) (Subr number)) }
+    ensures bodies { SetsBody (Subr number) (Some body) records.old records.new }
+    ensures users { (k : Key) → users_at records.new k ≡ users_at records.old k }
+    ensures kept { map kept_of records.new.glyphs.entries ≡ map kept_of records.old.glyphs.entries }
+{
+    if let Some(record) = records.subrs.get_mut(&number) {
+        record.body = body;
+    }
+}
+
+/// Puts another body into the record of a glyph, whose run and box stay. It takes no memory and can't fail.
+pub fn put_glyph(records: &mut Records, name: &[u8], body: Body)
+    requires { IsSome (body_at (record_bodies records.old) (Glyph name.now)) }
+    ensures bodies { SetsBody (Glyph name.now) (Some body) records.old records.new }
+    ensures users { (k : Key) → users_at records.new k ≡ users_at records.old k }
+    ensures kept { map kept_of records.new.glyphs.entries ≡ map kept_of records.old.glyphs.entries }
+{
+    if let Some(record) = records.glyphs.get_mut(name) {
+        record.body = body;
+    }
+}
+
+/// Puts in the record of a Subr that has none, without users. Where memory runs out all stays as it was.
+pub fn insert_subr(
+    alloc: Global,
+    records: &mut Records,
+    number: u16,
+    body: Body,
+) -> Result<(), AllocError>
+    requires { body_at (record_bodies records.old) (Subr number) ≡ None }
+    ensures bodies { OnOk result (SetsBody (Subr number) (Some body) records.old records.new) }
+    ensures users { OnOk result ((k : Key) (u : List ℕ) → lists records.new k u ≡ lists records.old k u) }
+    ensures room { OnOk result ((k : Key) (count : ℕ) → HasRoom count (users_at records.old k) → HasRoom count (users_at records.new k)) }
+    ensures kept { OnOk result (map kept_of records.new.glyphs.entries ≡ map kept_of records.old.glyphs.entries) }
+    ensures refused { OnErr result (AreUnchanged records.old records.new) }
+{
+    let users = IndexSet::new(alloc);
+    records.subrs.insert(number, SubrRecord { body, users })?;
+    Ok(())
+}
+
+/// Puts in the record of a glyph that has none, after the others, without users. Where memory runs out all stays as it was.
+pub fn insert_glyph(
+    alloc: Global,
+    records: &mut Records,
+    name: Vec<u8>,
+    body: Body,
+    run: Run,
+    bbox: Option<BBox>,
+) -> Result<(), AllocError>
+    requires { body_at (record_bodies records.old) (Glyph name.items) ≡ None }
+    ensures bodies { OnOk result (SetsBody (Glyph name.items) (Some body) records.old records.new) }
+    ensures users { OnOk result ((k : Key) (u : List ℕ) → lists records.new k u ≡ lists records.old k u) }
+    ensures room { OnOk result ((k : Key) (count : ℕ) → HasRoom count (users_at records.old k) → HasRoom count (users_at records.new k)) }
+    ensures kept { OnOk result (map kept_of records.new.glyphs.entries ≡ map kept_of records.old.glyphs.entries ++ kept name.items run bbox ∷ []) }
+    ensures refused { OnErr result (AreUnchanged records.old records.new) }
+{
+    let record = GlyphRecord {
+        body,
+        run,
+        bbox,
+        users: IndexSet::new(alloc),
+    };
+    records.glyphs.insert(name, record)?;
+    Ok(())
+}
+
+/// Takes out the record of a Subr, with its users. It takes no memory and can't fail.
+pub fn remove_subr(records: &mut Records, number: u16)
+    ensures bodies { SetsBody (Subr number) None records.old records.new }
+    ensures users { (k : Key) (u : List ℕ) → lists records.new k u ≡ (lists records.old k u && not (key_eq k (Subr number))) }
+    ensures kept { map kept_of records.new.glyphs.entries ≡ map kept_of records.old.glyphs.entries }
+{
+    records.subrs.shift_remove(&number);
+}
+
+/// Takes out the record of a glyph, with its users; the others stay in their order. It takes no memory and can't fail.
+pub fn remove_glyph(records: &mut Records, name: &[u8])
+    ensures bodies { SetsBody (Glyph name.now) None records.old records.new }
+    ensures users { (k : Key) (u : List ℕ) → lists records.new k u ≡ (lists records.old k u && not (key_eq k (Glyph name.now))) }
+    ensures kept { map kept_of records.new.glyphs.entries ≡ filter (λ k. not (bytes_eq name.now k.name)) (map kept_of records.old.glyphs.entries) }
+{
+    records.glyphs.shift_remove(name);
+}
