@@ -9,6 +9,7 @@ use Rattle.t1_font.specs.Bodies.{bodies, SameBodies}
 use Rattle.t1_font.specs.Glyphs.{glyph_names}
 use Rattle.t1_cache.specs.declared.records.Named.{Named}
 use Rattle.t1_cache.specs.declared.records.Records.{Records}
+use Rattle.t1_cache.specs.Bodies.{record_bodies}
 use Rattle.t1_cache.specs.Edited.{IsEditedAt}
 use Rattle.t1_cache.specs.Kept.{KeepsAll}
 use Rattle.t1_cache.specs.Renewed.{kept_of}
