@@ -33,12 +33,12 @@ use Rattle.t1_cache.specs.Edited.{IsEditedAt, is_stale, stale}
 use Rattle.t1_cache.specs.Kept.{shown, shown_from}
 use Rattle.t1_cache.specs.Laws.{check}
 use Rattle.t1_cache.specs.Renewal.{IsFromScratch, kept_by}
-use Rattle.t1_cache.specs.Renewed.{kept_of}
+use Rattle.t1_cache.specs.Renewed.{kept_of, recorded_run}
 use Rattle.t1_cache.proofs.Judging.{first_fault_stale}
 use Rattle.t1_cache.proofs.Renewing.{glyphs-of}
 use Rattle.t1_rerun.specs.Newest.{newest_among}
 use Rattle.t1_rerun.specs.Renewals.{rerun_names, HasBox, HasRun, IsMeasured, IsRerun}
-use Rattle.t1_rerun.proofs.Meeting.{all-among, among-off, among-passing, glyph-among, none-own, own-is, newest-is, own-body}
+use Rattle.t1_rerun.proofs.Meeting.{all-among, some-own, among-off, among-passing, glyph-among, none-own, own-is, newest-is, own-body}
 
 abbrev Runs : Type 0
 Runs = List ℕ → Option (Result Drawing Code)
@@ -115,6 +115,45 @@ box-measured run (m ∷ metrics) g box all (inl h) =
     (all.0.drawing, (all.0.segments, (ap run (sym h.0) ∙ all.0.ran, (ap (outline_within run 4) (sym h.0) ∙ all.0.draws, sym h.1 ∙ all.0.box))))
 box-measured run (m ∷ metrics) g box all (inr h) = box-measured run metrics g box all.1 h
 
+ok-run : (k : Option (Result NumberedRun Code)) (d : Drawing) → option_map drawing_kept k ≡ Some (Ok d) → (r : NumberedRun) × (k ≡ Some (Ok r))
+ok-run None d e = absurd (cc)
+ok-run (Some (Err code)) d e = absurd (cc)
+ok-run (Some (Ok r)) d e = (r, refl)
+
+-- a glyph among these names, with a body
+IsHere : FontBodies → List (List ℕ) → List ℕ → Type 0
+IsHere m names g = (list_any (bytes_eq g) names ≡ true) × ((b : List Command) × (m.glyphs g ≡ Some b))
+
+all-here : (m : FontBodies) (names xs : List (List ℕ)) → AllByRecursion (λ g. (b : List Command) × (m.glyphs g ≡ Some b)) xs
+    → AllByRecursion (λ x. list_any (bytes_eq x) names ≡ true) xs → AllByRecursion (IsHere m names) xs
+all-here m names [] h i = tt
+all-here m names (g ∷ xs) h i = ((i.0, h.0), all-here m names xs h.1 i.1)
+
+all-of-map : (P : List ℕ → Type 0) (ms : List GlyphMetrics) → AllByRecursion P (map (λ x. x.name) ms) → AllByRecursion (λ x. P x.name) ms
+all-of-map P [] h = tt
+all-of-map P (x ∷ ms) h = (h.0, all-of-map P ms h.1)
+
+-- each glyph that was measured by the newest runs has its run among those that are kept
+pub have-runs : (m : FontBodies) (names : List (List ℕ)) (records : Records) → AllByRecursion (λ g. (b : List Command) × (m.glyphs g ≡ Some b)) names
+    → (runs : List KeptRun) → ((g : List ℕ) → run_of runs g ≡ own_among m names g)
+    → (metrics : List GlyphMetrics) → glyph_metrics_among (newest_among m names records) names ≡ Ok metrics → AllByRecursion (HasRun runs) metrics
+have-runs m names records there runs runs-are metrics measured =
+    go metrics all.0 (all-of-map (IsHere m names) metrics (subst (AllByRecursion (IsHere m names)) (sym all.1) (all-here m names names there (all-among names names (λ x h. h)))))
+  where
+    all : AllByRecursion (IsMeasured (newest_among m names records)) metrics × (map (λ x. x.name) metrics ≡ names)
+    all = measured-all (newest_among m names records) names metrics measured
+
+    one : (x : GlyphMetrics) → IsMeasured (newest_among m names records) x → IsHere m names x.name → HasRun runs x
+    one x is here =
+        let own_run = some-own m x.name here.1.0 here.1.1 in
+        let among : own_among m names x.name ≡ Some own_run.0 = ap (λ b. cond b (own m x.name) None) here.0 ∙ own_run.1 in
+        let newest : newest_among m names records x.name ≡ Some own_run.0 = ap (λ r. option_or r (recorded_run records x.name)) among in
+        ok-run (run_kept runs x.name) is.drawing (runs-are x.name ∙ among ∙ sym newest ∙ is.ran)
+
+    go : (ms : List GlyphMetrics) → AllByRecursion (IsMeasured (newest_among m names records)) ms → AllByRecursion (λ x. IsHere m names x.name) ms → AllByRecursion (HasRun runs) ms
+    go [] ran here = tt
+    go (x ∷ ms) ran here = (one x ran.0 here.0, go ms ran.1 here.1)
+
 -- ---- an edited source
 
 module _ (keys : List Key) (old new : SourceParts) (told : List Told) (edit : IsEditedAt keys old new) (was : source_glyphs old ≡ Ok told)
@@ -125,16 +164,16 @@ module _ (keys : List Key) (old new : SourceParts) (told : List Told) (edit : Is
   newest : Runs
   newest = newest_among m (stale old keys new) records
 
-  each : (names : List (List ℕ)) → AllByRecursion (λ g. (b : List Command) × ((bodies new.items).glyphs g ≡ Some b)) names
+  newest-all : (names : List (List ℕ)) → AllByRecursion (λ g. (b : List Command) × ((bodies new.items).glyphs g ≡ Some b)) names
       → AllByRecursion (λ g. (newest g ≡ own (bodies new.items) g) × (outline_within newest 4 g ≡ outline (bodies new.items) g)) names
-  each [] h = tt
-  each (g ∷ names) h = (newest-is keys old new told edit was records kept m bodies-are g h.0.0 h.0.1, each names h.1)
+  newest-all [] h = tt
+  newest-all (g ∷ names) h = (newest-is keys old new told edit was records kept m bodies-are g h.0.0 h.0.1, newest-all names h.1)
 
   told-are : glyph_metrics_among newest (stale old keys new) ≡ (glyphs (bodies new.items) (stale old keys new) >>= (λ gs. Ok (map glyph_metrics gs)))
   unfolding glyph_metrics_among
   told-are =
       ap (λ r. r >>= (λ gs. Ok (map glyph_metrics gs)))
-      (glyphs-same newest (own (bodies new.items)) (outline_within newest 4) (outline (bodies new.items)) (stale old keys new) (each (stale old keys new) there))
+      (glyphs-same newest (own (bodies new.items)) (outline_within newest 4) (outline (bodies new.items)) (stale old keys new) (newest-all (stale old keys new) there))
 
   module _ (file : file_check new ≡ Ok tt) where
     checked-is : source_check new ≡ check (glyphs (bodies new.items) (stale old keys new))
@@ -169,37 +208,6 @@ module _ (keys : List Key) (old new : SourceParts) (told : List Told) (edit : Is
       by : (b : Bool) → cond b (own m g) None ≡ Some r → own m g ≡ Some r
       by true h = h
       by false h = let never : ◌≡◌ {A = Option (Result Drawing Code)} None (Some r) = h in absurd (cc)
-
-    ok-run : (k : Option (Result NumberedRun Code)) (d : Drawing) → option_map drawing_kept k ≡ Some (Ok d) → (r : NumberedRun) × (k ≡ Some (Ok r))
-    ok-run None d e = absurd (cc)
-    ok-run (Some (Err code)) d e = absurd (cc)
-    ok-run (Some (Ok r)) d e = (r, refl)
-
-    -- each glyph that was measured has its run
-    pub have-runs : AllByRecursion (HasRun runs) metrics
-    have-runs = go metrics all-measured.0 (all-of-map (λ x. x.name) metrics (subst (AllByRecursion IsHere) (sym all-measured.1) (all-here (stale old keys new) there among))) where
-      IsHere : List ℕ → Type 0
-      IsHere g = (list_any (bytes_eq g) (stale old keys new) ≡ true) × ((b : List Command) × ((bodies new.items).glyphs g ≡ Some b))
-
-      among : AllByRecursion (λ x. list_any (bytes_eq x) (stale old keys new) ≡ true) (stale old keys new)
-      among = all-among (stale old keys new) (stale old keys new) (λ x h. h)
-
-      all-here : (names : List (List ℕ)) → AllByRecursion (λ g. (b : List Command) × ((bodies new.items).glyphs g ≡ Some b)) names
-          → AllByRecursion (λ x. list_any (bytes_eq x) (stale old keys new) ≡ true) names → AllByRecursion IsHere names
-      all-here [] h i = tt
-      all-here (g ∷ names) h i = ((i.0, h.0), all-here names h.1 i.1)
-
-      all-of-map : (f : GlyphMetrics → List ℕ) (ms : List GlyphMetrics) → AllByRecursion IsHere (map f ms) → AllByRecursion (λ x. IsHere (f x)) ms
-      all-of-map f [] h = tt
-      all-of-map f (x ∷ ms) h = (h.0, all-of-map f ms h.1)
-
-      go : (ms : List GlyphMetrics) → AllByRecursion (IsMeasured newest) ms → AllByRecursion (λ x. IsHere x.name) ms → AllByRecursion (HasRun runs) ms
-      go [] all here = tt
-      go (x ∷ ms) all here =
-          let same = newest-is keys old new told edit was records kept m bodies-are x.name here.0.1.0 here.0.1.1 in
-          let runs_it : run_of runs x.name ≡ Some (Ok all.0.drawing) =
-          runs-are x.name ∙ ap (λ b. cond b (own m x.name) None) here.0.0 ∙ own-is keys old new told edit was records kept m bodies-are x.name ∙ sym same.0 ∙ all.0.ran in
-          (ok-run (run_kept runs x.name) all.0.drawing runs_it, go ms all.1 here.1)
 
     scratch-one : (r : Rerun) → IsRerun runs metrics r → IsFromScratch (bodies new.items) (kept_by r)
     scratch-one r is =

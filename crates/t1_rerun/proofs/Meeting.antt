@@ -129,7 +129,7 @@ pub none-own : (m : FontBodies) (g : List ℕ) → m.glyphs g ≡ None → own m
 unfolding own
 none-own m g e = ap (own_of m) e
 
-some-own : (m : FontBodies) (g : List ℕ) (b : List Command) → m.glyphs g ≡ Some b → (r : Result Drawing Code) × (own m g ≡ Some r)
+pub some-own : (m : FontBodies) (g : List ℕ) (b : List Command) → m.glyphs g ≡ Some b → (r : Result Drawing Code) × (own m g ≡ Some r)
 unfolding own
 some-own m g b e = (_, ap (own_of m) e)
 
