@@ -121,7 +121,7 @@ ok-run (Some (Err code)) d e = absurd (cc)
 ok-run (Some (Ok r)) d e = (r, refl)
 
 -- a glyph among these names, with a body
-IsHere : FontBodies → List (List ℕ) → List ℕ → Type 0
+abbrev IsHere : FontBodies → List (List ℕ) → List ℕ → Type 0
 IsHere m names g = (list_any (bytes_eq g) names ≡ true) × ((b : List Command) × (m.glyphs g ≡ Some b))
 
 all-here : (m : FontBodies) (names xs : List (List ℕ)) → AllByRecursion (λ g. (b : List Command) × (m.glyphs g ≡ Some b)) xs
@@ -161,7 +161,7 @@ module _ (keys : List Key) (old new : SourceParts) (told : List Told) (edit : Is
     (m : FontBodies) (bodies-are : SameBodies m (bodies new.items))
     (there : AllByRecursion (λ g. (b : List Command) × ((bodies new.items).glyphs g ≡ Some b)) (stale old keys new)) where
 
-  newest : Runs
+  abbrev newest : Runs
   newest = newest_among m (stale old keys new) records
 
   newest-all : (names : List (List ℕ)) → AllByRecursion (λ g. (b : List Command) × ((bodies new.items).glyphs g ≡ Some b)) names

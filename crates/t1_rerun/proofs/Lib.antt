@@ -1,3 +1,4 @@
 pub mod Gathering
 pub mod Meeting
+pub mod Reaching
 pub mod Taking

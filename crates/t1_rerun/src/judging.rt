@@ -14,11 +14,10 @@ ghost use Rattle.t1_rerun.specs.Renewals.{IsLater, IsRenewal};
 ghost use Rattle.t1_rerun.specs.Right.{IsEdit};
 
 use crate::newest::Newest;
-use crate::renewal::Renewal;
-use crate::reruns::reruns_of;
+use crate::renewal::{Renewal, renewal_of};
 use crate::stale::stale_among;
 use std::alloc::Global;
-use t1_cache::{Named, Records, found, joins_of, leaves_of};
+use t1_cache::{Named, Records, found};
 use t1_font::{GlyphMetrics, Runs, glyph_metrics_of, runs_of};
 use t1_frac::Refusal;
 use t1_run::{Bodies, Meter};
@@ -65,13 +64,6 @@ pub fn rerun<B: Bodies>(
 {
     let found = found(alloc, records, edits)?;
     let stale = stale_among(alloc, names, &found)?;
-    let (mut runs, metrics) = judged(alloc, records, bodies, &stale, meter)?;
-    let leaves = leaves_of(alloc, records, found.as_slice())?;
-    let joins = joins_of(alloc, &runs, &stale)?;
-    let reruns = reruns_of(alloc, &mut runs, &metrics)?;
-    Ok(Renewal {
-        reruns,
-        leaves,
-        joins,
-    })
+    let (runs, metrics) = judged(alloc, records, bodies, &stale, meter)?;
+    Ok(renewal_of(alloc, records, found.as_slice(), &stale, runs, &metrics)?)
 }

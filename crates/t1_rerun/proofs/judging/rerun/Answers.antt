@@ -1,62 +1,126 @@
-use Rattle.std.proofs.Common.{rules, ◌≡◌, All, IsSome, IfOk, List, ℕ, Ok, length, map, ◌+◌, ◌-◌, ◌*◌, ◌<◌, ◌≤◌, ◌/◌, ◌%◌, Bool, true, false, nat_eq, nat_lt, [], ◌∷◌, ◌++◌, slice_index_or, slice_set, bit_and, bit_or, Fits, w8, w32, w64, Bor, MutBor}
-use Rattle.std.specs.List.{AllByRecursion}
-use Rattle.t1_frac.specs.Outcome.{Gives}
-use Rattle.t1_parts.specs.SourceParts.{SourceParts}
+use Rattle.std.proofs.Common.{◌≡◌, ◌∙◌, ap, map, sym, length, subst, List, Some}
+use Rattle.std.specs.Prelude.{◌&&◌}
+use Rattle.std.specs.Str.{bytes_eq}
+use Rattle.t1_code.specs.declared.command.Command.{Command}
+use Rattle.t1_run.specs.Touched.{is_user}
+use Rattle.t1_font.specs.Runs.{counted, kept_of as run_of}
+use Rattle.t1_cache.specs.Renewed.{recorded_run}
+use Rattle.std.proofs.lemmas.Result.{err_from_is_err_and}
 use Rattle.t1_run.specs.Run.{font}
-use Rattle.t1_font.specs.MeasuredGlyphs.{glyph_metrics_among}
-use Rattle.t1_font.specs.Runs.{own_among, kept_of, run_kept, Counts, IsAfter}
-use Rattle.t1_font.specs.SourceChecks.{source_check}
+use Rattle.t1_font.specs.Bodies.{bodies}
+use Rattle.t1_cache.specs.Users.{has, key_of}
 use Rattle.t1_cache.specs.Edited.{stale}
-use Rattle.t1_cache.specs.Users.{key_of}
-use Rattle.t1_rerun.specs.Newest.{newest_among}
-use Rattle.t1_rerun.specs.Renewals.{IsLater, IsRenewal}
-use Rattle.t1_rerun.specs.Right.{IsEdit}
+use Rattle.std.specs.List.{AllByRecursion, list_any}
+use Rattle.t1_rerun.specs.Renewals.{HasRun, IsRerun}
+use Rattle.t1_rerun.proofs.Gathering.{have-runs}
+use Rattle.t1_rerun.proofs.Reaching.{all-passing, all-some, some-all, all-later, has-names, length-map, counts-none, counts-all, counts-same, stale-names, is-faultless, is-refused, is-renewal}
 use Rattle.t1_rerun.proofs.judging.rerun.Goals as goal
 
--- src/judging.rt:67:17
 pub returns-in_err-stale-clause-counted : goal.returns-in_err-stale-clause-counted
-returns-in_err-stale-clause-counted g c = ?
+returns-in_err-stale-clause-counted g c = λ old new e.
+    let p = err_from_is_err_and c.from_residual-in_err-stale.result c.from_residual-in_err-stale.ensures.1 in
+    counts-none (length (stale old (map key_of c.args.edits.now) new)) c.args.meter.now c.from_residual-in_err-stale.result p.0 p.1 p.2
 
--- src/judging.rt:68:31
 pub judged-requires : goal.judged-requires
-judged-requires g c = ?
+judged-requires g c =
+    let glyphs = g.B.Bodies.glyphs c.args.bodies.now in
+    let found = has (λ name. name.now) c.in_ok-found.found.keys in
+    some-all glyphs c.deref.result.now
+    (subst (AllByRecursion (λ x. (b : List Command) × (glyphs x ≡ Some b))) (sym (ap (map (λ name. name.now)) c.deref.ensures.value ∙ c.in_ok-stale.ensures))
+    (all-passing (λ x. (b : List Command) × (glyphs x ≡ Some b)) found (map (λ name. name.now) c.args.names.now) (all-some glyphs c.args.names.now c.requires)))
 
--- src/judging.rt:68:31
+pub renewal_of-requires : goal.renewal_of-requires
+renewal_of-requires g c =
+    let m = font (g.B.Bodies.subrs c.args.bodies.now) (g.B.Bodies.glyphs c.args.bodies.now) in
+    let found = has (λ name. name.now) c.in_ok-found.found.keys in
+    let some = map (λ name. name.now) c.deref.result.now in
+    subst (AllByRecursion (HasRun c.in_ok-runs.runs)) (sym c.deref-3.ensures.value)
+    (have-runs m some c.args.records.now
+    (subst (AllByRecursion (λ x. (b : List Command) × (m.glyphs x ≡ Some b))) (sym (ap (map (λ name. name.now)) c.deref.ensures.value ∙ c.in_ok-stale.ensures))
+    (all-passing (λ x. (b : List Command) × (m.glyphs x ≡ Some b)) found (map (λ name. name.now) c.args.names.now) (all-some m.glyphs c.args.names.now c.requires)))
+    c.in_ok-runs.runs c.in_ok-runs.ensures.kept c.in_ok-runs.metrics.items c.in_ok-runs.ensures.told)
+
 pub returns-in_err-runs-clause-checked : goal.returns-in_err-runs-clause-checked
-returns-in_err-runs-clause-checked g c = ?
+returns-in_err-runs-clause-checked g c = λ old new e.
+    let m = font (g.B.Bodies.subrs c.args.bodies.now) (g.B.Bodies.glyphs c.args.bodies.now) in
+    let names = map (λ name. name.now) c.args.names.now in
+    let some = map (λ name. name.now) c.deref.result.now in
+    let found = has (λ name. name.now) c.in_ok-found.found.keys in
+    let p = err_from_is_err_and c.from_residual-in_err-runs.result c.from_residual-in_err-runs.ensures.1 in
+    rw (p.1, p.2)
+    (is-refused c.args.edits.now old new c.args.records.now m names e (all-some m.glyphs c.args.names.now c.requires) found
+    (c.in_ok-found.ensures.stale (bodies old.items) e.right.users) some (ap (map (λ name. name.now)) c.deref.ensures.value ∙ c.in_ok-stale.ensures)
+    c.in_err-runs.field-0.0 c.in_err-runs.ensures.told)
 
--- src/judging.rt:68:31
 pub returns-in_err-runs-clause-counted : goal.returns-in_err-runs-clause-counted
-returns-in_err-runs-clause-counted g c = ?
+returns-in_err-runs-clause-counted g c = λ old new e.
+    let m = font (g.B.Bodies.subrs c.args.bodies.now) (g.B.Bodies.glyphs c.args.bodies.now) in
+    let names = map (λ name. name.now) c.args.names.now in
+    let some = map (λ name. name.now) c.deref.result.now in
+    let found = has (λ name. name.now) c.in_ok-found.found.keys in
+    let p = err_from_is_err_and c.from_residual-in_err-runs.result c.from_residual-in_err-runs.ensures.1 in
+    let equal = sym (length-map (λ name. name.now) c.deref.result.now)
+    ∙ ap length (stale-names c.args.edits.now old new c.args.records.now m names e (all-some m.glyphs c.args.names.now c.requires) found
+    (c.in_ok-found.ensures.stale (bodies old.items) e.right.users) some (ap (map (λ name. name.now)) c.deref.ensures.value ∙ c.in_ok-stale.ensures)) in
+    counts-same (length c.deref.result.now) (length (stale old (map key_of c.args.edits.now) new)) c.args.meter.now c.judged.new.meter c.judged.result c.from_residual-in_err-runs.result
+    c.in_err-runs.field-0.0 p.0 (c.in_err-runs.was) p.1 p.2 equal c.judged.ensures.counted
 
--- src/judging.rt:69:18
-pub returns-in_err-leaves-clause-counted : goal.returns-in_err-leaves-clause-counted
-returns-in_err-leaves-clause-counted g c = ?
+pub returns-in_err-renewal_of-clause-counted : goal.returns-in_err-renewal_of-clause-counted
+returns-in_err-renewal_of-clause-counted g c = λ old new e.
+    let m = font (g.B.Bodies.subrs c.args.bodies.now) (g.B.Bodies.glyphs c.args.bodies.now) in
+    let names = map (λ name. name.now) c.args.names.now in
+    let some = map (λ name. name.now) c.deref.result.now in
+    let found = has (λ name. name.now) c.in_ok-found.found.keys in
+    let p = err_from_is_err_and c.from_residual-in_err-renewal_of.result c.from_residual-in_err-renewal_of.ensures.1 in
+    let equal = sym (length-map (λ name. name.now) c.deref.result.now)
+    ∙ ap length (stale-names c.args.edits.now old new c.args.records.now m names e (all-some m.glyphs c.args.names.now c.requires) found
+    (c.in_ok-found.ensures.stale (bodies old.items) e.right.users) some (ap (map (λ name. name.now)) c.deref.ensures.value ∙ c.in_ok-stale.ensures)) in
+    counts-all (length c.deref.result.now) (length (stale old (map key_of c.args.edits.now) new)) c.args.meter.now c.judged.new.meter c.from_residual-in_err-renewal_of.result
+    p.0 p.1 p.2 c.in_ok-runs.ensures.counted equal
 
--- src/judging.rt:70:17
-pub returns-in_err-joins-clause-counted : goal.returns-in_err-joins-clause-counted
-returns-in_err-joins-clause-counted g c = ?
-
--- src/judging.rt:71:18
-pub reruns_of-requires : goal.reruns_of-requires
-reruns_of-requires g c = ?
-
--- src/judging.rt:71:18
-pub returns-in_err-reruns-clause-counted : goal.returns-in_err-reruns-clause-counted
-returns-in_err-reruns-clause-counted g c = ?
-
--- src/judging.rt:52:1
 pub returns-clause-checked : goal.returns-clause-checked
-returns-clause-checked g c = ?
+returns-clause-checked g c = λ old new e.
+    let m = font (g.B.Bodies.subrs c.args.bodies.now) (g.B.Bodies.glyphs c.args.bodies.now) in
+    let names = map (λ name. name.now) c.args.names.now in
+    let some = map (λ name. name.now) c.deref.result.now in
+    let found = has (λ name. name.now) c.in_ok-found.found.keys in
+    is-faultless c.args.edits.now old new c.args.records.now m names e (all-some m.glyphs c.args.names.now c.requires) found
+    (c.in_ok-found.ensures.stale (bodies old.items) e.right.users) some (ap (map (λ name. name.now)) c.deref.ensures.value ∙ c.in_ok-stale.ensures)
+    c.in_ok-runs.metrics.items c.in_ok-runs.ensures.told
 
--- src/judging.rt:52:1
 pub returns-clause-renewal : goal.returns-clause-renewal
-returns-clause-renewal g c = ?
+returns-clause-renewal g c = λ old new e.
+    let m = font (g.B.Bodies.subrs c.args.bodies.now) (g.B.Bodies.glyphs c.args.bodies.now) in
+    let names = map (λ name. name.now) c.args.names.now in
+    let some = map (λ name. name.now) c.deref.result.now in
+    let found = has (λ name. name.now) c.in_ok-found.found.keys in
+    let runs = c.in_ok-runs.runs in
+    let renewal = c.in_ok-renewal_of.field-0 in
+    is-renewal c.args.edits.now old new c.args.records.now m names e (all-some m.glyphs c.args.names.now c.requires) found
+    (c.in_ok-found.ensures.stale (bodies old.items) e.right.users) some (ap (map (λ name. name.now)) c.deref.ensures.value ∙ c.in_ok-stale.ensures)
+    c.in_ok-runs.metrics.items c.in_ok-runs.ensures.told runs c.in_ok-runs.ensures.kept renewal
+    (subst (λ ms. AllByRecursion (IsRerun runs ms) renewal.reruns.items) c.deref-3.ensures.value c.in_ok-renewal_of.ensures.each)
+    (λ x. c.in_ok-renewal_of.ensures.names x ∙ ap (list_any (λ y. bytes_eq x y.name)) c.deref-3.ensures.value)
+    (λ k u. c.in_ok-renewal_of.ensures.leaves k u ∙ ap (λ l. has (λ name. name.now) l u && is_user k (recorded_run c.args.records.now u)) c.as_slice.ensures.keys)
+    (λ k u. c.in_ok-renewal_of.ensures.joins k u
+    ∙ ap (λ b. b && is_user k (run_of runs u)) (has-names c.deref-2.result.now u
+    ∙ ap (list_any (bytes_eq u)) (ap (map (λ name. name.now)) (c.deref-2.ensures.value ∙ sym c.deref.ensures.value))))
 
--- src/judging.rt:52:1
 pub returns-clause-later : goal.returns-clause-later
-returns-clause-later g c = ?
+returns-clause-later g c =
+    let runs = c.in_ok-runs.runs in
+    let metrics = c.in_ok-runs.metrics.items in
+    let reruns = c.in_ok-renewal_of.field-0.reruns.items in
+    all-later c.args.meter.now runs metrics c.in_ok-runs.ensures.after reruns
+    (subst (λ ms. AllByRecursion (IsRerun runs ms) reruns) c.deref-3.ensures.value c.in_ok-renewal_of.ensures.each)
 
--- src/judging.rt:52:1
 pub returns-clause-counted : goal.returns-clause-counted
-returns-clause-counted g c = ?
+returns-clause-counted g c = λ old new e.
+    let m = font (g.B.Bodies.subrs c.args.bodies.now) (g.B.Bodies.glyphs c.args.bodies.now) in
+    let names = map (λ name. name.now) c.args.names.now in
+    let some = map (λ name. name.now) c.deref.result.now in
+    let found = has (λ name. name.now) c.in_ok-found.found.keys in
+    let equal = sym (length-map (λ name. name.now) c.deref.result.now)
+    ∙ ap length (stale-names c.args.edits.now old new c.args.records.now m names e (all-some m.glyphs c.args.names.now c.requires) found
+    (c.in_ok-found.ensures.stale (bodies old.items) e.right.users) some (ap (map (λ name. name.now)) c.deref.ensures.value ∙ c.in_ok-stale.ensures)) in
+    subst (λ n. c.judged.new.meter ≡ counted c.args.meter.now n) equal c.in_ok-runs.ensures.counted
