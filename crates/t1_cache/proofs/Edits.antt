@@ -86,7 +86,7 @@ key-of (pos m) n e =
     ]
 key-of (negsuc m) n e = absurd (cc)
 
-made-items : (s made : SourceParts) (xs : List Item) → ◌≡◌ {A = Result SourceParts Rule} (Ok (with_items s xs)) (Ok made) → made.items ≡ raised xs
+pub made-items : (s made : SourceParts) (xs : List Item) → ◌≡◌ {A = Result SourceParts Rule} (Ok (with_items s xs)) (Ok made) → made.items ≡ raised xs
 made-items s made xs e = let is : with_items s xs ≡ made = cc in ap (λ t. t.items) (sym is)
 
 made-clear : (s made : SourceParts) (ls : List (List ℕ)) → ◌≡◌ {A = Result SourceParts Rule} (Ok (with_clear s ls)) (Ok made) → s.items ≡ made.items

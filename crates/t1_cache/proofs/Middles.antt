@@ -68,7 +68,7 @@ glyph-raised s g (items.Section b k a ∷ is) n = glyph-raised s g is n
 glyph-raised s g (items.Subr m ws c ∷ is) n = glyph-raised s g is n
 glyph-raised s g (items.Glyph h ws c ∷ is) n = ap (option_or (glyph_in (items.Glyph h ws c) n)) (glyph-raised s g is n)
 
-names-raised : (s g : ℕ) (items : List Item) → glyph_names (map (raised_item s g) items) ≡ glyph_names items
+pub names-raised : (s g : ℕ) (items : List Item) → glyph_names (map (raised_item s g) items) ≡ glyph_names items
 names-raised s g [] = refl
 names-raised s g (items.Plain l ∷ is) = names-raised s g is
 names-raised s g (items.Section b k a ∷ is) = names-raised s g is

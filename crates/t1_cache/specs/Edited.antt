@@ -1,5 +1,6 @@
 -- What edits name, and the glyphs that they make stale.
-use Rattle.std.specs.Prelude.{◌≡◌, ℕ, ℤ, pos, negsuc, Bool, not, List, [], ◌∷◌, filter}
+use Rattle.std.specs.Prelude.{◌≡◌, ℕ, ℤ, pos, negsuc, Bool, not, List, [], ◌∷◌, ◌++◌, filter}
+use Rattle.std.specs.Str.{bytes_eq}
 use Rattle.t1_parts.specs.SourceParts.{SourceParts}
 use Rattle.t1_source.specs.declared.edit.Edit.{Edit}
 use Rattle.t1_source.specs.declared.edit.Edit.TheVariants.{ReplaceGlyph, AddGlyph, RemoveGlyph, ReplaceSubr, AddSubr, RemoveSubr, Encode, Unencode, Kern, Unkern}
@@ -39,3 +40,9 @@ is_stale s keys g = is_touched (bodies s.items) keys g
 -- those of the edited source, in its order
 abbrev pub stale : SourceParts → List Key → SourceParts → List (List ℕ)
 stale old keys new = filter (is_stale old keys) (glyph_names new.items)
+
+-- profile, edits: the names of the glyphs after an edit: a new glyph is the last one, and the others keep their order
+abbrev pub names_after : Edit → List (List ℕ) → List (List ℕ)
+names_after (AddGlyph g body) names = names ++ g ∷ []
+names_after (RemoveGlyph g) names = filter (λ name. not (bytes_eq g name)) names
+names_after _ names = names

@@ -1,7 +1,8 @@
 //! Laws of edited sources, and of what is kept of a font under edits.
 ghost use Rattle.t1_cache.specs.Changed.{ChangedBodiesLaw, RestLaw};
 ghost use Rattle.t1_cache.specs.Joins.{AllDrawLaw, FirstTablesLaw, JoinsLaw, KeptRunLaw, LessTablesLaw, StaleFoundLaw};
-ghost use Rattle.t1_cache.specs.Laws.{CountLaw, DistinctLaw, EditLaw, FirstFaultLaw, MiddleLaw, NewestLaw, TurnLaw};
+ghost use Rattle.t1_cache.specs.Kept.{KeptNamesLaw};
+ghost use Rattle.t1_cache.specs.Laws.{CountLaw, DistinctLaw, EditLaw, FirstFaultLaw, MiddleLaw, NamesLaw, NewestLaw, TurnLaw};
 ghost use Rattle.t1_cache.specs.Overlay.{OverlayLaw};
 ghost use Rattle.t1_cache.specs.Renewal.{RenewalLaw, RerunsLaw};
 ghost use Rattle.t1_cache.specs.Room.{RoomLaw};
@@ -15,6 +16,11 @@ pub fn middle()
 /// Each edit changes a source at the key that it names, and nowhere else.
 pub fn edits()
     ensures { EditLaw }
+{}
+
+/// Each edit leaves the names of the glyphs in their order: a new one is the last.
+pub fn names()
+    ensures { NamesLaw }
 {}
 
 /// Edits taken in turn change a source at the keys of all.
@@ -107,4 +113,9 @@ pub fn changed_bodies()
 /// Records that differ in their users alone have the same bodies, runs and boxes.
 pub fn rest()
     ensures { RestLaw }
+{}
+
+/// The records of a source bear the names of its glyphs, in source order.
+pub fn kept_names()
+    ensures { KeptNamesLaw }
 {}
