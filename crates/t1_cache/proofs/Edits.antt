@@ -75,7 +75,7 @@ subr-among n (items.Subr m ws c) h = inl (ap Subr (eqb-true n m h))
 subr-among n (items.Glyph name ws c) h = cc
 
 -- the number of a Subr that is in range
-key-of : (v : ℤ) (n : ℕ) → number_up_to 32000 v ≡ Ok n → Subr n ∷ [] ≡ subr_key v
+pub key-of : (v : ℤ) (n : ℕ) → number_up_to 32000 v ≡ Ok n → Subr n ∷ [] ≡ subr_key v
 key-of (pos m) n e =
     elim (cases_Bool (nat_le m 32000)) [
       | inl small ↦

@@ -3,7 +3,7 @@ ghost use Rattle.t1_cache.specs.Changed.{ChangedBodiesLaw, RestLaw};
 ghost use Rattle.t1_cache.specs.Joins.{AllDrawLaw, FirstTablesLaw, JoinsLaw, KeptRunLaw, LessTablesLaw, StaleFoundLaw};
 ghost use Rattle.t1_cache.specs.Kept.{KeptNamesLaw};
 ghost use Rattle.t1_cache.specs.Laws.{CountLaw, DistinctLaw, EditLaw, FirstFaultLaw, MiddleLaw, NamesLaw, NewestLaw, TurnLaw};
-ghost use Rattle.t1_cache.specs.Overlay.{OverlayLaw};
+ghost use Rattle.t1_cache.specs.Overlay.{BodyLaw, OverlayLaw};
 ghost use Rattle.t1_cache.specs.Renewal.{RenewalLaw, RerunsLaw};
 ghost use Rattle.t1_cache.specs.Room.{RoomLaw};
 ghost use Rattle.t1_cache.specs.There.{UsesThereLaw};
@@ -31,6 +31,11 @@ pub fn turn()
 /// Bodies with those changed that an edit changes are the bodies of the edited font.
 pub fn overlay()
     ensures { OverlayLaw }
+{}
+
+/// The edited font has the body of the edit at the key that the edit names, or none where it removes one.
+pub fn body()
+    ensures { BodyLaw }
 {}
 
 /// Of a source that was edited, only stale glyphs can have a fault, and the first of theirs is its first.
