@@ -76,7 +76,7 @@ subr-among n (items.Subr m ws c) h = inl (ap Subr (eqb-true n m h))
 subr-among n (items.Glyph name ws c) h = cc
 
 -- the number of a Subr that is in range
-key-of : (v : ℤ) (n : ℕ) → number_up_to 32000 v ≡ Ok n → Subr n ∷ [] ≡ subr_key v
+pub key-of : (v : ℤ) (n : ℕ) → number_up_to 32000 v ≡ Ok n → Subr n ∷ [] ≡ subr_key v
 key-of (pos m) n e =
     elim (cases_Bool (nat_le m 32000)) [
       | inl small ↦
@@ -87,7 +87,7 @@ key-of (pos m) n e =
     ]
 key-of (negsuc m) n e = absurd (cc)
 
-made-items : (s made : SourceParts) (xs : List Item) → ◌≡◌ {A = Result SourceParts Rule} (Ok (with_items s xs)) (Ok made) → made.items ≡ raised xs
+pub made-items : (s made : SourceParts) (xs : List Item) → ◌≡◌ {A = Result SourceParts Rule} (Ok (with_items s xs)) (Ok made) → made.items ≡ raised xs
 made-items s made xs e = let is : with_items s xs ≡ made = cc in ap (λ t. t.items) (sym is)
 
 made-clear : (s made : SourceParts) (ls : List (List ℕ)) → ◌≡◌ {A = Result SourceParts Rule} (Ok (with_clear s ls)) (Ok made) → s.items ≡ made.items

@@ -4,6 +4,8 @@ pub mod Closing
 pub mod Counting
 pub mod Distinct
 pub mod Drawing
+pub mod EditedBodies
+pub mod EditedNames
 pub mod Edits
 pub mod Joining
 pub mod Judging

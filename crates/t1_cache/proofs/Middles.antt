@@ -54,21 +54,21 @@ glyph-middle g [] xs b h = glyph-past g xs b h
 glyph-middle g (i ∷ a) xs b h = ap (option_or (glyph_in i g)) (glyph-middle g a xs b h)
 
 -- counts have no bodies and no names
-subr-raised : (s g : ℕ) (items : List Item) (n : ℕ) → subr_among (map (raised_item s g) items) n ≡ subr_among items n
+pub subr-raised : (s g : ℕ) (items : List Item) (n : ℕ) → subr_among (map (raised_item s g) items) n ≡ subr_among items n
 subr-raised s g [] n = refl
 subr-raised s g (items.Plain l ∷ is) n = subr-raised s g is n
 subr-raised s g (items.Section b k a ∷ is) n = subr-raised s g is n
 subr-raised s g (items.Subr m ws c ∷ is) n = ap (option_or (subr_in (items.Subr m ws c) n)) (subr-raised s g is n)
 subr-raised s g (items.Glyph h ws c ∷ is) n = subr-raised s g is n
 
-glyph-raised : (s g : ℕ) (items : List Item) (n : List ℕ) → glyph_among (map (raised_item s g) items) n ≡ glyph_among items n
+pub glyph-raised : (s g : ℕ) (items : List Item) (n : List ℕ) → glyph_among (map (raised_item s g) items) n ≡ glyph_among items n
 glyph-raised s g [] n = refl
 glyph-raised s g (items.Plain l ∷ is) n = glyph-raised s g is n
 glyph-raised s g (items.Section b k a ∷ is) n = glyph-raised s g is n
 glyph-raised s g (items.Subr m ws c ∷ is) n = glyph-raised s g is n
 glyph-raised s g (items.Glyph h ws c ∷ is) n = ap (option_or (glyph_in (items.Glyph h ws c) n)) (glyph-raised s g is n)
 
-names-raised : (s g : ℕ) (items : List Item) → glyph_names (map (raised_item s g) items) ≡ glyph_names items
+pub names-raised : (s g : ℕ) (items : List Item) → glyph_names (map (raised_item s g) items) ≡ glyph_names items
 names-raised s g [] = refl
 names-raised s g (items.Plain l ∷ is) = names-raised s g is
 names-raised s g (items.Section b k a ∷ is) = names-raised s g is

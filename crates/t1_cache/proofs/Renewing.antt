@@ -19,7 +19,7 @@ use Rattle.t1_font.specs.Assembly.{file_check}
 use Rattle.t1_font.specs.SourceChecks.{source_glyphs}
 use Rattle.t1_run.proofs.Untouched.{untouched_kept}
 use Rattle.t1_cache.specs.Edited.{is_stale}
-use Rattle.t1_cache.specs.Kept.{shown, shown_from}
+use Rattle.t1_cache.specs.Kept.{shown, shown_from, KeptNamesLaw}
 use Rattle.t1_cache.specs.Renewed.{Kept}
 use Rattle.t1_cache.specs.Renewal.{IsFromScratch, IsOneOf, IsRenewed, RenewalLaw}
 
@@ -140,6 +140,28 @@ glyphs-of s told e = by (file_check s) e where
   by : (r : Result (Unit {0}) Fault) → (r >>= λ checked. glyphs (bodies s.items) (glyph_names s.items)) ≡ Ok told → glyphs (bodies s.items) (glyph_names s.items) ≡ Ok told
   by (Ok checked) e = e
   by (Err fault) e = absurd (cc)
+
+-- the records bear the names of the glyphs
+names-told : (m : FontBodies) (names : List (List ℕ)) (told : List Told) → glyphs m names ≡ Ok told → map (λ t. t.name) told ≡ names
+names-told m [] told e = ap (map (λ t. t.name)) (sym (given (Ok []) [] told refl e))
+names-told m (g ∷ names) told e =
+    let more = told-more m g names told e in
+    ap (map (λ t. t.name)) more.1.1.1.1
+    ∙ ap (λ x. x ∷ map (λ t. t.name) more.1.0) (sym more.1.1.0.name)
+    ∙ ap (λ l. g ∷ l) (names-told m names more.1.0 more.1.1.1.0)
+
+kept-shown : (records : List Kept) → map (λ k. k.name) records ≡ map (λ s. s.name) (map shown records)
+kept-shown [] = refl
+kept-shown (k ∷ records) = ap (λ l. k.name ∷ l) (kept-shown records)
+
+told-shown : (told : List Told) → map (λ s. s.name) (map shown_from told) ≡ map (λ t. t.name) told
+told-shown [] = refl
+told-shown (t ∷ told) = ap (λ l. t.name ∷ l) (told-shown told)
+
+pub names_kept : KeptNamesLaw
+names_kept s records keeps =
+    kept-shown records ∙ ap (map (λ s. s.name)) keeps.from_scratch ∙ told-shown keeps.glyphs
+    ∙ names-told (bodies s.items) (glyph_names s.items) keeps.glyphs (glyphs-of s keeps.glyphs keeps.faultless)
 
 pub renewed : RenewalLaw
 renewed keys old new edit told e kept records was order all =

@@ -1,8 +1,13 @@
 -- What edits name, and the glyphs that they make stale.
-use Rattle.std.specs.Prelude.{◌≡◌, ℕ, ℤ, pos, negsuc, Bool, not, List, [], ◌∷◌, filter}
+use Rattle.std.specs.Prelude.{◌≡◌, ℕ, ℤ, pos, negsuc, Bool, not, List, [], ◌∷◌, ◌++◌, filter, Option, None}
+use Rattle.std.specs.Result.{result_ok}
+use Rattle.std.specs.Str.{bytes_eq}
+use Rattle.t1_code.specs.Words.{commands}
+use Rattle.t1_code.specs.declared.command.Command.{Command}
 use Rattle.t1_parts.specs.SourceParts.{SourceParts}
 use Rattle.t1_source.specs.declared.edit.Edit.{Edit}
 use Rattle.t1_source.specs.declared.edit.Edit.TheVariants.{ReplaceGlyph, AddGlyph, RemoveGlyph, ReplaceSubr, AddSubr, RemoveSubr, Encode, Unencode, LenIv, Kern, Unkern}
+use Rattle.t1_source.specs.Editing.{body_words}
 use Rattle.t1_run.specs.Run.{Key, Subr, Glyph}
 use Rattle.t1_run.specs.Touched.{SameBut, is_named, is_touched}
 use Rattle.t1_font.specs.Bodies.{bodies}
@@ -40,3 +45,17 @@ is_stale s keys g = is_touched (bodies s.items) keys g
 -- those of the edited source, in its order
 abbrev pub stale : SourceParts → List Key → SourceParts → List (List ℕ)
 stale old keys new = filter (is_stale old keys) (glyph_names new.items)
+
+-- profile, edits: the names of the glyphs after an edit: a new glyph is the last one, and the others keep their order
+abbrev pub names_after : Edit → List (List ℕ) → List (List ℕ)
+names_after (AddGlyph g body) names = names ++ g ∷ []
+names_after (RemoveGlyph g) names = filter (λ name. not (bytes_eq g name)) names
+names_after _ names = names
+
+-- profile, edits: the body at the key that an edit names, after it, where its words are commands; none where it is removed
+abbrev pub body_after : Edit → Option (List Command)
+body_after (ReplaceGlyph g body) = result_ok (commands (body_words body))
+body_after (AddGlyph g body) = result_ok (commands (body_words body))
+body_after (ReplaceSubr n body) = result_ok (commands (body_words body))
+body_after (AddSubr n body) = result_ok (commands (body_words body))
+body_after _ = None

@@ -4,7 +4,7 @@ use Rattle.t1_parts.specs.SourceParts.{SourceParts}
 use Rattle.t1_run.specs.Run.{Drawing}
 use Rattle.t1_afm.specs.declared.bbox.BBox.{BBox}
 use Rattle.t1_afm.specs.Box.{drawn_box}
-use Rattle.t1_font.specs.Glyphs.{Glyph as Told}
+use Rattle.t1_font.specs.Glyphs.{Glyph as Told, glyph_names}
 use Rattle.t1_font.specs.SourceChecks.{source_glyphs}
 use Rattle.t1_cache.specs.Renewed.{Kept}
 
@@ -25,3 +25,7 @@ pub record KeepsAll (s : SourceParts) (records : List Kept) : Type 0 where
   pub glyphs : List Told
   pub faultless : source_glyphs s ≡ Ok glyphs
   pub from_scratch : map shown records ≡ map shown_from glyphs
+
+-- the records bear the names of the glyphs, in source order
+abbrev pub KeptNamesLaw : Type 0
+KeptNamesLaw = (s : SourceParts) (records : List Kept) → KeepsAll s records → map (λ k. k.name) records ≡ glyph_names s.items

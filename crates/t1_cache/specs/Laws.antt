@@ -19,7 +19,7 @@ use Rattle.t1_run.specs.Composite.{outline_within, outline}
 use Rattle.t1_code.specs.declared.command.Command.{Command}
 use Rattle.t1_font.specs.Bodies.{bodies}
 use Rattle.t1_font.specs.Glyphs.{Glyph as Told, glyphs, glyph_names}
-use Rattle.t1_cache.specs.Edited.{IsEditedAt, named, is_stale, stale}
+use Rattle.t1_cache.specs.Edited.{IsEditedAt, named, names_after, is_stale, stale}
 
 -- whether glyphs have no fault, or their first one
 abbrev pub check : {X : Type 0} → Result X Fault → Result (Unit {0}) Fault
@@ -47,6 +47,12 @@ MiddleLaw =
 -- each of the eleven edits changes a source at the key that it names, and nowhere else
 abbrev pub EditLaw : Type 0
 EditLaw = (s : SourceParts) (k : List Pair) (edit : Edit) (made : SourceParts) (ps : List Pair) → edited s k edit ≡ Ok (made, ps) → IsEditedAt (named edit) s made
+
+-- each edit leaves the names of the glyphs in their order, with a new one after them, or without one
+abbrev pub NamesLaw : Type 0
+NamesLaw =
+    (s : SourceParts) (k : List Pair) (edit : Edit) (made : SourceParts) (ps : List Pair) → IsWellFormed s → edited s k edit ≡ Ok (made, ps)
+    → glyph_names made.items ≡ names_after edit (glyph_names s.items)
 
 -- edits taken in turn edit a source at the keys of all
 abbrev pub TurnLaw : Type 0

@@ -1,8 +1,9 @@
 //! Laws of edited sources, and of what is kept of a font under edits.
 ghost use Rattle.t1_cache.specs.Changed.{ChangedBodiesLaw, RestLaw};
 ghost use Rattle.t1_cache.specs.Joins.{AllDrawLaw, FirstTablesLaw, JoinsLaw, KeptRunLaw, LessTablesLaw, StaleFoundLaw};
-ghost use Rattle.t1_cache.specs.Laws.{CountLaw, DistinctLaw, EditLaw, FirstFaultLaw, MiddleLaw, NewestLaw, TurnLaw};
-ghost use Rattle.t1_cache.specs.Overlay.{OverlayLaw};
+ghost use Rattle.t1_cache.specs.Kept.{KeptNamesLaw};
+ghost use Rattle.t1_cache.specs.Laws.{CountLaw, DistinctLaw, EditLaw, FirstFaultLaw, MiddleLaw, NamesLaw, NewestLaw, TurnLaw};
+ghost use Rattle.t1_cache.specs.Overlay.{BodyLaw, OverlayLaw};
 ghost use Rattle.t1_cache.specs.Renewal.{RenewalLaw, RerunsLaw};
 ghost use Rattle.t1_cache.specs.Room.{RoomLaw};
 ghost use Rattle.t1_cache.specs.There.{UsesThereLaw};
@@ -17,6 +18,11 @@ pub fn edits()
     ensures { EditLaw }
 {}
 
+/// Each edit leaves the names of the glyphs in their order: a new one is the last.
+pub fn names()
+    ensures { NamesLaw }
+{}
+
 /// Edits taken in turn change a source at the keys of all.
 pub fn turn()
     ensures { TurnLaw }
@@ -25,6 +31,11 @@ pub fn turn()
 /// Bodies with those changed that an edit changes are the bodies of the edited font.
 pub fn overlay()
     ensures { OverlayLaw }
+{}
+
+/// The edited font has the body of the edit at the key that the edit names, or none where it removes one.
+pub fn body()
+    ensures { BodyLaw }
 {}
 
 /// Of a source that was edited, only stale glyphs can have a fault, and the first of theirs is its first.
@@ -107,4 +118,9 @@ pub fn changed_bodies()
 /// Records that differ in their users alone have the same bodies, runs and boxes.
 pub fn rest()
     ensures { RestLaw }
+{}
+
+/// The records of a source bear the names of its glyphs, in source order.
+pub fn kept_names()
+    ensures { KeptNamesLaw }
 {}
