@@ -5,7 +5,7 @@ import os
 import subprocess
 
 from chance.sessions import Chooser
-from session import FILES, Session, commands
+from session import Session, commands
 from source import kern_text
 
 SECONDS = 60
@@ -50,7 +50,7 @@ class Driver:
 
     def __init__(self, program, source, room, chance):
         self.program, self.room, self.failures, self.counts = program, room, [], {}
-        self.model = Unjudged(source, {}, lacks=FILES)
+        self.model = Unjudged(source, {})
         self.chooser = Chooser(chance, self.model)
         self.write("font.t1", source.text())
         self.session = Program(program, os.path.join(room, "font.t1"))
@@ -111,6 +111,8 @@ class Driver:
         afm = self.measured()
         texts = {"source": self.model.source.text(), "kern": kern_text(self.model.pairs), "afm": afm}
         texts["pfb"] = self.made("assemble")
+        texts["pfb 4096"] = self.made("assemble", "--block", "4096")
+        texts["pfa"] = self.made("assemble", "--pfa")
         for name, wanted in texts.items():
             found = self.session.ask(b"print " + name.encode() + b"\n")
             if found != wanted:

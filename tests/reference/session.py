@@ -10,7 +10,6 @@ from source import joined, kern_text, lines, trimmed, words
 
 PRINTS = (b"pfb", b"afm", b"source", b"kern", b"uses", b"pfa")
 BATCHES = ((b"begin",), (b"commit",), (b"abort",))
-FILES = (b"set leniv", b"print pfa", b"print pfb N")  # for tests of a program that hasn't these yet
 
 
 def judged(source):
@@ -43,11 +42,10 @@ def commands(text):
 
 
 class Session:
-    """With runs=False no glyph is run, and only edits and the prints of source, pairs and PFB are known; the commands
-    that it lacks are unknown too."""
+    """With runs=False no glyph is run, and only edits and the prints of source, pairs and PFB are known."""
 
-    def __init__(self, source, pairs, runs=True, lacks=()):
-        self.source, self.pairs, self.batch, self.runs, self.lacks = source, pairs, None, runs, lacks
+    def __init__(self, source, pairs, runs=True):
+        self.source, self.pairs, self.batch, self.runs = source, pairs, None, runs
         self.font = self.judged(source)
 
     def judged(self, source):
@@ -60,9 +58,6 @@ class Session:
 
     def knows(self, these):
         """Whether the words are a command of this session."""
-        name = b" ".join(these[:2]) + (b" N" if these[:2] == (b"print", b"pfb") and len(these) == 3 else b"")
-        if name in self.lacks:
-            return False
         if these[0] == b"print":
             prints = PRINTS if self.runs else (b"pfb", b"source", b"kern")
             return these[1:2] and these[1] in prints and len(these) <= 2 + (these[1] == b"pfb" and self.runs)

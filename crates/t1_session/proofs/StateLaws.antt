@@ -9,13 +9,12 @@ use Rattle.t1_parts.specs.SourceParts.{SourceParts}
 use Rattle.t1_parts.specs.Printing.{text}
 use Rattle.t1_parts.specs.Reading.{reads}
 use Rattle.t1_source.specs.declared.edit.Rule.{Rule}
-use Rattle.t1_source.specs.declared.edit.Edit.{Edit}
 use Rattle.t1_source.specs.declared.pairs.Pair.{Pair}
 use Rattle.t1_source.specs.Editing.{edited}
 use Rattle.t1_source.specs.Kerning.{pairs, kern}
 use Rattle.t1_code.specs.Pfb.{whole_file}
 use Rattle.t1_afm.specs.Afm.{afm}
-use Rattle.t1_font.specs.Assembly.{counts_check, file_check, length_check, source_file}
+use Rattle.t1_font.specs.Assembly.{counts_check, file_check, length_check, source_file, source_pfa}
 use Rattle.t1_font.specs.FontMetrics.{metrics_of}
 use Rattle.t1_font.specs.MeasuredGlyphs.{MeasuredFont, measured}
 use Rattle.t1_font.specs.SourceChecks.{measured_source, source_check, source_usage}
@@ -29,9 +28,9 @@ use Rattle.t1_session.specs.declared.answer.Answer.{Answer}
 use Rattle.t1_session.specs.declared.answer.Answer.TheVariants.{Accepted, Faulty, Data}
 use Rattle.t1_session.specs.declared.print.Print.TheVariants as prints
 use Rattle.t1_session.specs.Answering.{ShowsText}
-use Rattle.t1_session.specs.declared.command.Command.{Command}
 use Rattle.t1_session.specs.declared.command.Command.TheVariants as commands
-use Rattle.t1_session.specs.FromScratch.{texts_of, from_scratch, pfb_from_scratch, metrics_from_scratch, uses_from_scratch}
+use Rattle.t1_session.specs.Files.{assembled, assembled_pfa}
+use Rattle.t1_session.specs.FromScratch.{blocks_from_scratch, pfa_from_scratch, texts_of, from_scratch, pfb_from_scratch, metrics_from_scratch, uses_from_scratch}
 use Rattle.t1_session.specs.Machine.{IsFaultless, OpensFaultless, KeepsFaultless, abort_in, begin_in, commit_in, drafted, edit_in, holding, judged, opened, perform, printed, scratch, source_metrics, taken}
 use Rattle.t1_session.specs.Outcomes.{Took, refused_source}
 use Rattle.t1_session.specs.State.{Draft, State}
@@ -132,6 +131,15 @@ module _ (s : State) (font : MeasuredFont) (known : measured_source s.source ≡
   uses_scratch =
       let file = has_file s.source font known in
       ap (λ r. r >>= λ texts. Ok texts.uses) (all-texts file.0 file.1)
+
+-- the files that the assembler alone makes
+pub blocks_scratch : (s : State) (size : ℕ) → reads (text s.source) ≡ Ok s.source → blocks_from_scratch size s ≡ source_file size s.source
+unfolding assembled
+blocks_scratch s size source = ap (λ r. r >>= λ parts. source_file size parts) source
+
+pub pfa_scratch : (s : State) → reads (text s.source) ≡ Ok s.source → pfa_from_scratch s ≡ source_pfa s.source
+unfolding assembled_pfa
+pfa_scratch s source = ap (λ r. r >>= λ parts. source_pfa parts) source
 
 -- ---- no fault
 

@@ -5,7 +5,7 @@ use Rattle.t1_frac.specs.Words.{words}
 use Rattle.t1_text.specs.Lines.{unified}
 use Rattle.t1_code.specs.Words.{number_word}
 use Rattle.t1_source.specs.declared.edit.Edit.{Edit}
-use Rattle.t1_source.specs.declared.edit.Edit.TheVariants.{ReplaceGlyph, AddGlyph, RemoveGlyph, ReplaceSubr, AddSubr, RemoveSubr, Encode, Unencode, Kern, Unkern}
+use Rattle.t1_source.specs.declared.edit.Edit.TheVariants.{ReplaceGlyph, AddGlyph, RemoveGlyph, ReplaceSubr, AddSubr, RemoveSubr, Encode, Unencode, LenIv, Kern, Unkern}
 use Rattle.t1_source.specs.declared.edit.Rule.TheVariants.{E7, E8}
 use Rattle.t1_session.specs.Lines.{finished_lines}
 use Rattle.t1_session.specs.declared.print.Print.TheVariants as prints
@@ -51,16 +51,34 @@ removal (kind ∷ rest) =
     else if bytes_eq kind (codes "subr") then edit_of (λ n. RemoveSubr (number_of n)) (one_word rest)
     else unknown
 
--- profile, session commands: `print source`, `print kern`, `print pfb`, `print afm`, `print uses`
-unfoldable pub print_of : Option (List ℕ) → Command
-print_of None = unknown
-print_of (Some word) =
+-- profile, session commands: `set leniv N`
+unfoldable pub setting : List (List ℕ) → Command
+setting [] = unknown
+setting (kind ∷ rest) = if bytes_eq kind (codes "leniv") then edit_of (λ n. LenIv (number_of n)) (one_word rest) else unknown
+
+-- profile, session commands: `print source`, `print kern`, `print pfb`, `print pfa`, `print afm`, `print uses`
+unfoldable pub whole_print : List ℕ → Command
+whole_print word =
     if bytes_eq word (codes "source") then commands.Print prints.Source
     else if bytes_eq word (codes "kern") then commands.Print prints.Kern
     else if bytes_eq word (codes "pfb") then commands.Print prints.Pfb
+    else if bytes_eq word (codes "pfa") then commands.Print prints.Pfa
     else if bytes_eq word (codes "afm") then commands.Print prints.Afm
     else if bytes_eq word (codes "uses") then commands.Print prints.Uses
     else unknown
+
+-- profile, session commands: `print pfb N`
+unfoldable pub blocks_print : Option (List ℕ × List ℕ) → Command
+blocks_print None = unknown
+blocks_print (Some w) = if bytes_eq w.0 (codes "pfb") then commands.Print (prints.Blocks (number_of w.1)) else unknown
+
+abbrev pub print_by : Option (List ℕ) → Option (List ℕ × List ℕ) → Command
+print_by (Some word) two = whole_print word
+print_by None two = blocks_print two
+
+-- profile, session commands: a print has one word or two
+abbrev pub print_of : List (List ℕ) → Command
+print_of rest = print_by (one_word rest) (two_words rest)
 
 -- profile, session commands: `begin`, `commit`, `abort`, without further words
 abbrev pub lone : Command → List (List ℕ) → Command
@@ -74,9 +92,10 @@ line_command (verb ∷ rest) =
     if bytes_eq verb (codes "remove") then removal rest
     else if bytes_eq verb (codes "encode") then edit_of (λ w. Encode (number_of w.0) w.1) (two_words rest)
     else if bytes_eq verb (codes "unencode") then edit_of (λ code. Unencode (number_of code)) (one_word rest)
+    else if bytes_eq verb (codes "set") then setting rest
     else if bytes_eq verb (codes "kern") then edit_of (λ w. Kern w.0 w.1 (number_of w.2)) (three_words rest)
     else if bytes_eq verb (codes "unkern") then edit_of (λ w. Unkern w.0 w.1) (two_words rest)
-    else if bytes_eq verb (codes "print") then print_of (one_word rest)
+    else if bytes_eq verb (codes "print") then print_of rest
     else if bytes_eq verb (codes "begin") then lone commands.Begin rest
     else if bytes_eq verb (codes "commit") then lone commands.Commit rest
     else if bytes_eq verb (codes "abort") then lone commands.Abort rest

@@ -11,6 +11,7 @@ use Rattle.t1_font.specs.Assembly.{source_file}
 use Rattle.t1_font.specs.FontMetrics.{metrics_of}
 use Rattle.t1_font.specs.SourceChecks.{measured_source}
 use Rattle.t1_font.specs.Usage.{usage_table}
+use Rattle.t1_session.specs.Files.{assembled, assembled_pfa}
 use Rattle.t1_session.specs.State.{State}
 
 -- the PFB file, the AFM file and the usage table of a font
@@ -41,3 +42,10 @@ metrics_from_scratch s = from_scratch s >>= λ texts. Ok texts.metrics
 
 abbrev pub uses_from_scratch : State → Result (List ℕ) Fault
 uses_from_scratch s = from_scratch s >>= λ texts. Ok texts.uses
+
+-- the PFB file in blocks of this size, and the PFA file, of reading and assembling the source that a session prints
+abbrev pub blocks_from_scratch : ℕ → State → Result (List ℕ) Fault
+blocks_from_scratch size s = assembled size (text s.source)
+
+abbrev pub pfa_from_scratch : State → Result (List ℕ) Fault
+pfa_from_scratch s = assembled_pfa (text s.source)

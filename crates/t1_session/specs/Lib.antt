@@ -1,6 +1,7 @@
 pub mod AnswerTexts
 pub mod Answering
 pub mod Answers
+pub mod Blocks
 pub mod Commands
 pub mod Conversation
 pub mod Delivery

@@ -7,12 +7,12 @@ use Rattle.t1_parts.specs.Reading.{reads}
 use Rattle.t1_parts.specs.Printing.{text}
 use Rattle.t1_source.specs.declared.pairs.Pair.{Pair}
 use Rattle.t1_source.specs.declared.edit.Rule.{Rule}
-use Rattle.t1_source.specs.declared.edit.Rule.TheVariants.{E11, E12}
+use Rattle.t1_source.specs.declared.edit.Rule.TheVariants.{E4, E11, E12}
 use Rattle.t1_source.specs.Kerning.{pairs, kern}
 use Rattle.t1_source.specs.Editing.{edited}
 use Rattle.t1_code.specs.Pfb.{whole_file}
 use Rattle.t1_afm.specs.Afm.{afm}
-use Rattle.t1_font.specs.Assembly.{source_file}
+use Rattle.t1_font.specs.Assembly.{source_file, source_pfa}
 use Rattle.t1_font.specs.FontMetrics.{metrics_of}
 use Rattle.t1_font.specs.SourceChecks.{measured_source, source_check, source_usage}
 use Rattle.t1_session.specs.declared.print.Print.{Print}
@@ -21,6 +21,7 @@ use Rattle.t1_session.specs.declared.answer.Answer.{Answer}
 use Rattle.t1_session.specs.declared.answer.Answer.TheVariants.{Accepted, Broken, Faulty, Data}
 use Rattle.t1_session.specs.declared.command.Command.{Command}
 use Rattle.t1_session.specs.declared.command.Command.TheVariants as commands
+use Rattle.t1_session.specs.Blocks.{block_size}
 use Rattle.t1_session.specs.Answers.{Performed, Machine}
 use Rattle.t1_session.specs.State.{Draft, State}
 
@@ -84,11 +85,18 @@ abbrev pub file_answer : Result (List ℕ) Fault → Answer
 file_answer (Ok file) = Data file
 file_answer (Err fault) = Faulty fault
 
+-- profile, session commands: the assembled font in segments of this size; E4 where there can be none
+abbrev pub blocks_answer : SourceParts → Option ℕ → Answer
+blocks_answer source None = Broken E4
+blocks_answer source (Some size) = file_answer (source_file size source)
+
 -- profile, session commands: what a print shows; in a batch, of the session as before it
 abbrev pub printed : State → Print → Answer
 printed s prints.Source = Data (text s.source)
 printed s prints.Kern = Data (kern s.pairs)
 printed s prints.Pfb = file_answer (source_file whole_file s.source)
+printed s (prints.Blocks number) = blocks_answer s.source (block_size number)
+printed s prints.Pfa = file_answer (source_pfa s.source)
 printed s prints.Afm = file_answer (source_metrics s.source s.pairs)
 printed s prints.Uses = file_answer (source_usage s.source)
 

@@ -2,7 +2,7 @@
 ghost use Rattle.std.specs.Str.{bytes_eq};
 ghost use Rattle.std.specs.Prelude.{◌≡◌, ◌||◌, option_map, length, ◌<◌, IfOk, IfSome, MatchOption, ◌∷◌, []};
 ghost use Rattle.t1_frac.specs.Words.{words};
-ghost use Rattle.t1_session.specs.Commands.{one_word, two_words, three_words, removal, print_of, line_command, body_command, bodied_edit, open_command, takes_body, ends_body, edit_of, lone, is_wordless, number_of, Makes};
+ghost use Rattle.t1_session.specs.Commands.{one_word, two_words, three_words, removal, setting, whole_print, blocks_print, print_of, line_command, body_command, bodied_edit, open_command, takes_body, ends_body, edit_of, lone, is_wordless, number_of, Makes};
 ghost use Rattle.t1_source.specs.declared.edit.Edit.TheVariants as edits;
 
 use crate::numbers::number_of;
@@ -70,18 +70,60 @@ fn removal(alloc: Global, line: &[u8]) -> Result<Command, AllocError>
     }
 }
 
-/// `print source`, `print kern`, `print pfb`, `print afm`, `print uses`, after the first word.
-#[tactic(auto, unfolding(crate::specs::Commands::print_of))]
+/// `set leniv N`, after the first word.
+#[tactic(auto, unfolding(crate::specs::Commands::setting))]
+fn setting(line: &[u8]) -> Command
+    ensures { result ≡ setting (words line.now) }
+{
+    let Some((kind, rest)) = next_word(line) else {
+        return UNKNOWN;
+    };
+    match (kind, one_word(rest)) {
+        (b"leniv", Some(number)) => Command::Edit(Edit::LenIv(number_of(number))),
+        _ => UNKNOWN,
+    }
+}
+
+/// `print source`, `print kern`, `print pfb`, `print pfa`, `print afm`, `print uses`, by the second word.
+#[tactic(auto, unfolding(crate::specs::Commands::whole_print))]
+fn whole_print(word: &[u8]) -> Command
+    ensures { result ≡ whole_print word.now }
+{
+    if word == b"source".as_slice() {
+        Command::Print(Print::Source)
+    } else if word == b"kern".as_slice() {
+        Command::Print(Print::Kern)
+    } else if word == b"pfb".as_slice() {
+        Command::Print(Print::Pfb)
+    } else if word == b"pfa".as_slice() {
+        Command::Print(Print::Pfa)
+    } else if word == b"afm".as_slice() {
+        Command::Print(Print::Afm)
+    } else if word == b"uses".as_slice() {
+        Command::Print(Print::Uses)
+    } else {
+        UNKNOWN
+    }
+}
+
+/// `print pfb N`, after the first word.
+#[tactic(auto, unfolding(crate::specs::Commands::blocks_print))]
+fn blocks_print(line: &[u8]) -> Command
+    ensures { result ≡ blocks_print (two_words (words line.now)) }
+{
+    match two_words(line) {
+        Some((b"pfb", number)) => Command::Print(Print::Blocks(number_of(number))),
+        _ => UNKNOWN,
+    }
+}
+
+/// A print, after the first word.
 fn print_of(line: &[u8]) -> Command
-    ensures { result ≡ print_of (one_word (words line.now)) }
+    ensures { result ≡ print_of (words line.now) }
 {
     match one_word(line) {
-        Some(b"source") => Command::Print(Print::Source),
-        Some(b"kern") => Command::Print(Print::Kern),
-        Some(b"pfb") => Command::Print(Print::Pfb),
-        Some(b"afm") => Command::Print(Print::Afm),
-        Some(b"uses") => Command::Print(Print::Uses),
-        _ => UNKNOWN,
+        Some(word) => whole_print(word),
+        None => blocks_print(line),
     }
 }
 
@@ -154,6 +196,8 @@ pub fn line_command(alloc: Global, line: &[u8]) -> Result<Command, AllocError>
         encoding(alloc, rest)
     } else if verb == b"unencode".as_slice() {
         Ok(unencoding(rest))
+    } else if verb == b"set".as_slice() {
+        Ok(setting(rest))
     } else if verb == b"kern".as_slice() {
         kerning(alloc, rest)
     } else if verb == b"unkern".as_slice() {

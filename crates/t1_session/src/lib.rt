@@ -21,5 +21,6 @@ mod tests;
 pub use assembling::{assemble_blocks, assemble_pfa, assemble_source};
 pub use error::ServeError;
 pub use measuring::measure_source;
+pub use numbers::block_size_of_word;
 pub use serving::serve;
 pub use session::Session;

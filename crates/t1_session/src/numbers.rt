@@ -1,5 +1,6 @@
 //! The numbers of a command.
-ghost use Rattle.std.specs.Prelude.{◌≡◌};
+ghost use Rattle.std.specs.Prelude.{◌≡◌, ◌≤◌, ◌-◌, ◌^◌, IfSome};
+ghost use Rattle.t1_session.specs.Blocks.{block_size};
 ghost use Rattle.t1_session.specs.Commands.{number_of};
 
 use t1_code::number_word;
@@ -10,4 +11,26 @@ pub fn number_of(word: &[u8]) -> i64
     ensures { result ≡ number_of word.now }
 {
     number_word(word).unwrap_or(i64::MAX)
+}
+
+/// The block length of a number, from 1 to 2147483647.
+pub fn block_size(number: i64) -> Option<usize>
+    ensures value { result ≡ block_size number }
+    ensures some { IfSome result (λ size. 1 ≤ size) }
+    ensures short { IfSome result (λ size. size ≤ 2 ^ 31 - 1) }
+{
+    if 1 <= number && number <= 2_147_483_647 {
+        Some(number as usize)
+    } else {
+        None
+    }
+}
+
+/// The block length that a word gives: a number word from 1 to 2147483647.
+pub fn block_size_of_word(word: &[u8]) -> Option<usize>
+    ensures value { result ≡ block_size (number_of word.now) }
+    ensures some { IfSome result (λ size. 1 ≤ size) }
+    ensures short { IfSome result (λ size. size ≤ 2 ^ 31 - 1) }
+{
+    block_size(number_of(word))
 }

@@ -12,8 +12,12 @@ pub enum Print {
     Source,
     /// The kerning pairs.
     Kern,
-    /// The assembled font.
+    /// The assembled font, a segment a part.
     Pfb,
+    /// The assembled font in segments of so many bytes.
+    Blocks(i64),
+    /// The assembled font with its encrypted part in hexadecimal.
+    Pfa,
     /// The metrics of the font.
     Afm,
     /// The usage table of the glyphs.

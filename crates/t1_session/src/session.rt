@@ -28,7 +28,7 @@ impl Model for Session {
     ghost invariant = { λ s. measured_source s.source ≡ Ok s.glyphs };
 }
 
-ghost use Rattle.std.specs.Prelude.{◌≡◌, Ok, IfOk, OnOk, OnErr, None, is_some, true};
+ghost use Rattle.std.specs.Prelude.{◌≡◌, ◌≤◌, ◌-◌, ◌^◌, Ok, IfOk, OnOk, OnErr, None, is_some, true};
 ghost use Rattle.t1_frac.specs.Outcome.{Gives};
 ghost use Rattle.t1_source.specs.Kerning.{kern, pairs};
 ghost use Rattle.t1_parts.specs.Printing.{text};
@@ -36,19 +36,22 @@ ghost use Rattle.t1_parts.specs.Reading.{reads};
 ghost use Rattle.t1_code.specs.Parts.{Prints};
 ghost use Rattle.t1_font.specs.SourceChecks.{measured_source, source_check};
 ghost use Rattle.t1_session.specs.declared.command.Command.TheVariants as commands;
-ghost use Rattle.t1_session.specs.FromScratch.{pfb_from_scratch, metrics_from_scratch, uses_from_scratch};
+ghost use Rattle.t1_session.specs.FromScratch.{blocks_from_scratch, pfa_from_scratch, pfb_from_scratch, metrics_from_scratch, uses_from_scratch};
+ghost use Rattle.t1_session.specs.Blocks.{block_size};
 ghost use Rattle.t1_session.specs.declared.answer.Answer.TheVariants.{Data};
-ghost use Rattle.t1_session.specs.Machine.{opened, perform, may_want_memory, after_want, judged, printed};
+ghost use Rattle.t1_session.specs.Machine.{blocks_answer, opened, perform, may_want_memory, after_want, judged, printed};
 ghost use Rattle.t1_session.specs.Outcomes.{Takes, TakesOrReturns, Took, refused_source};
 
 use crate::answer::{Answer, answer_of, file_answer, text_answer};
 use crate::command::Command;
+use crate::numbers::block_size;
 use crate::print::{Print, put_text};
 use std::alloc::AllocError;
 use std::io::Write;
 use t1_code::{Counted, OutError, WHOLE_PARTS};
 use t1_font::{
-    afm_of_source, measured_source, pfb_of_source, usage_text, write_source_afm, write_source_pfb,
+    afm_of_source, measured_source, pfa_of_source, pfb_of_source, usage_text, write_source_afm,
+    write_source_pfa, write_source_pfb,
 };
 use t1_frac::Refusal;
 use t1_run::Meter;
@@ -194,6 +197,31 @@ impl Session {
         write_source_pfb(self.alloc, &self.source, WHOLE_PARTS, out)
     }
 
+    /// Writes the PFB file in segments of so many bytes, the last of a part with the rest: that of the printed source from
+    /// scratch.
+    #[tactic(auto, using(crate::proofs::StateLaws::blocks_scratch))]
+    pub fn print_pfb_blocks<W: Write>(
+        &self,
+        size: usize,
+        out: &mut Counted<W>,
+    ) -> Result<(), OutError>
+        requires some { 1 ≤ size }
+        requires short { size ≤ 2 ^ 31 - 1 }
+        ensures { Prints W.contents out.old out.new (blocks_from_scratch size self.now) result }
+    {
+        let _glyphs = self.known();
+        write_source_pfb(self.alloc, &self.source, size, out)
+    }
+
+    /// Writes the PFA file: that of the printed source from scratch.
+    #[tactic(auto, using(crate::proofs::StateLaws::pfa_scratch))]
+    pub fn print_pfa<W: Write>(&self, out: &mut Counted<W>) -> Result<(), OutError>
+        ensures { Prints W.contents out.old out.new (pfa_from_scratch self.now) result }
+    {
+        let _glyphs = self.known();
+        write_source_pfa(self.alloc, &self.source, out)
+    }
+
     /// Writes the AFM file: that of the printed source and pairs from scratch.
     pub fn print_afm<W: Write>(&self, out: &mut Counted<W>) -> Result<(), OutError>
         ensures { Prints W.contents out.old out.new (metrics_from_scratch self.now) result }
@@ -228,6 +256,16 @@ impl Session {
         put_text(&text, out)
     }
 
+    /// What a print in segments of so many bytes is answered.
+    fn shown_blocks(&self, number: i64) -> Result<Answer, AllocError>
+        ensures { IfOk result (λ answer. answer ≡ blocks_answer self.now.source (block_size number)) }
+    {
+        match block_size(number) {
+            Some(size) => file_answer(pfb_of_source(self.alloc, &self.source, size)),
+            None => Ok(Answer::Broken(Rule::E4)),
+        }
+    }
+
     /// What a print is answered. The whole text is there before any of it is written.
     #[tactic(auto, using(crate::proofs::StateLaws::metrics_are, crate::proofs::StateLaws::usage_is))]
     fn shown(&self, print: Print) -> Result<Answer, AllocError>
@@ -238,6 +276,8 @@ impl Session {
             Print::Source => text_answer(self.source.text()),
             Print::Kern => text_answer(self.pairs.text()),
             Print::Pfb => file_answer(pfb_of_source(self.alloc, &self.source, WHOLE_PARTS)),
+            Print::Blocks(number) => self.shown_blocks(number),
+            Print::Pfa => file_answer(pfa_of_source(self.alloc, &self.source)),
             Print::Afm => text_answer(afm_of_source(self.alloc, &self.source, &self.pairs, glyphs)),
             Print::Uses => text_answer(usage_text(self.alloc, glyphs.metrics())),
         }

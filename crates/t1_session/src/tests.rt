@@ -6,6 +6,8 @@ use std::test::Fail;
 use t1_code::{Counted, MAX_PUT};
 use t1_frac::{Code, Fault, Place};
 
+mod files;
+
 /// A font of one glyph, in two parts.
 const FRONT: &[u8] = b"%!\n";
 

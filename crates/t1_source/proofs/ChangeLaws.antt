@@ -37,7 +37,10 @@ put-raised s g (i ∷ items) zero x h same e = placed i x same (ap tail e) where
   tail (y ∷ ys) = ys
 
   placed : (i x : Item) → IsInPlaceOf i x → map (raised_item s g) items ≡ items → map (raised_item s g) (x ∷ items) ≡ x ∷ items
-  placed (Plain l) x same e = absurd same
+  placed (Plain l) (Plain m) same e = ap (λ t. Plain m ∷ t) e
+  placed (Plain l) (Section b n a) same e = absurd same
+  placed (Plain l) (Subr n vs d) same e = absurd same
+  placed (Plain l) (Glyph h vs d) same e = absurd same
   placed (Section b n a) x same e = absurd same
   placed (Subr m ws c) (Plain l) same e = absurd same
   placed (Subr m ws c) (Section b n a) same e = absurd same
@@ -56,7 +59,10 @@ subrs_put : (items : List Item) (at : ℕ) (x : Item) → at < length items → 
 subrs_put [] at x h same = absurd (omega (arith, h))
 subrs_put (i ∷ items) zero x h same = placed i x same where
   placed : (i x : Item) → IsInPlaceOf i x → subrs_needed (x ∷ items) ≡ subrs_needed (i ∷ items)
-  placed (Plain l) x same = absurd same
+  placed (Plain l) (Plain m) same = refl
+  placed (Plain l) (Section b n a) same = absurd same
+  placed (Plain l) (Subr n vs d) same = absurd same
+  placed (Plain l) (Glyph h vs d) same = absurd same
   placed (Section b n a) x same = absurd same
   placed (Subr m ws c) (Plain l) same = absurd same
   placed (Subr m ws c) (Section b n a) same = absurd same
@@ -83,7 +89,10 @@ unfolding count_from
 glyphs_put n [] at x h same = absurd (omega (arith, h))
 glyphs_put n (i ∷ items) zero x h same = placed i x same where
   placed : (i x : Item) → IsInPlaceOf i x → count_from n (x ∷ items) ≡ count_from n (i ∷ items)
-  placed (Plain l) x same = absurd same
+  placed (Plain l) (Plain m) same = refl
+  placed (Plain l) (Section b n a) same = absurd same
+  placed (Plain l) (Subr n vs d) same = absurd same
+  placed (Plain l) (Glyph h vs d) same = absurd same
   placed (Section b k a) x same = absurd same
   placed (Subr m ws c) (Plain l) same = absurd same
   placed (Subr m ws c) (Section b k a) same = absurd same

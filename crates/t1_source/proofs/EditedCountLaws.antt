@@ -1,21 +1,22 @@
 -- Edits that leave counts of at most nine digits.
-use Rattle.std.proofs.Common.{◌≡◌, ℕ, zero, suc, true, not, ◌^◌, ◌<◌, ℤ, Result, Ok, ok_or, List, [], ◌∷◌, ◌++◌, take, drop, codes, refl, sym, ◌∙◌, ap}
-use Rattle.std.specs.List.{list_all, list_any, position, insert, remove, slice_set}
+use Rattle.std.proofs.Common.{◌≡◌, ℕ, zero, suc, true, not, ◌^◌, ◌<◌, ℤ, Option, None, Some, Result, Ok, ok_or, List, [], ◌∷◌, ◌++◌, take, drop, codes, refl, sym, ◌∙◌, ap}
+use Rattle.std.specs.List.{list_all, list_any, position, position_or_len, insert, remove, slice_set}
 use Rattle.std.proofs.lemmas.Bool.{and_parts, and_from}
 use Rattle.std.proofs.lemmas.List.Folds.{list_all-append}
 use Rattle.t1_frac.specs.Outcome.{◌>>=◌}
 use Rattle.t1_source.specs.declared.edit.Edit.{Edit}
-use Rattle.t1_source.specs.declared.edit.Edit.TheVariants.{ReplaceGlyph, AddGlyph, RemoveGlyph, ReplaceSubr, AddSubr, RemoveSubr, Encode, Unencode, Kern, Unkern}
+use Rattle.t1_source.specs.declared.edit.Edit.TheVariants.{ReplaceGlyph, AddGlyph, RemoveGlyph, ReplaceSubr, AddSubr, RemoveSubr, Encode, Unencode, LenIv, Kern, Unkern}
 use Rattle.t1_source.specs.declared.edit.Rule.{Rule}
 use Rattle.t1_source.specs.declared.edit.Rule.TheVariants.{E1, E2, E10}
 use Rattle.t1_parts.specs.declared.item.Item.{Item}
-use Rattle.t1_parts.specs.declared.item.Item.TheVariants.{Subr, Glyph}
+use Rattle.t1_parts.specs.declared.item.Item.TheVariants.{Plain, Subr, Glyph}
 use Rattle.t1_source.specs.declared.pairs.Pair.{Pair}
 use Rattle.t1_parts.specs.SourceParts.{SourceParts}
 use Rattle.t1_parts.specs.Entries.{is_subr, is_glyph}
 use Rattle.t1_parts.specs.Counts.{is_glyph_entry, glyphs_needed, raised}
-use Rattle.t1_source.specs.Editing.{keeps, number_up_to, body_words, good_name, good_body, with_items, with_clear, closing_at, closing_among, through_last, is_subr_entry, among_subrs_items, among_glyphs_items, has_section, ArrayParts, array_parts, is_slot_of, encoded_lines, replaced_glyph, added_glyph, removed_glyph, replaced_subr, added_subr, removed_subr, encoded, unencoded, kerned, unkerned, edited}
+use Rattle.t1_source.specs.Editing.{keeps, number_up_to, body_words, good_name, good_body, with_items, with_clear, closing_at, closing_among, through_last, is_subr_entry, among_subrs_items, among_glyphs_items, has_section, ArrayParts, array_parts, is_slot_of, encoded_lines, replaced_glyph, added_glyph, removed_glyph, replaced_subr, added_subr, removed_subr, encoded, unencoded, lead_edited, kerned, unkerned, edited}
 use Rattle.std.specs.List.{filter}
+use Rattle.t1_source.specs.Leads.{line_with_lead, lead_line, says_lead, is_section_line, line_at, lead_put, items_with_lead}
 use Rattle.t1_source.specs.WellFormed.{IsWellFormed, is_counted}
 use Rattle.t1_source.proofs.PairsWellFormedLaws.{bind_ok}
 use Rattle.t1_source.proofs.WellFormedBodyLaws.{all_take, all_drop}
@@ -115,6 +116,16 @@ removed_subr_made s number made h e =
     let placed = bind_ok (ok_or (position (is_subr n) s.items) E1) (λ at. Ok (with_items s (remove s.items at))) made sectioned.2 in
     made_of s (remove s.items placed.0) made placed.2 (remove_counted s.items placed.0 h)
 
+lead_counted : (n : ℕ) (items : List Item) (o : Option ℕ) → list_all is_counted items ≡ true → list_all is_counted (lead_put n items o) ≡ true
+lead_counted n items None h = insert_counted items (position_or_len is_section_line items) (Plain (lead_line n)) refl h
+lead_counted n items (Some at) h = set_counted items at (Plain (line_with_lead n (line_at at items))) refl h
+
+lead_made : (s : SourceParts) (number : ℤ) (made : SourceParts) → list_all is_counted s.items ≡ true → lead_edited s number ≡ Ok made → Made s made
+unfolding lead_edited items_with_lead
+lead_made s number made h e =
+    let step = bind_ok (number_up_to 64 number) (λ n. Ok (with_items s (items_with_lead n s.items))) made e in
+    made_of s (items_with_lead step.0 s.items) made step.2 (lead_counted step.0 s.items (position says_lead s.items) h)
+
 clear_counted : (s made : SourceParts) (clear : List (List ℕ)) → ◌≡◌ {A = Result SourceParts Rule} (Ok (with_clear s clear)) (Ok made) → list_all is_counted s.items ≡ true → list_all is_counted made.items ≡ true
 clear_counted s made clear e h =
     let same : with_clear s clear ≡ made = cc in
@@ -158,5 +169,7 @@ edited_counted s k (RemoveSubr n) made ps kept h e few =
     made_counted s made (removed_subr_made s n made h (source_given k ps (removed_subr s n) made e)) (edited_well_formed s k (RemoveSubr n) made ps kept e) few
 edited_counted s k (Encode code g) made ps kept h e few = encoded_counted s code g made h (source_given k ps (encoded s code g) made e)
 edited_counted s k (Unencode code) made ps kept h e few = unencoded_counted s code made h (source_given k ps (unencoded s code) made e)
+edited_counted s k (LenIv n) made ps kept h e few =
+    made_counted s made (lead_made s n made h (source_given k ps (lead_edited s n) made e)) (edited_well_formed s k (LenIv n) made ps kept e) few
 edited_counted s k (Kern left right v) made ps kept h e few = ap (λ t. list_all is_counted t.items) (sym (source_same s ps (kerned k left right v) made e)) ∙ h
 edited_counted s k (Unkern left right) made ps kept h e few = ap (λ t. list_all is_counted t.items) (sym (source_same s ps (unkerned k left right) made e)) ∙ h

@@ -3,10 +3,11 @@ use Rattle.std.specs.Prelude.{◌≡◌, ℕ, pos, negsuc, List, [], ◌∷◌, 
 use Rattle.std.specs.Fmt.{digits}
 use Rattle.t1_parts.specs.declared.item.Item.{Item}
 use Rattle.t1_parts.specs.declared.item.Item.TheVariants.{Plain, Section, Subr, Glyph}
-use Rattle.t1_source.specs.declared.edit.Edit.TheVariants.{ReplaceGlyph, AddGlyph, RemoveGlyph, ReplaceSubr, AddSubr, RemoveSubr, Encode, Unencode, Kern, Unkern}
+use Rattle.t1_source.specs.declared.edit.Edit.TheVariants.{ReplaceGlyph, AddGlyph, RemoveGlyph, ReplaceSubr, AddSubr, RemoveSubr, Encode, Unencode, LenIv, Kern, Unkern}
 use Rattle.t1_source.specs.declared.edit.Rule.TheVariants.{E1, E2, E3, E4, E5, E6, E9, E10}
 use Rattle.t1_parts.specs.SourceParts.{SourceParts}
-use Rattle.t1_source.specs.Editing.{edited, replaced_glyph, added_glyph, removed_glyph, replaced_subr, added_subr, removed_subr, encoded, unencoded, kerned, unkerned, array_parts, through_last, among_subrs_items, among_glyphs_items, is_slot, is_slot_of}
+use Rattle.t1_source.specs.Editing.{edited, replaced_glyph, added_glyph, removed_glyph, replaced_subr, added_subr, removed_subr, encoded, unencoded, kerned, unkerned, array_parts, through_last, among_subrs_items, among_glyphs_items, is_slot, is_slot_of, lead_edited}
+use Rattle.t1_source.specs.Leads.{items_with_lead, line_with_lead}
 use Rattle.t1_parts.proofs.ReadingRows.{space_form}
 use Rattle.t1_source.proofs.PrintingRows.{array_form, kern_av}
 
@@ -163,3 +164,20 @@ slot_first = refl
 pub slots_removed : edited (array_form (codes "dup 32 /space put" ∷ codes "dup 65 /A put" ∷ codes "dup 8#40 /x put" ∷ [])) [] (Unencode (pos 32)) ≡ Ok (array_form (codes "dup 65 /A put" ∷ []), [])
 unfolding digits edited replaced_glyph added_glyph removed_glyph replaced_subr added_subr removed_subr encoded unencoded kerned unkerned array_parts through_last among_subrs_items among_glyphs_items is_slot is_slot_of
 slots_removed = refl
+
+-- the small font with this line before its section line
+abbrev pub lead_form : List ℕ → SourceParts
+lead_form l = record space_form { items = Plain l ∷ Section (codes "/CharStrings ") 1 (codes " dict dup begin") ∷ space_glyph ∷ ending }
+
+-- lenIV in a new line, and in the place of another one, where all else on the line stays
+pub lead_added : edited space_form [] (LenIv (pos 0)) ≡ Ok (lead_form (codes "/lenIV 0 def"), [])
+unfolding digits edited lead_edited items_with_lead
+lead_added = refl
+
+pub lead_changed : edited (lead_form (codes "/lenIV 004/x /lenIV 9")) [] (LenIv (pos 64)) ≡ Ok (lead_form (codes "/lenIV 64/x /lenIV 9"), [])
+unfolding digits edited lead_edited items_with_lead line_with_lead
+lead_changed = refl
+
+pub lead_past : edited space_form [] (LenIv (pos 65)) ≡ Err E4
+unfolding digits edited lead_edited items_with_lead line_with_lead
+lead_past = refl

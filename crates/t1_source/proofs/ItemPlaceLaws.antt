@@ -1,7 +1,7 @@
 -- Lists around an element at a place that was found.
-use Rattle.std.proofs.Common.{◌≡◌, ℕ, suc, Bool, true, false, ◌||◌, ◌+◌, ◌<◌, nat_lt, Option, None, Some, List, [], ◌∷◌, ◌++◌, length, take, drop, set, get_or, reverse, filter_map, refl, sym, ◌∙◌, ap, inl, inr, arith, append_assoc, length-append}
+use Rattle.std.proofs.Common.{◌≡◌, ◌⊎◌, ℕ, suc, Bool, true, false, ◌||◌, ◌+◌, ◌<◌, ◌≤◌, nat_lt, unwrap_or, Option, None, Some, List, [], ◌∷◌, ◌++◌, length, take, drop, set, get_or, reverse, filter_map, refl, sym, ◌∙◌, ap, inl, inr, arith, append_assoc, length-append}
 use Rattle.std.specs.List.{list_any, position, position_or_len, insert, remove, cons_option}
-use Rattle.std.proofs.lemmas.Bool.{cases_Bool, ltb-true, or_parts}
+use Rattle.std.proofs.lemmas.Bool.{cases_Bool, ltb-true, ltb-false, or_parts}
 use Rattle.std.proofs.lemmas.List.{reverse-append, length-reverse}
 use Rattle.std.proofs.lemmas.List.Folds.{list_any-append}
 use Rattle.std.proofs.Math.Seq.{drop-append_seam, drop-append-add, take-append_seam, set-append_seam, get_or-append_seam}
@@ -50,6 +50,54 @@ position_first test xs at e =
           rw (← same) (first_at test xs (ltb-true (position_or_len test xs) (length xs) within))
       | inr outside ↦ let none : None ≡ Some at = rw outside at e in cc
     ]
+
+-- where the first one stands, or the length
+place_within : {X : Type 0} (test : X → Bool) (xs : List X) → position_or_len test xs ≤ length xs
+place_within test [] = omega arith
+place_within test (x ∷ xs) =
+    elim (cases_Bool (test x)) [
+      | inl on ↦ rw on (omega arith)
+      | inr off ↦ let more = place_within test xs in rw off (omega (arith, more))
+    ]
+
+pub place_or_len : {X : Type 0} (test : X → Bool) (xs : List X) → unwrap_or (position test xs) (length xs) ≡ position_or_len test xs
+place_or_len test xs =
+    elim (cases_Bool (nat_lt (position_or_len test xs) (length xs))) [
+      | inl within ↦ rw within refl
+      | inr outside ↦
+          let none : unwrap_or (position test xs) (length xs) ≡ length xs = rw outside refl in
+          none ∙ ends (place_within test xs) (ltb-false (position_or_len test xs) (length xs) outside)
+    ]
+  where
+    ends : position_or_len test xs ≤ length xs → length xs ≤ position_or_len test xs → length xs ≡ position_or_len test xs
+    ends h k = omega (arith, h, k)
+
+-- no element passes a test that finds none
+none_passing : {X : Type 0} (test : X → Bool) (xs : List X) → length xs ≤ position_or_len test xs → list_any test xs ≡ false
+none_passing test [] h = refl
+none_passing test (x ∷ xs) h =
+    elim (cases_Bool (test x)) [
+      | inl on ↦ let first : length (x ∷ xs) ≤ 0 = rw on at h in absurd (omega (arith, first))
+      | inr off ↦ let more : length (x ∷ xs) ≤ 1 + position_or_len test xs = rw off at h in rw off (none_passing test xs (omega (arith, more)))
+    ]
+
+pub position_none : {X : Type 0} (test : X → Bool) (xs : List X) → position test xs ≡ None → list_any test xs ≡ false
+position_none test xs e =
+    elim (cases_Bool (nat_lt (position_or_len test xs) (length xs))) [
+      | inl within ↦ let some : Some (position_or_len test xs) ≡ None = rw within at e in cc
+      | inr outside ↦ none_passing test xs (ltb-false (position_or_len test xs) (length xs) outside)
+    ]
+
+-- some element passes a test
+pub passing_first : {X : Type 0} (test : X → Bool) (xs : List X) → list_any test xs ≡ true → First test xs (position_or_len test xs)
+passing_first test xs on =
+    elim (cases_Bool (nat_lt (position_or_len test xs) (length xs))) [
+      | inl within ↦ first_at test xs (ltb-true (position_or_len test xs) (length xs) within)
+      | inr outside ↦ absurd (apart (list_any test xs) on (none_passing test xs (ltb-false (position_or_len test xs) (length xs) outside)))
+    ]
+  where
+    apart : (b : Bool) → b ≡ true → b ≡ false → ⊥
+    apart b p q = cc
 
 -- the list with another element there, without it, and its element there
 pub set_there : {X : Type 0} (a : List X) (x : X) (b : List X) (at : ℕ) (y : X) → at ≡ length a → set (a ++ x ∷ b) at y ≡ a ++ y ∷ b
@@ -130,6 +178,26 @@ said_middle say (c ∷ a) x b off = ap (cons_option (say c)) (said_middle say a 
 none_longer : {X : Type 0} (a b : List X) (x : X) → [] ≡ a ++ x ∷ b → ⊥
 none_longer [] b x e = cc
 none_longer (c ∷ a) b x e = cc
+
+-- an element is the last one, or stands before it
+pub last_or_before : {X : Type 0} (xs : List X) (last : X) (a : List X) (x : X) (b : List X) → xs ++ last ∷ [] ≡ a ++ x ∷ b
+    → ((b ≡ []) × (last ≡ x) × (xs ≡ a)) ⊎ ((c : List X) × (b ≡ c ++ last ∷ []) × (xs ≡ a ++ x ∷ c))
+last_or_before [] last [] x b e =
+    let same : last ≡ x = cc in
+    let rest : [] ≡ b = cc in
+    inl (sym rest, same, refl)
+last_or_before [] last (c ∷ a) x b e = absurd (none_longer a b x (let rest : [] ≡ a ++ x ∷ b = cc in rest))
+last_or_before (y ∷ xs) last [] x b e =
+    let same : y ≡ x = cc in
+    let rest : xs ++ last ∷ [] ≡ b = cc in
+    inr (xs, sym rest, ap (λ t. t ∷ xs) same)
+last_or_before (y ∷ xs) last (c ∷ a) x b e =
+    let same : y ≡ c = cc in
+    let rest : xs ++ last ∷ [] ≡ a ++ x ∷ b = cc in
+    elim (last_or_before xs last a x b rest) [
+      | inl r ↦ inl (r.0, r.1, ap (λ t. t ∷ xs) same ∙ ap (λ t. c ∷ t) r.2)
+      | inr r ↦ inr (r.0, r.1, ap (λ t. t ∷ xs) same ∙ ap (λ t. c ∷ t) r.2)
+    ]
 
 -- an element that isn't the last one stands before it
 pub before_last : {X : Type 0} (test : X → Bool) (xs : List X) (last : X) (a : List X) (x : X) (b : List X) → test last ≡ false → test x ≡ true → xs ++ last ∷ [] ≡ a ++ x ∷ b

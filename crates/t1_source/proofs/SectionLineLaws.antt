@@ -56,11 +56,11 @@ found_place key word l before after n (Some m) plain found e =
 pub section_place : (key word l before after : List ℕ) (n : ℕ) → is_count key ≡ false → line_of key word l ≡ Some (Section before n after) → SectionPlace key word l before after
 section_place key word l before after n plain e = found_place key word l before after n (count_between key word (places_from 0 l)) plain refl e
 
-none_of : {A B : Type 0} (f : A → B) (o : Option A) → option_map f o ≡ None → is_some o ≡ false
+pub none_of : {A B : Type 0} (f : A → B) (o : Option A) → option_map f o ≡ None → is_some o ≡ false
 none_of f None e = refl
 none_of f (Some a) e = cc
 
-of_none : {A B : Type 0} (f : A → B) (o : Option A) → is_some o ≡ false → option_map f o ≡ None
+pub of_none : {A B : Type 0} (f : A → B) (o : Option A) → is_some o ≡ false → option_map f o ≡ None
 of_none f None e = refl
 of_none f (Some a) e = cc
 

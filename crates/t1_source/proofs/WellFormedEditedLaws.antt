@@ -3,17 +3,18 @@ use Rattle.std.proofs.Common.{◌≡◌, ℕ, ℤ, true, Result, Ok, ok_or, List
 use Rattle.std.specs.List.{position, remove}
 use Rattle.t1_frac.specs.Outcome.{◌>>=◌}
 use Rattle.t1_source.specs.declared.edit.Edit.{Edit}
-use Rattle.t1_source.specs.declared.edit.Edit.TheVariants.{ReplaceGlyph, AddGlyph, RemoveGlyph, ReplaceSubr, AddSubr, RemoveSubr, Encode, Unencode, Kern, Unkern}
+use Rattle.t1_source.specs.declared.edit.Edit.TheVariants.{ReplaceGlyph, AddGlyph, RemoveGlyph, ReplaceSubr, AddSubr, RemoveSubr, Encode, Unencode, LenIv, Kern, Unkern}
 use Rattle.t1_source.specs.declared.edit.Rule.{Rule}
 use Rattle.t1_source.specs.declared.edit.Rule.TheVariants.{E10}
 use Rattle.t1_source.specs.declared.pairs.Pair.{Pair}
 use Rattle.t1_parts.specs.SourceParts.{SourceParts}
-use Rattle.t1_source.specs.Editing.{beside_pairs, beside_source, edited, replaced_glyph, added_glyph, removed_glyph, replaced_subr, added_subr, removed_subr, encoded, unencoded, kerned, unkerned, good_name, kerning_number, is_pair}
+use Rattle.t1_source.specs.Editing.{beside_pairs, beside_source, edited, replaced_glyph, added_glyph, removed_glyph, replaced_subr, added_subr, removed_subr, encoded, unencoded, lead_edited, kerned, unkerned, good_name, kerning_number, is_pair}
 use Rattle.t1_source.specs.Kerning.{put_pair, are_pairs}
 use Rattle.t1_source.specs.WellFormed.{IsWellFormed}
 use Rattle.t1_source.proofs.PairsWellFormedLaws.{bind_ok, put_pairs, named_pair, removed_pairs}
 use Rattle.t1_source.proofs.WellFormedEntryLaws.{replaced_glyph_well_formed, added_glyph_well_formed, removed_glyph_well_formed, replaced_subr_well_formed, added_subr_well_formed, removed_subr_well_formed}
 use Rattle.t1_source.proofs.WellFormedClearLaws.{encoded_well_formed, unencoded_well_formed}
+use Rattle.t1_source.proofs.LeadEditLaws.{lead_well_formed}
 
 -- the pairs aside
 pub source_given : (k ps : List Pair) (given : Result SourceParts Rule) (made : SourceParts) → beside_pairs k given ≡ Ok (made, ps) → given ≡ Ok made
@@ -45,6 +46,7 @@ edited_well_formed s k (AddSubr n body) made ps kept e = added_subr_well_formed 
 edited_well_formed s k (RemoveSubr n) made ps kept e = removed_subr_well_formed s n made kept (source_given k ps (removed_subr s n) made e)
 edited_well_formed s k (Encode code g) made ps kept e = encoded_well_formed s code g made kept (source_given k ps (encoded s code g) made e)
 edited_well_formed s k (Unencode code) made ps kept e = unencoded_well_formed s code made kept (source_given k ps (unencoded s code) made e)
+edited_well_formed s k (LenIv n) made ps kept e = lead_well_formed s n made kept (source_given k ps (lead_edited s n) made e)
 edited_well_formed s k (Kern left right v) made ps kept e = source_stays s ps (kerned k left right v) made e kept
 edited_well_formed s k (Unkern left right) made ps kept e = source_stays s ps (unkerned k left right) made e kept
 
@@ -99,5 +101,6 @@ edited_pairs s k (AddSubr n body) made ps kept e = pairs_stay k ps (added_subr s
 edited_pairs s k (RemoveSubr n) made ps kept e = pairs_stay k ps (removed_subr s n) made e kept
 edited_pairs s k (Encode code g) made ps kept e = pairs_stay k ps (encoded s code g) made e kept
 edited_pairs s k (Unencode code) made ps kept e = pairs_stay k ps (unencoded s code) made e kept
+edited_pairs s k (LenIv n) made ps kept e = pairs_stay k ps (lead_edited s n) made e kept
 edited_pairs s k (Kern left right v) made ps kept e = kerned_pairs k ps left right v (pairs_given s ps (kerned k left right v) made e) kept
 edited_pairs s k (Unkern left right) made ps kept e = unkerned_pairs k ps left right (pairs_given s ps (unkerned k left right) made e) kept

@@ -26,7 +26,7 @@ use Rattle.t1_source.proofs.ItemPlaceLaws.{position_first, set_there, removed_th
 use Rattle.t1_source.proofs.WellFormedEditLaws.{new_closing, new_entry, is_not_plain, silent_subr, silent_glyph, exchanged, taken_out, put_in}
 
 -- the source with other items
-items_well_formed : (s : SourceParts) (items others : List Item) (made : SourceParts) → IsWellFormed s → items ≡ others → IsPrivate (raised others) → ◌≡◌ {A = Result SourceParts Rule} (Ok (with_items s items)) (Ok made) → IsWellFormed made
+pub items_well_formed : (s : SourceParts) (items others : List Item) (made : SourceParts) → IsWellFormed s → items ≡ others → IsPrivate (raised others) → ◌≡◌ {A = Result SourceParts Rule} (Ok (with_items s items)) (Ok made) → IsWellFormed made
 items_well_formed s items others made kept same p e =
     let is : with_items s items ≡ made = cc in
     let there : with_items s others ≡ made = ap (with_items s) (sym same) ∙ is in

@@ -209,7 +209,7 @@ whole_well_formed ns e =
     ]
 
 -- raised counts say nothing of lenIV
-raised_said : (s g : ℕ) (items : List Item) → filter_map said_lead (map (raised_item s g) items) ≡ filter_map said_lead items
+pub raised_said : (s g : ℕ) (items : List Item) → filter_map said_lead (map (raised_item s g) items) ≡ filter_map said_lead items
 raised_said s g [] = refl
 raised_said s g (Plain l ∷ items) = ap (cons_option (said_lead (Plain l))) (raised_said s g items)
 raised_said s g (Section before n after ∷ items) = raised_said s g items

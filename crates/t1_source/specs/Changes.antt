@@ -21,13 +21,14 @@ changed (PutPair at pair) s k = (s, slice_set k at pair)
 changed (InsertPair at pair) s k = (s, insert k at pair)
 changed (RemovePair at) s k = (s, remove k at)
 
--- both are the Subr of one number, or the glyph of one name
+-- both are plain lines, the Subr of one number, or the glyph of one name
 abbrev pub IsInPlaceOf : Item → Item → Type 0
+IsInPlaceOf (Plain l) (Plain m) = Unit {0}
 IsInPlaceOf (Subr m ws c) (Subr n vs d) = m ≡ n
 IsInPlaceOf (Glyph g ws c) (Glyph h vs d) = g ≡ h
 IsInPlaceOf _ _ = ⊥
 
--- the place is one of the source or of the pairs, and an entry comes in the place of one of its kind and key
+-- the place is one of the source or of the pairs, and an item comes in the place of one of its kind and key
 abbrev pub Fits : Change → SourceParts → List Pair → Type 0
 Fits (PutItem at item) s k = (at < length s.items) × IsInPlaceOf (slice_index_or s.items at (Plain [])) item
 Fits (InsertItem at item) s k = at ≤ length s.items

@@ -10,7 +10,7 @@ use Rattle.t1_source.specs.declared.pairs.Pair.{Pair}
 use Rattle.t1_source.specs.declared.edit.Cause.{Cause}
 use Rattle.t1_source.specs.declared.edit.Cause.TheVariants as causes
 use Rattle.t1_source.specs.declared.edit.Edit.{Edit}
-use Rattle.t1_source.specs.declared.edit.Edit.TheVariants.{ReplaceGlyph, AddGlyph, RemoveGlyph, ReplaceSubr, AddSubr, RemoveSubr, Encode, Unencode, Kern, Unkern}
+use Rattle.t1_source.specs.declared.edit.Edit.TheVariants.{ReplaceGlyph, AddGlyph, RemoveGlyph, ReplaceSubr, AddSubr, RemoveSubr, Encode, Unencode, LenIv, Kern, Unkern}
 use Rattle.t1_source.specs.declared.edit.Rule.{Rule}
 use Rattle.t1_source.specs.declared.edit.Rule.TheVariants.{E1, E2, E3, E4, E5, E6, E9, E10}
 use Rattle.t1_parts.specs.SourceParts.{SourceParts}
@@ -22,6 +22,7 @@ use Rattle.t1_parts.specs.Sections.{is_subrs_line, is_glyphs_line}
 use Rattle.t1_parts.specs.Entries.{has_brace, is_subr, is_glyph}
 use Rattle.t1_parts.specs.Counts.{is_glyph_entry, raised}
 use Rattle.t1_source.specs.Kerning.{is_kerning_value, put_pair}
+use Rattle.t1_source.specs.Leads.{items_with_lead}
 
 -- a rule that is broken where the test fails
 abbrev pub keeps : Rule → Bool → Result (Unit {0}) Rule
@@ -194,6 +195,12 @@ unencoded s number = do
   some ← keeps E10 (list_any (is_slot_of code) array.lines)
   Ok (with_clear s (array.front ++ filter (λ l. not (is_slot_of code l)) array.lines ++ array.back))
 
+-- profile, edits: lenIV from 0 to 64
+unfoldable pub lead_edited : SourceParts → ℤ → Result SourceParts Rule
+lead_edited s number = do
+  n ← number_up_to 64 number
+  Ok (with_items s (items_with_lead n s.items))
+
 -- profile, edits: a kerning value from -32000 to 32000
 abbrev pub kerning_number : ℤ → Result ℤ Rule
 kerning_number v = if is_kerning_value v then Ok v else Err E4
@@ -235,6 +242,7 @@ edited s k (AddSubr n body) = beside_pairs k (added_subr s n body)
 edited s k (RemoveSubr n) = beside_pairs k (removed_subr s n)
 edited s k (Encode code g) = beside_pairs k (encoded s code g)
 edited s k (Unencode code) = beside_pairs k (unencoded s code)
+edited s k (LenIv n) = beside_pairs k (lead_edited s n)
 edited s k (Kern left right v) = beside_source s (kerned k left right v)
 edited s k (Unkern left right) = beside_source s (unkerned k left right)
 

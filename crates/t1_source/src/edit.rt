@@ -20,6 +20,8 @@ pub enum Edit {
     /// A code and a name.
     Encode(i64, Bytes),
     Unencode(i64),
+    /// The number of bytes in front of each charstring.
+    LenIv(i64),
     /// The left name, the right name and the value.
     Kern(Bytes, Bytes, i64),
     Unkern(Bytes, Bytes),

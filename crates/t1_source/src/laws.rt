@@ -1,11 +1,12 @@
 //! What printing and reading have to do with each other.
 
-ghost use Rattle.std.specs.Prelude.{◌≡◌, ◌≤◌, ◌<◌, ◌^◌, ◌+◌, ℕ, List, ◌∷◌, ◌++◌, Some, true, false, Ok, codes, decimal, length, map};
+ghost use Rattle.std.specs.Prelude.{◌≡◌, ◌≤◌, ◌<◌, ◌^◌, ◌+◌, ℕ, List, ◌∷◌, ◌++◌, Some, true, false, Ok, pos, codes, decimal, length, map};
 ghost use Rattle.std.specs.List.{list_all, list_any};
 ghost use Rattle.t1_text.specs.Lines.{lines, joined, is_line, trimmed};
 ghost use Rattle.t1_parts.specs.declared.item.Item.{Item};
 ghost use Rattle.t1_parts.specs.declared.item.Item.TheVariants.{Subr, Glyph};
 ghost use Rattle.t1_parts.specs.Counts.{glyphs_needed, raised};
+ghost use Rattle.t1_parts.specs.LenIV.{lead};
 ghost use Rattle.t1_parts.specs.Parts.{tail_of};
 ghost use Rattle.t1_text.specs.Names.{is_name};
 ghost use Rattle.t1_parts.specs.Sections.{is_subrs_line, is_glyphs_line};
@@ -16,6 +17,7 @@ ghost use Rattle.t1_parts.specs.Reading.{reads};
 ghost use Rattle.t1_parts.specs.Printing.{body_line, last_line, word_groups, text};
 ghost use Rattle.t1_source.specs.WellFormed.{IsWellFormed, is_counted};
 ghost use Rattle.t1_source.specs.declared.edit.Edit.{Edit};
+ghost use Rattle.t1_source.specs.declared.edit.Edit.TheVariants.{LenIv};
 ghost use Rattle.t1_source.specs.Editing.{edited, is_subr_entry};
 ghost use Rattle.t1_source.specs.declared.pairs.Pair.{Pair};
 ghost use Rattle.t1_source.specs.Kerning.{are_pairs, pairs, kern};
@@ -78,6 +80,12 @@ pub fn read_source_is_well_formed()
 pub fn edited_source_is_well_formed()
     ensures { (s made : SourceParts) (ps others : List Pair) (edit : Edit) → IsWellFormed s → edited s ps edit ≡ Ok (made, others)
         → IsWellFormed made }
+{}
+
+/// An edit of lenIV leaves a source that says it.
+pub fn edited_lead_is_said()
+    ensures { (s made : SourceParts) (ps others : List Pair) (n : ℕ) → IsWellFormed s → edited s ps (LenIv (pos n)) ≡ Ok (made, others)
+        → lead made ≡ n }
 {}
 
 /// A source that was read, of fewer than 1,000,000,000 glyphs, is read from its text as it was.

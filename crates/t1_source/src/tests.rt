@@ -352,3 +352,99 @@ fn wants_an_array(rt: HostRuntime) -> Result<(), Fail> {
     assert!(rt; matches!(refused, Err(Cause::Rule(Rule::E5))));
     Ok(())
 }
+
+/// The text of a font with these private lines, after an edit of its lenIV.
+fn with_lead(alloc: Global, private: &[u8], lead: i64) -> Result<Vec<u8>, Fail> {
+    let mut text = Vec::new(alloc);
+    text.extend_from_slice(b"/Encoding StandardEncoding def\ncurrentfile eexec\n")?;
+    text.extend_from_slice(private)?;
+    let source = read_source(alloc, text.as_slice())?;
+    let (source, _pairs) = committed(source, kerning(alloc)?, &Edit::LenIv(lead))?;
+    Ok(source.text()?)
+}
+
+#[test]
+fn commits_another_lead(rt: HostRuntime) -> Result<(), Fail> {
+    let private = b"/lenIV 00000000004/x /lenIV 9 def % /lenIV 4
+/lenIV 7 def
+/CharStrings 0 dict
+mark currentfile closefile
+";
+    let text = with_lead(rt.alloc(), private, 64)?;
+    assert_eq!(rt;
+        text.as_slice(),
+        b"/Encoding StandardEncoding def
+currentfile eexec
+/lenIV 64/x /lenIV 9 def % /lenIV 4
+/lenIV 7 def
+/CharStrings 0 dict
+mark currentfile closefile
+cleartomark
+"
+            .as_slice()
+    );
+    Ok(())
+}
+
+#[test]
+fn commits_a_lead_in_a_line_of_its_own(rt: HostRuntime) -> Result<(), Fail> {
+    let private = b"dup /Private % /lenIV 4
+/Subrs 1 array /lenIV 3 def
+dup 0 {
+\treturn
+\t} NP /lenIV 2 def
+/CharStrings 0 dict /lenIV 1 def
+mark currentfile closefile
+";
+    let text = with_lead(rt.alloc(), private, 0)?;
+    assert_eq!(rt;
+        text.as_slice(),
+        b"/Encoding StandardEncoding def
+currentfile eexec
+dup /Private % /lenIV 4
+/lenIV 0 def
+/Subrs 1 array /lenIV 3 def
+dup 0 {
+\treturn
+\t} NP /lenIV 2 def
+/CharStrings 0 dict /lenIV 1 def
+mark currentfile closefile
+cleartomark
+"
+            .as_slice()
+    );
+    Ok(())
+}
+
+#[test]
+fn commits_a_lead_on_the_last_line(rt: HostRuntime) -> Result<(), Fail> {
+    let private = b"/CharStrings 0 dict\n/lenIV 9 mark currentfile closefile\n";
+    let text = with_lead(rt.alloc(), private, 10)?;
+    assert_eq!(rt;
+        text.as_slice(),
+        b"/Encoding StandardEncoding def
+currentfile eexec
+/CharStrings 0 dict
+/lenIV 10 mark currentfile closefile
+cleartomark
+"
+            .as_slice()
+    );
+    Ok(())
+}
+
+#[test]
+fn wants_a_lead_of_64_at_most(rt: HostRuntime) -> Result<(), Fail> {
+    let alloc = rt.alloc();
+    let refused = small(alloc)?.prepared(&kerning(alloc)?, &Edit::LenIv(65));
+    assert!(rt; matches!(refused, Err(Cause::Rule(Rule::E4))));
+    Ok(())
+}
+
+#[test]
+fn wants_a_lead_of_0_at_least(rt: HostRuntime) -> Result<(), Fail> {
+    let alloc = rt.alloc();
+    let refused = small(alloc)?.prepared(&kerning(alloc)?, &Edit::LenIv(-1));
+    assert!(rt; matches!(refused, Err(Cause::Rule(Rule::E4))));
+    Ok(())
+}

@@ -16,5 +16,6 @@ Explains contents old new given (Err (stops.Failed errors.Memory)) = new ≡ old
 Explains contents old new given (Err (stops.Misused misuses.InputTwice)) = ⊥
 Explains contents old new given (Err (stops.Misused misuses.InputOfSession)) = ⊥
 Explains contents old new given (Err (stops.Misused misuses.NoText)) = ⊥
+Explains contents old new given (Err (stops.Misused misuses.BlockLength)) = ⊥
 Explains contents old new given (Err (stops.Failed (errors.Load fault))) = ⊥
 Explains contents old new given (Err (stops.Failed errors.Read)) = ⊥

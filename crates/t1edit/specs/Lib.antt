@@ -1,3 +1,4 @@
+pub mod Assembling
 pub mod Checking
 pub mod Explaining
 pub mod Reading

@@ -48,6 +48,26 @@ fn output<'a>(alloc: Global) -> Arg<'a> {
         .action(ArgAction::Set)
 }
 
+/// The option that cuts a PFB file into blocks.
+fn block<'a>(alloc: Global) -> Result<Arg<'a>, AllocError> {
+    Arg::new(alloc, "block")
+        .short('l')
+        .long("block")
+        .value_name("N")
+        .help("Cuts each part of the PFB file into segments of N bytes, from 1 to 2147483647")
+        .action(ArgAction::Set)
+        .conflicts_with("pfa")
+}
+
+/// The option that asks for a PFA file.
+fn pfa<'a>(alloc: Global) -> Arg<'a> {
+    Arg::new(alloc, "pfa")
+        .short('a')
+        .long("pfa")
+        .help("Writes the PFA file, whose encrypted part is hexadecimal")
+        .action(ArgAction::SetTrue)
+}
+
 /// The argument that names what is to be explained.
 fn code<'a>(alloc: Global) -> Arg<'a> {
     Arg::new(alloc, "CODE")
@@ -57,8 +77,10 @@ fn code<'a>(alloc: Global) -> Arg<'a> {
 
 fn assemble<'a>(alloc: Global, helps: &'a Helps) -> Result<Command<'a>, AllocError> {
     Command::new(alloc, "assemble")
-        .about("Writes the PFB file of a source")
+        .about("Writes the PFB or the PFA file of a source")
         .after_long_help(helps.assemble.as_str())
+        .arg(block(alloc)?)?
+        .arg(pfa(alloc))?
         .arg(output(alloc))?
         .arg(source(alloc))
 }

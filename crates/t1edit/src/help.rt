@@ -12,11 +12,14 @@ Commands, a line each:
   remove glyph NAME, remove subr N     an entry less
   encode CODE NAME                     a name for a code of the encoding array
   unencode CODE                        no name for a code of the encoding array
+  set leniv N                          the number of bytes in front of each charstring
   kern LEFT RIGHT N                    the value of a kerning pair
   unkern LEFT RIGHT                    a kerning pair less
   print source                         the source as it stands
   print kern                           the kerning pairs
   print pfb                            the assembled font
+  print pfb N                          the same, in segments of N bytes
+  print pfa                            the same, with its encrypted part in hexadecimal
   print afm                            its AFM file
   print uses                           the Subrs and glyphs that each glyph stands on
   begin, commit, abort                 a batch of edits, which are judged together

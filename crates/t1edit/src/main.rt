@@ -1,6 +1,7 @@
 //! `t1edit`: the command line over whole fonts.
 #![tactic(auto)]
 
+mod assembling;
 mod checking;
 mod command_line;
 mod explaining;
@@ -11,6 +12,7 @@ mod status;
 mod table;
 mod topic;
 
+use assembling::{assemble_as, form_of};
 use checking::check_source;
 use clap::error::ErrorKind;
 use clap::{ArgMatches, Error};
@@ -23,7 +25,7 @@ use status::{Misuse, Stop, USAGE, ending, run_ending};
 use std::process::ExitCode;
 use std::{env, io};
 use t1_code::Counted;
-use t1_session::{ServeError, assemble_source, measure_source, serve};
+use t1_session::{ServeError, measure_source, serve};
 use table::all_sections;
 
 /// The paths that the command line gives: of the source, and of the kerning file where it names one.
@@ -58,11 +60,12 @@ fn inputs_of(rt: &HostRuntime, matches: &ArgMatches<'_>) -> Result<(Vec<u8>, Vec
     Ok(inputs(rt, source, kern)?)
 }
 
-/// Writes the PFB file of a source.
+/// Writes the PFB file of a source, in blocks where their length is given, or its PFA file.
 fn assemble(rt: &HostRuntime, matches: &ArgMatches<'_>) -> Result<(), Stop> {
+    let form = form_of(matches.get_flag("pfa"), matches.get_str("block"))?;
     let source = read_input(rt, paths(matches).0)?;
     let mut output = Output::open(rt, matches.get_str("output"))?;
-    let answer = assemble_source(rt.alloc(), &source, &mut output.out);
+    let answer = assemble_as(rt.alloc(), &source, &form, &mut output.out);
     Ok(output.finish(rt, answer)?)
 }
 

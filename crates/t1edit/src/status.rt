@@ -20,6 +20,8 @@ pub enum Misuse {
     UnknownCode,
     /// An argument is no text in UTF-8.
     NoText,
+    /// A block can't have this length.
+    BlockLength,
 }
 
 impl Misuse {
@@ -31,6 +33,7 @@ impl Misuse {
             }
             Misuse::UnknownCode => b"t1edit: no such code; 't1edit explain' lists all of them\n",
             Misuse::NoText => b"t1edit: an argument is no UTF-8 text\n",
+            Misuse::BlockLength => b"t1edit: a block has 1 to 2147483647 bytes\n",
         }
     }
 }

@@ -427,8 +427,9 @@ const RULES: Section = Section {
             meaning: "not a number, or out of range",
             text: "\tencode 256 A\n\
                 \n\
-                A number has an optional - and digits. Subrs are from 0 to 32000, codes from 0 to 255, and\n\
-                values of pairs from -32000 to 32000.\n\
+                A number has an optional - and digits. Subrs are from 0 to 32000, codes from 0 to 255,\n\
+                values of pairs from -32000 to 32000, lenIV from 0 to 64, and the bytes of a segment from\n\
+                1 to 2147483647.\n\
                 \n\
                 What to do: mend the number.\n",
         },

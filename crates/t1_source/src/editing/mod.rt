@@ -4,6 +4,7 @@ mod change;
 mod entries;
 mod glyphs;
 mod kerning;
+mod leads;
 mod rules;
 mod slots;
 mod subrs;
@@ -15,6 +16,7 @@ ghost use Rattle.t1_source.specs.Editing.{Edits, edited};
 use crate::edit::{Cause, Edit};
 use crate::editing::glyphs::{adding_glyph, removing_glyph, replacing_glyph};
 use crate::editing::kerning::{kerning_pair, unkerning_pair};
+use crate::editing::leads::putting_lead;
 use crate::editing::slots::{encoding_code, unencoding_code};
 use crate::editing::subrs::{adding_subr, removing_subr, replacing_subr};
 use crate::pairs::Pairs;
@@ -40,6 +42,7 @@ impl Source {
             Edit::RemoveSubr(number) => removing_subr(self, *number),
             Edit::Encode(code, name) => encoding_code(self, *code, name.as_slice()),
             Edit::Unencode(code) => unencoding_code(self, *code),
+            Edit::LenIv(number) => putting_lead(self, *number),
             Edit::Kern(left, right, value) => {
                 kerning_pair(pairs, left.as_slice(), right.as_slice(), *value)
             }

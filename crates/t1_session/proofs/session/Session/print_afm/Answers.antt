@@ -1,4 +1,4 @@
-use Rattle.std.proofs.Common.{◌≡◌, ℕ, ap, ◌∙◌, List, Ok, Result, subst, sym}
+use Rattle.std.proofs.Common.{ℕ, ap, ◌∙◌, List, Ok, Result, subst, sym}
 use Rattle.t1_frac.specs.declared.fault.Fault.{Fault}
 use Rattle.t1_code.specs.Parts.{Prints}
 use Rattle.t1_afm.specs.Afm.{afm}

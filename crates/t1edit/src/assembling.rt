@@ -1,0 +1,71 @@
+//! The form of an assembled file.
+use std::marker::Model;
+
+/// How many bytes a segment of a PFB file has, the last of a part the rest.
+#[derive(Drop)]
+pub struct BlockSize {
+    size: usize,
+}
+
+impl Model for BlockSize {
+    ghost use Rattle.std.specs.Prelude.{◌≤◌, ◌-◌, ◌^◌, ℕ};
+
+    ghost Value = { ℕ };
+
+    ghost view = { λ block. block.size };
+
+    ghost invariant = { λ block. (1 ≤ block.size) × (block.size ≤ 2 ^ 31 - 1) };
+}
+
+/// The form of an assembled file.
+#[derive(Drop)]
+pub enum Form {
+    /// The PFB file, a segment a part.
+    Pfb,
+    /// The PFB file in segments of one length.
+    Blocks(BlockSize),
+    /// The PFA file.
+    Pfa,
+}
+
+ghost use Rattle.std.specs.Prelude.{◌≡◌, option_map, MatchResult};
+ghost use Rattle.t1_session.specs.Delivery.{Delivers};
+ghost use Rattle.t1edit.specs.Assembling.{FormIs, file_in_form};
+
+use crate::status::{Misuse, Stop};
+use std::alloc::Global;
+use std::io::Write;
+use t1_code::Counted;
+use t1_session::{ServeError, assemble_blocks, assemble_pfa, assemble_source, block_size_of_word};
+
+/// The form that the options ask for, a block length being 1 to 2147483647.
+pub fn form_of(pfa: bool, block: Option<&str>) -> Result<Form, Stop>
+    ensures { FormIs pfa (option_map (λ word. word.now) block.entry) result }
+{
+    if pfa {
+        return Ok(Form::Pfa);
+    }
+    let Some(word) = block else {
+        return Ok(Form::Pfb);
+    };
+    match block_size_of_word(word.as_bytes()) {
+        Some(size) => Ok(Form::Blocks(BlockSize { size })),
+        None => Err(Stop::Misused(Misuse::BlockLength)),
+    }
+}
+
+/// Writes the file of a source in a form.
+pub fn assemble_as<W: Write>(
+    alloc: Global,
+    source: &[u8],
+    form: &Form,
+    out: &mut Counted<W>,
+) -> Result<(), ServeError>
+    ensures { Delivers W.contents out.old out.new (file_in_form form.now source.now) result }
+{
+    match form {
+        Form::Pfb => assemble_source(alloc, source, out),
+        Form::Blocks(block) => assemble_blocks(alloc, source, block.size, out),
+        Form::Pfa => assemble_pfa(alloc, source, out),
+    }
+}
