@@ -47,7 +47,7 @@ fn values_before_box<'a>(header: &'a Header<'a>) -> [Value<'a>; 6]
     ]
 }
 
-/// The values that stand behind the font's box.
+/// The values that stand after the font's box.
 fn values_after_box<'a>(header: &'a Header<'a>) -> [Value<'a>; 4]
     ensures { values_of result ≡ others header.now }
 {

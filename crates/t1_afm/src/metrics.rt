@@ -1,4 +1,4 @@
-//! What an AFM file tells of a font.
+//! What an AFM file says of a font.
 
 ghost use Rattle.std.specs.Prelude.{◌≡◌};
 
@@ -77,7 +77,7 @@ pub struct CompositeMetric<'a> {
     pub dy: i64,
 }
 
-/// What an AFM file tells of a font. The names and values are borrowed.
+/// What an AFM file says of a font. The names and values are borrowed.
 #[derive(Debug, Drop)]
 pub struct Metrics<'a> {
     pub header: Header<'a>,

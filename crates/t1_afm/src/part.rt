@@ -94,7 +94,7 @@ fn code_number(code: Option<u8>) -> i64
 }
 
 impl<'a> CharMetric<'a> {
-    /// The words behind `C`, with the width along x alone.
+    /// The words after `C`, with the width along x alone.
     fn words(&self) -> [Word<'a>; 14]
         ensures { words_of result ≡ entries (codes "WX" ∷ signed_decimal self.now.wx ∷ []) self.now }
     {
@@ -106,7 +106,7 @@ impl<'a> CharMetric<'a> {
         ]
     }
 
-    /// The words behind `C`, with the width along both axes.
+    /// The words after `C`, with the width along both axes.
     fn words_of_both(&self) -> [Word<'a>; 15]
         ensures { words_of result
             ≡ entries (codes "W" ∷ signed_decimal self.now.wx ∷ signed_decimal self.now.wy ∷ []) self.now }

@@ -1,4 +1,4 @@
-//! Sums of coordinates with weights, exact.
+//! A curve's value at k/64 along one axis, exactly: the sum of four coordinates, each times a whole weight, over 64^3.
 
 ghost use Rattle.std.specs.Prelude.{◌≡◌, ◌≤◌, ◌*◌, ◌^◌, ◌*ℤ◌, pos};
 ghost use Rattle.std.specs.Int.RustNames.{unsigned_abs};
@@ -9,14 +9,14 @@ ghost use Rattle.t1_afm.specs.Bounds.{IsInRange, fraction_of};
 
 use t1_frac::Frac;
 
-/// A fraction with large terms.
+/// A fraction whose terms may need 128 bits.
 #[derive(Clone, Copy, Debug)]
 pub(crate) struct Ratio {
     num: i128,
     den: u128,
 }
 
-/// A weight's multiple of a numerator.
+/// A numerator times a weight.
 pub(crate) fn times(weight: u32, num: i64) -> i64
     requires weight { weight ≤ 2 ^ 18 }
     requires num { unsigned_abs num ≤ 2 ^ 40 }
@@ -26,7 +26,7 @@ pub(crate) fn times(weight: u32, num: i64) -> i64
     i64::from(weight) * num
 }
 
-/// A numerator over a denominator's multiple.
+/// A numerator times the denominator that it is widened by.
 fn scaled(num: i64, den: i64) -> i128
     requires num { unsigned_abs num ≤ 2 ^ 58 }
     requires den { unsigned_abs den ≤ 2 ^ 20 }
@@ -36,7 +36,7 @@ fn scaled(num: i64, den: i64) -> i128
     i128::from(num) * i128::from(den)
 }
 
-/// A coordinate's numerator with a weight, over another's denominator.
+/// A coordinate's numerator times its weight, widened by another's denominator.
 fn term(weight: u32, a: &Frac, b: &Frac) -> i128
     requires weight { weight ≤ 2 ^ 18 }
     requires a { IsCoordinate a.now }
@@ -47,7 +47,7 @@ fn term(weight: u32, a: &Frac, b: &Frac) -> i128
     scaled(times(weight, a.num()), b.den())
 }
 
-/// The numerator of the sum of two coordinates with weights.
+/// The numerator of the sum of two coordinates, each times its weight.
 fn pair_num(u: u32, a: &Frac, v: u32, b: &Frac) -> i128
     requires left { u ≤ 2 ^ 18 }
     requires right { v ≤ 2 ^ 18 }
@@ -71,7 +71,7 @@ fn pair_den(a: &Frac, b: &Frac) -> u128
     u128::from(a.den().unsigned_abs()) * u128::from(b.den().unsigned_abs())
 }
 
-/// The sum of two coordinates with weights.
+/// The sum of two coordinates, each times its weight.
 pub(crate) fn pair(u: u32, a: &Frac, v: u32, b: &Frac) -> Ratio
     requires left { u ≤ 2 ^ 18 }
     requires right { v ≤ 2 ^ 18 }
@@ -87,7 +87,7 @@ pub(crate) fn pair(u: u32, a: &Frac, v: u32, b: &Frac) -> Ratio
     }
 }
 
-/// A numerator over another's denominator.
+/// A sum's numerator, widened by the denominator of another.
 fn widened(p: &Ratio, q: &Ratio) -> i128
     requires num { unsigned_abs p.now.num ≤ 2 ^ 79 }
     requires den { q.now.den ≤ 2 ^ 40 }
@@ -145,7 +145,7 @@ impl Ratio {
         self.floor_wide() as i32
     }
 
-    /// Less than nothing by as much.
+    /// The fraction with the other sign.
     fn negated(&self) -> Ratio
         requires { unsigned_abs self.now.num ≤ 2 ^ 120 }
         ensures value { fraction_of result ≡ negated_of (fraction_of self.now) }

@@ -1,4 +1,4 @@
-//! What a run tells.
+//! What a run answers.
 
 ghost use Rattle.std.specs.Prelude.{◌≡◌, All, IfOk, Option};
 ghost use Rattle.std.specs.Option.{option_copied};
@@ -12,7 +12,7 @@ use crate::state::State;
 use std::marker::Model;
 use t1_frac::{Code, Place, Refusal};
 
-/// What the run of a glyph's own body told. It is made by `run` alone, and can't be cloned.
+/// What the run of a glyph's own body answered. It is made by `run` alone, and can't be cloned.
 #[derive(Debug, Drop)]
 pub struct Run {
     metric: Metric,

@@ -39,8 +39,9 @@ Example:
       t1edit session --kern font.afm font.t1
   ok
   refused E1
-  data 11
+  data 12
   KPX A V -92
+
 ";
 
 /// The texts of the helps.
