@@ -1,4 +1,4 @@
-//! What all layers of the assembler share: exact fractions, bytes and words as contracts see them, and the faults they tell.
+//! What all layers of the assembler share: exact fractions, bytes and words as contracts see them, faults and places.
 #![tactic(auto)]
 
 mod bytes;

@@ -113,7 +113,7 @@ fn closing_text(line: &[u8]) -> &[u8]
     trimmed(line.split_at(brace_start(line) + 1).1)
 }
 
-/// The body that begins on a line behind its brace and goes on over the later lines; nothing where it isn't ended.
+/// The body that begins on a line after its brace and goes on over the later lines; nothing where it isn't ended.
 pub fn body_of(alloc: Global, first: &[u8], later: &[Line]) -> Result<Option<EntryBody>, AllocError>
     ensures value { IfOk result (λ body. body ≡ body_of (first.now ∷ later.now)) }
     ensures within { IfOk result (λ body. IfSome body (λ b. b.more ≤ length later.now)) }

@@ -82,7 +82,7 @@ fn push_last_line(text: &mut Vec<u8>, closing: &[u8]) -> Result<(), AllocError>
     push_line(text, closing)
 }
 
-/// Adds an entry behind the name on its first line to a text.
+/// Adds an entry to a text, from after the name on its first line.
 fn push_entry(text: &mut Vec<u8>, bytes: &[u8], closing: &[u8]) -> Result<(), AllocError>
     ensures { OnOk
         result

@@ -1,4 +1,4 @@
-//! Section lines: finding their count, telling their kind.
+//! Section lines: their count and their kind.
 
 ghost use Rattle.std.specs.Prelude.{◌≡◌, ◌+◌, ◌≤◌, ◌<◌, ◌^◌, IfOk, IfSome, IsTrue, length, option_map};
 ghost use Rattle.t1_text.specs.Tokens.{places_from};

@@ -99,7 +99,7 @@ pub fn edited_counts_small()
         → edited s ps edit ≡ Ok (made, others) → glyphs_needed made.items < 10 ^ 9 → list_all is_counted made.items ≡ true }
 {}
 
-/// In a source that is kept no Subr stands behind a glyph.
+/// In a source that is kept no Subr stands after a glyph.
 pub fn subrs_stand_first()
     ensures { (s : SourceParts) (a b : List Item) (g : List ℕ) (ws : List (List ℕ)) (closing : List ℕ) → IsWellFormed s
         → s.items ≡ a ++ Glyph g ws closing ∷ b → list_any is_subr_entry b ≡ false }
