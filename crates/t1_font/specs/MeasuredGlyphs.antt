@@ -10,7 +10,7 @@ use Rattle.t1_afm.specs.declared.bbox.BBox.{BBox}
 use Rattle.t1_afm.specs.Box.{drawn_box, font_box}
 use Rattle.t1_font.specs.declared.glyph_metrics.GlyphMetrics.{GlyphMetrics}
 use Rattle.t1_font.specs.Bodies.{bodies}
-use Rattle.t1_font.specs.Glyphs.{Glyph, glyph_of, glyphs_by, glyphs, glyph_names}
+use Rattle.t1_font.specs.Glyphs.{Glyph, glyph_of, placed_parts_of, glyphs_by, glyphs, glyph_names}
 
 -- profile: what is told of a glyph: its name, width and parts, and its box where it draws
 abbrev pub glyph_metrics : Glyph → GlyphMetrics
@@ -21,6 +21,12 @@ glyph_metrics g = record {
   parts = g.parts;
   bbox = drawn_box g.outline;
 }
+
+-- what is told of a glyph, by what its run draws and its box
+abbrev pub glyph_metrics_by : List ℕ → Drawing → Option BBox → Result GlyphMetrics Code
+glyph_metrics_by name drawing box =
+    placed_parts_of drawing.bearing drawing.composite >>= (λ parts.
+    Ok (record { name = name; width = drawing.width; entered = drawing.entered; parts = parts; bbox = box }))
 
 -- what is told of a glyph, by runs that are kept
 unfoldable pub glyph_metrics_at : (List ℕ → Option (Result Drawing Code)) → List ℕ → Result GlyphMetrics Code

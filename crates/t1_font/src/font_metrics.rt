@@ -1,4 +1,4 @@
-//! What an AFM file tells of a source.
+//! What an AFM file says of a source.
 ghost use Rattle.std.specs.Prelude.{◌≡◌, IfOk};
 ghost use Rattle.t1_parts.specs.Header.{header as header_of};
 ghost use Rattle.t1_font.specs.FontMetrics.{header_values, metrics_of};
@@ -39,7 +39,7 @@ fn header<'a>(source: &'a Source) -> Header<'a>
     }
 }
 
-/// What the AFM file of a source and its pairs tells, by what is told of the glyphs.
+/// What the AFM file of a source and its pairs says, by what is measured of the glyphs.
 pub fn metrics<'a>(
     alloc: Global,
     source: &'a Source,

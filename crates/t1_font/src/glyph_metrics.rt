@@ -1,11 +1,11 @@
-//! What is told of glyphs.
+//! What is measured of glyphs.
 ghost use Rattle.std.specs.Prelude.{◌≡◌, All, map, Ok, Err, IfOk, MatchResult};
 ghost use Rattle.t1_frac.specs.Outcome.{Gives, told_at};
 ghost use Rattle.t1_frac.specs.declared.fault.Place.TheVariants as places;
 ghost use Rattle.t1_run.specs.Composite.{IsWithin};
 ghost use Rattle.t1_afm.specs.Box.{drawn_box as box_drawn, united};
 ghost use Rattle.t1_font.specs.Glyphs.{placed_parts_of, run_there};
-ghost use Rattle.t1_font.specs.MeasuredGlyphs.{glyph_metrics_at, glyph_metrics_among};
+ghost use Rattle.t1_font.specs.MeasuredGlyphs.{glyph_metrics_at, glyph_metrics_among, glyph_metrics_by};
 
 use crate::kept_runs::KeptRuns;
 use crate::numbers::SubrNumbers;
@@ -23,7 +23,7 @@ pub struct PlacedParts {
     pub by: Point,
 }
 
-/// What is told of a glyph.
+/// What is measured of a glyph.
 #[derive(Debug, Drop)]
 pub struct GlyphMetrics {
     pub name: Bytes,
@@ -75,7 +75,28 @@ fn run_of<'a, R: KeptRuns>(runs: &'a R, name: &[u8]) -> Result<&'a Run, Code>
     }
 }
 
-/// What is told of a glyph, or its first fault, at no place.
+/// What is measured of a glyph whose run and box are known, or the fault of the move of its accent, at no place.
+pub fn metrics_of_run(
+    alloc: Global,
+    name: &[u8],
+    run: &Run,
+    bbox: Option<BBox>,
+) -> Result<GlyphMetrics, Refusal>
+    ensures { Gives
+        (λ glyph. glyph)
+        result
+        (told_at places.Nowhere (glyph_metrics_by name.now run.now.drawing bbox)) }
+{
+    Ok(GlyphMetrics {
+        name: Bytes::copied(alloc, name)?,
+        width: run.width(),
+        entered: SubrNumbers::copied(alloc, run.entered())?,
+        parts: placed_parts(alloc, run)?,
+        bbox,
+    })
+}
+
+/// What is measured of a glyph, or its first fault, at no place.
 #[tactic(auto, unfolding(crate::specs::MeasuredGlyphs::glyph_metrics_at))]
 fn unplaced_metrics<R: KeptRuns>(
     alloc: Global,
@@ -89,17 +110,10 @@ fn unplaced_metrics<R: KeptRuns>(
 {
     let run = run_of(runs, name)?;
     let outline = outline_of(alloc, runs, name)?;
-    let bbox = drawn_box(outline.as_slice());
-    Ok(GlyphMetrics {
-        name: Bytes::copied(alloc, name)?,
-        width: run.width(),
-        entered: SubrNumbers::copied(alloc, run.entered())?,
-        parts: placed_parts(alloc, run)?,
-        bbox,
-    })
+    metrics_of_run(alloc, name, run, drawn_box(outline.as_slice()))
 }
 
-/// What is told of a glyph, or its first fault, at the glyph.
+/// What is measured of a glyph, or its first fault, at the glyph.
 fn placed_metrics<R: KeptRuns>(
     alloc: Global,
     runs: &R,
@@ -119,7 +133,7 @@ fn placed_metrics<R: KeptRuns>(
     }
 }
 
-/// What is told of these glyphs, in their order, or the first fault of a glyph.
+/// What is measured of these glyphs, in their order, or the first fault of a glyph.
 #[tactic(auto, unfolding(crate::specs::MeasuredGlyphs::glyph_metrics_among))]
 pub fn glyph_metrics_of<R: KeptRuns>(
     alloc: Global,

@@ -2,6 +2,7 @@
 ghost use Rattle.std.specs.Prelude.{◌≡◌, length, map, option_map, Ok, IfOk, OnOk};
 ghost use Rattle.std.specs.Option.{option_to_list};
 ghost use Rattle.t1_frac.specs.Outcome.{Gives};
+ghost use Rattle.t1_afm.specs.Box.{united};
 ghost use Rattle.t1_font.specs.Bodies.{bodies as bodies_of, bodies_check, plain_bodies, SameBodies};
 ghost use Rattle.t1_font.specs.Glyphs.{glyph_names, name_in};
 ghost use Rattle.t1_font.specs.Runs.{Counts};
@@ -18,7 +19,7 @@ use t1_frac::Refusal;
 use t1_run::{Meter, Plain};
 use t1_source::{Item, Source};
 
-/// What is told of the glyphs of a source, in the order of their entries, and the box around all that draw.
+/// What is measured of the glyphs of a source, in the order of their entries, and the box around all that draw.
 #[derive(Debug, Drop)]
 pub struct MeasuredGlyphs {
     metrics: Vec<GlyphMetrics>,
@@ -34,7 +35,15 @@ impl Model for MeasuredGlyphs {
 }
 
 impl MeasuredGlyphs {
-    /// What is told of the glyphs, in the order of their entries.
+    /// The metrics of some glyphs, in their order, and the box around those that draw.
+    pub fn of(metrics: Vec<GlyphMetrics>) -> MeasuredGlyphs
+        ensures { result ≡ record { metrics = metrics.items; font_box = united (map (λ glyph. glyph.bbox) metrics.items) } }
+    {
+        let font_box = font_box(&metrics);
+        MeasuredGlyphs { metrics, font_box }
+    }
+
+    /// What is measured of the glyphs, in the order of their entries.
     pub fn metrics(&self) -> &[GlyphMetrics]
         ensures { result.now ≡ self.now.metrics }
     {
@@ -90,8 +99,7 @@ pub fn measured(
     let names = glyph_names(alloc, items)?;
     let runs = runs_of(alloc, bodies, &names, meter)?;
     let metrics = glyph_metrics_of(alloc, &runs, &names)?;
-    let font_box = font_box(&metrics);
-    Ok(MeasuredGlyphs { metrics, font_box })
+    Ok(MeasuredGlyphs::of(metrics))
 }
 
 /// The metrics of the glyphs of a source, or its first fault: of the bodies, at its entry; F23; of a glyph, at the glyph.

@@ -30,7 +30,7 @@ pub enum PrivateLine<'a> {
     },
 }
 
-/// An entry's line behind `dup N` or `/NAME`.
+/// An entry's line after `dup N` or `/NAME`.
 fn entry<'a>(
     alloc: Global,
     lead: u8,

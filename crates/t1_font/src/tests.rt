@@ -145,7 +145,7 @@ fn counts_runs(rt: HostRuntime) -> Result<(), Fail> {
     Ok(())
 }
 
-/// The first fault of a private part of these lines, and the glyph that it is told at.
+/// The first fault of a private part of these lines, and the glyph that it is reported at.
 fn first_fault(alloc: Global, glyphs: &str) -> Result<Option<(Code, Vec<u8>)>, Fail> {
     let mut text = Vec::from_slice(
         alloc,

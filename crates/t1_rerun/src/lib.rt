@@ -4,12 +4,14 @@
 //! the edited font, or what is new of it.
 #![tactic(auto)]
 
+mod measured;
 mod newest;
 mod renewal;
 mod judging;
 mod reruns;
 mod stale;
 
+pub use measured::measured_records;
 pub use newest::Newest;
 pub use renewal::Renewal;
 pub use judging::rerun;

@@ -1,4 +1,5 @@
-use Rattle.std.proofs.Common.{◌∙◌, ap, sym, subst, map}
+use Rattle.std.proofs.Common.{◌∙◌, ap, sym, subst, map, refl}
+use Rattle.std.specs.Prelude.{Ok}
 use Rattle.std.proofs.lemmas.Result.{err_from_is_err_and}
 use Rattle.t1_frac.specs.Outcome.{Refuses}
 use Rattle.t1_afm.specs.Box.{united}
@@ -33,6 +34,6 @@ returns-clause-told c =
     let names = ap (map (λ name. name.now)) c.deref.ensures.value ∙ c.in_ok-names.ensures in
     let names_again = ap (map (λ name. name.now)) c.deref-2.ensures.value ∙ c.in_ok-names.ensures in
     let kept = keeps-own m items runs c.requires.bodies (λ g. c.in_ok-runs.ensures.kept g ∙ ap (λ l. own_among m l g) names) in
-    all-told items runs c.in_ok-metrics.metrics.items c.font_box-font_box.result kept
-    (sym (ap (glyph_metrics_among (kept_of runs)) names_again) ∙ c.in_ok-metrics.ensures)
-    (c.font_box-font_box.ensures ∙ ap (λ l. united (map (λ s. s.bbox) l)) c.deref-3.ensures.value)
+    all-told items runs c.in_ok-metrics.metrics.items (united (map (λ s. s.bbox) c.in_ok-metrics.metrics.items)) kept
+    (sym (ap (glyph_metrics_among (kept_of runs)) names_again) ∙ c.in_ok-metrics.ensures) refl
+    ∙ ap Ok (sym c.of.ensures)
