@@ -18,15 +18,16 @@ fn kept_glyphs(alloc: Global, records: &Records) -> Result<Vec<GlyphMetrics>, Re
     ensures { Gives (λ metrics. metrics.items) result (told_at Nowhere (kept_metrics (map kept_of records.now.glyphs.entries))) }
 {
     let mut metrics = Vec::new(alloc);
-    let mut at = 0;
-    while let Some((name, record)) = records.glyphs.get_index(at) {
+    for at in 0..records.glyphs.len() {
+        let Some((name, record)) = records.glyphs.get_index(at) else {
+            break;
+        };
         metrics.push(metrics_of_run(
             alloc,
             name.as_slice(),
             &record.run,
             record.bbox,
         )?)?;
-        at += 1;
     }
     Ok(metrics)
 }
