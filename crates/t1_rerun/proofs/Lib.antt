@@ -1,3 +1,4 @@
 pub mod Gathering
 pub mod Meeting
+pub mod Settled
 pub mod Taking

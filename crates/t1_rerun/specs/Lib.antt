@@ -1,3 +1,4 @@
 pub mod Newest
 pub mod Renewals
 pub mod Right
+pub mod Settled

@@ -19,7 +19,7 @@ use Rattle.t1_cache.specs.Users.{key_of}
 -- the records are those of the source from scratch: the bodies of its Subrs and glyphs, its glyphs' runs and boxes, and
 -- the users of each Subr and glyph
 pub record IsRight (s : SourceParts) (records : Records) : Type 0 where
-  pub bodies : SameBodies (record_bodies records) (bodies s.items)
+  pub compiled : SameBodies (record_bodies records) (bodies s.items)
   pub kept : KeepsAll s (map kept_of records.glyphs.entries)
   pub users : AreTables (bodies s.items) records
 

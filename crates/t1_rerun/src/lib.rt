@@ -8,8 +8,10 @@ mod newest;
 mod renewal;
 mod judging;
 mod reruns;
+mod settling;
 mod stale;
 
 pub use newest::Newest;
 pub use renewal::Renewal;
 pub use judging::rerun;
+pub use settling::{EntryChange, settle};

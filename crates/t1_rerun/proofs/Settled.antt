@@ -1,0 +1,1 @@
+-- Records that are brought to those of an edited source.
