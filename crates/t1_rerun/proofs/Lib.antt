@@ -1,4 +1,5 @@
 pub mod Gathering
 pub mod Meeting
 pub mod Settled
+pub mod Steps
 pub mod Taking

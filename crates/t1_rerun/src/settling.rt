@@ -1,6 +1,7 @@
 //! The records of a source, brought to those of the source after one edit.
-ghost use Rattle.std.specs.Prelude.{◌≡◌, ◌&&◌, ℕ, List, None, Some, OnErr, OnOk, filter, map, not};
-ghost use Rattle.std.specs.List.{AllByRecursion};
+ghost use Rattle.std.specs.Prelude.{◌≡◌, ◌<◌, ◌&&◌, ℕ, List, None, Some, IfSome, OnErr, OnOk, filter, length, map, not};
+ghost use Rattle.std.specs.List.{position, AllByRecursion};
+ghost use Rattle.std.specs.Str.{bytes_eq};
 ghost use Rattle.t1_parts.specs.SourceParts.{SourceParts};
 ghost use Rattle.t1_run.specs.Run.{Key, Subr, Glyph};
 ghost use Rattle.t1_run.specs.Touched.{is_key_of};
@@ -29,13 +30,21 @@ pub struct EntryChange {
     pub body: Option<Body>,
 }
 
+/// Where the first of the reruns stands that is of this glyph.
+fn rerun_at(reruns: &[Rerun], name: &[u8]) -> Option<usize>
+    ensures value { result ≡ position (λ r. bytes_eq r.name.items name.now) reruns.now }
+    ensures within { IfSome result (λ at. at < length reruns.now) }
+{
+    reruns
+        .iter()
+        .position(|rerun| rerun.name.as_slice() == name)
+}
+
 /// Takes out the first of the reruns that is of this glyph.
 fn taken_rerun(reruns: &mut Vec<Rerun>, name: &[u8]) -> Option<Rerun>
     ensures { IsTaken name.now reruns.old.items reruns.new.items result }
 {
-    let at = reruns
-        .iter()
-        .position(|rerun| rerun.name.as_slice() == name)?;
+    let at = rerun_at(reruns, name)?;
     Some(reruns.remove(at))
 }
 
@@ -195,7 +204,7 @@ fn settle_glyph(
     renewal: Renewal,
 ) -> Result<(), AllocError>
     requires there { HaveRecordsBut (Glyph name) renewal records.old }
-    requires rerun { HasRerun name renewal.reruns.items }
+    requires rerun { body_at (record_bodies records.old) (Glyph name) ≡ None → HasRerun name renewal.reruns.items }
     ensures bodies { OnOk result (SetsBody (Glyph name) (Some body) records.old records.new) }
     ensures users { OnOk result (AreMoved renewal records.old records.new) }
     ensures kept { OnOk result (KeepsGlyph (body_at (record_bodies records.old) (Glyph name)) name renewal.reruns.items records.old records.new) }
