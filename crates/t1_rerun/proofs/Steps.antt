@@ -1,5 +1,5 @@
 -- The steps by which records are brought to those of an edited source.
-use Rattle.std.proofs.Common.{◌≡◌, ◌<◌, ◌+◌, ℕ, zero, suc, Bool, true, false, cond, arith, List, [], ◌∷◌, ◌++◌, length, take, drop, get_or, map, filter, not, refl, sym, ◌∙◌, ap, subst, Option, Some, None}
+use Rattle.std.proofs.Common.{◌≡◌, ◌<◌, ◌+◌, ℕ, zero, suc, Bool, true, false, cond, arith, List, [], ◌∷◌, ◌++◌, length, take, drop, get_or, map, filter, not, refl, sym, ◌∙◌, ap, subst, Option, Some, None, ◌⊎◌, inl, inr}
 use Rattle.std.specs.Prelude.{◌||◌, ◌&&◌, Result, Ok, Err, OnOk, OnErr, IsSome, is_some}
 use Rattle.std.specs.List.{list_any, position}
 use Rattle.std.proofs.lemmas.List.Quantifiers.{position-Some}
@@ -9,7 +9,7 @@ use Rattle.std.specs.Option.{option_copied, option_map}
 use Rattle.std.specs.Str.{bytes_eq}
 use Rattle.std.specs.declared.alloc.Global.{Global}
 use Rattle.std.specs.declared.vec.Vec.{Vec}
-use Rattle.std.proofs.lemmas.Bool.{cases_Bool}
+use Rattle.std.proofs.lemmas.List.Sums.{sum_by-append}
 use Rattle.t1_source.proofs.ItemPlaceLaws.{position_none}
 use Rattle.t1_code.specs.declared.command.Command.{Command}
 use Rattle.t1_run.specs.Footprint.{SameAt}
@@ -25,7 +25,7 @@ use Rattle.t1_cache.specs.Bodies.{glyph_body, record_bodies}
 use Rattle.t1_cache.specs.Changed.{AreUnchanged, SetsBody}
 use Rattle.t1_cache.specs.Overlay.{body_at}
 use Rattle.t1_cache.specs.Renewed.{kept, kept_of, with_reruns, Kept}
-use Rattle.t1_cache.specs.Users.{among, has_pair, key_eq, key_of, lists, rest_of, users_at, wanted}
+use Rattle.t1_cache.specs.Users.{among, has_pair, key_eq, key_of, lists, rest_of, users_at, wanted, Pairs}
 use Rattle.t1_cache.proofs.Adding.{key-same}
 use Rattle.t1_cache.proofs.Changing.{nothing-read, rest_same}
 use Rattle.t1_cache.proofs.Putting.{bytes_tell}
@@ -269,3 +269,26 @@ some-told (Some r) b e there = ap is_some (sym e)
 pub none-told : {X : Type 0} (r : Option (Bor X)) (b : Option X) → option_copied r ≡ b → is_some r ≡ false → b ≡ None
 none-told None b e there = sym e
 none-told (Some r) b e there = absurd (cc)
+
+-- ---- what joins
+
+pub and-right : (a b : Bool) → (a && b) ≡ true → b ≡ true
+and-right true b h = h
+and-right false b h = absurd (cc)
+
+-- what is wanted has a pair
+pub some-wanted : (joins : Pairs) (k : Key) → (wanted joins k ≡ 0) ⊎ ((u : List ℕ) × (has_pair joins k u ≡ true))
+some-wanted [] k = inl refl
+some-wanted (p ∷ joins) k = by (key_eq k (key_of p.0)) refl (some-wanted joins k) where
+  by : (b : Bool) → key_eq k (key_of p.0) ≡ b → (wanted joins k ≡ 0) ⊎ ((u : List ℕ) × (has_pair joins k u ≡ true))
+      → (wanted (p ∷ joins) k ≡ 0) ⊎ ((u : List ℕ) × (has_pair (p ∷ joins) k u ≡ true))
+  by true on rest = inr (
+    p.1.items,
+    ap (λ b. (b && bytes_eq p.1.items p.1.items) || has_pair joins k p.1.items) on
+        ∙ ap (λ b. b || has_pair joins k p.1.items) (bytes_tell.itself p.1.items),
+  )
+  by false off (inl none) = inl (sum_by-append (λ x. cond (key_eq k (key_of x.0)) 1 0) (p ∷ []) joins ∙ ap (λ b. (0 + cond b 1 0) + wanted joins k) off ∙ (omega (arith, none)))
+  by false off (inr there) = inr (
+    there.0,
+    ap (λ b. (b && bytes_eq there.0 p.1.items) || has_pair joins k there.0) off ∙ there.1,
+  )
