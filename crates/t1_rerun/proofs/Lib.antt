@@ -1,3 +1,4 @@
+pub mod Changes
 pub mod Gathering
 pub mod Meeting
 pub mod Settled

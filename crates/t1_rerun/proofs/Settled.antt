@@ -421,7 +421,7 @@ module _ (keys : List Key) (old new : SourceParts) (before : Records) (renewal :
   -- ---- records
 
   -- of the glyphs that are there, those that are stale were run again
-  rerun-stale : (g : List ℕ) → has_glyph new g ≡ true → list_any (bytes_eq g) (rerun_names reruns) ≡ is_stale old keys g
+  pub rerun-stale : (g : List ℕ) → has_glyph new g ≡ true → list_any (bytes_eq g) (rerun_names reruns) ≡ is_stale old keys g
   rerun-stale g there = is.names g ∙ by (is_stale old keys g) refl where
     by : (b : Bool) → is_stale old keys g ≡ b → list_any (bytes_eq g) (stale old keys new) ≡ b
     by true on = among-passing (is_stale old keys) g (glyph_names new.items) there on
