@@ -9,9 +9,11 @@ mod newest;
 mod renewal;
 mod judging;
 mod reruns;
+mod settling;
 mod stale;
 
 pub use measured::measured_records;
 pub use newest::Newest;
 pub use renewal::Renewal;
 pub use judging::rerun;
+pub use settling::{EntryChange, settle};
