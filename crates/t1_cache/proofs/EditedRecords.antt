@@ -79,17 +79,17 @@ kept_in_place s k (RemoveSubr n) made ps well e kept keeps run box = record {
 }
 kept_in_place s k (Encode code g) made ps well e kept keeps run box = record {
   order = names_kept s kept keeps ∙ sym (names_edited s k (Encode code g) made ps well e);
-  fresh = all-one-of (λ x. is_stale s ([]) x.name ≡ false) kept kept (λ x i. i);
+  fresh = all-one-of (λ x. is_stale s [] x.name ≡ false) kept kept (λ x i. i);
 }
 kept_in_place s k (Unencode code) made ps well e kept keeps run box = record {
   order = names_kept s kept keeps ∙ sym (names_edited s k (Unencode code) made ps well e);
-  fresh = all-one-of (λ x. is_stale s ([]) x.name ≡ false) kept kept (λ x i. i);
+  fresh = all-one-of (λ x. is_stale s [] x.name ≡ false) kept kept (λ x i. i);
 }
 kept_in_place s k (Kern first second v) made ps well e kept keeps run box = record {
   order = names_kept s kept keeps ∙ sym (names_edited s k (Kern first second v) made ps well e);
-  fresh = all-one-of (λ x. is_stale s ([]) x.name ≡ false) kept kept (λ x i. i);
+  fresh = all-one-of (λ x. is_stale s [] x.name ≡ false) kept kept (λ x i. i);
 }
 kept_in_place s k (Unkern first second) made ps well e kept keeps run box = record {
   order = names_kept s kept keeps ∙ sym (names_edited s k (Unkern first second) made ps well e);
-  fresh = all-one-of (λ x. is_stale s ([]) x.name ≡ false) kept kept (λ x i. i);
+  fresh = all-one-of (λ x. is_stale s [] x.name ≡ false) kept kept (λ x i. i);
 }
