@@ -75,3 +75,10 @@ abbrev pub KeptAfterLaw : Type 0
 KeptAfterLaw =
     (s : SourceParts) (k : List Pair) (edit : Edit) (made : SourceParts) (ps : List Pair) → IsWellFormed s → edited s k edit ≡ Ok (made, ps)
     → (kept : List Kept) → KeepsAll s kept → (run : NumberedRun) (box : Option BBox) → AreInPlace (named edit) s made kept (kept_after edit run box kept)
+
+-- and so they do after one edit more
+abbrev pub KeptTurnLaw : Type 0
+KeptTurnLaw =
+    (keys : List Key) (old s : SourceParts) (k : List Pair) (edit : Edit) (made : SourceParts) (ps : List Pair) → IsWellFormed s → edited s k edit ≡ Ok (made, ps)
+    → (kept before : List Kept) → AreInPlace keys old s kept before → (run : NumberedRun) (box : Option BBox)
+    → AreInPlace (keys ++ named edit) old made kept (kept_after edit run box before)

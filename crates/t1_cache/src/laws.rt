@@ -4,7 +4,7 @@ ghost use Rattle.t1_cache.specs.Joins.{AllDrawLaw, FirstTablesLaw, JoinsLaw, Kep
 ghost use Rattle.t1_cache.specs.Kept.{KeptNamesLaw, RecordedLaw};
 ghost use Rattle.t1_cache.specs.Laws.{CountLaw, DistinctLaw, EditLaw, FirstFaultLaw, MiddleLaw, NamesLaw, NewestLaw, TurnLaw};
 ghost use Rattle.t1_cache.specs.Overlay.{BodyLaw, OverlayLaw};
-ghost use Rattle.t1_cache.specs.Renewal.{KeptAfterLaw, RenewalLaw, RerunsLaw};
+ghost use Rattle.t1_cache.specs.Renewal.{KeptAfterLaw, KeptTurnLaw, RenewalLaw, RerunsLaw};
 ghost use Rattle.t1_cache.specs.Room.{RoomLaw};
 ghost use Rattle.t1_cache.specs.There.{NamesThereLaw, UsesThereLaw};
 
@@ -138,4 +138,9 @@ pub fn recorded()
 /// The records after an edit, before any glyph is run again, stand in the order of the edited source.
 pub fn kept_after()
     ensures { KeptAfterLaw }
+{}
+
+/// And so they do after one edit more.
+pub fn kept_turn()
+    ensures { KeptTurnLaw }
 {}
