@@ -46,6 +46,7 @@ RenewalLaw =
     → (kept records : List Kept) → KeepsAll old kept → map (λ k. k.name) records ≡ glyph_names new.items
     → AllByRecursion (IsRenewed keys old new kept) records → KeepsAll new records
 
+-- what a rerun puts into the record of its glyph
 abbrev pub kept_by : Rerun → Kept
 kept_by r = record { name = r.name.items; run = r.run; box = r.bbox }
 
@@ -66,17 +67,18 @@ kept_after (AddGlyph g body) run box kept = kept ++ record { name = g; run = run
 kept_after (RemoveGlyph g) run box kept = filter (λ k. not (bytes_eq g k.name)) kept
 kept_after _ run box kept = kept
 
--- they stand in the order of the edited source, and each that is fresh is one of those kept
+-- records stand in the order of the edited source, and each that is fresh is one of those kept
 pub record AreInPlace (keys : List Key) (old new : SourceParts) (kept before : List Kept) : Type 0 where
   pub order : map (λ k. k.name) before ≡ glyph_names new.items
   pub fresh : AllByRecursion (λ k. is_stale old keys k.name ≡ false → IsOneOf kept k) before
 
+-- the records after one edit are in place
 abbrev pub KeptAfterLaw : Type 0
 KeptAfterLaw =
     (s : SourceParts) (k : List Pair) (edit : Edit) (made : SourceParts) (ps : List Pair) → IsWellFormed s → edited s k edit ≡ Ok (made, ps)
     → (kept : List Kept) → KeepsAll s kept → (run : NumberedRun) (box : Option BBox) → AreInPlace (named edit) s made kept (kept_after edit run box kept)
 
--- and so they do after one edit more
+-- after one edit more they are so at the keys of all edits
 abbrev pub KeptTurnLaw : Type 0
 KeptTurnLaw =
     (keys : List Key) (old s : SourceParts) (k : List Pair) (edit : Edit) (made : SourceParts) (ps : List Pair) → IsWellFormed s → edited s k edit ≡ Ok (made, ps)

@@ -140,7 +140,7 @@ pub fn kept_after()
     ensures { KeptAfterLaw }
 {}
 
-/// And so they do after one edit more.
+/// Records that stand in the order of an edited source do so after one edit more, at the keys of all edits.
 pub fn kept_turn()
     ensures { KeptTurnLaw }
 {}
