@@ -1,12 +1,14 @@
 -- What is kept of a source's glyphs.
 use Rattle.std.specs.Prelude.{◌≡◌, ℕ, List, map, Option, Ok}
 use Rattle.t1_parts.specs.SourceParts.{SourceParts}
-use Rattle.t1_run.specs.Run.{Drawing}
+use Rattle.t1_run.specs.Run.{Drawing, own}
 use Rattle.t1_afm.specs.declared.bbox.BBox.{BBox}
 use Rattle.t1_afm.specs.Box.{drawn_box}
+use Rattle.t1_font.specs.Bodies.{bodies}
 use Rattle.t1_font.specs.Glyphs.{Glyph as Told, glyph_names}
 use Rattle.t1_font.specs.SourceChecks.{source_glyphs}
-use Rattle.t1_cache.specs.Renewed.{Kept}
+use Rattle.t1_cache.specs.declared.records.Records.{Records}
+use Rattle.t1_cache.specs.Renewed.{Kept, kept_of, recorded_run}
 
 -- a record, its serial aside
 pub record Shown : Type 0 where
@@ -29,3 +31,8 @@ pub record KeepsAll (s : SourceParts) (records : List Kept) : Type 0 where
 -- the records bear the names of the glyphs, in source order
 abbrev pub KeptNamesLaw : Type 0
 KeptNamesLaw = (s : SourceParts) (records : List Kept) → KeepsAll s records → map (λ k. k.name) records ≡ glyph_names s.items
+
+-- the records of a source have the own runs of its font
+abbrev pub RecordedLaw : Type 0
+RecordedLaw =
+    (s : SourceParts) (records : Records) → KeepsAll s (map kept_of records.glyphs.entries) → (g : List ℕ) → recorded_run records g ≡ own (bodies s.items) g

@@ -1,16 +1,22 @@
 -- The records of an edited font.
-use Rattle.std.specs.Prelude.{◌≡◌, ◌⊎◌, ℕ, true, false, List, [], ◌∷◌, map, Some, Ok}
+use Rattle.std.specs.Prelude.{◌≡◌, ◌⊎◌, ℕ, true, false, not, List, [], ◌∷◌, ◌++◌, filter, map, Option, Some, Ok}
 use Rattle.std.specs.List.{AllByRecursion, list_any}
 use Rattle.std.specs.Str.{bytes_eq}
 use Rattle.t1_parts.specs.SourceParts.{SourceParts}
 use Rattle.t1_run.specs.declared.outline.Segment.{Segment}
-use Rattle.t1_run.specs.Run.{FontBodies, Key, own}
+use Rattle.t1_run.specs.Run.{FontBodies, Key, NumberedRun, own}
+use Rattle.t1_source.specs.declared.edit.Edit.{Edit}
+use Rattle.t1_source.specs.declared.edit.Edit.TheVariants.{AddGlyph, RemoveGlyph}
+use Rattle.t1_source.specs.declared.pairs.Pair.{Pair}
+use Rattle.t1_source.specs.Editing.{edited}
+use Rattle.t1_source.specs.WellFormed.{IsWellFormed}
+use Rattle.t1_afm.specs.declared.bbox.BBox.{BBox}
 use Rattle.t1_run.specs.Composite.{outline}
 use Rattle.t1_afm.specs.Box.{drawn_box}
 use Rattle.t1_font.specs.Bodies.{bodies}
 use Rattle.t1_font.specs.Glyphs.{Glyph as Told, glyph_names}
 use Rattle.t1_font.specs.SourceChecks.{source_glyphs}
-use Rattle.t1_cache.specs.Edited.{IsEditedAt, is_stale}
+use Rattle.t1_cache.specs.Edited.{IsEditedAt, is_stale, named}
 use Rattle.t1_cache.specs.Kept.{KeepsAll}
 use Rattle.t1_cache.specs.declared.records.Rerun.{Rerun}
 use Rattle.t1_cache.specs.Renewed.{Kept, with_reruns}
@@ -40,6 +46,7 @@ RenewalLaw =
     → (kept records : List Kept) → KeepsAll old kept → map (λ k. k.name) records ≡ glyph_names new.items
     → AllByRecursion (IsRenewed keys old new kept) records → KeepsAll new records
 
+-- what a rerun puts into the record of its glyph
 abbrev pub kept_by : Rerun → Kept
 kept_by r = record { name = r.name.items; run = r.run; box = r.bbox }
 
@@ -53,3 +60,27 @@ RerunsLaw =
     → AllByRecursion (λ r. IsFromScratch (bodies new.items) (kept_by r)) reruns
     → ((g : List ℕ) → list_any (bytes_eq g) (glyph_names new.items) ≡ true → has (λ r. r.name.items) reruns g ≡ is_stale old keys g)
     → KeepsAll new (with_reruns reruns before)
+
+-- the records after an edit, before any glyph is run again: a new glyph has some run and box, and is the last one
+abbrev pub kept_after : Edit → NumberedRun → Option BBox → List Kept → List Kept
+kept_after (AddGlyph g body) run box kept = kept ++ record { name = g; run = run; box = box } ∷ []
+kept_after (RemoveGlyph g) run box kept = filter (λ k. not (bytes_eq g k.name)) kept
+kept_after _ run box kept = kept
+
+-- records stand in the order of the edited source, and each that is fresh is one of those kept
+pub record AreInPlace (keys : List Key) (old new : SourceParts) (kept before : List Kept) : Type 0 where
+  pub order : map (λ k. k.name) before ≡ glyph_names new.items
+  pub fresh : AllByRecursion (λ k. is_stale old keys k.name ≡ false → IsOneOf kept k) before
+
+-- the records after one edit are in place
+abbrev pub KeptAfterLaw : Type 0
+KeptAfterLaw =
+    (s : SourceParts) (k : List Pair) (edit : Edit) (made : SourceParts) (ps : List Pair) → IsWellFormed s → edited s k edit ≡ Ok (made, ps)
+    → (kept : List Kept) → KeepsAll s kept → (run : NumberedRun) (box : Option BBox) → AreInPlace (named edit) s made kept (kept_after edit run box kept)
+
+-- after one edit more they are so at the keys of all edits
+abbrev pub KeptTurnLaw : Type 0
+KeptTurnLaw =
+    (keys : List Key) (old s : SourceParts) (k : List Pair) (edit : Edit) (made : SourceParts) (ps : List Pair) → IsWellFormed s → edited s k edit ≡ Ok (made, ps)
+    → (kept before : List Kept) → AreInPlace keys old s kept before → (run : NumberedRun) (box : Option BBox)
+    → AreInPlace (keys ++ named edit) old made kept (kept_after edit run box before)

@@ -19,6 +19,7 @@ pub record Kept : Type 0 where
   pub run : NumberedRun
   pub box : Option BBox
 
+-- the record of a glyph, its body and users aside
 abbrev pub kept : List ℕ → NumberedRun → Option BBox → Kept
 kept name run box = record { name = name; run = run; box = box }
 

@@ -32,12 +32,15 @@ RoomLaw =
 
 -- ---- how many joined so far
 
+-- how many joined a Subr
 abbrev pub subr_count : List (ℕ × ℕ) → ℕ → ℕ
 subr_count counts n = unwrap_or (lookup (nat_eq n) counts) 0
 
+-- how many joined a glyph
 abbrev pub glyph_count : List (Bor (List ℕ) × ℕ) → List ℕ → ℕ
 glyph_count counts g = unwrap_or (lookup (λ name. bytes_eq g name.now) counts) 0
 
+-- how many joined either
 abbrev pub count_at : Counts → Key → ℕ
 count_at counts (Subr n) = subr_count counts.subrs.entries n
 count_at counts (Glyph g) = glyph_count counts.glyphs.entries g

@@ -1,6 +1,7 @@
 //! Records changed at one Subr or one glyph.
-ghost use Rattle.std.specs.Prelude.{◌≡◌, ◌&&◌, ◌++◌, [], ◌∷◌, ℕ, List, None, Some, IsSome, OnErr, OnOk, filter, map, not};
+ghost use Rattle.std.specs.Prelude.{◌≡◌, ◌<◌, ◌&&◌, ◌++◌, [], ◌∷◌, ℕ, List, None, Some, IsOk, IsSome, OnErr, OnOk, filter, map, not};
 ghost use Rattle.std.specs.Str.{bytes_eq};
+ghost use Rattle.indexmap.specs.IndexMap.{spare};
 ghost use Rattle.t1_run.specs.Run.{Key, Subr, Glyph};
 ghost use Rattle.t1_cache.specs.Bodies.{record_bodies};
 ghost use Rattle.t1_cache.specs.Changed.{AreUnchanged, SetsBody};
@@ -39,7 +40,8 @@ pub fn put_glyph(records: &mut Records, name: &[u8], body: Body)
     }
 }
 
-/// Puts in the record of a Subr that has none, without users. Where memory runs out all stays as it was.
+/// Puts in the record of a Subr that has none, without users. Where memory runs out all stays as it was; in room that was
+/// made it doesn't.
 pub fn insert_subr(
     alloc: Global,
     records: &mut Records,
@@ -52,13 +54,15 @@ pub fn insert_subr(
     ensures room { OnOk result ((k : Key) (count : ℕ) → HasRoom count (users_at records.old k) → HasRoom count (users_at records.new k)) }
     ensures kept { OnOk result (map kept_of records.new.glyphs.entries ≡ map kept_of records.old.glyphs.entries) }
     ensures refused { OnErr result (AreUnchanged records.old records.new) }
+    ensures succeeds { 0 < spare records.old.subrs → IsOk result }
 {
     let users = IndexSet::new(alloc);
     records.subrs.insert(number, SubrRecord { body, users })?;
     Ok(())
 }
 
-/// Puts in the record of a glyph that has none, after the others, without users. Where memory runs out all stays as it was.
+/// Puts in the record of a glyph that has none, after the others, without users. Where memory runs out all stays as it was;
+/// in room that was made it doesn't.
 pub fn insert_glyph(
     alloc: Global,
     records: &mut Records,
@@ -73,6 +77,7 @@ pub fn insert_glyph(
     ensures room { OnOk result ((k : Key) (count : ℕ) → HasRoom count (users_at records.old k) → HasRoom count (users_at records.new k)) }
     ensures kept { OnOk result (map kept_of records.new.glyphs.entries ≡ map kept_of records.old.glyphs.entries ++ kept name.items run bbox ∷ []) }
     ensures refused { OnErr result (AreUnchanged records.old records.new) }
+    ensures succeeds { 0 < spare records.old.glyphs → IsOk result }
 {
     let record = GlyphRecord {
         body,

@@ -1,12 +1,12 @@
 //! Laws of edited sources, and of what is kept of a font under edits.
 ghost use Rattle.t1_cache.specs.Changed.{ChangedBodiesLaw, RestLaw};
 ghost use Rattle.t1_cache.specs.Joins.{AllDrawLaw, FirstTablesLaw, JoinsLaw, KeptRunLaw, LessTablesLaw, StaleFoundLaw};
-ghost use Rattle.t1_cache.specs.Kept.{KeptNamesLaw};
+ghost use Rattle.t1_cache.specs.Kept.{KeptNamesLaw, RecordedLaw};
 ghost use Rattle.t1_cache.specs.Laws.{CountLaw, DistinctLaw, EditLaw, FirstFaultLaw, MiddleLaw, NamesLaw, NewestLaw, TurnLaw};
 ghost use Rattle.t1_cache.specs.Overlay.{BodyLaw, OverlayLaw};
-ghost use Rattle.t1_cache.specs.Renewal.{RenewalLaw, RerunsLaw};
+ghost use Rattle.t1_cache.specs.Renewal.{KeptAfterLaw, KeptTurnLaw, RenewalLaw, RerunsLaw};
 ghost use Rattle.t1_cache.specs.Room.{RoomLaw};
-ghost use Rattle.t1_cache.specs.There.{UsesThereLaw};
+ghost use Rattle.t1_cache.specs.There.{NamesThereLaw, UsesThereLaw};
 
 /// Entries that are put in, taken out or replaced change a source at their keys, and nowhere else.
 pub fn middle()
@@ -123,4 +123,24 @@ pub fn rest()
 /// The records of a source bear the names of its glyphs, in source order.
 pub fn kept_names()
     ensures { KeptNamesLaw }
+{}
+
+/// The glyphs that have a body are entries of the source, and each entry of a source without a fault has a body.
+pub fn names_there()
+    ensures { NamesThereLaw }
+{}
+
+/// The records of a source have the own runs of its font.
+pub fn recorded()
+    ensures { RecordedLaw }
+{}
+
+/// The records after an edit, before any glyph is run again, stand in the order of the edited source.
+pub fn kept_after()
+    ensures { KeptAfterLaw }
+{}
+
+/// Records that stand in the order of an edited source do so after one edit more, at the keys of all edits.
+pub fn kept_turn()
+    ensures { KeptTurnLaw }
 {}
