@@ -1,20 +1,27 @@
 -- What the source of a session gives.
-use Rattle.std.proofs.Common.{◌≡◌, ℕ, true, List, Option, Some, None, Result, Ok, Err, refl, ap, sym, ◌∙◌, subst}
+use Rattle.std.proofs.Common.{◌≡◌, ℕ, true, List, Option, Some, None, Result, Ok, Err, refl, ap, sym, ◌∙◌, inl, inr, subst}
 use Rattle.std.specs.Prelude.{IfOk}
+use Rattle.std.proofs.lemmas.Bool.{cases_Bool}
 use Rattle.t1_frac.specs.declared.fault.Fault.{Fault}
 use Rattle.t1_frac.specs.declared.fault.Refusal.{Refusal}
 use Rattle.t1_frac.specs.declared.fault.Refusal.TheVariants as refusals
-use Rattle.t1_frac.specs.Outcome.{Refuses, ◌>>=◌}
+use Rattle.t1_frac.specs.declared.fault.Code.TheVariants.{F23}
+use Rattle.t1_frac.specs.declared.fault.Place.TheVariants.{Nowhere}
+use Rattle.t1_frac.specs.Outcome.{fault_at, Refuses, ◌>>=◌}
 use Rattle.t1_parts.specs.SourceParts.{SourceParts}
+use Rattle.t1_text.specs.Lines.{joined}
+use Rattle.t1_parts.specs.LenIV.{lead}
+use Rattle.t1_parts.specs.Operator.{operator}
 use Rattle.t1_parts.specs.Printing.{text}
 use Rattle.t1_parts.specs.Reading.{reads}
 use Rattle.t1_source.specs.declared.edit.Rule.{Rule}
 use Rattle.t1_source.specs.declared.pairs.Pair.{Pair}
 use Rattle.t1_source.specs.Editing.{edited}
 use Rattle.t1_source.specs.Kerning.{pairs, kern}
-use Rattle.t1_code.specs.Pfb.{whole_file}
+use Rattle.t1_code.specs.Pfa.{pfa, pfa_of}
+use Rattle.t1_code.specs.Pfb.{has_long_part, pfb, pfb_of, whole_file}
 use Rattle.t1_afm.specs.Afm.{afm}
-use Rattle.t1_font.specs.Assembly.{counts_check, file_check, length_check, source_file, source_pfa}
+use Rattle.t1_font.specs.Assembly.{counts_check, file_check, length_check, private_text, source_file, source_pfa, trailer_text}
 use Rattle.t1_font.specs.FontMetrics.{metrics_of}
 use Rattle.t1_font.specs.MeasuredGlyphs.{MeasuredFont, measured}
 use Rattle.t1_font.specs.SourceChecks.{measured_source, source_check, source_usage}
@@ -94,6 +101,49 @@ has_file s font e =
     let checked = file-checked s font e in
     let long = length-checked s checked.0 checked.1 in
     file-made s long.0 long.1
+
+-- its files in other forms: no form has a fault of its own
+checked-metrics : (s : SourceParts) → source_check s ≡ Ok tt → (font : MeasuredFont) × (measured_source s ≡ Ok font)
+checked-metrics s e = first-ok (measured_source s) (λ metrics. Ok (tt {0})) tt (sym (by-source-metrics s).check ∙ e)
+
+blocks-of : (size : ℕ) (clear private trailer file : List ℕ) → pfb_of whole_file clear private trailer ≡ Ok file → (made : List ℕ) × (pfb_of size clear private trailer ≡ Ok made)
+blocks-of size clear private trailer file e =
+    elim (cases_Bool (has_long_part clear private trailer)) [
+      | inl long ↦ let none : ◌≡◌ {A = Result (List ℕ) Fault} (Err (fault_at Nowhere F23)) (Ok file) = rw long at e in absurd (cc)
+      | inr short ↦ (pfb size clear private trailer, rw short refl)
+    ]
+
+pfa-of : (clear private trailer file : List ℕ) → pfb_of whole_file clear private trailer ≡ Ok file → (made : List ℕ) × (pfa_of clear private trailer ≡ Ok made)
+pfa-of clear private trailer file e =
+    elim (cases_Bool (has_long_part clear private trailer)) [
+      | inl long ↦ let none : ◌≡◌ {A = Result (List ℕ) Fault} (Err (fault_at Nowhere F23)) (Ok file) = rw long at e in absurd (cc)
+      | inr short ↦ (pfa clear private trailer, rw short refl)
+    ]
+
+private-made : (s : SourceParts) (file : List ℕ) → source_file whole_file s ≡ Ok file
+    → (private : List ℕ) × (private_text (lead s) (operator s) s.items ≡ Ok private) × (pfb_of whole_file (joined s.clear) private (trailer_text s.tail) ≡ Ok file)
+unfolding source_file
+private-made s file e =
+    let text = first-ok (private_text (lead s) (operator s) s.items) (λ private. pfb_of whole_file (joined s.clear) private (trailer_text s.tail)) file e in
+    (text.0, text.1, ap (λ (r : Result (List ℕ) Fault). r >>= λ private. pfb_of whole_file (joined s.clear) private (trailer_text s.tail)) (sym text.1) ∙ e)
+
+pub has_blocks : (s : SourceParts) (size : ℕ) → source_check s ≡ Ok tt → (made : List ℕ) × (source_file size s ≡ Ok made)
+unfolding source_file
+has_blocks s size e =
+    let metrics = checked-metrics s e in
+    let file = has_file s metrics.0 metrics.1 in
+    let private = private-made s file.0 file.1 in
+    let made = blocks-of size (joined s.clear) private.0 (trailer_text s.tail) file.0 private.2 in
+    (made.0, ap (λ (r : Result (List ℕ) Fault). r >>= λ text. pfb_of size (joined s.clear) text (trailer_text s.tail)) private.1 ∙ made.1)
+
+pub has_pfa : (s : SourceParts) → source_check s ≡ Ok tt → (made : List ℕ) × (source_pfa s ≡ Ok made)
+unfolding source_pfa
+has_pfa s e =
+    let metrics = checked-metrics s e in
+    let file = has_file s metrics.0 metrics.1 in
+    let private = private-made s file.0 file.1 in
+    let made = pfa-of (joined s.clear) private.0 (trailer_text s.tail) file.0 private.2 in
+    (made.0, ap (λ (r : Result (List ℕ) Fault). r >>= λ text. pfa_of (joined s.clear) text (trailer_text s.tail)) private.1 ∙ made.1)
 
 -- its counts have at most nine digits
 pub counts_short : (s : SourceParts) (font : MeasuredFont) → measured_source s ≡ Ok font → list_all is_counted s.items ≡ true
