@@ -9,6 +9,7 @@ pub mod GroupLaws
 pub mod ItemLaws
 pub mod KeyLaws
 pub mod ReadingRows
+pub mod RunLaws
 pub mod SectionLaws
 pub mod TailLaws
 pub mod TextPlaceLaws

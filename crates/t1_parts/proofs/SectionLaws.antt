@@ -1,19 +1,16 @@
 -- A section line, with another count in the place of its count.
-use Rattle.std.proofs.Common.{◌≡◌, ℕ, Bool, true, false, ◌&&◌, ◌||◌, ◌==◌, ◌+◌, ◌≤◌, nat_le, if◌then◌else◌, Some, is_some, List, [], ◌∷◌, ◌++◌, length, take, drop, map, refl, sym, ◌∙◌, ap, inl, inr, arith, append_assoc}
-use Rattle.std.specs.List.{list_all, onto_first, prefix_len}
+use Rattle.std.proofs.Common.{◌≡◌, ℕ, Bool, true, false, ◌&&◌, ◌||◌, ◌==◌, ◌+◌, ◌≤◌, nat_le, if◌then◌else◌, Some, is_some, List, [], ◌∷◌, ◌++◌, length, map, refl, sym, ◌∙◌, ap, inl, inr, arith, append_assoc}
+use Rattle.std.specs.List.{list_all, onto_first}
 use Rattle.std.specs.Str.{bytes_eq}
 use Rattle.std.proofs.lemmas.Bool.{and_parts, and_from, cases_Bool, leb-true}
-use Rattle.std.proofs.lemmas.List.{take-append-drop}
 use Rattle.std.proofs.lemmas.Slice.Eq.{bytes_eq-Decides}
-use Rattle.std.proofs.Math.Numerals.{one-add}
 use Rattle.t1_frac.specs.Words.{is_blank}
-use Rattle.t1_text.specs.Tokens.{is_bracket, is_regular, goes_on, tokens, onto_place, joins_at, places_from}
+use Rattle.t1_text.specs.Tokens.{is_bracket, goes_on, tokens, onto_place, places_from}
 use Rattle.t1_text.specs.Names.{is_digit}
 use Rattle.t1_text.specs.Names.{is_count}
 use Rattle.t1_parts.specs.Sections.{count_between}
-use Rattle.t1_parts.proofs.EntryLaws.{are_regular, digit_regular, digits_regular}
-use Rattle.t1_text.proofs.TokenLaws.{regular_parts}
-use Rattle.t1_text.proofs.PlaceLaws.{regular_place, run_place}
+use Rattle.t1_parts.proofs.RunLaws.{is_run, around_run}
+use Rattle.t1_parts.proofs.EntryLaws.{digits_regular}
 
 -- the tokens without their places
 abbrev pub bare : List (ℕ × List ℕ) → List (List ℕ)
@@ -50,160 +47,10 @@ count_parts ds h =
     let sizes = and_parts (nat_le 1 (length ds)) (nat_le (length ds) 9) parts.0 in
     (leb-true 1 (length ds) sizes.0, leb-true (length ds) 9 sizes.1, parts.1)
 
--- a line goes on behind nothing but what begins with a regular byte
-count_goes_on : (es rest : List ℕ) → is_count es ≡ true → goes_on (es ++ rest) ≡ true
-count_goes_on [] rest h = absurd (omega (arith, (count_parts [] h).0))
-count_goes_on (e ∷ es) rest h = digit_regular e (and_parts (is_digit e) (list_all is_digit es) (count_parts (e ∷ es) h).2).0
-
-digits_place : (i e : ℕ) (es rest : List ℕ) → are_regular (e ∷ es) ≡ true → goes_on rest ≡ false → places_from i (e ∷ es ++ rest) ≡ (i, e ∷ es) ∷ places_from (i + (1 + length es)) rest
-digits_place i e [] rest h stop =
-    regular_place i e rest (and_parts (is_regular e) true h).0 ∙ (rw stop (ap (λ k. (i, e ∷ []) ∷ places_from k rest) (omega arith)))
-digits_place i e (d ∷ es) rest h stop =
-    let parts = and_parts (is_regular e) (are_regular (d ∷ es)) h in
-    let next : is_regular d ≡ true = (and_parts (is_regular d) (are_regular es) parts.1).0 in
-    regular_place i e (d ∷ es ++ rest) parts.0
-    ∙ (rw next (ap (onto_place i e) (digits_place (i + 1) d es rest parts.1 stop) ∙ ap (λ k. (i, e ∷ d ∷ es) ∷ places_from k rest) (omega arith)))
-
--- a count, and what can't go on with it
-count_place : (i : ℕ) (es rest : List ℕ) → is_count es ≡ true → goes_on rest ≡ false → places_from i (es ++ rest) ≡ (i, es) ∷ places_from (i + length es) rest
-count_place i [] rest h stop = absurd (omega (arith, (count_parts [] h).0))
-count_place i (e ∷ es) rest h stop =
-    digits_place i e es rest (digits_regular (e ∷ es) (count_parts (e ∷ es) h).2) stop ∙ ap (λ k. (i, e ∷ es) ∷ places_from k rest) (omega arith)
-
--- what stands around a count on a line whose tokens before it are these
-pub record Around (i : ℕ) (l : List ℕ) (ps : List (ℕ × List ℕ)) (p : ℕ) (t : List ℕ) (qs : List (ℕ × List ℕ)) : Type 0 where
-  pub before : List ℕ
-  pub after : List ℕ
-  pub whole : l ≡ before ++ (t ++ after)
-  pub place : p ≡ i + length before
-  pub later : qs ≡ places_from (p + length t) after
-  pub other : (es : List ℕ) → is_count es ≡ true → places_from i (before ++ (es ++ after)) ≡ ps ++ (p, es) ∷ places_from (p + length es) after
-
-stop_here : (rest : List ℕ) → goes_on (drop (prefix_len is_regular rest) rest) ≡ false
-stop_here [] = refl
-stop_here (d ∷ rest) =
-    elim (cases_Bool (is_regular d)) [
-      | inl on ↦ rw (on, one-add) (stop_here rest)
-      | inr off ↦ rw off off
-    ]
-
-front_of : (p q : ℕ) (t u : List ℕ) (ts us : List (ℕ × List ℕ)) → (p, t) ∷ ts ≡ (q, u) ∷ us → (p ≡ q) × (t ≡ u) × (ts ≡ us)
-front_of p q t u ts us e = let first : ◌≡◌ {A = ℕ × List ℕ} (p, t) (q, u) = cc in (ap (λ x. x.0) first, ap (λ x. x.1) first, cc)
-
-none_longer : {A : Type 0} (ps qs : List A) (x : A) → [] ≡ ps ++ x ∷ qs → ⊥
-none_longer [] qs x e = cc
-none_longer (p ∷ ps) qs x e = cc
-
--- the first token is the count
-around_first : (i c : ℕ) (rest : List ℕ) (p : ℕ) (t : List ℕ) (qs : List (ℕ × List ℕ)) → is_count t ≡ true → is_blank c ≡ false → (c == 37) ≡ false
-    → places_from i (c ∷ rest) ≡ (p, t) ∷ qs → Around i (c ∷ rest) [] p t qs
-around_first i c rest p t qs h word none e =
-    let k = prefix_len is_regular rest in
-    elim (cases_Bool (is_bracket c)) [
-      | inl bracket ↦
-          let same = front_of i p (c ∷ []) t (places_from (i + 1) rest) qs (rw (word, none, bracket) at e) in
-          let digit : is_digit c ≡ true = (and_parts (is_digit c) true (ap (list_all is_digit) same.1 ∙ (count_parts t h).2)).0 in
-          let off : is_bracket c ≡ false = (regular_parts c (digit_regular c digit)).1 in
-          absurd (bool_apart (is_bracket c) bracket off)
-      | inr other ↦
-          let run : places_from i (c ∷ rest) ≡ (i, c ∷ take k rest) ∷ places_from (i + (1 + k)) (drop k rest) = (rw (word, none, other) (run_place i c rest)) in
-          let same = front_of i p (c ∷ take k rest) t (places_from (i + (1 + k)) (drop k rest)) qs (sym run ∙ e) in
-          let cut : c ∷ rest ≡ t ++ drop k rest = ap (λ y. c ∷ y) (sym (take-append-drop k rest)) ∙ ap (λ y. y ++ drop k rest) same.1 in
-          let again = front_of i p t t (places_from (i + length t) (drop k rest)) qs (sym (count_place i t (drop k rest) h (stop_here rest)) ∙ ap (places_from i) (sym cut) ∙ e) in
-          record {
-            before = [];
-            after = drop k rest;
-            whole = cut;
-            place = omega (arith, same.0);
-            later = sym again.2 ∙ ap (λ j. places_from (j + length t) (drop k rest)) same.0;
-            other = λ es counted. count_place i es (drop k rest) counted (stop_here rest) ∙ ap (λ j. (j, es) ∷ places_from (j + length es) (drop k rest)) same.0;
-          }
-    ]
-  where
-    bool_apart : (b : Bool) → b ≡ true → b ≡ false → ⊥
-    bool_apart b x y = cc
-
--- whether a line goes on is the same with another count
-same_on : (before es t after : List ℕ) → is_count es ≡ true → is_count t ≡ true → goes_on (before ++ (es ++ after)) ≡ goes_on (before ++ (t ++ after))
-same_on [] es t after h k = count_goes_on es after h ∙ sym (count_goes_on t after k)
-same_on (d ∷ before) es t after h k = refl
-
--- a byte in front
-around_longer : (i c : ℕ) (rest : List ℕ) (ps before_ps : List (ℕ × List ℕ)) (p : ℕ) (t : List ℕ) (qs : List (ℕ × List ℕ)) → is_count t ≡ true
-    → ((other : List ℕ) (us : List (ℕ × List ℕ)) → goes_on other ≡ goes_on rest → places_from (i + 1) other ≡ before_ps ++ us → places_from i (c ∷ other) ≡ ps ++ us)
-    → Around (i + 1) rest before_ps p t qs → Around i (c ∷ rest) ps p t qs
-around_longer i c rest ps before_ps p t qs h step r =
-    record {
-      before = c ∷ r.before;
-      after = r.after;
-      whole = ap (λ y. c ∷ y) r.whole;
-      place = omega (arith, r.place);
-      later = r.later;
-      other = λ es counted.
-          step (r.before ++ (es ++ r.after)) ((p, es) ∷ places_from (p + length es) r.after)
-          (same_on r.before es t r.after counted h ∙ ap goes_on (sym r.whole)) (r.other es counted);
-    }
-
-other_place : (i c : ℕ) (rest : List ℕ) → is_blank c ≡ false → (c == 37) ≡ false → is_bracket c ≡ false → places_from i (c ∷ rest) ≡ joins_at i c rest (places_from (i + 1) rest)
-other_place i c rest word none other = rw (word, none, other) refl
-
--- the places of a token that goes on
-onto_parts : (i c : ℕ) (zs : List (ℕ × List ℕ)) (x : ℕ × List ℕ) (xs qs : List (ℕ × List ℕ)) (y : ℕ × List ℕ) → onto_place i c zs ≡ x ∷ (xs ++ y ∷ qs)
-    → (z : ℕ × List ℕ) × (zs ≡ z ∷ (xs ++ y ∷ qs)) × (x ≡ (i, c ∷ z.1))
-onto_parts i c [] x xs qs y e = absurd (none_longer xs qs y (let rest : [] ≡ xs ++ y ∷ qs = cc in rest))
-onto_parts i c (z ∷ zs) x xs qs y e =
-    let rest : zs ≡ xs ++ y ∷ qs = cc in
-    let first : ◌≡◌ {A = ℕ × List ℕ} (i, c ∷ z.1) x = cc in
-    (z, ap (λ us. z ∷ us) rest, sym first)
-
--- what stands around a count that is a token of a line
-pub around : (i : ℕ) (l : List ℕ) (ps : List (ℕ × List ℕ)) (p : ℕ) (t : List ℕ) (qs : List (ℕ × List ℕ)) → is_count t ≡ true → places_from i l ≡ ps ++ (p, t) ∷ qs → Around i l ps p t qs
-around i [] ps p t qs h e = absurd (none_longer ps qs (p, t) e)
-around i (c ∷ rest) ps p t qs h e =
-    elim (cases_Bool (is_blank c)) [
-      | inl blank ↦ around_longer i c rest ps ps p t qs h (λ other us on more. rw blank more) (around (i + 1) rest ps p t qs h (rw blank at e))
-      | inr word ↦ elim (cases_Bool (c == 37)) [
-        | inl comment ↦ absurd (none_longer ps qs (p, t) (rw (word, comment) at e))
-        | inr none ↦ behind i c rest ps p t qs h word none e (λ xs d. around (i + 1) rest xs p t qs h d)
-      ]
-    ]
-  where
-    bracket_step : (i c : ℕ) (x : ℕ × List ℕ) (xs : List (ℕ × List ℕ)) → is_blank c ≡ false → (c == 37) ≡ false → is_bracket c ≡ true → x ≡ (i, c ∷ [])
-        → (other : List ℕ) (us : List (ℕ × List ℕ)) → places_from (i + 1) other ≡ xs ++ us → places_from i (c ∷ other) ≡ x ∷ (xs ++ us)
-    bracket_step i c x xs word none bracket is other us more = rw (word, none, bracket) (ap (λ y. y ∷ places_from (i + 1) other) (sym is) ∙ ap (λ ys. x ∷ ys) more)
-
-    apart_step : (i c : ℕ) (rest : List ℕ) (x : ℕ × List ℕ) (xs : List (ℕ × List ℕ)) → is_blank c ≡ false → (c == 37) ≡ false → is_bracket c ≡ false → goes_on rest ≡ false → x ≡ (i, c ∷ [])
-        → (other : List ℕ) (us : List (ℕ × List ℕ)) → goes_on other ≡ goes_on rest → places_from (i + 1) other ≡ xs ++ us → places_from i (c ∷ other) ≡ x ∷ (xs ++ us)
-    apart_step i c rest x xs word none no_bracket off is other us on more =
-        other_place i c other word none no_bracket ∙ (let here : goes_on other ≡ false = on ∙ off in rw here (ap (λ y. y ∷ places_from (i + 1) other) (sym is) ∙ ap (λ ys. x ∷ ys) more))
-
-    joined_step : (i c : ℕ) (rest : List ℕ) (x z : ℕ × List ℕ) (xs : List (ℕ × List ℕ)) → is_blank c ≡ false → (c == 37) ≡ false → is_bracket c ≡ false → goes_on rest ≡ true → x ≡ (i, c ∷ z.1)
-        → (other : List ℕ) (us : List (ℕ × List ℕ)) → goes_on other ≡ goes_on rest → places_from (i + 1) other ≡ z ∷ (xs ++ us) → places_from i (c ∷ other) ≡ x ∷ (xs ++ us)
-    joined_step i c rest x z xs word none no_bracket on_rest is other us on more =
-        other_place i c other word none no_bracket ∙ (let here : goes_on other ≡ true = on ∙ on_rest in rw here (ap (onto_place i c) more ∙ ap (λ y. y ∷ (xs ++ us)) (sym is)))
-
-    behind : (i c : ℕ) (rest : List ℕ) (ps : List (ℕ × List ℕ)) (p : ℕ) (t : List ℕ) (qs : List (ℕ × List ℕ)) → is_count t ≡ true → is_blank c ≡ false → (c == 37) ≡ false
-        → places_from i (c ∷ rest) ≡ ps ++ (p, t) ∷ qs → ((xs : List (ℕ × List ℕ)) → places_from (i + 1) rest ≡ xs ++ (p, t) ∷ qs → Around (i + 1) rest xs p t qs) → Around i (c ∷ rest) ps p t qs
-    behind i c rest [] p t qs h word none e more = around_first i c rest p t qs h word none e
-    behind i c rest (x ∷ xs) p t qs h word none e more =
-        elim (cases_Bool (is_bracket c)) [
-          | inl bracket ↦
-              let split : (i, c ∷ []) ∷ places_from (i + 1) rest ≡ x ∷ (xs ++ (p, t) ∷ qs) = rw (word, none, bracket) at e in
-              let is : ◌≡◌ {A = ℕ × List ℕ} (i, c ∷ []) x = cc in
-              let later : places_from (i + 1) rest ≡ xs ++ (p, t) ∷ qs = cc in
-              around_longer i c rest (x ∷ xs) xs p t qs h (λ other us on d. bracket_step i c x xs word none bracket (sym is) other us d) (more xs later)
-          | inr other ↦ elim (cases_Bool (goes_on rest)) [
-            | inl on ↦
-                let whole : onto_place i c (places_from (i + 1) rest) ≡ x ∷ (xs ++ (p, t) ∷ qs) = rw on at (sym (other_place i c rest word none other) ∙ e) in
-                let parts = onto_parts i c (places_from (i + 1) rest) x xs qs (p, t) whole in
-                around_longer i c rest (x ∷ xs) (parts.0 ∷ xs) p t qs h (λ l us same d. joined_step i c rest x parts.0 xs word none other on parts.2 l us same d) (more (parts.0 ∷ xs) parts.1)
-            | inr off ↦
-                let whole : (i, c ∷ []) ∷ places_from (i + 1) rest ≡ x ∷ (xs ++ (p, t) ∷ qs) = rw off at (sym (other_place i c rest word none other) ∙ e) in
-                let is : ◌≡◌ {A = ℕ × List ℕ} (i, c ∷ []) x = cc in
-                let later : places_from (i + 1) rest ≡ xs ++ (p, t) ∷ qs = cc in
-                around_longer i c rest (x ∷ xs) xs p t qs h (λ l us same d. apart_step i c rest x xs word none other off (sym is) l us same d) (more xs later)
-          ]
-        ]
+-- a count is a run of regular bytes
+count_run : (ds : List ℕ) → is_count ds ≡ true → is_run ds ≡ true
+count_run [] h = absurd (omega (arith, (count_parts [] h).0))
+count_run (d ∷ ds) h = digits_regular (d ∷ ds) (count_parts (d ∷ ds) h).2
 
 -- where the first key, count and word in a row stand among some tokens
 pub record Matched (key word : List ℕ) (ps : List (ℕ × List ℕ)) (m : ℕ × List ℕ) : Type 0 where
@@ -353,7 +200,7 @@ pub count_place_of : (key word l : List ℕ) (m : ℕ × List ℕ) → is_count 
 count_place_of key word l m plain e =
     let r = matched key word (places_from 0 l) m plain e in
     let whole : places_from 0 l ≡ (r.front ++ r.before ∷ []) ++ (m.0, m.1) ∷ (r.after ∷ r.back) = r.whole ∙ sym (append_assoc r.front (r.before ∷ []) (m ∷ r.after ∷ r.back)) in
-    let a = around 0 l (r.front ++ r.before ∷ []) m.0 m.1 (r.after ∷ r.back) r.counted whole in
+    let a = around_run 0 l (r.front ++ r.before ∷ []) m.0 m.1 (r.after ∷ r.back) (count_run m.1 r.counted) whole in
     record {
       before = a.before;
       after = a.after;
@@ -361,13 +208,13 @@ count_place_of key word l m plain e =
       place = omega (arith, a.place);
       counted = r.counted;
       other = λ es counted.
-          ap (count_between key word) (a.other es counted)
+          ap (count_between key word) (a.other es (count_run es counted))
           ∙ found_with key word (places_from 0 l) m (m.0, es) r (places_from (m.0 + length es) a.after) counted
           (ap bare a.later ∙ bare_places (m.0 + length m.1) a.after ∙ sym (bare_places (m.0 + length es) a.after));
       front = bare (r.front ++ r.before ∷ []);
       tokens = λ es counted.
           sym (bare_places 0 (a.before ++ (es ++ a.after)))
-          ∙ ap bare (a.other es counted)
+          ∙ ap bare (a.other es (count_run es counted))
           ∙ bare_append (r.front ++ r.before ∷ []) ((m.0, es) ∷ places_from (m.0 + length es) a.after)
           ∙ ap (λ t. bare (r.front ++ r.before ∷ []) ++ es ∷ t) (bare_places (m.0 + length es) a.after);
     }

@@ -22,7 +22,7 @@ use Rattle.t1_source.specs.Leads.{place_after, with_token, line_with_lead}
 use Rattle.t1_source.specs.WellFormed.{is_inner, opens_entry}
 use Rattle.t1_source.proofs.PrintedLaws.{digits_past, digits_line, line_parts, line_append, inner_parts, inner_from, contra}
 use Rattle.t1_source.proofs.SectionLineLaws.{line_of, none_of, of_none}
-use Rattle.t1_source.proofs.RunLaws.{is_run, around_run}
+use Rattle.t1_parts.proofs.RunLaws.{is_run, around_run}
 
 abbrev pub key : List ℕ
 key = codes "/lenIV"

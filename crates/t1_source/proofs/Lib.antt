@@ -16,7 +16,6 @@ pub mod PairsWellFormedLaws
 pub mod PrintedLaws
 pub mod PrintingRows
 pub mod PutLaws
-pub mod RunLaws
 pub mod SearchLaws
 pub mod SectionLineLaws
 pub mod SlotLaws

@@ -39,6 +39,7 @@ pub record AroundRun (i : ℕ) (l : List ℕ) (ps : List (ℕ × List ℕ)) (p :
   pub after : List ℕ
   pub whole : l ≡ before ++ (t ++ after)
   pub place : p ≡ i + length before
+  pub later : qs ≡ places_from (p + length t) after
   pub other : (es : List ℕ) → is_run es ≡ true → places_from i (before ++ (es ++ after)) ≡ ps ++ (p, es) ∷ places_from (p + length es) after
 
 stop_here : (rest : List ℕ) → goes_on (drop (prefix_len is_regular rest) rest) ≡ false
@@ -70,11 +71,13 @@ around_first i c rest p t qs h word none e =
           let run : places_from i (c ∷ rest) ≡ (i, c ∷ take k rest) ∷ places_from (i + (1 + k)) (drop k rest) = (rw (word, none, other) (run_place i c rest)) in
           let same = front_of i p (c ∷ take k rest) t (places_from (i + (1 + k)) (drop k rest)) qs (sym run ∙ e) in
           let cut : c ∷ rest ≡ t ++ drop k rest = ap (λ y. c ∷ y) (sym (take-append-drop k rest)) ∙ ap (λ y. y ++ drop k rest) same.1 in
+          let again = front_of i p t t (places_from (i + length t) (drop k rest)) qs (sym (run_token i t (drop k rest) h (stop_here rest)) ∙ ap (places_from i) (sym cut) ∙ e) in
           record {
             before = [];
             after = drop k rest;
             whole = cut;
             place = omega (arith, same.0);
+            later = sym again.2 ∙ ap (λ j. places_from (j + length t) (drop k rest)) same.0;
             other = λ es regular. run_token i es (drop k rest) regular (stop_here rest) ∙ ap (λ j. (j, es) ∷ places_from (j + length es) (drop k rest)) same.0;
           }
     ]
@@ -97,6 +100,7 @@ around_longer i c rest ps before_ps p t qs h step r =
       after = r.after;
       whole = ap (λ y. c ∷ y) r.whole;
       place = omega (arith, r.place);
+      later = r.later;
       other = λ es regular.
           step (r.before ++ (es ++ r.after)) ((p, es) ∷ places_from (p + length es) r.after)
           (same_on r.before es t r.after regular h ∙ ap goes_on (sym r.whole)) (r.other es regular);
