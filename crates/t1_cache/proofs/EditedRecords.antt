@@ -3,7 +3,7 @@ use Rattle.std.proofs.Common.{◌≡◌, ℕ, zero, suc, Bool, true, false, cond
 use Rattle.std.specs.Prelude.{Result, Ok, Err, ◌||◌}
 use Rattle.std.specs.List.{AllByRecursion, list_any}
 use Rattle.std.specs.Str.{bytes_eq}
-use Rattle.t1_source.specs.declared.edit.Edit.TheVariants.{ReplaceGlyph, AddGlyph, RemoveGlyph, ReplaceSubr, AddSubr, RemoveSubr, Encode, Unencode, Kern, Unkern}
+use Rattle.t1_source.specs.declared.edit.Edit.TheVariants.{ReplaceGlyph, AddGlyph, RemoveGlyph, ReplaceSubr, AddSubr, RemoveSubr, Encode, Unencode, LenIv, Kern, Unkern}
 use Rattle.std.proofs.lemmas.List.Folds.{list_any-append}
 use Rattle.t1_frac.specs.declared.fault.Code.{Code}
 use Rattle.t1_parts.specs.SourceParts.{SourceParts}
@@ -143,6 +143,10 @@ turn_in_place keys old s k (Encode code g) made ps well e kept before at run box
 }
 turn_in_place keys old s k (Unencode code) made ps well e kept before at run box = record {
   order = at.order ∙ sym (names_edited s k (Unencode code) made ps well e);
+  fresh = still-fresh old keys [] kept before at.fresh;
+}
+turn_in_place keys old s k (LenIv n) made ps well e kept before at run box = record {
+  order = at.order ∙ sym (names_edited s k (LenIv n) made ps well e);
   fresh = still-fresh old keys [] kept before at.fresh;
 }
 turn_in_place keys old s k (Kern first second v) made ps well e kept before at run box = record {
