@@ -110,9 +110,10 @@ fn session<'a>(alloc: Global, helps: &'a Helps) -> Result<Command<'a>, AllocErro
         .arg(source_file(alloc))
 }
 
-fn explain<'a>(alloc: Global) -> Result<Command<'a>, AllocError> {
+fn explain<'a>(alloc: Global, helps: &'a Helps) -> Result<Command<'a>, AllocError> {
     Command::new(alloc, "explain")
         .about("Says what a code, a rule or an exit status means, and what to do")
+        .after_long_help(helps.program.as_str())
         .arg(code(alloc))
 }
 
@@ -128,5 +129,5 @@ pub fn command<'a>(alloc: Global, helps: &'a Helps) -> Result<Command<'a>, Alloc
         .subcommand(measure(alloc, helps)?)?
         .subcommand(check(alloc, helps)?)?
         .subcommand(session(alloc, helps)?)?
-        .subcommand(explain(alloc)?)
+        .subcommand(explain(alloc, helps)?)
 }
