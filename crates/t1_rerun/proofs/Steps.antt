@@ -22,7 +22,7 @@ use Rattle.t1_cache.specs.declared.records.Named.TheVariants as TheNamed
 use Rattle.t1_cache.specs.declared.records.Records.{Records}
 use Rattle.t1_cache.specs.declared.records.Rerun.{Rerun}
 use Rattle.t1_cache.specs.Bodies.{glyph_body, record_bodies}
-use Rattle.t1_cache.specs.Changed.{AreUnchanged, SetsBody}
+use Rattle.t1_cache.specs.Changed.{SetsBody}
 use Rattle.t1_cache.specs.Overlay.{body_at}
 use Rattle.t1_cache.specs.Renewed.{kept, kept_of, with_reruns, Kept}
 use Rattle.t1_cache.specs.Users.{among, has_pair, key_eq, key_of, lists, rest_of, users_at, wanted, Pairs}
@@ -30,8 +30,8 @@ use Rattle.t1_cache.proofs.Adding.{key-same}
 use Rattle.t1_cache.proofs.Changing.{nothing-read, rest_same}
 use Rattle.t1_cache.proofs.Putting.{bytes_tell}
 use Rattle.t1_rerun.specs.declared.renewal.Renewal.{Renewal}
-use Rattle.t1_rerun.specs.Renewals.{rerun_kept, rerun_names}
-use Rattle.t1_rerun.specs.Settled.{is_moved, AreAsBefore, AreMoved, HaveRecords, HaveRecordsBut, IsOneTaken, IsTaken, KeepsGlyph}
+use Rattle.t1_rerun.specs.Renewals.{rerun_names}
+use Rattle.t1_rerun.specs.Settled.{AreAsBefore, AreMoved, HaveRecords, HaveRecordsBut, IsOneTaken, IsTaken, KeepsGlyph}
 
 -- ---- bodies, key by key
 
@@ -145,13 +145,6 @@ but-last g (e ∷ es) x absent is = by (bytes_eq g e.0.items) refl absent (but-l
   by false off none rest =
       ap (λ b. cond (not b) (kept_of e ∷ filter (λ k. not (bytes_eq g k.name)) (map kept_of es ++ x ∷ [])) (filter (λ k. not (bytes_eq g k.name)) (map kept_of es ++ x ∷ []))) off
       ∙ ap (λ l. kept_of e ∷ l) (rest none is)
-
--- users move where the records list the same
-pub moved-after : (renewal : Renewal) (old mid new : Records) → ((k : Key) (u : List ℕ) → lists mid k u ≡ lists old k u) → AreMoved renewal mid new
-    → AreMoved renewal old new
-moved-after renewal old mid new same moved k u = moved k u ∙ ap (moves k u) (same k u) where
-  moves : Key → List ℕ → Bool → Bool
-  moves k u b = (b && not (has_pair renewal.leaves.items k u)) || has_pair renewal.joins.items k u
 
 pub all-passing : (xs : List Kept) → filter (λ k. true) xs ≡ xs
 all-passing [] = refl
