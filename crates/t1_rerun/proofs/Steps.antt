@@ -235,20 +235,8 @@ kept-none g h j reruns old new e f none kept =
     subst (λ b. KeepsGlyph b g reruns old new) (sym none ∙ ap (λ x. body_at (record_bodies old) (Glyph x)) f)
     (subst (λ x. KeepsGlyph None x reruns old new) e kept)
 
--- a glyph that has a record
-pub kept-some : (b : Option (List Command)) (g : List ℕ) (reruns : List Rerun) (old new : Records) → IsSome b
-    → map kept_of new.glyphs.entries ≡ with_reruns reruns (map kept_of old.glyphs.entries) → KeepsGlyph b g reruns old new
-kept-some None g reruns old new there kept = absurd (cc)
-kept-some (Some b) g reruns old new there kept = kept
-
 pub kept-but-subr : (n : ℕ) (named : Named) (xs : List Kept) → named ≡ TheNamed.Subr n → xs ≡ filter (λ k. not (is_key_of k.name (key_of named))) xs
 kept-but-subr n named xs e = sym (all-passing xs) ∙ ap (λ d. filter (λ k. not (is_key_of k.name (key_of d))) xs) (sym e)
-
-pub kept-but-glyph : (g : List ℕ) (xs : List Kept) → filter (λ k. not (bytes_eq g k.name)) xs ≡ filter (λ k. not (bytes_eq k.name g)) xs
-kept-but-glyph g [] = refl
-kept-but-glyph g (k ∷ xs) =
-    ap (λ b. cond (not b) (k ∷ filter (λ k. not (bytes_eq g k.name)) xs) (filter (λ k. not (bytes_eq g k.name)) xs)) (turned g k.name)
-    ∙ ap (λ l. cond (not (bytes_eq k.name g)) (k ∷ l) l) (kept-but-glyph g xs)
 
 -- a body that was there still is
 pub some-still : (k : Key) (old new : Records) → SameBodies (record_bodies new) (record_bodies old) → IsSome (body_at (record_bodies old) k)

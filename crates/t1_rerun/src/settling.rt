@@ -241,3 +241,6 @@ pub fn settle(
         Named::Glyph(name) => settle_glyph(alloc, records, name, body, renewal),
     }
 }
+
+#[cfg(test)]
+mod tests;
