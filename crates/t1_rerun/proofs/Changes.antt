@@ -1,7 +1,7 @@
 -- What an edit names is replaced, put in or taken out, and the records are those of the edited source.
-use Rattle.std.proofs.Common.{◌≡◌, ℕ, Bool, true, false, cond, List, [], ◌∷◌, map, filter, not, refl, sym, ◌∙◌, ap, subst, Option, Some, None, inl, inr}
+use Rattle.std.proofs.Common.{◌≡◌, ℕ, Bool, true, false, List, [], ◌∷◌, map, filter, not, refl, sym, ◌∙◌, ap, subst, Option, Some, None, inl, inr}
 use Rattle.std.specs.Prelude.{◌||◌, ◌&&◌, Result, Ok, Err, OnOk, is_some}
-use Rattle.std.specs.List.{list_any, AllByRecursion}
+use Rattle.std.specs.List.{AllByRecursion}
 use Rattle.std.specs.Str.{bytes_eq}
 use Rattle.t1_code.specs.declared.command.Command.{Command}
 use Rattle.t1_parts.specs.SourceParts.{SourceParts}
@@ -12,10 +12,8 @@ use Rattle.t1_font.specs.Bodies.{bodies, SameBodies}
 use Rattle.t1_cache.specs.declared.records.Named.{Named}
 use Rattle.t1_cache.specs.declared.records.Named.TheVariants as TheNamed
 use Rattle.t1_cache.specs.declared.records.Records.{Records}
-use Rattle.t1_cache.specs.declared.records.Rerun.{Rerun}
 use Rattle.t1_cache.specs.Bodies.{record_bodies}
 use Rattle.t1_cache.specs.Changed.{SetsBody}
-use Rattle.t1_cache.specs.Edited.{is_stale}
 use Rattle.t1_cache.specs.Overlay.{body_at}
 use Rattle.t1_cache.specs.Renewed.{kept_of, with_reruns}
 use Rattle.t1_cache.specs.Users.{key_eq, key_of, lists, users_at, wanted}
@@ -28,7 +26,7 @@ use Rattle.t1_rerun.specs.Right.{has_glyph, IsRight}
 use Rattle.t1_rerun.specs.Settled.{is_moved, named_keys, AreMoved, HasRerun, HaveRecords, HaveRecordsBut, IsJudged, IsRenewedBy, KeepsGlyph}
 use Rattle.t1_rerun.proofs.Meeting.{none-own}
 use Rattle.t1_rerun.proofs.Settled.{has-body, joins-there, moved-but, rerun-stale, settled-but, settled-more, settled-same, told-of}
-use Rattle.t1_rerun.proofs.Steps.{at-same, no-body, same-at, same-twice, turned}
+use Rattle.t1_rerun.proofs.Steps.{at-same, no-body, same-twice, turned}
 
 -- the records after are those of the edited source, renewed from those before
 abbrev pub IsSettled : Option EntryChange → SourceParts → SourceParts → Renewal → Records → Records → Type 0

@@ -1,5 +1,5 @@
 -- Records that are renewed where they are stale are those of the edited source.
-use Rattle.std.proofs.Common.{◌≡◌, ◌+◌, ◌⊎◌, ℕ, Bool, true, false, cond, List, [], ◌∷◌, ◌++◌, map, filter, not, refl, sym, ◌∙◌, ap, subst, Option, Some, None, inl, inr}
+use Rattle.std.proofs.Common.{◌≡◌, ℕ, Bool, true, false, cond, List, [], ◌∷◌, ◌++◌, map, filter, not, refl, sym, ◌∙◌, ap, subst, Option, Some, None, inl, inr}
 use Rattle.std.specs.Prelude.{◌||◌, ◌&&◌, Result, Ok, Err, is_some}
 use Rattle.std.specs.List.{AllByRecursion, list_any}
 use Rattle.std.specs.Str.{bytes_eq}
@@ -10,9 +10,8 @@ use Rattle.t1_frac.specs.Outcome.{told_at, ◌>>=◌}
 use Rattle.t1_code.specs.declared.command.Command.{Command}
 use Rattle.t1_parts.specs.SourceParts.{SourceParts}
 use Rattle.t1_run.specs.Composite.{outline}
-use Rattle.t1_run.specs.Footprint.{Includes}
-use Rattle.t1_run.specs.Run.{FontBodies, Key, Subr, Glyph, Drawing, own}
-use Rattle.t1_run.specs.Touched.{is_key_of, is_named, is_user}
+use Rattle.t1_run.specs.Run.{FontBodies, Key, Drawing, own}
+use Rattle.t1_run.specs.Touched.{is_user}
 use Rattle.t1_run.specs.declared.outline.Segment.{Segment}
 use Rattle.t1_frac.specs.declared.fault.Code.{Code}
 use Rattle.t1_font.specs.Bodies.{bodies, SameBodies}
@@ -23,13 +22,11 @@ use Rattle.t1_cache.specs.declared.records.Records.{Records}
 use Rattle.t1_cache.specs.declared.records.Rerun.{Rerun}
 use Rattle.t1_cache.specs.Bodies.{record_bodies}
 use Rattle.t1_cache.specs.Edited.{is_stale, stale, IsEditedAt}
-use Rattle.t1_cache.specs.Joins.{AllDraw, AreLeaves}
 use Rattle.t1_cache.specs.Kept.{KeepsAll, shown, shown_from}
 use Rattle.t1_cache.specs.Laws.{check, AreDistinct}
 use Rattle.t1_cache.specs.Overlay.{body_at}
 use Rattle.t1_cache.specs.Renewal.{IsFromScratch, IsOneOf, IsRenewed}
 use Rattle.t1_cache.specs.Renewed.{Kept, kept_of, rerun_of, with_rerun, with_reruns}
-use Rattle.t1_cache.specs.Tables.{AreStale, AreTables}
 use Rattle.t1_cache.specs.Users.{has_pair, key_eq, lists, wanted}
 use Rattle.t1_cache.proofs.Adding.{key-same}
 use Rattle.t1_cache.proofs.Drawing.{all_draw}
@@ -43,7 +40,7 @@ use Rattle.t1_rerun.specs.Renewals.{rerun_kept, rerun_names, IsRenewal}
 use Rattle.t1_rerun.specs.Right.{has_glyph, IsInOrder, IsRight}
 use Rattle.t1_rerun.specs.Settled.{is_moved, AreMoved, IsOneTaken, IsRenewedBy}
 use Rattle.t1_rerun.proofs.Meeting.{all-among, among-off, among-passing, glyph-among, none-own}
-use Rattle.t1_rerun.proofs.Steps.{and-right, some-wanted, turned}
+use Rattle.t1_rerun.proofs.Steps.{and-right, some-wanted}
 
 -- ---- lists and tests
 

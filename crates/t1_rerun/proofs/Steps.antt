@@ -22,7 +22,7 @@ use Rattle.t1_cache.specs.declared.records.Named.TheVariants as TheNamed
 use Rattle.t1_cache.specs.declared.records.Records.{Records}
 use Rattle.t1_cache.specs.declared.records.Rerun.{Rerun}
 use Rattle.t1_cache.specs.Bodies.{glyph_body, record_bodies}
-use Rattle.t1_cache.specs.Changed.{AreUnchanged, SetsBody}
+use Rattle.t1_cache.specs.Changed.{SetsBody}
 use Rattle.t1_cache.specs.Overlay.{body_at}
 use Rattle.t1_cache.specs.Renewed.{kept, kept_of, with_reruns, Kept}
 use Rattle.t1_cache.specs.Users.{among, has_pair, key_eq, key_of, lists, rest_of, users_at, wanted, Pairs}
@@ -30,8 +30,8 @@ use Rattle.t1_cache.proofs.Adding.{key-same}
 use Rattle.t1_cache.proofs.Changing.{nothing-read, rest_same}
 use Rattle.t1_cache.proofs.Putting.{bytes_tell}
 use Rattle.t1_rerun.specs.declared.renewal.Renewal.{Renewal}
-use Rattle.t1_rerun.specs.Renewals.{rerun_kept, rerun_names}
-use Rattle.t1_rerun.specs.Settled.{is_moved, AreAsBefore, AreMoved, HaveRecords, HaveRecordsBut, IsOneTaken, IsTaken, KeepsGlyph}
+use Rattle.t1_rerun.specs.Renewals.{rerun_names}
+use Rattle.t1_rerun.specs.Settled.{AreAsBefore, AreMoved, HaveRecords, HaveRecordsBut, IsOneTaken, IsTaken, KeepsGlyph}
 
 -- ---- bodies, key by key
 
@@ -146,13 +146,6 @@ but-last g (e ∷ es) x absent is = by (bytes_eq g e.0.items) refl absent (but-l
       ap (λ b. cond (not b) (kept_of e ∷ filter (λ k. not (bytes_eq g k.name)) (map kept_of es ++ x ∷ [])) (filter (λ k. not (bytes_eq g k.name)) (map kept_of es ++ x ∷ []))) off
       ∙ ap (λ l. kept_of e ∷ l) (rest none is)
 
--- users move where the records list the same
-pub moved-after : (renewal : Renewal) (old mid new : Records) → ((k : Key) (u : List ℕ) → lists mid k u ≡ lists old k u) → AreMoved renewal mid new
-    → AreMoved renewal old new
-moved-after renewal old mid new same moved k u = moved k u ∙ ap (moves k u) (same k u) where
-  moves : Key → List ℕ → Bool → Bool
-  moves k u b = (b && not (has_pair renewal.leaves.items k u)) || has_pair renewal.joins.items k u
-
 pub all-passing : (xs : List Kept) → filter (λ k. true) xs ≡ xs
 all-passing [] = refl
 all-passing (x ∷ xs) = ap (λ l. x ∷ l) (all-passing xs)
@@ -242,20 +235,8 @@ kept-none g h j reruns old new e f none kept =
     subst (λ b. KeepsGlyph b g reruns old new) (sym none ∙ ap (λ x. body_at (record_bodies old) (Glyph x)) f)
     (subst (λ x. KeepsGlyph None x reruns old new) e kept)
 
--- a glyph that has a record
-pub kept-some : (b : Option (List Command)) (g : List ℕ) (reruns : List Rerun) (old new : Records) → IsSome b
-    → map kept_of new.glyphs.entries ≡ with_reruns reruns (map kept_of old.glyphs.entries) → KeepsGlyph b g reruns old new
-kept-some None g reruns old new there kept = absurd (cc)
-kept-some (Some b) g reruns old new there kept = kept
-
 pub kept-but-subr : (n : ℕ) (named : Named) (xs : List Kept) → named ≡ TheNamed.Subr n → xs ≡ filter (λ k. not (is_key_of k.name (key_of named))) xs
 kept-but-subr n named xs e = sym (all-passing xs) ∙ ap (λ d. filter (λ k. not (is_key_of k.name (key_of d))) xs) (sym e)
-
-pub kept-but-glyph : (g : List ℕ) (xs : List Kept) → filter (λ k. not (bytes_eq g k.name)) xs ≡ filter (λ k. not (bytes_eq k.name g)) xs
-kept-but-glyph g [] = refl
-kept-but-glyph g (k ∷ xs) =
-    ap (λ b. cond (not b) (k ∷ filter (λ k. not (bytes_eq g k.name)) xs) (filter (λ k. not (bytes_eq g k.name)) xs)) (turned g k.name)
-    ∙ ap (λ l. cond (not (bytes_eq k.name g)) (k ∷ l) l) (kept-but-glyph g xs)
 
 -- a body that was there still is
 pub some-still : (k : Key) (old new : Records) → SameBodies (record_bodies new) (record_bodies old) → IsSome (body_at (record_bodies old) k)

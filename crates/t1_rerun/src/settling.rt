@@ -16,9 +16,7 @@ ghost use Rattle.t1_rerun.specs.Settled.{is_moved, named_keys, AreAsBefore, AreM
 
 use crate::renewal::Renewal;
 use std::alloc::{AllocError, Global};
-use t1_cache::{Named, Records, Rerun};
-use t1_cache::{insert_glyph, insert_subr, make_room, move_users, put_glyph, put_subr};
-use t1_cache::{remove_glyph, remove_subr, renew_all};
+use t1_cache::{Named, Records, Rerun, insert_glyph, insert_subr, make_room, move_users, put_glyph, put_subr, remove_glyph, remove_subr, renew_all};
 use t1_code::Body;
 use t1_frac::Bytes;
 use t1_run::Bodies;
@@ -243,3 +241,6 @@ pub fn settle(
         Named::Glyph(name) => settle_glyph(alloc, records, name, body, renewal),
     }
 }
+
+#[cfg(test)]
+mod tests;

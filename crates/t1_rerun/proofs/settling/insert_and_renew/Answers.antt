@@ -1,4 +1,4 @@
-use Rattle.std.proofs.Common.{◌≡◌, ◌∙◌, ℕ, List, Some, None, ap, refl, sym}
+use Rattle.std.proofs.Common.{◌∙◌, Some, ap}
 use Rattle.std.proofs.Common.{filter, not}
 use Rattle.std.specs.Str.{bytes_eq}
 use Rattle.t1_run.specs.Run.{Glyph}

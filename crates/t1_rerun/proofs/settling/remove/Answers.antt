@@ -1,9 +1,7 @@
-use Rattle.std.proofs.Common.{◌≡◌, ◌∙◌, ℕ, List, Some, None, ap, refl, sym}
-use Rattle.std.proofs.Common.{filter, map, not, true}
+use Rattle.std.proofs.Common.{◌∙◌}
+use Rattle.std.proofs.Common.{map}
 use Rattle.t1_cache.specs.Renewed.{kept_of}
-use Rattle.t1_cache.specs.Users.{key_of}
-use Rattle.t1_rerun.proofs.Steps.{kept-but-glyph, kept-but-subr}
-use Rattle.t1_rerun.proofs.Changes.{done-none, done-removed}
+use Rattle.t1_rerun.proofs.Steps.{kept-but-subr}
 use Rattle.t1_rerun.proofs.settling.remove.Goals as goal
 
 pub returns-in-Subr-clause-kept : goal.returns-in-Subr-clause-kept

@@ -1,7 +1,6 @@
-use Rattle.std.proofs.Common.{◌≡◌, ◌∙◌, ℕ, List, Some, None, ap, refl, sym}
-use Rattle.std.proofs.Common.{map}
+use Rattle.std.proofs.Common.{◌∙◌, ap, refl}
 use Rattle.t1_cache.specs.declared.records.Records.{Records}
-use Rattle.t1_cache.specs.Renewed.{kept_of, with_reruns}
+use Rattle.t1_cache.specs.Renewed.{with_reruns}
 use Rattle.t1_cache.proofs.Changing.{rest_same}
 use Rattle.t1_rerun.proofs.Steps.{as-rest, at-err, same-renewed}
 use Rattle.t1_rerun.proofs.settling.renew_records.Goals as goal

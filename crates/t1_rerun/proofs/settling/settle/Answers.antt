@@ -1,6 +1,3 @@
-use Rattle.std.proofs.Common.{◌≡◌, ◌∙◌, ℕ, List, Some, None, ap, refl, sym}
-use Rattle.t1_parts.specs.SourceParts.{SourceParts}
-use Rattle.t1_cache.specs.declared.records.Records.{Records}
 use Rattle.t1_rerun.proofs.Changes.{done-named, done-none, done-removed, done-subr, on-three, rerun-named, room-named, room-none, room-removed}
 use Rattle.t1_rerun.proofs.Steps.{on-ok-same}
 use Rattle.t1_rerun.proofs.settling.settle.Goals as goal

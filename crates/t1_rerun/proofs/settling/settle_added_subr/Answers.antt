@@ -1,9 +1,6 @@
-use Rattle.std.proofs.Common.{◌≡◌, ◌∙◌, ℕ, List, Some, None, ap, refl, sym}
-use Rattle.std.proofs.Common.{filter, not}
-use Rattle.std.specs.Str.{bytes_eq}
+use Rattle.std.proofs.Common.{◌∙◌, Some}
 use Rattle.t1_run.specs.Run.{Subr}
-use Rattle.t1_cache.specs.Renewed.{kept}
-use Rattle.t1_rerun.proofs.Steps.{as-before, but-last, on-err, on-ok-same, set-before, set-glyph, there-inserted}
+use Rattle.t1_rerun.proofs.Steps.{as-before, on-err, on-ok-same, set-before, there-inserted}
 use Rattle.t1_rerun.proofs.settling.settle_added_subr.Goals as goal
 
 pub renew_records-renewed-requires : goal.renew_records-renewed-requires

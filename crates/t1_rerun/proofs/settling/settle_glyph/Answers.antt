@@ -1,9 +1,7 @@
-use Rattle.std.proofs.Common.{Some, ap, subst, sym, ◌∙◌}
+use Rattle.std.proofs.Common.{Some, ap, sym, ◌∙◌}
 use Rattle.t1_run.specs.Run.{Glyph}
 use Rattle.t1_cache.specs.Bodies.{record_bodies}
 use Rattle.t1_cache.specs.Overlay.{body_at}
-use Rattle.t1_cache.specs.Users.{key_eq}
-use Rattle.t1_rerun.specs.Settled.{KeepsGlyph}
 use Rattle.t1_rerun.proofs.Steps.{kept-none, none-told, on-ok, set-after, set-glyph, some-still, some-told}
 use Rattle.t1_rerun.proofs.settling.settle_glyph.Goals as goal
 

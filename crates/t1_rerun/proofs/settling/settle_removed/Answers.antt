@@ -1,4 +1,4 @@
-use Rattle.std.proofs.Common.{◌≡◌, ◌∙◌, ℕ, List, Some, None, ap, refl, sym}
+use Rattle.std.proofs.Common.{None}
 use Rattle.t1_cache.specs.Users.{key_of}
 use Rattle.t1_rerun.proofs.Steps.{set-after}
 use Rattle.t1_rerun.proofs.settling.settle_removed.Goals as goal

@@ -1,4 +1,4 @@
-use Rattle.std.proofs.Common.{◌≡◌, ◌∙◌, ℕ, List, Some, None, ap, refl, sym}
+use Rattle.std.proofs.Common.{Some}
 use Rattle.t1_run.specs.Run.{Subr}
 use Rattle.t1_rerun.proofs.Steps.{set-after, some-still, some-told}
 use Rattle.t1_rerun.proofs.settling.settle_subr.Goals as goal

@@ -1,5 +1,4 @@
-use Rattle.std.proofs.Common.{◌≡◌, ◌∙◌, ℕ, List, Some, None, ap, refl, sym}
-use Rattle.t1_rerun.specs.Settled.{IsTaken}
+use Rattle.std.proofs.Common.{Some, None}
 use Rattle.t1_rerun.proofs.Steps.{none-taken, one-taken, placed, taken-none}
 use Rattle.t1_rerun.proofs.settling.taken_rerun.Goals as goal
 
