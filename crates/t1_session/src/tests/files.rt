@@ -151,12 +151,42 @@ fn answers_prints_of_files(rt: HostRuntime) -> Result<(), Fail> {
 }
 
 #[test]
-fn knows_block_lengths(rt: HostRuntime) -> Result<(), Fail> {
-    assert_eq!(rt; block_size_of_word(b"2147483647"), Some(2_147_483_647));
+fn stops_at_a_write_of_prints(rt: HostRuntime) -> Result<(), Fail> {
+    let alloc = rt.alloc();
+    let font = font(alloc)?;
+    let commands = b"set leniv 0\nprint pfb 40\nprint pfa\n";
+    let expected = answered(alloc, commands)?;
+    for room in 0..expected.len() {
+        let mut reader = Counted::new(commands.as_slice());
+        let mut writer = Counted::new(Short::new(alloc, usize::MAX, room, true));
+        let result = serve(alloc, &font, b"", &mut reader, &mut writer);
+        assert!(rt; matches!(result, Err(ServeError::Write)));
+        let taken = writer.into_inner().taken;
+        assert_eq!(rt; taken.as_slice(), expected.split_at(room).0);
+    }
+    Ok(())
+}
+
+#[test]
+fn knows_the_largest_block(rt: HostRuntime) -> Result<(), Fail> {
+    assert_eq!(rt; block_size_of_word(b"02147483647"), Some(2_147_483_647));
+    Ok(())
+}
+
+#[test]
+fn knows_no_larger_block(rt: HostRuntime) -> Result<(), Fail> {
     assert_eq!(rt; block_size_of_word(b"2147483648"), None);
+    Ok(())
+}
+
+#[test]
+fn knows_no_block_without_bytes(rt: HostRuntime) -> Result<(), Fail> {
     assert_eq!(rt; block_size_of_word(b"0"), None);
-    assert_eq!(rt; block_size_of_word(b"-1"), None);
+    Ok(())
+}
+
+#[test]
+fn knows_no_block_with_a_sign(rt: HostRuntime) -> Result<(), Fail> {
     assert_eq!(rt; block_size_of_word(b"+1"), None);
-    assert_eq!(rt; block_size_of_word(b"001"), Some(1));
     Ok(())
 }
