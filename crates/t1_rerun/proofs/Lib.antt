@@ -1,3 +1,5 @@
+pub mod Building
+pub mod FirstRecords
 pub mod Gathering
 pub mod Meeting
 pub mod Reaching

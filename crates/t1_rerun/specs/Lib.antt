@@ -1,3 +1,4 @@
 pub mod Newest
+pub mod Opened
 pub mod Renewals
 pub mod Right

@@ -7,9 +7,11 @@
 mod newest;
 mod renewal;
 mod judging;
+mod opening;
 mod reruns;
 mod stale;
 
 pub use newest::Newest;
 pub use renewal::Renewal;
 pub use judging::rerun;
+pub use opening::opened_records;
