@@ -1,32 +1,39 @@
 -- Records that are built of bodies, runs and boxes.
-use Rattle.std.proofs.Common.{◌≡◌, ◌<◌, ◌+◌, ℕ, zero, suc, Bool, true, false, cond, List, [], ◌∷◌, ◌++◌, map, length, take, get_or, refl, sym, ◌∙◌, ap, subst, arith, Option, Some, None, is_some}
-use Rattle.std.specs.Prelude.{Result, Ok, Err, ◌||◌, nat_eq, option_to_list}
+use Rattle.std.proofs.Common.{◌≡◌, ◌<◌, ◌+◌, ℕ, zero, suc, Bool, true, false, cond, List, [], ◌∷◌, ◌++◌, map, length, take, get_or, refl, sym, ◌∙◌, ap, subst, arith, Option, Some, None, is_some, not}
+use Rattle.std.specs.Prelude.{Result, Ok, Err, ◌||◌, ◌&&◌, nat_eq}
+use Rattle.std.specs.Borrow.{Bor}
 use Rattle.std.specs.List.{AllByRecursion, list_any}
-use Rattle.std.specs.Map.{lookup}
 use Rattle.std.specs.Option.{option_or}
 use Rattle.std.specs.Str.{bytes_eq}
 use Rattle.std.specs.declared.alloc.Global.{Global}
 use Rattle.std.specs.declared.vec.Vec.{Vec}
-use Rattle.std.proofs.lemmas.Bool.{cases_Bool}
 use Rattle.std.proofs.lemmas.List.{map-append, take_more}
 use Rattle.std.proofs.lemmas.List.Folds.{list_any_more}
 use Rattle.t1_frac.specs.declared.fault.Code.{Code}
 use Rattle.t1_code.specs.declared.command.Command.{Command}
-use Rattle.t1_run.specs.Run.{Key, Subr, Glyph, NumberedRun}
+use Rattle.t1_run.specs.Run.{FontBodies, Key, Subr, Glyph, NumberedRun}
+use Rattle.t1_run.specs.Touched.{is_user}
 use Rattle.t1_font.specs.declared.glyph_metrics.GlyphMetrics.{GlyphMetrics}
-use Rattle.t1_font.specs.Bodies.{subr_kept, glyph_kept}
-use Rattle.t1_font.specs.Runs.{Kept as KeptRun, run_kept}
+use Rattle.t1_font.specs.Bodies.{subr_kept, glyph_kept, SameBodies}
+use Rattle.t1_font.specs.Runs.{Kept as KeptRun, run_kept, kept_of as run_of}
 use Rattle.t1_cache.specs.declared.records.Records.{Records}
 use Rattle.t1_cache.specs.Bodies.{glyph_body, record_bodies}
 use Rattle.t1_cache.specs.Changed.{SetsBody}
+use Rattle.t1_cache.specs.Joins.{AreLeaves}
 use Rattle.t1_cache.specs.Laws.{AreDistinct}
 use Rattle.t1_cache.specs.Overlay.{body_at}
 use Rattle.t1_cache.specs.Renewed.{Kept, kept, kept_of}
-use Rattle.t1_cache.specs.Users.{lists}
+use Rattle.t1_cache.specs.Room.{MayJoin}
+use Rattle.t1_cache.specs.Tables.{AreTables}
+use Rattle.t1_cache.specs.Users.{has, has_pair, lists, rest_of, users_at, wanted, HasRoom, Pairs}
+use Rattle.t1_cache.proofs.Changing.{rest_same}
+use Rattle.t1_cache.proofs.Joining.{tables_first}
 use Rattle.t1_cache.proofs.Names.{bytes_equiv}
 use Rattle.t1_cache.proofs.Putting.{bytes_tell, numbers_tell}
-use Rattle.t1_rerun.specs.Opened.{measured_names, IsRecorded}
+use Rattle.t1_cache.proofs.Rooming.{room_for_joins}
+use Rattle.t1_rerun.specs.Opened.{measured_names, AreMeasured, IsRecorded}
 use Rattle.t1_rerun.specs.Renewals.{run_in, HasBox, HasRun}
+use Rattle.t1_rerun.proofs.Reaching.{has-names}
 use Rattle.t1_rerun.proofs.Taking.{has-box, has-run}
 
 abbrev Body : Type 0
@@ -292,3 +299,28 @@ all-built was bodies left_bodies runs left_runs ms at now have all built =
         sym (ap is_some e) ∙ have g ∙ among-names g ms ∙ ap (list_any (λ m. bytes_eq g m.name)) (sym all) in
         let never : true ≡ false = there ∙ f in
         absurd (cc)
+
+-- ---- the users of Subrs and glyphs
+
+pub same-twice : (a b c : FontBodies) → SameBodies a b → SameBodies b c → SameBodies a c
+same-twice a b c p q (Subr n) = p (Subr n) ∙ q (Subr n)
+same-twice a b c p q (Glyph g) = p (Glyph g) ∙ q (Glyph g)
+
+module _ (m : FontBodies) (names : List (Bor (List ℕ))) (runs : List KeptRun) (metrics : List GlyphMetrics) (are : AreMeasured m runs metrics)
+    (named : map (λ name. name.now) names ≡ measured_names metrics) (joins : Pairs)
+    (joined : (k : Key) (u : List ℕ) → has_pair joins k u ≡ (has (λ name. name.now) names u && is_user k (run_of runs u))) where
+
+  are-joins : AreLeaves m (has (λ name. name.now) names) joins
+  are-joins k u = joined k u ∙ ap (λ r. has (λ name. name.now) names u && is_user k r) (are.draw u)
+
+  is-named : (g : List ℕ) (body : Body) → m.glyphs g ≡ Some body → has (λ name. name.now) names g ≡ true
+  is-named g body e = has-names names g ∙ ap (list_any (bytes_eq g)) named ∙ sym (are.bodies g) ∙ ap is_some e
+
+  pub room-there : (records roomy : Records) → SameBodies (record_bodies records) m → rest_of roomy ≡ rest_of records
+      → ((k : Key) → MayJoin (wanted joins k) (users_at roomy k)) → (k : Key) → HasRoom (wanted joins k) (users_at roomy k)
+  room-there records roomy compiled rest may =
+      room_for_joins m (has (λ name. name.now) names) joins are-joins roomy (same-twice (record_bodies roomy) (record_bodies records) m (rest_same records roomy rest).0 compiled) may
+
+  pub tables-built : (old new : Records) (leaves : Pairs) → ((k : Key) (u : List ℕ) → lists old k u ≡ false)
+      → ((k : Key) (u : List ℕ) → lists new k u ≡ ((lists old k u && not (has_pair leaves k u)) || has_pair joins k u)) → AreTables m new
+  tables-built old new leaves empty after = tables_first m (has (λ name. name.now) names) is-named old new leaves joins empty are-joins after

@@ -40,16 +40,13 @@ use Rattle.t1_cache.proofs.Renewing.{shown-all}
 use Rattle.t1_rerun.specs.Opened.{measured_names, opening_runs, runs_where, AreMeasured, IsRecorded, IsRunAfter}
 use Rattle.t1_rerun.specs.Renewals.{HasRun, IsMeasured}
 use Rattle.t1_rerun.specs.Right.{IsRight}
+use Rattle.t1_rerun.proofs.Building.{same-twice}
 use Rattle.t1_rerun.proofs.Gathering.{box-measured, measured-all, ok-run}
 use Rattle.t1_rerun.proofs.Meeting.{glyph-among, same-function}
 use Rattle.t1_rerun.proofs.Reaching.{all-some, length-map}
 use Rattle.t1_cache.proofs.Putting.{bytes_tell}
 
 -- ---- fonts with the same bodies
-
-pub same-twice : (a b c : FontBodies) → SameBodies a b → SameBodies b c → SameBodies a c
-same-twice a b c p q (Subr n) = p (Subr n) ∙ q (Subr n)
-same-twice a b c p q (Glyph g) = p (Glyph g) ∙ q (Glyph g)
 
 own-alike : (m n : FontBodies) → SameBodies m n → (g : List ℕ) → own m g ≡ own n g
 own-alike m n same g = sym (own_same m n g (record { same = λ key i. same key })).0
@@ -98,7 +95,7 @@ module _ (s : SourceParts) (file : file_check s ≡ Ok tt) where
       (names : List (Bor (List ℕ))) (are : map (λ name. name.now) names ≡ glyph_names s.items)
       (runs : List KeptRun) (kept : (g : List ℕ) → run_of runs g ≡ own_among bs (map (λ name. name.now) names) g) where
 
-    m : FontBodies
+    abbrev m : FontBodies
     m = bodies s.items
 
     keeps : KeepsOwn runs s.items
