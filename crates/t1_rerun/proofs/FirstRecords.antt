@@ -24,7 +24,7 @@ use Rattle.t1_font.specs.Assembly.{file_check}
 use Rattle.t1_font.specs.Bodies.{bodies, bodies_check, SameBodies}
 use Rattle.t1_font.specs.Glyphs.{Glyph as Told, glyphs, glyphs_by, glyph_names}
 use Rattle.t1_font.specs.MeasuredGlyphs.{glyph_metrics, glyph_metrics_among}
-use Rattle.t1_font.specs.Runs.{Kept as KeptRun, drawing_kept, run_kept, kept_of as run_of, own_among, IsAfter}
+use Rattle.t1_font.specs.Runs.{Kept as KeptRun, drawing_kept, run_kept, kept_of as run_of, own_among, counted, Counts, CountsSome, IsAfter}
 use Rattle.t1_font.specs.SourceChecks.{source_glyphs, source_check}
 use Rattle.t1_font.proofs.Counted.{counted-source}
 use Rattle.t1_font.proofs.Measuring.{keeps-own, names-there, KeepsOwn}
@@ -185,3 +185,15 @@ pub all-after : (count : ℕ) (runs : List KeptRun) (metrics : List GlyphMetrics
     → (ks : List Kept) → AllByRecursion (IsRecorded runs metrics) ks → AllByRecursion (IsRunAfter count) ks
 all-after count runs metrics after ks each =
     all-weaken (IsRecorded runs metrics) (IsRunAfter count) (λ k is. subst (IsAfter count) is.run (after k.name)) ks each
+
+-- ---- counts
+
+-- all were counted
+pub counts-done : {T : Type 0} (runs old new : ℕ) (r : Result T Refusal) → new ≡ counted old runs → Counts runs old new r
+counts-done runs old new (Ok done) h = h
+counts-done runs old new (Err (refusals.Fault fault)) h = h
+counts-done runs old new (Err refusals.Memory) h = (runs, omega arith, h)
+
+-- where memory ran out, some were counted
+pub counts-some : {T : Type 0} (runs old new : ℕ) (r : Result T Refusal) (e : Refusal) → r ≡ Err e → e ≡ refusals.Memory → CountsSome runs old new → Counts runs old new r
+counts-some runs old new r e is memory some = rw (is, memory) some
