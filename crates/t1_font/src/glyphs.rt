@@ -69,7 +69,7 @@ fn name_of(item: &Item) -> Option<&[u8]>
 }
 
 /// The names of the glyphs, in the order of their entries.
-fn glyph_names<'a>(alloc: Global, items: &'a [Item]) -> Result<Vec<&'a [u8]>, AllocError>
+pub fn glyph_names<'a>(alloc: Global, items: &'a [Item]) -> Result<Vec<&'a [u8]>, AllocError>
     ensures { IfOk result (λ names. map (λ name. name.now) names.items ≡ glyph_names items.now) }
 {
     let mut names = Vec::new(alloc);

@@ -29,7 +29,7 @@ pub use assembly::{pfa_of_source, pfb_of_source, write_source_pfa, write_source_
 pub use bodies::{compiled, compiled_glyph, compiled_subr};
 pub use font_metrics::metrics;
 pub use glyph_metrics::{GlyphMetrics, PlacedParts, glyph_metrics_of, metrics_of_run};
-pub use glyphs::{MeasuredGlyphs, measured, measured_source};
+pub use glyphs::{MeasuredGlyphs, glyph_names, measured, measured_source};
 pub use kept_runs::KeptRuns;
 pub use lengths::checked_bodies;
 pub use numbers::SubrNumbers;

@@ -108,14 +108,14 @@ measured-names : (g : List ℕ) (metrics : List GlyphMetrics) → list_any (λ m
 measured-names g [] = refl
 measured-names g (m ∷ metrics) = ap (λ b. bytes_eq g m.name || b) (measured-names g metrics)
 
-box-measured : (run : Runs) (metrics : List GlyphMetrics) (g : List ℕ) (box : Option BBox) → AllByRecursion (IsMeasured run) metrics → HasBox metrics g box
+pub box-measured : (run : Runs) (metrics : List GlyphMetrics) (g : List ℕ) (box : Option BBox) → AllByRecursion (IsMeasured run) metrics → HasBox metrics g box
     → (d : Drawing) × ((s : List Segment) × ((run g ≡ Some (Ok d)) × ((outline_within run 4 g ≡ Ok s) × (box ≡ drawn_box s))))
 box-measured run [] g box all h = absurd h
 box-measured run (m ∷ metrics) g box all (inl h) =
     (all.0.drawing, (all.0.segments, (ap run (sym h.0) ∙ all.0.ran, (ap (outline_within run 4) (sym h.0) ∙ all.0.draws, sym h.1 ∙ all.0.box))))
 box-measured run (m ∷ metrics) g box all (inr h) = box-measured run metrics g box all.1 h
 
-ok-run : (k : Option (Result NumberedRun Code)) (d : Drawing) → option_map drawing_kept k ≡ Some (Ok d) → (r : NumberedRun) × (k ≡ Some (Ok r))
+pub ok-run : (k : Option (Result NumberedRun Code)) (d : Drawing) → option_map drawing_kept k ≡ Some (Ok d) → (r : NumberedRun) × (k ≡ Some (Ok r))
 ok-run None d e = absurd (cc)
 ok-run (Some (Err code)) d e = absurd (cc)
 ok-run (Some (Ok r)) d e = (r, refl)

@@ -1,4 +1,6 @@
+pub mod Building
 pub mod Changes
+pub mod FirstRecords
 pub mod Gathering
 pub mod Meeting
 pub mod Reaching

@@ -13,7 +13,7 @@ use Rattle.t1_font.specs.Runs.{Kept, run_kept}
 use Rattle.t1_cache.specs.declared.records.Rerun.{Rerun}
 use Rattle.t1_rerun.specs.Renewals.{rerun_names, run_in, HasBox, HasRun, IsRerun}
 
-has-box : (ms : List GlyphMetrics) (i : ℕ) (m : GlyphMetrics) → i < length ms → m ≡ get_or ms i m → HasBox ms m.name m.bbox
+pub has-box : (ms : List GlyphMetrics) (i : ℕ) (m : GlyphMetrics) → i < length ms → m ≡ get_or ms i m → HasBox ms m.name m.bbox
 has-box [] i m h e = absurd (omega (arith, h))
 has-box (x ∷ ms) zero m h e = inl (ap (λ y. y.name) (sym e), ap (λ y. y.bbox) (sym e))
 has-box (x ∷ ms) (suc i) m h e = inr (has-box ms i m (omega (arith, h)) e)

@@ -1,0 +1,41 @@
+-- The records of a source from scratch.
+use Rattle.std.specs.Prelude.{◌≡◌, ◌≤◌, ℕ, length, is_some, List, map, Some, Result, Ok, Err}
+use Rattle.std.specs.List.{AllByRecursion, list_any}
+use Rattle.std.specs.Str.{bytes_eq}
+use Rattle.t1_frac.specs.declared.fault.Fault.{Fault}
+use Rattle.t1_parts.specs.SourceParts.{SourceParts}
+use Rattle.t1_run.specs.Run.{FontBodies, own}
+use Rattle.t1_font.specs.declared.glyph_metrics.GlyphMetrics.{GlyphMetrics}
+use Rattle.t1_font.specs.Assembly.{file_check}
+use Rattle.t1_font.specs.Glyphs.{glyph_names}
+use Rattle.t1_font.specs.Runs.{Kept as KeptRun, run_kept, kept_of, counted}
+use Rattle.t1_cache.specs.Laws.{AreDistinct}
+use Rattle.t1_cache.specs.Renewed.{Kept}
+use Rattle.t1_rerun.specs.Renewals.{HasBox, HasRun}
+
+abbrev pub measured_names : List GlyphMetrics → List (List ℕ)
+measured_names ms = map (λ m. m.name) ms
+
+-- the glyphs that were measured are those that have a body, each once; each has its run, and the runs draw what the bodies do
+pub record AreMeasured (m : FontBodies) (runs : List KeptRun) (metrics : List GlyphMetrics) : Type 0 where
+  pub distinct : AreDistinct (measured_names metrics)
+  pub bodies : (g : List ℕ) → is_some (m.glyphs g) ≡ list_any (bytes_eq g) (measured_names metrics)
+  pub each : AllByRecursion (HasRun runs) metrics
+  pub draw : (g : List ℕ) → kept_of runs g ≡ own m g
+
+-- a record has the run that was kept, and the box that was measured
+pub record IsRecorded (runs : List KeptRun) (metrics : List GlyphMetrics) (k : Kept) : Type 0 where
+  pub run : run_kept runs k.name ≡ Some (Ok k.run)
+  pub box : HasBox metrics k.name k.box
+
+-- profile: a record's run is after this count
+abbrev pub IsRunAfter : ℕ → Kept → Type 0
+IsRunAfter count k = counted count 1 ≤ k.run.serial
+
+abbrev pub runs_where : Result (Unit {0}) Fault → List (List ℕ) → ℕ
+runs_where (Ok checked) names = length names
+runs_where (Err fault) names = 0
+
+-- profile: each glyph of a source is run once; none, where a body or the file has a fault
+abbrev pub opening_runs : SourceParts → ℕ
+opening_runs s = runs_where (file_check s) (glyph_names s.items)

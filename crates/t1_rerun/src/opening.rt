@@ -1,0 +1,154 @@
+//! The records of a source from scratch.
+ghost use Rattle.std.specs.Prelude.{◌≡◌, [], ℕ, List, None, false, IfOk, OnOk, is_some, map, if◌then◌else◌};
+ghost use Rattle.std.specs.List.{AllByRecursion, list_any};
+ghost use Rattle.std.specs.Str.{bytes_eq};
+ghost use Rattle.t1_frac.specs.Outcome.{Gives};
+ghost use Rattle.t1_run.specs.Run.{Key, Subr, Glyph};
+ghost use Rattle.t1_font.specs.Bodies.{glyph_kept, plain_bodies, subr_kept, SameBodies};
+ghost use Rattle.t1_font.specs.Runs.{Counts};
+ghost use Rattle.t1_font.specs.SourceChecks.{source_check};
+ghost use Rattle.t1_cache.specs.Bodies.{record_bodies};
+ghost use Rattle.t1_cache.specs.Laws.{AreDistinct};
+ghost use Rattle.t1_cache.specs.Overlay.{body_at};
+ghost use Rattle.t1_cache.specs.Renewed.{kept_of};
+ghost use Rattle.t1_cache.specs.Tables.{AreTables};
+ghost use Rattle.t1_cache.specs.Users.{lists};
+ghost use Rattle.t1_rerun.specs.Opened.{measured_names, opening_runs, AreMeasured, IsRecorded, IsRunAfter};
+ghost use Rattle.t1_rerun.specs.Renewals.{HasRun};
+ghost use Rattle.t1_rerun.specs.Right.{IsRight};
+
+use crate::reruns::taken;
+use indexmap::IndexMap;
+use std::alloc::{AllocError, Global};
+use t1_cache::{Records, insert_glyph, insert_subr, joins_of, make_room, move_users};
+use t1_code::Body;
+use t1_font::{GlyphMetrics, Runs, checked_bodies, glyph_metrics_of, glyph_names, runs_of};
+use t1_frac::Refusal;
+use t1_run::{Meter, Plain};
+use t1_source::Source;
+use t1_source::laws::text_of_source_read;
+
+/// Puts in the records of Subrs, of which none has one, without users.
+fn insert_subrs(
+    alloc: Global,
+    records: &mut Records,
+    bodies: IndexMap<u16, Body>,
+) -> Result<(), AllocError>
+    requires { (n : ℕ) → body_at (record_bodies records.old) (Subr n) ≡ None }
+    ensures subrs { OnOk result ((n : ℕ) → body_at (record_bodies records.new) (Subr n) ≡ subr_kept bodies.entries n) }
+    ensures glyphs { OnOk result ((g : List ℕ) → body_at (record_bodies records.new) (Glyph g) ≡ body_at (record_bodies records.old) (Glyph g)) }
+    ensures users { OnOk result ((k : Key) (u : List ℕ) → lists records.new k u ≡ lists records.old k u) }
+    ensures kept { OnOk result (map kept_of records.new.glyphs.entries ≡ map kept_of records.old.glyphs.entries) }
+{
+    let mut left = bodies;
+    while let Some((number, body)) = left.pop() {
+        insert_subr(alloc, records, number, body)?;
+    }
+    Ok(())
+}
+
+/// Takes out the body of a glyph, where there is one.
+fn taken_body(bodies: &mut IndexMap<Vec<u8>, Body>, name: &[u8]) -> Option<Body>
+    ensures body { result ≡ glyph_kept bodies.old.entries name.now }
+    ensures others { (g : List ℕ) → glyph_kept bodies.new.entries g ≡ (if bytes_eq name.now g then None else glyph_kept bodies.old.entries g) }
+{
+    bodies.swap_remove(name)
+}
+
+/// Puts in the records of all glyphs, which were run and measured, in the order in which they were, without users.
+fn insert_glyphs(
+    alloc: Global,
+    records: &mut Records,
+    bodies: IndexMap<Vec<u8>, Body>,
+    runs: Runs,
+    metrics: &[GlyphMetrics],
+) -> Result<(), AllocError>
+    requires none { map kept_of records.old.glyphs.entries ≡ [] }
+    requires distinct { AreDistinct (measured_names metrics.now) }
+    requires bodies { (g : List ℕ) → is_some (glyph_kept bodies.entries g) ≡ list_any (bytes_eq g) (measured_names metrics.now) }
+    requires runs { AllByRecursion (HasRun runs) metrics.now }
+    ensures subrs { OnOk result ((n : ℕ) → body_at (record_bodies records.new) (Subr n) ≡ body_at (record_bodies records.old) (Subr n)) }
+    ensures glyphs { OnOk result ((g : List ℕ) → body_at (record_bodies records.new) (Glyph g) ≡ glyph_kept bodies.entries g) }
+    ensures users { OnOk result ((k : Key) (u : List ℕ) → lists records.new k u ≡ lists records.old k u) }
+    ensures order { OnOk result (map (λ k. k.name) (map kept_of records.new.glyphs.entries) ≡ measured_names metrics.now) }
+    ensures each { OnOk result (AllByRecursion (IsRecorded runs metrics.now) (map kept_of records.new.glyphs.entries)) }
+{
+    let mut bodies_left = bodies;
+    let mut runs_left = runs;
+    for glyph in metrics {
+        let name = glyph.name.as_slice();
+        let Some(body) = taken_body(&mut bodies_left, name) else {
+            continue;
+        };
+        let Some(run) = taken(&mut runs_left, name) else {
+            continue;
+        };
+        let name = Vec::from_slice(alloc, name)?;
+        insert_glyph(alloc, records, name, body, run, glyph.bbox)?;
+    }
+    Ok(())
+}
+
+/// The records of bodies, whose glyphs were run and measured, without users.
+fn unused_records(
+    alloc: Global,
+    bodies: Plain,
+    runs: Runs,
+    metrics: &[GlyphMetrics],
+) -> Result<Records, AllocError>
+    requires { AreMeasured (plain_bodies bodies) runs metrics.now }
+    ensures compiled { IfOk result (λ records. SameBodies (record_bodies records) (plain_bodies bodies)) }
+    ensures users { IfOk result (λ records. (k : Key) (u : List ℕ) → lists records k u ≡ false) }
+    ensures order { IfOk result (λ records. map (λ k. k.name) (map kept_of records.glyphs.entries) ≡ measured_names metrics.now) }
+    ensures each { IfOk result (λ records. AllByRecursion (IsRecorded runs metrics.now) (map kept_of records.glyphs.entries)) }
+{
+    let mut records = Records {
+        subrs: IndexMap::new(alloc),
+        glyphs: IndexMap::new(alloc),
+    };
+    insert_subrs(alloc, &mut records, bodies.subrs)?;
+    insert_glyphs(alloc, &mut records, bodies.glyphs, runs, metrics)?;
+    Ok(records)
+}
+
+/// The records of bodies, whose glyphs were run and measured, with the users of each Subr and each glyph.
+fn records_of(
+    alloc: Global,
+    bodies: Plain,
+    names: &[&[u8]],
+    runs: Runs,
+    metrics: &[GlyphMetrics],
+) -> Result<Records, AllocError>
+    requires names { map (λ name. name.now) names.now ≡ measured_names metrics.now }
+    requires measured { AreMeasured (plain_bodies bodies) runs metrics.now }
+    ensures compiled { IfOk result (λ records. SameBodies (record_bodies records) (plain_bodies bodies)) }
+    ensures users { IfOk result (AreTables (plain_bodies bodies)) }
+    ensures order { IfOk result (λ records. map (λ k. k.name) (map kept_of records.glyphs.entries) ≡ measured_names metrics.now) }
+    ensures each { IfOk result (λ records. AllByRecursion (IsRecorded runs metrics.now) (map kept_of records.glyphs.entries)) }
+{
+    let joins = joins_of(alloc, &runs, names)?;
+    let mut records = unused_records(alloc, bodies, runs, metrics)?;
+    make_room(alloc, &mut records, &joins)?;
+    move_users(&mut records, Vec::new(alloc), joins);
+    Ok(records)
+}
+
+/// The records of a source, or its first fault: of a body, F23, or of a glyph, in the order of the source. Each glyph is run
+/// once, and the meter counts it.
+pub fn opened_records(
+    alloc: Global,
+    source: &Source,
+    meter: &mut Meter,
+) -> Result<Records, Refusal>
+    ensures checked { Gives (λ _. tt) result (source_check source.now) }
+    ensures right { IfOk result (IsRight source.now) }
+    ensures later { IfOk result (λ records. AllByRecursion (IsRunAfter meter.old) (map kept_of records.glyphs.entries)) }
+    ensures counted { Counts (opening_runs source.now) meter.old meter.new result }
+{
+    text_of_source_read(source);
+    let bodies = checked_bodies(alloc, source)?;
+    let names = glyph_names(alloc, source.items())?;
+    let runs = runs_of(alloc, &bodies, &names, meter)?;
+    let metrics = glyph_metrics_of(alloc, &runs, &names)?;
+    Ok(records_of(alloc, bodies, &names, runs, &metrics)?)
+}
