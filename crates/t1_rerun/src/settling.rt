@@ -16,7 +16,10 @@ ghost use Rattle.t1_rerun.specs.Settled.{is_moved, named_keys, AreAsBefore, AreM
 
 use crate::renewal::Renewal;
 use std::alloc::{AllocError, Global};
-use t1_cache::{Named, Records, Rerun, insert_glyph, insert_subr, make_room, move_users, put_glyph, put_subr, remove_glyph, remove_subr, renew_all};
+use t1_cache::{
+    Named, Records, Rerun, insert_glyph, insert_subr, make_room, move_users, put_glyph, put_subr,
+    remove_glyph, remove_subr, renew_all,
+};
 use t1_code::Body;
 use t1_frac::Bytes;
 use t1_run::Bodies;
@@ -48,11 +51,7 @@ fn taken_rerun(reruns: &mut Vec<Rerun>, name: &[u8]) -> Option<Rerun>
 
 /// Makes room for the users that join, moves the users, and puts the new runs and boxes in their places. Where memory runs
 /// out the records are as before.
-fn renew_records(
-    alloc: Global,
-    records: &mut Records,
-    renewal: Renewal,
-) -> Result<(), AllocError>
+fn renew_records(alloc: Global, records: &mut Records, renewal: Renewal) -> Result<(), AllocError>
     requires { HaveRecords renewal records.old }
     ensures bodies { SameBodies (record_bodies records.new) (record_bodies records.old) }
     ensures users { OnOk result (AreMoved renewal records.old records.new) }

@@ -20,8 +20,8 @@ returns-then-is_err-clause-refused c =
     (set-glyph c.args.added.name.items c.args.name.now (Some c.args.body) c.args.records.now c.insert_glyph.new.records c.requires.name c.in_ok-insert_glyph.ensures.bodies)
     c.in_ok-insert_glyph.ensures.users was c.remove_glyph.ensures.bodies c.remove_glyph.ensures.users
     (c.remove_glyph.ensures.kept
-        ∙ ap (λ l. filter (λ k. not (bytes_eq c.args.name.now k.name)) l) (was.kept ∙ c.in_ok-insert_glyph.ensures.kept)
-        ∙ but-last c.args.name.now c.args.records.now.glyphs.entries (kept c.args.added.name.items c.args.added.run c.args.added.bbox) c.requires.absent c.requires.name))
+    ∙ ap (λ l. filter (λ k. not (bytes_eq c.args.name.now k.name)) l) (was.kept ∙ c.in_ok-insert_glyph.ensures.kept)
+    ∙ but-last c.args.name.now c.args.records.now.glyphs.entries (kept c.args.added.name.items c.args.added.run c.args.added.bbox) c.requires.absent c.requires.name))
 
 pub returns-else-is_err-clause-bodies : goal.returns-else-is_err-clause-bodies
 returns-else-is_err-clause-bodies c =
