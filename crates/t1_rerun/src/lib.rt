@@ -4,14 +4,17 @@
 //! the edited font, or what is new of it.
 #![tactic(auto)]
 
-mod newest;
-mod renewal;
 mod judging;
+mod newest;
 mod opening;
+mod renewal;
 mod reruns;
 mod stale;
 
-pub use newest::Newest;
-pub use renewal::Renewal;
 pub use judging::rerun;
+pub use newest::Newest;
 pub use opening::opened_records;
+pub use renewal::Renewal;
+
+#[cfg(test)]
+mod tests;
