@@ -182,7 +182,6 @@ pub record AreBuilt (was : Records) (bodies left_bodies : Glyphs) (runs left_run
 module _ (was : Records) (bodies left_bodies : Glyphs) (runs left_runs : List KeptRun) (ms : List GlyphMetrics) (at : ℕ) (now : Records)
     (distinct : AreDistinct (measured_names ms)) (before : AreBuilt was bodies left_bodies runs left_runs ms at now)
     (m : GlyphMetrics) (far : at < length ms) (is : m ≡ get_or ms at m) where
-
   done-more : (g : List ℕ) → is-done ms (at + 1) g ≡ (is-done ms at g || bytes_eq g m.name)
   done-more g = list_any_more (λ x. bytes_eq g x.name) ms at m far ∙ ap (λ x. is-done ms at g || bytes_eq g x.name) (sym is)
 
@@ -269,7 +268,6 @@ none-built was bodies runs ms none = record {
 module _ (was : Records) (bodies left_bodies : Glyphs) (runs left_runs : List KeptRun) (ms : List GlyphMetrics) (at : ℕ) (now : Records)
     (distinct : AreDistinct (measured_names ms)) (before : AreBuilt was bodies left_bodies runs left_runs ms at now)
     (m : GlyphMetrics) (far : at < length ms) (is : m ≡ get_or ms at m) where
-
   pub body-there : ((g : List ℕ) → is_some (glyph_kept bodies g) ≡ list_any (bytes_eq g) (measured_names ms)) → None ≡ glyph_kept left_bodies m.name → ⊥
   body-there have none =
       let gone : None ≡ glyph_kept bodies m.name = none ∙ body-here was bodies left_bodies runs left_runs ms at now distinct before m far is in
@@ -309,7 +307,6 @@ same-twice a b c p q (Glyph g) = p (Glyph g) ∙ q (Glyph g)
 module _ (m : FontBodies) (names : List (Bor (List ℕ))) (runs : List KeptRun) (metrics : List GlyphMetrics) (are : AreMeasured m runs metrics)
     (named : map (λ name. name.now) names ≡ measured_names metrics) (joins : Pairs)
     (joined : (k : Key) (u : List ℕ) → has_pair joins k u ≡ (has (λ name. name.now) names u && is_user k (run_of runs u))) where
-
   are-joins : AreLeaves m (has (λ name. name.now) names) joins
   are-joins k u = joined k u ∙ ap (λ r. has (λ name. name.now) names u && is_user k r) (are.draw u)
 

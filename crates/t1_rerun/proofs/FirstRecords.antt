@@ -94,7 +94,6 @@ module _ (s : SourceParts) (file : file_check s ≡ Ok tt) where
   module _ (bs : FontBodies) (same : SameBodies bs (bodies s.items)) (checked : bodies_check s.items ≡ Ok tt)
       (names : List (Bor (List ℕ))) (are : map (λ name. name.now) names ≡ glyph_names s.items)
       (runs : List KeptRun) (kept : (g : List ℕ) → run_of runs g ≡ own_among bs (map (λ name. name.now) names) g) where
-
     abbrev m : FontBodies
     m = bodies s.items
 

@@ -1,9 +1,8 @@
 //! The records of a font, from scratch and after an edit that is judged by the glyphs that it makes stale.
 //!
-//! [`opened_records`] gives the records of a source, or its first fault. [`rerun`] runs the stale glyphs of an edited font,
-//! each once, and measures them by their newest runs: the first fault of the edited font, or what is new of it. [`settle`]
-//! then brings the records from those of the source before to those of the edited one, and [`measured_records`] gives its
-//! metrics by them.
+//! [`opened_records`] gives the records of a source, or its first fault. [`renew`] brings them to those of the source after
+//! an edit, or answers its first fault: [`rerun`] runs the stale glyphs, each once, and measures them by their newest runs,
+//! and [`settle`] changes the records. [`measured_records`] gives the metrics of the font by them.
 #![tactic(auto)]
 
 mod judging;
@@ -11,6 +10,7 @@ mod measured;
 mod newest;
 mod opening;
 mod renewal;
+mod renewing;
 mod reruns;
 mod settling;
 mod stale;
@@ -20,4 +20,8 @@ pub use measured::measured_records;
 pub use newest::Newest;
 pub use opening::opened_records;
 pub use renewal::Renewal;
+pub use renewing::renew;
 pub use settling::{EntryChange, settle};
+
+#[cfg(test)]
+mod tests;

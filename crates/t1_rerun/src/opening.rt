@@ -135,11 +135,7 @@ fn records_of(
 
 /// The records of a source, or its first fault: of a body, F23, or of a glyph, in the order of the source. Each glyph is run
 /// once, and the meter counts it.
-pub fn opened_records(
-    alloc: Global,
-    source: &Source,
-    meter: &mut Meter,
-) -> Result<Records, Refusal>
+pub fn opened_records(alloc: Global, source: &Source, meter: &mut Meter) -> Result<Records, Refusal>
     ensures checked { Gives (λ _. tt) result (source_check source.now) }
     ensures right { IfOk result (IsRight source.now) }
     ensures later { IfOk result (λ records. AllByRecursion (IsRunAfter meter.old) (map kept_of records.glyphs.entries)) }
