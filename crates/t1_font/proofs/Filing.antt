@@ -1,5 +1,5 @@
 -- The file of a source by its parts.
-use Rattle.std.proofs.Common.{◌≡◌, ℕ, List, Result, Ok, refl}
+use Rattle.std.proofs.Common.{◌≡◌, ℕ, List, Ok, refl}
 use Rattle.t1_parts.specs.declared.item.Item.{Item}
 use Rattle.t1_parts.specs.SourceParts.{SourceParts}
 use Rattle.t1_text.specs.Lines.{joined}

@@ -9,7 +9,7 @@ use Rattle.std.specs.Str.{bytes_eq}
 use Rattle.std.proofs.lemmas.Bool.{cases_Bool}
 use Rattle.std.proofs.lemmas.Slice.Eq.{bytes_eq-Decides}
 use Rattle.t1_frac.specs.declared.fault.Code.{Code}
-use Rattle.t1_run.specs.Run.{FontBodies, Drawing, NumberedRun, own}
+use Rattle.t1_run.specs.Run.{FontBodies, NumberedRun, own}
 use Rattle.t1_font.specs.Runs.{Kept, drawing_kept, kept_of, run_kept, own_among, counted, CountsSome, IsAfter}
 use Rattle.indexmap.specs.IndexMap.{insert_entry}
 

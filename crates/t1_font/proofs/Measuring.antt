@@ -1,6 +1,6 @@
 -- The glyphs of a source, from its bodies and their runs.
 use Rattle.std.proofs.Common.{◌≡◌, ℕ, Bool, true, false, cond, List, [], ◌∷◌, map, refl, sym, ap, ◌∙◌, subst, Option, None, inl, inr, is_some}
-use Rattle.std.specs.Prelude.{Result, Ok, Err, IfOk, All, IsSome, ◌||◌}
+use Rattle.std.specs.Prelude.{Result, Ok, Err, All, IsSome, ◌||◌}
 use Rattle.std.specs.Borrow.{Bor}
 use Rattle.std.specs.List.{list_any}
 use Rattle.std.specs.Option.{option_or}
@@ -19,10 +19,9 @@ use Rattle.t1_parts.specs.declared.item.Item.{Item}
 use Rattle.t1_parts.specs.declared.item.Item.TheVariants.{Plain, Section, Subr, Glyph}
 use Rattle.t1_code.specs.declared.command.Command.{Command}
 use Rattle.t1_code.specs.Words.{commands}
-use Rattle.t1_run.specs.Composite.{outline, outline_within, IsWithin}
+use Rattle.t1_run.specs.Composite.{outline, outline_within}
 use Rattle.t1_run.specs.Run.{FontBodies, Drawing, own, own_of, foot}
 use Rattle.t1_run.proofs.Agreeing.{own_same}
-use Rattle.t1_run.proofs.WithinOutlines.{outline-within_limits}
 use Rattle.t1_afm.specs.declared.bbox.BBox.{BBox}
 use Rattle.t1_afm.specs.Box.{drawn_box, font_box, united}
 use Rattle.t1_afm.proofs.Fonts.{font_box_of_boxes}

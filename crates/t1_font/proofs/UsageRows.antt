@@ -1,5 +1,5 @@
 -- The usage table of the demo font.
-use Rattle.std.proofs.Common.{◌≡◌, ℕ, List, [], ◌∷◌, map, refl, Result, Ok}
+use Rattle.std.proofs.Common.{◌≡◌, [], ◌∷◌, map, refl, Ok}
 use Rattle.std.specs.Prelude.{codes}
 use Rattle.std.specs.Fmt.{digits}
 use Rattle.t1_frac.specs.Fraction.{gcd, lowest}

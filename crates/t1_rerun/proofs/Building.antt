@@ -32,7 +32,7 @@ use Rattle.t1_cache.proofs.Names.{bytes_equiv}
 use Rattle.t1_cache.proofs.Putting.{bytes_tell, numbers_tell}
 use Rattle.t1_cache.proofs.Rooming.{room_for_joins}
 use Rattle.t1_rerun.specs.Opened.{measured_names, AreMeasured, IsRecorded}
-use Rattle.t1_rerun.specs.Renewals.{run_in, HasBox, HasRun}
+use Rattle.t1_rerun.specs.Renewals.{run_in, HasRun}
 use Rattle.t1_rerun.proofs.Reaching.{has-names}
 use Rattle.t1_rerun.proofs.Taking.{has-box, has-run}
 

@@ -1,6 +1,6 @@
 -- The records of a source from scratch are right.
-use Rattle.std.proofs.Common.{◌≡◌, ◌≤◌, ℕ, Bool, true, false, cond, length, List, [], ◌∷◌, map, refl, sym, ◌∙◌, ap, subst, arith, Option, Some, None, is_some}
-use Rattle.std.specs.Prelude.{Result, Ok, Err, ◌||◌, ◌&&◌, All, IsSome}
+use Rattle.std.proofs.Common.{◌≡◌, ℕ, Bool, true, false, length, List, [], ◌∷◌, map, refl, sym, ◌∙◌, ap, subst, arith, Option, Some, None, is_some}
+use Rattle.std.specs.Prelude.{Result, Ok, Err, ◌||◌}
 use Rattle.std.specs.Borrow.{Bor}
 use Rattle.std.specs.List.{AllByRecursion, list_all, list_any}
 use Rattle.std.specs.Option.{option_map}
@@ -16,7 +16,7 @@ use Rattle.t1_parts.specs.SourceParts.{SourceParts}
 use Rattle.t1_source.specs.WellFormed.{is_counted}
 use Rattle.t1_source.proofs.WellFormedSourceLaws.{source_well_formed}
 use Rattle.t1_run.specs.Composite.{outline, outline_within}
-use Rattle.t1_run.specs.Run.{FontBodies, Key, Subr, Glyph, own}
+use Rattle.t1_run.specs.Run.{FontBodies, Glyph, own}
 use Rattle.t1_run.specs.Touched.{is_user}
 use Rattle.t1_run.proofs.Agreeing.{own_same}
 use Rattle.t1_font.specs.declared.glyph_metrics.GlyphMetrics.{GlyphMetrics}
@@ -25,12 +25,11 @@ use Rattle.t1_font.specs.Bodies.{bodies, bodies_check, SameBodies}
 use Rattle.t1_font.specs.Glyphs.{Glyph as Told, glyphs, glyphs_by, glyph_names}
 use Rattle.t1_font.specs.MeasuredGlyphs.{glyph_metrics, glyph_metrics_among}
 use Rattle.t1_font.specs.Runs.{Kept as KeptRun, drawing_kept, run_kept, kept_of as run_of, own_among, counted, Counts, CountsSome, IsAfter}
-use Rattle.t1_font.specs.SourceChecks.{source_glyphs, source_check}
+use Rattle.t1_font.specs.SourceChecks.{source_check}
 use Rattle.t1_font.proofs.Counted.{counted-source}
 use Rattle.t1_font.proofs.Measuring.{keeps-own, names-there, KeepsOwn}
 use Rattle.t1_cache.specs.declared.records.Records.{Records}
 use Rattle.t1_cache.specs.Bodies.{record_bodies}
-use Rattle.t1_cache.specs.Kept.{KeepsAll}
 use Rattle.t1_cache.specs.Laws.{check, AreDistinct}
 use Rattle.t1_cache.specs.Renewal.{IsFromScratch}
 use Rattle.t1_cache.specs.Renewed.{Kept, kept_of}
@@ -43,7 +42,7 @@ use Rattle.t1_rerun.specs.Right.{IsRight}
 use Rattle.t1_rerun.proofs.Building.{same-twice}
 use Rattle.t1_rerun.proofs.Gathering.{box-measured, measured-all, ok-run}
 use Rattle.t1_rerun.proofs.Meeting.{glyph-among, same-function}
-use Rattle.t1_rerun.proofs.Reaching.{all-some, length-map}
+use Rattle.t1_rerun.proofs.Reaching.{all-some}
 use Rattle.t1_cache.proofs.Putting.{bytes_tell}
 
 -- ---- fonts with the same bodies

@@ -4,7 +4,6 @@ use Rattle.std.specs.Prelude.{Result, Ok, Err, ◌||◌, ◌&&◌}
 use Rattle.std.specs.List.{AllByRecursion, list_any}
 use Rattle.std.specs.Option.{option_map, option_or}
 use Rattle.std.specs.Str.{bytes_eq}
-use Rattle.std.proofs.lemmas.Bool.{cases_Bool}
 use Rattle.t1_frac.specs.declared.fault.Code.{Code}
 use Rattle.t1_frac.specs.declared.fault.Fault.{Fault}
 use Rattle.t1_frac.specs.declared.fault.Place.TheVariants as places
@@ -29,7 +28,7 @@ use Rattle.t1_font.specs.Runs.{Kept as KeptRun, drawing_kept, run_kept, kept_of 
 use Rattle.t1_font.specs.SourceChecks.{source_glyphs, source_check}
 use Rattle.t1_cache.specs.declared.records.Rerun.{Rerun}
 use Rattle.t1_cache.specs.declared.records.Records.{Records}
-use Rattle.t1_cache.specs.Edited.{IsEditedAt, is_stale, stale}
+use Rattle.t1_cache.specs.Edited.{IsEditedAt, stale}
 use Rattle.t1_cache.specs.Kept.{shown, shown_from}
 use Rattle.t1_cache.specs.Laws.{check}
 use Rattle.t1_cache.specs.Renewal.{IsFromScratch, kept_by}
@@ -160,7 +159,6 @@ module _ (keys : List Key) (old new : SourceParts) (told : List Told) (edit : Is
     (records : Records) (kept : map shown (map kept_of records.glyphs.entries) ≡ map shown_from told)
     (m : FontBodies) (bodies-are : SameBodies m (bodies new.items))
     (there : AllByRecursion (λ g. (b : List Command) × ((bodies new.items).glyphs g ≡ Some b)) (stale old keys new)) where
-
   abbrev newest : Runs
   newest = newest_among m (stale old keys new) records
 
@@ -198,7 +196,6 @@ module _ (keys : List Key) (old new : SourceParts) (told : List Told) (edit : Is
 
   module _ (runs : List KeptRun) (runs-are : (g : List ℕ) → run_of runs g ≡ own_among m (stale old keys new) g)
       (metrics : List GlyphMetrics) (measured : glyph_metrics_among newest (stale old keys new) ≡ Ok metrics) where
-
     all-measured : AllByRecursion (IsMeasured newest) metrics × (map (λ x. x.name) metrics ≡ stale old keys new)
     all-measured = measured-all newest (stale old keys new) metrics measured
 

@@ -1,7 +1,9 @@
 pub mod Building
 pub mod Changes
+pub mod Entries
 pub mod FirstRecords
 pub mod Gathering
+pub mod Judged
 pub mod Meeting
 pub mod Reaching
 pub mod Settled

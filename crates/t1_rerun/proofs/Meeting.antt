@@ -1,10 +1,8 @@
 -- The glyphs that are found are the stale ones of the edited source, and the newest runs are its runs.
-use Rattle.std.proofs.Common.{◌≡◌, ℕ, Bool, true, false, cond, List, [], ◌∷◌, map, filter, refl, sym, ◌∙◌, ap, subst, inl, inr, Option, Some, None}
-use Rattle.std.specs.Prelude.{Result, Ok, Err, ◌||◌, All, IsSome}
+use Rattle.std.proofs.Common.{◌≡◌, ℕ, Bool, true, false, cond, List, [], ◌∷◌, map, filter, refl, sym, ◌∙◌, ap, inl, inr, Option, Some, None}
+use Rattle.std.specs.Prelude.{Result, Ok, Err, ◌||◌}
 use Rattle.std.specs.List.{AllByRecursion, list_any}
-use Rattle.std.specs.Map.{lookup}
 use Rattle.std.specs.Option.{option_map, option_or}
-use Rattle.std.specs.Borrow.{Bor}
 use Rattle.std.specs.Str.{bytes_eq}
 use Rattle.std.specs.declared.alloc.Global.{Global}
 use Rattle.std.specs.declared.vec.Vec.{Vec}
@@ -27,18 +25,16 @@ use Rattle.t1_run.proofs.FoundByUsers.{found_are_touched}
 use Rattle.t1_run.proofs.Untouched.{or-false}
 use Rattle.t1_font.specs.declared.glyph_metrics.PlacedParts.{PlacedParts}
 use Rattle.t1_font.specs.Bodies.{bodies, glyph_among, SameBodies}
-use Rattle.t1_font.specs.Glyphs.{Glyph as Told, glyph_of, placed_parts_of, glyphs_by, glyphs, glyph_names}
-use Rattle.t1_font.specs.Runs.{own_among}
+use Rattle.t1_font.specs.Glyphs.{Glyph as Told, glyph_of, placed_parts_of, glyphs_by, glyph_names}
 use Rattle.t1_font.specs.SourceChecks.{source_glyphs}
 use Rattle.t1_cache.specs.declared.records.GlyphRecord.{GlyphRecord}
 use Rattle.t1_cache.specs.declared.records.Records.{Records}
 use Rattle.t1_cache.specs.Edited.{IsEditedAt, is_stale, stale}
-use Rattle.t1_cache.specs.Kept.{KeepsAll, shown, shown_from}
+use Rattle.t1_cache.specs.Kept.{shown, shown_from}
 use Rattle.t1_cache.specs.Renewal.{IsFromScratch}
 use Rattle.t1_cache.specs.Renewed.{Kept, kept_of, record_of, recorded_run}
 use Rattle.t1_cache.specs.Tables.{AreStale}
 use Rattle.t1_cache.proofs.Drawing.{all_draw}
-use Rattle.t1_cache.proofs.Judging.{unnamed}
 use Rattle.t1_cache.proofs.Newest.{found as at-glyph, newest_drawn}
 use Rattle.t1_cache.proofs.Renewing.{glyphs-of, scratch-all}
 use Rattle.t1_rerun.specs.Newest.{newest_among}
@@ -226,7 +222,6 @@ own-body m g r e = by (m.glyphs g) refl where
 
 module _ (keys : List Key) (old new : SourceParts) (told : List Told) (edit : IsEditedAt keys old new) (was : source_glyphs old ≡ Ok told)
     (records : Records) (kept : map shown (map kept_of records.glyphs.entries) ≡ map shown_from told) where
-
   record-names : map (λ k. k.name) (map kept_of records.glyphs.entries) ≡ glyph_names old.items
   record-names =
       sym (heads-names (map kept_of records.glyphs.entries)) ∙ ap (map (λ s. s.name)) kept ∙ told-names told

@@ -1,5 +1,5 @@
 -- What a judged edit answers.
-use Rattle.std.proofs.Common.{◌≡◌, ◌≤◌, ℕ, Bool, true, false, cond, length, List, [], ◌∷◌, map, filter, refl, sym, ◌∙◌, ap, subst, arith, Option, Some, None, is_some}
+use Rattle.std.proofs.Common.{◌≡◌, ℕ, Bool, true, false, cond, length, List, [], ◌∷◌, map, filter, refl, sym, ◌∙◌, ap, subst, arith, Option, Some, None, is_some}
 use Rattle.std.specs.Prelude.{Result, Ok, Err, ◌||◌, ◌&&◌, All, IsSome}
 use Rattle.std.specs.Borrow.{Bor}
 use Rattle.std.specs.List.{AllByRecursion, list_any}
@@ -16,13 +16,13 @@ use Rattle.t1_font.specs.declared.glyph_metrics.GlyphMetrics.{GlyphMetrics}
 use Rattle.t1_font.specs.Bodies.{bodies}
 use Rattle.t1_font.specs.Glyphs.{glyph_names}
 use Rattle.t1_font.specs.MeasuredGlyphs.{glyph_metrics_among}
-use Rattle.t1_font.specs.Runs.{Kept as KeptRun, run_kept, kept_of as run_of, own_among, counted, Counts, CountsSome, IsAfter}
+use Rattle.t1_font.specs.Runs.{Kept as KeptRun, run_kept, kept_of as run_of, own_among, counted, Counts, IsAfter}
 use Rattle.t1_font.specs.SourceChecks.{source_check}
 use Rattle.t1_cache.specs.declared.records.Named.{Named}
 use Rattle.t1_cache.specs.declared.records.Records.{Records}
 use Rattle.t1_cache.specs.declared.records.Rerun.{Rerun}
 use Rattle.t1_cache.specs.Edited.{stale}
-use Rattle.t1_cache.specs.Renewal.{IsFromScratch, kept_by}
+use Rattle.t1_cache.specs.Renewal.{IsFromScratch}
 use Rattle.t1_cache.specs.Renewed.{recorded_run}
 use Rattle.t1_cache.specs.Tables.{AreStale}
 use Rattle.t1_cache.specs.Users.{has, has_pair, key_of}
@@ -101,7 +101,6 @@ all-later count runs metrics after (r ∷ rs) h = (subst (IsAfter count) h.0.run
 module _ (edits : List Named) (old new : SourceParts) (records : Records) (m : FontBodies) (names : List (List ℕ)) (e : IsEdit edits old new records m names)
     (have : AllByRecursion (λ g. (b : List Command) × (m.glyphs g ≡ Some b)) names)
     (found : List ℕ → Bool) (reached : AreStale (bodies old.items) (map key_of edits) found) (some : List (List ℕ)) (some-are : some ≡ filter found names) where
-
   there : AllByRecursion (λ g. (b : List Command) × ((bodies new.items).glyphs g ≡ Some b)) (glyph_names new.items)
   there = subst (AllByRecursion (λ g. (b : List Command) × ((bodies new.items).glyphs g ≡ Some b))) e.names (go names have) where
     go : (xs : List (List ℕ)) → AllByRecursion (λ g. (b : List Command) × (m.glyphs g ≡ Some b)) xs → AllByRecursion (λ g. (b : List Command) × ((bodies new.items).glyphs g ≡ Some b)) xs

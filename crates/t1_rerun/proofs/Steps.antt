@@ -24,14 +24,14 @@ use Rattle.t1_cache.specs.declared.records.Rerun.{Rerun}
 use Rattle.t1_cache.specs.Bodies.{glyph_body, record_bodies}
 use Rattle.t1_cache.specs.Changed.{SetsBody}
 use Rattle.t1_cache.specs.Overlay.{body_at}
-use Rattle.t1_cache.specs.Renewed.{kept, kept_of, with_reruns, Kept}
+use Rattle.t1_cache.specs.Renewed.{kept, kept_of, Kept}
 use Rattle.t1_cache.specs.Users.{among, has_pair, key_eq, key_of, lists, rest_of, users_at, wanted, Pairs}
 use Rattle.t1_cache.proofs.Adding.{key-same}
 use Rattle.t1_cache.proofs.Changing.{nothing-read, rest_same}
 use Rattle.t1_cache.proofs.Putting.{bytes_tell}
 use Rattle.t1_rerun.specs.declared.renewal.Renewal.{Renewal}
 use Rattle.t1_rerun.specs.Renewals.{rerun_names}
-use Rattle.t1_rerun.specs.Settled.{AreAsBefore, AreMoved, HaveRecords, HaveRecordsBut, IsOneTaken, IsTaken, KeepsGlyph}
+use Rattle.t1_rerun.specs.Settled.{AreAsBefore, HaveRecords, HaveRecordsBut, IsOneTaken, IsTaken, KeepsGlyph}
 
 -- ---- bodies, key by key
 

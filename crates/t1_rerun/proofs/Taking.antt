@@ -1,10 +1,9 @@
 -- Runs that are taken out, one after another.
-use Rattle.std.proofs.Common.{◌≡◌, ◌<◌, ◌+◌, ℕ, zero, suc, Bool, true, false, cond, List, [], ◌∷◌, ◌++◌, map, length, take, get_or, refl, sym, ◌∙◌, ap, inl, inr, arith, Option, Some, None}
+use Rattle.std.proofs.Common.{◌≡◌, ◌<◌, ◌+◌, ℕ, zero, suc, Bool, true, false, cond, List, [], ◌∷◌, ◌++◌, length, take, get_or, refl, sym, ◌∙◌, ap, inl, inr, arith, Option, Some, None}
 use Rattle.std.specs.Prelude.{Result, Ok, Err, ◌||◌}
 use Rattle.std.specs.List.{AllByRecursion, list_any}
 use Rattle.std.specs.Str.{bytes_eq}
-use Rattle.std.proofs.lemmas.Bool.{cases_Bool}
-use Rattle.std.proofs.lemmas.List.Folds.{list_any_more, list_any-append}
+use Rattle.std.proofs.lemmas.List.Folds.{list_any_more}
 use Rattle.std.proofs.lemmas.Slice.Eq.{bytes_eq-Decides}
 use Rattle.t1_frac.specs.declared.fault.Code.{Code}
 use Rattle.t1_run.specs.Run.{NumberedRun}
@@ -46,7 +45,6 @@ pub record AreTaken (runs now : List Kept) (metrics : List GlyphMetrics) (at : �
 module _ (runs now new : List Kept) (metrics : List GlyphMetrics) (at : ℕ) (rs : List Rerun) (m : GlyphMetrics)
     (far : at < length metrics) (is : m ≡ get_or metrics at m) (had : HasRun runs m) (before : AreTaken runs now metrics at rs)
     (others : (g : List ℕ) → run_kept new g ≡ cond (bytes_eq m.name g) None (run_kept now g)) where
-
   same_name : (g : List ℕ) → bytes_eq g m.name ≡ true → g ≡ m.name
   same_name g h = (bytes_eq-Decides g m.name).0 h
 

@@ -1,11 +1,17 @@
 -- The records of a source, renewed after an edit.
-use Rattle.std.specs.Prelude.{◌≡◌, List, Ok}
+use Rattle.std.specs.Prelude.{◌≡◌, ℤ, pos, negsuc, nat_le, if◌then◌else◌, List, Option, Some, None, Ok}
 use Rattle.t1_parts.specs.SourceParts.{SourceParts}
 use Rattle.t1_source.specs.declared.edit.Edit.{Edit}
+use Rattle.t1_source.specs.declared.edit.Edit.TheVariants.{ReplaceGlyph, AddGlyph, RemoveGlyph, ReplaceSubr, AddSubr, RemoveSubr}
 use Rattle.t1_source.specs.declared.pairs.Pair.{Pair}
 use Rattle.t1_source.specs.Editing.{edited}
 use Rattle.t1_source.specs.WellFormed.{IsWellFormed}
+use Rattle.t1_run.specs.Run.{FontBodies, Key, Subr, Glyph}
+use Rattle.t1_cache.specs.declared.records.Named.{Named}
 use Rattle.t1_cache.specs.declared.records.Records.{Records}
+use Rattle.t1_cache.specs.Overlay.{body_at}
+use Rattle.t1_cache.specs.Users.{key_of}
+use Rattle.t1_rerun.specs.declared.settling.EntryChange.{EntryChange}
 use Rattle.t1_rerun.specs.Right.{IsRight}
 
 -- the records are right for a source of which an edit made this one
@@ -17,3 +23,23 @@ pub record IsEdited (records : Records) (edit : Edit) (new : SourceParts) : Type
   pub well : IsWellFormed old
   pub well_made : IsWellFormed new
   pub made : edited old pairs edit ≡ Ok (new, made_pairs)
+
+-- the key of a Subr whose number has 16 bits
+abbrev pub number_key : ℤ → Option Key
+number_key (pos n) = if nat_le n 65535 then Some (Subr n) else None
+number_key (negsuc n) = None
+
+-- the key of the entry that an edit names
+abbrev pub entry_key : Edit → Option Key
+entry_key (ReplaceGlyph g body) = Some (Glyph g)
+entry_key (AddGlyph g body) = Some (Glyph g)
+entry_key (RemoveGlyph g) = Some (Glyph g)
+entry_key (ReplaceSubr n body) = number_key n
+entry_key (AddSubr n body) = number_key n
+entry_key (RemoveSubr n) = number_key n
+entry_key _ = None
+
+-- the entry that is named, with its body in a font
+abbrev pub IsChangeIn : FontBodies → Option Named → Option EntryChange → Type 0
+IsChangeIn m None change = change ≡ None
+IsChangeIn m (Some named) change = change ≡ Some (record { named = named; body = body_at m (key_of named) })

@@ -22,12 +22,7 @@ fn kept_glyphs(alloc: Global, records: &Records) -> Result<Vec<GlyphMetrics>, Re
         let Some((name, record)) = records.glyphs.get_index(at) else {
             break;
         };
-        metrics.push(metrics_of_run(
-            alloc,
-            name.as_slice(),
-            &record.run,
-            record.bbox,
-        )?)?;
+        metrics.push(metrics_of_run(alloc, name.as_slice(), &record.run, record.bbox)?)?;
     }
     Ok(metrics)
 }

@@ -1,4 +1,4 @@
-use Rattle.std.proofs.Common.{◌≡◌, ◌∙◌, ap, sym, cond, ℕ, ◌+◌, Some, None, arith}
+use Rattle.std.proofs.Common.{◌∙◌, ap, sym, cond, ◌+◌, Some, None, arith}
 use Rattle.std.specs.List.{find}
 use Rattle.std.specs.Option.{option_or}
 use Rattle.t1_source.specs.Codes.{name_of_code, name_at}

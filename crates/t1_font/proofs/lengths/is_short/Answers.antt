@@ -1,4 +1,4 @@
-use Rattle.std.proofs.Common.{◌+◌, ◌^◌, ◌<◌, length, ap, arith}
+use Rattle.std.proofs.Common.{length, ap, arith}
 use Rattle.std.proofs.lemmas.Bool.{leb-true}
 use Rattle.t1_text.specs.Lines.{joined}
 use Rattle.t1_font.proofs.LengthLaws.{short_file}

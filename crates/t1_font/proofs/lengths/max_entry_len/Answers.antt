@@ -1,6 +1,5 @@
 use Rattle.std.proofs.Common.{length, ap, arith}
 use Rattle.t1_code.proofs.Counting.{words_within}
-use Rattle.t1_font.proofs.LengthLaws.{entry_within}
 use Rattle.t1_font.proofs.lengths.max_entry_len.Goals as goal
 
 pub returns : goal.returns

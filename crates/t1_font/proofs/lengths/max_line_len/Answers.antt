@@ -1,4 +1,4 @@
-use Rattle.std.proofs.Common.{ℕ, ◌∷◌, ◌++◌, codes, decimal, length, ap, arith}
+use Rattle.std.proofs.Common.{◌∷◌, ◌++◌, codes, decimal, length, ap, arith}
 use Rattle.t1_frac.specs.declared.fault.Place.TheVariants as places
 use Rattle.t1_font.proofs.LengthLaws.{entry_within}
 use Rattle.t1_font.proofs.lengths.max_line_len.Goals as goal

@@ -1,4 +1,4 @@
-use Rattle.std.proofs.Common.{◌≡◌, ◌∷◌, ◌<◌, ◌+◌, ◌^◌, drop, length, Ok, ap, sym, ◌∙◌, arith}
+use Rattle.std.proofs.Common.{◌∷◌, ◌+◌, drop, ap, sym, ◌∙◌, arith}
 use Rattle.std.proofs.lemmas.List.{drop_more}
 use Rattle.t1_font.specs.Assembly.{private_text}
 use Rattle.t1_font.proofs.LengthLaws.{text_within}

@@ -1,4 +1,4 @@
-use Rattle.std.proofs.Common.{◌≡◌, ◌∙◌, ◌≤◌, ap, arith, cond, length, map, refl, subst, sym, None, Some}
+use Rattle.std.proofs.Common.{◌∙◌, ap, arith, cond, map, subst, sym, None, Some}
 use Rattle.std.specs.Prelude.{◌++◌, ◌∷◌, []}
 use Rattle.std.proofs.lemmas.List.{take_all}
 use Rattle.std.specs.Str.{bytes_eq}

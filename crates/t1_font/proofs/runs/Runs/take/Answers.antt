@@ -1,7 +1,5 @@
 use Rattle.std.proofs.Common.{◌∙◌, sym, ap, cond, None}
 use Rattle.std.specs.Str.{bytes_eq}
-use Rattle.std.specs.Map.{lookup}
-use Rattle.std.specs.Option.{option_copied}
 use Rattle.t1_font.specs.Runs.{run_kept}
 use Rattle.t1_font.proofs.Keeping.{lookup-names, lookup-taken}
 use Rattle.t1_font.proofs.runs.Runs.take.Goals as goal

@@ -1,0 +1,85 @@
+-- Records of an edited source.
+use Rattle.std.proofs.Common.{◌≡◌, ℕ, List, map, refl, sym, ◌∙◌, ap, subst, Option, Some, None, Ok}
+use Rattle.std.specs.Option.{option_map, option_to_list}
+use Rattle.t1_frac.specs.declared.fault.Refusal.{Refusal}
+use Rattle.t1_frac.specs.Outcome.{Refuses}
+use Rattle.t1_parts.specs.SourceParts.{SourceParts}
+use Rattle.t1_source.specs.declared.edit.Edit.{Edit}
+use Rattle.t1_run.specs.Run.{FontBodies, Key, Subr, Glyph}
+use Rattle.t1_font.specs.Assembly.{file_check}
+use Rattle.t1_font.specs.Bodies.{bodies, SameBodies}
+use Rattle.t1_font.specs.Glyphs.{glyphs, glyph_names}
+use Rattle.t1_font.specs.SourceChecks.{source_check, source_glyphs}
+use Rattle.t1_font.proofs.Drawing.{refuses-then}
+use Rattle.t1_cache.specs.declared.records.Named.{Named}
+use Rattle.t1_cache.specs.declared.records.Records.{Records}
+use Rattle.t1_cache.specs.Bodies.{record_bodies}
+use Rattle.t1_cache.specs.Edited.{named, IsEditedAt}
+use Rattle.t1_cache.specs.Kept.{KeepsAll}
+use Rattle.t1_cache.specs.Overlay.{body_at}
+use Rattle.t1_cache.specs.Users.{key_of}
+use Rattle.t1_cache.proofs.Distinct.{names_distinct}
+use Rattle.t1_cache.proofs.Edits.{edits_named}
+use Rattle.t1_rerun.specs.declared.renewal.Renewal.{Renewal}
+use Rattle.t1_rerun.specs.declared.settling.EntryChange.{EntryChange}
+use Rattle.t1_rerun.specs.Renewals.{IsRenewal}
+use Rattle.t1_rerun.specs.Renewing.{entry_key, IsChangeIn, IsEdited}
+use Rattle.t1_rerun.specs.Right.{IsEdit, IsRight}
+use Rattle.t1_rerun.specs.Settled.{named_keys, AreAsBefore, HasBody, IsJudged}
+use Rattle.t1_rerun.proofs.Entries.{edited-order, key-named}
+
+same-trans : (a b c : FontBodies) → SameBodies a b → SameBodies b c → SameBodies a c
+same-trans a b c ab bc (Subr n) = ab (Subr n) ∙ bc (Subr n)
+same-trans a b c ab bc (Glyph g) = ab (Glyph g) ∙ bc (Glyph g)
+
+-- records that are as before are right for what they were right for
+pub still-right : (old new : Records) → AreAsBefore old new → (s : SourceParts) → IsRight s old → IsRight s new
+still-right old new same s right = record {
+  compiled = same-trans (record_bodies new) (record_bodies old) (bodies s.items) same.bodies right.compiled;
+  kept = subst (KeepsAll s) (sym same.kept) right.kept;
+  users = λ k g. same.users k g ∙ right.users k g;
+}
+
+-- the first fault of the file is the source's
+pub file-refused : (s : SourceParts) (refusal : Refusal) → Refuses refusal (file_check s) → Refuses refusal (source_check s)
+file-refused s refusal h =
+    refuses-then refusal (source_glyphs s) (λ glyphs. Ok tt)
+    (refuses-then refusal (file_check s) (λ checked. glyphs (bodies s.items) (glyph_names s.items)) h)
+
+key-list : (entry : Option Named) → map key_of (option_to_list entry) ≡ option_to_list (option_map key_of entry)
+key-list None = refl
+key-list (Some named) = refl
+
+module _ (records : Records) (edit : Edit) (new : SourceParts) (e : IsEdited records edit new) (entry : Option Named) (is : option_map key_of entry ≡ entry_key edit) where
+  keys-are : map key_of (option_to_list entry) ≡ named edit
+  keys-are = key-list entry ∙ ap option_to_list is ∙ key-named e.old e.pairs edit new e.made_pairs e.made
+
+  edited-at : IsEditedAt (map key_of (option_to_list entry)) e.old new
+  edited-at = subst (λ keys. IsEditedAt keys e.old new) (sym keys-are) (edits_named e.old e.pairs edit new e.made_pairs e.made)
+
+  pub is-edit : (m : FontBodies) (names : List (List ℕ)) → file_check new ≡ Ok tt → SameBodies m (bodies new.items) → names ≡ glyph_names new.items
+      → IsEdit (option_to_list entry) e.old new records m names
+  is-edit m names file same names-are = record { right = e.right; edited = edited-at; file = file; bodies = same; names = names-are }
+
+  change-keys : (m : FontBodies) (entry : Option Named) (change : Option EntryChange) → IsChangeIn m entry change → named_keys change ≡ map key_of (option_to_list entry)
+  change-keys m None change h = ap named_keys h
+  change-keys m (Some named) change h = ap named_keys h
+
+  change-body : (m : FontBodies) → SameBodies m (bodies new.items) → (entry : Option Named) (change : Option EntryChange) → IsChangeIn m entry change → HasBody change new
+  change-body m same None change h = subst (λ c. HasBody c new) (sym h) tt
+  change-body m same (Some named) change h = subst (λ c. HasBody c new) (sym h) (at (key_of named)) where
+    at : (k : Key) → body_at (bodies new.items) k ≡ body_at m k
+    at (Subr n) = sym (same (Subr n))
+    at (Glyph g) = sym (same (Glyph g))
+
+  pub is-judged : (m : FontBodies) → SameBodies m (bodies new.items) → (change : Option EntryChange) → IsChangeIn m entry change → source_check new ≡ Ok tt
+      → (renewal : Renewal) → IsRenewal (map key_of (option_to_list entry)) e.old new renewal → IsJudged change e.old new records renewal
+  is-judged m same change h faultless renewal renewed = record {
+    right = e.right;
+    edited = subst (λ keys. IsEditedAt keys e.old new) (sym (change-keys m entry change h)) edited-at;
+    body = change-body m same entry change h;
+    faultless = faultless;
+    distinct = names_distinct new e.well_made;
+    order = edited-order e.old e.pairs edit new e.made_pairs e.well e.well_made e.made;
+    renewed = subst (λ keys. IsRenewal keys e.old new renewal) (sym (change-keys m entry change h)) renewed;
+  }
