@@ -26,6 +26,9 @@ use Rattle.t1_font.specs.FontMetrics.{metrics_of}
 use Rattle.t1_font.specs.MeasuredGlyphs.{MeasuredFont, measured}
 use Rattle.t1_font.specs.SourceChecks.{measured_source, source_check, source_usage}
 use Rattle.t1_font.specs.Usage.{usage_table}
+use Rattle.t1_font.specs.Glyphs.{Glyph as Told}
+use Rattle.t1_cache.specs.declared.records.Records.{Records}
+use Rattle.t1_rerun.specs.Right.{IsRight}
 use Rattle.std.specs.List.{list_all}
 use Rattle.t1_source.specs.WellFormed.{is_counted}
 use Rattle.t1_font.proofs.Counted.{counted-source}
@@ -149,6 +152,14 @@ has_pfa s e =
 pub counts_short : (s : SourceParts) (font : MeasuredFont) → measured_source s ≡ Ok font → list_all is_counted s.items ≡ true
 counts_short s font e = let checked = file-checked s font e in counted-source s checked.1
 
+-- ---- by right records
+
+pub right_checked : (s : SourceParts) (records : Records) → IsRight s records → source_check s ≡ Ok tt
+right_checked s records right = ap (λ (r : Result (List Told) Fault). r >>= λ glyphs. Ok (tt {0})) right.kept.faultless
+
+pub counts_checked : (s : SourceParts) → source_check s ≡ Ok tt → list_all is_counted s.items ≡ true
+counts_checked s e = let font = checked-metrics s e in counts_short s font.0 font.1
+
 -- the AFM file that a print shows
 pub afm_shown : {A E F : Type 0} (given : Result (Vec ℕ A) E) (result : Result Answer F) (s : State) (file : List ℕ)
     → ShowsText given result → IfOk given (λ found. found.items ≡ file) → source_metrics s.source s.pairs ≡ Ok file
@@ -181,6 +192,10 @@ module _ (s : State) (font : MeasuredFont) (known : measured_source s.source ≡
   uses_scratch =
       let file = has_file s.source font known in
       ap (λ r. r >>= λ texts. Ok texts.uses) (all-texts file.0 file.1)
+
+pub pfb_checked : (s : State) → source_check s.source ≡ Ok tt → reads (text s.source) ≡ Ok s.source → pairs (kern s.pairs) ≡ Ok s.pairs
+    → pfb_from_scratch s ≡ source_file whole_file s.source
+pfb_checked s e source kerning = let font = checked-metrics s.source e in pfb_scratch s font.0 font.1 source kerning
 
 -- the files that the assembler alone makes
 pub blocks_scratch : (s : State) (size : ℕ) → reads (text s.source) ≡ Ok s.source → blocks_from_scratch size s ≡ source_file size s.source

@@ -11,5 +11,6 @@ pub mod FromScratch
 pub mod Lines
 pub mod Machine
 pub mod Outcomes
+pub mod Reruns
 pub mod Serving
 pub mod State

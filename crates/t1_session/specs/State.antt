@@ -1,7 +1,8 @@
 -- What contracts see of a session.
-use Rattle.std.specs.Prelude.{List, Option}
+use Rattle.std.specs.Prelude.{ℕ, List, Option}
 use Rattle.t1_parts.specs.SourceParts.{SourceParts}
 use Rattle.t1_source.specs.declared.pairs.Pair.{Pair}
+use Rattle.t1_cache.specs.declared.records.Records.{Records}
 
 -- profile, batches: the source and the pairs after the edits of a batch so far
 pub record Draft : Type 0 where
@@ -13,3 +14,9 @@ pub record State : Type 0 where
   pub source : SourceParts
   pub pairs : List Pair
   pub batch : Option Draft
+
+-- what contracts see of a session: what it holds, the records of its Subrs and glyphs, and the count of runs
+pub record SessionView : Type 0 where
+  pub state : State
+  pub records : Records
+  pub runs : ℕ

@@ -9,7 +9,7 @@ ghost use Rattle.t1_session.specs.Conversation.{Sends, AnswersCommand, IsPerform
 use crate::answer::{Answer, put_answer};
 use crate::command::Command;
 use crate::error::ServeError;
-use crate::session::Session;
+use crate::performer::Performer;
 use std::alloc::AllocError;
 use std::io::Write;
 use t1_code::Counted;
@@ -25,7 +25,7 @@ fn send<W: Write>(writer: &mut Counted<W>, answer: &Answer) -> Result<(), ServeE
 
 /// Performs the command that was made, where there was the memory for it.
 fn try_answer(
-    session: &mut Session,
+    session: &mut Performer,
     made: Result<Command, AllocError>,
 ) -> Result<Answer, AllocError>
     ensures { (wanted : Command) → Makes made wanted → IsPerformed session.old session.new wanted result }
@@ -35,7 +35,7 @@ fn try_answer(
 
 /// Performs a command, and answers it, also where memory ran out.
 pub fn answer_command<W: Write>(
-    session: &mut Session,
+    session: &mut Performer,
     made: Result<Command, AllocError>,
     writer: &mut Counted<W>,
 ) -> Result<(), ServeError>

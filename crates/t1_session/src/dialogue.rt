@@ -7,7 +7,7 @@ use crate::command::{
     body_command, ends_body, is_blank_line, line_command, open_command, takes_body,
 };
 use crate::error::ServeError;
-use crate::session::Session;
+use crate::performer::Performer;
 use std::alloc::Global;
 use std::io::Write;
 use std::mem;
@@ -24,7 +24,7 @@ struct Opened {
 /// A session in the midst of its input: fed pieces of it, it answers each command as soon as its last line ends.
 #[derive(Drop)]
 pub struct Dialogue {
-    session: Session,
+    session: Performer,
     opening: Option<Opened>,
     line: Vec<u8>,
     after_return: bool,
@@ -43,7 +43,7 @@ impl Dialogue {
     ghost use Rattle.t1_session.specs.Dialogues.{conversation_of, opening_of};
 
     /// A session before its first byte.
-    pub fn new(alloc: Global, session: Session) -> Dialogue
+    pub fn new(alloc: Global, session: Performer) -> Dialogue
         ensures { conversation_of result ≡ fresh session }
     {
         Dialogue {

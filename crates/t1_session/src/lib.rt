@@ -12,6 +12,7 @@ mod error;
 pub mod laws;
 mod measuring;
 mod numbers;
+mod performer;
 mod print;
 mod serving;
 mod session;

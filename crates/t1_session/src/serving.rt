@@ -6,6 +6,7 @@ ghost use Rattle.t1_session.specs.Machine.{scratch};
 
 use crate::dialogue::Dialogue;
 use crate::error::ServeError;
+use crate::performer::Performer;
 use crate::session::Session;
 use std::alloc::Global;
 use std::io::{Read, Write};
@@ -16,12 +17,12 @@ use t1_source::{read_pairs, read_source};
 /// The session of the bytes of a source and of a kerning file, or the first fault: of reading the source, of the pairs, of
 /// the source.
 #[tactic(auto, unfolding(crate::specs::Machine::scratch))]
-fn loaded(alloc: Global, source: &[u8], pairs: &[u8]) -> Result<Session, Refusal>
+fn loaded(alloc: Global, source: &[u8], pairs: &[u8]) -> Result<Performer, Refusal>
     ensures { Gives (λ session. session) result (scratch source.now pairs.now) }
 {
     let source = read_source(alloc, source)?;
     let pairs = read_pairs(alloc, pairs)?;
-    Session::open(alloc, source, pairs)
+    Ok(Performer::of(Session::open(alloc, source, pairs)?))
 }
 
 /// Runs a session over a source and its pairs: reads commands to the end of the input, and answers each before the
@@ -45,7 +46,7 @@ pub fn serve<R: Read, W: Write>(
 /// Answers the input to its end.
 fn converse<R: Read, W: Write>(
     alloc: Global,
-    session: Session,
+    session: Performer,
     reader: &mut Counted<R>,
     writer: &mut Counted<W>,
 ) -> Result<(), ServeError>

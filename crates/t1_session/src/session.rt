@@ -2,59 +2,66 @@
 use crate::batch::Batch;
 use std::alloc::Global;
 use std::marker::Model;
-use t1_font::MeasuredGlyphs;
+use t1_cache::Records;
+use t1_run::Meter;
 use t1_source::{Pairs, Source};
 
-/// A font under edits: its source and its pairs, with the metrics of its glyphs, and the batch that is open. The source
-/// has no fault. Contracts see the source, the pairs and the batch.
+/// A font under edits: its source and its pairs, the batch that is open, the records of its Subrs and glyphs, and the count
+/// of runs. The source has no fault, and the records are those of the source from scratch.
 #[derive(Drop)]
 pub struct Session {
     alloc: Global,
     source: Source,
     pairs: Pairs,
-    glyphs: MeasuredGlyphs,
+    records: Records,
+    meter: Meter,
     batch: Option<Batch>,
 }
 
 impl Model for Session {
-    ghost use Rattle.std.specs.Prelude.{◌≡◌, Ok};
-    ghost use Rattle.t1_font.specs.SourceChecks.{measured_source};
-    ghost use Rattle.t1_session.specs.State.{State};
+    ghost use Rattle.t1_rerun.specs.Right.{IsRight};
+    ghost use Rattle.t1_session.specs.State.{SessionView};
 
-    ghost Value = { State };
+    ghost Value = { SessionView };
 
-    ghost view = { λ s. record { source = s.source; pairs = s.pairs; batch = s.batch } };
+    ghost view = { λ s. record { state = record { source = s.source; pairs = s.pairs; batch = s.batch }; records = s.records; runs = s.meter } };
 
-    ghost invariant = { λ s. measured_source s.source ≡ Ok s.glyphs };
+    ghost invariant = { λ s. IsRight s.source s.records };
 }
 
-ghost use Rattle.std.specs.Prelude.{◌≡◌, ◌≤◌, ◌-◌, ◌^◌, Ok, IfOk, OnOk, OnErr, None, is_some, true};
+ghost use Rattle.std.specs.Prelude.{◌≡◌, ◌≤◌, ◌-◌, ◌^◌, Ok, IfOk, None, Some, is_some, length, true};
 ghost use Rattle.t1_frac.specs.Outcome.{Gives};
+ghost use Rattle.t1_source.specs.Editing.{edited};
 ghost use Rattle.t1_source.specs.Kerning.{kern, pairs};
 ghost use Rattle.t1_parts.specs.Printing.{text};
 ghost use Rattle.t1_parts.specs.Reading.{reads};
 ghost use Rattle.t1_code.specs.Parts.{Prints};
+ghost use Rattle.t1_font.specs.Glyphs.{glyph_names};
+ghost use Rattle.t1_font.specs.Runs.{counted};
 ghost use Rattle.t1_font.specs.SourceChecks.{measured_source, source_check};
+ghost use Rattle.t1_cache.specs.Edited.{named};
+ghost use Rattle.t1_rerun.specs.Right.{IsRight};
 ghost use Rattle.t1_session.specs.declared.command.Command.TheVariants as commands;
+ghost use Rattle.t1_session.specs.declared.print.Print.TheVariants as prints;
 ghost use Rattle.t1_session.specs.FromScratch.{blocks_from_scratch, pfa_from_scratch, pfb_from_scratch, metrics_from_scratch, uses_from_scratch};
 ghost use Rattle.t1_session.specs.Blocks.{block_size};
 ghost use Rattle.t1_session.specs.declared.answer.Answer.TheVariants.{Data};
-ghost use Rattle.t1_session.specs.Machine.{blocks_answer, opened, perform, may_want_memory, after_want, judged, printed};
+ghost use Rattle.t1_session.specs.Machine.{blocks_answer, opened, judged, printed};
 ghost use Rattle.t1_session.specs.Outcomes.{Takes, TakesOrReturns, Took, refused_source};
+ghost use Rattle.t1_session.specs.Reruns.{edition, AreKept, Reruns, RerunsOrReturns};
 
-use crate::answer::{Answer, answer_of, file_answer, text_answer};
-use crate::command::Command;
+use crate::answer::{Answer, file_answer, text_answer};
 use crate::numbers::block_size;
 use crate::print::{Print, put_text};
 use std::alloc::AllocError;
 use std::io::Write;
 use t1_code::{Counted, OutError, WHOLE_PARTS};
 use t1_font::{
-    afm_of_source, measured_source, pfa_of_source, pfb_of_source, usage_text, write_source_afm,
+    MeasuredGlyphs, afm_of_source, pfa_of_source, pfb_of_source, usage_text, write_source_afm,
     write_source_pfa, write_source_pfb,
 };
 use t1_frac::Refusal;
-use t1_run::Meter;
+use t1_rerun::{measured_records, opened_records, renew};
 use t1_source::laws::{text_of_pairs_read, text_of_source_read};
 use t1_source::{Cause, Edit, Rule};
 
@@ -73,36 +80,52 @@ impl Session {
     /// the source. A refusal drops both.
     #[tactic(auto, using(crate::proofs::StateLaws::check_refused, crate::proofs::StateLaws::check_passed))]
     pub fn open(alloc: Global, source: Source, pairs: Pairs) -> Result<Session, Refusal>
-        ensures { Gives (λ session. session) result (opened source pairs) }
+        ensures checked { Gives (λ session. session.state) result (opened source pairs) }
+        ensures right { IfOk result (λ session. IsRight session.state.source session.records) }
+        ensures runs { IfOk result (λ session. session.runs ≡ counted 0 (length (glyph_names source.items))) }
     {
-        let glyphs = measured_source(alloc, &source, &mut Meter::new())?;
+        let mut meter = Meter::new();
+        let records = opened_records(alloc, &source, &mut meter)?;
         Ok(Session {
             alloc,
             source,
             pairs,
-            glyphs,
+            records,
+            meter,
             batch: None,
         })
     }
 
     /// Whether a batch is open.
     pub fn in_batch(&self) -> bool
-        ensures { result ≡ is_some self.now.batch }
+        ensures { result ≡ is_some self.now.state.batch }
     {
         self.batch.is_some()
+    }
+
+    /// How many runs of glyphs were made since the session was opened, or 2^64 - 1 where they are more: each glyph's once at the
+    /// opening, then those of the glyphs that edits made stale.
+    pub fn runs(&self) -> u64
+        ensures { result ≡ self.now.runs }
+    {
+        self.meter.count()
     }
 
     /// Takes an edit, or refuses it. Outside a batch the first edit rule that it breaks refuses it, else the first fault of
     /// the edited source; in a batch the edit rules alone. A refusal drops the edit and changes nothing.
     pub fn apply(&mut self, edit: Edit) -> Result<(), Cause>
-        ensures { Takes self.old (commands.Edit edit) result self.new }
+        ensures takes { Takes self.old.state (commands.Edit edit) result self.new.state }
+        ensures right { IsRight self.new.state.source self.new.records }
+        ensures runs { Reruns (edition self.old.state (commands.Edit edit)) self.old result self.new }
     {
         self.take(&edit)
     }
 
     /// Does what `apply` does, and hands the edit back with a refusal.
     pub fn try_apply(&mut self, edit: Edit) -> Result<(), (Cause, Edit)>
-        ensures { TakesOrReturns self.old (commands.Edit edit) edit result self.new }
+        ensures takes { TakesOrReturns self.old.state (commands.Edit edit) edit result self.new.state }
+        ensures right { IsRight self.new.state.source self.new.records }
+        ensures runs { RerunsOrReturns (edition self.old.state (commands.Edit edit)) self.old result self.new }
     {
         match self.take(&edit) {
             Ok(()) => Ok(()),
@@ -113,7 +136,8 @@ impl Session {
     /// Opens a batch; E11 where one is open.
     #[tactic(auto, unfolding(crate::specs::Machine::perform))]
     pub fn begin(&mut self) -> Result<(), Cause>
-        ensures { Takes self.old commands.Begin result self.new }
+        ensures takes { Takes self.old.state commands.Begin result self.new.state }
+        ensures kept { AreKept self.old self.new }
     {
         if self.batch.is_some() {
             return Err(Cause::Rule(Rule::E11));
@@ -126,7 +150,8 @@ impl Session {
     /// refusal, also for want of memory, leaves the session as before the batch.
     #[tactic(auto, unfolding(crate::specs::Machine::perform))]
     pub fn commit(&mut self) -> Result<(), Cause>
-        ensures { Takes self.old commands.Commit result self.new }
+        ensures takes { Takes self.old.state commands.Commit result self.new.state }
+        ensures right { IsRight self.new.state.source self.new.records }
     {
         match self.batch.take() {
             Some(batch) => {
@@ -140,7 +165,8 @@ impl Session {
     /// Closes the batch and drops its edits; E12 where none is open. It takes no memory.
     #[tactic(auto, unfolding(crate::specs::Machine::perform))]
     pub fn abort(&mut self) -> Result<(), Cause>
-        ensures { Takes self.old commands.Abort result self.new }
+        ensures takes { Takes self.old.state commands.Abort result self.new.state }
+        ensures kept { AreKept self.old self.new }
     {
         match self.batch.take() {
             Some(_) => Ok(()),
@@ -150,50 +176,82 @@ impl Session {
 
     /// Takes an edit, or refuses it.
     #[tactic(auto, unfolding(crate::specs::Machine::perform))]
-    fn take(&mut self, edit: &Edit) -> Result<(), Cause>
-        ensures { Takes self.old (commands.Edit edit.now) result self.new }
+    pub(crate) fn take(&mut self, edit: &Edit) -> Result<(), Cause>
+        ensures takes { Takes self.old.state (commands.Edit edit.now) result self.new.state }
+        ensures right { IsRight self.new.state.source self.new.records }
+        ensures runs { Reruns (edition self.old.state (commands.Edit edit.now)) self.old result self.new }
     {
         if let Some(batch) = &mut self.batch {
             return batch.edit(edit);
         }
         let (source, pairs) = self.source.edited(&self.pairs, edit)?;
-        self.accept(source, pairs)
+        self.accept_edited(edit, source, pairs)
     }
 
-    /// Takes a source without a fault and its pairs in the place of its own.
-    fn accept(&mut self, source: Source, pairs: Pairs) -> Result<(), Cause>
-        requires { self.old.batch ≡ None }
-        ensures { Took self.old (judged self.old (source, pairs) (source_check source)) true self.old result self.new }
+    /// Takes the source that an edit made and its pairs in the place of its own, unless the source has a fault. The glyphs that
+    /// the edit makes stale are run, and no others.
+    fn accept_edited(&mut self, edit: &Edit, source: Source, pairs: Pairs) -> Result<(), Cause>
+        requires none { self.old.state.batch ≡ None }
+        requires made { edited self.old.state.source self.old.state.pairs edit.now ≡ Ok (source, pairs) }
+        ensures took { Took self.old.state (judged self.old.state (source, pairs) (source_check source)) true self.old.state result self.new.state }
+        ensures right { IsRight self.new.state.source self.new.records }
+        ensures runs { Reruns (Some (record { keys = named edit.now; source = source })) self.old result self.new }
     {
-        match measured_source(self.alloc, &source, &mut Meter::new()) {
-            Ok(glyphs) => {
+        text_of_source_read(&self.source);
+        text_of_source_read(&source);
+        match renew(self.alloc, &mut self.records, edit, &source, &mut self.meter) {
+            Ok(()) => {
                 self.source = source;
                 self.pairs = pairs;
-                self.glyphs = glyphs;
                 Ok(())
             }
             Err(refusal) => Err(cause_of(refusal)),
         }
     }
 
-    /// The metrics of the glyphs, of a session whose texts read back as what it holds.
-    #[tactic(auto, using(crate::proofs::StateLaws::counts_short))]
-    fn known(&self) -> &MeasuredGlyphs
-        ensures measured { measured_source self.now.source ≡ Ok result.now }
-        ensures source { reads (text self.now.source) ≡ Ok self.now.source }
-        ensures pairs { pairs (kern self.now.pairs) ≡ Ok self.now.pairs }
+    /// Takes a source and its pairs in the place of its own, unless the source has a fault. All its glyphs are run.
+    fn accept(&mut self, source: Source, pairs: Pairs) -> Result<(), Cause>
+        requires { self.old.state.batch ≡ None }
+        ensures took { Took self.old.state (judged self.old.state (source, pairs) (source_check source)) true self.old.state result self.new.state }
+        ensures right { IsRight self.new.state.source self.new.records }
+    {
+        let records = match opened_records(self.alloc, &source, &mut self.meter) {
+            Ok(records) => records,
+            Err(refusal) => return Err(cause_of(refusal)),
+        };
+        self.source = source;
+        self.pairs = pairs;
+        self.records = records;
+        Ok(())
+    }
+
+    /// The texts of a session read back as what it holds, and its source has no fault.
+    #[tactic(auto, using(crate::proofs::StateLaws::counts_checked, crate::proofs::StateLaws::right_checked))]
+    fn reads_back(&self)
+        ensures faultless { source_check self.now.state.source ≡ Ok tt }
+        ensures source { reads (text self.now.state.source) ≡ Ok self.now.state.source }
+        ensures pairs { pairs (kern self.now.state.pairs) ≡ Ok self.now.state.pairs }
     {
         text_of_source_read(&self.source);
         text_of_pairs_read(&self.pairs);
-        &self.glyphs
+    }
+
+    /// The metrics of the glyphs.
+    fn glyphs(&self) -> Result<MeasuredGlyphs, AllocError>
+        ensures { IfOk result (λ glyphs. measured_source self.now.state.source ≡ Ok glyphs) }
+    {
+        match measured_records(self.alloc, &self.records) {
+            Ok(glyphs) => Ok(glyphs),
+            Err(_) => Err(AllocError),
+        }
     }
 
     /// Writes the PFB file: that of the printed source and pairs from scratch.
-    #[tactic(auto, using(crate::proofs::StateLaws::pfb_scratch))]
+    #[tactic(auto, using(crate::proofs::StateLaws::pfb_checked))]
     pub fn print_pfb<W: Write>(&self, out: &mut Counted<W>) -> Result<(), OutError>
-        ensures { Prints W.contents out.old out.new (pfb_from_scratch self.now) result }
+        ensures { Prints W.contents out.old out.new (pfb_from_scratch self.now.state) result }
     {
-        let _glyphs = self.known();
+        self.reads_back();
         write_source_pfb(self.alloc, &self.source, WHOLE_PARTS, out)
     }
 
@@ -207,42 +265,44 @@ impl Session {
     ) -> Result<(), OutError>
         requires some { 1 ≤ size }
         requires short { size ≤ 2 ^ 31 - 1 }
-        ensures { Prints W.contents out.old out.new (blocks_from_scratch size self.now) result }
+        ensures { Prints W.contents out.old out.new (blocks_from_scratch size self.now.state) result }
     {
-        let _glyphs = self.known();
+        self.reads_back();
         write_source_pfb(self.alloc, &self.source, size, out)
     }
 
     /// Writes the PFA file: that of the printed source from scratch.
     #[tactic(auto, using(crate::proofs::StateLaws::pfa_scratch))]
     pub fn print_pfa<W: Write>(&self, out: &mut Counted<W>) -> Result<(), OutError>
-        ensures { Prints W.contents out.old out.new (pfa_from_scratch self.now) result }
+        ensures { Prints W.contents out.old out.new (pfa_from_scratch self.now.state) result }
     {
-        let _glyphs = self.known();
+        self.reads_back();
         write_source_pfa(self.alloc, &self.source, out)
     }
 
     /// Writes the AFM file: that of the printed source and pairs from scratch.
     pub fn print_afm<W: Write>(&self, out: &mut Counted<W>) -> Result<(), OutError>
-        ensures { Prints W.contents out.old out.new (metrics_from_scratch self.now) result }
+        ensures { Prints W.contents out.old out.new (metrics_from_scratch self.now.state) result }
     {
-        let glyphs = self.known();
-        write_source_afm(self.alloc, &self.source, &self.pairs, glyphs, out)
+        self.reads_back();
+        let glyphs = self.glyphs()?;
+        write_source_afm(self.alloc, &self.source, &self.pairs, &glyphs, out)
     }
 
     /// Writes the usage table: that of the printed source from scratch.
     #[tactic(auto, using(crate::proofs::StateLaws::uses_scratch))]
     pub fn print_uses<W: Write>(&self, out: &mut Counted<W>) -> Result<(), OutError>
-        ensures { Prints W.contents out.old out.new (uses_from_scratch self.now) result }
+        ensures { Prints W.contents out.old out.new (uses_from_scratch self.now.state) result }
     {
-        let glyphs = self.known();
+        self.reads_back();
+        let glyphs = self.glyphs()?;
         let text = usage_text(self.alloc, glyphs.metrics())?;
         put_text(&text, out)
     }
 
     /// Writes the source in its printed form.
     pub fn print_source<W: Write>(&self, out: &mut Counted<W>) -> Result<(), OutError>
-        ensures { Prints W.contents out.old out.new (Ok (text self.now.source)) result }
+        ensures { Prints W.contents out.old out.new (Ok (text self.now.state.source)) result }
     {
         let text = self.source.text()?;
         put_text(&text, out)
@@ -250,7 +310,7 @@ impl Session {
 
     /// Writes the pairs in their printed form.
     pub fn print_kern<W: Write>(&self, out: &mut Counted<W>) -> Result<(), OutError>
-        ensures { Prints W.contents out.old out.new (Ok (kern self.now.pairs)) result }
+        ensures { Prints W.contents out.old out.new (Ok (kern self.now.state.pairs)) result }
     {
         let text = self.pairs.text()?;
         put_text(&text, out)
@@ -258,7 +318,7 @@ impl Session {
 
     /// What a print in segments of so many bytes is answered.
     fn shown_blocks(&self, number: i64) -> Result<Answer, AllocError>
-        ensures { IfOk result (λ answer. answer ≡ blocks_answer self.now.source (block_size number)) }
+        ensures { IfOk result (λ answer. answer ≡ blocks_answer self.now.state.source (block_size number)) }
     {
         match block_size(number) {
             Some(size) => file_answer(pfb_of_source(self.alloc, &self.source, size)),
@@ -266,38 +326,35 @@ impl Session {
         }
     }
 
-    /// What a print is answered. The whole text is there before any of it is written.
-    #[tactic(auto, using(crate::proofs::StateLaws::metrics_are, crate::proofs::StateLaws::usage_is))]
-    fn shown(&self, print: Print) -> Result<Answer, AllocError>
-        ensures { IfOk result (λ answer. answer ≡ printed self.now print) }
+    /// What a print of the AFM file is answered.
+    fn shown_metrics(&self) -> Result<Answer, AllocError>
+        ensures { IfOk result (λ answer. answer ≡ printed self.now.state prints.Afm) }
     {
-        let glyphs = self.known();
+        let glyphs = self.glyphs()?;
+        text_answer(afm_of_source(self.alloc, &self.source, &self.pairs, &glyphs))
+    }
+
+    /// What a print of the usage table is answered.
+    #[tactic(auto, using(crate::proofs::StateLaws::usage_is))]
+    fn shown_uses(&self) -> Result<Answer, AllocError>
+        ensures { IfOk result (λ answer. answer ≡ printed self.now.state prints.Uses) }
+    {
+        let glyphs = self.glyphs()?;
+        text_answer(usage_text(self.alloc, glyphs.metrics()))
+    }
+
+    /// What a print is answered. The whole text is there before any of it is written.
+    pub(crate) fn shown(&self, print: Print) -> Result<Answer, AllocError>
+        ensures { IfOk result (λ answer. answer ≡ printed self.now.state print) }
+    {
         match print {
             Print::Source => text_answer(self.source.text()),
             Print::Kern => text_answer(self.pairs.text()),
             Print::Pfb => file_answer(pfb_of_source(self.alloc, &self.source, WHOLE_PARTS)),
             Print::Blocks(number) => self.shown_blocks(number),
             Print::Pfa => file_answer(pfa_of_source(self.alloc, &self.source)),
-            Print::Afm => text_answer(afm_of_source(self.alloc, &self.source, &self.pairs, glyphs)),
-            Print::Uses => text_answer(usage_text(self.alloc, glyphs.metrics())),
-        }
-    }
-
-    /// Performs a command. Where memory runs out the session is as before, but for the batch of a commit.
-    #[tactic(auto, unfolding(crate::specs::Machine::perform))]
-    pub(crate) fn perform(&mut self, command: Command) -> Result<Answer, AllocError>
-        ensures answer { IfOk result (λ answer. answer ≡ (perform self.old command).answer) }
-        ensures next { OnOk result (self.new ≡ (perform self.old command).next) }
-        ensures want { OnErr result (may_want_memory self.old command ≡ true) }
-        ensures err { OnErr result (self.new ≡ after_want self.old command) }
-    {
-        match command {
-            Command::Edit(edit) => answer_of(self.take(&edit)),
-            Command::Begin => answer_of(self.begin()),
-            Command::Commit => answer_of(self.commit()),
-            Command::Abort => answer_of(self.abort()),
-            Command::Print(print) => self.shown(print),
-            Command::Broken(rule) => Ok(Answer::Broken(rule)),
+            Print::Afm => self.shown_metrics(),
+            Print::Uses => self.shown_uses(),
         }
     }
 }

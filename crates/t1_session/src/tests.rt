@@ -7,6 +7,7 @@ use t1_code::{Counted, MAX_PUT};
 use t1_frac::{Code, Fault, Place};
 
 mod files;
+mod runs;
 
 /// A font of one glyph, in two parts.
 const FRONT: &[u8] = b"%!\n";

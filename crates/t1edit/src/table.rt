@@ -190,7 +190,7 @@ const BODIES: Section = Section {
             meaning: "a part of the PFB file of more than 2,147,483,647 bytes",
             text: "The clear text, the private text and the trailer of the file are each at most so long,\n\
                 since a PFB file holds lengths in 32 bits. A section with a count of more than nine digits\n\
-                has this fault too.\n\
+                has this fault too. No line alone causes it: it takes a source of hundreds of megabytes.\n\
                 \n\
                 What to do: split the font.\n",
         },

@@ -1,0 +1,65 @@
+-- What commands leave of the records of a session, and of its count of runs.
+use Rattle.std.specs.Prelude.{◌≡◌, ◌≤◌, ℕ, true, false, length, map, List, Option, Some, None, Result, Ok, Err}
+use Rattle.std.specs.List.{AllByRecursion}
+use Rattle.std.specs.Option.{option_map}
+use Rattle.std.specs.Result.{result_ok}
+use Rattle.t1_parts.specs.SourceParts.{SourceParts}
+use Rattle.t1_source.specs.declared.edit.Cause.{Cause}
+use Rattle.t1_source.specs.Editing.{edited}
+use Rattle.t1_run.specs.Run.{Key}
+use Rattle.t1_font.specs.Runs.{counted}
+use Rattle.t1_cache.specs.declared.records.Records.{Records}
+use Rattle.t1_cache.specs.Edited.{is_stale, named, stale}
+use Rattle.t1_cache.specs.Renewal.{IsOneOf}
+use Rattle.t1_cache.specs.Renewed.{Kept, kept_of}
+use Rattle.t1_rerun.specs.Settled.{AreAsBefore}
+use Rattle.t1_session.specs.declared.command.Command.{Command}
+use Rattle.t1_session.specs.declared.command.Command.TheVariants as commands
+use Rattle.t1_session.specs.State.{Draft, SessionView, State}
+
+-- the keys at which a source was edited, and the edited source
+pub record Edition : Type 0 where
+  pub keys : List Key
+  pub source : SourceParts
+
+abbrev pub edition_in : Option Draft → State → Command → Option Edition
+edition_in None s (commands.Edit edit) = option_map (λ made. record { keys = named edit; source = made.0 }) (result_ok (edited s.source s.pairs edit))
+edition_in batch s c = None
+
+-- profile, edits: an edit outside a batch that breaks no edit rule edits the session's source; it is judged by its runs
+abbrev pub edition : State → Command → Option Edition
+edition s c = edition_in s.batch s c
+
+abbrev pub kept_in : Records → List Kept
+kept_in records = map kept_of records.glyphs.entries
+
+-- profile: the record of a stale glyph has a run after this count, each other record is one of those before, its serial too
+pub record IsRenewed (old : SourceParts) (keys : List Key) (count : ℕ) (kept : List Kept) (k : Kept) : Type 0 where
+  pub stale : is_stale old keys k.name ≡ true → counted count 1 ≤ k.run.serial
+  pub fresh : is_stale old keys k.name ≡ false → IsOneOf kept k
+
+-- profile: a source was edited: one run for each stale glyph, and all other records are kept
+pub record Renews (e : Edition) (old new : SessionView) : Type 0 where
+  pub runs : new.runs ≡ counted old.runs (length (stale old.state.source e.keys e.source))
+  pub each : AllByRecursion (IsRenewed old.state.source e.keys old.runs (kept_in old.records)) (kept_in new.records)
+
+-- profile: no record changed, and so many runs were made at most
+pub record Spends (runs : ℕ) (old new : SessionView) : Type 0 where
+  pub records : AreAsBefore old.records new.records
+  pub made : ℕ
+  pub at_most : made ≤ runs
+  pub count : new.runs ≡ counted old.runs made
+
+abbrev pub AreKept : SessionView → SessionView → Type 0
+AreKept old new = (new.records ≡ old.records) × (new.runs ≡ old.runs)
+
+-- profile: only an edit that is judged by its runs makes some: it runs the stale glyphs, each once, and no other
+abbrev pub Reruns : {T : Type 0} → Option Edition → SessionView → Result T Cause → SessionView → Type 0
+Reruns None old result new = AreKept old new
+Reruns (Some e) old (Ok done) new = Renews e old new
+Reruns (Some e) old (Err cause) new = Spends (length (stale old.state.source e.keys e.source)) old new
+
+-- the same, of a call that hands what it took back with each refusal
+abbrev pub RerunsOrReturns : {T E : Type 0} → Option Edition → SessionView → Result T (Cause × E) → SessionView → Type 0
+RerunsOrReturns {T} e old (Ok done) new = Reruns {T = T} e old (Ok done) new
+RerunsOrReturns {T} e old (Err refused) new = Reruns {T = T} e old (Err refused.0) new

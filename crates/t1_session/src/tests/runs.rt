@@ -1,0 +1,165 @@
+//! How many runs the edits of a session make, on the demo font. The counts are those of an edit's dependents, by hand.
+use super::*;
+use t1_frac::Bytes;
+use t1_source::{Cause, Edit, Rule, read_pairs, read_source};
+
+/// The demo font.
+const DEMO: &str = "\
+    %!PS-AdobeFont-1.0: Demo 001.000\n\
+    /FontInfo 5 dict dup begin\n\
+    /version (001.000) readonly def\n\
+    /FullName (Demo Roman) readonly def\n\
+    /Weight (Medium) readonly def\n\
+    /ItalicAngle 0 def\n\
+    /isFixedPitch false def\n\
+    end readonly def\n\
+    /FontName /Demo def\n\
+    /Encoding StandardEncoding def\n\
+    /FontBBox{0 0 0 0}readonly def\n\
+    currentfile eexec\n\
+    dup /Private 8 dict dup begin\n\
+    /RD {string currentfile exch readstring pop} executeonly def\n\
+    /Subrs 5 array\n\
+    dup 0 {\n\
+    \t3 0 callothersubr\n\
+    \tpop\n\
+    \tpop\n\
+    \tsetcurrentpoint\n\
+    \treturn\n\
+    \t} NP\n\
+    dup 1 {\n\
+    \t0 1 callothersubr\n\
+    \treturn\n\
+    \t} NP\n\
+    dup 2 {\n\
+    \t0 2 callothersubr\n\
+    \treturn\n\
+    \t} NP\n\
+    dup 3 {\n\
+    \treturn\n\
+    \t} NP\n\
+    dup 4 {\n\
+    \t100 178 rlineto\n\
+    \treturn\n\
+    \t} NP\n\
+    ND\n\
+    2 index /CharStrings 6 dict dup begin\n\
+    /.notdef {\n\
+    \t0 250 hsbw\n\
+    \tendchar\n\
+    \t} ND\n\
+    /Aacute {\n\
+    \t10 600 hsbw\n\
+    \t93 170 214 65 194 seac\n\
+    \t} ND\n\
+    /A {\n\
+    \t10 600 hsbw\n\
+    \t300 hlineto\n\
+    \t700 vlineto\n\
+    \tclosepath\n\
+    \tendchar\n\
+    \t} ND\n\
+    /acute {\n\
+    \t93 333 hsbw\n\
+    \t500 vmoveto\n\
+    \t4 callsubr\n\
+    \tclosepath\n\
+    \tendchar\n\
+    \t} ND\n\
+    /V {\n\
+    \t15 722 hsbw\n\
+    \t0 700 rmoveto\n\
+    \t100 -700 rlineto\n\
+    \tclosepath\n\
+    \tendchar\n\
+    \t} ND\n\
+    /space {\n\
+    \t0 250 hsbw\n\
+    \tendchar\n\
+    \t} ND\n\
+    end\n\
+    end\n\
+    mark currentfile closefile\n\
+    cleartomark\n\
+    ";
+
+/// A session of the demo font.
+fn demo(alloc: Global) -> Result<Session, Fail> {
+    let source = read_source(alloc, DEMO.as_bytes())?;
+    Ok(Session::open(alloc, source, read_pairs(alloc, b"")?)?)
+}
+
+/// Other words for a glyph.
+fn glyph_edit(alloc: Global, name: &[u8], body: &[u8]) -> Result<Edit, Fail> {
+    let name = Bytes::copied(alloc, name)?;
+    Ok(Edit::ReplaceGlyph(name, Bytes::copied(alloc, body)?))
+}
+
+/// Other words for a Subr.
+fn subr_edit(alloc: Global, number: i64, body: &[u8]) -> Result<Edit, Fail> {
+    Ok(Edit::ReplaceSubr(number, Bytes::copied(alloc, body)?))
+}
+
+/// The usage table of a session.
+fn uses(alloc: Global, session: &Session) -> Result<Vec<u8>, Fail> {
+    let mut out = Counted::new(Vec::new(alloc));
+    session.print_uses(&mut out)?;
+    Ok(out.into_inner())
+}
+
+/// The demo font after its glyphs A and V enter Subr 4, then Subr 4 is another.
+fn edited(alloc: Global) -> Result<(Session, [u64; 4]), Fail> {
+    let mut session = demo(alloc)?;
+    let opened = session.runs();
+    session.apply(glyph_edit(
+        alloc,
+        b"A",
+        b"10 600 hsbw 4 1 3 callothersubr pop callsubr endchar",
+    )?)?;
+    let first = session.runs();
+    session.apply(glyph_edit(
+        alloc,
+        b"V",
+        b"15 722 hsbw 8 2 div callsubr endchar",
+    )?)?;
+    let second = session.runs();
+    session.apply(subr_edit(alloc, 4, b"50 50 rlineto return")?)?;
+    let third = session.runs();
+    Ok((session, [opened, first, second, third]))
+}
+
+#[test]
+fn runs_what_an_edit_touches(rt: HostRuntime) -> Result<(), Fail> {
+    let (_session, counts) = edited(rt.alloc())?;
+    assert!(rt; counts == [6, 8, 9, 13]);
+    Ok(())
+}
+
+#[test]
+fn runs_nothing_for_pairs_and_prints(rt: HostRuntime) -> Result<(), Fail> {
+    let alloc = rt.alloc();
+    let (mut session, _counts) = edited(alloc)?;
+    let left = Bytes::copied(alloc, b"A")?;
+    session.apply(Edit::Kern(left, Bytes::copied(alloc, b"V")?, -92))?;
+    session.apply(Edit::LenIv(0))?;
+    let table = uses(alloc, &session)?;
+    assert_eq!(rt; table.as_slice(), b"U .notdef ;\nU Aacute ; P A ; P acute ;\nU A ; S 4 ;\nU acute ; S 4 ;\nU V ; S 4 ;\nU space ;\n".as_slice());
+    assert_eq!(rt; session.runs(), 13);
+    Ok(())
+}
+
+#[test]
+fn a_refused_edit_runs_no_more_than_it_touches(rt: HostRuntime) -> Result<(), Fail> {
+    let alloc = rt.alloc();
+    let (mut session, _counts) = edited(alloc)?;
+    let refused = session.apply(subr_edit(alloc, 4, b"1 0 div return")?);
+    assert!(rt; matches!(refused, Err(Cause::Fault(_))));
+    let spent = session.runs();
+    assert!(rt; 13 <= spent && spent <= 17);
+    session.apply(Edit::RemoveSubr(3))?;
+    assert_eq!(rt; session.runs(), spent);
+    let broken = session.apply(Edit::RemoveSubr(3));
+    assert!(rt; matches!(broken, Err(Cause::Rule(Rule::E1))));
+    assert_eq!(rt; session.runs(), spent);
+    Ok(())
+}
