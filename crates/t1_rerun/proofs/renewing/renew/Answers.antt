@@ -10,7 +10,7 @@ use Rattle.t1_rerun.specs.Renewals.{IsRenewal}
 use Rattle.t1_rerun.specs.Right.{IsEdit}
 use Rattle.t1_cache.specs.Edited.{stale}
 use Rattle.t1_rerun.proofs.FirstRecords.{counts-done}
-use Rattle.t1_rerun.proofs.Judged.{counts-refused, is-edit, is-judged, run-where-stale, runs-stale, still-right}
+use Rattle.t1_rerun.proofs.Judged.{is-edit, is-judged, run-where-stale, runs-stale, still-right}
 use Rattle.t1_rerun.proofs.Reaching.{counts-none, counts-same}
 use Rattle.t1_rerun.specs.Renewing.{renewing_runs}
 use Rattle.t1_rerun.proofs.renewing.renew.Goals as goal
