@@ -1,7 +1,10 @@
 -- Records of an edited source.
-use Rattle.std.proofs.Common.{◌≡◌, ℕ, List, map, refl, sym, ◌∙◌, ap, subst, Option, Some, None, Ok}
+use Rattle.std.proofs.Common.{◌≡◌, ℕ, List, [], ◌∷◌, length, map, refl, sym, ◌∙◌, ap, subst, arith, inl, inr, Option, Some, None, Result, Ok, Err}
+use Rattle.std.specs.List.{AllByRecursion}
 use Rattle.std.specs.Option.{option_map, option_to_list}
+use Rattle.t1_frac.specs.declared.fault.Fault.{Fault}
 use Rattle.t1_frac.specs.declared.fault.Refusal.{Refusal}
+use Rattle.t1_frac.specs.declared.fault.Refusal.TheVariants as refusals
 use Rattle.t1_frac.specs.Outcome.{Refuses}
 use Rattle.t1_parts.specs.SourceParts.{SourceParts}
 use Rattle.t1_source.specs.declared.edit.Edit.{Edit}
@@ -9,23 +12,28 @@ use Rattle.t1_run.specs.Run.{FontBodies, Key, Subr, Glyph}
 use Rattle.t1_font.specs.Assembly.{file_check}
 use Rattle.t1_font.specs.Bodies.{bodies, SameBodies}
 use Rattle.t1_font.specs.Glyphs.{glyphs, glyph_names}
+use Rattle.t1_font.specs.Runs.{Counts}
 use Rattle.t1_font.specs.SourceChecks.{source_check, source_glyphs}
 use Rattle.t1_font.proofs.Drawing.{refuses-then}
 use Rattle.t1_cache.specs.declared.records.Named.{Named}
 use Rattle.t1_cache.specs.declared.records.Records.{Records}
 use Rattle.t1_cache.specs.Bodies.{record_bodies}
-use Rattle.t1_cache.specs.Edited.{named, IsEditedAt}
+use Rattle.t1_cache.specs.declared.records.Rerun.{Rerun}
+use Rattle.t1_cache.specs.Edited.{named, stale, IsEditedAt}
 use Rattle.t1_cache.specs.Kept.{KeepsAll}
 use Rattle.t1_cache.specs.Overlay.{body_at}
+use Rattle.t1_cache.specs.Renewal.{IsOneOf}
+use Rattle.t1_cache.specs.Renewed.{Kept}
 use Rattle.t1_cache.specs.Users.{key_of}
 use Rattle.t1_cache.proofs.Distinct.{names_distinct}
 use Rattle.t1_cache.proofs.Edits.{edits_named}
 use Rattle.t1_rerun.specs.declared.renewal.Renewal.{Renewal}
 use Rattle.t1_rerun.specs.declared.settling.EntryChange.{EntryChange}
-use Rattle.t1_rerun.specs.Renewals.{IsRenewal}
-use Rattle.t1_rerun.specs.Renewing.{entry_key, IsChangeIn, IsEdited}
+use Rattle.t1_rerun.specs.Opened.{runs_where, IsRunAfter}
+use Rattle.t1_rerun.specs.Renewals.{rerun_kept, IsLater, IsRenewal}
+use Rattle.t1_rerun.specs.Renewing.{entry_key, renewing_runs, IsChangeIn, IsEdited, IsRunWhereStale}
 use Rattle.t1_rerun.specs.Right.{IsEdit, IsRight}
-use Rattle.t1_rerun.specs.Settled.{named_keys, AreAsBefore, HasBody, IsJudged}
+use Rattle.t1_rerun.specs.Settled.{named_keys, AreAsBefore, HasBody, IsJudged, IsRenewedBy}
 use Rattle.t1_rerun.proofs.Entries.{edited-order, key-named}
 
 same-trans : (a b c : FontBodies) → SameBodies a b → SameBodies b c → SameBodies a c
@@ -49,6 +57,29 @@ file-refused s refusal h =
 key-list : (entry : Option Named) → map key_of (option_to_list entry) ≡ option_to_list (option_map key_of entry)
 key-list None = refl
 key-list (Some named) = refl
+
+-- ---- runs
+
+-- where the file has a fault, nothing was run
+pub counts-refused : {T : Type 0} (names : List (List ℕ)) (check : Result (Unit {0}) Fault) (old : ℕ) (r : Result T Refusal) (e : Refusal) → r ≡ Err e → Refuses e check
+    → Counts (runs_where check names) old old r
+counts-refused names check old r refusals.Memory is h = rw is (0, omega arith, refl)
+counts-refused names (Err first) old r (refusals.Fault fault) is h = rw is refl
+counts-refused names (Ok checked) old r (refusals.Fault fault) is h = absurd (cc)
+
+later-kept : (count : ℕ) (rs : List Rerun) (k : Kept) → AllByRecursion (IsLater count) rs → IsOneOf (map rerun_kept rs) k → IsRunAfter count k
+later-kept count [] k all h = absurd h
+later-kept count (r ∷ rs) k all (inl e) = subst (IsRunAfter count) e all.0
+later-kept count (r ∷ rs) k all (inr h) = later-kept count rs k all.1 h
+
+-- what was renewed by later runs has them where it is stale
+pub all-later-kept : (count : ℕ) (keys : List Key) (old : SourceParts) (rs : List Rerun) → AllByRecursion (IsLater count) rs → (kept ks : List Kept)
+    → AllByRecursion (IsRenewedBy keys old rs kept) ks → AllByRecursion (IsRunWhereStale count keys old kept) ks
+all-later-kept count keys old rs later kept [] all = tt
+all-later-kept count keys old rs later kept (k ∷ ks) all =
+    (record { stale = λ on. later-kept count rs k later (all.0.stale on); fresh = all.0.fresh }, all-later-kept count keys old rs later kept ks all.1)
+
+-- ---- an edit
 
 module _ (records : Records) (edit : Edit) (new : SourceParts) (e : IsEdited records edit new) (entry : Option Named) (is : option_map key_of entry ≡ entry_key edit) where
   keys-are : map key_of (option_to_list entry) ≡ named edit
@@ -83,3 +114,16 @@ module _ (records : Records) (edit : Edit) (new : SourceParts) (e : IsEdited rec
     order = edited-order e.old e.pairs edit new e.made_pairs e.well e.well_made e.made;
     renewed = subst (λ keys. IsRenewal keys e.old new renewal) (sym (change-keys m entry change h)) renewed;
   }
+
+  -- the stale glyphs were run
+  pub runs-stale : file_check new ≡ Ok tt → length (stale e.old (map key_of (option_to_list entry)) new) ≡ renewing_runs edit e.old new
+  runs-stale file =
+      ap (λ keys. length (stale e.old keys new)) keys-are
+      ∙ sym (ap (λ r. runs_where r (stale e.old (named edit) new)) file)
+
+  -- a stale glyph has a later run
+  pub run-where-stale : (m : FontBodies) (change : Option EntryChange) → IsChangeIn m entry change → (count : ℕ) (rs : List Rerun) → AllByRecursion (IsLater count) rs
+      → (kept ks : List Kept) → AllByRecursion (IsRenewedBy (named_keys change) e.old rs kept) ks → AllByRecursion (IsRunWhereStale count (named edit) e.old kept) ks
+  run-where-stale m change h count rs later kept ks all =
+      all-later-kept count (named edit) e.old rs later kept ks
+      (subst (λ keys. AllByRecursion (IsRenewedBy keys e.old rs kept) ks) (change-keys m entry change h ∙ keys-are) all)

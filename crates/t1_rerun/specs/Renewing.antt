@@ -1,5 +1,5 @@
 -- The records of a source, renewed after an edit.
-use Rattle.std.specs.Prelude.{◌≡◌, ℤ, pos, negsuc, nat_le, if◌then◌else◌, List, Option, Some, None, Ok}
+use Rattle.std.specs.Prelude.{◌≡◌, ℕ, ℤ, pos, negsuc, true, false, nat_le, if◌then◌else◌, List, Option, Some, None, Ok}
 use Rattle.t1_parts.specs.SourceParts.{SourceParts}
 use Rattle.t1_source.specs.declared.edit.Edit.{Edit}
 use Rattle.t1_source.specs.declared.edit.Edit.TheVariants.{ReplaceGlyph, AddGlyph, RemoveGlyph, ReplaceSubr, AddSubr, RemoveSubr}
@@ -7,11 +7,16 @@ use Rattle.t1_source.specs.declared.pairs.Pair.{Pair}
 use Rattle.t1_source.specs.Editing.{edited}
 use Rattle.t1_source.specs.WellFormed.{IsWellFormed}
 use Rattle.t1_run.specs.Run.{FontBodies, Key, Subr, Glyph}
+use Rattle.t1_font.specs.Assembly.{file_check}
 use Rattle.t1_cache.specs.declared.records.Named.{Named}
 use Rattle.t1_cache.specs.declared.records.Records.{Records}
+use Rattle.t1_cache.specs.Edited.{named, is_stale, stale}
 use Rattle.t1_cache.specs.Overlay.{body_at}
+use Rattle.t1_cache.specs.Renewal.{IsOneOf}
+use Rattle.t1_cache.specs.Renewed.{Kept}
 use Rattle.t1_cache.specs.Users.{key_of}
 use Rattle.t1_rerun.specs.declared.settling.EntryChange.{EntryChange}
+use Rattle.t1_rerun.specs.Opened.{runs_where, IsRunAfter}
 use Rattle.t1_rerun.specs.Right.{IsRight}
 
 -- the records are right for a source of which an edit made this one
@@ -43,3 +48,12 @@ entry_key _ = None
 abbrev pub IsChangeIn : FontBodies → Option Named → Option EntryChange → Type 0
 IsChangeIn m None change = change ≡ None
 IsChangeIn m (Some named) change = change ≡ Some (record { named = named; body = body_at m (key_of named) })
+
+-- profile: each glyph that an edit of a source makes stale is run once; none, where a body or the file has a fault
+abbrev pub renewing_runs : Edit → SourceParts → SourceParts → ℕ
+renewing_runs edit old new = runs_where (file_check new) (stale old (named edit) new)
+
+-- profile: a glyph that edits at these keys make stale has a run after this count, and each other glyph what was kept of it
+pub record IsRunWhereStale (count : ℕ) (keys : List Key) (old : SourceParts) (kept : List Kept) (k : Kept) : Type 0 where
+  pub stale : is_stale old keys k.name ≡ true → IsRunAfter count k
+  pub fresh : is_stale old keys k.name ≡ false → IsOneOf kept k

@@ -1,13 +1,17 @@
 //! The records of a source, renewed after an edit.
-ghost use Rattle.std.specs.Prelude.{◌≡◌, IfOk, OnErr, OnOk, Ok};
+ghost use Rattle.std.specs.Prelude.{◌≡◌, IfOk, OnErr, OnOk, Ok, map};
+ghost use Rattle.std.specs.List.{AllByRecursion};
 ghost use Rattle.std.specs.Option.{option_map, option_to_list};
 ghost use Rattle.t1_frac.specs.Outcome.{Gives};
 ghost use Rattle.t1_parts.specs.SourceParts.{SourceParts};
 ghost use Rattle.t1_run.specs.Run.{Glyph};
 ghost use Rattle.t1_font.specs.Bodies.{plain_bodies};
+ghost use Rattle.t1_font.specs.Runs.{Counts};
 ghost use Rattle.t1_font.specs.SourceChecks.{source_check};
+ghost use Rattle.t1_cache.specs.Edited.{named};
+ghost use Rattle.t1_cache.specs.Renewed.{kept_of};
 ghost use Rattle.t1_cache.specs.Users.{key_of};
-ghost use Rattle.t1_rerun.specs.Renewing.{entry_key, number_key, IsChangeIn, IsEdited};
+ghost use Rattle.t1_rerun.specs.Renewing.{entry_key, number_key, renewing_runs, IsChangeIn, IsEdited, IsRunWhereStale};
 ghost use Rattle.t1_rerun.specs.Right.{IsRight};
 
 use crate::judging::rerun;
@@ -92,6 +96,8 @@ pub fn renew(
     requires { IsEdited records.old edit.now source.now }
     ensures checked { Gives (λ _. tt) result (source_check source.now) }
     ensures right { OnOk result (IsRight source.now records.new) }
+    ensures renews { (e : IsEdited records.old edit.now source.now) → OnOk result (AllByRecursion (IsRunWhereStale meter.old (named edit.now) e.old (map kept_of records.old.glyphs.entries)) (map kept_of records.new.glyphs.entries)) }
+    ensures counted { (e : IsEdited records.old edit.now source.now) → Counts (renewing_runs edit.now e.old source.now) meter.old meter.new result }
     ensures refused { OnErr result ((s : SourceParts) → IsRight s records.old → IsRight s records.new) }
 {
     let mut bodies = checked_bodies(alloc, source)?;
