@@ -99,6 +99,7 @@ pub fn renew(
     ensures renews { (e : IsEdited records.old edit.now source.now) → OnOk result (AllByRecursion (IsRunWhereStale meter.old (named edit.now) e.old (map kept_of records.old.glyphs.entries)) (map kept_of records.new.glyphs.entries)) }
     ensures counted { (e : IsEdited records.old edit.now source.now) → Counts (renewing_runs edit.now e.old source.now) meter.old meter.new result }
     ensures refused { OnErr result ((s : SourceParts) → IsRight s records.old → IsRight s records.new) }
+    ensures kept { OnErr result (map kept_of records.new.glyphs.entries ≡ map kept_of records.old.glyphs.entries) }
 {
     let mut bodies = checked_bodies(alloc, source)?;
     let names = glyph_names(alloc, source.items())?;

@@ -1,5 +1,5 @@
 -- What commands leave of the records of a session, and of its count of runs.
-use Rattle.std.specs.Prelude.{◌≡◌, ◌≤◌, ℕ, true, false, length, map, List, Option, Some, None, Result, Ok, Err}
+use Rattle.std.specs.Prelude.{◌≡◌, ◌≤◌, ℕ, true, false, length, List, Option, Some, None, Result, Ok, Err}
 use Rattle.std.specs.List.{AllByRecursion}
 use Rattle.std.specs.Option.{option_map}
 use Rattle.std.specs.Result.{result_ok}
@@ -8,11 +8,9 @@ use Rattle.t1_source.specs.declared.edit.Cause.{Cause}
 use Rattle.t1_source.specs.Editing.{edited}
 use Rattle.t1_run.specs.Run.{Key}
 use Rattle.t1_font.specs.Runs.{counted}
-use Rattle.t1_cache.specs.declared.records.Records.{Records}
 use Rattle.t1_cache.specs.Edited.{is_stale, named, stale}
 use Rattle.t1_cache.specs.Renewal.{IsOneOf}
-use Rattle.t1_cache.specs.Renewed.{Kept, kept_of}
-use Rattle.t1_rerun.specs.Settled.{AreAsBefore}
+use Rattle.t1_cache.specs.Renewed.{Kept}
 use Rattle.t1_session.specs.declared.command.Command.{Command}
 use Rattle.t1_session.specs.declared.command.Command.TheVariants as commands
 use Rattle.t1_session.specs.State.{Draft, SessionView, State}
@@ -30,9 +28,6 @@ edition_in batch s c = None
 abbrev pub edition : State → Command → Option Edition
 edition s c = edition_in s.batch s c
 
-abbrev pub kept_in : Records → List Kept
-kept_in records = map kept_of records.glyphs.entries
-
 -- profile: the record of a stale glyph has a run after this count, each other record is one of those before, its serial too
 pub record IsRenewed (old : SourceParts) (keys : List Key) (count : ℕ) (kept : List Kept) (k : Kept) : Type 0 where
   pub stale : is_stale old keys k.name ≡ true → counted count 1 ≤ k.run.serial
@@ -41,17 +36,17 @@ pub record IsRenewed (old : SourceParts) (keys : List Key) (count : ℕ) (kept :
 -- profile: a source was edited: one run for each stale glyph, and all other records are kept
 pub record Renews (e : Edition) (old new : SessionView) : Type 0 where
   pub runs : new.runs ≡ counted old.runs (length (stale old.state.source e.keys e.source))
-  pub each : AllByRecursion (IsRenewed old.state.source e.keys old.runs (kept_in old.records)) (kept_in new.records)
+  pub each : AllByRecursion (IsRenewed old.state.source e.keys old.runs old.kept) new.kept
 
--- profile: no record changed, and so many runs were made at most
+-- profile: all that was kept stays, and so many runs were made at most
 pub record Spends (runs : ℕ) (old new : SessionView) : Type 0 where
-  pub records : AreAsBefore old.records new.records
+  pub kept : new.kept ≡ old.kept
   pub made : ℕ
   pub at_most : made ≤ runs
   pub count : new.runs ≡ counted old.runs made
 
 abbrev pub AreKept : SessionView → SessionView → Type 0
-AreKept old new = (new.records ≡ old.records) × (new.runs ≡ old.runs)
+AreKept old new = (new.kept ≡ old.kept) × (new.runs ≡ old.runs)
 
 -- profile: only an edit that is judged by its runs makes some: it runs the stale glyphs, each once, and no other
 abbrev pub Reruns : {T : Type 0} → Option Edition → SessionView → Result T Cause → SessionView → Type 0

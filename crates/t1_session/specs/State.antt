@@ -2,7 +2,7 @@
 use Rattle.std.specs.Prelude.{ℕ, List, Option}
 use Rattle.t1_parts.specs.SourceParts.{SourceParts}
 use Rattle.t1_source.specs.declared.pairs.Pair.{Pair}
-use Rattle.t1_cache.specs.declared.records.Records.{Records}
+use Rattle.t1_cache.specs.Renewed.{Kept}
 
 -- profile, batches: the source and the pairs after the edits of a batch so far
 pub record Draft : Type 0 where
@@ -15,8 +15,8 @@ pub record State : Type 0 where
   pub pairs : List Pair
   pub batch : Option Draft
 
--- what contracts see of a session: what it holds, the records of its Subrs and glyphs, and the count of runs
+-- what contracts see of a session: what it holds, what is kept of its glyphs, in source order, and the count of runs
 pub record SessionView : Type 0 where
   pub state : State
-  pub records : Records
+  pub kept : List Kept
   pub runs : ℕ

@@ -19,12 +19,14 @@ pub struct Session {
 }
 
 impl Model for Session {
+    ghost use Rattle.std.specs.Prelude.{map};
+    ghost use Rattle.t1_cache.specs.Renewed.{kept_of};
     ghost use Rattle.t1_rerun.specs.Right.{IsRight};
     ghost use Rattle.t1_session.specs.State.{SessionView};
 
     ghost Value = { SessionView };
 
-    ghost view = { λ s. record { state = record { source = s.source; pairs = s.pairs; batch = s.batch }; records = s.records; runs = s.meter } };
+    ghost view = { λ s. record { state = record { source = s.source; pairs = s.pairs; batch = s.batch }; kept = map kept_of s.records.glyphs.entries; runs = s.meter } };
 
     ghost invariant = { λ s. IsRight s.source s.records };
 }
@@ -40,7 +42,7 @@ ghost use Rattle.t1_font.specs.Glyphs.{glyph_names};
 ghost use Rattle.t1_font.specs.Runs.{counted};
 ghost use Rattle.t1_font.specs.SourceChecks.{measured_source, source_check};
 ghost use Rattle.t1_cache.specs.Edited.{named};
-ghost use Rattle.t1_rerun.specs.Right.{IsRight};
+ghost use Rattle.t1_cache.specs.Kept.{KeepsAll};
 ghost use Rattle.t1_session.specs.declared.command.Command.TheVariants as commands;
 ghost use Rattle.t1_session.specs.declared.print.Print.TheVariants as prints;
 ghost use Rattle.t1_session.specs.FromScratch.{blocks_from_scratch, pfa_from_scratch, pfb_from_scratch, metrics_from_scratch, uses_from_scratch};
@@ -81,7 +83,7 @@ impl Session {
     #[tactic(auto, using(crate::proofs::StateLaws::check_refused, crate::proofs::StateLaws::check_passed))]
     pub fn open(alloc: Global, source: Source, pairs: Pairs) -> Result<Session, Refusal>
         ensures checked { Gives (λ session. session.state) result (opened source pairs) }
-        ensures right { IfOk result (λ session. IsRight session.state.source session.records) }
+        ensures right { IfOk result (λ session. KeepsAll session.state.source session.kept) }
         ensures runs { IfOk result (λ session. session.runs ≡ counted 0 (length (glyph_names source.items))) }
     {
         let mut meter = Meter::new();
@@ -115,7 +117,7 @@ impl Session {
     /// the edited source; in a batch the edit rules alone. A refusal drops the edit and changes nothing.
     pub fn apply(&mut self, edit: Edit) -> Result<(), Cause>
         ensures takes { Takes self.old.state (commands.Edit edit) result self.new.state }
-        ensures right { IsRight self.new.state.source self.new.records }
+        ensures right { KeepsAll self.new.state.source self.new.kept }
         ensures runs { Reruns (edition self.old.state (commands.Edit edit)) self.old result self.new }
     {
         self.take(&edit)
@@ -124,7 +126,7 @@ impl Session {
     /// Does what `apply` does, and hands the edit back with a refusal.
     pub fn try_apply(&mut self, edit: Edit) -> Result<(), (Cause, Edit)>
         ensures takes { TakesOrReturns self.old.state (commands.Edit edit) edit result self.new.state }
-        ensures right { IsRight self.new.state.source self.new.records }
+        ensures right { KeepsAll self.new.state.source self.new.kept }
         ensures runs { RerunsOrReturns (edition self.old.state (commands.Edit edit)) self.old result self.new }
     {
         match self.take(&edit) {
@@ -151,7 +153,7 @@ impl Session {
     #[tactic(auto, unfolding(crate::specs::Machine::perform))]
     pub fn commit(&mut self) -> Result<(), Cause>
         ensures takes { Takes self.old.state commands.Commit result self.new.state }
-        ensures right { IsRight self.new.state.source self.new.records }
+        ensures right { KeepsAll self.new.state.source self.new.kept }
     {
         match self.batch.take() {
             Some(batch) => {
@@ -178,7 +180,7 @@ impl Session {
     #[tactic(auto, unfolding(crate::specs::Machine::perform))]
     pub(crate) fn take(&mut self, edit: &Edit) -> Result<(), Cause>
         ensures takes { Takes self.old.state (commands.Edit edit.now) result self.new.state }
-        ensures right { IsRight self.new.state.source self.new.records }
+        ensures right { KeepsAll self.new.state.source self.new.kept }
         ensures runs { Reruns (edition self.old.state (commands.Edit edit.now)) self.old result self.new }
     {
         if let Some(batch) = &mut self.batch {
@@ -194,7 +196,7 @@ impl Session {
         requires none { self.old.state.batch ≡ None }
         requires made { edited self.old.state.source self.old.state.pairs edit.now ≡ Ok (source, pairs) }
         ensures took { Took self.old.state (judged self.old.state (source, pairs) (source_check source)) true self.old.state result self.new.state }
-        ensures right { IsRight self.new.state.source self.new.records }
+        ensures right { KeepsAll self.new.state.source self.new.kept }
         ensures runs { Reruns (Some (record { keys = named edit.now; source = source })) self.old result self.new }
     {
         text_of_source_read(&self.source);
@@ -213,7 +215,7 @@ impl Session {
     fn accept(&mut self, source: Source, pairs: Pairs) -> Result<(), Cause>
         requires { self.old.state.batch ≡ None }
         ensures took { Took self.old.state (judged self.old.state (source, pairs) (source_check source)) true self.old.state result self.new.state }
-        ensures right { IsRight self.new.state.source self.new.records }
+        ensures right { KeepsAll self.new.state.source self.new.kept }
     {
         let records = match opened_records(self.alloc, &source, &mut self.meter) {
             Ok(records) => records,

@@ -51,6 +51,10 @@ pub returns-in_err-settle-clause-refused : goal.returns-in_err-settle-clause-ref
 returns-in_err-settle-clause-refused c =
     on-err c.from_residual-in_err-settle.result (still-right c.args.records.now c.settle.new.records c.in_err-settle.ensures.refused)
 
+pub returns-in_err-settle-clause-kept : goal.returns-in_err-settle-clause-kept
+returns-in_err-settle-clause-kept c =
+    on-err c.from_residual-in_err-settle.result c.in_err-settle.ensures.refused.kept
+
 pub returns-clause-checked : goal.returns-clause-checked
 returns-clause-checked c =
     let new = c.args.source.now in
