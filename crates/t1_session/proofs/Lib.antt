@@ -5,3 +5,4 @@ pub mod LineLaws
 pub mod Rows
 pub mod Sessions
 pub mod StateLaws
+pub mod RerunLaws

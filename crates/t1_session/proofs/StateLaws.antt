@@ -154,6 +154,11 @@ counts_short s font e = let checked = file-checked s font e in counted-source s 
 
 -- ---- by right records
 
+pub file_checked : (s : SourceParts) → source_check s ≡ Ok tt → file_check s ≡ Ok tt
+file_checked s e =
+    let font = checked-metrics s e in
+    (file-checked s font.0 font.1).1
+
 pub right_checked : (s : SourceParts) (records : Records) → IsRight s records → source_check s ≡ Ok tt
 right_checked s records right = ap (λ (r : Result (List Told) Fault). r >>= λ glyphs. Ok (tt {0})) right.kept.faultless
 

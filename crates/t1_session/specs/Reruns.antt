@@ -1,5 +1,5 @@
 -- What commands leave of the records of a session, and of its count of runs.
-use Rattle.std.specs.Prelude.{◌≡◌, ◌≤◌, ℕ, true, false, length, List, Option, Some, None, Result, Ok, Err}
+use Rattle.std.specs.Prelude.{◌≡◌, ◌≤◌, ℕ, length, List, Option, Some, None, Result, Ok, Err}
 use Rattle.std.specs.List.{AllByRecursion}
 use Rattle.std.specs.Option.{option_map}
 use Rattle.std.specs.Result.{result_ok}
@@ -8,9 +8,8 @@ use Rattle.t1_source.specs.declared.edit.Cause.{Cause}
 use Rattle.t1_source.specs.Editing.{edited}
 use Rattle.t1_run.specs.Run.{Key}
 use Rattle.t1_font.specs.Runs.{counted}
-use Rattle.t1_cache.specs.Edited.{is_stale, named, stale}
-use Rattle.t1_cache.specs.Renewal.{IsOneOf}
-use Rattle.t1_cache.specs.Renewed.{Kept}
+use Rattle.t1_cache.specs.Edited.{named, stale}
+use Rattle.t1_rerun.specs.Renewing.{IsRunWhereStale}
 use Rattle.t1_session.specs.declared.command.Command.{Command}
 use Rattle.t1_session.specs.declared.command.Command.TheVariants as commands
 use Rattle.t1_session.specs.State.{Draft, SessionView, State}
@@ -28,15 +27,11 @@ edition_in batch s c = None
 abbrev pub edition : State → Command → Option Edition
 edition s c = edition_in s.batch s c
 
--- profile: the record of a stale glyph has a run after this count, each other record is one of those before, its serial too
-pub record IsRenewed (old : SourceParts) (keys : List Key) (count : ℕ) (kept : List Kept) (k : Kept) : Type 0 where
-  pub stale : is_stale old keys k.name ≡ true → counted count 1 ≤ k.run.serial
-  pub fresh : is_stale old keys k.name ≡ false → IsOneOf kept k
-
--- profile: a source was edited: one run for each stale glyph, and all other records are kept
+-- profile: a source was edited: one run for each stale glyph, whose record has a run after the old count, and each other
+-- record is one of those before, the number of its run too
 pub record Renews (e : Edition) (old new : SessionView) : Type 0 where
   pub runs : new.runs ≡ counted old.runs (length (stale old.state.source e.keys e.source))
-  pub each : AllByRecursion (IsRenewed old.state.source e.keys old.runs old.kept) new.kept
+  pub each : AllByRecursion (IsRunWhereStale old.runs e.keys old.state.source old.kept) new.kept
 
 -- profile: all that was kept stays, and so many runs were made at most
 pub record Spends (runs : ℕ) (old new : SessionView) : Type 0 where

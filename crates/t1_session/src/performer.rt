@@ -38,13 +38,12 @@ impl Performer {
         ensures want { OnErr result (may_want_memory self.old command ≡ true) }
         ensures err { OnErr result (self.new ≡ after_want self.old command) }
     {
-        let session = &mut self.session;
         match command {
-            Command::Edit(edit) => answer_of(session.take(&edit)),
-            Command::Begin => answer_of(session.begin()),
-            Command::Commit => answer_of(session.commit()),
-            Command::Abort => answer_of(session.abort()),
-            Command::Print(print) => session.shown(print),
+            Command::Edit(edit) => answer_of(self.session.take(&edit)),
+            Command::Begin => answer_of(self.session.begin()),
+            Command::Commit => answer_of(self.session.commit()),
+            Command::Abort => answer_of(self.session.abort()),
+            Command::Print(print) => self.session.shown(print),
             Command::Broken(rule) => Ok(Answer::Broken(rule)),
         }
     }
