@@ -6,6 +6,7 @@ pub mod Gathering
 pub mod Judged
 pub mod Meeting
 pub mod Reaching
+pub mod Reordering
 pub mod Settled
 pub mod Steps
 pub mod Taking
