@@ -1,5 +1,6 @@
 pub mod Building
 pub mod Changes
+pub mod EditChecks
 pub mod Entries
 pub mod FirstRecords
 pub mod Gathering

@@ -5,6 +5,8 @@
 //! and [`settle`] changes the records. [`measured_records`] gives the metrics of the font by them.
 #![tactic(auto)]
 
+mod changing;
+mod edit_change;
 mod judging;
 mod measured;
 mod newest;
@@ -16,6 +18,8 @@ mod reruns;
 mod settling;
 mod stale;
 
+pub use changing::{Changing, renew_change};
+pub use edit_change::change_of_edit;
 pub use judging::rerun;
 pub use measured::measured_records;
 pub use newest::Newest;
