@@ -1,5 +1,6 @@
 -- What an edit changes of the bodies of a source, and their first fault after it.
 use Rattle.std.proofs.Common.{◌≡◌, ℕ, Bool, true, not, ℤ, pos, negsuc, nat_le, ok_or, Option, Some, None, Result, Ok, Err, List, [], ◌∷◌, ◌++◌, take, drop, filter, map, codes, refl, sym, ◌∙◌, ap, subst, arith, inl, inr}
+use Rattle.std.specs.Prelude.{MatchResult}
 use Rattle.std.specs.List.{list_any, position, position_or_len, insert, remove, slice_set}
 use Rattle.std.specs.Option.{option_map, option_to_list}
 use Rattle.std.specs.Result.{result_ok}
@@ -12,7 +13,7 @@ use Rattle.t1_frac.specs.declared.fault.Place.{Place}
 use Rattle.t1_frac.specs.declared.fault.Place.TheVariants as places
 use Rattle.t1_frac.specs.declared.fault.Refusal.{Refusal}
 use Rattle.t1_frac.specs.declared.fault.Refusal.TheVariants as refusals
-use Rattle.t1_frac.specs.Outcome.{told_at, ◌>>=◌, Refuses}
+use Rattle.t1_frac.specs.Outcome.{told_at, ◌>>=◌, Gives, Refuses}
 use Rattle.t1_code.specs.declared.command.Command.{Command}
 use Rattle.t1_code.specs.Words.{commands}
 use Rattle.t1_parts.specs.declared.item.Item.{Item}
@@ -368,3 +369,9 @@ module _ (edit : Edit) (old new : SourceParts) (is : IsMade edit old new) where
       compiled = checked-is ∙ ap unit_of told;
       order = edited-order old is.pairs edit new is.made_pairs is.well is.well_made is.made;
     }
+
+  -- of each outcome
+  pub change-told : (r : Result (Option EntryChange) Refusal) → Gives (option_map key_change) r (edit_change edit)
+      → MatchResult r (IsChanged edit old new) (λ refusal. Refuses refusal (file_check new))
+  change-told (Ok change) h = is-changed change h
+  change-told (Err refusal) h = words-refused refusal h

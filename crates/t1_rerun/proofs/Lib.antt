@@ -1,4 +1,5 @@
 pub mod Building
+pub mod ChangedBodies
 pub mod Changes
 pub mod EditChecks
 pub mod Entries
