@@ -7,6 +7,7 @@ pub mod FirstRecords
 pub mod Gathering
 pub mod Judged
 pub mod Meeting
+pub mod OrderNames
 pub mod Reaching
 pub mod Reordering
 pub mod Settled
