@@ -1,6 +1,5 @@
 -- The bodies of records with one of them changed, and what is judged by them.
 use Rattle.std.proofs.Common.{◌≡◌, ℕ, Bool, true, false, List, [], ◌∷◌, map, refl, sym, ◌∙◌, ap, subst, Option, Some, None, Ok, inl, inr, cond}
-use Rattle.t1_code.specs.declared.command.Command.{Command}
 use Rattle.t1_parts.specs.SourceParts.{SourceParts}
 use Rattle.t1_run.specs.Footprint.{Includes}
 use Rattle.t1_run.specs.Overlay.{changed}
@@ -19,7 +18,7 @@ use Rattle.t1_rerun.specs.declared.settling.EntryChange.{EntryChange}
 use Rattle.t1_rerun.specs.Changing.{glyph_changed, subr_changed, IsChangeOf}
 use Rattle.t1_rerun.specs.Renewals.{IsRenewal}
 use Rattle.t1_rerun.specs.Right.{IsEdit}
-use Rattle.t1_rerun.specs.Settled.{named_keys, HasBody, IsJudged}
+use Rattle.t1_rerun.specs.Settled.{named_keys, IsJudged}
 
 -- the bodies of records, with one of them changed
 abbrev pub changed_bodies : Option EntryChange → Records → FontBodies

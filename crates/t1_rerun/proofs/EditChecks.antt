@@ -35,10 +35,9 @@ use Rattle.t1_source.proofs.ItemPlaceLaws.{position_first, set_there, removed_th
 use Rattle.t1_run.specs.Footprint.{Includes}
 use Rattle.t1_run.specs.Run.{Key, Subr, Glyph}
 use Rattle.t1_font.specs.Assembly.{file_check}
-use Rattle.t1_font.specs.Bodies.{bodies, bodies_check, body_check, words_check}
+use Rattle.t1_font.specs.Bodies.{bodies_check, body_check, words_check}
 use Rattle.t1_font.proofs.LengthLaws.{body_fault_told}
-use Rattle.t1_cache.specs.Edited.{body_after, named, subr_key, IsEditedAt}
-use Rattle.t1_cache.specs.Overlay.{body_at}
+use Rattle.t1_cache.specs.Edited.{body_after, named, IsEditedAt}
 use Rattle.t1_cache.specs.Users.{key_of}
 use Rattle.t1_cache.proofs.EditedBodies.{body_edited}
 use Rattle.t1_cache.proofs.Edits.{edits_named, made-items}

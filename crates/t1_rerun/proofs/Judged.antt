@@ -1,10 +1,8 @@
 -- Records of an edited source.
-use Rattle.std.proofs.Common.{◌≡◌, ℕ, List, [], ◌∷◌, length, map, refl, sym, ◌∙◌, ap, subst, arith, inl, inr, Option, Some, None, Result, Ok, Err}
+use Rattle.std.proofs.Common.{◌≡◌, ℕ, List, [], ◌∷◌, length, map, refl, sym, ◌∙◌, ap, subst, inl, inr, Option, Some, None, Ok}
 use Rattle.std.specs.List.{AllByRecursion}
 use Rattle.std.specs.Option.{option_map, option_to_list}
-use Rattle.t1_frac.specs.declared.fault.Fault.{Fault}
 use Rattle.t1_frac.specs.declared.fault.Refusal.{Refusal}
-use Rattle.t1_frac.specs.declared.fault.Refusal.TheVariants as refusals
 use Rattle.t1_frac.specs.Outcome.{Refuses}
 use Rattle.t1_parts.specs.SourceParts.{SourceParts}
 use Rattle.t1_source.specs.declared.edit.Edit.{Edit}
@@ -12,7 +10,6 @@ use Rattle.t1_run.specs.Run.{FontBodies, Key, Subr, Glyph}
 use Rattle.t1_font.specs.Assembly.{file_check}
 use Rattle.t1_font.specs.Bodies.{bodies, SameBodies}
 use Rattle.t1_font.specs.Glyphs.{glyphs, glyph_names}
-use Rattle.t1_font.specs.Runs.{Counts}
 use Rattle.t1_font.specs.SourceChecks.{source_check, source_glyphs}
 use Rattle.t1_font.proofs.Drawing.{refuses-then}
 use Rattle.t1_cache.specs.declared.records.Named.{Named}

@@ -1,6 +1,6 @@
 -- Glyphs that were judged in the order in which they were found.
 use Rattle.std.proofs.Common.{◌≡◌, ℕ, Bool, true, false, cond, length, List, [], ◌∷◌, map, filter, refl, sym, ◌∙◌, ap, subst, inl, inr, Option, Some, None, is_some}
-use Rattle.std.specs.Prelude.{Result, Ok, Err, ◌||◌, ◌&&◌, All, IsSome}
+use Rattle.std.specs.Prelude.{Result, Ok, Err, ◌||◌, ◌&&◌}
 use Rattle.std.specs.Borrow.{Bor}
 use Rattle.std.specs.List.{AllByRecursion, list_any}
 use Rattle.std.specs.Option.{option_or}
@@ -21,8 +21,8 @@ use Rattle.t1_afm.specs.declared.bbox.BBox.{BBox}
 use Rattle.t1_afm.specs.Box.{drawn_box}
 use Rattle.t1_font.specs.declared.glyph_metrics.GlyphMetrics.{GlyphMetrics}
 use Rattle.t1_font.specs.Assembly.{file_check}
-use Rattle.t1_font.specs.Bodies.{bodies, bodies_check, SameBodies}
-use Rattle.t1_font.specs.Glyphs.{Glyph as Told, glyph_of, glyphs_by, glyph_names}
+use Rattle.t1_font.specs.Bodies.{bodies, bodies_check}
+use Rattle.t1_font.specs.Glyphs.{Glyph as Told, glyph_of, glyphs_by}
 use Rattle.t1_font.specs.MeasuredGlyphs.{glyph_metrics, glyph_metrics_among}
 use Rattle.t1_font.specs.Runs.{Kept as KeptRun, kept_of as run_of, own_among}
 use Rattle.t1_font.specs.SourceChecks.{source_check}
@@ -32,7 +32,7 @@ use Rattle.t1_cache.specs.declared.records.Named.{Named}
 use Rattle.t1_cache.specs.declared.records.Records.{Records}
 use Rattle.t1_cache.specs.declared.records.Rerun.{Rerun}
 use Rattle.t1_cache.specs.Edited.{stale}
-use Rattle.t1_cache.specs.Laws.{check, AreDistinct}
+use Rattle.t1_cache.specs.Laws.{AreDistinct}
 use Rattle.t1_cache.specs.Renewed.{recorded_run}
 use Rattle.t1_cache.specs.Tables.{AreStale}
 use Rattle.t1_cache.specs.Users.{has, has_pair, key_of}

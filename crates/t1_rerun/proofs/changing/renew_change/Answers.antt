@@ -4,7 +4,6 @@ use Rattle.t1_font.specs.Runs.{counted, Counts}
 use Rattle.t1_font.proofs.Keeping.{on-err}
 use Rattle.t1_cache.specs.Edited.{stale}
 use Rattle.t1_cache.specs.Renewed.{kept_of}
-use Rattle.t1_cache.specs.Users.{key_of}
 use Rattle.t1_rerun.specs.Settled.{named_keys}
 use Rattle.t1_rerun.proofs.ChangedBodies.{is-edit, is-judged}
 use Rattle.t1_rerun.proofs.FirstRecords.{counts-done}

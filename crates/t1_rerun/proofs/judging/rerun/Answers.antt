@@ -1,4 +1,4 @@
-use Rattle.std.proofs.Common.{◌≡◌, ◌∙◌, ap, filter, is_some, map, sym, length, subst, List, Some}
+use Rattle.std.proofs.Common.{◌≡◌, ◌∙◌, ap, filter, is_some, map, sym, length, subst}
 use Rattle.std.specs.Prelude.{◌&&◌}
 use Rattle.std.specs.Str.{bytes_eq}
 use Rattle.t1_run.specs.Touched.{is_user}

@@ -1,4 +1,4 @@
-use Rattle.std.proofs.Common.{◌≡◌, ◌++◌, ◌∙◌, ap, arith, drop, map, subst, sym, take, [], ◌∷◌}
+use Rattle.std.proofs.Common.{◌≡◌, ◌++◌, ◌∙◌, ap, arith, drop, map, subst, sym, [], ◌∷◌}
 use Rattle.std.specs.Prelude.{IfOk}
 use Rattle.t1_font.specs.Glyphs.{glyph_names}
 use Rattle.t1_rerun.proofs.OrderNames.{put-names}

@@ -4,7 +4,6 @@ use Rattle.t1_font.specs.Bodies.{plain_bodies}
 use Rattle.t1_font.specs.Glyphs.{glyph_names}
 use Rattle.t1_font.specs.Runs.{counted, Counts}
 use Rattle.t1_font.proofs.Keeping.{on-err}
-use Rattle.t1_font.proofs.Measuring.{names-there}
 use Rattle.t1_cache.specs.Users.{key_of}
 use Rattle.t1_rerun.specs.Renewals.{IsRenewal}
 use Rattle.t1_rerun.specs.Right.{IsEdit}
