@@ -103,7 +103,7 @@ measured-all run names metrics e = by (glyphs_by run (outline_within run 4) name
   by (Err fault) told e = absurd (cc)
 
 -- a glyph that was measured has its run among those that are kept
-measured-names : (g : List ℕ) (metrics : List GlyphMetrics) → list_any (λ m. bytes_eq g m.name) metrics ≡ list_any (bytes_eq g) (map (λ m. m.name) metrics)
+pub measured-names : (g : List ℕ) (metrics : List GlyphMetrics) → list_any (λ m. bytes_eq g m.name) metrics ≡ list_any (bytes_eq g) (map (λ m. m.name) metrics)
 measured-names g [] = refl
 measured-names g (m ∷ metrics) = ap (λ b. bytes_eq g m.name || b) (measured-names g metrics)
 

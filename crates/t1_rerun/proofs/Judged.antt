@@ -1,10 +1,8 @@
 -- Records of an edited source.
-use Rattle.std.proofs.Common.{◌≡◌, ℕ, List, [], ◌∷◌, length, map, refl, sym, ◌∙◌, ap, subst, arith, inl, inr, Option, Some, None, Result, Ok, Err}
+use Rattle.std.proofs.Common.{◌≡◌, ℕ, List, [], ◌∷◌, length, map, refl, sym, ◌∙◌, ap, subst, inl, inr, Option, Some, None, Ok}
 use Rattle.std.specs.List.{AllByRecursion}
 use Rattle.std.specs.Option.{option_map, option_to_list}
-use Rattle.t1_frac.specs.declared.fault.Fault.{Fault}
 use Rattle.t1_frac.specs.declared.fault.Refusal.{Refusal}
-use Rattle.t1_frac.specs.declared.fault.Refusal.TheVariants as refusals
 use Rattle.t1_frac.specs.Outcome.{Refuses}
 use Rattle.t1_parts.specs.SourceParts.{SourceParts}
 use Rattle.t1_source.specs.declared.edit.Edit.{Edit}
@@ -12,7 +10,6 @@ use Rattle.t1_run.specs.Run.{FontBodies, Key, Subr, Glyph}
 use Rattle.t1_font.specs.Assembly.{file_check}
 use Rattle.t1_font.specs.Bodies.{bodies, SameBodies}
 use Rattle.t1_font.specs.Glyphs.{glyphs, glyph_names}
-use Rattle.t1_font.specs.Runs.{Counts}
 use Rattle.t1_font.specs.SourceChecks.{source_check, source_glyphs}
 use Rattle.t1_font.proofs.Drawing.{refuses-then}
 use Rattle.t1_cache.specs.declared.records.Named.{Named}
@@ -60,13 +57,6 @@ key-list (Some named) = refl
 
 -- ---- runs
 
--- where the file has a fault, nothing was run
-pub counts-refused : {T : Type 0} (names : List (List ℕ)) (check : Result (Unit {0}) Fault) (old : ℕ) (r : Result T Refusal) (e : Refusal) → r ≡ Err e → Refuses e check
-    → Counts (runs_where check names) old old r
-counts-refused names check old r refusals.Memory is h = rw is (0, omega arith, refl)
-counts-refused names (Err first) old r (refusals.Fault fault) is h = rw is refl
-counts-refused names (Ok checked) old r (refusals.Fault fault) is h = absurd (cc)
-
 later-kept : (count : ℕ) (rs : List Rerun) (k : Kept) → AllByRecursion (IsLater count) rs → IsOneOf (map rerun_kept rs) k → IsRunAfter count k
 later-kept count [] k all h = absurd h
 later-kept count (r ∷ rs) k all (inl e) = subst (IsRunAfter count) e all.0
@@ -90,7 +80,7 @@ module _ (records : Records) (edit : Edit) (new : SourceParts) (e : IsEdited rec
 
   pub is-edit : (m : FontBodies) (names : List (List ℕ)) → file_check new ≡ Ok tt → SameBodies m (bodies new.items) → names ≡ glyph_names new.items
       → IsEdit (option_to_list entry) e.old new records m names
-  is-edit m names file same names-are = record { right = e.right; edited = edited-at; file = file; bodies = same; names = names-are }
+  is-edit m names file same names-are = record { right = e.right; edited = edited-at; file = file; bodies = same; names = names-are; distinct = names_distinct new e.well_made }
 
   change-keys : (m : FontBodies) (entry : Option Named) (change : Option EntryChange) → IsChangeIn m entry change → named_keys change ≡ map key_of (option_to_list entry)
   change-keys m None change h = ap named_keys h

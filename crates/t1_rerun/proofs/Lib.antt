@@ -1,11 +1,15 @@
 pub mod Building
+pub mod ChangedBodies
 pub mod Changes
+pub mod EditChecks
 pub mod Entries
 pub mod FirstRecords
 pub mod Gathering
 pub mod Judged
 pub mod Meeting
+pub mod OrderNames
 pub mod Reaching
+pub mod Reordering
 pub mod Settled
 pub mod Steps
 pub mod Taking

@@ -1,3 +1,5 @@
+pub mod Changing
+pub mod EntryChanges
 pub mod Measured
 pub mod Newest
 pub mod Opened

@@ -12,6 +12,7 @@ use Rattle.t1_cache.specs.declared.records.Records.{Records}
 use Rattle.t1_cache.specs.Bodies.{record_bodies}
 use Rattle.t1_cache.specs.Edited.{IsEditedAt}
 use Rattle.t1_cache.specs.Kept.{KeepsAll}
+use Rattle.t1_cache.specs.Laws.{AreDistinct}
 use Rattle.t1_cache.specs.Renewed.{kept_of}
 use Rattle.t1_cache.specs.Tables.{AreTables}
 use Rattle.t1_cache.specs.Users.{key_of}
@@ -41,3 +42,4 @@ pub record IsEdit (edits : List Named) (old new : SourceParts) (records : Record
   pub file : file_check new ≡ Ok tt
   pub bodies : SameBodies m (bodies new.items)
   pub names : glyphs ≡ glyph_names new.items
+  pub distinct : AreDistinct (glyph_names new.items)

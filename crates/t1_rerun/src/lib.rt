@@ -5,20 +5,28 @@
 //! and [`settle`] changes the records. [`measured_records`] gives the metrics of the font by them.
 #![tactic(auto)]
 
+mod changing;
+mod edit_change;
 mod judging;
 mod measured;
 mod newest;
 mod opening;
+mod order;
+mod prepared;
 mod renewal;
 mod renewing;
 mod reruns;
 mod settling;
 mod stale;
 
+pub use changing::{Changing, renew_change};
+pub use edit_change::change_of_edit;
 pub use judging::rerun;
 pub use measured::measured_records;
 pub use newest::Newest;
 pub use opening::opened_records;
+pub use order::GlyphOrder;
+pub use prepared::Prepared;
 pub use renewal::Renewal;
 pub use renewing::renew;
 pub use settling::{EntryChange, settle};

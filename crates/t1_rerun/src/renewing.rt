@@ -19,7 +19,7 @@ use crate::settling::{EntryChange, settle};
 use std::alloc::{AllocError, Global};
 use std::slice;
 use t1_cache::{Named, Records};
-use t1_font::{checked_bodies, glyph_names};
+use t1_font::checked_bodies;
 use t1_frac::{Bytes, Refusal};
 use t1_run::{Meter, Plain};
 use t1_source::{Edit, Source};
@@ -102,9 +102,8 @@ pub fn renew(
     ensures kept { OnErr result (map kept_of records.new.glyphs.entries ≡ map kept_of records.old.glyphs.entries) }
 {
     let mut bodies = checked_bodies(alloc, source)?;
-    let names = glyph_names(alloc, source.items())?;
     let entry = named_entry(alloc, edit)?;
-    let renewal = rerun(alloc, records, &bodies, &names, entries(&entry), meter)?;
+    let renewal = rerun(alloc, records, &bodies, source, entries(&entry), meter)?;
     let change = change_of(entry, &mut bodies);
     settle(alloc, records, change, renewal)?;
     Ok(())

@@ -1,9 +1,10 @@
 //! The stale glyphs of an edited font, in its order.
-ghost use Rattle.std.specs.Prelude.{◌≡◌, IfOk, filter, map};
+ghost use Rattle.std.specs.Prelude.{◌≡◌, IfOk, filter, is_some, map};
 ghost use Rattle.t1_cache.specs.Users.{has};
 
 use indexmap::IndexSet;
 use std::alloc::{AllocError, Global};
+use t1_run::Bodies;
 
 /// Those of these names that were found, in their order.
 pub fn stale_among<'a>(
@@ -21,4 +22,22 @@ pub fn stale_among<'a>(
         stale.push(*name)?;
     }
     Ok(stale)
+}
+
+/// Those of these names that have a body, in their order.
+pub fn there_among<'a, B: Bodies>(
+    alloc: Global,
+    bodies: &B,
+    found: &[&'a [u8]],
+) -> Result<Vec<&'a [u8]>, AllocError>
+    ensures { IfOk result (λ there. map (λ name. name.now) there.items ≡ filter (λ g. is_some (B.glyphs bodies.now g)) (map (λ name. name.now) found.now)) }
+{
+    let mut there = Vec::new(alloc);
+    for name in found {
+        if bodies.glyph(name).is_none() {
+            continue;
+        }
+        there.push(*name)?;
+    }
+    Ok(there)
 }

@@ -3,9 +3,10 @@ use super::*;
 use std::alloc::Global;
 use std::test::Fail;
 use t1_afm::BBox;
-use t1_cache::{Names, Records};
+use t1_cache::{Named, Names, Records};
+use t1_frac::{Bytes, Fault, Place, Refusal};
 use t1_run::Meter;
-use t1_source::read_source;
+use t1_source::{Change, Edit, read_pairs, read_source};
 
 /// Three glyphs of the demo font: acute enters Subr 4, and Aacute is composed of A and acute.
 const THREE: &str = "\
@@ -98,5 +99,125 @@ fn opens_records_with_users_of_subrs(rt: HostRuntime) -> Result<(), Fail> {
         Some(record) => are(&record.users, &["acute"]),
     };
     assert!(rt; entered);
+    Ok(())
+}
+
+/// What is measured of the three glyphs by their records.
+fn measured(alloc: Global) -> Result<(usize, BBox), Fail> {
+    let records = three(alloc, &mut Meter::new())?;
+    let measured = measured_records(alloc, &records)?;
+    Ok((measured.metrics().len(), measured.font_box()))
+}
+
+#[test]
+fn measures_records(rt: HostRuntime) -> Result<(), Fail> {
+    let measured = measured(rt.alloc())?;
+    assert!(rt; measured == (3, sides(10, 0, 310, 892)));
+    Ok(())
+}
+
+/// How many glyphs are run again where Subr 4 is edited, and how many runs are counted with the first three.
+fn reruns(alloc: Global) -> Result<(usize, u64), Fail> {
+    let source = read_source(alloc, THREE.as_bytes())?;
+    let mut meter = Meter::new();
+    let records = opened_records(alloc, &source, &mut meter)?;
+    let edits = [Named::Subr(4)];
+    let renewal = rerun(alloc, &records, &records, &source, &edits, &mut meter)?;
+    Ok((renewal.reruns.len(), meter.count()))
+}
+
+#[test]
+fn runs_stale_glyphs_again(rt: HostRuntime) -> Result<(), Fail> {
+    let reruns = reruns(rt.alloc())?;
+    assert!(rt; reruns == (2, 5));
+    Ok(())
+}
+
+/// Subr 4 with another body.
+fn subr_4(alloc: Global, body: &[u8]) -> Result<Edit, Fail> {
+    Ok(Edit::ReplaceSubr(4, Bytes::copied(alloc, body)?))
+}
+
+/// How many commands Subr 4 has after an edit of it.
+fn changed_len(alloc: Global, body: &[u8]) -> Result<Option<usize>, Fail> {
+    let Some(EntryChange { body, .. }) = change_of_edit(alloc, &subr_4(alloc, body)?)? else {
+        return Err(Fail::new("no change"));
+    };
+    match body {
+        None => Ok(None),
+        Some(body) => Ok(Some(body.commands().len())),
+    }
+}
+
+#[test]
+fn compiles_the_body_of_an_edit(rt: HostRuntime) -> Result<(), Fail> {
+    let len = changed_len(rt.alloc(), b"100 278 rlineto % up\nreturn")?;
+    assert!(rt; len == Some(4));
+    Ok(())
+}
+
+/// Whether the body of an edit of Subr 4 has a fault, told at the Subr.
+fn has_fault_at_4(alloc: Global, body: &[u8]) -> Result<bool, Fail> {
+    let edit = subr_4(alloc, body)?;
+    match change_of_edit(alloc, &edit) {
+        Err(Refusal::Fault(Fault {
+            place: Place::Subr(number),
+            ..
+        })) => Ok(number == 4),
+        _ => Ok(false),
+    }
+}
+
+#[test]
+fn tells_the_fault_of_an_edit_at_its_entry(rt: HostRuntime) -> Result<(), Fail> {
+    let told = has_fault_at_4(rt.alloc(), b"100 178 nonsense return")?;
+    assert!(rt; told);
+    Ok(())
+}
+
+/// How many glyphs stand in order where A is removed.
+fn names_without_a(alloc: Global) -> Result<usize, Fail> {
+    let source = read_source(alloc, THREE.as_bytes())?;
+    let pairs = read_pairs(alloc, b"")?;
+    let change: Change = source.prepared(&pairs, &Edit::RemoveGlyph(Bytes::copied(alloc, b"A")?))?;
+    let order = Prepared {
+        source: &source,
+        change: &change,
+    };
+    let names = order.names(alloc)?;
+    Ok(names.len())
+}
+
+#[test]
+fn orders_glyphs_with_a_change(rt: HostRuntime) -> Result<(), Fail> {
+    let names = names_without_a(rt.alloc())?;
+    assert!(rt; names == 2);
+    Ok(())
+}
+
+/// The records of the three glyphs after an edit, and how many runs were counted in all.
+fn renewed(alloc: Global, edit: &Edit) -> Result<(Records, u64), Fail> {
+    let source = read_source(alloc, THREE.as_bytes())?;
+    let pairs = read_pairs(alloc, b"")?;
+    let mut meter = Meter::new();
+    let mut records = opened_records(alloc, &source, &mut meter)?;
+    let (made, _) = source.edited(&pairs, edit)?;
+    renew(alloc, &mut records, edit, &made, &mut meter)?;
+    Ok((records, meter.count()))
+}
+
+/// Whether the boxes of acute and of the composite on it rise with Subr 4, for which two glyphs are run again.
+fn rises(alloc: Global) -> Result<bool, Fail> {
+    let edit = subr_4(alloc, b"100 278 rlineto return")?;
+    let (records, runs) = renewed(alloc, &edit)?;
+    let accent = has(&records, "acute", sides(93, 500, 193, 778), &["Aacute"]);
+    let composite = has(&records, "Aacute", sides(10, 0, 310, 992), &[]);
+    Ok(accent && composite && runs == 5)
+}
+
+#[test]
+fn renews_stale_glyphs(rt: HostRuntime) -> Result<(), Fail> {
+    let rises = rises(rt.alloc())?;
+    assert!(rt; rises);
     Ok(())
 }

@@ -13,7 +13,7 @@ mod pairs;
 mod source;
 
 pub use edit::{Cause, Edit, Rule};
-pub use editing::Change;
+pub use editing::{Change, body_words};
 pub use pairs::{Pair, Pairs, read_pairs};
 pub use source::{Source, read_source};
 pub use t1_parts::Item;

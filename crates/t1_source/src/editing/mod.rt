@@ -22,6 +22,7 @@ use crate::editing::subrs::{adding_subr, removing_subr, replacing_subr};
 use crate::pairs::Pairs;
 use crate::source::Source;
 pub use change::Change;
+pub use rules::body_words;
 use std::alloc::AllocError;
 
 impl Source {

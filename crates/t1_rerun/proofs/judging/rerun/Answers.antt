@@ -1,7 +1,6 @@
-use Rattle.std.proofs.Common.{◌≡◌, ◌∙◌, ap, map, sym, length, subst, List, Some}
+use Rattle.std.proofs.Common.{◌≡◌, ◌∙◌, ap, filter, is_some, map, sym, length, subst}
 use Rattle.std.specs.Prelude.{◌&&◌}
 use Rattle.std.specs.Str.{bytes_eq}
-use Rattle.t1_code.specs.declared.command.Command.{Command}
 use Rattle.t1_run.specs.Touched.{is_user}
 use Rattle.t1_font.specs.Runs.{counted, kept_of as run_of}
 use Rattle.t1_cache.specs.Renewed.{recorded_run}
@@ -13,7 +12,8 @@ use Rattle.t1_cache.specs.Edited.{stale}
 use Rattle.std.specs.List.{AllByRecursion, list_any}
 use Rattle.t1_rerun.specs.Renewals.{HasRun, IsRerun}
 use Rattle.t1_rerun.proofs.Gathering.{have-runs}
-use Rattle.t1_rerun.proofs.Reaching.{all-passing, all-some, some-all, all-later, has-names, length-map, counts-none, counts-all, counts-same, stale-names, is-faultless, is-refused, is-renewal}
+use Rattle.t1_rerun.proofs.Reaching.{some-all, all-later, has-names, length-map, counts-none, counts-all, counts-same}
+use Rattle.t1_rerun.proofs.Reordering.{as-many, first-fault, judged-ok, no-fault, renewal-is, those-are, those-distinct, those-there}
 use Rattle.t1_rerun.proofs.judging.rerun.Goals as goal
 
 pub returns-in_err-stale-clause-counted : goal.returns-in_err-stale-clause-counted
@@ -23,85 +23,103 @@ returns-in_err-stale-clause-counted g c = λ old new e.
 
 pub judged-requires : goal.judged-requires
 judged-requires g c =
-    let glyphs = g.B.Bodies.glyphs c.args.bodies.now in
-    let found = has (λ name. name.now) c.in_ok-found.found.keys in
-    some-all glyphs c.deref.result.now
-    (subst (AllByRecursion (λ x. (b : List Command) × (glyphs x ≡ Some b))) (sym (ap (map (λ name. name.now)) c.deref.ensures.value ∙ c.in_ok-stale.ensures))
-    (all-passing (λ x. (b : List Command) × (glyphs x ≡ Some b)) found (map (λ name. name.now) c.args.names.now) (all-some glyphs c.args.names.now c.requires)))
+    let m = font (g.B.Bodies.subrs c.args.bodies.now) (g.B.Bodies.glyphs c.args.bodies.now) in
+    let keys = c.in_ok-found.found.keys in
+    let these = map (λ name. name.now) c.deref.result.now in
+    let is = ap (map (λ name. name.now)) c.deref.ensures.value ∙ c.in_ok-stale.ensures
+    ∙ ap (λ l. filter (λ x. is_some (m.glyphs x)) (map (λ name. name.now) l)) c.as_slice.ensures.keys in
+    some-all m.glyphs c.deref.result.now (those-there m.glyphs keys these is)
 
 pub renewal_of-requires : goal.renewal_of-requires
 renewal_of-requires g c =
     let m = font (g.B.Bodies.subrs c.args.bodies.now) (g.B.Bodies.glyphs c.args.bodies.now) in
-    let found = has (λ name. name.now) c.in_ok-found.found.keys in
-    let some = map (λ name. name.now) c.deref.result.now in
+    let keys = c.in_ok-found.found.keys in
+    let these = map (λ name. name.now) c.deref.result.now in
+    let is = ap (map (λ name. name.now)) c.deref.ensures.value ∙ c.in_ok-stale.ensures
+    ∙ ap (λ l. filter (λ x. is_some (m.glyphs x)) (map (λ name. name.now) l)) c.as_slice.ensures.keys in
     subst (AllByRecursion (HasRun c.in_ok-runs.runs)) (sym c.deref-3.ensures.value)
-    (have-runs m some c.args.records.now
-    (subst (AllByRecursion (λ x. (b : List Command) × (m.glyphs x ≡ Some b))) (sym (ap (map (λ name. name.now)) c.deref.ensures.value ∙ c.in_ok-stale.ensures))
-    (all-passing (λ x. (b : List Command) × (m.glyphs x ≡ Some b)) found (map (λ name. name.now) c.args.names.now) (all-some m.glyphs c.args.names.now c.requires)))
-    c.in_ok-runs.runs c.in_ok-runs.ensures.kept c.in_ok-runs.metrics.items c.in_ok-runs.ensures.told)
+    (have-runs m these c.args.records.now (those-there m.glyphs keys these is) c.in_ok-runs.runs c.in_ok-runs.ensures.kept c.in_ok-runs.metrics.items
+    (judged-ok _ _ c.in_ok-runs.metrics.items c.in_ok-runs.ensures.told))
 
 pub returns-in_err-runs-clause-checked : goal.returns-in_err-runs-clause-checked
 returns-in_err-runs-clause-checked g c = λ old new e.
     let m = font (g.B.Bodies.subrs c.args.bodies.now) (g.B.Bodies.glyphs c.args.bodies.now) in
-    let names = map (λ name. name.now) c.args.names.now in
-    let some = map (λ name. name.now) c.deref.result.now in
-    let found = has (λ name. name.now) c.in_ok-found.found.keys in
+    let keys = c.in_ok-found.found.keys in
+    let these = map (λ name. name.now) c.deref.result.now in
+    let is = ap (map (λ name. name.now)) c.deref.ensures.value ∙ c.in_ok-stale.ensures
+    ∙ ap (λ l. filter (λ x. is_some (m.glyphs x)) (map (λ name. name.now) l)) c.as_slice.ensures.keys in
+    let names = g.O.GlyphOrder.ordered c.args.order.now in
+    let found = has (λ name. name.now) keys in
+    let reached = c.in_ok-found.ensures.stale (bodies old.items) e.right.users in
+    let are = those-are m.glyphs keys these is in
     let p = err_from_is_err_and c.from_residual-in_err-runs.result c.from_residual-in_err-runs.ensures.1 in
-    rw (p.1, p.2)
-    (is-refused c.args.edits.now old new c.args.records.now m names e (all-some m.glyphs c.args.names.now c.requires) found
-    (c.in_ok-found.ensures.stale (bodies old.items) e.right.users) some (ap (map (λ name. name.now)) c.deref.ensures.value ∙ c.in_ok-stale.ensures)
-    c.in_err-runs.field-0.0 c.in_err-runs.ensures.told)
+    rw (p.1, p.2) (first-fault c.args.edits.now old new c.args.records.now m names e found reached these are c.in_err-runs.field-0.0 c.in_err-runs.ensures.told)
 
 pub returns-in_err-runs-clause-counted : goal.returns-in_err-runs-clause-counted
 returns-in_err-runs-clause-counted g c = λ old new e.
     let m = font (g.B.Bodies.subrs c.args.bodies.now) (g.B.Bodies.glyphs c.args.bodies.now) in
-    let names = map (λ name. name.now) c.args.names.now in
-    let some = map (λ name. name.now) c.deref.result.now in
-    let found = has (λ name. name.now) c.in_ok-found.found.keys in
-    let p = err_from_is_err_and c.from_residual-in_err-runs.result c.from_residual-in_err-runs.ensures.1 in
+    let keys = c.in_ok-found.found.keys in
+    let these = map (λ name. name.now) c.deref.result.now in
+    let is = ap (map (λ name. name.now)) c.deref.ensures.value ∙ c.in_ok-stale.ensures
+    ∙ ap (λ l. filter (λ x. is_some (m.glyphs x)) (map (λ name. name.now) l)) c.as_slice.ensures.keys in
+    let names = g.O.GlyphOrder.ordered c.args.order.now in
+    let found = has (λ name. name.now) keys in
+    let reached = c.in_ok-found.ensures.stale (bodies old.items) e.right.users in
+    let are = those-are m.glyphs keys these is in
     let equal = sym (length-map (λ name. name.now) c.deref.result.now)
-    ∙ ap length (stale-names c.args.edits.now old new c.args.records.now m names e (all-some m.glyphs c.args.names.now c.requires) found
-    (c.in_ok-found.ensures.stale (bodies old.items) e.right.users) some (ap (map (λ name. name.now)) c.deref.ensures.value ∙ c.in_ok-stale.ensures)) in
+    ∙ as-many c.args.edits.now old new c.args.records.now m names e found reached these are (those-distinct m.glyphs keys these is c.in_ok-found.ensures.once) in
+    let p = err_from_is_err_and c.from_residual-in_err-runs.result c.from_residual-in_err-runs.ensures.1 in
     counts-same (length c.deref.result.now) (length (stale old (map key_of c.args.edits.now) new)) c.args.meter.now c.judged.new.meter c.judged.result c.from_residual-in_err-runs.result
     c.in_err-runs.field-0.0 p.0 (c.in_err-runs.was) p.1 p.2 equal c.judged.ensures.counted
 
 pub returns-in_err-renewal_of-clause-counted : goal.returns-in_err-renewal_of-clause-counted
 returns-in_err-renewal_of-clause-counted g c = λ old new e.
     let m = font (g.B.Bodies.subrs c.args.bodies.now) (g.B.Bodies.glyphs c.args.bodies.now) in
-    let names = map (λ name. name.now) c.args.names.now in
-    let some = map (λ name. name.now) c.deref.result.now in
-    let found = has (λ name. name.now) c.in_ok-found.found.keys in
-    let p = err_from_is_err_and c.from_residual-in_err-renewal_of.result c.from_residual-in_err-renewal_of.ensures.1 in
+    let keys = c.in_ok-found.found.keys in
+    let these = map (λ name. name.now) c.deref.result.now in
+    let is = ap (map (λ name. name.now)) c.deref.ensures.value ∙ c.in_ok-stale.ensures
+    ∙ ap (λ l. filter (λ x. is_some (m.glyphs x)) (map (λ name. name.now) l)) c.as_slice.ensures.keys in
+    let names = g.O.GlyphOrder.ordered c.args.order.now in
+    let found = has (λ name. name.now) keys in
+    let reached = c.in_ok-found.ensures.stale (bodies old.items) e.right.users in
+    let are = those-are m.glyphs keys these is in
     let equal = sym (length-map (λ name. name.now) c.deref.result.now)
-    ∙ ap length (stale-names c.args.edits.now old new c.args.records.now m names e (all-some m.glyphs c.args.names.now c.requires) found
-    (c.in_ok-found.ensures.stale (bodies old.items) e.right.users) some (ap (map (λ name. name.now)) c.deref.ensures.value ∙ c.in_ok-stale.ensures)) in
+    ∙ as-many c.args.edits.now old new c.args.records.now m names e found reached these are (those-distinct m.glyphs keys these is c.in_ok-found.ensures.once) in
+    let p = err_from_is_err_and c.from_residual-in_err-renewal_of.result c.from_residual-in_err-renewal_of.ensures.1 in
     counts-all (length c.deref.result.now) (length (stale old (map key_of c.args.edits.now) new)) c.args.meter.now c.judged.new.meter c.from_residual-in_err-renewal_of.result
     p.0 p.1 p.2 c.in_ok-runs.ensures.counted equal
 
 pub returns-clause-checked : goal.returns-clause-checked
 returns-clause-checked g c = λ old new e.
     let m = font (g.B.Bodies.subrs c.args.bodies.now) (g.B.Bodies.glyphs c.args.bodies.now) in
-    let names = map (λ name. name.now) c.args.names.now in
-    let some = map (λ name. name.now) c.deref.result.now in
-    let found = has (λ name. name.now) c.in_ok-found.found.keys in
-    is-faultless c.args.edits.now old new c.args.records.now m names e (all-some m.glyphs c.args.names.now c.requires) found
-    (c.in_ok-found.ensures.stale (bodies old.items) e.right.users) some (ap (map (λ name. name.now)) c.deref.ensures.value ∙ c.in_ok-stale.ensures)
-    c.in_ok-runs.metrics.items c.in_ok-runs.ensures.told
+    let keys = c.in_ok-found.found.keys in
+    let these = map (λ name. name.now) c.deref.result.now in
+    let is = ap (map (λ name. name.now)) c.deref.ensures.value ∙ c.in_ok-stale.ensures
+    ∙ ap (λ l. filter (λ x. is_some (m.glyphs x)) (map (λ name. name.now) l)) c.as_slice.ensures.keys in
+    let names = g.O.GlyphOrder.ordered c.args.order.now in
+    let found = has (λ name. name.now) keys in
+    let reached = c.in_ok-found.ensures.stale (bodies old.items) e.right.users in
+    let are = those-are m.glyphs keys these is in
+    no-fault c.args.edits.now old new c.args.records.now m names e found reached these are c.in_ok-runs.metrics.items c.in_ok-runs.ensures.told
 
 pub returns-clause-renewal : goal.returns-clause-renewal
 returns-clause-renewal g c = λ old new e.
     let m = font (g.B.Bodies.subrs c.args.bodies.now) (g.B.Bodies.glyphs c.args.bodies.now) in
-    let names = map (λ name. name.now) c.args.names.now in
-    let some = map (λ name. name.now) c.deref.result.now in
-    let found = has (λ name. name.now) c.in_ok-found.found.keys in
+    let keys = c.in_ok-found.found.keys in
+    let these = map (λ name. name.now) c.deref.result.now in
+    let is = ap (map (λ name. name.now)) c.deref.ensures.value ∙ c.in_ok-stale.ensures
+    ∙ ap (λ l. filter (λ x. is_some (m.glyphs x)) (map (λ name. name.now) l)) c.as_slice.ensures.keys in
+    let names = g.O.GlyphOrder.ordered c.args.order.now in
+    let found = has (λ name. name.now) keys in
+    let reached = c.in_ok-found.ensures.stale (bodies old.items) e.right.users in
+    let are = those-are m.glyphs keys these is in
     let runs = c.in_ok-runs.runs in
     let renewal = c.in_ok-renewal_of.field-0 in
-    is-renewal c.args.edits.now old new c.args.records.now m names e (all-some m.glyphs c.args.names.now c.requires) found
-    (c.in_ok-found.ensures.stale (bodies old.items) e.right.users) some (ap (map (λ name. name.now)) c.deref.ensures.value ∙ c.in_ok-stale.ensures)
+    renewal-is c.args.edits.now old new c.args.records.now m names e found reached these are
     c.in_ok-runs.metrics.items c.in_ok-runs.ensures.told runs c.in_ok-runs.ensures.kept renewal
     (subst (λ ms. AllByRecursion (IsRerun runs ms) renewal.reruns.items) c.deref-3.ensures.value c.in_ok-renewal_of.ensures.each)
     (λ x. c.in_ok-renewal_of.ensures.names x ∙ ap (list_any (λ y. bytes_eq x y.name)) c.deref-3.ensures.value)
-    (λ k u. c.in_ok-renewal_of.ensures.leaves k u ∙ ap (λ l. has (λ name. name.now) l u && is_user k (recorded_run c.args.records.now u)) c.as_slice.ensures.keys)
+    (λ k u. c.in_ok-renewal_of.ensures.leaves k u ∙ ap (λ l. has (λ name. name.now) l u && is_user k (recorded_run c.args.records.now u)) c.as_slice-2.ensures.keys)
     (λ k u. c.in_ok-renewal_of.ensures.joins k u
     ∙ ap (λ b. b && is_user k (run_of runs u)) (has-names c.deref-2.result.now u
     ∙ ap (list_any (bytes_eq u)) (ap (map (λ name. name.now)) (c.deref-2.ensures.value ∙ sym c.deref.ensures.value))))
@@ -117,10 +135,14 @@ returns-clause-later g c =
 pub returns-clause-counted : goal.returns-clause-counted
 returns-clause-counted g c = λ old new e.
     let m = font (g.B.Bodies.subrs c.args.bodies.now) (g.B.Bodies.glyphs c.args.bodies.now) in
-    let names = map (λ name. name.now) c.args.names.now in
-    let some = map (λ name. name.now) c.deref.result.now in
-    let found = has (λ name. name.now) c.in_ok-found.found.keys in
+    let keys = c.in_ok-found.found.keys in
+    let these = map (λ name. name.now) c.deref.result.now in
+    let is = ap (map (λ name. name.now)) c.deref.ensures.value ∙ c.in_ok-stale.ensures
+    ∙ ap (λ l. filter (λ x. is_some (m.glyphs x)) (map (λ name. name.now) l)) c.as_slice.ensures.keys in
+    let names = g.O.GlyphOrder.ordered c.args.order.now in
+    let found = has (λ name. name.now) keys in
+    let reached = c.in_ok-found.ensures.stale (bodies old.items) e.right.users in
+    let are = those-are m.glyphs keys these is in
     let equal = sym (length-map (λ name. name.now) c.deref.result.now)
-    ∙ ap length (stale-names c.args.edits.now old new c.args.records.now m names e (all-some m.glyphs c.args.names.now c.requires) found
-    (c.in_ok-found.ensures.stale (bodies old.items) e.right.users) some (ap (map (λ name. name.now)) c.deref.ensures.value ∙ c.in_ok-stale.ensures)) in
+    ∙ as-many c.args.edits.now old new c.args.records.now m names e found reached these are (those-distinct m.glyphs keys these is c.in_ok-found.ensures.once) in
     subst (λ n. c.judged.new.meter ≡ counted c.args.meter.now n) equal c.in_ok-runs.ensures.counted

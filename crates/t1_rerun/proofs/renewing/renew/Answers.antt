@@ -1,10 +1,9 @@
-use Rattle.std.proofs.Common.{◌≡◌, ◌∙◌, ap, length, map, sym, subst}
+use Rattle.std.proofs.Common.{refl, ◌≡◌, ◌∙◌, ap, length, map, sym, subst}
 use Rattle.std.proofs.lemmas.Result.{err_from_is_err_and}
 use Rattle.t1_font.specs.Bodies.{plain_bodies}
 use Rattle.t1_font.specs.Glyphs.{glyph_names}
 use Rattle.t1_font.specs.Runs.{counted, Counts}
 use Rattle.t1_font.proofs.Keeping.{on-err}
-use Rattle.t1_font.proofs.Measuring.{names-there}
 use Rattle.t1_cache.specs.Users.{key_of}
 use Rattle.t1_rerun.specs.Renewals.{IsRenewal}
 use Rattle.t1_rerun.specs.Right.{IsEdit}
@@ -15,29 +14,22 @@ use Rattle.t1_rerun.proofs.Reaching.{counts-none, counts-same}
 use Rattle.t1_rerun.specs.Renewing.{renewing_runs}
 use Rattle.t1_rerun.proofs.renewing.renew.Goals as goal
 
-pub rerun-requires : goal.rerun-requires
-rerun-requires c =
-    names-there (plain_bodies c.in_ok-bodies.bodies) c.args.source.now.items c.deref.result.now tt c.in_ok-bodies.ensures.no_fault c.in_ok-bodies.ensures.bodies
-    (ap (map (λ name. name.now)) c.deref.ensures.value ∙ c.in_ok-names.ensures ∙ ap glyph_names c.items.ensures)
-
 pub returns-in_err-renewal-clause-checked : goal.returns-in_err-renewal-clause-checked
 returns-in_err-renewal-clause-checked c =
     let new = c.args.source.now in
     let e = c.requires in
     let m = plain_bodies c.in_ok-bodies.bodies in
-    let names = ap (map (λ name. name.now)) c.deref.ensures.value ∙ c.in_ok-names.ensures ∙ ap glyph_names c.items.ensures in
-    let edit = is-edit c.args.records.now c.args.edit.now new e c.in_ok-entry.entry c.in_ok-entry.ensures m (map (λ name. name.now) c.deref.result.now) c.in_ok-bodies.ensures.file c.in_ok-bodies.ensures.bodies names in
+    let edit = is-edit c.args.records.now c.args.edit.now new e c.in_ok-entry.entry c.in_ok-entry.ensures m (glyph_names new.items) c.in_ok-bodies.ensures.file c.in_ok-bodies.ensures.bodies refl in
     let p = err_from_is_err_and c.from_residual-in_err-renewal.result c.from_residual-in_err-renewal.ensures.1 in
-    rw (p.1, p.2) (c.in_err-renewal.ensures.checked e.old new (subst (λ edits. IsEdit edits e.old new c.args.records.now m (map (λ name. name.now) c.deref.result.now)) (sym c.entries.ensures) edit))
+    rw (p.1, p.2) (c.in_err-renewal.ensures.checked e.old new (subst (λ edits. IsEdit edits e.old new c.args.records.now m (glyph_names new.items)) (sym c.entries.ensures) edit))
 
 pub settle-requires : goal.settle-requires
 settle-requires c =
     let new = c.args.source.now in
     let e = c.requires in
     let m = plain_bodies c.in_ok-bodies.bodies in
-    let names = ap (map (λ name. name.now)) c.deref.ensures.value ∙ c.in_ok-names.ensures ∙ ap glyph_names c.items.ensures in
-    let edit = subst (λ edits. IsEdit edits e.old new c.args.records.now m (map (λ name. name.now) c.deref.result.now)) (sym c.entries.ensures)
-    (is-edit c.args.records.now c.args.edit.now new e c.in_ok-entry.entry c.in_ok-entry.ensures m (map (λ name. name.now) c.deref.result.now) c.in_ok-bodies.ensures.file c.in_ok-bodies.ensures.bodies names) in (
+    let edit = subst (λ edits. IsEdit edits e.old new c.args.records.now m (glyph_names new.items)) (sym c.entries.ensures)
+    (is-edit c.args.records.now c.args.edit.now new e c.in_ok-entry.entry c.in_ok-entry.ensures m (glyph_names new.items) c.in_ok-bodies.ensures.file c.in_ok-bodies.ensures.bodies refl) in (
       e.old,
       (
         new,
@@ -60,18 +52,16 @@ returns-clause-checked c =
     let new = c.args.source.now in
     let e = c.requires in
     let m = plain_bodies c.in_ok-bodies.bodies in
-    let names = ap (map (λ name. name.now)) c.deref.ensures.value ∙ c.in_ok-names.ensures ∙ ap glyph_names c.items.ensures in
-    c.in_ok-renewal.ensures.checked e.old new (subst (λ edits. IsEdit edits e.old new c.args.records.now m (map (λ name. name.now) c.deref.result.now)) (sym c.entries.ensures)
-    (is-edit c.args.records.now c.args.edit.now new e c.in_ok-entry.entry c.in_ok-entry.ensures m (map (λ name. name.now) c.deref.result.now) c.in_ok-bodies.ensures.file c.in_ok-bodies.ensures.bodies names))
+    c.in_ok-renewal.ensures.checked e.old new (subst (λ edits. IsEdit edits e.old new c.args.records.now m (glyph_names new.items)) (sym c.entries.ensures)
+    (is-edit c.args.records.now c.args.edit.now new e c.in_ok-entry.entry c.in_ok-entry.ensures m (glyph_names new.items) c.in_ok-bodies.ensures.file c.in_ok-bodies.ensures.bodies refl))
 
 pub returns-clause-right : goal.returns-clause-right
 returns-clause-right c =
     let new = c.args.source.now in
     let e = c.requires in
     let m = plain_bodies c.in_ok-bodies.bodies in
-    let names = ap (map (λ name. name.now)) c.deref.ensures.value ∙ c.in_ok-names.ensures ∙ ap glyph_names c.items.ensures in
-    let edit = subst (λ edits. IsEdit edits e.old new c.args.records.now m (map (λ name. name.now) c.deref.result.now)) (sym c.entries.ensures)
-    (is-edit c.args.records.now c.args.edit.now new e c.in_ok-entry.entry c.in_ok-entry.ensures m (map (λ name. name.now) c.deref.result.now) c.in_ok-bodies.ensures.file c.in_ok-bodies.ensures.bodies names) in
+    let edit = subst (λ edits. IsEdit edits e.old new c.args.records.now m (glyph_names new.items)) (sym c.entries.ensures)
+    (is-edit c.args.records.now c.args.edit.now new e c.in_ok-entry.entry c.in_ok-entry.ensures m (glyph_names new.items) c.in_ok-bodies.ensures.file c.in_ok-bodies.ensures.bodies refl) in
     c.in_ok-settle.ensures.right e.old new (is-judged c.args.records.now c.args.edit.now new e c.in_ok-entry.entry c.in_ok-entry.ensures m c.in_ok-bodies.ensures.bodies c.change_of-change.result c.change_of-change.ensures
     (c.in_ok-renewal.ensures.checked e.old new edit) c.in_ok-renewal.renewal
     (subst (λ edits. IsRenewal (map key_of edits) e.old new c.in_ok-renewal.renewal) c.entries.ensures (c.in_ok-renewal.ensures.renewal e.old new edit)))
@@ -80,9 +70,8 @@ pub returns-in_err-renewal-clause-counted : goal.returns-in_err-renewal-clause-c
 returns-in_err-renewal-clause-counted c = λ e.
     let new = c.args.source.now in
     let m = plain_bodies c.in_ok-bodies.bodies in
-    let names = ap (map (λ name. name.now)) c.deref.ensures.value ∙ c.in_ok-names.ensures ∙ ap glyph_names c.items.ensures in
-    let edit = subst (λ edits. IsEdit edits e.old new c.args.records.now m (map (λ name. name.now) c.deref.result.now)) (sym c.entries.ensures)
-    (is-edit c.args.records.now c.args.edit.now new e c.in_ok-entry.entry c.in_ok-entry.ensures m (map (λ name. name.now) c.deref.result.now) c.in_ok-bodies.ensures.file c.in_ok-bodies.ensures.bodies names) in
+    let edit = subst (λ edits. IsEdit edits e.old new c.args.records.now m (glyph_names new.items)) (sym c.entries.ensures)
+    (is-edit c.args.records.now c.args.edit.now new e c.in_ok-entry.entry c.in_ok-entry.ensures m (glyph_names new.items) c.in_ok-bodies.ensures.file c.in_ok-bodies.ensures.bodies refl) in
     let equal = ap (λ edits. length (stale e.old (map key_of edits) new)) c.entries.ensures
     ∙ runs-stale c.args.records.now c.args.edit.now new e c.in_ok-entry.entry c.in_ok-entry.ensures c.in_ok-bodies.ensures.file in
     let p = err_from_is_err_and c.from_residual-in_err-renewal.result c.from_residual-in_err-renewal.ensures.1 in
@@ -93,9 +82,8 @@ pub returns-in_err-settle-clause-counted : goal.returns-in_err-settle-clause-cou
 returns-in_err-settle-clause-counted c = λ e.
     let new = c.args.source.now in
     let m = plain_bodies c.in_ok-bodies.bodies in
-    let names = ap (map (λ name. name.now)) c.deref.ensures.value ∙ c.in_ok-names.ensures ∙ ap glyph_names c.items.ensures in
-    let edit = subst (λ edits. IsEdit edits e.old new c.args.records.now m (map (λ name. name.now) c.deref.result.now)) (sym c.entries.ensures)
-    (is-edit c.args.records.now c.args.edit.now new e c.in_ok-entry.entry c.in_ok-entry.ensures m (map (λ name. name.now) c.deref.result.now) c.in_ok-bodies.ensures.file c.in_ok-bodies.ensures.bodies names) in
+    let edit = subst (λ edits. IsEdit edits e.old new c.args.records.now m (glyph_names new.items)) (sym c.entries.ensures)
+    (is-edit c.args.records.now c.args.edit.now new e c.in_ok-entry.entry c.in_ok-entry.ensures m (glyph_names new.items) c.in_ok-bodies.ensures.file c.in_ok-bodies.ensures.bodies refl) in
     let equal = ap (λ edits. length (stale e.old (map key_of edits) new)) c.entries.ensures
     ∙ runs-stale c.args.records.now c.args.edit.now new e c.in_ok-entry.entry c.in_ok-entry.ensures c.in_ok-bodies.ensures.file in
     subst (λ n. Counts n c.args.meter.now c.rerun.new.meter c.from_residual-in_err-settle.result) equal
@@ -105,9 +93,8 @@ pub returns-clause-counted : goal.returns-clause-counted
 returns-clause-counted c = λ e.
     let new = c.args.source.now in
     let m = plain_bodies c.in_ok-bodies.bodies in
-    let names = ap (map (λ name. name.now)) c.deref.ensures.value ∙ c.in_ok-names.ensures ∙ ap glyph_names c.items.ensures in
-    let edit = subst (λ edits. IsEdit edits e.old new c.args.records.now m (map (λ name. name.now) c.deref.result.now)) (sym c.entries.ensures)
-    (is-edit c.args.records.now c.args.edit.now new e c.in_ok-entry.entry c.in_ok-entry.ensures m (map (λ name. name.now) c.deref.result.now) c.in_ok-bodies.ensures.file c.in_ok-bodies.ensures.bodies names) in
+    let edit = subst (λ edits. IsEdit edits e.old new c.args.records.now m (glyph_names new.items)) (sym c.entries.ensures)
+    (is-edit c.args.records.now c.args.edit.now new e c.in_ok-entry.entry c.in_ok-entry.ensures m (glyph_names new.items) c.in_ok-bodies.ensures.file c.in_ok-bodies.ensures.bodies refl) in
     let equal = ap (λ edits. length (stale e.old (map key_of edits) new)) c.entries.ensures
     ∙ runs-stale c.args.records.now c.args.edit.now new e c.in_ok-entry.entry c.in_ok-entry.ensures c.in_ok-bodies.ensures.file in
     subst (λ n. c.rerun.new.meter ≡ counted c.args.meter.now n) equal (c.in_ok-renewal.ensures.counted e.old new edit)
@@ -116,19 +103,13 @@ pub returns-clause-renews : goal.returns-clause-renews
 returns-clause-renews c = λ e.
     let new = c.args.source.now in
     let m = plain_bodies c.in_ok-bodies.bodies in
-    let names = ap (map (λ name. name.now)) c.deref.ensures.value ∙ c.in_ok-names.ensures ∙ ap glyph_names c.items.ensures in
-    let edit = subst (λ edits. IsEdit edits e.old new c.args.records.now m (map (λ name. name.now) c.deref.result.now)) (sym c.entries.ensures)
-    (is-edit c.args.records.now c.args.edit.now new e c.in_ok-entry.entry c.in_ok-entry.ensures m (map (λ name. name.now) c.deref.result.now) c.in_ok-bodies.ensures.file c.in_ok-bodies.ensures.bodies names) in
+    let edit = subst (λ edits. IsEdit edits e.old new c.args.records.now m (glyph_names new.items)) (sym c.entries.ensures)
+    (is-edit c.args.records.now c.args.edit.now new e c.in_ok-entry.entry c.in_ok-entry.ensures m (glyph_names new.items) c.in_ok-bodies.ensures.file c.in_ok-bodies.ensures.bodies refl) in
     run-where-stale c.args.records.now c.args.edit.now new e c.in_ok-entry.entry c.in_ok-entry.ensures m c.change_of-change.result c.change_of-change.ensures
     c.args.meter.now c.in_ok-renewal.renewal.reruns.items c.in_ok-renewal.ensures.later _ _
     (c.in_ok-settle.ensures.renews e.old new (is-judged c.args.records.now c.args.edit.now new e c.in_ok-entry.entry c.in_ok-entry.ensures m c.in_ok-bodies.ensures.bodies c.change_of-change.result c.change_of-change.ensures
     (c.in_ok-renewal.ensures.checked e.old new edit) c.in_ok-renewal.renewal
     (subst (λ edits. IsRenewal (map key_of edits) e.old new c.in_ok-renewal.renewal) c.entries.ensures (c.in_ok-renewal.ensures.renewal e.old new edit))))
-
-pub returns-in_err-names-clause-counted : goal.returns-in_err-names-clause-counted
-returns-in_err-names-clause-counted c = λ e.
-    let p = err_from_is_err_and c.from_residual-in_err-names.result c.from_residual-in_err-names.ensures.1 in
-    counts-none (renewing_runs c.args.edit.now e.old c.args.source.now) c.args.meter.now c.from_residual-in_err-names.result p.0 p.1 p.2
 
 pub returns-in_err-entry-clause-counted : goal.returns-in_err-entry-clause-counted
 returns-in_err-entry-clause-counted c = λ e.

@@ -1,0 +1,376 @@
+-- What an edit changes of the bodies of a source, and their first fault after it.
+use Rattle.std.proofs.Common.{◌≡◌, ℕ, Bool, true, not, ℤ, pos, negsuc, nat_le, ok_or, Option, Some, None, Result, Ok, Err, List, [], ◌∷◌, ◌++◌, take, drop, filter, map, codes, refl, sym, ◌∙◌, ap, subst, arith, inl, inr}
+use Rattle.std.specs.Prelude.{MatchResult}
+use Rattle.std.specs.List.{list_any, position, position_or_len, insert, remove, slice_set}
+use Rattle.std.specs.Option.{option_map, option_to_list}
+use Rattle.std.specs.Result.{result_ok}
+use Rattle.std.proofs.lemmas.Bool.{cases_Bool}
+use Rattle.std.proofs.lemmas.Bool.Decides.{nat_tests}
+use Rattle.std.proofs.lemmas.List.{take-append-drop}
+use Rattle.t1_frac.specs.declared.fault.Code.{Code}
+use Rattle.t1_frac.specs.declared.fault.Fault.{Fault}
+use Rattle.t1_frac.specs.declared.fault.Place.{Place}
+use Rattle.t1_frac.specs.declared.fault.Place.TheVariants as places
+use Rattle.t1_frac.specs.declared.fault.Refusal.{Refusal}
+use Rattle.t1_frac.specs.declared.fault.Refusal.TheVariants as refusals
+use Rattle.t1_frac.specs.Outcome.{told_at, ◌>>=◌, Gives, Refuses}
+use Rattle.t1_code.specs.declared.command.Command.{Command}
+use Rattle.t1_code.specs.Words.{commands}
+use Rattle.t1_parts.specs.declared.item.Item.{Item}
+use Rattle.t1_parts.specs.declared.item.Item.TheVariants as items
+use Rattle.t1_parts.specs.SourceParts.{SourceParts}
+use Rattle.t1_parts.specs.Counts.{is_glyph_entry, raised, raised_item, subrs_needed, glyphs_needed}
+use Rattle.t1_parts.specs.Entries.{is_subr, is_glyph}
+use Rattle.t1_source.specs.declared.edit.Edit.{Edit}
+use Rattle.t1_source.specs.declared.edit.Edit.TheVariants.{ReplaceGlyph, AddGlyph, RemoveGlyph, ReplaceSubr, AddSubr, RemoveSubr, Encode, Unencode, LenIv, Kern, Unkern}
+use Rattle.t1_source.specs.declared.edit.Rule.{Rule}
+use Rattle.t1_source.specs.declared.edit.Rule.TheVariants.{E1, E2, E4, E10}
+use Rattle.t1_source.specs.declared.pairs.Pair.{Pair}
+use Rattle.t1_source.specs.Editing.{keeps, number_up_to, body_words, good_name, good_body, with_items, with_clear, closing_at, closing_among, through_last, is_subr_entry, among_subrs_items, among_glyphs_items, has_section, replaced_glyph, added_glyph, removed_glyph, replaced_subr, added_subr, removed_subr, array_parts, encoded_lines, encoded, unencoded, lead_edited, is_slot_of, kerned, unkerned, edited}
+use Rattle.t1_source.specs.Leads.{line_with_lead, lead_line, says_lead, is_section_line, line_at, lead_put, items_with_lead}
+use Rattle.t1_source.proofs.PairsWellFormedLaws.{bind_ok}
+use Rattle.t1_source.proofs.WellFormedItemsLaws.{given_some}
+use Rattle.t1_source.proofs.WellFormedEditedLaws.{source_given, source_same}
+use Rattle.t1_source.proofs.ItemPlaceLaws.{position_first, set_there, removed_there}
+use Rattle.t1_run.specs.Footprint.{Includes}
+use Rattle.t1_run.specs.Run.{Key, Subr, Glyph}
+use Rattle.t1_font.specs.Assembly.{file_check}
+use Rattle.t1_font.specs.Bodies.{bodies_check, body_check, words_check}
+use Rattle.t1_font.proofs.LengthLaws.{body_fault_told}
+use Rattle.t1_cache.specs.Edited.{body_after, named, IsEditedAt}
+use Rattle.t1_cache.specs.Users.{key_of}
+use Rattle.t1_cache.proofs.EditedBodies.{body_edited}
+use Rattle.t1_cache.proofs.Edits.{edits_named, made-items}
+use Rattle.t1_rerun.specs.declared.settling.EntryChange.{EntryChange}
+use Rattle.t1_rerun.specs.EntryChanges.{edit_change, key_change, number_within, put_key, put_number, removed_number, KeyChange, IsChanged, IsMade}
+use Rattle.t1_rerun.specs.Renewing.{entry_key, number_key}
+use Rattle.t1_rerun.specs.Settled.{named_keys, HasBody}
+use Rattle.t1_rerun.proofs.Entries.{edited-order, key-named}
+
+abbrev Checked : Type 0
+Checked = Result (Unit {0}) Fault
+
+-- ---- the bodies of items
+
+check-raised : (s g : ℕ) (is : List Item) → bodies_check (map (raised_item s g) is) ≡ bodies_check is
+check-raised s g [] = refl
+check-raised s g (items.Plain l ∷ is) = check-raised s g is
+check-raised s g (items.Section b k a ∷ is) = check-raised s g is
+check-raised s g (items.Subr m ws c ∷ is) = ap (λ r. words_check (places.Subr m) ws >>= λ _. r) (check-raised s g is)
+check-raised s g (items.Glyph h ws c ∷ is) = ap (λ r. words_check (places.Glyph h) ws >>= λ _. r) (check-raised s g is)
+
+grouped : (r s t : Checked) → (r >>= λ _. (s >>= λ _. t)) ≡ ((r >>= λ _. s) >>= λ _. t)
+grouped (Ok u) s t = refl
+grouped (Err e) s t = refl
+
+check-append : (a b : List Item) → bodies_check (a ++ b) ≡ (bodies_check a >>= λ _. bodies_check b)
+check-append [] b = refl
+check-append (i ∷ a) b = ap (λ r. body_check i >>= λ _. r) (check-append a b) ∙ grouped (body_check i) (bodies_check a) (bodies_check b)
+
+both-ok : (r s : Checked) → (r >>= λ _. s) ≡ Ok tt → (r ≡ Ok tt) × (s ≡ Ok tt)
+both-ok (Ok u) s h = (refl, h)
+both-ok (Err e) s h = absurd (cc)
+
+alone : (r : Checked) → (r >>= λ _. Ok tt) ≡ r
+alone (Ok u) = refl
+alone (Err e) = refl
+
+module _ (a xs b : List Item) (fine : bodies_check (a ++ (xs ++ b)) ≡ Ok tt) where
+  front : bodies_check a ≡ Ok tt
+  front = (both-ok (bodies_check a) (bodies_check (xs ++ b)) (sym (check-append a (xs ++ b)) ∙ fine)).0
+
+  back : bodies_check b ≡ Ok tt
+  back =
+      (both-ok (bodies_check xs) (bodies_check b) (sym (check-append xs b)
+      ∙ (both-ok (bodies_check a) (bodies_check (xs ++ b)) (sym (check-append a (xs ++ b)) ∙ fine)).1)).1
+
+  -- with an entry in the place of others, the entry's fault is the first
+  with-entry : (y : Item) → bodies_check (a ++ (y ∷ b)) ≡ body_check y
+  with-entry y =
+      check-append a (y ∷ b) ∙ ap (λ r. r >>= λ _. bodies_check (y ∷ b)) front
+      ∙ ap (λ r. body_check y >>= λ _. r) back ∙ alone (body_check y)
+
+  -- without others there is none
+  without : bodies_check (a ++ b) ≡ Ok tt
+  without = check-append a b ∙ ap (λ r. r >>= λ _. bodies_check b) front ∙ back
+
+module _ (s made : SourceParts) (fine : bodies_check s.items ≡ Ok tt) where
+  put-checks : (test : Item → Bool) (at : ℕ) (y : Item) → position test s.items ≡ Some at → made.items ≡ raised (slice_set s.items at y)
+      → bodies_check made.items ≡ body_check y
+  put-checks test at y there is =
+      let f = position_first test s.items at there in
+      let a = f.found.before in
+      let x = f.found.here in
+      let b = f.found.after in
+      let items = slice_set s.items at y in
+      ap bodies_check is ∙ check-raised (subrs_needed items) (glyphs_needed items) items
+      ∙ ap bodies_check (ap (λ t. slice_set t at y) f.found.whole ∙ set_there a x b at y f.place)
+      ∙ with-entry a (x ∷ []) b (ap bodies_check (sym f.found.whole) ∙ fine) y
+
+  out-checks : (test : Item → Bool) (at : ℕ) → position test s.items ≡ Some at → made.items ≡ raised (remove s.items at) → bodies_check made.items ≡ Ok tt
+  out-checks test at there is =
+      let f = position_first test s.items at there in
+      let a = f.found.before in
+      let x = f.found.here in
+      let b = f.found.after in
+      let items = remove s.items at in
+      ap bodies_check is ∙ check-raised (subrs_needed items) (glyphs_needed items) items
+      ∙ ap bodies_check (ap (λ t. remove t at) f.found.whole ∙ removed_there a x b at f.place)
+      ∙ without a (x ∷ []) b (ap bodies_check (sym f.found.whole) ∙ fine)
+
+  in-checks : (at : ℕ) (y : Item) → made.items ≡ raised (insert s.items at y) → bodies_check made.items ≡ body_check y
+  in-checks at y is =
+      let items = insert s.items at y in
+      ap bodies_check is ∙ check-raised (subrs_needed items) (glyphs_needed items) items
+      ∙ with-entry (take at s.items) [] (drop at s.items) (ap bodies_check (take-append-drop at s.items) ∙ fine) y
+
+  same-checks : s.items ≡ made.items → bodies_check made.items ≡ Ok tt
+  same-checks e = ap bodies_check (sym e) ∙ fine
+
+-- ---- what is put at a key
+
+abbrev unit_of : Result (Option KeyChange) Fault → Checked
+unit_of r = r >>= λ _. Ok tt
+
+words-put : (key : Key) (place : Place) (words : List (List ℕ)) → words_check place words ≡ unit_of (put_key key place words)
+unfolding words_check
+words-put key place words = by (told_at place (commands words)) where
+  by : (r : Result (List Command) Fault) → (r >>= λ _. Ok tt) ≡ unit_of (r >>= λ body. Ok (Some (record { key = key; body = Some body })))
+  by (Ok b) = refl
+  by (Err fault) = refl
+
+within : (v : ℤ) (n : ℕ) → number_up_to 32000 v ≡ Ok n → number_within v ≡ Some n
+within (negsuc m) n e = absurd (cc)
+within (pos m) n e =
+    elim (cases_Bool (nat_le m 32000)) [
+      | inl low ↦
+          let here : ◌≡◌ {A = Result ℕ Rule} (Ok m) (Ok n) = rw low at e in
+          let same : m ≡ n = cc in
+          let fits : nat_le m 65535 ≡ true = grind (arith, nat_tests, low) in
+          rw fits (ap Some same)
+      | inr high ↦ let never : ◌≡◌ {A = Result ℕ Rule} (Err E4) (Ok n) = rw high at e in absurd (cc)
+    ]
+
+number-put : (v : ℤ) (n : ℕ) (words : List (List ℕ)) → number_up_to 32000 v ≡ Ok n → words_check (places.Subr n) words ≡ unit_of (put_number (number_within v) words)
+number-put v n words e = words-put (Subr n) (places.Subr n) words ∙ sym (ap (λ number. unit_of (put_number number words)) (within v n e))
+
+-- ---- the edits of entries
+
+module _ (s made : SourceParts) (fine : bodies_check s.items ≡ Ok tt) where
+  replaced_glyph-checks : (g body : List ℕ) → replaced_glyph s g body ≡ Ok made → bodies_check made.items ≡ words_check (places.Glyph g) (body_words body)
+  unfolding replaced_glyph
+  replaced_glyph-checks g body e =
+      let y : ℕ → Item = λ at. items.Glyph g (body_words body) (closing_at at s.items) in
+      let placing : Result SourceParts Rule = ok_or (position (is_glyph g) s.items) E1 >>= λ at. Ok (with_items s (slice_set s.items at (y at))) in
+      let first = bind_ok (good_name g) (λ named. good_body body >>= λ closed. placing) made e in
+      let second = bind_ok (good_body body) (λ closed. placing) made first.2 in
+      let placed = bind_ok (ok_or (position (is_glyph g) s.items) E1) (λ at. Ok (with_items s (slice_set s.items at (y at)))) made second.2 in
+      put-checks s made fine (is_glyph g) placed.0 (y placed.0) (given_some (position (is_glyph g) s.items) E1 placed.0 placed.1) (made-items s made _ placed.2)
+
+  removed_glyph-checks : (g : List ℕ) → removed_glyph s g ≡ Ok made → bodies_check made.items ≡ Ok tt
+  unfolding removed_glyph
+  removed_glyph-checks g e =
+      let first = bind_ok (good_name g) (λ named. ok_or (position (is_glyph g) s.items) E1 >>= λ at. Ok (with_items s (remove s.items at))) made e in
+      let placed = bind_ok (ok_or (position (is_glyph g) s.items) E1) (λ at. Ok (with_items s (remove s.items at))) made first.2 in
+      out-checks s made fine (is_glyph g) placed.0 (given_some (position (is_glyph g) s.items) E1 placed.0 placed.1) (made-items s made _ placed.2)
+
+  added_glyph-checks : (g body : List ℕ) → added_glyph s g body ≡ Ok made → bodies_check made.items ≡ words_check (places.Glyph g) (body_words body)
+  unfolding added_glyph
+  added_glyph-checks g body e =
+      let y : Item = items.Glyph g (body_words body) (closing_among is_glyph_entry (codes "noaccess def") s.items) in
+      let done : Result SourceParts Rule = Ok (with_items s (insert s.items (through_last among_glyphs_items s.items) y)) in
+      let first = bind_ok (good_name g) (λ named. good_body body >>= λ closed. keeps E2 (not (list_any (is_glyph g) s.items)) >>= λ fresh. done) made e in
+      let second = bind_ok (good_body body) (λ closed. keeps E2 (not (list_any (is_glyph g) s.items)) >>= λ fresh. done) made first.2 in
+      let third = bind_ok (keeps E2 (not (list_any (is_glyph g) s.items))) (λ fresh. done) made second.2 in
+      in-checks s made fine (through_last among_glyphs_items s.items) y (made-items s made _ third.2)
+
+  replaced_subr-checks : (v : ℤ) (body : List ℕ) → replaced_subr s v body ≡ Ok made → bodies_check made.items ≡ unit_of (put_number (number_within v) (body_words body))
+  unfolding replaced_subr
+  replaced_subr-checks v body e =
+      let y : ℕ → ℕ → Item = λ n at. items.Subr n (body_words body) (closing_at at s.items) in
+      let placing : ℕ → Result SourceParts Rule = λ n. ok_or (position (is_subr n) s.items) E1 >>= λ at. Ok (with_items s (slice_set s.items at (y n at))) in
+      let number = bind_ok (number_up_to 32000 v) (λ n. good_body body >>= λ closed. has_section s >>= λ section. placing n) made e in
+      let n = number.0 in
+      let second = bind_ok (good_body body) (λ closed. has_section s >>= λ section. placing n) made number.2 in
+      let third = bind_ok (has_section s) (λ section. placing n) made second.2 in
+      let placed = bind_ok (ok_or (position (is_subr n) s.items) E1) (λ at. Ok (with_items s (slice_set s.items at (y n at)))) made third.2 in
+      put-checks s made fine (is_subr n) placed.0 (y n placed.0) (given_some (position (is_subr n) s.items) E1 placed.0 placed.1) (made-items s made _ placed.2)
+      ∙ number-put v n (body_words body) number.1
+
+  removed_subr-checks : (v : ℤ) → removed_subr s v ≡ Ok made → bodies_check made.items ≡ Ok tt
+  unfolding removed_subr
+  removed_subr-checks v e =
+      let placing : ℕ → Result SourceParts Rule = λ n. ok_or (position (is_subr n) s.items) E1 >>= λ at. Ok (with_items s (remove s.items at)) in
+      let number = bind_ok (number_up_to 32000 v) (λ n. has_section s >>= λ section. placing n) made e in
+      let n = number.0 in
+      let third = bind_ok (has_section s) (λ section. placing n) made number.2 in
+      let placed = bind_ok (ok_or (position (is_subr n) s.items) E1) (λ at. Ok (with_items s (remove s.items at))) made third.2 in
+      out-checks s made fine (is_subr n) placed.0 (given_some (position (is_subr n) s.items) E1 placed.0 placed.1) (made-items s made _ placed.2)
+
+  added_subr-checks : (v : ℤ) (body : List ℕ) → added_subr s v body ≡ Ok made → bodies_check made.items ≡ unit_of (put_number (number_within v) (body_words body))
+  unfolding added_subr
+  added_subr-checks v body e =
+      let y : ℕ → Item = λ n. items.Subr n (body_words body) (closing_among is_subr_entry (codes "noaccess put") s.items) in
+      let done : ℕ → Result SourceParts Rule = λ n. Ok (with_items s (insert s.items (through_last among_subrs_items s.items) (y n))) in
+      let fresh : ℕ → Result SourceParts Rule = λ n. keeps E2 (not (list_any (is_subr n) s.items)) >>= λ fresh. done n in
+      let number = bind_ok (number_up_to 32000 v) (λ n. good_body body >>= λ closed. has_section s >>= λ section. fresh n) made e in
+      let n = number.0 in
+      let second = bind_ok (good_body body) (λ closed. has_section s >>= λ section. fresh n) made number.2 in
+      let third = bind_ok (has_section s) (λ section. fresh n) made second.2 in
+      let fourth = bind_ok (keeps E2 (not (list_any (is_subr n) s.items))) (λ fresh. done n) made third.2 in
+      in-checks s made fine (through_last among_subrs_items s.items) (y n) (made-items s made _ fourth.2)
+      ∙ number-put v n (body_words body) number.1
+
+  -- ---- the others
+
+  made-clear : (ls : List (List ℕ)) → ◌≡◌ {A = Result SourceParts Rule} (Ok (with_clear s ls)) (Ok made) → s.items ≡ made.items
+  made-clear ls e = let is : with_clear s ls ≡ made = cc in ap (λ t. t.items) is
+
+  encoded-checks : (v : ℤ) (g : List ℕ) → encoded s v g ≡ Ok made → bodies_check made.items ≡ Ok tt
+  unfolding encoded
+  encoded-checks v g e =
+      let first = bind_ok (good_name g) (λ named. number_up_to 255 v >>= λ code. array_parts s.clear >>= λ array. Ok (with_clear s (array.front ++ encoded_lines code g array.lines ++ array.back))) made e in
+      let second = bind_ok (number_up_to 255 v) (λ code. array_parts s.clear >>= λ array. Ok (with_clear s (array.front ++ encoded_lines code g array.lines ++ array.back))) made first.2 in
+      let third = bind_ok (array_parts s.clear) (λ array. Ok (with_clear s (array.front ++ encoded_lines second.0 g array.lines ++ array.back))) made second.2 in
+      same-checks s made fine (made-clear _ third.2)
+
+  unencoded-checks : (v : ℤ) → unencoded s v ≡ Ok made → bodies_check made.items ≡ Ok tt
+  unfolding unencoded
+  unencoded-checks v e =
+      let first = bind_ok (number_up_to 255 v) (λ code. array_parts s.clear >>= λ array. keeps E10 (list_any (is_slot_of code) array.lines) >>= λ some. Ok (with_clear s (array.front ++ filter (λ l. not (is_slot_of code l)) array.lines ++ array.back))) made e in
+      let second = bind_ok (array_parts s.clear) (λ array. keeps E10 (list_any (is_slot_of first.0) array.lines) >>= λ some. Ok (with_clear s (array.front ++ filter (λ l. not (is_slot_of first.0 l)) array.lines ++ array.back))) made first.2 in
+      let third = bind_ok (keeps E10 (list_any (is_slot_of first.0) second.0.lines)) (λ some. Ok (with_clear s (second.0.front ++ filter (λ l. not (is_slot_of first.0 l)) second.0.lines ++ second.0.back))) made second.2 in
+      same-checks s made fine (made-clear _ third.2)
+
+  lead_put-checks : (n : ℕ) (o : Option ℕ) → position says_lead s.items ≡ o → made.items ≡ raised (lead_put n s.items o) → bodies_check made.items ≡ Ok tt
+  lead_put-checks n None there is = in-checks s made fine (position_or_len is_section_line s.items) (items.Plain (lead_line n)) is
+  lead_put-checks n (Some at) there is = put-checks s made fine says_lead at (items.Plain (line_with_lead n (line_at at s.items))) there is
+
+  lead-checks : (v : ℤ) → lead_edited s v ≡ Ok made → bodies_check made.items ≡ Ok tt
+  unfolding lead_edited items_with_lead
+  lead-checks v e =
+      let number = bind_ok (number_up_to 64 v) (λ n. Ok (with_items s (items_with_lead n s.items))) made e in
+      lead_put-checks number.0 (position says_lead s.items) refl (made-items s made _ number.2)
+
+-- after an edit of a source whose bodies have no fault the first is that of the edit's words
+pub edits_checked : (s : SourceParts) (k : List Pair) (edit : Edit) (made : SourceParts) (ps : List Pair) → bodies_check s.items ≡ Ok tt
+    → edited s k edit ≡ Ok (made, ps) → bodies_check made.items ≡ unit_of (edit_change edit)
+unfolding edited
+edits_checked s k (ReplaceGlyph g body) made ps fine e =
+    replaced_glyph-checks s made fine g body (source_given k ps (replaced_glyph s g body) made e) ∙ words-put (Glyph g) (places.Glyph g) (body_words body)
+edits_checked s k (AddGlyph g body) made ps fine e =
+    added_glyph-checks s made fine g body (source_given k ps (added_glyph s g body) made e) ∙ words-put (Glyph g) (places.Glyph g) (body_words body)
+edits_checked s k (RemoveGlyph g) made ps fine e = removed_glyph-checks s made fine g (source_given k ps (removed_glyph s g) made e)
+edits_checked s k (ReplaceSubr n body) made ps fine e = replaced_subr-checks s made fine n body (source_given k ps (replaced_subr s n body) made e)
+edits_checked s k (AddSubr n body) made ps fine e = added_subr-checks s made fine n body (source_given k ps (added_subr s n body) made e)
+edits_checked s k (RemoveSubr n) made ps fine e = removed_subr-checks s made fine n (source_given k ps (removed_subr s n) made e)
+edits_checked s k (Encode code g) made ps fine e = encoded-checks s made fine code g (source_given k ps (encoded s code g) made e)
+edits_checked s k (Unencode code) made ps fine e = unencoded-checks s made fine code (source_given k ps (unencoded s code) made e)
+edits_checked s k (LenIv n) made ps fine e = lead-checks s made fine n (source_given k ps (lead_edited s n) made e)
+edits_checked s k (Kern left right v) made ps fine e = same-checks s made fine (ap (λ t. t.items) (source_same s ps (kerned k left right v) made e))
+edits_checked s k (Unkern left right) made ps fine e = same-checks s made fine (ap (λ t. t.items) (source_same s ps (unkerned k left right) made e))
+
+-- ---- the entry and its body
+
+put-keys : (key : Key) (place : Place) (words : List (List ℕ)) (c : Option KeyChange) → put_key key place words ≡ Ok c
+    → (option_map (λ x. x.key) c ≡ Some key) × (option_map (λ x. x.body) c ≡ Some (result_ok (commands words)))
+put-keys key place words c e = by (commands words) e where
+  by : (r : Result (List Command) Code) → (told_at place r >>= λ body. Ok (Some (record { key = key; body = Some body }))) ≡ Ok c
+      → (option_map (λ x. x.key) c ≡ Some key) × (option_map (λ x. x.body) c ≡ Some (result_ok r))
+  by (Ok body) e =
+      let same : Some (record { key = key; body = Some body }) ≡ c = cc in
+      (ap (option_map (λ x. x.key)) (sym same), ap (option_map (λ x. x.body)) (sym same))
+  by (Err code) e = absurd (cc)
+
+-- what is told of the entry: its key is that of the edit, and its body the one after it
+abbrev Tells : Edit → Option KeyChange → Type 0
+Tells edit c = (option_map (λ x. x.key) c ≡ entry_key edit) × (option_map (λ x. x.body) c ≡ option_map (λ k. body_after edit) (entry_key edit))
+
+number-told : (v : ℤ) (words : List (List ℕ)) (c : Option KeyChange) → put_number (number_within v) words ≡ Ok c
+    → (option_map (λ x. x.key) c ≡ number_key v) × (option_map (λ x. x.body) c ≡ option_map (λ k. result_ok (commands words)) (number_key v))
+number-told (negsuc n) words c e = let same : None ≡ c = cc in (ap (option_map (λ x. x.key)) (sym same), ap (option_map (λ x. x.body)) (sym same))
+number-told (pos n) words c e =
+    elim (cases_Bool (nat_le n 65535)) [
+      | inl on ↦ let its = put-keys (Subr n) (places.Subr n) words c (rw on at e) in rw on its
+      | inr off ↦
+          let none : ◌≡◌ {A = Result (Option KeyChange) Fault} (Ok None) (Ok c) = rw off at e in
+          let same : None ≡ c = cc in
+          rw off (ap (option_map (λ x. x.key)) (sym same), ap (option_map (λ x. x.body)) (sym same))
+    ]
+
+removed-told : (v : ℤ) (c : Option KeyChange) → removed_number (number_within v) ≡ c
+    → (option_map (λ x. x.key) c ≡ number_key v) × (option_map (λ x. x.body) c ≡ option_map (λ k. None) (number_key v))
+removed-told (negsuc n) c same = (ap (option_map (λ x. x.key)) (sym same), ap (option_map (λ x. x.body)) (sym same))
+removed-told (pos n) c e =
+    elim (cases_Bool (nat_le n 65535)) [
+      | inl on ↦
+          let same : Some (record { key = Subr n; body = None }) ≡ c = rw on at e in
+          rw on (ap (option_map (λ x. x.key)) (sym same), ap (option_map (λ x. x.body)) (sym same))
+      | inr off ↦
+          let same : None ≡ c = rw off at e in
+          rw off (ap (option_map (λ x. x.key)) (sym same), ap (option_map (λ x. x.body)) (sym same))
+    ]
+
+none-told : (c : Option KeyChange) → ◌≡◌ {A = Result (Option KeyChange) Fault} (Ok None) (Ok c)
+    → (option_map (λ x. x.key) c ≡ None) × (option_map (λ x. x.body) c ≡ None)
+none-told c e = let same : None ≡ c = cc in (ap (option_map (λ x. x.key)) (sym same), ap (option_map (λ x. x.body)) (sym same))
+
+entry-told : (edit : Edit) (c : Option KeyChange) → edit_change edit ≡ Ok c → Tells edit c
+entry-told (ReplaceGlyph g body) c e = put-keys (Glyph g) (places.Glyph g) (body_words body) c e
+entry-told (AddGlyph g body) c e = put-keys (Glyph g) (places.Glyph g) (body_words body) c e
+entry-told (RemoveGlyph g) c e =
+    let same : Some (record { key = Glyph g; body = None }) ≡ c = cc in
+    (ap (option_map (λ x. x.key)) (sym same), ap (option_map (λ x. x.body)) (sym same))
+entry-told (ReplaceSubr n body) c e = number-told n (body_words body) c e
+entry-told (AddSubr n body) c e = number-told n (body_words body) c e
+entry-told (RemoveSubr n) c e = let same : removed_number (number_within n) ≡ c = cc in removed-told n c same
+entry-told (Encode code g) c e = none-told c e
+entry-told (Unencode code) c e = none-told c e
+entry-told (LenIv n) c e = none-told c e
+entry-told (Kern left right v) c e = none-told c e
+entry-told (Unkern left right) c e = none-told c e
+
+-- ---- a change
+
+keys-listed : (change : Option EntryChange) → named_keys change ≡ option_to_list (option_map (λ x. x.key) (option_map key_change change))
+keys-listed None = refl
+keys-listed (Some change) = refl
+
+module _ (edit : Edit) (old new : SourceParts) (is : IsMade edit old new) where
+  checked-is : bodies_check new.items ≡ unit_of (edit_change edit)
+  checked-is = edits_checked old is.pairs edit new is.made_pairs is.compiled is.made
+
+  pub words-refused : (refusal : Refusal) → Refuses refusal (edit_change edit) → Refuses refusal (file_check new)
+  words-refused refusals.Memory h = tt
+  words-refused (refusals.Fault fault) h = body_fault_told new fault (checked-is ∙ ap unit_of h)
+
+  module _ (change : Option EntryChange) (told : edit_change edit ≡ Ok (option_map key_change change)) where
+    keys-are : named_keys change ≡ named edit
+    keys-are =
+        keys-listed change ∙ ap option_to_list (entry-told edit (option_map key_change change) told).0
+        ∙ key-named old is.pairs edit new is.made_pairs is.made
+
+    its-body : (change : Option EntryChange) → edit_change edit ≡ Ok (option_map key_change change) → named_keys change ≡ named edit → HasBody change new
+    its-body None told keys = tt
+    its-body (Some x) told keys =
+        body_edited old is.pairs edit new is.made_pairs is.well is.made (key_of x.named) (subst (λ ks. Includes ks (key_of x.named)) keys (inl refl))
+        ∙ by (entry_key edit) (entry-told edit (Some (key_change x)) told)
+      where
+        by : (key : Option Key) → (Some (key_of x.named) ≡ key) × (Some x.body ≡ option_map (λ k. body_after edit) key) → body_after edit ≡ x.body
+        by None h = absurd (cc)
+        by (Some key) h = let same : x.body ≡ body_after edit = cc in sym same
+
+    pub is-changed : IsChanged edit old new change
+    is-changed = record {
+      keys = keys-are;
+      edited = subst (λ keys. IsEditedAt keys old new) (sym keys-are) (edits_named old is.pairs edit new is.made_pairs is.made);
+      body = its-body change told keys-are;
+      compiled = checked-is ∙ ap unit_of told;
+      order = edited-order old is.pairs edit new is.made_pairs is.well is.well_made is.made;
+    }
+
+  -- of each outcome
+  pub change-told : (r : Result (Option EntryChange) Refusal) → Gives (option_map key_change) r (edit_change edit)
+      → MatchResult r (IsChanged edit old new) (λ refusal. Refuses refusal (file_check new))
+  change-told (Ok change) h = is-changed change h
+  change-told (Err refusal) h = words-refused refusal h

@@ -1,0 +1,15 @@
+use Rattle.std.proofs.Common.{◌≡◌, ◌++◌, ◌∙◌, ap, arith, drop, map, subst, sym}
+use Rattle.std.specs.Prelude.{IfOk}
+use Rattle.t1_font.specs.Glyphs.{glyph_names}
+use Rattle.t1_rerun.proofs.OrderNames.{remove-names}
+use Rattle.t1_rerun.proofs.prepared.names_removed.Goals as goal
+
+pub returns : goal.returns
+returns c =
+    let items = c.args.items.now in
+    let front = c.split_at.result.0.now in
+    let is =
+    ap (λ l. glyph_names front ++ glyph_names l) (c.split_at-2.ensures.back ∙ ap (drop 1) c.split_at.ensures.back)
+    ∙ ap (λ l. glyph_names l ++ glyph_names (drop 1 (drop c.args.at items))) c.split_at.ensures.front
+    ∙ sym (remove-names items c.args.at (omega (arith, c.if-items-at.false))) in
+    subst (λ l. IfOk c.names_of_three.result (λ names. map (λ name. name.now) names.items ≡ l)) is c.names_of_three.ensures

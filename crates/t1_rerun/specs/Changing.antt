@@ -1,0 +1,39 @@
+-- Records of a source that is edited at one entry.
+use Rattle.std.specs.Prelude.{◌≡◌, ℕ, List, Option, Some, None, Ok, if◌then◌else◌}
+use Rattle.t1_code.specs.declared.command.Command.{Command}
+use Rattle.t1_parts.specs.SourceParts.{SourceParts}
+use Rattle.t1_run.specs.Run.{Subr, Glyph}
+use Rattle.t1_font.specs.Assembly.{file_check}
+use Rattle.t1_font.specs.Glyphs.{glyph_names}
+use Rattle.t1_cache.specs.declared.records.Records.{Records}
+use Rattle.t1_cache.specs.Edited.{IsEditedAt}
+use Rattle.t1_cache.specs.Laws.{AreDistinct}
+use Rattle.t1_cache.specs.Users.{key_eq, key_of}
+use Rattle.t1_rerun.specs.declared.settling.EntryChange.{EntryChange}
+use Rattle.t1_rerun.specs.Right.{IsInOrder, IsRight}
+use Rattle.t1_rerun.specs.Settled.{named_keys, HasBody}
+
+-- what a change sets, or takes out, at a Subr
+abbrev pub subr_changed : Option EntryChange → ℕ → Option (Option (List Command))
+subr_changed None n = None
+subr_changed (Some change) n = if key_eq (Subr n) (key_of change.named) then Some change.body else None
+
+-- what it sets, or takes out, at a glyph
+abbrev pub glyph_changed : Option EntryChange → List ℕ → Option (Option (List Command))
+glyph_changed None g = None
+glyph_changed (Some change) g = if key_eq (Glyph g) (key_of change.named) then Some change.body else None
+
+-- a source whose records are right was edited at the entry of a change, and the edited one has its file; these are its glyphs
+-- in their order
+pub record IsChangeOf (change : Option EntryChange) (old new : SourceParts) (records : Records) (ordered : List (List ℕ)) : Type 0 where
+  pub right : IsRight old records
+  pub edited : IsEditedAt (named_keys change) old new
+  pub body : HasBody change new
+  pub file : file_check new ≡ Ok tt
+  pub distinct : AreDistinct (glyph_names new.items)
+  pub order : IsInOrder old new
+  pub names : ordered ≡ glyph_names new.items
+
+-- there are such sources
+abbrev pub MayBeRenewed : Option EntryChange → Records → List (List ℕ) → Type 0
+MayBeRenewed change records ordered = (old : SourceParts) × ((new : SourceParts) × IsChangeOf change old new records ordered)

@@ -1,0 +1,123 @@
+//! The glyphs of a source with a change that was prepared for it, in their order.
+ghost use Rattle.std.specs.Prelude.{◌≡◌, ◌++◌, [], IfOk, OnOk, map};
+ghost use Rattle.std.specs.List.{insert, remove, slice_set};
+ghost use Rattle.t1_source.specs.Changes.{changed};
+ghost use Rattle.t1_font.specs.Glyphs.{glyph_names};
+
+use crate::order::GlyphOrder;
+use std::alloc::{AllocError, Global};
+use std::{cmp, slice};
+use t1_font::glyph_names;
+use t1_source::{Change, Item, Source};
+
+/// A source, and a change that was prepared for it.
+#[derive(Drop)]
+pub struct Prepared<'a> {
+    pub source: &'a Source,
+    pub change: &'a Change,
+}
+
+/// Adds the names of the glyphs among items, in their order.
+fn push_names<'a>(names: &mut Vec<&'a [u8]>, items: &'a [Item]) -> Result<(), AllocError>
+    ensures { OnOk result (map (λ name. name.now) names.new.items ≡ map (λ name. name.now) names.old.items ++ glyph_names items.now) }
+{
+    for item in items {
+        let Item::Glyph(name, _, _) = item else {
+            continue;
+        };
+        names.push(name.as_slice())?;
+    }
+    Ok(())
+}
+
+/// The names of the glyphs of three lists of items, one after another.
+fn names_of_three<'a>(
+    alloc: Global,
+    front: &'a [Item],
+    middle: &'a [Item],
+    back: &'a [Item],
+) -> Result<Vec<&'a [u8]>, AllocError>
+    ensures { IfOk result (λ names. map (λ name. name.now) names.items ≡ glyph_names front.now ++ (glyph_names middle.now ++ glyph_names back.now)) }
+{
+    let mut names = Vec::new(alloc);
+    push_names(&mut names, front)?;
+    push_names(&mut names, middle)?;
+    push_names(&mut names, back)?;
+    Ok(names)
+}
+
+/// The names of the glyphs where an item comes in the place of another.
+fn names_put<'a>(
+    alloc: Global,
+    items: &'a [Item],
+    at: usize,
+    item: &'a Item,
+) -> Result<Vec<&'a [u8]>, AllocError>
+    ensures { IfOk result (λ names. map (λ name. name.now) names.items ≡ glyph_names (slice_set items.now at item.now)) }
+{
+    if items.len() <= at {
+        return glyph_names(alloc, items);
+    }
+    let (front, rest) = items.split_at(at);
+    names_of_three(alloc, front, slice::from_ref(item), rest.split_at(1).1)
+}
+
+/// The names of the glyphs where an item comes to stand at a place.
+fn names_inserted<'a>(
+    alloc: Global,
+    items: &'a [Item],
+    at: usize,
+    item: &'a Item,
+) -> Result<Vec<&'a [u8]>, AllocError>
+    ensures { IfOk result (λ names. map (λ name. name.now) names.items ≡ glyph_names (insert items.now at item.now)) }
+{
+    let (front, back) = items.split_at(cmp::min(at, items.len()));
+    names_of_three(alloc, front, slice::from_ref(item), back)
+}
+
+/// The names of the glyphs where an item is taken out.
+fn names_removed<'a>(
+    alloc: Global,
+    items: &'a [Item],
+    at: usize,
+) -> Result<Vec<&'a [u8]>, AllocError>
+    ensures { IfOk result (λ names. map (λ name. name.now) names.items ≡ glyph_names (remove items.now at)) }
+{
+    if items.len() <= at {
+        return glyph_names(alloc, items);
+    }
+    let (front, rest) = items.split_at(at);
+    names_of_three(alloc, front, &[], rest.split_at(1).1)
+}
+
+/// The names of the glyphs of a source after a change, in the order of their entries.
+fn names_after<'a>(
+    alloc: Global,
+    source: &'a Source,
+    change: &'a Change,
+) -> Result<Vec<&'a [u8]>, AllocError>
+    ensures { IfOk result (λ names. map (λ name. name.now) names.items ≡ glyph_names (changed change.now source.now []).0.items) }
+{
+    let items = source.items();
+    match change {
+        Change::PutItem(at, item) => names_put(alloc, items, *at, item),
+        Change::InsertItem(at, item) => names_inserted(alloc, items, *at, item),
+        Change::RemoveItem(at) => names_removed(alloc, items, *at),
+        Change::PutClear(_) => glyph_names(alloc, items),
+        Change::PutPair(_, _) => glyph_names(alloc, items),
+        Change::InsertPair(_, _) => glyph_names(alloc, items),
+        Change::RemovePair(_) => glyph_names(alloc, items),
+    }
+}
+
+impl<'a> GlyphOrder for Prepared<'a> {
+    ghost use Rattle.std.specs.Prelude.{[]};
+    ghost use Rattle.t1_source.specs.Changes.{changed};
+    ghost use Rattle.t1_font.specs.Glyphs.{glyph_names};
+
+    ghost ordered = { λ p. glyph_names (changed p.change.now p.source.now []).0.items };
+
+    fn names(&self, alloc: Global) -> Result<Vec<&[u8]>, AllocError> {
+        names_after(alloc, self.source, self.change)
+    }
+}
