@@ -1,0 +1,5 @@
+pub mod Filed
+pub mod Gathered
+pub mod Putting
+pub mod Sources
+pub mod Texts
