@@ -1,3 +1,4 @@
+pub mod Adding
 pub mod Filed
 pub mod Gathered
 pub mod Putting

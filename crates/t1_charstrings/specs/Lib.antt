@@ -4,3 +4,4 @@ pub mod Kept
 pub mod Laws
 pub mod Lengths
 pub mod Lines
+pub mod Sums

@@ -19,3 +19,6 @@ pub use encrypted::{charstrings_of, encrypted_anew, encrypted_glyph, encrypted_s
 pub use entries::{Charstrings, Entry};
 pub use files::{write_kept_pfa, write_kept_pfb};
 pub use lengths::{check_length, line_len, private_len};
+
+#[cfg(test)]
+mod tests;
