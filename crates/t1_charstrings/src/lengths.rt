@@ -41,10 +41,10 @@ fn closing_len(closing: &[u8]) -> usize
 }
 
 /// How long the line of an entry is, up to 2^64 - 1; 0 where its charstring isn't kept.
-fn entry_len(operator: &[u8], entry: Option<&Entry>, closing: &[u8]) -> usize
-    ensures { result ≡ min (length (entry_line operator.now closing.now (option_copied entry))) (2 ^ 64 - 1) }
+fn entry_len(operator: &[u8], kept: Option<&Entry>, closing: &[u8]) -> usize
+    ensures { result ≡ min (length (entry_line operator.now closing.now (option_copied kept.entry))) (2 ^ 64 - 1) }
 {
-    match entry {
+    match kept {
         None => 0,
         Some(entry) => {
             let digits = Buffer::new().format(entry.charstring().len()).len();
@@ -74,12 +74,12 @@ pub fn line_len(charstrings: &Charstrings, operator: &[u8], item: &Item) -> usiz
             text.saturating_add(digits).saturating_add(1)
         }
         Item::Subr(number, _, closing) => {
-            let entry = charstrings.subrs.get(number);
-            entry_len(operator, entry, closing.as_slice())
+            let kept = charstrings.subrs.get(number);
+            entry_len(operator, kept, closing.as_slice())
         }
         Item::Glyph(name, _, closing) => {
-            let entry = charstrings.glyphs.get(name.as_slice());
-            entry_len(operator, entry, closing.as_slice())
+            let kept = charstrings.glyphs.get(name.as_slice());
+            entry_len(operator, kept, closing.as_slice())
         }
     }
 }

@@ -45,12 +45,12 @@ fn section_text(
 fn entry_line<'a>(
     alloc: Global,
     operator: &'a [u8],
-    entry: Option<&'a Entry>,
+    kept: Option<&'a Entry>,
     closing: &'a [u8],
 ) -> KeptLine<'a>
-    ensures { line_text result ≡ entry_line operator.now closing.now (option_copied entry) }
+    ensures { line_text result ≡ entry_line operator.now closing.now (option_copied kept.entry) }
 {
-    match entry {
+    match kept {
         None => KeptLine::Text(Vec::new(alloc)),
         Some(entry) => KeptLine::Entry {
             entry,
@@ -76,12 +76,12 @@ fn line_of<'a>(
             Ok(KeptLine::Text(text))
         }
         Item::Subr(number, _, closing) => {
-            let entry = charstrings.subrs.get(number);
-            Ok(entry_line(alloc, operator, entry, closing.as_slice()))
+            let kept = charstrings.subrs.get(number);
+            Ok(entry_line(alloc, operator, kept, closing.as_slice()))
         }
         Item::Glyph(name, _, closing) => {
-            let entry = charstrings.glyphs.get(name.as_slice());
-            Ok(entry_line(alloc, operator, entry, closing.as_slice()))
+            let kept = charstrings.glyphs.get(name.as_slice());
+            Ok(entry_line(alloc, operator, kept, closing.as_slice()))
         }
     }
 }

@@ -8,8 +8,8 @@ pub returns-then-max-gt-MAX_PART : goal.returns-then-max-gt-MAX_PART
 returns-then-max-gt-MAX_PART c =
     let s = c.args.source.now in
     let text = c.requires.0 in
-    long_told s text c.requires.1
-    (omega (arith, c.requires.2, length-eexec text, ap (λ lines. length (joined lines)) c.clear.ensures, ap (λ lines. length (joined lines)) c.tail.ensures))
+    rw c.from.ensures (long_told s text c.requires.1
+    (omega (arith, c.requires.2, length-eexec text, ap (λ lines. length (joined lines)) c.clear.ensures, ap (λ lines. length (joined lines)) c.tail.ensures)))
 
 pub returns : goal.returns
 returns c =
