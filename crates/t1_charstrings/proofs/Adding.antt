@@ -1,19 +1,19 @@
 -- The length of the lines of items, of which one is put in the place of another, put in or taken out.
-use Rattle.std.proofs.Common.{◌≡◌, ◌+◌, ◌<◌, ◌≤◌, ℕ, zero, suc, Bool, true, false, cond, List, [], ◌∷◌, ◌++◌, map, length, take, drop, length-append, refl, sym, ap, subst, ◌∙◌, Option, arith}
+use Rattle.std.proofs.Common.{◌≡◌, ◌+◌, ◌<◌, ◌≤◌, ℕ, zero, suc, Bool, true, false, cond, List, [], ◌∷◌, ◌++◌, map, length, length-append, refl, sym, ap, subst, ◌∙◌, Option, arith}
 use Rattle.std.specs.Prelude.{◌||◌, nat_eq}
-use Rattle.std.specs.List.{insert, list_any, remove, slice_set, slice_index_or}
+use Rattle.std.specs.List.{insert, list_any, remove, slice_set}
 use Rattle.std.specs.Str.{bytes_eq}
 use Rattle.std.proofs.lemmas.List.Folds.{list_any-append}
 use Rattle.t1_parts.specs.declared.item.Item.{Item}
 use Rattle.t1_parts.specs.declared.item.Item.TheVariants as items
-use Rattle.t1_parts.specs.Counts.{glyphs_needed, raised, raised_item, subrs_needed}
+use Rattle.t1_parts.specs.Counts.{glyphs_needed, raised_item, subrs_needed}
 use Rattle.t1_parts.specs.Entries.{is_glyph, is_subr}
 use Rattle.t1_parts.specs.SourceParts.{SourceParts}
 use Rattle.t1_source.specs.WellFormed.{IsWellFormed, Stand, Stands}
 use Rattle.t1_run.specs.Run.{Key, Subr, Glyph}
 use Rattle.t1_charstrings.specs.declared.entries.Charstrings.{Charstrings}
 use Rattle.t1_charstrings.specs.Changed.{Sets}
-use Rattle.t1_charstrings.specs.Entries.{Kept, key_eq}
+use Rattle.t1_charstrings.specs.Entries.{Kept}
 use Rattle.t1_charstrings.specs.Kept.{kept_at}
 use Rattle.t1_charstrings.specs.Lines.{entry_line, kept_line, kept_text}
 use Rattle.t1_charstrings.proofs.Putting.{bytes_tell, numbers_tell, Tells}
@@ -191,8 +191,15 @@ raised-len subrs glyphs c operator [] = refl
 raised-len subrs glyphs c operator (i ∷ is) =
     let j = raised_item subrs glyphs i in
     let js = map (raised_item subrs glyphs) is in
-    omega (arith, raised-one subrs glyphs c operator i, raised-len subrs glyphs c operator is, text-both c operator j js, text-both c operator i is,
-    length-append (section_line i) (section_text is), length-append (section_line j) (section_text js))
+    omega (
+      arith,
+      raised-one subrs glyphs c operator i,
+      raised-len subrs glyphs c operator is,
+      text-both c operator j js,
+      text-both c operator i is,
+      length-append (section_line i) (section_text is),
+      length-append (section_line j) (section_text js),
+    )
 
 pub raised_len : RaisedLenLaw
 raised_len is c operator = raised-len (subrs_needed is) (glyphs_needed is) c operator is

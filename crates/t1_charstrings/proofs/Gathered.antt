@@ -7,7 +7,7 @@ use Rattle.std.proofs.lemmas.Bool.{eqb-true}
 use Rattle.std.proofs.lemmas.Slice.Eq.{bytes_eq-Decides}
 use Rattle.t1_code.specs.declared.command.Command.{Command}
 use Rattle.t1_run.specs.Run.{Key, Subr, Glyph}
-use Rattle.t1_charstrings.specs.Entries.{Kept, encrypted}
+use Rattle.t1_charstrings.specs.Entries.{encrypted}
 
 -- what holds of each Subr and of each glyph
 pub at-key : (P : Key → Type 0) → ((n : ℕ) → P (Subr n)) → ((g : List ℕ) → P (Glyph g)) → (k : Key) → P k

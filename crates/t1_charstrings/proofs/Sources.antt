@@ -1,5 +1,5 @@
 -- The charstrings of a source that differs from another at one key, or in its lenIV alone.
-use Rattle.std.proofs.Common.{◌≡◌, ℕ, Bool, true, false, cond, List, [], ◌∷◌, refl, sym, ap, ◌∙◌, Option, inl, inr}
+use Rattle.std.proofs.Common.{◌≡◌, Bool, true, false, cond, [], ◌∷◌, refl, sym, ap, ◌∙◌, inl, inr}
 use Rattle.std.specs.Option.{option_map}
 use Rattle.t1_parts.specs.LenIV.{lead}
 use Rattle.t1_run.specs.Run.{FontBodies, Key, Subr, Glyph}

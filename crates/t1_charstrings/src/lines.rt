@@ -103,10 +103,7 @@ pub(crate) fn lines_of<'a>(
 }
 
 /// Adds the pieces of a line.
-fn push_pieces<'a>(
-    pieces: &mut Vec<Piece<'a>>,
-    line: &'a KeptLine<'a>,
-) -> Result<(), AllocError>
+fn push_pieces<'a>(pieces: &mut Vec<Piece<'a>>, line: &'a KeptLine<'a>) -> Result<(), AllocError>
     ensures { OnOk result (flat_map piece_text pieces.new.items ≡ flat_map piece_text pieces.old.items ++ line_text line.now) }
 {
     match line {

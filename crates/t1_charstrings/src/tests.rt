@@ -52,6 +52,7 @@ const SUBR: &str = "\
 
 /// The charstring of space behind four bytes, and behind none.
 const SPACE: [u8; 9] = [0x10, 0xBF, 0x31, 0x70, 0x79, 0xC7, 0x57, 0xBF, 0x91];
+
 const BARE_SPACE: [u8; 5] = [0x9B, 0x23, 0xB0, 0xBB, 0x08];
 
 /// A source that is well formed, as each that was read is.
@@ -67,7 +68,13 @@ fn kept_pfb(alloc: Global, text: &str, size: usize) -> Result<Vec<u8>, Fail> {
     let source = read(alloc, text)?;
     let charstrings = charstrings_of(alloc, &source)?;
     let mut out = Counted::new(Vec::new(alloc));
-    write_kept_pfb(alloc, &charstrings, &source, size.max(1).min(WHOLE_PARTS), &mut out)?;
+    write_kept_pfb(
+        alloc,
+        &charstrings,
+        &source,
+        size.max(1).min(WHOLE_PARTS),
+        &mut out,
+    )?;
     Ok(out.into_inner())
 }
 
@@ -96,7 +103,10 @@ fn writes_the_small_font(rt: HostRuntime) -> Result<(), Fail> {
 fn writes_what_is_assembled(rt: HostRuntime) -> Result<(), Fail> {
     let alloc = rt.alloc();
     let whole = pfb_of_source(alloc, &read(alloc, SUBR)?, WHOLE_PARTS)?;
-    assert_eq!(rt; kept_pfb(alloc, SUBR, WHOLE_PARTS)?.as_slice(), whole.as_slice());
+    assert_eq!(rt;
+        kept_pfb(alloc, SUBR, WHOLE_PARTS)?.as_slice(),
+        whole.as_slice()
+    );
     Ok(())
 }
 
@@ -134,7 +144,11 @@ fn changed(alloc: Global) -> Result<Charstrings, Fail> {
     if charstrings.glyphs.get(b"space".as_slice()).is_none() {
         return Err(Fail::new("no space"));
     }
-    put_glyph(&mut charstrings, b"space", encrypted_glyph(alloc, 0, b"space", &space)?);
+    put_glyph(
+        &mut charstrings,
+        b"space",
+        encrypted_glyph(alloc, 0, b"space", &space)?,
+    );
     Ok(charstrings)
 }
 
@@ -160,7 +174,8 @@ fn puts_a_subr(rt: HostRuntime) -> Result<(), Fail> {
     put_subr(&mut charstrings, 4, encrypted_subr(alloc, 4, 4, &space)?);
     let kept = match charstrings.subrs.get(&4) {
         None => false,
-        Some(entry) => entry.charstring() == SPACE.as_slice() && entry.head() == b"dup 4".as_slice(),
+        Some(entry) => entry.charstring() == SPACE.as_slice()
+            && entry.head() == b"dup 4".as_slice(),
     };
     assert_eq!(rt; kept, true);
     Ok(())

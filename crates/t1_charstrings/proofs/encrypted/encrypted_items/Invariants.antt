@@ -10,7 +10,7 @@ abbrev pub invariant-loop-item : goal.invariant-loop-item
 invariant-loop-item l = record {
   checked : bodies_check (drop l.item-index l.items) ≡ bodies_check l.items;
   subrs : (n : ℕ) → option_or (subr_kept l.subrs.entries n) (option_map (encrypted l.lead (Subr n)) (subr_among (drop l.item-index l.items) n))
-    ≡ option_map (encrypted l.lead (Subr n)) (subr_among l.items n);
+      ≡ option_map (encrypted l.lead (Subr n)) (subr_among l.items n);
   glyphs : (g : List ℕ) → option_or (glyph_kept l.glyphs.entries g) (option_map (encrypted l.lead (Glyph g)) (glyph_among (drop l.item-index l.items) g))
-    ≡ option_map (encrypted l.lead (Glyph g)) (glyph_among l.items g);
+      ≡ option_map (encrypted l.lead (Glyph g)) (glyph_among l.items g);
 }
