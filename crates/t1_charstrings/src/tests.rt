@@ -132,6 +132,15 @@ fn encrypts_for_another_len_iv(rt: HostRuntime) -> Result<(), Fail> {
     Ok(())
 }
 
+/// Puts another charstring in the place of a glyph's.
+fn put(charstrings: &mut Charstrings, name: &[u8], entry: Entry) -> Result<(), Fail> {
+    if charstrings.glyphs.get(name).is_none() {
+        return Err(Fail::new("no such glyph"));
+    }
+    put_glyph(charstrings, name, entry);
+    Ok(())
+}
+
 /// The small font's charstrings, with a glyph more and its own one changed in room that was made.
 fn changed(alloc: Global) -> Result<Charstrings, Fail> {
     let mut charstrings = charstrings_of(alloc, &read(alloc, SMALL)?)?;
@@ -141,14 +150,11 @@ fn changed(alloc: Global) -> Result<Charstrings, Fail> {
     insert_glyph(&mut charstrings, Vec::from_slice(alloc, b"more")?, more)?;
     let subr = encrypted_subr(alloc, 4, 3, &space)?;
     insert_subr(&mut charstrings, 3, subr)?;
-    if charstrings.glyphs.get(b"space".as_slice()).is_none() {
-        return Err(Fail::new("no space"));
-    }
-    put_glyph(
+    put(
         &mut charstrings,
         b"space",
         encrypted_glyph(alloc, 0, b"space", &space)?,
-    );
+    )?;
     Ok(charstrings)
 }
 
