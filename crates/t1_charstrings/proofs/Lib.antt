@@ -1,0 +1,6 @@
+pub mod Adding
+pub mod Filed
+pub mod Gathered
+pub mod Putting
+pub mod Sources
+pub mod Texts

@@ -1,0 +1,43 @@
+-- What is kept of an entry, and of all entries of a font.
+use Rattle.std.specs.Prelude.{ℕ, Bool, false, nat_eq, List, ◌∷◌, ◌++◌, Option, codes, decimal}
+use Rattle.std.specs.Map.{lookup}
+use Rattle.std.specs.Str.{bytes_eq}
+use Rattle.std.specs.declared.alloc.Global.{Global}
+use Rattle.std.specs.declared.vec.Vec.{Vec}
+use Rattle.t1_code.specs.declared.command.Command.{Command}
+use Rattle.t1_code.specs.Charstring.{charstring}
+use Rattle.t1_code.specs.Cipher.{encrypted_charstring}
+use Rattle.t1_run.specs.Run.{FontBodies, Key, Subr, Glyph}
+
+-- profile: what is kept of an entry: `dup N` or `/NAME`, and its encrypted charstring
+pub record Kept : Type 0 where
+  pub head : List ℕ
+  pub charstring : List ℕ
+
+-- Type 1 Font Format, Chapter 2: what the line of an entry begins with
+abbrev pub head_of : Key → List ℕ
+head_of (Subr n) = codes "dup " ++ decimal n
+head_of (Glyph g) = 47 ∷ g
+
+-- Type 1 Font Format, Chapter 7: a body, encrypted behind so many leading bytes
+abbrev pub encrypted : ℕ → Key → List Command → Kept
+encrypted lead key body = record { head = head_of key; charstring = encrypted_charstring lead (charstring body) }
+
+-- what is kept under a number
+abbrev pub subr_kept : List (ℕ × Kept) → ℕ → Option Kept
+subr_kept entries n = lookup (nat_eq n) entries
+
+-- what is kept under a name
+abbrev pub glyph_kept : List (Vec ℕ Global × Kept) → List ℕ → Option Kept
+glyph_kept entries g = lookup (λ key. bytes_eq g key.items) entries
+
+-- the body of a font at a key
+abbrev pub body_at : FontBodies → Key → Option (List Command)
+body_at m (Subr n) = m.subrs n
+body_at m (Glyph g) = m.glyphs g
+
+-- whether two keys are the same
+abbrev pub key_eq : Key → Key → Bool
+key_eq (Subr n) (Subr m) = nat_eq n m
+key_eq (Glyph g) (Glyph h) = bytes_eq g h
+key_eq _ _ = false

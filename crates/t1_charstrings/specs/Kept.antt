@@ -1,0 +1,23 @@
+-- The charstrings of a source, all encrypted.
+use Rattle.std.specs.Prelude.{◌≡◌, ℕ, Option, Ok}
+use Rattle.std.specs.Option.{option_map}
+use Rattle.t1_parts.specs.LenIV.{lead}
+use Rattle.t1_parts.specs.SourceParts.{SourceParts}
+use Rattle.t1_run.specs.Run.{FontBodies, Key, Subr, Glyph}
+use Rattle.t1_font.specs.Bodies.{bodies, bodies_check}
+use Rattle.t1_charstrings.specs.declared.entries.Charstrings.{Charstrings}
+use Rattle.t1_charstrings.specs.Entries.{Kept, body_at, encrypted, glyph_kept, subr_kept}
+
+-- what is kept at a key
+abbrev pub kept_at : Charstrings → Key → Option Kept
+kept_at c (Subr n) = subr_kept c.subrs.entries n
+kept_at c (Glyph g) = glyph_kept c.glyphs.entries g
+
+-- profile: each body of the font is kept, encrypted behind so many leading bytes, and nothing else
+abbrev pub Encrypt : ℕ → FontBodies → Charstrings → Type 0
+Encrypt lead m c = (k : Key) → kept_at c k ≡ option_map (encrypted lead k) (body_at m k)
+
+-- profile: no body of the source has a fault, and each is kept, encrypted by the source's lenIV
+pub record AreEncrypted (s : SourceParts) (c : Charstrings) : Type 0 where
+  pub sound : bodies_check s.items ≡ Ok tt
+  pub each : Encrypt (lead s) (bodies s.items) c

@@ -1,0 +1,32 @@
+-- The lines of a private text, made of the charstrings that are kept.
+use Rattle.std.specs.Prelude.{ℕ, List, [], ◌∷◌, ◌++◌, Option, Some, None, decimal}
+use Rattle.std.specs.List.{flat_map}
+use Rattle.t1_parts.specs.declared.item.Item.{Item}
+use Rattle.t1_parts.specs.declared.item.Item.TheVariants.{Plain, Section, Subr, Glyph}
+use Rattle.t1_code.specs.Pfb.{entry_text}
+use Rattle.t1_charstrings.specs.declared.entries.Charstrings.{Charstrings}
+use Rattle.t1_charstrings.specs.declared.lines.KeptLine.{KeptLine}
+use Rattle.t1_charstrings.specs.declared.lines.KeptLine.TheVariants as lines
+use Rattle.t1_charstrings.specs.Entries.{Kept, glyph_kept, subr_kept}
+
+-- Type 1 Font Format, Chapter 2: the line of an entry, and nothing where its charstring isn't kept
+abbrev pub entry_line : List ℕ → List ℕ → Option Kept → List ℕ
+entry_line operator closing None = []
+entry_line operator closing (Some kept) = entry_text kept.head operator kept.charstring closing
+
+-- Type 1 Font Format, Chapter 2: the line of an item of the private part
+abbrev pub kept_line : Charstrings → List ℕ → Item → List ℕ
+kept_line c operator (Plain line) = line ++ 10 ∷ []
+kept_line c operator (Section before count after) = before ++ decimal count ++ after ++ 10 ∷ []
+kept_line c operator (Subr number words closing) = entry_line operator closing (subr_kept c.subrs.entries number)
+kept_line c operator (Glyph name words closing) = entry_line operator closing (glyph_kept c.glyphs.entries name)
+
+-- the lines of the items, one after another
+abbrev pub kept_text : Charstrings → List ℕ → List Item → List ℕ
+kept_text c operator items = flat_map (kept_line c operator) items
+
+-- the bytes of a line that is ready to be written
+abbrev pub line_text : KeptLine → List ℕ
+line_text (lines.Plain bytes) = bytes.now ++ 10 ∷ []
+line_text (lines.Text bytes) = bytes.items
+line_text (lines.Entry entry operator closing) = entry_text entry.now.head operator.now entry.now.charstring closing.now

@@ -1,0 +1,60 @@
+-- How long the private text is after an entry was put in the place of another, put in or taken out.
+use Rattle.std.specs.Prelude.{◌≡◌, ◌+◌, ◌<◌, ◌≤◌, ℕ, Bool, true, false, List, [], ◌∷◌, ◌++◌, Option, decimal, length, flat_map}
+use Rattle.std.specs.List.{insert, list_any, remove, slice_set, slice_index_or}
+use Rattle.t1_parts.specs.declared.item.Item.{Item}
+use Rattle.t1_parts.specs.declared.item.Item.TheVariants.{Plain, Section}
+use Rattle.t1_parts.specs.Counts.{raised}
+use Rattle.t1_parts.specs.Entries.{is_glyph, is_subr}
+use Rattle.t1_parts.specs.SourceParts.{SourceParts}
+use Rattle.t1_source.specs.WellFormed.{IsWellFormed}
+use Rattle.t1_run.specs.Run.{Key, Subr, Glyph}
+use Rattle.t1_charstrings.specs.declared.entries.Charstrings.{Charstrings}
+use Rattle.t1_charstrings.specs.Changed.{Sets}
+use Rattle.t1_charstrings.specs.Entries.{Kept}
+use Rattle.t1_charstrings.specs.Lines.{kept_line, kept_text}
+
+-- whether an item is the entry of this key
+abbrev pub has_key : Key → Item → Bool
+has_key (Subr n) item = is_subr n item
+has_key (Glyph g) item = is_glyph g item
+
+-- the item at a place
+abbrev pub item_at : List Item → ℕ → Item
+item_at items at = slice_index_or items at (Plain [])
+
+-- the line of a section, and nothing of another item
+abbrev pub section_line : Item → List ℕ
+section_line (Section before count after) = before ++ decimal count ++ after ++ 10 ∷ []
+section_line _ = []
+
+-- the section lines
+abbrev pub section_text : List Item → List ℕ
+section_text items = flat_map section_line items
+
+-- the length with another entry in the place of that of the key: its line's length more, and that of the old line less
+abbrev pub PutLenLaw : Type 0
+PutLenLaw =
+    (s : SourceParts) (key : Key) (at : ℕ) (item : Item) → IsWellFormed s → at < length s.items → has_key key (item_at s.items at) ≡ true
+    → (old new : Charstrings) (entry : Option Kept) → Sets key entry old new → (operator : List ℕ)
+    → length (kept_text new operator (slice_set s.items at item)) + length (kept_line old operator (item_at s.items at))
+    ≡ length (kept_text old operator s.items) + length (kept_line new operator item)
+
+-- the length with an entry more, whose key no other has: its line's length more
+abbrev pub InsertLenLaw : Type 0
+InsertLenLaw =
+    (s : SourceParts) (key : Key) (at : ℕ) (item : Item) → at ≤ length s.items → list_any (has_key key) s.items ≡ false
+    → (old new : Charstrings) (entry : Option Kept) → Sets key entry old new → (operator : List ℕ)
+    → length (kept_text new operator (insert s.items at item)) ≡ length (kept_text old operator s.items) + length (kept_line new operator item)
+
+-- the length without the entry of the key: that of its line less
+abbrev pub RemoveLenLaw : Type 0
+RemoveLenLaw =
+    (s : SourceParts) (key : Key) (at : ℕ) → IsWellFormed s → at < length s.items → has_key key (item_at s.items at) ≡ true
+    → (old new : Charstrings) (entry : Option Kept) → Sets key entry old new → (operator : List ℕ)
+    → length (kept_text new operator (remove s.items at)) + length (kept_line old operator (item_at s.items at)) ≡ length (kept_text old operator s.items)
+
+-- raised counts change the section lines alone
+abbrev pub RaisedLenLaw : Type 0
+RaisedLenLaw =
+    (items : List Item) (c : Charstrings) (operator : List ℕ)
+    → length (kept_text c operator (raised items)) + length (section_text items) ≡ length (kept_text c operator items) + length (section_text (raised items))

@@ -1,0 +1,87 @@
+//! What is kept, changed at one Subr or one glyph.
+ghost use Rattle.std.specs.Prelude.{◌≡◌, ◌≤◌, ◌<◌, ◌+◌, Option, None, Some, IsOk, IsSome, OnErr, OnOk};
+ghost use Rattle.indexmap.specs.IndexMap.{spare};
+ghost use Rattle.t1_run.specs.Run.{Subr, Glyph};
+ghost use Rattle.t1_charstrings.specs.Changed.{AreUnchanged, Sets};
+ghost use Rattle.t1_charstrings.specs.Kept.{kept_at};
+
+use crate::entries::{Charstrings, Entry};
+use std::alloc::AllocError;
+
+/// Makes room for so many more Subrs and glyphs. What is kept stays, also where memory runs out.
+pub fn make_room(
+    charstrings: &mut Charstrings,
+    subrs: usize,
+    glyphs: usize,
+) -> Result<(), AllocError>
+    ensures same { AreUnchanged charstrings.old charstrings.new }
+    ensures subrs { OnOk result (subrs ≤ spare charstrings.new.subrs) }
+    ensures glyphs { OnOk result (glyphs ≤ spare charstrings.new.glyphs) }
+{
+    charstrings.subrs.reserve(subrs)?;
+    charstrings.glyphs.reserve(glyphs)
+}
+
+/// Puts another charstring in the place of a Subr's. It takes no memory and can't fail.
+pub fn put_subr(charstrings: &mut Charstrings, number: u16, entry: Entry)
+    requires { IsSome (kept_at charstrings.old (Subr number)) }
+    ensures { Sets (Subr number) (Some entry) charstrings.old charstrings.new }
+{
+    if let Some(kept) = charstrings.subrs.get_mut(&number) {
+        *kept = entry;
+    }
+}
+
+/// Puts another charstring in the place of a glyph's. It takes no memory and can't fail.
+pub fn put_glyph(charstrings: &mut Charstrings, name: &[u8], entry: Entry)
+    requires { IsSome (kept_at charstrings.old (Glyph name.now)) }
+    ensures { Sets (Glyph name.now) (Some entry) charstrings.old charstrings.new }
+{
+    if let Some(kept) = charstrings.glyphs.get_mut(name) {
+        *kept = entry;
+    }
+}
+
+/// Puts the charstring of a Subr in. Where memory runs out all stays as it was; in room that was made it doesn't.
+pub fn insert_subr(
+    charstrings: &mut Charstrings,
+    number: u16,
+    entry: Entry,
+) -> Result<(), AllocError>
+    ensures sets { OnOk result (Sets (Subr number) (Some entry) charstrings.old charstrings.new) }
+    ensures refused { OnErr result (AreUnchanged charstrings.old charstrings.new) }
+    ensures succeeds { 0 < spare charstrings.old.subrs → IsOk result }
+    ensures room { (spare charstrings.old.subrs ≤ spare charstrings.new.subrs + 1) × (charstrings.new.glyphs ≡ charstrings.old.glyphs) }
+{
+    charstrings.subrs.insert(number, entry)?;
+    Ok(())
+}
+
+/// Puts the charstring of a glyph in. Where memory runs out all stays as it was; in room that was made it doesn't.
+pub fn insert_glyph(
+    charstrings: &mut Charstrings,
+    name: Vec<u8>,
+    entry: Entry,
+) -> Result<(), AllocError>
+    ensures sets { OnOk result (Sets (Glyph name.items) (Some entry) charstrings.old charstrings.new) }
+    ensures refused { OnErr result (AreUnchanged charstrings.old charstrings.new) }
+    ensures succeeds { 0 < spare charstrings.old.glyphs → IsOk result }
+    ensures room { (spare charstrings.old.glyphs ≤ spare charstrings.new.glyphs + 1) × (charstrings.new.subrs ≡ charstrings.old.subrs) }
+{
+    charstrings.glyphs.insert(name, entry)?;
+    Ok(())
+}
+
+/// Takes the charstring of a Subr out. It takes no memory and can't fail.
+pub fn remove_subr(charstrings: &mut Charstrings, number: u16)
+    ensures { Sets (Subr number) None charstrings.old charstrings.new }
+{
+    charstrings.subrs.shift_remove(&number);
+}
+
+/// Takes the charstring of a glyph out. It takes no memory and can't fail.
+pub fn remove_glyph(charstrings: &mut Charstrings, name: &[u8])
+    ensures { Sets (Glyph name.now) None charstrings.old charstrings.new }
+{
+    charstrings.glyphs.shift_remove(name);
+}

@@ -1,0 +1,146 @@
+//! The charstrings of a source, encrypted.
+ghost use Rattle.std.specs.Prelude.{◌≡◌, ◌==◌, ℕ, List, Ok, None, IfOk, OnOk, if◌then◌else◌};
+ghost use Rattle.std.specs.Option.{option_map, option_or};
+ghost use Rattle.std.specs.Result.{result_ok};
+ghost use Rattle.std.specs.Str.{bytes_eq};
+ghost use Rattle.t1_frac.specs.Outcome.{Gives};
+ghost use Rattle.t1_frac.specs.declared.fault.Place.TheVariants as places;
+ghost use Rattle.t1_code.specs.Words.{commands};
+ghost use Rattle.t1_run.specs.Run.{Subr, Glyph};
+ghost use Rattle.t1_font.specs.Bodies.{bodies, bodies_check, body_check, glyph_in, subr_in, words_check};
+ghost use Rattle.t1_charstrings.specs.Entries.{encrypted, glyph_kept, subr_kept};
+ghost use Rattle.t1_charstrings.specs.Kept.{AreEncrypted, Encrypt};
+
+use crate::entries::{Charstrings, Entry};
+use indexmap::IndexMap;
+use itoa::Buffer;
+use std::alloc::{AllocError, Global};
+use t1_code::{Body, encrypted_charstring};
+use t1_font::{compiled_glyph, compiled_subr};
+use t1_frac::{Refusal, Words};
+use t1_source::{Item, Source};
+
+/// A Subr, encrypted behind so many leading bytes.
+pub fn encrypted_subr(
+    alloc: Global,
+    lead: u8,
+    number: u16,
+    body: &Body,
+) -> Result<Entry, AllocError>
+    ensures { IfOk result (λ entry. entry ≡ encrypted lead (Subr number) body.now) }
+{
+    let mut head = Vec::from_slice(alloc, b"dup ")?;
+    head.extend_from_slice(Buffer::new().format(number).as_bytes())?;
+    let charstring = encrypted_charstring(alloc, lead, body.commands())?;
+    Ok(Entry::new(head, charstring))
+}
+
+/// A glyph, encrypted behind so many leading bytes.
+pub fn encrypted_glyph(
+    alloc: Global,
+    lead: u8,
+    name: &[u8],
+    body: &Body,
+) -> Result<Entry, AllocError>
+    ensures { IfOk result (λ entry. entry ≡ encrypted lead (Glyph name.now) body.now) }
+{
+    let mut head = Vec::from_slice(alloc, b"/")?;
+    head.extend_from_slice(name)?;
+    let charstring = encrypted_charstring(alloc, lead, body.commands())?;
+    Ok(Entry::new(head, charstring))
+}
+
+/// Adds a Subr, where there is none of its number.
+#[tactic(auto, unfolding(t1_font::specs::Bodies::words_check))]
+fn add_subr(
+    alloc: Global,
+    lead: u8,
+    subrs: &mut IndexMap<u16, Entry>,
+    number: u16,
+    words: &Words,
+) -> Result<(), Refusal>
+    ensures checked { Gives (λ x. x) result (words_check (places.Subr number) words.now) }
+    ensures kept { OnOk result ((n : ℕ) → subr_kept subrs.new.entries n ≡ option_or (subr_kept subrs.old.entries n) (option_map (encrypted lead (Subr n)) (if n == number then result_ok (commands words.now) else None))) }
+{
+    let body = compiled_subr(alloc, number, words)?;
+    if subrs.contains_key(&number) {
+        return Ok(());
+    }
+    let entry = encrypted_subr(alloc, lead, number, &body)?;
+    subrs.insert(number, entry)?;
+    Ok(())
+}
+
+/// Adds a glyph, where there is none of its name.
+#[tactic(auto, unfolding(t1_font::specs::Bodies::words_check))]
+fn add_glyph(
+    alloc: Global,
+    lead: u8,
+    glyphs: &mut IndexMap<Vec<u8>, Entry>,
+    name: &[u8],
+    words: &Words,
+) -> Result<(), Refusal>
+    ensures checked { Gives (λ x. x) result (words_check (places.Glyph name.now) words.now) }
+    ensures kept { OnOk result ((g : List ℕ) → glyph_kept glyphs.new.entries g ≡ option_or (glyph_kept glyphs.old.entries g) (option_map (encrypted lead (Glyph g)) (if bytes_eq g name.now then result_ok (commands words.now) else None))) }
+{
+    let body = compiled_glyph(alloc, name, words)?;
+    if glyphs.contains_key(name) {
+        return Ok(());
+    }
+    let entry = encrypted_glyph(alloc, lead, name, &body)?;
+    glyphs.insert(Vec::from_slice(alloc, name)?, entry)?;
+    Ok(())
+}
+
+/// Adds an item's charstring, where it is an entry.
+fn add_item(
+    alloc: Global,
+    lead: u8,
+    subrs: &mut IndexMap<u16, Entry>,
+    glyphs: &mut IndexMap<Vec<u8>, Entry>,
+    item: &Item,
+) -> Result<(), Refusal>
+    ensures checked { Gives (λ x. x) result (body_check item.now) }
+    ensures subrs { OnOk result ((n : ℕ) → subr_kept subrs.new.entries n ≡ option_or (subr_kept subrs.old.entries n) (option_map (encrypted lead (Subr n)) (subr_in item.now n))) }
+    ensures glyphs { OnOk result ((g : List ℕ) → glyph_kept glyphs.new.entries g ≡ option_or (glyph_kept glyphs.old.entries g) (option_map (encrypted lead (Glyph g)) (glyph_in item.now g))) }
+{
+    match item {
+        Item::Subr(number, words, _) => add_subr(alloc, lead, subrs, *number, words),
+        Item::Glyph(name, words, _) => add_glyph(alloc, lead, glyphs, name.as_slice(), words),
+        Item::Plain(_) => Ok(()),
+        Item::Section(_, _, _) => Ok(()),
+    }
+}
+
+/// The charstrings of the items, encrypted behind so many leading bytes, or the first fault of a body, at its entry.
+fn encrypted_items(alloc: Global, lead: u8, items: &[Item]) -> Result<Charstrings, Refusal>
+    ensures checked { Gives (λ _. tt) result (bodies_check items.now) }
+    ensures kept { IfOk result (λ kept. Encrypt lead (bodies items.now) kept) }
+{
+    let mut subrs = IndexMap::new(alloc);
+    let mut glyphs = IndexMap::new(alloc);
+    for item in items {
+        add_item(alloc, lead, &mut subrs, &mut glyphs, item)?;
+    }
+    Ok(Charstrings { subrs, glyphs })
+}
+
+/// The charstrings of a source, encrypted by its lenIV, or the first fault of a body, at its entry.
+pub fn charstrings_of(alloc: Global, source: &Source) -> Result<Charstrings, Refusal>
+    ensures checked { Gives (λ _. tt) result (bodies_check source.now.items) }
+    ensures kept { IfOk result (λ kept. AreEncrypted source.now kept) }
+{
+    encrypted_items(alloc, source.lead(), source.items())
+}
+
+/// The charstrings of a source whose bodies have no fault, encrypted for another lenIV.
+pub fn encrypted_anew(alloc: Global, source: &Source, lead: u8) -> Result<Charstrings, AllocError>
+    requires { bodies_check source.now.items ≡ Ok tt }
+    ensures { IfOk result (λ kept. Encrypt lead (bodies source.now.items) kept) }
+{
+    match encrypted_items(alloc, lead, source.items()) {
+        Ok(kept) => Ok(kept),
+        // The bodies have no fault.
+        Err(_) => Err(AllocError),
+    }
+}

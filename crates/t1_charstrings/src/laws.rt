@@ -1,0 +1,39 @@
+//! Laws of the charstrings that are kept.
+ghost use Rattle.t1_charstrings.specs.Changed.{AnewLaw, ChangedLaw};
+ghost use Rattle.t1_charstrings.specs.Laws.{KeptTextLaw};
+ghost use Rattle.t1_charstrings.specs.Sums.{InsertLenLaw, PutLenLaw, RaisedLenLaw, RemoveLenLaw};
+
+/// The private text of a source is that of the charstrings that are kept of it.
+pub fn kept_text()
+    ensures { KeptTextLaw }
+{}
+
+/// The charstrings of a source, changed at the one key where another source differs, are those of the other.
+pub fn changed_source()
+    ensures { ChangedLaw }
+{}
+
+/// Charstrings that were encrypted for another lenIV are those of the source that says it.
+pub fn source_anew()
+    ensures { AnewLaw }
+{}
+
+/// The length of the private text with an entry in the place of that of its key.
+pub fn put_len()
+    ensures { PutLenLaw }
+{}
+
+/// The length of the private text with an entry more.
+pub fn insert_len()
+    ensures { InsertLenLaw }
+{}
+
+/// The length of the private text without an entry.
+pub fn remove_len()
+    ensures { RemoveLenLaw }
+{}
+
+/// The length of the private text whose counts are raised.
+pub fn raised_len()
+    ensures { RaisedLenLaw }
+{}

@@ -1,0 +1,119 @@
+//! How long the private text is, and whether a part of the PFB file is too long.
+ghost use Rattle.std.specs.Prelude.{◌≡◌, ◌^◌, ◌-◌, min, length, option_copied};
+ghost use Rattle.t1_frac.specs.Outcome.{Gives};
+ghost use Rattle.t1_text.specs.Lines.{joined};
+ghost use Rattle.t1_code.specs.Pfb.{closing_text};
+ghost use Rattle.t1_source.specs.WellFormed.{IsWellFormed};
+ghost use Rattle.t1_font.specs.Assembly.{length_check};
+ghost use Rattle.t1_charstrings.specs.Kept.{AreEncrypted};
+ghost use Rattle.t1_charstrings.specs.Lengths.{IsPrivateLen};
+ghost use Rattle.t1_charstrings.specs.Lines.{entry_line, kept_line, kept_text};
+
+use crate::entries::{Charstrings, Entry};
+use crate::files::ZEROS_LEN;
+use itoa::Buffer;
+use t1_code::{EEXEC_LEAD, MAX_PART};
+use t1_frac::{Bytes, Code, Refusal};
+use t1_source::{Item, Source};
+
+/// How long lines are with their ends, up to 2^64 - 1.
+fn lines_len(lines: &[Bytes]) -> usize
+    ensures { result ≡ min (length (joined lines.now)) (2 ^ 64 - 1) }
+{
+    let mut total: usize = 0;
+    for line in lines {
+        total = total
+            .saturating_add(line.as_slice().len())
+            .saturating_add(1);
+    }
+    total
+}
+
+/// How long a closing text is with the space before it.
+fn closing_len(closing: &[u8]) -> usize
+    ensures { result ≡ min (length (closing_text closing.now)) (2 ^ 64 - 1) }
+{
+    if closing.is_empty() {
+        0
+    } else {
+        closing.len().saturating_add(1)
+    }
+}
+
+/// How long the line of an entry is, up to 2^64 - 1; 0 where its charstring isn't kept.
+fn entry_len(operator: &[u8], kept: Option<&Entry>, closing: &[u8]) -> usize
+    ensures { result ≡ min (length (entry_line operator.now closing.now (option_copied kept.entry))) (2 ^ 64 - 1) }
+{
+    match kept {
+        None => 0,
+        Some(entry) => {
+            let digits = Buffer::new().format(entry.charstring().len()).len();
+            // Three spaces and the line's end.
+            digits
+                .saturating_add(4)
+                .saturating_add(entry.head().len())
+                .saturating_add(operator.len())
+                .saturating_add(entry.charstring().len())
+                .saturating_add(closing_len(closing))
+        }
+    }
+}
+
+/// How long the line of an item is, up to 2^64 - 1.
+pub fn line_len(charstrings: &Charstrings, operator: &[u8], item: &Item) -> usize
+    ensures { result ≡ min (length (kept_line charstrings.now operator.now item.now)) (2 ^ 64 - 1) }
+{
+    match item {
+        Item::Plain(line) => line.as_slice().len().saturating_add(1),
+        Item::Section(before, count, after) => {
+            let digits = Buffer::new().format(*count).len();
+            let text = before
+                .as_slice()
+                .len()
+                .saturating_add(after.as_slice().len());
+            text.saturating_add(digits).saturating_add(1)
+        }
+        Item::Subr(number, _, closing) => {
+            let kept = charstrings.subrs.get(number);
+            entry_len(operator, kept, closing.as_slice())
+        }
+        Item::Glyph(name, _, closing) => {
+            let kept = charstrings.glyphs.get(name.as_slice());
+            entry_len(operator, kept, closing.as_slice())
+        }
+    }
+}
+
+/// How long the lines of the items are, up to 2^64 - 1.
+fn items_len(charstrings: &Charstrings, operator: &[u8], items: &[Item]) -> usize
+    ensures { result ≡ min (length (kept_text charstrings.now operator.now items.now)) (2 ^ 64 - 1) }
+{
+    let mut total: usize = 0;
+    for item in items {
+        total = total.saturating_add(line_len(charstrings, operator, item));
+    }
+    total
+}
+
+/// How long the private text of a source is, up to 2^64 - 1.
+pub fn private_len(charstrings: &Charstrings, source: &Source) -> usize
+    requires well { IsWellFormed source.now }
+    requires kept { AreEncrypted source.now charstrings.now }
+    ensures { IsPrivateLen source.now result }
+{
+    items_len(charstrings, source.operator(), source.items())
+}
+
+/// F23 where a part of the PFB file of a source is too long, whose private text is so long.
+pub fn check_length(source: &Source, private_len: usize) -> Result<(), Refusal>
+    requires { IsPrivateLen source.now private_len }
+    ensures { Gives (λ x. x) result (length_check source.now) }
+{
+    let clear = lines_len(source.clear());
+    let private = private_len.saturating_add(EEXEC_LEAD);
+    let trailer = lines_len(source.tail()).saturating_add(ZEROS_LEN);
+    if clear.max(private).max(trailer) > MAX_PART {
+        return Err(Refusal::from(Code::F23));
+    }
+    Ok(())
+}

@@ -1,0 +1,24 @@
+//! The encrypted charstrings of a font's entries, kept under edits.
+//!
+//! [`charstrings_of`] encrypts the charstrings of a source, or gives the first fault of its bodies. [`write_kept_pfb`] and
+//! [`write_kept_pfa`] write its files with them: nothing is compiled or encrypted anew.
+#![tactic(auto)]
+
+mod changed;
+mod encrypted;
+mod entries;
+mod files;
+pub mod laws;
+mod lengths;
+mod lines;
+
+pub use changed::{
+    insert_glyph, insert_subr, make_room, put_glyph, put_subr, remove_glyph, remove_subr,
+};
+pub use encrypted::{charstrings_of, encrypted_anew, encrypted_glyph, encrypted_subr};
+pub use entries::{Charstrings, Entry};
+pub use files::{write_kept_pfa, write_kept_pfb};
+pub use lengths::{check_length, line_len, private_len};
+
+#[cfg(test)]
+mod tests;

@@ -1,0 +1,141 @@
+//! The lines of the private text, with the charstrings that are kept.
+ghost use Rattle.std.specs.Prelude.{◌≡◌, ◌∷◌, ◌++◌, [], IfOk, OnOk, option_copied, decimal};
+ghost use Rattle.std.specs.List.{flat_map};
+ghost use Rattle.t1_code.specs.Parts.{piece_text};
+ghost use Rattle.t1_charstrings.specs.Lines.{entry_line, kept_line, kept_text, line_text};
+
+use crate::entries::{Charstrings, Entry};
+use std::alloc::{AllocError, Global};
+use t1_code::Piece;
+use t1_parts::push_decimal;
+use t1_source::Item;
+
+/// A line of the private text, ready to be written.
+#[derive(Drop)]
+pub enum KeptLine<'a> {
+    /// A line without its end.
+    Plain(&'a [u8]),
+    /// Bytes as they are written.
+    Text(Vec<u8>),
+    /// The parts of an entry's line.
+    Entry {
+        entry: &'a Entry,
+        operator: &'a [u8],
+        closing: &'a [u8],
+    },
+}
+
+/// A section line with its count and its end.
+fn section_text(
+    alloc: Global,
+    before: &[u8],
+    count: u64,
+    after: &[u8],
+) -> Result<Vec<u8>, AllocError>
+    ensures { IfOk result (λ text. text.items ≡ before.now ++ decimal count ++ after.now ++ 10 ∷ []) }
+{
+    let mut text = Vec::from_slice(alloc, before)?;
+    push_decimal(&mut text, count)?;
+    text.extend_from_slice(after)?;
+    text.push(b'\n')?;
+    Ok(text)
+}
+
+/// The line of an entry.
+fn entry_line<'a>(
+    alloc: Global,
+    operator: &'a [u8],
+    kept: Option<&'a Entry>,
+    closing: &'a [u8],
+) -> KeptLine<'a>
+    ensures { line_text result ≡ entry_line operator.now closing.now (option_copied kept.entry) }
+{
+    match kept {
+        None => KeptLine::Text(Vec::new(alloc)),
+        Some(entry) => KeptLine::Entry {
+            entry,
+            operator,
+            closing,
+        },
+    }
+}
+
+/// The line of an item.
+fn line_of<'a>(
+    alloc: Global,
+    charstrings: &'a Charstrings,
+    operator: &'a [u8],
+    item: &'a Item,
+) -> Result<KeptLine<'a>, AllocError>
+    ensures { IfOk result (λ line. line_text line ≡ kept_line charstrings.now operator.now item.now) }
+{
+    match item {
+        Item::Plain(line) => Ok(KeptLine::Plain(line.as_slice())),
+        Item::Section(before, count, after) => {
+            let text = section_text(alloc, before.as_slice(), *count, after.as_slice())?;
+            Ok(KeptLine::Text(text))
+        }
+        Item::Subr(number, _, closing) => {
+            let kept = charstrings.subrs.get(number);
+            Ok(entry_line(alloc, operator, kept, closing.as_slice()))
+        }
+        Item::Glyph(name, _, closing) => {
+            let kept = charstrings.glyphs.get(name.as_slice());
+            Ok(entry_line(alloc, operator, kept, closing.as_slice()))
+        }
+    }
+}
+
+/// The lines of the private text. An entry takes one look-up, and no copy.
+pub(crate) fn lines_of<'a>(
+    alloc: Global,
+    charstrings: &'a Charstrings,
+    operator: &'a [u8],
+    items: &'a [Item],
+) -> Result<Vec<KeptLine<'a>>, AllocError>
+    ensures { IfOk result (λ lines. flat_map line_text lines.items ≡ kept_text charstrings.now operator.now items.now) }
+{
+    let mut lines = Vec::with_capacity(alloc, items.len())?;
+    for item in items {
+        lines.push(line_of(alloc, charstrings, operator, item)?)?;
+    }
+    Ok(lines)
+}
+
+/// Adds the pieces of a line.
+fn push_pieces<'a>(pieces: &mut Vec<Piece<'a>>, line: &'a KeptLine<'a>) -> Result<(), AllocError>
+    ensures { OnOk result (flat_map piece_text pieces.new.items ≡ flat_map piece_text pieces.old.items ++ line_text line.now) }
+{
+    match line {
+        KeptLine::Plain(bytes) => {
+            pieces.push(Piece::Plain(bytes))?;
+            pieces.push(Piece::Plain(b"\n"))?;
+        }
+        KeptLine::Text(bytes) => pieces.push(Piece::Plain(bytes.as_slice()))?,
+        KeptLine::Entry {
+            entry,
+            operator,
+            closing,
+        } => pieces.push(Piece::Entry {
+            head: entry.head(),
+            operator,
+            charstring: entry.charstring(),
+            closing,
+        })?,
+    }
+    Ok(())
+}
+
+/// The private text as the writers of files take it.
+pub(crate) fn pieces_of<'a>(
+    alloc: Global,
+    lines: &'a [KeptLine<'a>],
+) -> Result<Vec<Piece<'a>>, AllocError>
+    ensures { IfOk result (λ pieces. flat_map piece_text pieces.items ≡ flat_map line_text lines.now) }
+{
+    let mut pieces = Vec::new(alloc);
+    for line in lines {
+        push_pieces(&mut pieces, line)?;
+    }
+    Ok(pieces)
+}
