@@ -8,12 +8,13 @@ use Rattle.std.specs.declared.alloc.Global.{Global}
 use Rattle.std.specs.declared.vec.Vec.{Vec}
 use Rattle.std.proofs.lemmas.List.Folds.{find-append}
 use Rattle.t1_cache.specs.declared.records.GlyphRecord.{GlyphRecord}
+use Rattle.t1_cache.specs.declared.records.NewRun.{NewRun}
 use Rattle.t1_cache.specs.declared.records.Rerun.{Rerun}
 use Rattle.t1_font.specs.Bodies.{bodies}
 use Rattle.t1_cache.specs.Edited.{is_stale}
 use Rattle.t1_cache.specs.Laws.{AreDistinct}
 use Rattle.t1_cache.specs.Renewal.{IsFromScratch, IsOneOf, IsRenewed, RerunsLaw, kept_by}
-use Rattle.t1_cache.specs.Renewed.{Kept, kept_of, names_of, rerun_of, with_run, with_rerun, with_reruns}
+use Rattle.t1_cache.specs.Renewed.{Kept, kept_of, names_of, rerun_by_name, rerun_of, reruns_by_name, with_run, with_rerun, with_reruns}
 use Rattle.t1_cache.specs.Users.{has}
 use Rattle.t1_cache.proofs.Names.{bytes_equiv, or-right}
 use Rattle.t1_cache.proofs.Putting.{bytes_tell}
@@ -79,6 +80,16 @@ no-reruns (k ∷ kept) = ap (λ l. k ∷ l) (no-reruns kept)
 pub all-renewed : (reruns : List Rerun) (kept : List Kept) → length reruns ≡ 0 → with_reruns reruns kept ≡ kept
 all-renewed [] kept none = no-reruns kept
 all-renewed (r ∷ reruns) kept none = absurd (cc)
+
+-- ---- new runs by name
+
+pub last-by-name : (es : List (Vec ℕ Global × NewRun)) (e : Vec ℕ Global × NewRun) → reruns_by_name (es ++ e ∷ []) ≡ reruns_by_name es ++ rerun_by_name e ∷ []
+last-by-name [] e = refl
+last-by-name (x ∷ es) e = ap (λ l. rerun_by_name x ∷ l) (last-by-name es e)
+
+pub none-by-name : (es : List (Vec ℕ Global × NewRun)) → length es ≡ 0 → length (reruns_by_name es) ≡ 0
+none-by-name [] none = refl
+none-by-name (e ∷ es) none = absurd (cc)
 
 -- ---- records of which the stale glyphs were run again
 

@@ -5,3 +5,4 @@ pub mod Renewals
 pub mod Renewing
 pub mod Right
 pub mod Settled
+pub mod Steps
