@@ -1,6 +1,6 @@
 -- Records of which some glyphs were run again.
-use Rattle.std.proofs.Common.{◌≡◌, ℕ, Bool, true, false, cond, List, [], ◌∷◌, ◌++◌, length, map, refl, sym, ap, subst, ◌∙◌, Option, Some, None}
-use Rattle.std.specs.Prelude.{◌||◌, is_some}
+use Rattle.std.proofs.Common.{◌≡◌, ◌<◌, ℕ, zero, suc, arith, Bool, true, false, cond, List, [], ◌∷◌, ◌++◌, length, map, refl, sym, ap, subst, ◌∙◌, Option, Some, None}
+use Rattle.std.specs.Prelude.{◌||◌, is_some, IsSome}
 use Rattle.std.specs.List.{AllByRecursion, list_any}
 use Rattle.std.specs.Option.{option_or}
 use Rattle.std.specs.Str.{bytes_eq}
@@ -90,6 +90,12 @@ last-by-name (x ∷ es) e = ap (λ l. rerun_by_name x ∷ l) (last-by-name es e)
 pub none-by-name : (es : List (Vec ℕ Global × NewRun)) → length es ≡ 0 → length (reruns_by_name es) ≡ 0
 none-by-name [] none = refl
 none-by-name (e ∷ es) none = absurd (cc)
+
+-- where nothing is found there is nothing
+pub none-found : {X : Type 0} (o : Option X) (n : ℕ) → o ≡ None → (0 < n → IsSome o) → n ≡ 0
+none-found o zero e h = refl
+none-found None (suc n) e h = let never : false ≡ true = h (omega arith) in absurd (cc)
+none-found (Some x) (suc n) e h = absurd (cc)
 
 -- ---- records of which the stale glyphs were run again
 

@@ -91,27 +91,27 @@ pub fn insert_glyph(
 }
 
 /// Puts in a whole record of a Subr, in room that was made. It takes no memory and can't fail.
-pub fn put_in_subr(records: &mut Records, number: u16, record: SubrRecord)
+pub fn put_in_subr(records: &mut Records, number: u16, entry: SubrRecord)
     requires { 0 < spare records.old.subrs }
-    ensures bodies { SetsBody (Subr number) (Some record.body) records.old records.new }
-    ensures users { SetsUsers (Subr number) (Some (users_of record.users)) records.old records.new }
+    ensures bodies { SetsBody (Subr number) (Some entry.body) records.old records.new }
+    ensures users { SetsUsers (Subr number) (Some (users_of entry.users)) records.old records.new }
     ensures kept { map kept_of records.new.glyphs.entries ≡ map kept_of records.old.glyphs.entries }
     ensures room { UsesUp 1 records.old records.new }
 {
-    records.subrs.insert(number, record).unwrap();
+    records.subrs.insert(number, entry).unwrap();
 }
 
 /// Puts in a whole record of a glyph after the others, in room that was made; one that was there goes. It takes no memory and
 /// can't fail.
-pub fn put_last_glyph(records: &mut Records, name: Vec<u8>, record: GlyphRecord)
+pub fn put_last_glyph(records: &mut Records, name: Vec<u8>, entry: GlyphRecord)
     requires { 0 < spare records.old.glyphs }
-    ensures bodies { SetsBody (Glyph name.items) (Some record.body) records.old records.new }
-    ensures users { SetsUsers (Glyph name.items) (Some (users_of record.users)) records.old records.new }
-    ensures kept { map kept_of records.new.glyphs.entries ≡ filter (λ k. not (bytes_eq name.items k.name)) (map kept_of records.old.glyphs.entries) ++ kept name.items record.run record.bbox ∷ [] }
+    ensures bodies { SetsBody (Glyph name.items) (Some entry.body) records.old records.new }
+    ensures users { SetsUsers (Glyph name.items) (Some (users_of entry.users)) records.old records.new }
+    ensures kept { map kept_of records.new.glyphs.entries ≡ filter (λ k. not (bytes_eq name.items k.name)) (map kept_of records.old.glyphs.entries) ++ kept name.items entry.run entry.bbox ∷ [] }
     ensures room { UsesUp 1 records.old records.new }
 {
     records.glyphs.shift_remove(name.as_slice());
-    records.glyphs.insert(name, record).unwrap();
+    records.glyphs.insert(name, entry).unwrap();
 }
 
 /// Takes out the record of a Subr, with its users. It takes no memory and can't fail.

@@ -5,7 +5,7 @@ ghost use Rattle.t1_cache.specs.Laws.{AreDistinct};
 ghost use Rattle.t1_cache.specs.Renewed.{kept_of, names_of, record_of, reruns_by_name, with_run, with_reruns};
 ghost use Rattle.t1_cache.specs.Users.{glyph_users};
 
-use crate::records::{GlyphRecord, NewRun, NewRuns, Rerun};
+use crate::records::{GlyphRecord, NewRuns, Rerun};
 use indexmap::IndexMap;
 use std::mem;
 use t1_afm::BBox;
@@ -55,7 +55,7 @@ pub fn renew_by_name(glyphs: &mut IndexMap<Vec<u8>, GlyphRecord>, runs: NewRuns)
     ensures bodies { (p : List ℕ) → glyph_body glyphs.new.entries p ≡ glyph_body glyphs.old.entries p }
 {
     let mut left = runs;
-    while let Some((name, NewRun { run, bbox })) = left.pop() {
-        renew(glyphs, name.as_slice(), run, bbox);
+    while let Some((name, new)) = left.pop() {
+        renew(glyphs, name.as_slice(), new.run, new.bbox);
     }
 }
