@@ -60,7 +60,7 @@ named-stale m keys g on =
     is-true (is_touched m keys g) (λ off. let never : true ≡ false = sym on ∙ unnamed m keys g off in absurd (cc))
 
 -- what holds where a test does holds of each name that passes
-filter-as : (p q : List ℕ → Bool) (xs : List (List ℕ)) → ((g : List ℕ) → list_any (bytes_eq g) xs ≡ true → p g ≡ q g) → filter p xs ≡ filter q xs
+pub filter-as : (p q : List ℕ → Bool) (xs : List (List ℕ)) → ((g : List ℕ) → list_any (bytes_eq g) xs ≡ true → p g ≡ q g) → filter p xs ≡ filter q xs
 filter-as p q [] same = refl
 filter-as p q (x ∷ xs) same =
     ap (λ b. cond b (x ∷ filter p xs) (filter p xs)) (same x (ap (λ b. b || list_any (bytes_eq x) xs) (bytes_tell.itself x)))

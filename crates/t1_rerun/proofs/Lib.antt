@@ -5,8 +5,11 @@ pub mod FirstRecords
 pub mod Gathering
 pub mod Judged
 pub mod Meeting
+pub mod Preparing
 pub mod Reaching
 pub mod Settled
+pub mod Single
+pub mod Stepping
 pub mod Steps
 pub mod Taking
 pub mod Telling

@@ -37,8 +37,8 @@ use Rattle.t1_cache.proofs.Renewing.{glyphs-of, renewed}
 use Rattle.t1_cache.proofs.There.{uses_there}
 use Rattle.t1_rerun.specs.declared.renewal.Renewal.{Renewal}
 use Rattle.t1_rerun.specs.Renewals.{rerun_kept, rerun_names, IsRenewal}
-use Rattle.t1_rerun.specs.Right.{has_glyph, IsInOrder, IsRight}
-use Rattle.t1_rerun.specs.Settled.{is_moved, AreMoved, IsOneTaken, IsRenewedBy}
+use Rattle.t1_rerun.specs.Right.{has_glyph, IsRight}
+use Rattle.t1_rerun.specs.Settled.{is_moved, IsRenewedBy}
 use Rattle.t1_rerun.proofs.Meeting.{all-among, among-off, among-passing, glyph-among, none-own}
 use Rattle.t1_rerun.proofs.Steps.{and-right, some-wanted}
 
@@ -97,7 +97,7 @@ rerun-found g (x ∷ rs) r e = by (bytes_eq g x.name.items) refl e (rerun-found 
   by true on e rest = let is : x ≡ r = cc in (inl (ap rerun_kept is), subst (λ y. bytes_eq g y.name.items ≡ true) is on)
   by false off e rest = let one = rest e in (inr one.0, one.1)
 
-rerun-there : (g : List ℕ) (rs : List Rerun) → list_any (bytes_eq g) (rerun_names rs) ≡ is_some (rerun_of rs g)
+pub rerun-there : (g : List ℕ) (rs : List Rerun) → list_any (bytes_eq g) (rerun_names rs) ≡ is_some (rerun_of rs g)
 rerun-there g [] = refl
 rerun-there g (x ∷ rs) = by (bytes_eq g x.name.items) (rerun-there g rs) where
   by : (b : Bool) → list_any (bytes_eq g) (rerun_names rs) ≡ is_some (rerun_of rs g)
@@ -123,7 +123,7 @@ pub record IsReady (keys : List Key) (old : SourceParts) (reruns left : List Rer
 
 module _ (keys : List Key) (old : SourceParts) (reruns left : List Rerun) (kept : List Kept)
     (more : (k : Kept) → IsOneOf (map rerun_kept left) k → IsOneOf (map rerun_kept reruns) k) where
-  renewed-one : (k : Kept) → IsReady keys old reruns left kept k → IsRenewedBy keys old reruns kept (with_rerun (rerun_of left k.name) k)
+  pub renewed-one : (k : Kept) → IsReady keys old reruns left kept k → IsRenewedBy keys old reruns kept (with_rerun (rerun_of left k.name) k)
   renewed-one k ready = by (rerun_of left k.name) refl where
     by : (r : Option Rerun) → rerun_of left k.name ≡ r → IsRenewedBy keys old reruns kept (with_rerun r k)
     by None e = record { stale = λ on. ready.made (rerun-there k.name left ∙ ap is_some e) on; fresh = ready.fresh }
@@ -279,7 +279,7 @@ module _ (keys : List Key) (old new : SourceParts) (before : Records) (renewal :
     by true on = among-passing (is_stale old keys) g (glyph_names new.items) there on
     by false off = among-off (is_stale old keys) g (glyph_names new.items) off
 
-  ready : (left : List Rerun) (k : Kept) → list_any (bytes_eq k.name) (rerun_names left) ≡ list_any (bytes_eq k.name) (rerun_names reruns)
+  pub ready : (left : List Rerun) (k : Kept) → list_any (bytes_eq k.name) (rerun_names left) ≡ list_any (bytes_eq k.name) (rerun_names reruns)
       → has_glyph new k.name ≡ true → IsOneOf kept k → IsReady keys old reruns left kept k
   ready left k same there one = record {
     again = λ on. sym (rerun-stale k.name there) ∙ sym same ∙ on;

@@ -61,7 +61,7 @@ pub after-last : (steps : List Step) (step : Step) (x : Seen) → after_all (ste
 after-last [] step x = refl
 after-last (s ∷ steps) step x = ap (after s) (after-last steps step x)
 
-inserts-last : (steps : List Step) (step : Step) (g : List ℕ) → some_inserts (steps ++ step ∷ []) g ≡ (some_inserts steps g || inserts step g)
+pub inserts-last : (steps : List Step) (step : Step) (g : List ℕ) → some_inserts (steps ++ step ∷ []) g ≡ (some_inserts steps g || inserts step g)
 inserts-last steps step g =
     list_any-append (λ s. inserts s g) steps (step ∷ [])
     ∙ ap (λ b. some_inserts steps g || b) (or-false (inserts step g))
@@ -234,7 +234,7 @@ module _ (run : List ℕ → Option (NumberedRun × Option BBox)) (count : Key �
       subst (λ y. StayOrGo (c ∷ cs) k (x.users k) (y.users k)) (sym (ap (λ l. after_all l x) h.1.1.0 ∙ after-last h.0 h.1.0 x))
       (by (users-stepped cs h.0 h.1.1.1.1 (after h.1.0 x) k) (key_eq k (step_key h.1.0)) refl)
     where
-      abbrev now : Option UserSet
+      now : Option UserSet
       now = (after_all h.0 (after h.1.0 x)).users k
 
       first : (on : Bool) → key_eq k (step_key h.1.0) ≡ on → now ≡ (after h.1.0 x).users k
@@ -410,7 +410,7 @@ module _ (run : List ℕ → Option (NumberedRun × Option BBox)) (count : Key �
       (after h.1.0 x) (by h.1.0 refl))
     where
       -- of the steps that are left none puts in this glyph
-      abbrev P : Kept → Type 0
+      P : Kept → Type 0
       P k = some_inserts h.0 k.name ≡ false → Q k
 
       earlier : (s : Step) → h.1.0 ≡ s → (k : Kept) → inserts s k.name ≡ false → (some_inserts ss k.name ≡ false → Q k) → P k

@@ -1,5 +1,5 @@
 -- The records of a source, renewed after an edit.
-use Rattle.std.specs.Prelude.{◌≡◌, ℤ, pos, negsuc, nat_le, if◌then◌else◌, List, Option, Some, None, Ok}
+use Rattle.std.specs.Prelude.{◌≡◌, ℤ, pos, negsuc, nat_le, if◌then◌else◌, List, Option, Some, None, Ok, false}
 use Rattle.t1_parts.specs.SourceParts.{SourceParts}
 use Rattle.t1_source.specs.declared.edit.Edit.{Edit}
 use Rattle.t1_source.specs.declared.edit.Edit.TheVariants.{ReplaceGlyph, AddGlyph, RemoveGlyph, ReplaceSubr, AddSubr, RemoveSubr}
@@ -42,4 +42,4 @@ entry_key _ = None
 -- the entry that is named, with its body in a font
 abbrev pub IsChangeIn : FontBodies → Option Named → Option EntryChange → Type 0
 IsChangeIn m None change = change ≡ None
-IsChangeIn m (Some named) change = change ≡ Some (record { named = named; body = body_at m (key_of named) })
+IsChangeIn m (Some named) change = change ≡ Some (record { named = named; body = body_at m (key_of named); moved = false })

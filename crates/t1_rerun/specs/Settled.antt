@@ -99,7 +99,7 @@ pub record IsReady (changes : List EntryChange) (renewal : Renewal) (records : R
 pub record MayBeSettled (records : Records) (ready : Ready) : Type 0 where
   pub changes : List EntryChange
   pub renewal : Renewal
-  pub ready : IsReady changes renewal records ready
+  pub prepared : IsReady changes renewal records ready
   pub judged : MayBeJudged changes records renewal
 
 -- by the records a glyph is a user and doesn't leave, or it joins

@@ -1,6 +1,6 @@
 //! The records of a source, brought to those of the source after edits, in two steps: all growths first, which may fail, and
 //! then the change, which takes no memory and can't fail.
-ghost use Rattle.std.specs.Prelude.{◌≡◌, IfOk, OnErr, OnOk, length, map};
+ghost use Rattle.std.specs.Prelude.{◌≡◌, ◌≤◌, List, IfOk, OnErr, OnOk, map};
 ghost use Rattle.std.specs.List.{AllByRecursion};
 ghost use Rattle.std.specs.Option.{option_to_list};
 ghost use Rattle.indexmap.specs.IndexMap.{spare};
@@ -10,14 +10,14 @@ ghost use Rattle.t1_parts.specs.SourceParts.{SourceParts};
 ghost use Rattle.t1_rerun.specs.Right.{IsRight};
 ghost use Rattle.t1_rerun.specs.Settled.{changed_keys, AreAsBefore, AreDistinctKeys, IsJudged, IsReady, IsRenewedBy, MayBeJudged, MayBeSettled};
 
-mod ready;
+mod preparing;
 mod steps;
 
 use crate::renewal::Renewal;
-use ready::{runs_by_name, steps_of};
+use preparing::{runs_by_name, steps_with_room};
 use std::alloc::{AllocError, Global};
 use steps::{Step, change_all};
-use t1_cache::{Named, NewRuns, Records, count_joins, make_room, move_users, renew_by_name};
+use t1_cache::{Named, NewRuns, Records, make_room, move_users, renew_by_name};
 use t1_code::Body;
 
 /// An entry that edits name, and its body in the edited font; `None` where it was removed. A glyph that was removed and added
@@ -68,9 +68,8 @@ pub fn make_ready(
     } = renewal;
     reserve_entries(records, changes.len())?;
     make_room(alloc, records, &joins)?;
-    let counts = count_joins(alloc, &joins)?;
     let mut runs = runs_by_name(alloc, reruns)?;
-    let steps = steps_of(alloc, records, changes, &counts, &mut runs)?;
+    let steps = steps_with_room(alloc, records, changes, &joins, &mut runs)?;
     Ok(Ready {
         steps,
         runs,

@@ -1,5 +1,5 @@
 //! The changes of records, each with the memory that it takes.
-ghost use Rattle.std.specs.Prelude.{◌≡◌, ◌&&◌, ℕ, Bool, List, Option, None, Some, IfOk, is_some, length, not, if◌then◌else◌};
+ghost use Rattle.std.specs.Prelude.{◌≡◌, ◌&&◌, ℕ, Bool, false, List, Option, None, Some, IfOk, is_some, length, not, if◌then◌else◌};
 ghost use Rattle.std.specs.Str.{bytes_eq};
 ghost use Rattle.t1_run.specs.Run.{Glyph, NumberedRun};
 ghost use Rattle.t1_afm.specs.declared.bbox.BBox.{BBox};
@@ -8,6 +8,7 @@ ghost use Rattle.t1_cache.specs.Bodies.{record_bodies};
 ghost use Rattle.t1_cache.specs.Overlay.{body_at};
 ghost use Rattle.t1_cache.specs.Renewed.{reruns_by_name};
 ghost use Rattle.t1_cache.specs.Room.{count_at};
+ghost use Rattle.t1_cache.specs.Users.{wanted};
 ghost use Rattle.t1_rerun.specs.Settled.{changed_keys, AreDistinctKeys};
 ghost use Rattle.t1_rerun.specs.Steps.{changed, inserts, new_run, new_run_of, some_inserts, AreStepsOf, IsStepOf};
 
@@ -16,8 +17,8 @@ use super::steps::Step;
 use indexmap::IndexMap;
 use std::alloc::{AllocError, Global};
 use t1_cache::{
-    Counts, GlyphRecord, Named, NewRun, NewRuns, Records, Rerun, SubrRecord, users_of_glyph,
-    users_of_subr,
+    Counts, GlyphRecord, Named, NewRun, NewRuns, Records, Rerun, SubrRecord, count_joins,
+    users_of_glyph, users_of_subr,
 };
 use t1_code::Body;
 use t1_frac::Bytes;
@@ -29,8 +30,12 @@ pub fn runs_by_name(alloc: Global, reruns: Vec<Rerun>) -> Result<NewRuns, AllocE
 {
     let mut runs = IndexMap::new(alloc);
     let mut left = reruns;
-    while let Some(Rerun { name, run, bbox }) = left.pop() {
-        runs.insert(name, NewRun { run, bbox })?;
+    while let Some(rerun) = left.pop() {
+        let new = NewRun {
+            run: rerun.run,
+            bbox: rerun.bbox,
+        };
+        runs.insert(rerun.name, new)?;
     }
     Ok(runs)
 }
@@ -119,7 +124,7 @@ fn step_of(
 }
 
 /// The steps of the changes, that of the first change last.
-pub fn steps_of(
+fn steps_of(
     alloc: Global,
     records: &Records,
     changes: Vec<EntryChange>,
@@ -137,4 +142,21 @@ pub fn steps_of(
         steps.push(step_of(alloc, records, change, counts, runs)?)?;
     }
     Ok(steps)
+}
+
+/// The steps of the changes, where each pair is a Subr or a glyph and the glyph that joins its users.
+pub fn steps_with_room(
+    alloc: Global,
+    records: &Records,
+    changes: Vec<EntryChange>,
+    joins: &[(Named, Vec<u8>)],
+    runs: &mut NewRuns,
+) -> Result<Vec<Step>, AllocError>
+    requires { AreDistinctKeys (changed_keys changes.items) }
+    ensures steps { IfOk result (λ steps. AreStepsOf (new_run (reruns_by_name runs.old.entries)) (wanted joins.now) records.now changes.items steps.items) }
+    ensures runs { IfOk result (λ steps. (g : List ℕ) → new_run (reruns_by_name runs.new.entries) g ≡ (if some_inserts steps.items g then None else new_run (reruns_by_name runs.old.entries) g)) }
+    ensures count { IfOk result (λ steps. length steps.items ≡ length changes.items) }
+{
+    let counts = count_joins(alloc, joins)?;
+    steps_of(alloc, records, changes, &counts, runs)
 }
