@@ -31,6 +31,7 @@ use Rattle.t1_cache.proofs.Rooming.{room_for_joins}
 use Rattle.t1_rerun.specs.declared.renewal.Renewal.{Renewal}
 use Rattle.t1_rerun.specs.declared.settling.EntryChange.{EntryChange}
 use Rattle.t1_rerun.specs.declared.settling.Ready.{Ready}
+use Rattle.t1_rerun.specs.declared.settling.steps.Step.{Step}
 use Rattle.t1_rerun.specs.Renewals.{rerun_kept, rerun_names}
 use Rattle.t1_rerun.specs.Right.{has_glyph, IsRight}
 use Rattle.t1_rerun.specs.Settled.{changed_keys, is_moved, last_glyphs, was_moved, HasBody, IsJudged, IsReady, IsRenewedBy}
@@ -64,11 +65,11 @@ pub filter-as : (p q : List ℕ → Bool) (xs : List (List ℕ)) → ((g : List 
 filter-as p q [] same = refl
 filter-as p q (x ∷ xs) same =
     ap (λ b. cond b (x ∷ filter p xs) (filter p xs)) (same x (ap (λ b. b || list_any (bytes_eq x) xs) (bytes_tell.itself x)))
-    ∙ ap (λ l. cond (q x) (x ∷ l) l) (filter-as p q xs (λ g there. same g (later (bytes_eq g x) there)))
+    ∙ ap (λ l. cond (q x) (x ∷ l) l) (filter-as p q xs (λ g there. same g (later g (bytes_eq g x) there)))
   where
-    later : {g : List ℕ} (b : Bool) → list_any (bytes_eq g) xs ≡ true → (b || list_any (bytes_eq g) xs) ≡ true
-    later true there = refl
-    later false there = there
+    later : (g : List ℕ) (b : Bool) → list_any (bytes_eq g) xs ≡ true → (b || list_any (bytes_eq g) xs) ≡ true
+    later g true there = refl
+    later g false there = there
 
 all-same : {X : Type 0} (P Q : X → Type 0) → ((x : X) → P x → Q x) → (xs : List X) → AllByRecursion P xs → AllByRecursion Q xs
 all-same P Q step [] h = tt
@@ -78,11 +79,11 @@ all-where : (P : Kept → Type 0) (xs : List Kept) → ((k : Kept) → list_any 
 all-where P [] each = tt
 all-where P (x ∷ xs) each = (
   each x (ap (λ b. b || list_any (bytes_eq x.name) (map (λ k. k.name) xs)) (bytes_tell.itself x.name)),
-  all-where P xs (λ k there. each k (later (bytes_eq k.name x.name) there)),
+  all-where P xs (λ k there. each k (later k.name (bytes_eq k.name x.name) there)),
 ) where
-  later : {g : List ℕ} (b : Bool) → list_any (bytes_eq g) (map (λ k. k.name) xs) ≡ true → (b || list_any (bytes_eq g) (map (λ k. k.name) xs)) ≡ true
-  later true there = refl
-  later false there = there
+  later : (g : List ℕ) (b : Bool) → list_any (bytes_eq g) (map (λ k. k.name) xs) ≡ true → (b || list_any (bytes_eq g) (map (λ k. k.name) xs)) ≡ true
+  later g true there = refl
+  later g false there = there
 
 all-of : (kept xs : List Kept) → ((k : Kept) → IsOneOf xs k → IsOneOf kept k) → AllByRecursion (IsOneOf kept) xs
 all-of kept [] more = tt
@@ -98,28 +99,32 @@ all-mapped P f (x ∷ xs) h = (h.0, all-mapped P f xs h.1)
 
 -- ---- a record with a new run
 
-with-pair : Option (NumberedRun × Option BBox) → Kept → Kept
+abbrev with-pair : Option (NumberedRun × Option BBox) → Kept → Kept
 with-pair None k = k
 with-pair (Some r) k = record { name = k.name; run = r.0; box = r.1 }
 
-as-pair : (r : Option Rerun) (k : Kept) → with_rerun r k ≡ with-pair (option_map (λ x. (x.run, x.bbox)) r) k
+abbrev pair : Rerun → NumberedRun × Option BBox
+pair r = (r.run, r.bbox)
+
+as-pair : (r : Option Rerun) (k : Kept) → with_rerun r k ≡ with-pair (option_map pair r) k
 as-pair None k = refl
 as-pair (Some r) k = refl
 
-run-none : (r : Option Rerun) → option_map (λ x. (x.run, x.bbox)) r ≡ None → is_some r ≡ false
+run-none : (r : Option Rerun) → option_map pair r ≡ None → is_some r ≡ false
 run-none None e = refl
 run-none (Some r) e = absurd (cc)
 
 run-there : (reruns : List Rerun) (name : List ℕ) (r : NumberedRun) (box : Option BBox) → new_run reruns name ≡ Some (r, box)
     → IsOneOf (map rerun_kept reruns) (kept name r box)
 run-there [] name r box e = absurd (cc)
-run-there (x ∷ reruns) name r box e = by (bytes_eq name x.name.items) refl e where
-  by : (b : Bool) → bytes_eq name x.name.items ≡ b → option_map (λ y. (y.run, y.bbox)) (cond b (Some x) (rerun_of reruns name)) ≡ Some (r, box)
+run-there (x ∷ reruns) name r box e = by (bytes_eq name x.name.items) refl e (run-there reruns name r box) where
+  by : (b : Bool) → bytes_eq name x.name.items ≡ b → option_map pair (cond b (Some x) (rerun_of reruns name)) ≡ Some (r, box)
+      → (new_run reruns name ≡ Some (r, box) → IsOneOf (map rerun_kept reruns) (kept name r box))
       → IsOneOf (map rerun_kept (x ∷ reruns)) (kept name r box)
-  by true on h =
-      let both : (x.run, x.bbox) ≡ (r, box) = cc in
+  by true on h rest =
+      let both : (pair x) ≡ (r, box) = cc in
       inl (λ j. record { name = sym (bytes_tell.same name x.name.items on) j; run = (ap (λ p. p.0) both) j; box = (ap (λ p. p.1) both) j })
-  by false off h = inr (run-there reruns name r box h)
+  by false off h rest = inr (rest h)
 
 -- ---- an edit that was judged, and the steps of its changes
 
@@ -143,7 +148,7 @@ module _ (changes : List EntryChange) (old new : SourceParts) (before : Records)
   abbrev count : Key → ℕ
   count = wanted renewal.joins.items
 
-  abbrev steps : List _
+  abbrev steps : List Step
   steps = done.steps.items
 
   abbrev kept-before : List Kept
@@ -224,7 +229,7 @@ module _ (changes : List EntryChange) (old new : SourceParts) (before : Records)
       where
         met : (ks : List Key) → list_any (key_eq k) ks ≡ true → is_user k (own m u) ≡ true → list_any (is_met m u) ks ≡ true
         met [] h used = absurd (cc)
-        met (x ∷ ks) h used = by (key_eq k x) refl h where
+        met (x ∷ ks) h used = by (key_eq k x) refl h (λ later. met ks later used) where
           or-true : (b : Bool) → (b || true) ≡ true
           or-true true = refl
           or-true false = refl
@@ -233,13 +238,14 @@ module _ (changes : List EntryChange) (old new : SourceParts) (before : Records)
           or-more true b h = refl
           or-more false b h = h
 
-          by : (b : Bool) → key_eq k x ≡ b → (b || list_any (key_eq k) ks) ≡ true → (is_met m u x || list_any (is_met m u) ks) ≡ true
-          by true e h =
+          by : (b : Bool) → key_eq k x ≡ b → (b || list_any (key_eq k) ks) ≡ true → (list_any (key_eq k) ks ≡ true → list_any (is_met m u) ks ≡ true)
+              → (is_met m u x || list_any (is_met m u) ks) ≡ true
+          by true e h rest =
               let same : k ≡ x = key-same k x e in
               ap (λ q. (is_key_of u x || is_user q (own m u)) || list_any (is_met m u) ks) (sym same)
               ∙ ap (λ b. (is_key_of u x || b) || list_any (is_met m u) ks) used
               ∙ ap (λ b. b || list_any (is_met m u) ks) (or-true (is_key_of u x))
-          by false e h = or-more (is_met m u x) (list_any (is_met m u) ks) (met ks h used)
+          by false e h rest = or-more (is_met m u x) (list_any (is_met m u) ks) (rest h)
 
     moved-mid : (k : Key) (u : List ℕ)
         → ((lists mid k u && not (has_pair done.leaves.items k u)) || has_pair done.joins.items k u) ≡ is_moved renewal before k u

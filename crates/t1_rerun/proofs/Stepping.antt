@@ -125,6 +125,12 @@ all-last : (P : Kept → Type 0) (xs : List Kept) (x : Kept) → AllByRecursion 
 all-last P [] x all last = (last, tt)
 all-last P (y ∷ xs) x all last = (all.0, all-last P xs x all.1 last)
 
+pub kept-but-subr : (n : ℕ) (d : Named) (xs : List Kept) → d ≡ named.Subr n → xs ≡ filter (λ k. not (is_key_of k.name (key_of d))) xs
+kept-but-subr n d xs e = sym (all xs) ∙ ap (λ x. filter (λ k. not (is_key_of k.name (key_of x))) xs) (sym e) where
+  all : (ks : List Kept) → filter (λ k. true) ks ≡ ks
+  all [] = refl
+  all (k ∷ ks) = ap (λ l. k ∷ l) (all ks)
+
 -- ---- the steps of changes
 
 module _ (run : List ℕ → Option (NumberedRun × Option BBox)) (count : Key → ℕ) (records : Records) where
@@ -182,21 +188,23 @@ module _ (run : List ℕ → Option (NumberedRun × Option BBox)) (count : Key �
       → (list_any (key_eq k) (changed_keys cs) ≡ false → body_at (record_bodies records) k ≡ b k) → (after_all ss x).bodies k ≡ b k
   bodies-stepped b [] ss h d served has x k was other = ap (λ l. (after_all l x).bodies k) h ∙ was ∙ other refl
   bodies-stepped b (c ∷ cs) ss h d served has x k was other =
-      ap (λ l. (after_all l x).bodies k) h.1.1.0 ∙ ap (λ y. y.bodies k) (after-last h.0 h.1.0 x) ∙ by (key_eq k (key_of c.named)) refl
+      ap (λ l. (after_all l x).bodies k) h.1.1.0 ∙ ap (λ y. y.bodies k) (after-last h.0 h.1.0 x)
+      ∙ by (key_eq k (key_of c.named)) refl
+      (λ e. bodies-stepped b cs h.0 h.1.1.1.1 d.1 served.1 has.1 (after h.1.0 x) k (at-step false e ∙ was)
+      (λ off. other (ap (λ t. t || list_any (key_eq k) (changed_keys cs)) e ∙ off)))
     where
       at-step : (on : Bool) → key_eq k (key_of c.named) ≡ on → (after h.1.0 x).bodies k ≡ cond on (step_body h.1.0 (x.bodies k)) (x.bodies k)
       at-step on e = ap (λ t. cond t (step_body h.1.0 (x.bodies k)) (x.bodies k)) (ap (key_eq k) (key-step c h.1.0 h.1.1.1.0) ∙ e)
 
-      by : (on : Bool) → key_eq k (key_of c.named) ≡ on → (after_all h.0 (after h.1.0 x)).bodies k ≡ b k
-      by true e =
+      by : (on : Bool) → key_eq k (key_of c.named) ≡ on → (key_eq k (key_of c.named) ≡ false → (after_all h.0 (after h.1.0 x)).bodies k ≡ b k)
+          → (after_all h.0 (after h.1.0 x)).bodies k ≡ b k
+      by true e rest =
           let is = key-same k (key_of c.named) e in
           apart-bodies cs h.0 h.1.1.1.1 (after h.1.0 x) k (ap (λ j. list_any (key_eq j) (changed_keys cs)) is ∙ d.0)
           ∙ at-step true e
           ∙ body-step c h.1.0 h.1.1.1.0 served.0 (x.bodies k) (was ∙ ap (body_at (record_bodies records)) is)
           ∙ sym has.0 ∙ ap b (sym is)
-      by false e =
-          bodies-stepped b cs h.0 h.1.1.1.1 d.1 served.1 has.1 (after h.1.0 x) k (at-step false e ∙ was)
-          (λ off. other (ap (λ t. t || list_any (key_eq k) (changed_keys cs)) e ∙ off))
+      by false e rest = rest e
 
   -- ---- users
 
@@ -343,8 +351,8 @@ module _ (run : List ℕ → Option (NumberedRun × Option BBox)) (count : Key �
     names-stepped [] ss h d served x =
         ap (λ l. names (after_all l x).kept) h ∙ sym (filter-none (names x.kept)) ∙ sym (append-nil (filter (λ g. true) (names x.kept)))
     names-stepped (c ∷ cs) ss h d served x =
-        let p = λ g. not (leaves cs g) in
-        let q = λ g. not (leaves_at c g) in
+        let p : List ℕ → Bool = λ g. not (leaves cs g) in
+        let q : List ℕ → Bool = λ g. not (leaves_at c g) in
         ap (λ l. names (after_all l x).kept) h.1.1.0
         ∙ ap (λ y. names y.kept) (after-last h.0 h.1.0 x)
         ∙ names-stepped cs h.0 h.1.1.1.1 d.1 served.1 (after h.1.0 x)
@@ -444,13 +452,15 @@ module _ (run : List ℕ → Option (NumberedRun × Option BBox)) (count : Key �
   inserted-named [] ss h g on = let never : false ≡ true = ap (λ l. some_inserts l g) (sym h) ∙ on in absurd (cc)
   inserted-named (c ∷ cs) ss h g on =
       by (some_inserts h.0 g) refl h.1.0 h.1.1.1.0 (sym (ap (λ l. some_inserts l g) h.1.1.0 ∙ inserts-last h.0 h.1.0 g) ∙ on)
+      (inserted-named cs h.0 h.1.1.1.1 g)
     where
       by : (b : Bool) → some_inserts h.0 g ≡ b → (s : Step) → Is c s → (some_inserts h.0 g || inserts s g) ≡ true
+          → (some_inserts h.0 g ≡ true → list_any (key_eq (Glyph g)) (changed_keys cs) ≡ true)
           → (key_eq (Glyph g) (key_of c.named) || list_any (key_eq (Glyph g)) (changed_keys cs)) ≡ true
-      by true e s is both = or-right (key_eq (Glyph g) (key_of c.named)) (list_any (key_eq (Glyph g)) (changed_keys cs)) (inserted-named cs h.0 h.1.1.1.1 g e)
-      by false e (steps.Remove d) is both = let never : false ≡ true = ap (λ b. b || false) (sym e) ∙ both in absurd (cc)
-      by false e (steps.Put d body) is both = let never : false ≡ true = ap (λ b. b || false) (sym e) ∙ both in absurd (cc)
-      by false e (steps.InsertSubr n r) is both = let never : false ≡ true = ap (λ b. b || false) (sym e) ∙ both in absurd (cc)
-      by false e (steps.InsertGlyph name r) is both =
+      by true e s is both rest = or-right (key_eq (Glyph g) (key_of c.named)) (list_any (key_eq (Glyph g)) (changed_keys cs)) (rest e)
+      by false e (steps.Remove d) is both rest = let never : false ≡ true = ap (λ b. b || false) (sym e) ∙ both in absurd (cc)
+      by false e (steps.Put d body) is both rest = let never : false ≡ true = ap (λ b. b || false) (sym e) ∙ both in absurd (cc)
+      by false e (steps.InsertSubr n r) is both rest = let never : false ≡ true = ap (λ b. b || false) (sym e) ∙ both in absurd (cc)
+      by false e (steps.InsertGlyph name r) is both rest =
           or-left (key_eq (Glyph g) (key_of c.named)) (list_any (key_eq (Glyph g)) (changed_keys cs))
           (ap (λ d. key_eq (Glyph g) (key_of d)) is.0 ∙ turned g name.items ∙ ap (λ b. b || bytes_eq name.items g) (sym e) ∙ both)

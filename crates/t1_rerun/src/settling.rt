@@ -66,8 +66,8 @@ pub fn make_ready(
         leaves,
         joins,
     } = renewal;
-    reserve_entries(records, changes.len())?;
     make_room(alloc, records, &joins)?;
+    reserve_entries(records, changes.len())?;
     let mut runs = runs_by_name(alloc, reruns)?;
     let steps = steps_with_room(alloc, records, changes, &joins, &mut runs)?;
     Ok(Ready {
