@@ -25,8 +25,8 @@ returns-in_err-renewal-clause-checked c =
     let p = err_from_is_err_and c.from_residual-in_err-renewal.result c.from_residual-in_err-renewal.ensures.1 in
     rw (p.1, p.2) (c.in_err-renewal.ensures.checked e.old new (subst (λ edits. IsEdit edits e.old new c.args.records.now m (map (λ name. name.now) c.deref.result.now)) (sym c.entries.ensures) edit))
 
-pub settle-requires : goal.settle-requires
-settle-requires c =
+pub settle_one-requires : goal.settle_one-requires
+settle_one-requires c =
     let new = c.args.source.now in
     let e = c.requires in
     let m = plain_bodies c.in_ok-bodies.bodies in
@@ -42,9 +42,9 @@ settle-requires c =
       ),
     )
 
-pub returns-in_err-settle-clause-refused : goal.returns-in_err-settle-clause-refused
-returns-in_err-settle-clause-refused c =
-    on-err c.from_residual-in_err-settle.result (still-right c.args.records.now c.settle.new.records c.in_err-settle.ensures.refused)
+pub returns-in_err-settle_one-clause-refused : goal.returns-in_err-settle_one-clause-refused
+returns-in_err-settle_one-clause-refused c =
+    on-err c.from_residual-in_err-settle_one.result (still-right c.args.records.now c.settle_one.new.records c.in_err-settle_one.ensures.refused)
 
 pub returns-clause-checked : goal.returns-clause-checked
 returns-clause-checked c =
@@ -63,6 +63,6 @@ returns-clause-right c =
     let names = ap (map (λ name. name.now)) c.deref.ensures.value ∙ c.in_ok-names.ensures ∙ ap glyph_names c.items.ensures in
     let edit = subst (λ edits. IsEdit edits e.old new c.args.records.now m (map (λ name. name.now) c.deref.result.now)) (sym c.entries.ensures)
     (is-edit c.args.records.now c.args.edit.now new e c.in_ok-entry.entry c.in_ok-entry.ensures m (map (λ name. name.now) c.deref.result.now) c.in_ok-bodies.ensures.file c.in_ok-bodies.ensures.bodies names) in
-    c.in_ok-settle.ensures.right e.old new (is-judged c.args.records.now c.args.edit.now new e c.in_ok-entry.entry c.in_ok-entry.ensures m c.in_ok-bodies.ensures.bodies c.change_of-change.result c.change_of-change.ensures
+    c.in_ok-settle_one.ensures.right e.old new (is-judged c.args.records.now c.args.edit.now new e c.in_ok-entry.entry c.in_ok-entry.ensures m c.in_ok-bodies.ensures.bodies c.change_of-change.result c.change_of-change.ensures
     (c.in_ok-renewal.ensures.checked e.old new edit) c.in_ok-renewal.renewal
     (subst (λ edits. IsRenewal (map key_of edits) e.old new c.in_ok-renewal.renewal) c.entries.ensures (c.in_ok-renewal.ensures.renewal e.old new edit)))
