@@ -7,7 +7,7 @@ use Rattle.std.specs.Str.{bytes_eq}
 use Rattle.t1_code.specs.declared.command.Command.{Command}
 use Rattle.t1_parts.specs.SourceParts.{SourceParts}
 use Rattle.t1_run.specs.Footprint.{Includes}
-use Rattle.t1_run.specs.Run.{FontBodies, Key, Subr, Glyph, NumberedRun, own}
+use Rattle.t1_run.specs.Run.{FontBodies, Key, Glyph, NumberedRun, own}
 use Rattle.t1_run.specs.Touched.{is_key_of, is_met, is_named, is_touched, is_user}
 use Rattle.t1_afm.specs.declared.bbox.BBox.{BBox}
 use Rattle.t1_font.specs.Bodies.{bodies, SameBodies}
@@ -16,13 +16,12 @@ use Rattle.t1_cache.specs.declared.records.Named.{Named}
 use Rattle.t1_cache.specs.declared.records.Named.TheVariants as named
 use Rattle.t1_cache.specs.declared.records.Records.{Records}
 use Rattle.t1_cache.specs.declared.records.Rerun.{Rerun}
-use Rattle.t1_cache.specs.Bodies.{glyph_body, record_bodies}
-use Rattle.t1_cache.specs.Edited.{is_stale}
+use Rattle.t1_cache.specs.Bodies.{record_bodies}
 use Rattle.t1_cache.specs.Overlay.{body_at}
 use Rattle.t1_cache.specs.Renewal.{IsOneOf}
 use Rattle.t1_cache.specs.Renewed.{Kept, kept, kept_of, rerun_of, reruns_by_name, with_rerun, with_reruns}
 use Rattle.t1_cache.specs.Room.{MayJoin}
-use Rattle.t1_cache.specs.Users.{among, glyph_users, has_pair, key_eq, key_of, lists, rest_of, users_at, wanted, HasRoom, Pairs, UserSet}
+use Rattle.t1_cache.specs.Users.{among, has_pair, key_eq, key_of, lists, rest_of, users_at, wanted, HasRoom}
 use Rattle.t1_cache.proofs.Adding.{key-itself, key-same}
 use Rattle.t1_cache.proofs.Changing.{rest_same}
 use Rattle.t1_cache.proofs.Judging.{unnamed}
@@ -32,13 +31,13 @@ use Rattle.t1_rerun.specs.declared.renewal.Renewal.{Renewal}
 use Rattle.t1_rerun.specs.declared.settling.EntryChange.{EntryChange}
 use Rattle.t1_rerun.specs.declared.settling.Ready.{Ready}
 use Rattle.t1_rerun.specs.declared.settling.steps.Step.{Step}
-use Rattle.t1_rerun.specs.Renewals.{rerun_kept, rerun_names}
+use Rattle.t1_rerun.specs.Renewals.{rerun_kept}
 use Rattle.t1_rerun.specs.Right.{has_glyph, IsRight}
 use Rattle.t1_rerun.specs.Settled.{changed_keys, is_moved, last_glyphs, was_moved, HasBody, IsJudged, IsReady, IsRenewedBy}
 use Rattle.t1_rerun.specs.Steps.{after_all, is_last, new_run, seen, some_inserts, LacksRun, Seen}
 use Rattle.t1_rerun.proofs.Settled.{has-body, kept-names, moved-at, renewed-one, ready, rerun-stale, names-stay, rerun-there, settled, told-of}
 use Rattle.t1_rerun.proofs.Stepping.{bodies-stepped, inserted-named, kept-stepped, leaves, leaves-as, may-join-stepped, named-key, names-stepped, users-stepped, IsServed}
-use Rattle.t1_rerun.proofs.Steps.{at-same, same-at, same-renewed}
+use Rattle.t1_rerun.proofs.Steps.{at-same, same-at}
 
 -- ---- keys
 

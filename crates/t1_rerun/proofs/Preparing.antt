@@ -12,7 +12,6 @@ use Rattle.t1_code.specs.declared.command.Command.{Command}
 use Rattle.t1_parts.specs.SourceParts.{SourceParts}
 use Rattle.t1_font.specs.Bodies.{bodies, SameBodies}
 use Rattle.t1_run.specs.Run.{Key, Subr, Glyph, NumberedRun}
-use Rattle.t1_run.specs.Touched.{is_key_of}
 use Rattle.t1_afm.specs.declared.bbox.BBox.{BBox}
 use Rattle.t1_cache.specs.declared.records.Named.{Named}
 use Rattle.t1_cache.specs.declared.records.Named.TheVariants as named
@@ -25,7 +24,6 @@ use Rattle.t1_cache.specs.Kept.{KeepsAll}
 use Rattle.t1_cache.specs.Overlay.{body_at}
 use Rattle.t1_cache.specs.Renewed.{kept_of, rerun_of, reruns_by_name}
 use Rattle.t1_cache.specs.Users.{among, glyph_users, key_eq, key_of, subr_users, users_at}
-use Rattle.t1_cache.proofs.Putting.{bytes_tell}
 use Rattle.t1_rerun.specs.declared.settling.EntryChange.{EntryChange}
 use Rattle.t1_rerun.specs.declared.settling.steps.Step.{Step}
 use Rattle.t1_rerun.specs.declared.settling.steps.Step.TheVariants as steps

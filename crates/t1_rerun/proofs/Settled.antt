@@ -23,12 +23,11 @@ use Rattle.t1_cache.specs.declared.records.Rerun.{Rerun}
 use Rattle.t1_cache.specs.Bodies.{record_bodies}
 use Rattle.t1_cache.specs.Edited.{is_stale, stale, IsEditedAt}
 use Rattle.t1_cache.specs.Kept.{KeepsAll, shown, shown_from}
-use Rattle.t1_cache.specs.Laws.{check, AreDistinct}
+use Rattle.t1_cache.specs.Laws.{check}
 use Rattle.t1_cache.specs.Overlay.{body_at}
 use Rattle.t1_cache.specs.Renewal.{IsFromScratch, IsOneOf, IsRenewed}
 use Rattle.t1_cache.specs.Renewed.{Kept, kept_of, rerun_of, with_rerun, with_reruns}
-use Rattle.t1_cache.specs.Users.{has_pair, key_eq, lists, wanted}
-use Rattle.t1_cache.proofs.Adding.{key-same}
+use Rattle.t1_cache.specs.Users.{has_pair, lists, wanted}
 use Rattle.t1_cache.proofs.Drawing.{all_draw}
 use Rattle.t1_cache.proofs.Joining.{run_kept}
 use Rattle.t1_cache.proofs.Judging.{fine-told, IsFine}

@@ -1,32 +1,16 @@
 -- Records compared by their bodies and users.
-use Rattle.std.proofs.Common.{◌≡◌, ◌<◌, ◌+◌, ℕ, zero, suc, Bool, true, false, cond, arith, List, [], ◌∷◌, ◌++◌, length, take, drop, get_or, map, filter, not, refl, sym, ◌∙◌, ap, subst, Option, Some, None, ◌⊎◌, inl, inr}
-use Rattle.std.specs.Prelude.{◌||◌, ◌&&◌, Result, Ok, Err, OnOk, OnErr, IsSome, is_some}
-use Rattle.std.specs.List.{list_any, position}
-use Rattle.std.proofs.lemmas.List.Quantifiers.{position-Some}
-use Rattle.std.specs.Map.{lookup}
-use Rattle.std.specs.Borrow.{Bor}
-use Rattle.std.specs.Option.{option_copied, option_map}
+use Rattle.std.proofs.Common.{◌≡◌, ◌+◌, ℕ, Bool, true, false, cond, arith, List, [], ◌∷◌, refl, sym, ◌∙◌, ap, Option, None, ◌⊎◌, inl, inr}
+use Rattle.std.specs.Prelude.{◌||◌, ◌&&◌, Result, Ok, Err, OnOk, OnErr}
+use Rattle.std.specs.Option.{option_map}
 use Rattle.std.specs.Str.{bytes_eq}
-use Rattle.std.specs.declared.alloc.Global.{Global}
-use Rattle.std.specs.declared.vec.Vec.{Vec}
 use Rattle.std.proofs.lemmas.List.Sums.{sum_by-append}
-use Rattle.t1_source.proofs.ItemPlaceLaws.{position_none}
-use Rattle.t1_code.specs.declared.command.Command.{Command}
 use Rattle.t1_run.specs.Footprint.{SameAt}
 use Rattle.t1_run.specs.Run.{FontBodies, Key, Subr, Glyph}
-use Rattle.t1_run.specs.Touched.{is_key_of}
 use Rattle.t1_font.specs.Bodies.{SameBodies}
-use Rattle.t1_cache.specs.declared.records.GlyphRecord.{GlyphRecord}
-use Rattle.t1_cache.specs.declared.records.Named.{Named}
-use Rattle.t1_cache.specs.declared.records.Named.TheVariants as TheNamed
 use Rattle.t1_cache.specs.declared.records.Records.{Records}
-use Rattle.t1_cache.specs.declared.records.Rerun.{Rerun}
 use Rattle.t1_cache.specs.Bodies.{glyph_body, record_bodies}
-use Rattle.t1_cache.specs.Changed.{SetsBody}
 use Rattle.t1_cache.specs.Overlay.{body_at}
-use Rattle.t1_cache.specs.Renewed.{kept, kept_of, Kept}
-use Rattle.t1_cache.specs.Users.{among, has_pair, key_eq, key_of, lists, rest_of, users_at, wanted, Pairs}
-use Rattle.t1_cache.proofs.Adding.{key-same}
+use Rattle.t1_cache.specs.Users.{has_pair, key_eq, key_of, lists, rest_of, users_at, wanted, Pairs}
 use Rattle.t1_cache.proofs.Changing.{nothing-read, rest_same}
 use Rattle.t1_cache.proofs.Putting.{bytes_tell}
 use Rattle.t1_rerun.specs.Settled.{AreAsBefore}

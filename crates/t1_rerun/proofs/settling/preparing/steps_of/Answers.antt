@@ -4,7 +4,7 @@ use Rattle.t1_cache.specs.Renewed.{reruns_by_name}
 use Rattle.t1_cache.specs.Room.{count_at}
 use Rattle.t1_rerun.specs.Settled.{changed_keys, AreDistinctKeys}
 use Rattle.t1_rerun.specs.Steps.{new_run, some_inserts, AreStepsOf}
-use Rattle.std.proofs.Common.{cond, None, Option, ℕ, List, ◌≡◌}
+use Rattle.std.proofs.Common.{cond, None, ◌≡◌}
 use Rattle.t1_rerun.proofs.Preparing.{apart-behind, count-next, next-step, runs-left}
 use Rattle.t1_rerun.proofs.settling.preparing.steps_of.Goals as goal
 

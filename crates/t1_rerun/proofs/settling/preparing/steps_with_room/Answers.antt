@@ -1,4 +1,4 @@
-use Rattle.std.proofs.Common.{Vec, Global, ℕ, subst}
+use Rattle.std.proofs.Common.{Vec, Global, subst}
 use Rattle.t1_cache.specs.Renewed.{reruns_by_name}
 use Rattle.t1_cache.specs.Room.{count_at}
 use Rattle.t1_cache.specs.Users.{wanted}

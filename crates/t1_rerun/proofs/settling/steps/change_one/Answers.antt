@@ -1,6 +1,6 @@
 use Rattle.std.proofs.Common.{◌≡◌, ◌∙◌, ap, sym}
 use Rattle.t1_rerun.specs.declared.settling.steps.Step.TheVariants as steps
-use Rattle.t1_rerun.specs.Steps.{after, seen, Seen}
+use Rattle.t1_rerun.specs.Steps.{after, seen}
 use Rattle.t1_rerun.proofs.settling.steps.change_one.Goals as goal
 
 pub returns-in-InsertGlyph-clause-seen : goal.returns-in-InsertGlyph-clause-seen
