@@ -40,8 +40,8 @@ const THREE: &str = "\
     end\n\
     mark currentfile closefile\n";
 
-/// The records of the three glyphs.
-fn three(alloc: Global, meter: &mut Meter) -> Result<Records, Fail> {
+/// The records of the three glyphs, in the order Aacute, A, acute.
+pub(crate) fn three(alloc: Global, meter: &mut Meter) -> Result<Records, Fail> {
     let source = read_source(alloc, THREE.as_bytes())?;
     Ok(opened_records(alloc, &source, meter)?)
 }
