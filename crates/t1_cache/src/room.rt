@@ -150,11 +150,7 @@ pub fn count_joins<'a>(
 }
 
 /// No users, with room for all that join a Subr.
-pub fn users_of_subr(
-    alloc: Global,
-    counts: &Counts,
-    number: u16,
-) -> Result<Names, AllocError>
+pub fn users_of_subr(alloc: Global, counts: &Counts, number: u16) -> Result<Names, AllocError>
     ensures none { IfOk result (λ users. users.keys ≡ []) }
     ensures room { IfOk result (λ users. subr_count counts.now.subrs.entries number ≤ spare users) }
 {
@@ -163,11 +159,7 @@ pub fn users_of_subr(
 }
 
 /// No users, with room for all that join a glyph.
-pub fn users_of_glyph(
-    alloc: Global,
-    counts: &Counts,
-    name: &[u8],
-) -> Result<Names, AllocError>
+pub fn users_of_glyph(alloc: Global, counts: &Counts, name: &[u8]) -> Result<Names, AllocError>
     ensures none { IfOk result (λ users. users.keys ≡ []) }
     ensures room { IfOk result (λ users. glyph_count counts.now.glyphs.entries name.now ≤ spare users) }
 {

@@ -1,5 +1,6 @@
 -- The bodies of records with one of them changed, and what is judged by them.
 use Rattle.std.proofs.Common.{◌≡◌, ℕ, Bool, true, false, List, [], ◌∷◌, map, refl, sym, ◌∙◌, ap, subst, Option, Some, None, Ok, inl, inr, cond}
+use Rattle.std.specs.Option.{option_to_list}
 use Rattle.t1_parts.specs.SourceParts.{SourceParts}
 use Rattle.t1_run.specs.Footprint.{Includes}
 use Rattle.t1_run.specs.Overlay.{changed}

@@ -395,9 +395,11 @@ module _ (edit : Edit) (old new : SourceParts) (is : IsMade edit old new) where
     its-body : (change : Option EntryChange) → edit_change edit ≡ Ok (option_map key_change change) → changed_keys (option_to_list change) ≡ named edit
         → AllByRecursion (HasBody new) (option_to_list change)
     its-body None told keys = tt
-    its-body (Some x) told keys =
-        (body_edited old is.pairs edit new is.made_pairs is.well is.made (key_of x.named) (subst (λ ks. Includes ks (key_of x.named)) keys (inl refl))
-        ∙ by (entry_key edit) (entry-told edit (Some (key_change x)) told), tt)
+    its-body (Some x) told keys = (
+      body_edited old is.pairs edit new is.made_pairs is.well is.made (key_of x.named) (subst (λ ks. Includes ks (key_of x.named)) keys (inl refl))
+          ∙ by (entry_key edit) (entry-told edit (Some (key_change x)) told),
+      tt,
+    )
       where
         by : (key : Option Key) → (Some (key_of x.named) ≡ key) × (Some x.body ≡ option_map (λ k. body_after edit) key) → body_after edit ≡ x.body
         by None h = absurd (cc)

@@ -142,6 +142,8 @@ fn leaves_a_replaced_glyph_in_its_place(rt: HostRuntime) -> Result<(), Fail> {
 #[test]
 fn moves_a_glyph_that_was_added_again_behind_the_others(rt: HostRuntime) -> Result<(), Fail> {
     let records = change_a(rt.alloc(), true)?;
-    assert!(rt; records.glyphs.len() == 3 && stands(&records, 1, "acute") && stands(&records, 2, "A"));
+    assert!(rt;
+        records.glyphs.len() == 3 && stands(&records, 1, "acute") && stands(&records, 2, "A")
+    );
     Ok(())
 }
