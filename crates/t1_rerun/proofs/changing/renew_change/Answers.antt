@@ -20,7 +20,7 @@ settle_ready-requires g c =
       prepared = c.in_ok-ready.ensures.ready old new c.requires.1.1;
     }
 
-pub returns-in_err-ready-clause-refused : goal.returns-in_err-clause-refused
+pub returns-in_err-ready-clause-refused : goal.returns-in_err-ready-clause-refused
 returns-in_err-ready-clause-refused g c =
     on-err c.from_residual.result (still-right c.args.records.now c.prepare_change.new.records c.prepare_change.ensures.same)
 
