@@ -1,5 +1,4 @@
 use Rattle.std.proofs.Common.{◌≡◌, ap, length, subst, sym}
-use Rattle.std.specs.Option.{option_to_list}
 use Rattle.std.proofs.lemmas.Result.{err_from_is_err_and}
 use Rattle.t1_font.specs.Runs.{counted, Counts}
 use Rattle.t1_cache.specs.Edited.{stale}
