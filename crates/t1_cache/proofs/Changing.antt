@@ -54,6 +54,34 @@ module _ {Q K R : Type 0} (eq : Q → Q → Bool) (t : Tells eq) (name : K → Q
     by true on = let none : count ≡ 0 = subst (HasRoom count) (there-none q on) had in omega (arith, none)
     by false off = had
 
+-- what is put into the record of a name, where it has one
+module _ {Q K R X : Type 0} (eq : Q → Q → Bool) (t : Tells eq) (name : K → Q) (read : R → X) (es : List (K × R)) (p : Q) (x : X) where
+  put-at : (q : Q) → eq q p ≡ true → lookup (λ k. eq q (name k)) es ≡ lookup (λ k. eq p (name k)) es
+  put-at q on = ap (λ n. lookup (λ k. eq n (name k)) es) (t.same q p on)
+
+  pub put-there : (was : R) → lookup (λ k. eq p (name k)) es ≡ Some was
+      → (q : Q) → cond (eq q p) (Some x) (option_map read (lookup (λ k. eq q (name k)) es))
+      ≡ cond (eq q p) (option_map (λ y. x) (option_map read (lookup (λ k. eq q (name k)) es))) (option_map read (lookup (λ k. eq q (name k)) es))
+  put-there was there q = by (eq q p) refl where
+    by : (b : Bool) → eq q p ≡ b → cond b (Some x) (option_map read (lookup (λ k. eq q (name k)) es))
+        ≡ cond b (option_map (λ y. x) (option_map read (lookup (λ k. eq q (name k)) es))) (option_map read (lookup (λ k. eq q (name k)) es))
+    by true on = ap (λ r. option_map (λ y. x) (option_map read r)) (sym (put-at q on ∙ there))
+    by false off = refl
+
+  pub put-nowhere : lookup (λ k. eq p (name k)) es ≡ None
+      → (q : Q) → option_map read (lookup (λ k. eq q (name k)) es)
+      ≡ cond (eq q p) (option_map (λ y. x) (option_map read (lookup (λ k. eq q (name k)) es))) (option_map read (lookup (λ k. eq q (name k)) es))
+  put-nowhere none q = by (eq q p) refl where
+    by : (b : Bool) → eq q p ≡ b → option_map read (lookup (λ k. eq q (name k)) es)
+        ≡ cond b (option_map (λ y. x) (option_map read (lookup (λ k. eq q (name k)) es))) (option_map read (lookup (λ k. eq q (name k)) es))
+    by true on = let e = put-at q on ∙ none in ap (option_map read) e ∙ sym (ap (λ r. option_map (λ y. x) (option_map read r)) e)
+    by false off = refl
+
+-- at a name that was taken out and put in again
+pub again-at : {X : Type 0} (b : Bool) (x : X) (y r : X) → cond b x (cond b y r) ≡ cond b x r
+again-at true x y r = refl
+again-at false x y r = refl
+
 pub kept-last : (es : List (Vec ℕ Global × GlyphRecord)) (e : Vec ℕ Global × GlyphRecord) → map kept_of (es ++ e ∷ []) ≡ map kept_of es ++ kept_of e ∷ []
 kept-last [] e = refl
 kept-last (x ∷ es) e = ap (λ l. kept_of x ∷ l) (kept-last es e)

@@ -1,6 +1,6 @@
 -- Records of which some glyphs were run again.
-use Rattle.std.proofs.Common.{◌≡◌, ℕ, Bool, true, false, cond, List, [], ◌∷◌, ◌++◌, length, map, refl, sym, ap, subst, ◌∙◌, Option, Some, None}
-use Rattle.std.specs.Prelude.{◌||◌, is_some}
+use Rattle.std.proofs.Common.{◌≡◌, ◌<◌, ℕ, zero, suc, arith, Bool, true, false, cond, List, [], ◌∷◌, ◌++◌, length, map, refl, sym, ap, subst, ◌∙◌, Option, Some, None}
+use Rattle.std.specs.Prelude.{◌||◌, is_some, IsSome}
 use Rattle.std.specs.List.{AllByRecursion, list_any}
 use Rattle.std.specs.Option.{option_or}
 use Rattle.std.specs.Str.{bytes_eq}
@@ -8,12 +8,13 @@ use Rattle.std.specs.declared.alloc.Global.{Global}
 use Rattle.std.specs.declared.vec.Vec.{Vec}
 use Rattle.std.proofs.lemmas.List.Folds.{find-append}
 use Rattle.t1_cache.specs.declared.records.GlyphRecord.{GlyphRecord}
+use Rattle.t1_cache.specs.declared.records.NewRun.{NewRun}
 use Rattle.t1_cache.specs.declared.records.Rerun.{Rerun}
 use Rattle.t1_font.specs.Bodies.{bodies}
 use Rattle.t1_cache.specs.Edited.{is_stale}
 use Rattle.t1_cache.specs.Laws.{AreDistinct}
 use Rattle.t1_cache.specs.Renewal.{IsFromScratch, IsOneOf, IsRenewed, RerunsLaw, kept_by}
-use Rattle.t1_cache.specs.Renewed.{Kept, kept_of, names_of, rerun_of, with_run, with_rerun, with_reruns}
+use Rattle.t1_cache.specs.Renewed.{Kept, kept_of, names_of, rerun_by_name, rerun_of, reruns_by_name, with_run, with_rerun, with_reruns}
 use Rattle.t1_cache.specs.Users.{has}
 use Rattle.t1_cache.proofs.Names.{bytes_equiv, or-right}
 use Rattle.t1_cache.proofs.Putting.{bytes_tell}
@@ -79,6 +80,22 @@ no-reruns (k ∷ kept) = ap (λ l. k ∷ l) (no-reruns kept)
 pub all-renewed : (reruns : List Rerun) (kept : List Kept) → length reruns ≡ 0 → with_reruns reruns kept ≡ kept
 all-renewed [] kept none = no-reruns kept
 all-renewed (r ∷ reruns) kept none = absurd (cc)
+
+-- ---- new runs by name
+
+pub last-by-name : (es : List (Vec ℕ Global × NewRun)) (e : Vec ℕ Global × NewRun) → reruns_by_name (es ++ e ∷ []) ≡ reruns_by_name es ++ rerun_by_name e ∷ []
+last-by-name [] e = refl
+last-by-name (x ∷ es) e = ap (λ l. rerun_by_name x ∷ l) (last-by-name es e)
+
+pub none-by-name : (es : List (Vec ℕ Global × NewRun)) → length es ≡ 0 → length (reruns_by_name es) ≡ 0
+none-by-name [] none = refl
+none-by-name (e ∷ es) none = absurd (cc)
+
+-- where nothing is found there is nothing
+pub none-found : {X : Type 0} (o : Option X) (n : ℕ) → o ≡ None → (0 < n → IsSome o) → n ≡ 0
+none-found o zero e h = refl
+none-found None (suc n) e h = let never : false ≡ true = h (omega arith) in absurd (cc)
+none-found (Some x) (suc n) e h = absurd (cc)
 
 -- ---- records of which the stale glyphs were run again
 

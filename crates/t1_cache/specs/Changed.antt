@@ -1,5 +1,7 @@
 -- Records changed at one key.
-use Rattle.std.specs.Prelude.{◌≡◌, List, [], ◌∷◌, map, Option, if◌then◌else◌}
+use Rattle.std.specs.Prelude.{◌≡◌, ◌≤◌, ◌+◌, ℕ, List, [], ◌∷◌, map, Option, if◌then◌else◌}
+use Rattle.std.specs.Option.{option_map}
+use Rattle.indexmap.specs.IndexMap.{spare}
 use Rattle.t1_code.specs.declared.command.Command.{Command}
 use Rattle.t1_run.specs.Run.{FontBodies, Key}
 use Rattle.t1_run.specs.Touched.{SameBut}
@@ -8,11 +10,24 @@ use Rattle.t1_cache.specs.declared.records.Records.{Records}
 use Rattle.t1_cache.specs.Bodies.{record_bodies}
 use Rattle.t1_cache.specs.Overlay.{body_at}
 use Rattle.t1_cache.specs.Renewed.{kept_of}
-use Rattle.t1_cache.specs.Users.{key_eq, rest_of}
+use Rattle.t1_cache.specs.Users.{key_eq, rest_of, users_at, UserSet}
 
 -- the records have this body, or none, at the key, and at each other key what they had
 abbrev pub SetsBody : Key → Option (List Command) → Records → Records → Type 0
 SetsBody key body old new = (k : Key) → body_at (record_bodies new) k ≡ (if key_eq k key then body else body_at (record_bodies old) k)
+
+-- the record at the key, where there is one, has this body, and each other record has what it had
+abbrev pub PutsBody : Key → List Command → Records → Records → Type 0
+PutsBody key body old new =
+    (k : Key) → body_at (record_bodies new) k ≡ (if key_eq k key then option_map (λ was. body) (body_at (record_bodies old) k) else body_at (record_bodies old) k)
+
+-- the record at the key has these users, or there is none, and at each other key the users are what they were
+abbrev pub SetsUsers : Key → Option UserSet → Records → Records → Type 0
+SetsUsers key users old new = (k : Key) → users_at new k ≡ (if key_eq k key then users else users_at old k)
+
+-- at most so many places of the room for records are used up
+abbrev pub UsesUp : ℕ → Records → Records → Type 0
+UsesUp count old new = (spare old.subrs ≤ spare new.subrs + count) × (spare old.glyphs ≤ spare new.glyphs + count)
 
 -- the same records in the same order
 abbrev pub AreUnchanged : Records → Records → Type 0

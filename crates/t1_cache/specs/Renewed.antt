@@ -10,6 +10,7 @@ use Rattle.t1_frac.specs.declared.fault.Code.{Code}
 use Rattle.t1_run.specs.Run.{NumberedRun, Drawing}
 use Rattle.t1_afm.specs.declared.bbox.BBox.{BBox}
 use Rattle.t1_cache.specs.declared.records.GlyphRecord.{GlyphRecord}
+use Rattle.t1_cache.specs.declared.records.NewRun.{NewRun}
 use Rattle.t1_cache.specs.declared.records.Records.{Records}
 use Rattle.t1_cache.specs.declared.records.Rerun.{Rerun}
 
@@ -54,3 +55,10 @@ with_rerun (Some r) k = record { name = k.name; run = r.run; box = r.bbox }
 -- the records of the glyphs that were run again have their new runs and boxes; the others stay
 abbrev pub with_reruns : List Rerun → List Kept → List Kept
 with_reruns reruns kept = map (λ k. with_rerun (rerun_of reruns k.name) k) kept
+
+-- new runs by name, as reruns
+abbrev pub rerun_by_name : Vec ℕ Global × NewRun → Rerun
+rerun_by_name e = record { name = e.0; run = e.1.run; bbox = e.1.bbox }
+
+abbrev pub reruns_by_name : List (Vec ℕ Global × NewRun) → List Rerun
+reruns_by_name entries = map rerun_by_name entries

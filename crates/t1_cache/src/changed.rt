@@ -1,13 +1,14 @@
 //! Records changed at one Subr or one glyph.
-ghost use Rattle.std.specs.Prelude.{◌≡◌, ◌<◌, ◌&&◌, ◌++◌, [], ◌∷◌, ℕ, List, None, Some, IsOk, IsSome, OnErr, OnOk, filter, map, not};
+ghost use Rattle.std.specs.Prelude.{◌≡◌, ◌<◌, ◌&&◌, ◌++◌, [], ◌∷◌, ℕ, List, None, Some, IsOk, OnErr, OnOk, filter, map, not, if◌then◌else◌};
+ghost use Rattle.std.specs.Option.{option_map};
 ghost use Rattle.std.specs.Str.{bytes_eq};
 ghost use Rattle.indexmap.specs.IndexMap.{spare};
 ghost use Rattle.t1_run.specs.Run.{Key, Subr, Glyph};
 ghost use Rattle.t1_cache.specs.Bodies.{record_bodies};
-ghost use Rattle.t1_cache.specs.Changed.{AreUnchanged, SetsBody};
+ghost use Rattle.t1_cache.specs.Changed.{AreUnchanged, PutsBody, SetsBody, SetsUsers, UsesUp};
 ghost use Rattle.t1_cache.specs.Overlay.{body_at};
 ghost use Rattle.t1_cache.specs.Renewed.{kept, kept_of};
-ghost use Rattle.t1_cache.specs.Users.{key_eq, lists, users_at, HasRoom};
+ghost use Rattle.t1_cache.specs.Users.{key_eq, lists, users_at, users_of, HasRoom};
 
 use crate::records::{GlyphRecord, Records, SubrRecord};
 use indexmap::IndexSet;
@@ -16,24 +17,24 @@ use t1_afm::BBox;
 use t1_code::Body;
 use t1_run::Run;
 
-/// Puts another body into the record of a Subr. It takes no memory and can't fail.
+/// Puts another body into the record of a Subr, where it has one. It takes no memory and can't fail.
 pub fn put_subr(records: &mut Records, number: u16, body: Body)
-    requires { IsSome (body_at (record_bodies records.old) (Subr number)) }
-    ensures bodies { SetsBody (Subr number) (Some body) records.old records.new }
+    ensures bodies { PutsBody (Subr number) body records.old records.new }
     ensures users { (k : Key) → users_at records.new k ≡ users_at records.old k }
     ensures kept { map kept_of records.new.glyphs.entries ≡ map kept_of records.old.glyphs.entries }
+    ensures room { UsesUp 0 records.old records.new }
 {
     if let Some(record) = records.subrs.get_mut(&number) {
         record.body = body;
     }
 }
 
-/// Puts another body into the record of a glyph, whose run and box stay. It takes no memory and can't fail.
+/// Puts another body into the record of a glyph, where it has one; its run and box stay. It takes no memory and can't fail.
 pub fn put_glyph(records: &mut Records, name: &[u8], body: Body)
-    requires { IsSome (body_at (record_bodies records.old) (Glyph name.now)) }
-    ensures bodies { SetsBody (Glyph name.now) (Some body) records.old records.new }
+    ensures bodies { PutsBody (Glyph name.now) body records.old records.new }
     ensures users { (k : Key) → users_at records.new k ≡ users_at records.old k }
     ensures kept { map kept_of records.new.glyphs.entries ≡ map kept_of records.old.glyphs.entries }
+    ensures room { UsesUp 0 records.old records.new }
 {
     if let Some(record) = records.glyphs.get_mut(name) {
         record.body = body;
@@ -89,11 +90,36 @@ pub fn insert_glyph(
     Ok(())
 }
 
+/// Puts in a whole record of a Subr, in room that was made. It takes no memory and can't fail.
+pub fn put_in_subr(records: &mut Records, number: u16, entry: SubrRecord)
+    requires { 0 < spare records.old.subrs }
+    ensures bodies { SetsBody (Subr number) (Some entry.body) records.old records.new }
+    ensures users { SetsUsers (Subr number) (Some (users_of entry.users)) records.old records.new }
+    ensures kept { map kept_of records.new.glyphs.entries ≡ map kept_of records.old.glyphs.entries }
+    ensures room { UsesUp 1 records.old records.new }
+{
+    records.subrs.insert(number, entry).unwrap();
+}
+
+/// Puts in a whole record of a glyph after the others, in room that was made; one that was there goes. It takes no memory and
+/// can't fail.
+pub fn put_last_glyph(records: &mut Records, name: Vec<u8>, entry: GlyphRecord)
+    requires { 0 < spare records.old.glyphs }
+    ensures bodies { SetsBody (Glyph name.items) (Some entry.body) records.old records.new }
+    ensures users { SetsUsers (Glyph name.items) (Some (users_of entry.users)) records.old records.new }
+    ensures kept { map kept_of records.new.glyphs.entries ≡ filter (λ k. not (bytes_eq name.items k.name)) (map kept_of records.old.glyphs.entries) ++ kept name.items entry.run entry.bbox ∷ [] }
+    ensures room { UsesUp 1 records.old records.new }
+{
+    records.glyphs.shift_remove(name.as_slice());
+    records.glyphs.insert(name, entry).unwrap();
+}
+
 /// Takes out the record of a Subr, with its users. It takes no memory and can't fail.
 pub fn remove_subr(records: &mut Records, number: u16)
     ensures bodies { SetsBody (Subr number) None records.old records.new }
-    ensures users { (k : Key) (u : List ℕ) → lists records.new k u ≡ (lists records.old k u && not (key_eq k (Subr number))) }
+    ensures users { SetsUsers (Subr number) None records.old records.new }
     ensures kept { map kept_of records.new.glyphs.entries ≡ map kept_of records.old.glyphs.entries }
+    ensures room { UsesUp 0 records.old records.new }
 {
     records.subrs.shift_remove(&number);
 }
@@ -101,8 +127,9 @@ pub fn remove_subr(records: &mut Records, number: u16)
 /// Takes out the record of a glyph, with its users; the others stay in their order. It takes no memory and can't fail.
 pub fn remove_glyph(records: &mut Records, name: &[u8])
     ensures bodies { SetsBody (Glyph name.now) None records.old records.new }
-    ensures users { (k : Key) (u : List ℕ) → lists records.new k u ≡ (lists records.old k u && not (key_eq k (Glyph name.now))) }
+    ensures users { SetsUsers (Glyph name.now) None records.old records.new }
     ensures kept { map kept_of records.new.glyphs.entries ≡ filter (λ k. not (bytes_eq name.now k.name)) (map kept_of records.old.glyphs.entries) }
+    ensures room { UsesUp 0 records.old records.new }
 {
     records.glyphs.shift_remove(name);
 }

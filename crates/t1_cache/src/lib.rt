@@ -15,10 +15,13 @@ mod stale;
 mod users;
 mod uses;
 
-pub use changed::{insert_glyph, insert_subr, put_glyph, put_subr, remove_glyph, remove_subr};
-pub use records::{GlyphRecord, Named, Names, Records, Rerun, SubrRecord};
-pub use renewed::{renew, renew_all};
-pub use room::make_room;
+pub use changed::{
+    insert_glyph, insert_subr, put_glyph, put_in_subr, put_last_glyph, put_subr, remove_glyph,
+    remove_subr,
+};
+pub use records::{GlyphRecord, Named, Names, NewRun, NewRuns, Records, Rerun, SubrRecord};
+pub use renewed::{renew, renew_all, renew_by_name};
+pub use room::{Counts, count_joins, make_room, users_of_glyph, users_of_subr};
 pub use stale::found;
 pub use users::move_users;
 pub use uses::{joins_of, leaves_of};

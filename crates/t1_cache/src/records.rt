@@ -72,3 +72,13 @@ pub struct Rerun {
     pub run: Run,
     pub bbox: Option<BBox>,
 }
+
+/// The new run of a glyph, and the box of its outline where it draws.
+#[derive(Drop)]
+pub struct NewRun {
+    pub run: Run,
+    pub bbox: Option<BBox>,
+}
+
+/// New runs, by the names of their glyphs.
+pub type NewRuns = IndexMap<Vec<u8>, NewRun>;

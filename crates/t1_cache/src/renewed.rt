@@ -2,10 +2,10 @@
 ghost use Rattle.std.specs.Prelude.{◌≡◌, ℕ, List, map, option_map};
 ghost use Rattle.t1_cache.specs.Bodies.{glyph_body};
 ghost use Rattle.t1_cache.specs.Laws.{AreDistinct};
-ghost use Rattle.t1_cache.specs.Renewed.{kept_of, names_of, record_of, with_run, with_reruns};
+ghost use Rattle.t1_cache.specs.Renewed.{kept_of, names_of, record_of, reruns_by_name, with_run, with_reruns};
 ghost use Rattle.t1_cache.specs.Users.{glyph_users};
 
-use crate::records::{GlyphRecord, Rerun};
+use crate::records::{GlyphRecord, NewRuns, Rerun};
 use indexmap::IndexMap;
 use std::mem;
 use t1_afm::BBox;
@@ -44,5 +44,18 @@ pub fn renew_all(glyphs: &mut IndexMap<Vec<u8>, GlyphRecord>, reruns: Vec<Rerun>
     let mut left = reruns;
     while let Some(Rerun { name, run, bbox }) = left.pop() {
         renew(glyphs, name.as_slice(), run, bbox);
+    }
+}
+
+/// Puts new runs and boxes into the records of their glyphs; those of a glyph without a record are dropped. It takes no memory
+/// and can't fail.
+pub fn renew_by_name(glyphs: &mut IndexMap<Vec<u8>, GlyphRecord>, runs: NewRuns)
+    ensures records { map kept_of glyphs.new.entries ≡ with_reruns (reruns_by_name runs.entries) (map kept_of glyphs.old.entries) }
+    ensures users { (p : List ℕ) → glyph_users glyphs.new.entries p ≡ glyph_users glyphs.old.entries p }
+    ensures bodies { (p : List ℕ) → glyph_body glyphs.new.entries p ≡ glyph_body glyphs.old.entries p }
+{
+    let mut left = runs;
+    while let Some((name, new)) = left.pop() {
+        renew(glyphs, name.as_slice(), new.run, new.bbox);
     }
 }

@@ -1,17 +1,18 @@
 //! Room for the users that join Subrs and glyphs.
-ghost use Rattle.std.specs.Prelude.{◌≡◌, ◌<◌, ◌^◌, ◌+◌, ℕ, List, IfOk, OnOk, map, nat_eq, if◌then◌else◌};
+ghost use Rattle.std.specs.Prelude.{◌≡◌, ◌<◌, ◌≤◌, ◌^◌, ◌+◌, [], ℕ, List, IfOk, OnOk, map, nat_eq, if◌then◌else◌};
 ghost use Rattle.std.specs.Str.{bytes_eq};
+ghost use Rattle.indexmap.specs.IndexSet.{spare};
 ghost use Rattle.t1_run.specs.Run.{Key};
 ghost use Rattle.t1_cache.specs.Room.{count_at, glyph_count, subr_count, IsRoomier, MayJoin};
 ghost use Rattle.t1_cache.specs.Users.{glyph_rest, glyph_users, key_eq, key_of, lists, rest_of, subr_rest, subr_users, users_at, wanted};
 
-use crate::records::{GlyphRecord, Named, Records, SubrRecord};
-use indexmap::IndexMap;
+use crate::records::{GlyphRecord, Named, Names, Records, SubrRecord};
+use indexmap::{IndexMap, IndexSet};
 use std::alloc::{AllocError, Global};
 
 /// How many glyphs joined each Subr and each glyph so far.
 #[derive(Drop)]
-struct Counts<'a> {
+pub struct Counts<'a> {
     subrs: IndexMap<u16, usize>,
     glyphs: IndexMap<&'a [u8], usize>,
 }
@@ -117,4 +118,51 @@ pub fn make_room(
         make_room_at(records, &mut counts, named)?;
     }
     Ok(())
+}
+
+/// Counts one more for a Subr or a glyph.
+fn count_join<'a>(counts: &mut Counts<'a>, named: &'a Named) -> Result<(), AllocError>
+    requires { (k : Key) → count_at counts.old k < 2 ^ 63 }
+    ensures { OnOk result ((k : Key) → count_at counts.new k ≡ (if key_eq k (key_of named.now) then count_at counts.old k + 1 else count_at counts.old k)) }
+{
+    match named {
+        Named::Subr(number) => count_subr(&mut counts.subrs, *number)?,
+        Named::Glyph(name) => count_glyph(&mut counts.glyphs, name.as_slice())?,
+    };
+    Ok(())
+}
+
+/// How many glyphs join each Subr and each glyph: each pair is one of these, and the glyph that joins its users.
+pub fn count_joins<'a>(
+    alloc: Global,
+    joins: &'a [(Named, Vec<u8>)],
+) -> Result<Counts<'a>, AllocError>
+    ensures { IfOk result (λ counts. (k : Key) → count_at counts k ≡ wanted joins.now k) }
+{
+    let mut counts = Counts {
+        subrs: IndexMap::new(alloc),
+        glyphs: IndexMap::new(alloc),
+    };
+    for (named, _) in joins {
+        count_join(&mut counts, named)?;
+    }
+    Ok(counts)
+}
+
+/// No users, with room for all that join a Subr.
+pub fn users_of_subr(alloc: Global, counts: &Counts, number: u16) -> Result<Names, AllocError>
+    ensures none { IfOk result (λ users. users.keys ≡ []) }
+    ensures room { IfOk result (λ users. subr_count counts.now.subrs.entries number ≤ spare users) }
+{
+    let count = counts.subrs.get(&number).copied().unwrap_or(0);
+    IndexSet::with_capacity(alloc, count)
+}
+
+/// No users, with room for all that join a glyph.
+pub fn users_of_glyph(alloc: Global, counts: &Counts, name: &[u8]) -> Result<Names, AllocError>
+    ensures none { IfOk result (λ users. users.keys ≡ []) }
+    ensures room { IfOk result (λ users. glyph_count counts.now.glyphs.entries name.now ≤ spare users) }
+{
+    let count = counts.glyphs.get(name).copied().unwrap_or(0);
+    IndexSet::with_capacity(alloc, count)
 }

@@ -1,68 +1,160 @@
--- What an edit names is replaced, put in or taken out, and the records are those of the edited source.
-use Rattle.std.proofs.Common.{◌≡◌, ℕ, Bool, true, false, List, [], ◌∷◌, map, filter, not, refl, sym, ◌∙◌, ap, subst, Option, Some, None, inl, inr}
-use Rattle.std.specs.Prelude.{◌||◌, ◌&&◌, Result, Ok, Err, OnOk, is_some}
-use Rattle.std.specs.List.{AllByRecursion}
+-- The records after all steps, the moves of users and the new runs are those of the edited source.
+use Rattle.std.proofs.Common.{◌≡◌, ℕ, Bool, true, false, cond, List, [], ◌∷◌, ◌++◌, map, filter, not, refl, sym, ◌∙◌, ap, subst, Option, Some, None, ◌⊎◌, inl, inr, is_some, is_none}
+use Rattle.std.specs.Prelude.{◌||◌, ◌&&◌}
+use Rattle.std.specs.List.{AllByRecursion, list_any}
+use Rattle.std.specs.Option.{option_map}
 use Rattle.std.specs.Str.{bytes_eq}
 use Rattle.t1_code.specs.declared.command.Command.{Command}
 use Rattle.t1_parts.specs.SourceParts.{SourceParts}
 use Rattle.t1_run.specs.Footprint.{Includes}
-use Rattle.t1_run.specs.Run.{FontBodies, Key, Subr, Glyph}
-use Rattle.t1_run.specs.Touched.{is_key_of, is_named, is_touched, meets_parts, meets_run, touched_within}
+use Rattle.t1_run.specs.Run.{FontBodies, Key, Glyph, NumberedRun, own}
+use Rattle.t1_run.specs.Touched.{is_key_of, is_met, is_named, is_touched, is_user}
+use Rattle.t1_afm.specs.declared.bbox.BBox.{BBox}
 use Rattle.t1_font.specs.Bodies.{bodies, SameBodies}
+use Rattle.t1_font.specs.Glyphs.{glyph_names}
 use Rattle.t1_cache.specs.declared.records.Named.{Named}
-use Rattle.t1_cache.specs.declared.records.Named.TheVariants as TheNamed
+use Rattle.t1_cache.specs.declared.records.Named.TheVariants as named
 use Rattle.t1_cache.specs.declared.records.Records.{Records}
+use Rattle.t1_cache.specs.declared.records.Rerun.{Rerun}
 use Rattle.t1_cache.specs.Bodies.{record_bodies}
-use Rattle.t1_cache.specs.Changed.{SetsBody}
 use Rattle.t1_cache.specs.Overlay.{body_at}
-use Rattle.t1_cache.specs.Renewed.{kept_of, with_reruns}
-use Rattle.t1_cache.specs.Users.{key_eq, key_of, lists, users_at, wanted}
+use Rattle.t1_cache.specs.Renewal.{IsOneOf}
+use Rattle.t1_cache.specs.Renewed.{Kept, kept, kept_of, rerun_of, reruns_by_name, with_rerun, with_reruns}
+use Rattle.t1_cache.specs.Room.{MayJoin}
+use Rattle.t1_cache.specs.Users.{among, has_pair, key_eq, key_of, lists, rest_of, users_at, wanted, HasRoom}
 use Rattle.t1_cache.proofs.Adding.{key-itself, key-same}
-use Rattle.t1_cache.proofs.Changing.{changed_bodies}
+use Rattle.t1_cache.proofs.Changing.{rest_same}
+use Rattle.t1_cache.proofs.Judging.{unnamed}
 use Rattle.t1_cache.proofs.Putting.{bytes_tell}
+use Rattle.t1_cache.proofs.Rooming.{room_for_joins}
 use Rattle.t1_rerun.specs.declared.renewal.Renewal.{Renewal}
 use Rattle.t1_rerun.specs.declared.settling.EntryChange.{EntryChange}
+use Rattle.t1_rerun.specs.declared.settling.Ready.{Ready}
+use Rattle.t1_rerun.specs.declared.settling.steps.Step.{Step}
+use Rattle.t1_rerun.specs.Renewals.{rerun_kept}
 use Rattle.t1_rerun.specs.Right.{has_glyph, IsRight}
-use Rattle.t1_rerun.specs.Settled.{is_moved, named_keys, AreMoved, HasRerun, HaveRecords, HaveRecordsBut, IsJudged, IsRenewedBy, KeepsGlyph}
-use Rattle.t1_rerun.proofs.Meeting.{none-own}
-use Rattle.t1_rerun.proofs.Settled.{has-body, joins-there, moved-but, rerun-stale, settled-but, settled-more, settled-same, told-of}
-use Rattle.t1_rerun.proofs.Steps.{at-same, no-body, same-twice, turned}
-
--- the records after are those of the edited source, renewed from those before
-abbrev pub IsSettled : Option EntryChange → SourceParts → SourceParts → Renewal → Records → Records → Type 0
-IsSettled change old new renewal before after =
-    IsRight new after
-    × AllByRecursion (IsRenewedBy (named_keys change) old renewal.reruns.items (map kept_of before.glyphs.entries)) (map kept_of after.glyphs.entries)
+use Rattle.t1_rerun.specs.Settled.{changed_keys, is_moved, last_glyphs, was_moved, HasBody, IsJudged, IsReady, IsRenewedBy}
+use Rattle.t1_rerun.specs.Steps.{after_all, is_last, new_run, seen, some_inserts, LacksRun, Seen}
+use Rattle.t1_rerun.proofs.Settled.{has-body, kept-names, moved-at, renewed-one, ready, rerun-stale, names-stay, rerun-there, settled, told-of}
+use Rattle.t1_rerun.proofs.Stepping.{bodies-stepped, inserted-named, kept-stepped, leaves, leaves-as, may-join-stepped, named-key, names-stepped, users-stepped, IsServed}
+use Rattle.t1_rerun.proofs.Steps.{at-same, same-at}
 
 -- ---- keys
 
-not-included : (k key : Key) → key_eq k key ≡ false → Includes (key ∷ []) k → ⊥
-not-included k key off (inl e) = let never : true ≡ false = sym (key-itself k) ∙ ap (key_eq k) (sym e) ∙ off in absurd (cc)
-not-included k key off (inr i) = i
+not-included : (ks : List Key) (k : Key) → list_any (key_eq k) ks ≡ false → Includes ks k → ⊥
+not-included [] k off i = i
+not-included (j ∷ ks) k off (inl e) =
+    let never : true ≡ false = ap (λ b. b || list_any (key_eq k) ks) (sym (key-itself k) ∙ ap (key_eq k) (sym e)) ∙ off in absurd (cc)
+not-included (j ∷ ks) k off (inr i) = not-included ks k (later (key_eq k j) off) i where
+  later : (b : Bool) → (b || list_any (key_eq k) ks) ≡ false → list_any (key_eq k) ks ≡ false
+  later true e = absurd (cc)
+  later false e = e
 
-not-glyph : (g : List ℕ) (key : Key) → is_key_of g key ≡ false → Includes (key ∷ []) (Glyph g) → ⊥
-not-glyph g key off (inl e) = let never : true ≡ false = sym (bytes_tell.itself g) ∙ ap (is_key_of g) (sym e) ∙ off in absurd (cc)
-not-glyph g key off (inr i) = i
+is-true : (b : Bool) → (b ≡ false → ⊥) → b ≡ true
+is-true true h = refl
+is-true false h = absurd (h refl)
 
-key-of-glyph : (g : List ℕ) (key : Key) → is_key_of g key ≡ true → key ≡ Glyph g
-key-of-glyph g (Subr n) on = absurd (cc)
-key-of-glyph g (Glyph h) on = ap Glyph (sym (bytes_tell.same g h on))
+-- a glyph that is named is stale
+named-stale : (m : FontBodies) (keys : List Key) (g : List ℕ) → is_named keys g ≡ true → is_touched m keys g ≡ true
+named-stale m keys g on =
+    is-true (is_touched m keys g) (λ off. let never : true ≡ false = sym on ∙ unnamed m keys g off in absurd (cc))
 
--- a glyph that wasn't there is stale where it is named
-named-touched : (m : FontBodies) (keys : List Key) (g : List ℕ) → m.glyphs g ≡ None → is_named keys g ≡ true → is_touched m keys g ≡ true
-unfolding is_touched
-named-touched m keys g e h =
-    ap (λ r. meets_run keys g r || meets_parts (touched_within 3 m keys) r) (none-own m g e)
-    ∙ ap (λ b. b || false) h
+-- what holds where a test does holds of each name that passes
+pub filter-as : (p q : List ℕ → Bool) (xs : List (List ℕ)) → ((g : List ℕ) → list_any (bytes_eq g) xs ≡ true → p g ≡ q g) → filter p xs ≡ filter q xs
+filter-as p q [] same = refl
+filter-as p q (x ∷ xs) same =
+    ap (λ b. cond b (x ∷ filter p xs) (filter p xs)) (same x (ap (λ b. b || list_any (bytes_eq x) xs) (bytes_tell.itself x)))
+    ∙ ap (λ l. cond (q x) (x ∷ l) l) (filter-as p q xs (λ g there. same g (later g (bytes_eq g x) there)))
+  where
+    later : (g : List ℕ) (b : Bool) → list_any (bytes_eq g) xs ≡ true → (b || list_any (bytes_eq g) xs) ≡ true
+    later g true there = refl
+    later g false there = there
 
--- ---- an edit that was judged
+all-same : {X : Type 0} (P Q : X → Type 0) → ((x : X) → P x → Q x) → (xs : List X) → AllByRecursion P xs → AllByRecursion Q xs
+all-same P Q step [] h = tt
+all-same P Q step (x ∷ xs) h = (step x h.0, all-same P Q step xs h.1)
 
-module _ (change : Option EntryChange) (old new : SourceParts) (before : Records) (renewal : Renewal) (j : IsJudged change old new before renewal) where
+all-where : (P : Kept → Type 0) (xs : List Kept) → ((k : Kept) → list_any (bytes_eq k.name) (map (λ x. x.name) xs) ≡ true → P k) → AllByRecursion P xs
+all-where P [] each = tt
+all-where P (x ∷ xs) each = (
+  each x (ap (λ b. b || list_any (bytes_eq x.name) (map (λ k. k.name) xs)) (bytes_tell.itself x.name)),
+  all-where P xs (λ k there. each k (later k.name (bytes_eq k.name x.name) there)),
+) where
+  later : (g : List ℕ) (b : Bool) → list_any (bytes_eq g) (map (λ k. k.name) xs) ≡ true → (b || list_any (bytes_eq g) (map (λ k. k.name) xs)) ≡ true
+  later g true there = refl
+  later g false there = there
+
+all-of : (kept xs : List Kept) → ((k : Kept) → IsOneOf xs k → IsOneOf kept k) → AllByRecursion (IsOneOf kept) xs
+all-of kept [] more = tt
+all-of kept (x ∷ xs) more = (more x (inl refl), all-of kept xs (λ k i. more k (inr i)))
+
+all-two : (P Q R : Kept → Type 0) → ((k : Kept) → P k → Q k → R k) → (xs : List Kept) → AllByRecursion P xs → AllByRecursion Q xs → AllByRecursion R xs
+all-two P Q R step [] ps qs = tt
+all-two P Q R step (x ∷ xs) ps qs = (step x ps.0 qs.0, all-two P Q R step xs ps.1 qs.1)
+
+all-mapped : (P : Kept → Type 0) (f : Kept → Kept) (xs : List Kept) → AllByRecursion (λ k. P (f k)) xs → AllByRecursion P (map f xs)
+all-mapped P f [] h = tt
+all-mapped P f (x ∷ xs) h = (h.0, all-mapped P f xs h.1)
+
+-- ---- a record with a new run
+
+abbrev with-pair : Option (NumberedRun × Option BBox) → Kept → Kept
+with-pair None k = k
+with-pair (Some r) k = record { name = k.name; run = r.0; box = r.1 }
+
+abbrev pair : Rerun → NumberedRun × Option BBox
+pair r = (r.run, r.bbox)
+
+as-pair : (r : Option Rerun) (k : Kept) → with_rerun r k ≡ with-pair (option_map pair r) k
+as-pair None k = refl
+as-pair (Some r) k = refl
+
+run-none : (r : Option Rerun) → option_map pair r ≡ None → is_some r ≡ false
+run-none None e = refl
+run-none (Some r) e = absurd (cc)
+
+run-there : (reruns : List Rerun) (name : List ℕ) (r : NumberedRun) (box : Option BBox) → new_run reruns name ≡ Some (r, box)
+    → IsOneOf (map rerun_kept reruns) (kept name r box)
+run-there [] name r box e = absurd (cc)
+run-there (x ∷ reruns) name r box e = by (bytes_eq name x.name.items) refl e (run-there reruns name r box) where
+  by : (b : Bool) → bytes_eq name x.name.items ≡ b → option_map pair (cond b (Some x) (rerun_of reruns name)) ≡ Some (r, box)
+      → (new_run reruns name ≡ Some (r, box) → IsOneOf (map rerun_kept reruns) (kept name r box))
+      → IsOneOf (map rerun_kept (x ∷ reruns)) (kept name r box)
+  by true on h rest =
+      let both : (pair x) ≡ (r, box) = cc in
+      inl (λ j. record { name = sym (bytes_tell.same name x.name.items on) j; run = (ap (λ p. p.0) both) j; box = (ap (λ p. p.1) both) j })
+  by false off h rest = inr (rest h)
+
+-- ---- an edit that was judged, and the steps of its changes
+
+module _ (changes : List EntryChange) (old new : SourceParts) (before : Records) (renewal : Renewal) (done : Ready)
+    (is : IsReady changes renewal before done) (j : IsJudged changes old new before renewal) where
   abbrev m : FontBodies
   m = bodies old.items
 
   abbrev n : FontBodies
   n = bodies new.items
+
+  abbrev keys : List Key
+  keys = changed_keys changes
+
+  abbrev reruns : List Rerun
+  reruns = renewal.reruns.items
+
+  abbrev run : List ℕ → Option (NumberedRun × Option BBox)
+  run = new_run reruns
+
+  abbrev count : Key → ℕ
+  count = wanted renewal.joins.items
+
+  abbrev steps : List Step
+  steps = done.steps.items
+
+  abbrev kept-before : List Kept
+  kept-before = map kept_of before.glyphs.entries
+
+  abbrev last : Seen
+  last = after_all steps (seen before)
 
   old-has : (g : List ℕ) → has_glyph old g ≡ is_some (m.glyphs g)
   old-has = has-body old j.right.kept.glyphs j.right.kept.faultless
@@ -70,195 +162,206 @@ module _ (change : Option EntryChange) (old new : SourceParts) (before : Records
   new-has : (g : List ℕ) → has_glyph new g ≡ is_some (n.glyphs g)
   new-has = has-body new (told-of new j.faultless).0 (told-of new j.faultless).1
 
-  has-same : (g : List ℕ) → m.glyphs g ≡ n.glyphs g → has_glyph new g ≡ has_glyph old g
-  has-same g e = new-has g ∙ ap is_some (sym e) ∙ sym (old-has g)
-
   old-body : (k : Key) → body_at (record_bodies before) k ≡ body_at m k
   old-body k = at-same (record_bodies before) m k (j.right.compiled k)
 
-  joins-known : (k : Key) → body_at n k ≡ None → wanted renewal.joins.items k ≡ 0
-  joins-known = joins-there (named_keys change) old new before renewal j.edited j.right j.faultless j.renewed
+  same-else : (k : Key) → list_any (key_eq k) keys ≡ false → body_at m k ≡ body_at n k
+  same-else k off = at-same m n k (j.edited.bodies.same k (not-included keys k off))
 
-  -- what isn't named has a record, where it is joined
-  joins-unnamed : (k : Key) → (Includes (named_keys change) k → ⊥) → users_at before k ≡ None → wanted renewal.joins.items k ≡ 0
-  joins-unnamed k apart none = joins-known k (sym (at-same m n k (j.edited.bodies.same k apart)) ∙ sym (old-body k) ∙ no-body before k none)
+  -- ---- each glyph that is put in has its run
 
--- ---- no entry is named
+  unserved : (g : List ℕ) → list_any (key_eq (Glyph g)) keys ≡ true → new_run reruns g ≡ None → (b : Option (List Command)) → n.glyphs g ≡ b → b ≡ None
+  unserved g on none None e = refl
+  unserved g on none (Some body) e =
+      let there : has_glyph new g ≡ true = new-has g ∙ ap is_some e in
+      let never : true ≡ false =
+      sym (named-stale m keys g (named-key keys g ∙ on))
+      ∙ sym (rerun-stale keys old new before renewal j.edited j.right j.faultless j.renewed g there)
+      ∙ rerun-there g reruns ∙ run-none (rerun_of reruns g) none in
+      absurd (cc)
 
-pub room-none : (change : Option EntryChange) → change ≡ None → (old new : SourceParts) (before : Records) (renewal : Renewal)
-    → IsJudged change old new before renewal → HaveRecords renewal before
-room-none None e old new before renewal j k none = joins-unnamed None old new before renewal j k (λ i. i) none
-room-none (Some x) e old new before renewal j k none = absurd (cc)
+  served-one : (c : EntryChange) → HasBody new c → list_any (key_eq (key_of c.named)) keys ≡ true → IsServed run count before c
+  served-one c has on last lacks = by c.named refl has on last lacks where
+    by : (d : Named) → c.named ≡ d → body_at n (key_of d) ≡ c.body → list_any (key_eq (key_of d)) keys ≡ true → is_last before c.moved d ≡ true
+        → LacksRun run d → c.body ≡ None
+    by (named.Subr x) e has on last lacks = absurd lacks
+    by (named.Glyph g) e has on last lacks = sym has ∙ unserved g on lacks (n.glyphs g) refl
 
-pub done-none : (change : Option EntryChange) → change ≡ None → (old new : SourceParts) (before after : Records) (renewal : Renewal)
-    → IsJudged change old new before renewal → SameBodies (record_bodies after) (record_bodies before) → AreMoved renewal before after
-    → map kept_of after.glyphs.entries ≡ with_reruns renewal.reruns.items (map kept_of before.glyphs.entries) → IsSettled change old new renewal before after
-done-none (Some x) e old new before after renewal j same moves kept = absurd (cc)
-done-none None e old new before after renewal j same moves kept =
-    settled-same [] old new before renewal j.edited j.right j.faultless j.renewed j.order after
-    (same-twice (record_bodies after) (record_bodies before) (bodies new.items) same
-    (same-twice (record_bodies before) (bodies old.items) (bodies new.items) j.right.compiled (λ k. j.edited.bodies.same k (λ i. i))))
-    moves kept (λ g. has-same None old new before renewal j g (j.edited.bodies.same (Glyph g) (λ i. i)))
+  served-all : (cs : List EntryChange) → AllByRecursion (HasBody new) cs → ((k : Key) → list_any (key_eq k) (changed_keys cs) ≡ true → list_any (key_eq k) keys ≡ true)
+      → AllByRecursion (IsServed run count before) cs
+  served-all [] has within = tt
+  served-all (c ∷ cs) has within = (
+    served-one c has.0 (within (key_of c.named) (ap (λ b. b || list_any (key_eq (key_of c.named)) (changed_keys cs)) (key-itself (key_of c.named)))),
+    served-all cs has.1 (λ k on. within k (later (key_eq k (key_of c.named)) (list_any (key_eq k) (changed_keys cs)) on)),
+  ) where
+    later : (a b : Bool) → b ≡ true → (a || b) ≡ true
+    later true b h = refl
+    later false b h = h
 
--- ---- an entry is removed
+  served : AllByRecursion (IsServed run count before) changes
+  served = served-all changes j.bodies (λ k on. on)
 
-module _ (x : EntryChange) (old new : SourceParts) (before : Records) (renewal : Renewal) (j : IsJudged (Some x) old new before renewal) (gone : x.body ≡ None) where
-  abbrev key : Key
-  key = key_of x.named
+  -- ---- bodies and users
 
-  room-gone : HaveRecords renewal before
-  room-gone k none = by (key_eq k key) refl where
-    by : (b : Bool) → key_eq k key ≡ b → wanted renewal.joins.items k ≡ 0
-    by true on = joins-known (Some x) old new before renewal j k (ap (body_at (bodies new.items)) (key-same k key on) ∙ j.body ∙ gone)
-    by false off = joins-unnamed (Some x) old new before renewal j k (not-included k key off) none
+  pub stepped-body : (k : Key) → last.bodies k ≡ body_at n k
+  stepped-body k =
+      bodies-stepped run count before (body_at n) changes steps is.steps j.keys served j.bodies (seen before) k refl
+      (λ off. old-body k ∙ same-else k off)
 
-  has-but : (g : List ℕ) → has_glyph new g ≡ (has_glyph old g && not (is_key_of g key))
-  has-but g = by (is_key_of g key) refl where
-    none : (b : Bool) → false ≡ (b && false)
-    none true = refl
-    none false = refl
+  module _ (mid : Records) (seen-mid : seen mid ≡ last) where
+    mid-bodies : SameBodies (record_bodies mid) n
+    mid-bodies k = same-at (record_bodies mid) n k (ap (λ x. x.bodies k) seen-mid ∙ stepped-body k)
 
-    all : (b : Bool) → b ≡ (b && true)
-    all true = refl
-    all false = refl
+    pub room-mid : (k : Key) → HasRoom (wanted done.joins.items k) (users_at mid k)
+    room-mid k =
+        subst (λ l. HasRoom (wanted l k) (users_at mid k)) (sym is.joins)
+        (room_for_joins n j.renewed.found renewal.joins.items j.renewed.joins mid mid-bodies
+        (λ q. subst (λ x. MayJoin (count q) (x.users q)) (sym seen-mid) (may-join-stepped run count before changes steps is.steps (seen before) q (is.users q))) k)
 
-    by : (b : Bool) → is_key_of g key ≡ b → has_glyph new g ≡ (has_glyph old g && not b)
-    by true on =
-        new-has (Some x) old new before renewal j g
-        ∙ ap is_some (ap (body_at (bodies new.items)) (sym (key-of-glyph g key on)) ∙ j.body ∙ gone)
-        ∙ none (has_glyph old g)
-    by false off =
-        has-same (Some x) old new before renewal j g (j.edited.bodies.same (Glyph g) (not-glyph g key off)) ∙ all (has_glyph old g)
+    -- users of what is named leave it
+    left-named : (k : Key) (u : List ℕ) → list_any (key_eq k) keys ≡ true → lists before k u ≡ true → has_pair renewal.leaves.items k u ≡ true
+    left-named k u on uses =
+        let used : is_user k (own m u) ≡ true = sym (j.right.users k u) ∙ uses in
+        j.renewed.leaves k u
+        ∙ ap (λ b. b && is_user k (own m u)) (j.renewed.reached.closed.seeds u (met keys on used))
+        ∙ used
+      where
+        met : (ks : List Key) → list_any (key_eq k) ks ≡ true → is_user k (own m u) ≡ true → list_any (is_met m u) ks ≡ true
+        met [] h used = absurd (cc)
+        met (x ∷ ks) h used = by (key_eq k x) refl h (λ later. met ks later used) where
+          or-true : (b : Bool) → (b || true) ≡ true
+          or-true true = refl
+          or-true false = refl
 
-  done-gone : (after : Records) → SetsBody key None before after
-      → ((k : Key) (u : List ℕ) → lists after k u ≡ (is_moved renewal before k u && not (key_eq k key)))
-      → map kept_of after.glyphs.entries ≡ filter (λ k. not (is_key_of k.name key)) (with_reruns renewal.reruns.items (map kept_of before.glyphs.entries))
-      → IsSettled (Some x) old new renewal before after
-  done-gone after sets users kept =
-      settled-but (key ∷ []) old new before renewal j.edited j.right j.faultless j.renewed j.order (λ g. not (is_key_of g key)) after
-      (changed_bodies key (bodies old.items) (bodies new.items) j.edited.bodies before after j.right.compiled
-      (subst (λ b. SetsBody key b before after) (sym (j.body ∙ gone)) sets))
-      (λ k g. users k g ∙ moved-but (key ∷ []) old new before renewal j.edited j.right j.faultless j.renewed key (j.body ∙ gone) k g)
-      kept has-but
+          or-more : (a b : Bool) → b ≡ true → (a || b) ≡ true
+          or-more true b h = refl
+          or-more false b h = h
 
-pub room-removed : (change : Option EntryChange) (x : EntryChange) → change ≡ Some x → x.body ≡ None → (old new : SourceParts) (before : Records) (renewal : Renewal)
-    → IsJudged change old new before renewal → HaveRecords renewal before
-room-removed change x e gone old new before renewal j = room-gone x old new before renewal (subst (λ c. IsJudged c old new before renewal) e j) gone
+          by : (b : Bool) → key_eq k x ≡ b → (b || list_any (key_eq k) ks) ≡ true → (list_any (key_eq k) ks ≡ true → list_any (is_met m u) ks ≡ true)
+              → (is_met m u x || list_any (is_met m u) ks) ≡ true
+          by true e h rest =
+              let same : k ≡ x = key-same k x e in
+              ap (λ q. (is_key_of u x || is_user q (own m u)) || list_any (is_met m u) ks) (sym same)
+              ∙ ap (λ b. (is_key_of u x || b) || list_any (is_met m u) ks) used
+              ∙ ap (λ b. b || list_any (is_met m u) ks) (or-true (is_key_of u x))
+          by false e h rest = or-more (is_met m u x) (list_any (is_met m u) ks) (rest h)
 
-pub done-removed : (change : Option EntryChange) (x : EntryChange) → change ≡ Some x → x.body ≡ None → (old new : SourceParts) (before after : Records) (renewal : Renewal)
-    → IsJudged change old new before renewal → SetsBody (key_of x.named) None before after
-    → ((k : Key) (u : List ℕ) → lists after k u ≡ (is_moved renewal before k u && not (key_eq k (key_of x.named))))
-    → map kept_of after.glyphs.entries ≡ filter (λ k. not (is_key_of k.name (key_of x.named))) (with_reruns renewal.reruns.items (map kept_of before.glyphs.entries))
-    → IsSettled change old new renewal before after
-done-removed change x e gone old new before after renewal j sets users kept =
-    subst (λ c. IsSettled c old new renewal before after) (sym e)
-    (done-gone x old new before renewal (subst (λ c. IsJudged c old new before renewal) e j) gone after sets users kept)
+    moved-mid : (k : Key) (u : List ℕ)
+        → ((lists mid k u && not (has_pair done.leaves.items k u)) || has_pair done.joins.items k u) ≡ is_moved renewal before k u
+    moved-mid k u =
+        ap (λ l. (lists mid k u && not (has_pair l k u)) || has_pair done.joins.items k u) is.leaves
+        ∙ ap (λ l. (lists mid k u && not (has_pair renewal.leaves.items k u)) || has_pair l k u) is.joins
+        ∙ ap (λ b. b || has_pair renewal.joins.items k u) (by (users-stepped run count before changes steps is.steps (seen before) k))
+      where
+        gone : (a b : Bool) → (a ≡ true → b ≡ true) → false ≡ (a && not b)
+        gone false b h = refl
+        gone true b h = ap not (sym (h refl))
 
--- ---- an entry is replaced or added
+        by : (last.users k ≡ users_at before k) ⊎ ((list_any (key_eq k) keys ≡ true) × ((u : List ℕ) → among (last.users k) u ≡ false))
+            → (lists mid k u && not (has_pair renewal.leaves.items k u)) ≡ (lists before k u && not (has_pair renewal.leaves.items k u))
+        by (inl same) = ap (λ s. among s u && not (has_pair renewal.leaves.items k u)) (ap (λ x. x.users k) seen-mid ∙ same)
+        by (inr none) =
+            ap (λ b. b && not (has_pair renewal.leaves.items k u)) (ap (λ x. among (x.users k) u) seen-mid ∙ none.1 u)
+            ∙ gone (lists before k u) (has_pair renewal.leaves.items k u) (left-named k u none.0)
 
-pub room-but : (change : Option EntryChange) (x : EntryChange) → change ≡ Some x → (old new : SourceParts) (before : Records) (renewal : Renewal)
-    → IsJudged change old new before renewal → HaveRecordsBut (key_of x.named) renewal before
-room-but change x e old new before renewal j k off none =
-    joins-unnamed (Some x) old new before renewal (subst (λ c. IsJudged c old new before renewal) e j) k (not-included k (key_of x.named) off) none
+    -- ---- the glyphs
 
-module _ (x : EntryChange) (old new : SourceParts) (before : Records) (renewal : Renewal) (j : IsJudged (Some x) old new before renewal)
-    (body : List Command) (there : x.body ≡ Some body) where
-  abbrev named-key : Key
-  named-key = key_of x.named
+    there-none : (g : List ℕ) → is_none (body_at (record_bodies before) (Glyph g)) ≡ not (has_glyph old g)
+    there-none g = by (m.glyphs g) (ap is_none (old-body (Glyph g))) (old-has g) where
+      by : (b : Option (List Command)) → is_none (body_at (record_bodies before) (Glyph g)) ≡ is_none b → has_glyph old g ≡ is_some b
+          → is_none (body_at (record_bodies before) (Glyph g)) ≡ not (has_glyph old g)
+      by None e f = e ∙ ap not (sym f)
+      by (Some b) e f = e ∙ ap not (sym f)
 
-  same-set : (after : Records) → SetsBody named-key (Some body) before after → SameBodies (record_bodies after) (bodies new.items)
-  same-set after sets =
-      changed_bodies named-key (bodies old.items) (bodies new.items) j.edited.bodies before after j.right.compiled
-      (subst (λ b. SetsBody named-key b before after) (sym (j.body ∙ there)) sets)
+    -- a glyph that was there keeps its place where it still is and wasn't moved
+    stays : (g : List ℕ) → has_glyph old g ≡ true → not (leaves run count before changes g) ≡ (has_glyph new g && not (was_moved changes g))
+    stays g was =
+        ap not (leaves-as run count before old there-none new (body_at n) new-has changes j.bodies g was)
+        ∙ by (list_any (is_key_of g) keys) refl (has_glyph new g) refl
+      where
+        out : (h w : Bool) → not ((true && not h) || w) ≡ (h && not w)
+        out true w = refl
+        out false w = refl
 
-  has-else : (g : List ℕ) → is_key_of g named-key ≡ false → has_glyph new g ≡ has_glyph old g
-  has-else g off = has-same (Some x) old new before renewal j g (j.edited.bodies.same (Glyph g) (not-glyph g named-key off))
+        by : (b : Bool) → list_any (is_key_of g) keys ≡ b → (h : Bool) → has_glyph new g ≡ h
+            → not ((list_any (is_key_of g) keys && not (has_glyph new g)) || was_moved changes g) ≡ (has_glyph new g && not (was_moved changes g))
+        by true e h f = ap (λ b. not ((b && not (has_glyph new g)) || was_moved changes g)) e ∙ out (has_glyph new g) (was_moved changes g)
+        by false e h f =
+            ap (λ b. not ((b && not (has_glyph new g)) || was_moved changes g)) e
+            ∙ ap (λ b. b && not (was_moved changes g))
+            (sym (new-has g ∙ ap is_some (sym (same-else (Glyph g) (sym (named-key keys g) ∙ e))) ∙ sym (old-has g) ∙ was))
 
-  has-key : (g : List ℕ) → is_key_of g named-key ≡ true → has_glyph new g ≡ true
-  has-key g on =
-      new-has (Some x) old new before renewal j g
-      ∙ ap is_some (ap (body_at (bodies new.items)) (sym (key-of-glyph g named-key on)) ∙ j.body ∙ there)
+    names-last : map (λ k. k.name) last.kept ≡ glyph_names new.items
+    names-last =
+        names-stepped run count before old there-none changes steps is.steps j.keys served (seen before)
+        ∙ ap (λ l. filter (λ g. not (leaves run count before changes g)) l ++ last_glyphs old changes)
+        (kept-names keys old new before renewal j.edited j.right j.faultless j.renewed)
+        ∙ ap (λ l. l ++ last_glyphs old changes)
+        (filter-as (λ g. not (leaves run count before changes g)) (λ g. has_glyph new g && not (was_moved changes g)) (glyph_names old.items) stays)
+        ∙ ap (λ l. filter (λ g. has_glyph new g && not (was_moved changes g)) (glyph_names old.items) ++ l) (sym j.last)
+        ∙ sym j.order
 
-  done-same : (after : Records) → SetsBody named-key (Some body) before after → AreMoved renewal before after
-      → map kept_of after.glyphs.entries ≡ with_reruns renewal.reruns.items (map kept_of before.glyphs.entries)
-      → ((g : List ℕ) → is_key_of g named-key ≡ true → has_glyph old g ≡ true) → IsSettled (Some x) old new renewal before after
-  done-same after sets moves kept had =
-      settled-same (named-key ∷ []) old new before renewal j.edited j.right j.faultless j.renewed j.order after (same-set after sets) moves kept
-      (λ g. by g (is_key_of g named-key) refl)
-    where
-      by : (g : List ℕ) (b : Bool) → is_key_of g named-key ≡ b → has_glyph new g ≡ has_glyph old g
-      by g true on = has-key g on ∙ sym (had g on)
-      by g false off = has-else g off
+    -- a record that was put in is a rerun's, and each other one was kept
+    record IsSet (k : Kept) : Type 0 where
+      pub put : some_inserts steps k.name ≡ true → IsOneOf (map rerun_kept reruns) k
+      pub stayed : some_inserts steps k.name ≡ false → IsOneOf kept-before k
 
-  module _ (g : List ℕ) (is : named-key ≡ Glyph g) where
-    key-itself-named : is_key_of g named-key ≡ true
-    key-itself-named = ap (is_key_of g) is ∙ bytes_tell.itself g
+    sets : AllByRecursion IsSet last.kept
+    sets =
+        kept-stepped run count before IsSet changes steps is.steps
+        (λ name r box on there. record {
+          put = λ on'. run-there reruns name r box there;
+          stayed = λ off. let never : true ≡ false = sym on ∙ off in absurd (cc);
+        })
+        (seen before)
+        (all-same (IsOneOf kept-before) (λ k. some_inserts steps k.name ≡ false → IsSet k)
+        (λ k one off. record {
+          put = λ on. let never : true ≡ false = sym on ∙ off in absurd (cc);
+          stayed = λ off'. one;
+        })
+        kept-before (all-of kept-before kept-before (λ k i. i)))
 
-    old-glyph : (b : Option (List Command)) → body_at (record_bodies before) (Glyph g) ≡ b → has_glyph old g ≡ is_some b
-    old-glyph b e = old-has (Some x) old new before renewal j g ∙ ap is_some (sym (old-body (Some x) old new before renewal j (Glyph g)) ∙ e)
+    abbrev left : List Rerun
+    left = reruns_by_name done.runs.entries
 
-    rerun-there : body_at (record_bodies before) (Glyph g) ≡ None → HasRerun g renewal.reruns.items
-    rerun-there none =
-        rerun-stale (named-key ∷ []) old new before renewal j.edited j.right j.faultless j.renewed g (has-key g key-itself-named)
-        ∙ named-touched (bodies old.items) (named-key ∷ []) g (sym (old-body (Some x) old new before renewal j (Glyph g)) ∙ none)
-        (ap (λ b. b || false) key-itself-named)
+    renewed-one-by : (k : Kept) → IsSet k → has_glyph new k.name ≡ true → IsRenewedBy keys old reruns kept-before (with_rerun (rerun_of left k.name) k)
+    renewed-one-by k set there =
+        subst (IsRenewedBy keys old reruns kept-before) (sym (as-pair (rerun_of left k.name) k ∙ ap (λ r. with-pair r k) (is.runs k.name)))
+        (by (some_inserts steps k.name) refl)
+      where
+        by : (b : Bool) → some_inserts steps k.name ≡ b → IsRenewedBy keys old reruns kept-before (with-pair (cond b None (new_run reruns k.name)) k)
+        by true on = record {
+          stale = λ on'. set.put on;
+          fresh = λ off.
+              let never : true ≡ false = sym (named-stale m keys k.name (named-key keys k.name ∙ inserted-named run count before changes steps is.steps k.name on)) ∙ off in
+              absurd (cc);
+        }
+        by false off =
+            subst (IsRenewedBy keys old reruns kept-before) (as-pair (rerun_of reruns k.name) k)
+            (renewed-one keys old reruns reruns kept-before (λ x i. i) k
+            (ready keys old new before renewal j.edited j.right j.faultless j.renewed reruns k refl there (set.stayed off)))
 
-    has-more : (h : List ℕ) → has_glyph new h ≡ (has_glyph old h || bytes_eq g h)
-    has-more h = by (bytes_eq g h) refl where
-      one : (b : Bool) → true ≡ (b || true)
-      one true = refl
-      one false = refl
+    renewed-last : AllByRecursion (IsRenewedBy keys old reruns kept-before) (with_reruns left last.kept)
+    renewed-last =
+        all-mapped (IsRenewedBy keys old reruns kept-before) (λ k. with_rerun (rerun_of left k.name) k) last.kept
+        (all-two IsSet (λ k. has_glyph new k.name ≡ true) (λ k. IsRenewedBy keys old reruns kept-before (with_rerun (rerun_of left k.name) k)) renewed-one-by last.kept sets
+        (all-where (λ k. has_glyph new k.name ≡ true) last.kept (λ k among. ap (list_any (bytes_eq k.name)) (sym names-last) ∙ among)))
 
-      same : (b : Bool) → b ≡ (b || false)
-      same true = refl
-      same false = refl
+    -- ---- the records at last
 
-      by : (b : Bool) → bytes_eq g h ≡ b → has_glyph new h ≡ (has_glyph old h || b)
-      by true on = has-key h (ap (is_key_of h) is ∙ turned h g ∙ on) ∙ one (has_glyph old h)
-      by false off = has-else h (ap (is_key_of h) is ∙ turned h g ∙ off) ∙ same (has_glyph old h)
-
-    done-glyph : (after : Records) → SetsBody named-key (Some body) before after → AreMoved renewal before after
-        → (b : Option (List Command)) → body_at (record_bodies before) (Glyph g) ≡ b → KeepsGlyph b g renewal.reruns.items before after
-        → IsSettled (Some x) old new renewal before after
-    done-glyph after sets moves (Some b) e kept =
-        done-same after sets moves kept
-        (λ h on. ap (has_glyph old) (bytes_tell.same h g (ap (is_key_of h) (sym is) ∙ on)) ∙ old-glyph (Some b) e)
-    done-glyph after sets moves None e kept =
-        settled-more (named-key ∷ []) old new before renewal j.edited j.right j.faultless j.renewed j.order g j.distinct has-more (old-glyph None e)
-        kept.1.0 kept.0 kept.1.1.0 after (same-set after sets) moves kept.1.1.1
-
--- ---- for each edit that names one
-
-module _ (change : Option EntryChange) (x : EntryChange) (e : change ≡ Some x) (old new : SourceParts) (before : Records) (renewal : Renewal)
-    (j : IsJudged change old new before renewal) where
-  judged : IsJudged (Some x) old new before renewal
-  judged = subst (λ c. IsJudged c old new before renewal) e j
-
-  pub done-subr : (number : ℕ) → x.named ≡ TheNamed.Subr number → (body : List Command) → x.body ≡ Some body
-      → (after : Records) → SetsBody (Subr number) (Some body) before after → AreMoved renewal before after
-      → map kept_of after.glyphs.entries ≡ with_reruns renewal.reruns.items (map kept_of before.glyphs.entries) → IsSettled change old new renewal before after
-  done-subr number is body there after sets moves kept =
-      subst (λ c. IsSettled c old new renewal before after) (sym e)
-      (done-same x old new before renewal judged body there after (subst (λ d. SetsBody (key_of d) (Some body) before after) (sym is) sets) moves kept
-      (λ g on. let never : false ≡ true = ap (λ d. is_key_of g (key_of d)) (sym is) ∙ on in absurd (cc)))
-
-  pub done-named : (g : List ℕ) → x.named ≡ TheNamed.Glyph g → (body : List Command) → x.body ≡ Some body
-      → (after : Records) → SetsBody (Glyph g) (Some body) before after → AreMoved renewal before after
-      → KeepsGlyph (body_at (record_bodies before) (Glyph g)) g renewal.reruns.items before after → IsSettled change old new renewal before after
-  done-named g is body there after sets moves kept =
-      subst (λ c. IsSettled c old new renewal before after) (sym e)
-      (done-glyph x old new before renewal judged body there g (ap key_of is) after
-      (subst (λ d. SetsBody (key_of d) (Some body) before after) (sym is) sets) moves (body_at (record_bodies before) (Glyph g)) refl kept)
-
-  pub rerun-named : (g : List ℕ) → x.named ≡ TheNamed.Glyph g → (body : List Command) → x.body ≡ Some body
-      → body_at (record_bodies before) (Glyph g) ≡ None → HasRerun g renewal.reruns.items
-  rerun-named g is body there none = rerun-there x old new before renewal judged body there g (ap key_of is) none
-
-  pub room-named : (named : Named) → x.named ≡ named → HaveRecordsBut (key_of named) renewal before
-  room-named named is = subst (λ d. HaveRecordsBut (key_of d) renewal before) is (room-but change x e old new before renewal j)
-
--- ---- outcomes
-
-pub on-three : {E A B C D : Type 0} (r : Result (Unit {0}) E) → OnOk r A → OnOk r B → OnOk r C → (A → B → C → D) → OnOk r D
-on-three (Ok v) a b c step = step a b c
-on-three (Err e) a b c step = tt
+    pub settled-by : (moved after : Records) → rest_of moved ≡ rest_of mid
+        → ((k : Key) (u : List ℕ) → lists moved k u ≡ ((lists mid k u && not (has_pair done.leaves.items k u)) || has_pair done.joins.items k u))
+        → SameBodies (record_bodies after) (record_bodies moved) → ((k : Key) → users_at after k ≡ users_at moved k)
+        → map kept_of after.glyphs.entries ≡ with_reruns left (map kept_of moved.glyphs.entries)
+        → IsRight new after × AllByRecursion (IsRenewedBy keys old reruns kept-before) (map kept_of after.glyphs.entries)
+    settled-by moved after rest users same stay renews =
+        settled keys old new before renewal j.edited j.right j.faultless j.renewed after (with_reruns left last.kept)
+        (λ k. same-at (record_bodies after) n k
+        (at-same (record_bodies after) (record_bodies moved) k (same k)
+        ∙ at-same (record_bodies moved) (record_bodies mid) k ((rest_same mid moved rest).0 k)
+        ∙ ap (λ x. x.bodies k) seen-mid ∙ stepped-body k))
+        (λ k u. ap (λ s. among s u) (stay k) ∙ users k u ∙ moved-mid k u
+        ∙ moved-at keys old new before renewal j.edited j.right j.faultless j.renewed k u)
+        (renews ∙ ap (with_reruns left) ((rest_same mid moved rest).1 ∙ ap (λ x. x.kept) seen-mid))
+        (names-stay left last.kept ∙ names-last)
+        renewed-last

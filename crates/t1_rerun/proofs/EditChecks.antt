@@ -1,7 +1,7 @@
 -- What an edit changes of the bodies of a source, and their first fault after it.
 use Rattle.std.proofs.Common.{◌≡◌, ℕ, Bool, true, not, ℤ, pos, negsuc, nat_le, ok_or, Option, Some, None, Result, Ok, Err, List, [], ◌∷◌, ◌++◌, take, drop, filter, map, codes, refl, sym, ◌∙◌, ap, subst, arith, inl, inr}
-use Rattle.std.specs.Prelude.{MatchResult}
-use Rattle.std.specs.List.{list_any, position, position_or_len, insert, remove, slice_set}
+use Rattle.std.specs.Prelude.{◌||◌, ◌&&◌, false, MatchResult}
+use Rattle.std.specs.List.{list_any, AllByRecursion, position, position_or_len, insert, remove, slice_set}
 use Rattle.std.specs.Option.{option_map, option_to_list}
 use Rattle.std.specs.Result.{result_ok}
 use Rattle.std.proofs.lemmas.Bool.{cases_Bool}
@@ -34,6 +34,7 @@ use Rattle.t1_source.proofs.WellFormedEditedLaws.{source_given, source_same}
 use Rattle.t1_source.proofs.ItemPlaceLaws.{position_first, set_there, removed_there}
 use Rattle.t1_run.specs.Footprint.{Includes}
 use Rattle.t1_run.specs.Run.{Key, Subr, Glyph}
+use Rattle.t1_run.specs.Touched.{is_key_of}
 use Rattle.t1_font.specs.Assembly.{file_check}
 use Rattle.t1_font.specs.Bodies.{bodies_check, body_check, words_check}
 use Rattle.t1_font.proofs.LengthLaws.{body_fault_told}
@@ -44,8 +45,9 @@ use Rattle.t1_cache.proofs.Edits.{edits_named, made-items}
 use Rattle.t1_rerun.specs.declared.settling.EntryChange.{EntryChange}
 use Rattle.t1_rerun.specs.EntryChanges.{edit_change, key_change, number_within, put_key, put_number, removed_number, KeyChange, IsChanged, IsMade}
 use Rattle.t1_rerun.specs.Renewing.{entry_key, number_key}
-use Rattle.t1_rerun.specs.Settled.{named_keys, HasBody}
+use Rattle.t1_rerun.specs.Settled.{changed_keys, was_moved, HasBody}
 use Rattle.t1_rerun.proofs.Entries.{edited-order, key-named}
+use Rattle.t1_rerun.proofs.Single.{one-order}
 
 abbrev Checked : Type 0
 Checked = Result (Unit {0}) Fault
@@ -135,7 +137,7 @@ unit_of r = r >>= λ _. Ok tt
 words-put : (key : Key) (place : Place) (words : List (List ℕ)) → words_check place words ≡ unit_of (put_key key place words)
 unfolding words_check
 words-put key place words = by (told_at place (commands words)) where
-  by : (r : Result (List Command) Fault) → (r >>= λ _. Ok tt) ≡ unit_of (r >>= λ body. Ok (Some (record { key = key; body = Some body })))
+  by : (r : Result (List Command) Fault) → (r >>= λ _. Ok tt) ≡ unit_of (r >>= λ body. Ok (Some (record { key = key; body = Some body; moved = false })))
   by (Ok b) = refl
   by (Err fault) = refl
 
@@ -275,10 +277,10 @@ edits_checked s k (Unkern left right) made ps fine e = same-checks s made fine (
 put-keys : (key : Key) (place : Place) (words : List (List ℕ)) (c : Option KeyChange) → put_key key place words ≡ Ok c
     → (option_map (λ x. x.key) c ≡ Some key) × (option_map (λ x. x.body) c ≡ Some (result_ok (commands words)))
 put-keys key place words c e = by (commands words) e where
-  by : (r : Result (List Command) Code) → (told_at place r >>= λ body. Ok (Some (record { key = key; body = Some body }))) ≡ Ok c
+  by : (r : Result (List Command) Code) → (told_at place r >>= λ body. Ok (Some (record { key = key; body = Some body; moved = false }))) ≡ Ok c
       → (option_map (λ x. x.key) c ≡ Some key) × (option_map (λ x. x.body) c ≡ Some (result_ok r))
   by (Ok body) e =
-      let same : Some (record { key = key; body = Some body }) ≡ c = cc in
+      let same : Some (record { key = key; body = Some body; moved = false }) ≡ c = cc in
       (ap (option_map (λ x. x.key)) (sym same), ap (option_map (λ x. x.body)) (sym same))
   by (Err code) e = absurd (cc)
 
@@ -304,7 +306,7 @@ removed-told (negsuc n) c same = (ap (option_map (λ x. x.key)) (sym same), ap (
 removed-told (pos n) c e =
     elim (cases_Bool (nat_le n 65535)) [
       | inl on ↦
-          let same : Some (record { key = Subr n; body = None }) ≡ c = rw on at e in
+          let same : Some (record { key = Subr n; body = None; moved = false }) ≡ c = rw on at e in
           rw on (ap (option_map (λ x. x.key)) (sym same), ap (option_map (λ x. x.body)) (sym same))
       | inr off ↦
           let same : None ≡ c = rw off at e in
@@ -319,7 +321,7 @@ entry-told : (edit : Edit) (c : Option KeyChange) → edit_change edit ≡ Ok c 
 entry-told (ReplaceGlyph g body) c e = put-keys (Glyph g) (places.Glyph g) (body_words body) c e
 entry-told (AddGlyph g body) c e = put-keys (Glyph g) (places.Glyph g) (body_words body) c e
 entry-told (RemoveGlyph g) c e =
-    let same : Some (record { key = Glyph g; body = None }) ≡ c = cc in
+    let same : Some (record { key = Glyph g; body = None; moved = false }) ≡ c = cc in
     (ap (option_map (λ x. x.key)) (sym same), ap (option_map (λ x. x.body)) (sym same))
 entry-told (ReplaceSubr n body) c e = number-told n (body_words body) c e
 entry-told (AddSubr n body) c e = number-told n (body_words body) c e
@@ -330,9 +332,49 @@ entry-told (LenIv n) c e = none-told c e
 entry-told (Kern left right v) c e = none-told c e
 entry-told (Unkern left right) c e = none-told c e
 
+-- no edit moves
+abbrev IsStill : Option KeyChange → Type 0
+IsStill c = option_map (λ x. x.moved) c ≡ option_map (λ x. false) c
+
+put-still : (key : Key) (place : Place) (words : List (List ℕ)) (c : Option KeyChange) → put_key key place words ≡ Ok c → IsStill c
+put-still key place words c e = by (commands words) e where
+  by : (r : Result (List Command) Code) → (told_at place r >>= λ body. Ok (Some (record { key = key; body = Some body; moved = false }))) ≡ Ok c → IsStill c
+  by (Ok body) e = let same : Some (record { key = key; body = Some body; moved = false }) ≡ c = cc in subst IsStill same refl
+  by (Err code) e = absurd (cc)
+
+number-still : (number : Option ℕ) (words : List (List ℕ)) (c : Option KeyChange) → put_number number words ≡ Ok c → IsStill c
+number-still None words c e = let same : None ≡ c = cc in subst IsStill same refl
+number-still (Some n) words c e = put-still (Subr n) (places.Subr n) words c e
+
+removed-still : (number : Option ℕ) (c : Option KeyChange) → removed_number number ≡ c → IsStill c
+removed-still None c same = subst IsStill same refl
+removed-still (Some n) c same = subst IsStill same refl
+
+none-still : (c : Option KeyChange) → ◌≡◌ {A = Result (Option KeyChange) Fault} (Ok None) (Ok c) → IsStill c
+none-still c e = let same : None ≡ c = cc in subst IsStill same refl
+
+entry-still : (edit : Edit) (c : Option KeyChange) → edit_change edit ≡ Ok c → IsStill c
+entry-still (ReplaceGlyph g body) c e = put-still (Glyph g) (places.Glyph g) (body_words body) c e
+entry-still (AddGlyph g body) c e = put-still (Glyph g) (places.Glyph g) (body_words body) c e
+entry-still (RemoveGlyph g) c e =
+    let same : Some (record { key = Glyph g; body = None; moved = false }) ≡ c = cc in
+    subst IsStill same refl
+entry-still (ReplaceSubr n body) c e = number-still (number_within n) (body_words body) c e
+entry-still (AddSubr n body) c e = number-still (number_within n) (body_words body) c e
+entry-still (RemoveSubr n) c e = let same : removed_number (number_within n) ≡ c = cc in removed-still (number_within n) c same
+entry-still (Encode code g) c e = none-still c e
+entry-still (Unencode code) c e = none-still c e
+entry-still (LenIv n) c e = none-still c e
+entry-still (Kern left right v) c e = none-still c e
+entry-still (Unkern left right) c e = none-still c e
+
 -- ---- a change
 
-keys-listed : (change : Option EntryChange) → named_keys change ≡ option_to_list (option_map (λ x. x.key) (option_map key_change change))
+still : (change : Option EntryChange) → IsStill (option_map key_change change) → (g : List ℕ) → was_moved (option_to_list change) g ≡ false
+still None h g = refl
+still (Some x) h g = let same : x.moved ≡ false = cc in ap (λ b. (b && is_key_of g (key_of x.named)) || false) same
+
+keys-listed : (change : Option EntryChange) → changed_keys (option_to_list change) ≡ option_to_list (option_map (λ x. x.key) (option_map key_change change))
 keys-listed None = refl
 keys-listed (Some change) = refl
 
@@ -345,28 +387,35 @@ module _ (edit : Edit) (old new : SourceParts) (is : IsMade edit old new) where
   words-refused (refusals.Fault fault) h = body_fault_told new fault (checked-is ∙ ap unit_of h)
 
   module _ (change : Option EntryChange) (told : edit_change edit ≡ Ok (option_map key_change change)) where
-    keys-are : named_keys change ≡ named edit
+    keys-are : changed_keys (option_to_list change) ≡ named edit
     keys-are =
         keys-listed change ∙ ap option_to_list (entry-told edit (option_map key_change change) told).0
         ∙ key-named old is.pairs edit new is.made_pairs is.made
 
-    its-body : (change : Option EntryChange) → edit_change edit ≡ Ok (option_map key_change change) → named_keys change ≡ named edit → HasBody change new
+    its-body : (change : Option EntryChange) → edit_change edit ≡ Ok (option_map key_change change) → changed_keys (option_to_list change) ≡ named edit
+        → AllByRecursion (HasBody new) (option_to_list change)
     its-body None told keys = tt
-    its-body (Some x) told keys =
-        body_edited old is.pairs edit new is.made_pairs is.well is.made (key_of x.named) (subst (λ ks. Includes ks (key_of x.named)) keys (inl refl))
-        ∙ by (entry_key edit) (entry-told edit (Some (key_change x)) told)
+    its-body (Some x) told keys = (
+      body_edited old is.pairs edit new is.made_pairs is.well is.made (key_of x.named) (subst (λ ks. Includes ks (key_of x.named)) keys (inl refl))
+          ∙ by (entry_key edit) (entry-told edit (Some (key_change x)) told),
+      tt,
+    )
       where
         by : (key : Option Key) → (Some (key_of x.named) ≡ key) × (Some x.body ≡ option_map (λ k. body_after edit) key) → body_after edit ≡ x.body
         by None h = absurd (cc)
         by (Some key) h = let same : x.body ≡ body_after edit = cc in sym same
 
+    unmoved : (g : List ℕ) → was_moved (option_to_list change) g ≡ false
+    unmoved = still change (entry-still edit (option_map key_change change) told)
+
     pub is-changed : IsChanged edit old new change
     is-changed = record {
       keys = keys-are;
       edited = subst (λ keys. IsEditedAt keys old new) (sym keys-are) (edits_named old is.pairs edit new is.made_pairs is.made);
-      body = its-body change told keys-are;
+      bodies = its-body change told keys-are;
+      unmoved = unmoved;
       compiled = checked-is ∙ ap unit_of told;
-      order = edited-order old is.pairs edit new is.made_pairs is.well is.well_made is.made;
+      order = one-order (option_to_list change) old new unmoved (edited-order old is.pairs edit new is.made_pairs is.well is.well_made is.made);
     }
 
   -- of each outcome

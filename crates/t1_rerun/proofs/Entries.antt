@@ -25,7 +25,7 @@ use Rattle.t1_cache.specs.Laws.{AreDistinct}
 use Rattle.t1_cache.proofs.Distinct.{names_distinct}
 use Rattle.t1_cache.proofs.EditedNames.{names_edited}
 use Rattle.t1_rerun.specs.Renewing.{entry_key, number_key}
-use Rattle.t1_rerun.specs.Right.{IsInOrder}
+use Rattle.t1_rerun.specs.Right.{has_glyph}
 use Rattle.t1_rerun.proofs.Meeting.{all-among, among-off, among-passing}
 
 -- ---- the key that an edit names
@@ -179,8 +179,14 @@ after-order (LenIv n) xs ys e d = subst (λ l. l ≡ filter (λ x. list_any (byt
 after-order (Kern left right v) xs ys e d = subst (λ l. l ≡ filter (λ x. list_any (bytes_eq x) l) xs ++ filter (λ x. not (list_any (bytes_eq x) xs)) l) (sym e) (same-order xs)
 after-order (Unkern left right) xs ys e d = subst (λ l. l ≡ filter (λ x. list_any (bytes_eq x) l) xs ++ filter (λ x. not (list_any (bytes_eq x) xs)) l) (sym e) (same-order xs)
 
+-- the glyphs of an edited source: those that are still there, in their order, then the new ones
+abbrev pub IsInOrderAlone : SourceParts → SourceParts → Type 0
+IsInOrderAlone old new =
+    glyph_names new.items
+    ≡ filter (has_glyph new) (glyph_names old.items) ++ filter (λ g. not (has_glyph old g)) (glyph_names new.items)
+
 -- after an edit the glyphs that are still there come first, in their order
 pub edited-order : (s : SourceParts) (k : List Pair) (edit : Edit) (made : SourceParts) (ps : List Pair) → IsWellFormed s → IsWellFormed made → edited s k edit ≡ Ok (made, ps)
-    → IsInOrder s made
+    → IsInOrderAlone s made
 edited-order s k edit made ps well well_made e =
     after-order edit (glyph_names s.items) (glyph_names made.items) (names_edited s k edit made ps well e) (names_distinct made well_made)

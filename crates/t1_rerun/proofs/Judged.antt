@@ -1,7 +1,7 @@
 -- Records of an edited source.
-use Rattle.std.proofs.Common.{◌≡◌, ℕ, List, [], ◌∷◌, length, map, refl, sym, ◌∙◌, ap, subst, inl, inr, Option, Some, None, Ok}
-use Rattle.std.specs.List.{AllByRecursion}
+use Rattle.std.proofs.Common.{◌≡◌, ℕ, List, false, [], ◌∷◌, length, map, refl, sym, ◌∙◌, ap, subst, inl, inr, Option, Some, None, Ok}
 use Rattle.std.specs.Option.{option_map, option_to_list}
+use Rattle.std.specs.List.{AllByRecursion}
 use Rattle.t1_frac.specs.declared.fault.Refusal.{Refusal}
 use Rattle.t1_frac.specs.Outcome.{Refuses}
 use Rattle.t1_parts.specs.SourceParts.{SourceParts}
@@ -30,8 +30,9 @@ use Rattle.t1_rerun.specs.Opened.{runs_where, IsRunAfter}
 use Rattle.t1_rerun.specs.Renewals.{rerun_kept, IsLater, IsRenewal}
 use Rattle.t1_rerun.specs.Renewing.{entry_key, renewing_runs, IsChangeIn, IsEdited, IsRunWhereStale}
 use Rattle.t1_rerun.specs.Right.{IsEdit, IsRight}
-use Rattle.t1_rerun.specs.Settled.{named_keys, AreAsBefore, HasBody, IsJudged, IsRenewedBy}
+use Rattle.t1_rerun.specs.Settled.{changed_keys, was_moved, AreAsBefore, AreDistinctKeys, HasBody, IsJudged, IsRenewedBy}
 use Rattle.t1_rerun.proofs.Entries.{edited-order, key-named}
+use Rattle.t1_rerun.proofs.Single.{one-last, one-order}
 
 same-trans : (a b c : FontBodies) → SameBodies a b → SameBodies b c → SameBodies a c
 same-trans a b c ab bc (Subr n) = ab (Subr n) ∙ bc (Subr n)
@@ -82,28 +83,44 @@ module _ (records : Records) (edit : Edit) (new : SourceParts) (e : IsEdited rec
       → IsEdit (option_to_list entry) e.old new records m names
   is-edit m names file same names-are = record { right = e.right; edited = edited-at; file = file; bodies = same; names = names-are; distinct = names_distinct new e.well_made }
 
-  change-keys : (m : FontBodies) (entry : Option Named) (change : Option EntryChange) → IsChangeIn m entry change → named_keys change ≡ map key_of (option_to_list entry)
-  change-keys m None change h = ap named_keys h
-  change-keys m (Some named) change h = ap named_keys h
+  change-keys : (m : FontBodies) (entry : Option Named) (change : Option EntryChange) → IsChangeIn m entry change
+      → changed_keys (option_to_list change) ≡ map key_of (option_to_list entry)
+  change-keys m None change h = ap (λ c. changed_keys (option_to_list c)) h
+  change-keys m (Some named) change h = ap (λ c. changed_keys (option_to_list c)) h
 
-  change-body : (m : FontBodies) → SameBodies m (bodies new.items) → (entry : Option Named) (change : Option EntryChange) → IsChangeIn m entry change → HasBody change new
-  change-body m same None change h = subst (λ c. HasBody c new) (sym h) tt
-  change-body m same (Some named) change h = subst (λ c. HasBody c new) (sym h) (at (key_of named)) where
+  change-bodies : (m : FontBodies) → SameBodies m (bodies new.items) → (entry : Option Named) (change : Option EntryChange) → IsChangeIn m entry change
+      → AllByRecursion (HasBody new) (option_to_list change)
+  change-bodies m same None change h = subst (λ c. AllByRecursion (HasBody new) (option_to_list c)) (sym h) tt
+  change-bodies m same (Some named) change h = subst (λ c. AllByRecursion (HasBody new) (option_to_list c)) (sym h) (at (key_of named), tt) where
     at : (k : Key) → body_at (bodies new.items) k ≡ body_at m k
     at (Subr n) = sym (same (Subr n))
     at (Glyph g) = sym (same (Glyph g))
 
+  change-apart : (change : Option EntryChange) → AreDistinctKeys (changed_keys (option_to_list change))
+  change-apart None = tt
+  change-apart (Some change) = (refl, tt)
+
+  change-unmoved : (m : FontBodies) (entry : Option Named) (change : Option EntryChange) → IsChangeIn m entry change → (g : List ℕ)
+      → was_moved (option_to_list change) g ≡ false
+  change-unmoved m None change h g = ap (λ c. was_moved (option_to_list c) g) h
+  change-unmoved m (Some named) change h g = ap (λ c. was_moved (option_to_list c) g) h
+
   pub is-judged : (m : FontBodies) → SameBodies m (bodies new.items) → (change : Option EntryChange) → IsChangeIn m entry change → source_check new ≡ Ok tt
-      → (renewal : Renewal) → IsRenewal (map key_of (option_to_list entry)) e.old new renewal → IsJudged change e.old new records renewal
-  is-judged m same change h faultless renewal renewed = record {
-    right = e.right;
-    edited = subst (λ keys. IsEditedAt keys e.old new) (sym (change-keys m entry change h)) edited-at;
-    body = change-body m same entry change h;
-    faultless = faultless;
-    distinct = names_distinct new e.well_made;
-    order = edited-order e.old e.pairs edit new e.made_pairs e.well e.well_made e.made;
-    renewed = subst (λ keys. IsRenewal keys e.old new renewal) (sym (change-keys m entry change h)) renewed;
-  }
+      → (renewal : Renewal) → IsRenewal (map key_of (option_to_list entry)) e.old new renewal → IsJudged (option_to_list change) e.old new records renewal
+  is-judged m same change h faultless renewal renewed =
+      let edited : IsEditedAt (changed_keys (option_to_list change)) e.old new = subst (λ keys. IsEditedAt keys e.old new) (sym (change-keys m entry change h)) edited-at in
+      let distinct = names_distinct new e.well_made in
+      record {
+        right = e.right;
+        edited = edited;
+        keys = change-apart change;
+        bodies = change-bodies m same entry change h;
+        faultless = faultless;
+        distinct = distinct;
+        order = one-order (option_to_list change) e.old new (change-unmoved m entry change h) (edited-order e.old e.pairs edit new e.made_pairs e.well e.well_made e.made);
+        last = one-last change e.old new _ e.right.kept faultless edited (change-bodies m same entry change h) distinct (change-unmoved m entry change h);
+        renewed = subst (λ keys. IsRenewal keys e.old new renewal) (sym (change-keys m entry change h)) renewed;
+      }
 
   -- the stale glyphs were run
   pub runs-stale : file_check new ≡ Ok tt → length (stale e.old (map key_of (option_to_list entry)) new) ≡ renewing_runs edit e.old new
@@ -113,7 +130,7 @@ module _ (records : Records) (edit : Edit) (new : SourceParts) (e : IsEdited rec
 
   -- a stale glyph has a later run
   pub run-where-stale : (m : FontBodies) (change : Option EntryChange) → IsChangeIn m entry change → (count : ℕ) (rs : List Rerun) → AllByRecursion (IsLater count) rs
-      → (kept ks : List Kept) → AllByRecursion (IsRenewedBy (named_keys change) e.old rs kept) ks → AllByRecursion (IsRunWhereStale count (named edit) e.old kept) ks
+      → (kept ks : List Kept) → AllByRecursion (IsRenewedBy (changed_keys (option_to_list change)) e.old rs kept) ks → AllByRecursion (IsRunWhereStale count (named edit) e.old kept) ks
   run-where-stale m change h count rs later kept ks all =
       all-later-kept count (named edit) e.old rs later kept ks
       (subst (λ keys. AllByRecursion (IsRenewedBy keys e.old rs kept) ks) (change-keys m entry change h ∙ keys-are) all)

@@ -8,9 +8,12 @@ pub mod Gathering
 pub mod Judged
 pub mod Meeting
 pub mod OrderNames
+pub mod Preparing
 pub mod Reaching
 pub mod Reordering
 pub mod Settled
+pub mod Single
+pub mod Stepping
 pub mod Steps
 pub mod Taking
 pub mod Telling

@@ -23,12 +23,11 @@ use Rattle.t1_cache.specs.declared.records.Rerun.{Rerun}
 use Rattle.t1_cache.specs.Bodies.{record_bodies}
 use Rattle.t1_cache.specs.Edited.{is_stale, stale, IsEditedAt}
 use Rattle.t1_cache.specs.Kept.{KeepsAll, shown, shown_from}
-use Rattle.t1_cache.specs.Laws.{check, AreDistinct}
+use Rattle.t1_cache.specs.Laws.{check}
 use Rattle.t1_cache.specs.Overlay.{body_at}
 use Rattle.t1_cache.specs.Renewal.{IsFromScratch, IsOneOf, IsRenewed}
 use Rattle.t1_cache.specs.Renewed.{Kept, kept_of, rerun_of, with_rerun, with_reruns}
-use Rattle.t1_cache.specs.Users.{has_pair, key_eq, lists, wanted}
-use Rattle.t1_cache.proofs.Adding.{key-same}
+use Rattle.t1_cache.specs.Users.{has_pair, lists, wanted}
 use Rattle.t1_cache.proofs.Drawing.{all_draw}
 use Rattle.t1_cache.proofs.Joining.{run_kept}
 use Rattle.t1_cache.proofs.Judging.{fine-told, IsFine}
@@ -37,8 +36,8 @@ use Rattle.t1_cache.proofs.Renewing.{glyphs-of, renewed}
 use Rattle.t1_cache.proofs.There.{uses_there}
 use Rattle.t1_rerun.specs.declared.renewal.Renewal.{Renewal}
 use Rattle.t1_rerun.specs.Renewals.{rerun_kept, rerun_names, IsRenewal}
-use Rattle.t1_rerun.specs.Right.{has_glyph, IsInOrder, IsRight}
-use Rattle.t1_rerun.specs.Settled.{is_moved, AreMoved, IsOneTaken, IsRenewedBy}
+use Rattle.t1_rerun.specs.Right.{has_glyph, IsRight}
+use Rattle.t1_rerun.specs.Settled.{is_moved, IsRenewedBy}
 use Rattle.t1_rerun.proofs.Meeting.{all-among, among-off, among-passing, glyph-among, none-own}
 use Rattle.t1_rerun.proofs.Steps.{and-right, some-wanted}
 
@@ -68,41 +67,6 @@ all-at P g (x ∷ xs) all h =
 all-names : (P : List ℕ → Type 0) (xs : List (List ℕ)) → ((x : List ℕ) → list_any (bytes_eq x) xs ≡ true → P x) → AllByRecursion P xs
 all-names P xs each = all-weaken (λ x. list_any (bytes_eq x) xs ≡ true) P each xs (all-among xs xs (λ x h. h))
 
-filter-same : (p q : List ℕ → Bool) (xs : List (List ℕ)) → AllByRecursion (λ x. p x ≡ q x) xs → filter p xs ≡ filter q xs
-filter-same p q [] h = refl
-filter-same p q (x ∷ xs) h = ap (λ b. cond b (x ∷ filter p xs) (filter p xs)) h.0 ∙ ap (λ l. cond (q x) (x ∷ l) l) (filter-same p q xs h.1)
-
-filter-all : (xs : List (List ℕ)) → filter (λ x. true) xs ≡ xs
-filter-all [] = refl
-filter-all (x ∷ xs) = ap (λ l. x ∷ l) (filter-all xs)
-
-filter-none : (xs : List (List ℕ)) → filter (λ x. false) xs ≡ []
-filter-none [] = refl
-filter-none (x ∷ xs) = filter-none xs
-
-append-nil : (xs : List (List ℕ)) → xs ++ [] ≡ xs
-append-nil [] = refl
-append-nil (x ∷ xs) = ap (λ l. x ∷ l) (append-nil xs)
-
-filter-nowhere : (g : List ℕ) (ys : List (List ℕ)) → list_any (bytes_eq g) ys ≡ false → filter (bytes_eq g) ys ≡ []
-filter-nowhere g [] none = refl
-filter-nowhere g (y ∷ ys) none = one (bytes_eq g y) none (filter-nowhere g ys) where
-  one : (b : Bool) → (b || list_any (bytes_eq g) ys) ≡ false → (list_any (bytes_eq g) ys ≡ false → filter (bytes_eq g) ys ≡ [])
-      → cond b (y ∷ filter (bytes_eq g) ys) (filter (bytes_eq g) ys) ≡ []
-  one true none rest = absurd (cc)
-  one false none rest = rest none
-
--- of names that are distinct one alone is this one
-filter-one : (g : List ℕ) (xs : List (List ℕ)) → AreDistinct xs → list_any (bytes_eq g) xs ≡ true → filter (bytes_eq g) xs ≡ g ∷ []
-filter-one g [] d h = absurd (cc)
-filter-one g (x ∷ xs) d h = by (bytes_eq g x) refl (filter-one g xs d.1) where
-  by : (b : Bool) → bytes_eq g x ≡ b → (list_any (bytes_eq g) xs ≡ true → filter (bytes_eq g) xs ≡ g ∷ [])
-      → cond b (x ∷ filter (bytes_eq g) xs) (filter (bytes_eq g) xs) ≡ g ∷ []
-  by true on rest =
-      let same = bytes_tell.same g x on in
-      ap (λ l. x ∷ l) (filter-nowhere g xs (ap (λ n. list_any (bytes_eq n) xs) same ∙ d.0)) ∙ ap (λ n. n ∷ []) (sym same)
-  by false off rest = rest (ap (λ b. b || list_any (bytes_eq g) xs) (sym off) ∙ h)
-
 -- ---- which glyphs a source has
 
 module _ (s : SourceParts) (told : List Told) (fine : source_glyphs s ≡ Ok told) where
@@ -121,58 +85,6 @@ module _ (s : SourceParts) (told : List Told) (fine : source_glyphs s ≡ Ok tol
     by None e = no-glyph g e (has_glyph s g) refl
     by (Some b) e = glyph-among s.items g b e
 
--- ---- the order of the edited source's glyphs
-
-in-order : (old new : SourceParts) (p q : List ℕ → Bool) → IsInOrder old new
-    → ((g : List ℕ) → has_glyph old g ≡ true → has_glyph new g ≡ p g) → ((g : List ℕ) → has_glyph new g ≡ true → not (has_glyph old g) ≡ q g)
-    → glyph_names new.items ≡ filter p (glyph_names old.items) ++ filter q (glyph_names new.items)
-in-order old new p q order first second =
-    order
-    ∙ ap (λ l. l ++ filter (λ g. not (has_glyph old g)) (glyph_names new.items))
-    (filter-same (has_glyph new) p (glyph_names old.items) (all-names (λ g. has_glyph new g ≡ p g) (glyph_names old.items) first))
-    ∙ ap (λ l. filter p (glyph_names old.items) ++ l)
-    (filter-same (λ g. not (has_glyph old g)) q (glyph_names new.items) (all-names (λ g. not (has_glyph old g) ≡ q g) (glyph_names new.items) second))
-
-module _ (old new : SourceParts) (order : IsInOrder old new) where
-  -- the same glyphs are there
-  pub order-same : ((g : List ℕ) → has_glyph new g ≡ has_glyph old g) → glyph_names new.items ≡ glyph_names old.items
-  order-same same =
-      in-order old new (λ g. true) (λ g. false) order (λ g h. same g ∙ h) (λ g h. ap not (sym (same g) ∙ h))
-      ∙ ap (λ l. l ++ filter (λ g. false) (glyph_names new.items)) (filter-all (glyph_names old.items))
-      ∙ ap (λ l. glyph_names old.items ++ l) (filter-none (glyph_names new.items))
-      ∙ append-nil (glyph_names old.items)
-
-  -- all but these are there
-  pub order-but : (p : List ℕ → Bool) → ((g : List ℕ) → has_glyph new g ≡ (has_glyph old g && p g)) → glyph_names new.items ≡ filter p (glyph_names old.items)
-  order-but p but =
-      in-order old new p (λ g. false) order (λ g h. but g ∙ ap (λ b. b && p g) h) (λ g h. ap not (both (has_glyph old g) (p g) (sym (but g) ∙ h)))
-      ∙ ap (λ l. filter p (glyph_names old.items) ++ l) (filter-none (glyph_names new.items))
-      ∙ append-nil (filter p (glyph_names old.items))
-    where
-      both : (a b : Bool) → (a && b) ≡ true → a ≡ true
-      both true b h = refl
-      both false b h = absurd (cc)
-
-  -- one more is there
-  pub order-more : (key : List ℕ) → AreDistinct (glyph_names new.items) → has_glyph old key ≡ false
-      → ((g : List ℕ) → has_glyph new g ≡ (has_glyph old g || bytes_eq key g)) → glyph_names new.items ≡ glyph_names old.items ++ key ∷ []
-  order-more key distinct absent more =
-      in-order old new (λ g. true) (bytes_eq key) order (λ g h. more g ∙ or-left (has_glyph old g) (bytes_eq key g) h) second
-      ∙ ap (λ l. l ++ filter (bytes_eq key) (glyph_names new.items)) (filter-all (glyph_names old.items))
-      ∙ ap (λ l. glyph_names old.items ++ l)
-      (filter-one key (glyph_names new.items) distinct (more key ∙ or-right (has_glyph old key) (bytes_eq key key) (bytes_tell.itself key)))
-    where
-      by : (a b : Bool) → (a || b) ≡ true → (b ≡ true → a ≡ false) → not a ≡ b
-      by true true h never = let f : true ≡ false = never refl in absurd (cc)
-      by true false h never = refl
-      by false true h never = refl
-      by false false h never = absurd (cc)
-
-      second : (g : List ℕ) → has_glyph new g ≡ true → not (has_glyph old g) ≡ bytes_eq key g
-      second g h =
-          by (has_glyph old g) (bytes_eq key g) (sym (more g) ∙ h)
-          (λ on. ap (has_glyph old) (sym (bytes_tell.same key g on)) ∙ absent)
-
 -- ---- records with their reruns
 
 rerun-found : (g : List ℕ) (rs : List Rerun) (r : Rerun) → rerun_of rs g ≡ Some r → IsOneOf (map rerun_kept rs) (rerun_kept r) × (bytes_eq g r.name.items ≡ true)
@@ -184,7 +96,7 @@ rerun-found g (x ∷ rs) r e = by (bytes_eq g x.name.items) refl e (rerun-found 
   by true on e rest = let is : x ≡ r = cc in (inl (ap rerun_kept is), subst (λ y. bytes_eq g y.name.items ≡ true) is on)
   by false off e rest = let one = rest e in (inr one.0, one.1)
 
-rerun-there : (g : List ℕ) (rs : List Rerun) → list_any (bytes_eq g) (rerun_names rs) ≡ is_some (rerun_of rs g)
+pub rerun-there : (g : List ℕ) (rs : List Rerun) → list_any (bytes_eq g) (rerun_names rs) ≡ is_some (rerun_of rs g)
 rerun-there g [] = refl
 rerun-there g (x ∷ rs) = by (bytes_eq g x.name.items) (rerun-there g rs) where
   by : (b : Bool) → list_any (bytes_eq g) (rerun_names rs) ≡ is_some (rerun_of rs g)
@@ -202,27 +114,6 @@ names-stay rs (k ∷ xs) =
     ap (λ g. g ∷ map (λ x. x.name) (with_reruns rs xs)) (rerun-name (rerun_of rs k.name) k)
     ∙ ap (λ l. k.name ∷ l) (names-stay rs xs)
 
--- a test of names passes the same records before and after
-pub filter-with : (p : List ℕ → Bool) (rs : List Rerun) (xs : List Kept) → filter (λ k. p k.name) (with_reruns rs xs) ≡ with_reruns rs (filter (λ k. p k.name) xs)
-filter-with p rs [] = refl
-filter-with p rs (k ∷ xs) =
-    ap (λ g. cond (p g) (with_rerun (rerun_of rs k.name) k ∷ filter (λ k. p k.name) (with_reruns rs xs)) (filter (λ k. p k.name) (with_reruns rs xs))) (rerun-name (rerun_of rs k.name) k)
-    ∙ ap (λ l. cond (p k.name) (with_rerun (rerun_of rs k.name) k ∷ l) l) (filter-with p rs xs)
-    ∙ by (p k.name)
-  where
-    by : (b : Bool) → cond b (with_rerun (rerun_of rs k.name) k ∷ with_reruns rs (filter (λ k. p k.name) xs)) (with_reruns rs (filter (λ k. p k.name) xs))
-        ≡ with_reruns rs (cond b (k ∷ filter (λ k. p k.name) xs) (filter (λ k. p k.name) xs))
-    by true = refl
-    by false = refl
-
-pub filter-names : (p : List ℕ → Bool) (xs : List Kept) → map (λ k. k.name) (filter (λ k. p k.name) xs) ≡ filter p (map (λ k. k.name) xs)
-filter-names p [] = refl
-filter-names p (k ∷ xs) = by (p k.name) (filter-names p xs) where
-  by : (b : Bool) → map (λ k. k.name) (filter (λ k. p k.name) xs) ≡ filter p (map (λ k. k.name) xs)
-      → map (λ k. k.name) (cond b (k ∷ filter (λ k. p k.name) xs) (filter (λ k. p k.name) xs)) ≡ cond b (k.name ∷ filter p (map (λ k. k.name) xs)) (filter p (map (λ k. k.name) xs))
-  by true rest = ap (λ l. k.name ∷ l) rest
-  by false rest = rest
-
 -- what makes a record, with the reruns that are left, one that was renewed
 pub record IsReady (keys : List Key) (old : SourceParts) (reruns left : List Rerun) (kept : List Kept) (k : Kept) : Type 0 where
   pub again : list_any (bytes_eq k.name) (rerun_names left) ≡ true → is_stale old keys k.name ≡ true
@@ -231,7 +122,7 @@ pub record IsReady (keys : List Key) (old : SourceParts) (reruns left : List Rer
 
 module _ (keys : List Key) (old : SourceParts) (reruns left : List Rerun) (kept : List Kept)
     (more : (k : Kept) → IsOneOf (map rerun_kept left) k → IsOneOf (map rerun_kept reruns) k) where
-  renewed-one : (k : Kept) → IsReady keys old reruns left kept k → IsRenewedBy keys old reruns kept (with_rerun (rerun_of left k.name) k)
+  pub renewed-one : (k : Kept) → IsReady keys old reruns left kept k → IsRenewedBy keys old reruns kept (with_rerun (rerun_of left k.name) k)
   renewed-one k ready = by (rerun_of left k.name) refl where
     by : (r : Option Rerun) → rerun_of left k.name ≡ r → IsRenewedBy keys old reruns kept (with_rerun r k)
     by None e = record { stale = λ on. ready.made (rerun-there k.name left ∙ ap is_some e) on; fresh = ready.fresh }
@@ -248,30 +139,6 @@ module _ (keys : List Key) (old : SourceParts) (reruns left : List Rerun) (kept 
   pub renewed-all : (xs : List Kept) → AllByRecursion (IsReady keys old reruns left kept) xs → AllByRecursion (IsRenewedBy keys old reruns kept) (with_reruns left xs)
   renewed-all [] all = tt
   renewed-all (k ∷ xs) all = (renewed-one k all.0, renewed-all xs all.1)
-
--- ---- a rerun between others
-
-without : (g : List ℕ) (front back : List Rerun) (r : Rerun) → bytes_eq g r.name.items ≡ false
-    → list_any (bytes_eq g) (rerun_names (front ++ back)) ≡ list_any (bytes_eq g) (rerun_names (front ++ r ∷ back))
-without g [] back r off = ap (λ b. b || list_any (bytes_eq g) (rerun_names back)) (sym off)
-without g (x ∷ front) back r off = ap (λ b. bytes_eq g x.name.items || b) (without g front back r off)
-
-among-names : (front back : List Rerun) (r : Rerun) → list_any (bytes_eq r.name.items) (rerun_names (front ++ r ∷ back)) ≡ true
-among-names [] back r = or-left (bytes_eq r.name.items r.name.items) (list_any (bytes_eq r.name.items) (rerun_names back)) (bytes_tell.itself r.name.items)
-among-names (x ∷ front) back r = or-right (bytes_eq r.name.items x.name.items) (list_any (bytes_eq r.name.items) (rerun_names (front ++ r ∷ back))) (among-names front back r)
-
-one-more-of : (front back : List Rerun) (r : Rerun) (k : Kept) → IsOneOf (map rerun_kept (front ++ back)) k → IsOneOf (map rerun_kept (front ++ r ∷ back)) k
-one-more-of [] back r k i = inr i
-one-more-of (x ∷ front) back r k (inl e) = inl e
-one-more-of (x ∷ front) back r k (inr i) = inr (one-more-of front back r k i)
-
-one-of-middle : (front back : List Rerun) (r : Rerun) → IsOneOf (map rerun_kept (front ++ r ∷ back)) (rerun_kept r)
-one-of-middle [] back r = inl refl
-one-of-middle (x ∷ front) back r = inr (one-of-middle front back r)
-
-last-name : (xs : List Kept) (x : Kept) → map (λ k. k.name) (xs ++ x ∷ []) ≡ map (λ k. k.name) xs ++ x.name ∷ []
-last-name [] x = refl
-last-name (y ∷ xs) x = ap (λ l. y.name ∷ l) (last-name xs x)
 
 -- ---- the names of what is kept
 
@@ -390,19 +257,6 @@ module _ (keys : List Key) (old new : SourceParts) (before : Records) (renewal :
             ∙ ap (is_user k) (sym (run_kept keys m n edit.bodies (all_draw old right.kept.glyphs right.kept.faultless) is.found is.reached g off))
       ]
 
-  pub moved-but : (key : Key) → body_at n key ≡ None → (k : Key) (g : List ℕ) → (is_moved renewal before k g && not (key_eq k key)) ≡ is_user k (own n g)
-  moved-but key gone k g =
-      ap (λ b. b && not (key_eq k key)) (moved-at k g)
-      ∙ by (is_user k (own n g)) refl (key_eq k key) refl
-    where
-      by : (used : Bool) → is_user k (own n g) ≡ used → (here : Bool) → key_eq k key ≡ here → (used && not here) ≡ used
-      by false e here f = refl
-      by true e false f = refl
-      by true e true f =
-          let there = uses_there n g k e in
-          let never : None ≡ Some there.0 = sym gone ∙ ap (body_at n) (sym (key-same k key f)) ∙ there.1 in
-          absurd (cc)
-
   -- what joins has a body in the edited source
   pub joins-there : (k : Key) → body_at n k ≡ None → wanted renewal.joins.items k ≡ 0
   joins-there k gone =
@@ -424,7 +278,7 @@ module _ (keys : List Key) (old new : SourceParts) (before : Records) (renewal :
     by true on = among-passing (is_stale old keys) g (glyph_names new.items) there on
     by false off = among-off (is_stale old keys) g (glyph_names new.items) off
 
-  ready : (left : List Rerun) (k : Kept) → list_any (bytes_eq k.name) (rerun_names left) ≡ list_any (bytes_eq k.name) (rerun_names reruns)
+  pub ready : (left : List Rerun) (k : Kept) → list_any (bytes_eq k.name) (rerun_names left) ≡ list_any (bytes_eq k.name) (rerun_names reruns)
       → has_glyph new k.name ≡ true → IsOneOf kept k → IsReady keys old reruns left kept k
   ready left k same there one = record {
     again = λ on. sym (rerun-stale k.name there) ∙ sym same ∙ on;
@@ -436,13 +290,6 @@ module _ (keys : List Key) (old new : SourceParts) (before : Records) (renewal :
   there-all xs order =
       all-of-names (λ g. has_glyph new g ≡ true) xs
       (subst (AllByRecursion (λ g. has_glyph new g ≡ true)) (sym order) (all-names (λ g. has_glyph new g ≡ true) (glyph_names new.items) (λ g h. h)))
-
-  -- records that were kept, in the order of the edited source
-  pub renewed-kept : (xs : List Kept) → map (λ k. k.name) xs ≡ glyph_names new.items → AllByRecursion (IsOneOf kept) xs
-      → AllByRecursion (IsRenewedBy keys old reruns kept) (with_reruns reruns xs)
-  renewed-kept xs order all =
-      renewed-all keys old reruns reruns kept (λ k h. h) xs
-      (all-both (IsOneOf kept) (λ k. has_glyph new k.name ≡ true) (IsReady keys old reruns reruns kept) (λ k one there. ready reruns k refl there one) xs all (there-all xs order))
 
   pub keeps-all : (records : List Kept) → map (λ k. k.name) records ≡ glyph_names new.items → AllByRecursion (IsRenewedBy keys old reruns kept) records
       → KeepsAll new records
@@ -468,74 +315,3 @@ module _ (keys : List Key) (old new : SourceParts) (before : Records) (renewal :
     },
     subst (AllByRecursion (IsRenewedBy keys old reruns kept)) (sym e) all,
   )
-
-  module _ (order : IsInOrder old new) where
-    -- with the same glyphs
-    pub settled-same : (after : Records) → SameBodies (record_bodies after) n → AreMoved renewal before after
-        → map kept_of after.glyphs.entries ≡ with_reruns reruns kept → ((g : List ℕ) → has_glyph new g ≡ has_glyph old g) → Settles after
-    settled-same after same moves e has =
-        let names = kept-names ∙ sym (order-same old new order has) in
-        settled after (with_reruns reruns kept) same (λ k g. moves k g ∙ moved-at k g) e (names-stay reruns kept ∙ names)
-        (renewed-kept kept names (all-own kept kept (λ k h. h)))
-
-    -- without some
-    pub settled-but : (p : List ℕ → Bool) (after : Records) → SameBodies (record_bodies after) n → ((k : Key) (g : List ℕ) → lists after k g ≡ is_user k (own n g))
-        → map kept_of after.glyphs.entries ≡ filter (λ k. p k.name) (with_reruns reruns kept) → ((g : List ℕ) → has_glyph new g ≡ (has_glyph old g && p g)) → Settles after
-    settled-but p after same users e has =
-        let left = filter (λ k. p k.name) kept in
-        let names = filter-names p kept ∙ ap (filter p) kept-names ∙ sym (order-but old new order p has) in
-        settled after (with_reruns reruns left) same users (e ∙ filter-with p reruns kept) (names-stay reruns left ∙ names)
-        (renewed-kept left names (all-passed (IsOneOf kept) (λ k. p k.name) kept (all-own kept kept (λ k h. h))))
-
-    -- with one more, whose record is that of a rerun, which is taken out
-    module _ (key : List ℕ) (distinct : AreDistinct (glyph_names new.items)) (has : (g : List ℕ) → has_glyph new g ≡ (has_glyph old g || bytes_eq key g))
-        (absent : has_glyph old key ≡ false) (left : List Rerun) (r : Rerun) (taken : IsOneTaken key reruns left r) where
-      apart : (g : List ℕ) → has_glyph old g ≡ true → bytes_eq g r.name.items ≡ false
-      apart g there = by (bytes_eq g r.name.items) refl where
-        by : (b : Bool) → bytes_eq g r.name.items ≡ b → b ≡ false
-        by false e = refl
-        by true e =
-            let never : true ≡ false = sym there ∙ ap (has_glyph old) (bytes_tell.same g r.name.items e ∙ taken.name) ∙ absent in
-            absurd (cc)
-
-      same-left : (k : Kept) → has_glyph old k.name ≡ true → list_any (bytes_eq k.name) (rerun_names left) ≡ list_any (bytes_eq k.name) (rerun_names reruns)
-      same-left k there =
-          ap (λ l. list_any (bytes_eq k.name) (rerun_names l)) taken.left
-          ∙ without k.name taken.front taken.back r (apart k.name there)
-          ∙ ap (λ l. list_any (bytes_eq k.name) (rerun_names l)) (sym taken.was)
-
-      stale-key : is_stale old keys r.name.items ≡ true
-      stale-key =
-          sym (rerun-stale r.name.items (has r.name.items ∙ or-right (has_glyph old r.name.items) (bytes_eq key r.name.items)
-          (ap (bytes_eq key) taken.name ∙ bytes_tell.itself key)))
-          ∙ ap (λ l. list_any (bytes_eq r.name.items) (rerun_names l)) taken.was
-          ∙ among-names taken.front taken.back r
-
-      more : (k : Kept) → IsOneOf (map rerun_kept left) k → IsOneOf (map rerun_kept reruns) k
-      more k i =
-          subst (λ l. IsOneOf (map rerun_kept l) k) (sym taken.was)
-          (one-more-of taken.front taken.back r k (subst (λ l. IsOneOf (map rerun_kept l) k) taken.left i))
-
-      ready-last : IsReady keys old reruns left kept (rerun_kept r)
-      ready-last = record {
-        again = λ on. stale-key;
-        made = λ off on. subst (λ l. IsOneOf (map rerun_kept l) (rerun_kept r)) (sym taken.was) (one-of-middle taken.front taken.back r);
-        fresh = λ off. let never : true ≡ false = sym stale-key ∙ off in absurd (cc);
-      }
-
-      ready-kept : AllByRecursion (IsReady keys old reruns left kept) kept
-      ready-kept =
-          all-both (IsOneOf kept) (λ k. has_glyph old k.name ≡ true) (IsReady keys old reruns left kept)
-          (λ k one there. ready left k (same-left k there) (has k.name ∙ or-left (has_glyph old k.name) (bytes_eq key k.name) there) one)
-          kept (all-own kept kept (λ k h. h))
-          (all-of-names (λ g. has_glyph old g ≡ true) kept
-          (subst (AllByRecursion (λ g. has_glyph old g ≡ true)) (sym kept-names) (all-names (λ g. has_glyph old g ≡ true) (glyph_names old.items) (λ g h. h))))
-
-      pub settled-more : (after : Records) → SameBodies (record_bodies after) n → AreMoved renewal before after
-          → map kept_of after.glyphs.entries ≡ with_reruns left (kept ++ rerun_kept r ∷ []) → Settles after
-      settled-more after same moves e =
-          settled after (with_reruns left (kept ++ rerun_kept r ∷ [])) same (λ k g. moves k g ∙ moved-at k g) e
-          (names-stay left (kept ++ rerun_kept r ∷ []) ∙ last-name kept (rerun_kept r) ∙ ap (λ l. l ++ r.name.items ∷ []) kept-names
-          ∙ ap (λ g. glyph_names old.items ++ g ∷ []) taken.name ∙ sym (order-more old new order key distinct absent has))
-          (renewed-all keys old reruns left kept more (kept ++ rerun_kept r ∷ [])
-          (all-more (IsReady keys old reruns left kept) kept (rerun_kept r) ready-kept ready-last))

@@ -1,5 +1,7 @@
 -- Records of a source that is edited at one entry.
-use Rattle.std.specs.Prelude.{◌≡◌, ℕ, List, Option, Some, None, Ok, if◌then◌else◌}
+use Rattle.std.specs.Prelude.{◌≡◌, ℕ, List, Option, Some, None, Ok, false, if◌then◌else◌}
+use Rattle.std.specs.List.{AllByRecursion}
+use Rattle.std.specs.Option.{option_to_list}
 use Rattle.t1_code.specs.declared.command.Command.{Command}
 use Rattle.t1_parts.specs.SourceParts.{SourceParts}
 use Rattle.t1_run.specs.Run.{Subr, Glyph}
@@ -11,7 +13,7 @@ use Rattle.t1_cache.specs.Laws.{AreDistinct}
 use Rattle.t1_cache.specs.Users.{key_eq, key_of}
 use Rattle.t1_rerun.specs.declared.settling.EntryChange.{EntryChange}
 use Rattle.t1_rerun.specs.Right.{IsInOrder, IsRight}
-use Rattle.t1_rerun.specs.Settled.{named_keys, HasBody}
+use Rattle.t1_rerun.specs.Settled.{changed_keys, was_moved, HasBody}
 
 -- what a change sets, or takes out, at a Subr
 abbrev pub subr_changed : Option EntryChange → ℕ → Option (Option (List Command))
@@ -27,11 +29,12 @@ glyph_changed (Some change) g = if key_eq (Glyph g) (key_of change.named) then S
 -- in their order
 pub record IsChangeOf (change : Option EntryChange) (old new : SourceParts) (records : Records) (ordered : List (List ℕ)) : Type 0 where
   pub right : IsRight old records
-  pub edited : IsEditedAt (named_keys change) old new
-  pub body : HasBody change new
+  pub edited : IsEditedAt (changed_keys (option_to_list change)) old new
+  pub bodies : AllByRecursion (HasBody new) (option_to_list change)
+  pub unmoved : (g : List ℕ) → was_moved (option_to_list change) g ≡ false
   pub file : file_check new ≡ Ok tt
   pub distinct : AreDistinct (glyph_names new.items)
-  pub order : IsInOrder old new
+  pub order : IsInOrder (was_moved (option_to_list change)) old new
   pub names : ordered ≡ glyph_names new.items
 
 -- there are such sources

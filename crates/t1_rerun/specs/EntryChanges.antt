@@ -1,5 +1,7 @@
 -- What an edit changes of the bodies of a source.
-use Rattle.std.specs.Prelude.{◌≡◌, ℕ, ℤ, pos, negsuc, nat_le, if◌then◌else◌, List, Option, Some, None, Result, Ok}
+use Rattle.std.specs.Prelude.{◌≡◌, ℕ, ℤ, pos, negsuc, Bool, false, nat_le, if◌then◌else◌, List, Option, Some, None, Result, Ok}
+use Rattle.std.specs.List.{AllByRecursion}
+use Rattle.std.specs.Option.{option_to_list}
 use Rattle.t1_frac.specs.declared.fault.Fault.{Fault}
 use Rattle.t1_frac.specs.declared.fault.Place.{Place}
 use Rattle.t1_frac.specs.declared.fault.Place.TheVariants as places
@@ -18,24 +20,25 @@ use Rattle.t1_cache.specs.Edited.{named, IsEditedAt}
 use Rattle.t1_cache.specs.Users.{key_of}
 use Rattle.t1_rerun.specs.declared.settling.EntryChange.{EntryChange}
 use Rattle.t1_rerun.specs.Right.{IsInOrder}
-use Rattle.t1_rerun.specs.Settled.{named_keys, HasBody}
+use Rattle.t1_rerun.specs.Settled.{changed_keys, was_moved, HasBody}
 
 -- the number of a Subr, where it has 16 bits
 abbrev pub number_within : ℤ → Option ℕ
 number_within (pos n) = if nat_le n 65535 then Some n else None
 number_within (negsuc n) = None
 
--- profile: a Subr or a glyph, and its body after an edit; none where it is removed
+-- profile: a Subr or a glyph, and its body after an edit; none where it is removed. No edit alone moves a glyph
 pub record KeyChange : Type 0 where
   pub key : Key
   pub body : Option (List Command)
+  pub moved : Bool
 
 abbrev pub key_change : EntryChange → KeyChange
-key_change change = record { key = key_of change.named; body = change.body }
+key_change change = record { key = key_of change.named; body = change.body; moved = change.moved }
 
 -- profile: a Subr or a glyph gets the commands of words, or these have their fault at its place
 abbrev pub put_key : Key → Place → List (List ℕ) → Result (Option KeyChange) Fault
-put_key key place words = told_at place (commands words) >>= λ body. Ok (Some (record { key = key; body = Some body }))
+put_key key place words = told_at place (commands words) >>= λ body. Ok (Some (record { key = key; body = Some body; moved = false }))
 
 abbrev pub put_number : Option ℕ → List (List ℕ) → Result (Option KeyChange) Fault
 put_number None words = Ok None
@@ -43,13 +46,13 @@ put_number (Some n) words = put_key (Subr n) (places.Subr n) words
 
 abbrev pub removed_number : Option ℕ → Option KeyChange
 removed_number None = None
-removed_number (Some n) = Some (record { key = Subr n; body = None })
+removed_number (Some n) = Some (record { key = Subr n; body = None; moved = false })
 
 -- profile, edits: the entry that an edit names, with its body after it, or the fault of its words
 abbrev pub edit_change : Edit → Result (Option KeyChange) Fault
 edit_change (ReplaceGlyph g body) = put_key (Glyph g) (places.Glyph g) (body_words body)
 edit_change (AddGlyph g body) = put_key (Glyph g) (places.Glyph g) (body_words body)
-edit_change (RemoveGlyph g) = Ok (Some (record { key = Glyph g; body = None }))
+edit_change (RemoveGlyph g) = Ok (Some (record { key = Glyph g; body = None; moved = false }))
 edit_change (ReplaceSubr n body) = put_number (number_within n) (body_words body)
 edit_change (AddSubr n body) = put_number (number_within n) (body_words body)
 edit_change (RemoveSubr n) = Ok (removed_number (number_within n))
@@ -66,8 +69,9 @@ pub record IsMade (edit : Edit) (old new : SourceParts) : Type 0 where
 
 -- the edited source differs at the entry of the change alone, where it has this body, and its bodies have no fault
 pub record IsChanged (edit : Edit) (old new : SourceParts) (change : Option EntryChange) : Type 0 where
-  pub keys : named_keys change ≡ named edit
-  pub edited : IsEditedAt (named_keys change) old new
-  pub body : HasBody change new
+  pub keys : changed_keys (option_to_list change) ≡ named edit
+  pub edited : IsEditedAt (changed_keys (option_to_list change)) old new
+  pub bodies : AllByRecursion (HasBody new) (option_to_list change)
+  pub unmoved : (g : List ℕ) → was_moved (option_to_list change) g ≡ false
   pub compiled : bodies_check new.items ≡ Ok tt
-  pub order : IsInOrder old new
+  pub order : IsInOrder (was_moved (option_to_list change)) old new

@@ -7,3 +7,4 @@ pub mod Renewals
 pub mod Renewing
 pub mod Right
 pub mod Settled
+pub mod Steps

@@ -47,7 +47,7 @@ entry_key _ = None
 -- the entry that is named, with its body in a font
 abbrev pub IsChangeIn : FontBodies → Option Named → Option EntryChange → Type 0
 IsChangeIn m None change = change ≡ None
-IsChangeIn m (Some named) change = change ≡ Some (record { named = named; body = body_at m (key_of named) })
+IsChangeIn m (Some named) change = change ≡ Some (record { named = named; body = body_at m (key_of named); moved = false })
 
 -- profile: each glyph that an edit of a source makes stale is run once; none, where a body or the file has a fault
 abbrev pub renewing_runs : Edit → SourceParts → SourceParts → ℕ

@@ -1,5 +1,5 @@
 -- What is kept of a source, and what edits make new of it.
-use Rattle.std.specs.Prelude.{◌≡◌, ◌++◌, ℕ, Bool, not, Ok, List, filter, map}
+use Rattle.std.specs.Prelude.{◌≡◌, ◌++◌, ◌&&◌, ◌||◌, ℕ, Bool, not, Ok, List, filter, map}
 use Rattle.std.specs.List.{list_any}
 use Rattle.std.specs.Str.{bytes_eq}
 use Rattle.t1_parts.specs.SourceParts.{SourceParts}
@@ -28,11 +28,12 @@ pub record IsRight (s : SourceParts) (records : Records) : Type 0 where
 abbrev pub has_glyph : SourceParts → List ℕ → Bool
 has_glyph s g = list_any (bytes_eq g) (glyph_names s.items)
 
--- the glyphs of an edited source: those of the source before that are still there, in their order, then the new ones
-abbrev pub IsInOrder : SourceParts → SourceParts → Type 0
-IsInOrder old new =
+-- the glyphs of an edited source: those of the source before that are still there and weren't gone at any time, in their
+-- order, then the others
+abbrev pub IsInOrder : (List ℕ → Bool) → SourceParts → SourceParts → Type 0
+IsInOrder gone old new =
     glyph_names new.items
-    ≡ filter (has_glyph new) (glyph_names old.items) ++ filter (λ g. not (has_glyph old g)) (glyph_names new.items)
+    ≡ filter (λ g. has_glyph new g && not (gone g)) (glyph_names old.items) ++ filter (λ g. gone g || not (has_glyph old g)) (glyph_names new.items)
 
 -- a source whose records are right was edited, and the edited one has its file: the bodies and the glyphs' names of the
 -- edited one

@@ -12,11 +12,11 @@ ghost use Rattle.t1_cache.specs.Users.{key_of};
 ghost use Rattle.t1_rerun.specs.Changing.{glyph_changed, subr_changed, IsChangeOf, MayBeRenewed};
 ghost use Rattle.t1_rerun.specs.Renewing.{IsRunWhereStale};
 ghost use Rattle.t1_rerun.specs.Right.{IsRight};
-ghost use Rattle.t1_rerun.specs.Settled.{named_keys};
+ghost use Rattle.t1_rerun.specs.Settled.{changed_keys};
 
 use crate::judging::rerun;
 use crate::order::GlyphOrder;
-use crate::settling::{EntryChange, settle};
+use crate::settling::{EntryChange, settle_one};
 use std::alloc::Global;
 use std::slice;
 use t1_cache::{Named, Records};
@@ -35,7 +35,7 @@ pub struct Changing<'a> {
 fn subr_in(change: &Option<EntryChange>, n: u16) -> Option<&Option<Body>>
     ensures { option_copied result ≡ subr_changed change.now n }
 {
-    let EntryChange { named, body } = change.as_ref()?;
+    let EntryChange { named, body, .. } = change.as_ref()?;
     match named {
         Named::Subr(number) if *number == n => Some(body),
         _ => None,
@@ -46,7 +46,7 @@ fn subr_in(change: &Option<EntryChange>, n: u16) -> Option<&Option<Body>>
 fn glyph_in<'a>(change: &'a Option<EntryChange>, name: &[u8]) -> Option<&'a Option<Body>>
     ensures { option_copied result ≡ glyph_changed change.now name.now }
 {
-    let EntryChange { named, body } = change.as_ref()?;
+    let EntryChange { named, body, .. } = change.as_ref()?;
     match named {
         Named::Glyph(glyph) if glyph.as_slice() == name => Some(body),
         _ => None,
@@ -79,7 +79,7 @@ impl<'a> Bodies for Changing<'a> {
 
 /// The entry of a change as a slice.
 fn entry_of(change: &Option<EntryChange>) -> &[Named]
-    ensures { map key_of result.now ≡ named_keys change.now }
+    ensures { map key_of result.now ≡ changed_keys (option_to_list change.now) }
 {
     match change {
         None => &[],
@@ -100,8 +100,8 @@ pub fn renew_change<O: GlyphOrder>(
     requires { MayBeRenewed change records.old (O.ordered order.now) }
     ensures checked { (old new : SourceParts) → IsChangeOf change old new records.old (O.ordered order.now) → Gives (λ _. tt) result (source_check new) }
     ensures right { (old new : SourceParts) → IsChangeOf change old new records.old (O.ordered order.now) → OnOk result (IsRight new records.new) }
-    ensures renews { (old new : SourceParts) → IsChangeOf change old new records.old (O.ordered order.now) → OnOk result (AllByRecursion (IsRunWhereStale meter.old (named_keys change) old (map kept_of records.old.glyphs.entries)) (map kept_of records.new.glyphs.entries)) }
-    ensures counted { (old new : SourceParts) → IsChangeOf change old new records.old (O.ordered order.now) → Counts (length (stale old (named_keys change) new)) meter.old meter.new result }
+    ensures renews { (old new : SourceParts) → IsChangeOf change old new records.old (O.ordered order.now) → OnOk result (AllByRecursion (IsRunWhereStale meter.old (changed_keys (option_to_list change)) old (map kept_of records.old.glyphs.entries)) (map kept_of records.new.glyphs.entries)) }
+    ensures counted { (old new : SourceParts) → IsChangeOf change old new records.old (O.ordered order.now) → Counts (length (stale old (changed_keys (option_to_list change)) new)) meter.old meter.new result }
     ensures refused { OnErr result ((s : SourceParts) → IsRight s records.old → IsRight s records.new) }
 {
     let bodies = Changing {
@@ -109,6 +109,6 @@ pub fn renew_change<O: GlyphOrder>(
         change: &change,
     };
     let renewal = rerun(alloc, records, &bodies, order, entry_of(&change), meter)?;
-    settle(alloc, records, change, renewal)?;
+    settle_one(alloc, records, change, renewal)?;
     Ok(())
 }

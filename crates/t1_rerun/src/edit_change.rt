@@ -1,5 +1,5 @@
 //! What an edit changes of the bodies of a source.
-ghost use Rattle.std.specs.Prelude.{◌≡◌, IfOk, MatchResult};
+ghost use Rattle.std.specs.Prelude.{◌≡◌, false, IfOk, MatchResult};
 ghost use Rattle.std.specs.Option.{option_map};
 ghost use Rattle.t1_frac.specs.Outcome.{Gives, Refuses};
 ghost use Rattle.t1_frac.specs.declared.fault.Place.TheVariants as places;
@@ -39,6 +39,7 @@ fn subr_put(alloc: Global, number: i64, body: &Bytes) -> Result<Option<EntryChan
     Ok(Some(EntryChange {
         named: Named::Subr(number),
         body: Some(body),
+        moved: false,
     }))
 }
 
@@ -51,6 +52,7 @@ fn glyph_put(alloc: Global, name: &Bytes, body: &Bytes) -> Result<Option<EntryCh
     Ok(Some(EntryChange {
         named: Named::Glyph(Bytes::copied(alloc, name.as_slice())?),
         body: Some(body),
+        moved: false,
     }))
 }
 
@@ -62,16 +64,18 @@ fn subr_removed(number: i64) -> Option<EntryChange>
     Some(EntryChange {
         named: Named::Subr(number),
         body: None,
+        moved: false,
     })
 }
 
 /// A glyph that is removed.
 fn glyph_removed(alloc: Global, name: &Bytes) -> Result<EntryChange, AllocError>
-    ensures { IfOk result (λ change. key_change change ≡ record { key = Glyph name.now; body = None }) }
+    ensures { IfOk result (λ change. key_change change ≡ record { key = Glyph name.now; body = None; moved = false }) }
 {
     Ok(EntryChange {
         named: Named::Glyph(Bytes::copied(alloc, name.as_slice())?),
         body: None,
+        moved: false,
     })
 }
 

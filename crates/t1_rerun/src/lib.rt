@@ -2,7 +2,8 @@
 //!
 //! [`opened_records`] gives the records of a source, or its first fault. [`renew`] brings them to those of the source after
 //! an edit, or answers its first fault: [`rerun`] runs the stale glyphs, each once, and measures them by their newest runs,
-//! and [`settle`] changes the records. [`measured_records`] gives the metrics of the font by them.
+//! [`make_ready`] makes all that the change of the records takes, and
+//! [`settle`] changes them. [`measured_records`] gives the metrics of the font by them.
 #![tactic(auto)]
 
 mod changing;
@@ -29,7 +30,7 @@ pub use order::GlyphOrder;
 pub use prepared::Prepared;
 pub use renewal::Renewal;
 pub use renewing::renew;
-pub use settling::{EntryChange, settle};
+pub use settling::{EntryChange, Ready, make_ready, settle, settle_one};
 
 #[cfg(test)]
 mod tests;

@@ -15,7 +15,7 @@ ghost use Rattle.t1_rerun.specs.Renewing.{entry_key, number_key, renewing_runs, 
 ghost use Rattle.t1_rerun.specs.Right.{IsRight};
 
 use crate::judging::rerun;
-use crate::settling::{EntryChange, settle};
+use crate::settling::{EntryChange, settle_one};
 use std::alloc::{AllocError, Global};
 use std::slice;
 use t1_cache::{Named, Records};
@@ -80,7 +80,11 @@ fn change_of(entry: Option<Named>, bodies: &mut Plain) -> Option<EntryChange>
         Named::Subr(number) => bodies.subrs.swap_remove(number),
         Named::Glyph(name) => bodies.glyphs.swap_remove(name.as_slice()),
     };
-    Some(EntryChange { named, body })
+    Some(EntryChange {
+        named,
+        body,
+        moved: false,
+    })
 }
 
 /// Brings the records of a source to those of the source that an edit made of it, or answers its first fault: of a body, F23,
@@ -105,6 +109,6 @@ pub fn renew(
     let entry = named_entry(alloc, edit)?;
     let renewal = rerun(alloc, records, &bodies, source, entries(&entry), meter)?;
     let change = change_of(entry, &mut bodies);
-    settle(alloc, records, change, renewal)?;
+    settle_one(alloc, records, change, renewal)?;
     Ok(())
 }

@@ -40,8 +40,8 @@ const THREE: &str = "\
     end\n\
     mark currentfile closefile\n";
 
-/// The records of the three glyphs.
-fn three(alloc: Global, meter: &mut Meter) -> Result<Records, Fail> {
+/// The records of the three glyphs, in the order Aacute, A, acute.
+pub(crate) fn three(alloc: Global, meter: &mut Meter) -> Result<Records, Fail> {
     let source = read_source(alloc, THREE.as_bytes())?;
     Ok(opened_records(alloc, &source, meter)?)
 }
@@ -160,10 +160,14 @@ fn compiles_the_body_of_an_edit(rt: HostRuntime) -> Result<(), Fail> {
 fn has_fault_at_4(alloc: Global, body: &[u8]) -> Result<bool, Fail> {
     let edit = subr_4(alloc, body)?;
     match change_of_edit(alloc, &edit) {
-        Err(Refusal::Fault(Fault {
-            place: Place::Subr(number),
-            ..
-        })) => Ok(number == 4),
+        Err(
+            Refusal::Fault(
+                Fault {
+                    place: Place::Subr(number),
+                    ..
+                },
+            ),
+        ) => Ok(number == 4),
         _ => Ok(false),
     }
 }

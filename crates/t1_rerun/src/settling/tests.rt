@@ -1,12 +1,14 @@
-//! Records of one Subr, with memory that doesn't run out.
+//! Records of a Subr and of three glyphs, with memory that doesn't run out.
 ghost use Rattle.std.specs.Prelude.{◌≡◌, []};
 
 use super::*;
+use crate::tests::three;
 use indexmap::{IndexMap, IndexSet};
 use std::test::Fail;
-use t1_cache::SubrRecord;
+use t1_cache::{Rerun, SubrRecord};
 use t1_code::compile;
-use t1_frac::Words;
+use t1_frac::{Bytes, Words};
+use t1_run::{Bodies, Meter, run};
 
 fn body(alloc: Global, words: &str) -> Result<Body, Fail> {
     let mut list = Words::new(alloc);
@@ -27,21 +29,43 @@ fn records(alloc: Global) -> Result<Records, Fail> {
     })
 }
 
-fn nothing_new(alloc: Global) -> Renewal
-    ensures { result.joins.items ≡ [] }
-{
+/// Nobody moves, and these glyphs were run again.
+fn renewal(alloc: Global, reruns: Vec<Rerun>) -> Renewal {
     Renewal {
-        reruns: Vec::new(alloc),
+        reruns,
         leaves: Vec::new(alloc),
         joins: Vec::new(alloc),
     }
 }
 
-/// How many Subrs have a record after this one was set, and whether it has one, and Subr 4.
-fn set_subr(alloc: Global, number: u16) -> Result<(usize, bool, bool), Fail> {
+/// Makes one change of the records, in both steps.
+fn change(
+    alloc: Global,
+    records: &mut Records,
+    change: EntryChange,
+    renewal: Renewal,
+) -> Result<(), Fail> {
+    let changes = changes_of(alloc, Some(change))?;
+    let ready = make_ready(alloc, records, changes, renewal)?;
+    let Ready { steps, runs, .. } = ready;
+    change_all(records, steps);
+    renew_by_name(&mut records.glyphs, runs);
+    Ok(())
+}
+
+/// How many Subrs have a record after a change of this one, and whether it has one, and Subr 4.
+fn change_subr(
+    alloc: Global,
+    number: u16,
+    body: Option<Body>,
+) -> Result<(usize, bool, bool), Fail> {
     let mut records = records(alloc)?;
-    let body = body(alloc, "return")?;
-    settle_subr(alloc, &mut records, number, body, nothing_new(alloc))?;
+    let subr = EntryChange {
+        named: Named::Subr(number),
+        body,
+        moved: false,
+    };
+    change(alloc, &mut records, subr, renewal(alloc, Vec::new(alloc)))?;
     Ok((
         records.subrs.len(),
         records.subr(number).is_some(),
@@ -51,23 +75,75 @@ fn set_subr(alloc: Global, number: u16) -> Result<(usize, bool, bool), Fail> {
 
 #[test]
 fn adds_a_subr(rt: HostRuntime) -> Result<(), Fail> {
-    let (count, added, kept) = set_subr(rt.alloc(), 5)?;
+    let alloc = rt.alloc();
+    let (count, added, kept) = change_subr(alloc, 5, Some(body(alloc, "return")?))?;
     assert!(rt; count == 2 && added && kept);
     Ok(())
 }
 
 #[test]
 fn replaces_a_subr(rt: HostRuntime) -> Result<(), Fail> {
-    let (count, replaced, _) = set_subr(rt.alloc(), 4)?;
+    let alloc = rt.alloc();
+    let (count, replaced, _) = change_subr(alloc, 4, Some(body(alloc, "return")?))?;
     assert!(rt; count == 1 && replaced);
     Ok(())
 }
 
 #[test]
 fn removes_a_subr(rt: HostRuntime) -> Result<(), Fail> {
-    let alloc = rt.alloc();
-    let mut records = records(alloc)?;
-    settle_removed(alloc, &mut records, Named::Subr(4), nothing_new(alloc))?;
-    assert!(rt; records.subrs.len() == 0);
+    let (count, _, _) = change_subr(rt.alloc(), 4, None)?;
+    assert!(rt; count == 0);
+    Ok(())
+}
+
+/// A glyph, run again.
+fn rerun(alloc: Global, records: &Records, name: &[u8]) -> Result<Vec<Rerun>, Fail> {
+    if records.glyph(name).is_none() {
+        return Err(Fail::new("no such glyph"));
+    }
+    let run = run(alloc, records, name, &mut Meter::new())?;
+    let mut reruns = Vec::new(alloc);
+    reruns.push(Rerun {
+        name: Vec::from_slice(alloc, name)?,
+        run,
+        bbox: None,
+    })?;
+    Ok(reruns)
+}
+
+/// The records of three glyphs, of which A has other words.
+fn change_a(alloc: Global, moved: bool) -> Result<Records, Fail> {
+    let mut records = three(alloc, &mut Meter::new())?;
+    let reruns = rerun(alloc, &records, b"A")?;
+    let glyph = EntryChange {
+        named: Named::Glyph(Bytes::copied(alloc, b"A")?),
+        body: Some(body(alloc, "0 500 hsbw closepath endchar")?),
+        moved,
+    };
+    change(alloc, &mut records, glyph, renewal(alloc, reruns))?;
+    Ok(records)
+}
+
+/// Whether the glyph of this name stands there, behind so many others.
+fn stands(records: &Records, at: usize, name: &str) -> bool {
+    match records.glyphs.get_index(at) {
+        None => false,
+        Some((glyph, _)) => glyph.as_slice() == name.as_bytes(),
+    }
+}
+
+#[test]
+fn leaves_a_replaced_glyph_in_its_place(rt: HostRuntime) -> Result<(), Fail> {
+    let records = change_a(rt.alloc(), false)?;
+    assert!(rt; records.glyphs.len() == 3 && stands(&records, 1, "A"));
+    Ok(())
+}
+
+#[test]
+fn moves_a_glyph_that_was_added_again_behind_the_others(rt: HostRuntime) -> Result<(), Fail> {
+    let records = change_a(rt.alloc(), true)?;
+    assert!(rt;
+        records.glyphs.len() == 3 && stands(&records, 1, "acute") && stands(&records, 2, "A")
+    );
     Ok(())
 }

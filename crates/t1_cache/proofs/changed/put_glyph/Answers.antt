@@ -7,7 +7,9 @@ use Rattle.t1_cache.specs.Bodies.{glyph_body, record_bodies}
 use Rattle.t1_cache.specs.Overlay.{body_at}
 use Rattle.t1_cache.specs.Renewed.{kept_of}
 use Rattle.t1_cache.specs.Users.{glyph_users, key_eq, users_at, users_of}
+use Rattle.std.specs.Option.{option_map}
 use Rattle.t1_cache.proofs.Adding.{at-key}
+use Rattle.t1_cache.proofs.Changing.{put-there}
 use Rattle.t1_cache.proofs.Putting.{bytes_tell, reads-put, reads-stay, rest-put}
 use Rattle.t1_cache.proofs.changed.put_glyph.Goals as goal
 
@@ -16,11 +18,12 @@ returns-in-Some-clause-bodies c =
     let now : GlyphRecord = record c.in-Some.record.now { body = c.args.body } in
     let old : Records = c.args.records.now in
     let new : Records = record c.args.records.now { glyphs = c.get_mut.follows.lender now } in
-    at-key (λ k. body_at (record_bodies new) k ≡ cond (key_eq k (Glyph c.args.name.now)) (Some c.args.body) (body_at (record_bodies old) k))
+    at-key (λ k. body_at (record_bodies new) k ≡ cond (key_eq k (Glyph c.args.name.now)) (option_map (λ was. c.args.body) (body_at (record_bodies old) k)) (body_at (record_bodies old) k))
     (λ n. refl)
     (λ g.
     ap (λ es. glyph_body es g) (c.get_mut.follows.holds now).0
-    ∙ reads-put bytes_eq bytes_tell (λ k. k.items) (λ r. r.body) old.glyphs.entries c.args.name.now c.in-Some.record.now now (sym c.in-Some.ensures.value) g)
+    ∙ reads-put bytes_eq bytes_tell (λ k. k.items) (λ r. r.body) old.glyphs.entries c.args.name.now c.in-Some.record.now now (sym c.in-Some.ensures.value) g
+    ∙ put-there bytes_eq bytes_tell (λ k. k.items) (λ r. r.body) old.glyphs.entries c.args.name.now c.args.body c.in-Some.record.now (sym c.in-Some.ensures.value) g)
 
 pub returns-in-Some-clause-users : goal.returns-in-Some-clause-users
 returns-in-Some-clause-users c =

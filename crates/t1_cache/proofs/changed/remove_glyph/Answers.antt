@@ -7,9 +7,9 @@ use Rattle.t1_cache.specs.declared.records.Records.{Records}
 use Rattle.t1_cache.specs.Bodies.{glyph_body, record_bodies}
 use Rattle.t1_cache.specs.Overlay.{body_at}
 use Rattle.t1_cache.specs.Renewed.{kept_of}
-use Rattle.t1_cache.specs.Users.{among, glyph_users, key_eq, lists, users_of}
+use Rattle.t1_cache.specs.Users.{glyph_users, key_eq, users_at, users_of}
 use Rattle.t1_cache.proofs.Adding.{at-key}
-use Rattle.t1_cache.proofs.Changing.{all-but, and-true, kept-but, reads-removed, users-removed}
+use Rattle.t1_cache.proofs.Changing.{all-but, kept-but, reads-removed}
 use Rattle.t1_cache.proofs.Putting.{bytes_tell}
 use Rattle.t1_cache.proofs.changed.remove_glyph.Goals as goal
 
@@ -29,11 +29,9 @@ returns-clause-users c =
     let new : Records = record c.args.records.now { glyphs = c.shift_remove.new.self } in
     let entries = c.shift_remove.ensures.entries in
     let gone = sym (ap (lookup (λ k. bytes_eq c.args.name.now k.items)) entries) ∙ c.shift_remove.ensures.updates.1 in
-    at-key (λ k. (u : List ℕ) → lists new k u ≡ (lists old k u && not (key_eq k (Glyph c.args.name.now))))
-    (λ n u. sym (and-true (lists old (Subr n) u)))
-    (λ g u.
-    ap (λ es. among (glyph_users es g) u) entries
-    ∙ users-removed bytes_eq bytes_tell (λ k. k.items) (λ r. users_of r.users) old.glyphs.entries c.args.name.now gone g u)
+    at-key (λ k. users_at new k ≡ cond (key_eq k (Glyph c.args.name.now)) None (users_at old k))
+    (λ n. refl)
+    (λ g. ap (λ es. glyph_users es g) entries ∙ reads-removed bytes_eq bytes_tell (λ k. k.items) (λ r. users_of r.users) old.glyphs.entries c.args.name.now gone g)
 
 pub returns-clause-kept : goal.returns-clause-kept
 returns-clause-kept c =

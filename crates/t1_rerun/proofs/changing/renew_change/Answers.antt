@@ -1,10 +1,11 @@
 use Rattle.std.proofs.Common.{◌≡◌, ap, length, map, subst}
+use Rattle.std.specs.Option.{option_to_list}
 use Rattle.std.proofs.lemmas.Result.{err_from_is_err_and}
 use Rattle.t1_font.specs.Runs.{counted, Counts}
 use Rattle.t1_font.proofs.Keeping.{on-err}
 use Rattle.t1_cache.specs.Edited.{stale}
 use Rattle.t1_cache.specs.Renewed.{kept_of}
-use Rattle.t1_rerun.specs.Settled.{named_keys}
+use Rattle.t1_rerun.specs.Settled.{changed_keys}
 use Rattle.t1_rerun.proofs.ChangedBodies.{is-edit, is-judged}
 use Rattle.t1_rerun.proofs.FirstRecords.{counts-done}
 use Rattle.t1_rerun.proofs.Judged.{all-later-kept, still-right}
@@ -25,8 +26,8 @@ returns-in_err-renewal-clause-counted g c = λ old new e.
     c.in_err-renewal.field-0.0 p.0 c.in_err-renewal.was p.1 p.2 (ap (λ keys. length (stale old keys new)) c.entry_of.ensures)
     (c.rerun.ensures.counted old new (is-edit old new c.args.records.now ordered c.args.change e c.entry_of.result.now c.entry_of.ensures))
 
-pub settle-requires : goal.settle-requires
-settle-requires g c =
+pub settle_one-requires : goal.settle_one-requires
+settle_one-requires g c =
     let ordered = g.O.GlyphOrder.ordered c.args.order.now in
     let old = c.requires.0 in
     let new = c.requires.1.0 in
@@ -40,16 +41,16 @@ settle-requires g c =
       ),
     )
 
-pub returns-in_err-settle-clause-counted : goal.returns-in_err-settle-clause-counted
-returns-in_err-settle-clause-counted g c = λ old new e.
+pub returns-in_err-settle_one-clause-counted : goal.returns-in_err-settle_one-clause-counted
+returns-in_err-settle_one-clause-counted g c = λ old new e.
     let ordered = g.O.GlyphOrder.ordered c.args.order.now in
-    subst (λ n. Counts n c.args.meter.now c.rerun.new.meter c.from_residual-in_err-settle.result) (ap (λ keys. length (stale old keys new)) c.entry_of.ensures)
-    (counts-done _ c.args.meter.now c.rerun.new.meter c.from_residual-in_err-settle.result
+    subst (λ n. Counts n c.args.meter.now c.rerun.new.meter c.from_residual-in_err-settle_one.result) (ap (λ keys. length (stale old keys new)) c.entry_of.ensures)
+    (counts-done _ c.args.meter.now c.rerun.new.meter c.from_residual-in_err-settle_one.result
     (c.in_ok-renewal.ensures.counted old new (is-edit old new c.args.records.now ordered c.args.change e c.entry_of.result.now c.entry_of.ensures)))
 
-pub returns-in_err-settle-clause-refused : goal.returns-in_err-settle-clause-refused
-returns-in_err-settle-clause-refused g c =
-    on-err c.from_residual-in_err-settle.result (still-right c.args.records.now c.settle.new.records c.in_err-settle.ensures.refused)
+pub returns-in_err-settle_one-clause-refused : goal.returns-in_err-settle_one-clause-refused
+returns-in_err-settle_one-clause-refused g c =
+    on-err c.from_residual-in_err-settle_one.result (still-right c.args.records.now c.settle_one.new.records c.in_err-settle_one.ensures.refused)
 
 pub returns-clause-checked : goal.returns-clause-checked
 returns-clause-checked g c = λ old new e.
@@ -60,16 +61,16 @@ pub returns-clause-right : goal.returns-clause-right
 returns-clause-right g c = λ old new e.
     let ordered = g.O.GlyphOrder.ordered c.args.order.now in
     let edit = is-edit old new c.args.records.now ordered c.args.change e c.entry_of.result.now c.entry_of.ensures in
-    c.in_ok-settle.ensures.right old new (is-judged old new c.args.records.now ordered c.args.change e c.entry_of.result.now c.entry_of.ensures
+    c.in_ok-settle_one.ensures.right old new (is-judged old new c.args.records.now ordered c.args.change e c.entry_of.result.now c.entry_of.ensures
     (c.in_ok-renewal.ensures.checked old new edit) c.in_ok-renewal.renewal (c.in_ok-renewal.ensures.renewal old new edit))
 
 pub returns-clause-renews : goal.returns-clause-renews
 returns-clause-renews g c = λ old new e.
     let ordered = g.O.GlyphOrder.ordered c.args.order.now in
     let edit = is-edit old new c.args.records.now ordered c.args.change e c.entry_of.result.now c.entry_of.ensures in
-    all-later-kept c.args.meter.now (named_keys c.args.change) old c.in_ok-renewal.renewal.reruns.items c.in_ok-renewal.ensures.later
-    (map kept_of c.args.records.now.glyphs.entries) (map kept_of c.settle.new.records.glyphs.entries)
-    (c.in_ok-settle.ensures.renews old new (is-judged old new c.args.records.now ordered c.args.change e c.entry_of.result.now c.entry_of.ensures
+    all-later-kept c.args.meter.now (changed_keys (option_to_list c.args.change)) old c.in_ok-renewal.renewal.reruns.items c.in_ok-renewal.ensures.later
+    (map kept_of c.args.records.now.glyphs.entries) (map kept_of c.settle_one.new.records.glyphs.entries)
+    (c.in_ok-settle_one.ensures.renews old new (is-judged old new c.args.records.now ordered c.args.change e c.entry_of.result.now c.entry_of.ensures
     (c.in_ok-renewal.ensures.checked old new edit) c.in_ok-renewal.renewal (c.in_ok-renewal.ensures.renewal old new edit)))
 
 pub returns-clause-counted : goal.returns-clause-counted

@@ -23,8 +23,8 @@ returns-in_err-renewal-clause-checked c =
     let p = err_from_is_err_and c.from_residual-in_err-renewal.result c.from_residual-in_err-renewal.ensures.1 in
     rw (p.1, p.2) (c.in_err-renewal.ensures.checked e.old new (subst (λ edits. IsEdit edits e.old new c.args.records.now m (glyph_names new.items)) (sym c.entries.ensures) edit))
 
-pub settle-requires : goal.settle-requires
-settle-requires c =
+pub settle_one-requires : goal.settle_one-requires
+settle_one-requires c =
     let new = c.args.source.now in
     let e = c.requires in
     let m = plain_bodies c.in_ok-bodies.bodies in
@@ -39,9 +39,9 @@ settle-requires c =
       ),
     )
 
-pub returns-in_err-settle-clause-refused : goal.returns-in_err-settle-clause-refused
-returns-in_err-settle-clause-refused c =
-    on-err c.from_residual-in_err-settle.result (still-right c.args.records.now c.settle.new.records c.in_err-settle.ensures.refused)
+pub returns-in_err-settle_one-clause-refused : goal.returns-in_err-settle_one-clause-refused
+returns-in_err-settle_one-clause-refused c =
+    on-err c.from_residual-in_err-settle_one.result (still-right c.args.records.now c.settle_one.new.records c.in_err-settle_one.ensures.refused)
 
 pub returns-in_err-settle-clause-kept : goal.returns-in_err-settle-clause-kept
 returns-in_err-settle-clause-kept c =
@@ -62,7 +62,7 @@ returns-clause-right c =
     let m = plain_bodies c.in_ok-bodies.bodies in
     let edit = subst (λ edits. IsEdit edits e.old new c.args.records.now m (glyph_names new.items)) (sym c.entries.ensures)
     (is-edit c.args.records.now c.args.edit.now new e c.in_ok-entry.entry c.in_ok-entry.ensures m (glyph_names new.items) c.in_ok-bodies.ensures.file c.in_ok-bodies.ensures.bodies refl) in
-    c.in_ok-settle.ensures.right e.old new (is-judged c.args.records.now c.args.edit.now new e c.in_ok-entry.entry c.in_ok-entry.ensures m c.in_ok-bodies.ensures.bodies c.change_of-change.result c.change_of-change.ensures
+    c.in_ok-settle_one.ensures.right e.old new (is-judged c.args.records.now c.args.edit.now new e c.in_ok-entry.entry c.in_ok-entry.ensures m c.in_ok-bodies.ensures.bodies c.change_of-change.result c.change_of-change.ensures
     (c.in_ok-renewal.ensures.checked e.old new edit) c.in_ok-renewal.renewal
     (subst (λ edits. IsRenewal (map key_of edits) e.old new c.in_ok-renewal.renewal) c.entries.ensures (c.in_ok-renewal.ensures.renewal e.old new edit)))
 
@@ -78,16 +78,16 @@ returns-in_err-renewal-clause-counted c = λ e.
     counts-same _ _ c.args.meter.now c.rerun.new.meter c.rerun.result c.from_residual-in_err-renewal.result
     c.in_err-renewal.field-0.0 p.0 c.in_err-renewal.was p.1 p.2 equal (c.rerun.ensures.counted e.old new edit)
 
-pub returns-in_err-settle-clause-counted : goal.returns-in_err-settle-clause-counted
-returns-in_err-settle-clause-counted c = λ e.
+pub returns-in_err-settle_one-clause-counted : goal.returns-in_err-settle_one-clause-counted
+returns-in_err-settle_one-clause-counted c = λ e.
     let new = c.args.source.now in
     let m = plain_bodies c.in_ok-bodies.bodies in
     let edit = subst (λ edits. IsEdit edits e.old new c.args.records.now m (glyph_names new.items)) (sym c.entries.ensures)
     (is-edit c.args.records.now c.args.edit.now new e c.in_ok-entry.entry c.in_ok-entry.ensures m (glyph_names new.items) c.in_ok-bodies.ensures.file c.in_ok-bodies.ensures.bodies refl) in
     let equal = ap (λ edits. length (stale e.old (map key_of edits) new)) c.entries.ensures
     ∙ runs-stale c.args.records.now c.args.edit.now new e c.in_ok-entry.entry c.in_ok-entry.ensures c.in_ok-bodies.ensures.file in
-    subst (λ n. Counts n c.args.meter.now c.rerun.new.meter c.from_residual-in_err-settle.result) equal
-    (counts-done _ c.args.meter.now c.rerun.new.meter c.from_residual-in_err-settle.result (c.in_ok-renewal.ensures.counted e.old new edit))
+    subst (λ n. Counts n c.args.meter.now c.rerun.new.meter c.from_residual-in_err-settle_one.result) equal
+    (counts-done _ c.args.meter.now c.rerun.new.meter c.from_residual-in_err-settle_one.result (c.in_ok-renewal.ensures.counted e.old new edit))
 
 pub returns-clause-counted : goal.returns-clause-counted
 returns-clause-counted c = λ e.
@@ -107,7 +107,7 @@ returns-clause-renews c = λ e.
     (is-edit c.args.records.now c.args.edit.now new e c.in_ok-entry.entry c.in_ok-entry.ensures m (glyph_names new.items) c.in_ok-bodies.ensures.file c.in_ok-bodies.ensures.bodies refl) in
     run-where-stale c.args.records.now c.args.edit.now new e c.in_ok-entry.entry c.in_ok-entry.ensures m c.change_of-change.result c.change_of-change.ensures
     c.args.meter.now c.in_ok-renewal.renewal.reruns.items c.in_ok-renewal.ensures.later _ _
-    (c.in_ok-settle.ensures.renews e.old new (is-judged c.args.records.now c.args.edit.now new e c.in_ok-entry.entry c.in_ok-entry.ensures m c.in_ok-bodies.ensures.bodies c.change_of-change.result c.change_of-change.ensures
+    (c.in_ok-settle_one.ensures.renews e.old new (is-judged c.args.records.now c.args.edit.now new e c.in_ok-entry.entry c.in_ok-entry.ensures m c.in_ok-bodies.ensures.bodies c.change_of-change.result c.change_of-change.ensures
     (c.in_ok-renewal.ensures.checked e.old new edit) c.in_ok-renewal.renewal
     (subst (λ edits. IsRenewal (map key_of edits) e.old new c.in_ok-renewal.renewal) c.entries.ensures (c.in_ok-renewal.ensures.renewal e.old new edit))))
 

@@ -1,8 +1,7 @@
-use Rattle.std.proofs.Common.{◌∙◌}
-use Rattle.std.proofs.Common.{map}
+use Rattle.std.proofs.Common.{◌∙◌, map}
 use Rattle.t1_cache.specs.Renewed.{kept_of}
-use Rattle.t1_rerun.proofs.Steps.{kept-but-subr}
-use Rattle.t1_rerun.proofs.settling.remove.Goals as goal
+use Rattle.t1_rerun.proofs.Stepping.{kept-but-subr}
+use Rattle.t1_rerun.proofs.settling.steps.remove.Goals as goal
 
 pub returns-in-Subr-clause-kept : goal.returns-in-Subr-clause-kept
 returns-in-Subr-clause-kept c =

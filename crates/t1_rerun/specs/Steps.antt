@@ -1,0 +1,130 @@
+-- The changes of records, one after another.
+use Rattle.std.specs.Prelude.{◌≡◌, ◌⊎◌, ◌≤◌, ◌++◌, ◌||◌, not, ℕ, Bool, true, false, List, [], ◌∷◌, filter, map, Option, Some, None, IsSome, is_none, if◌then◌else◌}
+use Rattle.std.specs.List.{list_any}
+use Rattle.std.specs.Option.{option_map}
+use Rattle.std.specs.Str.{bytes_eq}
+use Rattle.std.specs.declared.alloc.Global.{Global}
+use Rattle.std.specs.declared.vec.Vec.{Vec}
+use Rattle.indexmap.specs.IndexSet.{IndexSet, spare}
+use Rattle.t1_code.specs.declared.command.Command.{Command}
+use Rattle.t1_run.specs.Run.{Key, Subr, Glyph, NumberedRun}
+use Rattle.t1_run.specs.Touched.{is_key_of}
+use Rattle.t1_afm.specs.declared.bbox.BBox.{BBox}
+use Rattle.t1_cache.specs.declared.records.Named.{Named}
+use Rattle.t1_cache.specs.declared.records.Named.TheVariants as named
+use Rattle.t1_cache.specs.declared.records.NewRun.{NewRun}
+use Rattle.t1_cache.specs.declared.records.Records.{Records}
+use Rattle.t1_cache.specs.declared.records.Rerun.{Rerun}
+use Rattle.t1_cache.specs.Bodies.{record_bodies}
+use Rattle.t1_cache.specs.Overlay.{body_at}
+use Rattle.t1_cache.specs.Renewed.{Kept, kept, kept_of, rerun_of}
+use Rattle.t1_cache.specs.Users.{key_eq, key_of, users_at, users_of, UserSet}
+use Rattle.t1_rerun.specs.declared.settling.EntryChange.{EntryChange}
+use Rattle.t1_rerun.specs.declared.settling.steps.Step.{Step}
+use Rattle.t1_rerun.specs.declared.settling.steps.Step.TheVariants as steps
+
+-- what is seen of records: the body and the users at each key, and each glyph's run and box, in order
+pub record Seen : Type 0 where
+  pub bodies : Key → Option (List Command)
+  pub users : Key → Option UserSet
+  pub kept : List Kept
+
+abbrev pub seen : Records → Seen
+seen r = record { bodies = body_at (record_bodies r); users = users_at r; kept = map kept_of r.glyphs.entries }
+
+-- ---- what a step does
+
+-- the one key that it changes
+abbrev pub step_key : Step → Key
+step_key (steps.Remove named) = key_of named
+step_key (steps.Put named body) = key_of named
+step_key (steps.InsertSubr n r) = Subr n
+step_key (steps.InsertGlyph name r) = Glyph name.items
+
+-- the body at the key, from the one before
+abbrev pub step_body : Step → Option (List Command) → Option (List Command)
+step_body (steps.Remove named) was = None
+step_body (steps.Put named body) was = option_map (λ old. body) was
+step_body (steps.InsertSubr n r) was = Some r.body
+step_body (steps.InsertGlyph name r) was = Some r.body
+
+-- the users at the key
+abbrev pub step_users : Step → Option UserSet → Option UserSet
+step_users (steps.Remove named) was = None
+step_users (steps.Put named body) was = was
+step_users (steps.InsertSubr n r) was = Some (users_of r.users)
+step_users (steps.InsertGlyph name r) was = Some (users_of r.users)
+
+-- the glyphs: one that is removed goes, one that is inserted stands last
+abbrev pub step_kept : Step → List Kept → List Kept
+step_kept (steps.Remove named) ks = filter (λ k. not (is_key_of k.name (key_of named))) ks
+step_kept (steps.Put named body) ks = ks
+step_kept (steps.InsertSubr n r) ks = ks
+step_kept (steps.InsertGlyph name r) ks = filter (λ k. not (bytes_eq name.items k.name)) ks ++ kept name.items r.run r.bbox ∷ []
+
+-- what is seen after a step
+abbrev pub after : Step → Seen → Seen
+after step x = record {
+  bodies = λ k. if key_eq k (step_key step) then step_body step (x.bodies k) else x.bodies k;
+  users = λ k. if key_eq k (step_key step) then step_users step (x.users k) else x.users k;
+  kept = step_kept step x.kept;
+}
+
+-- after all of them, the last one first
+abbrev pub after_all : List Step → Seen → Seen
+after_all [] x = x
+after_all (step ∷ steps) x = after step (after_all steps x)
+
+-- ---- the steps of changes
+
+-- the new run and box of a glyph, by the first of its reruns
+abbrev pub new_run : List Rerun → List ℕ → Option (NumberedRun × Option BBox)
+new_run reruns g = option_map (λ r. (r.run, r.bbox)) (rerun_of reruns g)
+
+abbrev pub new_run_of : Option NewRun → Option (NumberedRun × Option BBox)
+new_run_of r = option_map (λ r. (r.run, r.bbox)) r
+
+-- a new record of the glyph is put in
+abbrev pub inserts : Step → List ℕ → Bool
+inserts (steps.InsertGlyph name r) g = bytes_eq name.items g
+inserts _ g = false
+
+abbrev pub some_inserts : List Step → List ℕ → Bool
+some_inserts steps g = list_any (λ step. inserts step g) steps
+
+-- by the records a glyph that is there was moved, or wasn't there
+abbrev pub is_last : Records → Bool → Named → Bool
+is_last records moved (named.Subr n) = false
+is_last records moved (named.Glyph g) = moved || is_none (body_at (record_bodies records) (Glyph g))
+
+-- there is no new run of the glyph
+abbrev pub LacksRun : (List ℕ → Option (NumberedRun × Option BBox)) → Named → Type 0
+LacksRun run (named.Subr n) = ⊥
+LacksRun run (named.Glyph g) = run g ≡ None
+
+-- no users, and room for so many
+abbrev pub HasPlaces : {S : Type 0} → ℕ → IndexSet (Vec ℕ Global) S → Type 0
+HasPlaces count users = (users.keys ≡ []) × (count ≤ spare users)
+
+-- the step of a change, by new runs and by how many users join each entry. An entry that was removed is removed, and so is a
+-- glyph to be put in that has no new run
+abbrev pub IsStepOf : (List ℕ → Option (NumberedRun × Option BBox)) → (Key → ℕ) → Records → EntryChange → Step → Type 0
+IsStepOf run count records c (steps.Remove named) =
+    (c.named ≡ named) × ((c.body ≡ None) ⊎ ((is_last records c.moved named ≡ true) × LacksRun run named))
+IsStepOf run count records c (steps.Put named body) =
+    (c.named ≡ named) × ((c.body ≡ Some body) × ((is_last records c.moved named ≡ false) × IsSome (body_at (record_bodies records) (key_of named))))
+IsStepOf run count records c (steps.InsertSubr n r) =
+    (c.named ≡ named.Subr n) × ((c.body ≡ Some r.body) × HasPlaces (count (Subr n)) r.users)
+IsStepOf run count records c (steps.InsertGlyph name r) =
+    (c.named ≡ named.Glyph name.items)
+    × ((c.body ≡ Some r.body)
+    × ((is_last records c.moved c.named ≡ true) × (HasPlaces (count (Glyph name.items)) r.users × (run name.items ≡ Some (r.run, r.bbox)))))
+
+abbrev pub changed : Named → Option (List Command) → Bool → EntryChange
+changed named body moved = record { named = named; body = body; moved = moved }
+
+-- the last step is that of the first change, and so on
+abbrev pub AreStepsOf : (List ℕ → Option (NumberedRun × Option BBox)) → (Key → ℕ) → Records → List EntryChange → List Step → Type 0
+AreStepsOf run count records [] steps = steps ≡ []
+AreStepsOf run count records (c ∷ changes) steps =
+    (front : List Step) × ((step : Step) × ((steps ≡ front ++ step ∷ []) × (IsStepOf run count records c step × AreStepsOf run count records changes front)))
