@@ -11,6 +11,7 @@ pub mod Naming
 pub mod Ordering
 pub mod Outlining
 pub mod Rows
+pub mod Slotting
 pub mod SourceMetrics
 pub mod SubrsFirst
 pub mod UsageRows
