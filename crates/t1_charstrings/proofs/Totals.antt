@@ -1,7 +1,7 @@
 -- The length of the private text of a source that was edited.
-use Rattle.std.proofs.Common.{◌≡◌, ◌+◌, ◌-◌, ◌^◌, ◌<◌, ◌≤◌, min, ℕ, zero, suc, Bool, true, false, cond, List, [], ◌∷◌, ◌++◌, map, length, codes, refl, sym, ap, ◌∙◌, Option, Some, None, Ok, Result, arith}
+use Rattle.std.proofs.Common.{◌≡◌, ◌-◌, ◌^◌, ◌<◌, ◌≤◌, min, ℕ, zero, suc, Bool, true, false, cond, List, [], ◌∷◌, ◌++◌, map, length, codes, refl, sym, ap, ◌∙◌, Option, Some, Ok, Result, arith}
 use Rattle.std.specs.Prelude.{option_and_then, unwrap_or}
-use Rattle.std.specs.List.{find, insert, list_any, remove, slice_set, slice_index_or}
+use Rattle.std.specs.List.{find, insert, remove, slice_set}
 use Rattle.t1_frac.specs.declared.fault.Fault.{Fault}
 use Rattle.t1_parts.specs.declared.item.Item.{Item}
 use Rattle.t1_parts.specs.declared.item.Item.TheVariants as items
@@ -10,15 +10,13 @@ use Rattle.t1_parts.specs.LenIV.{lead, plain_line}
 use Rattle.t1_parts.specs.Operator.{operator, operator_among, operator_on, reads_strings}
 use Rattle.t1_parts.specs.SourceParts.{SourceParts}
 use Rattle.t1_source.specs.Changes.{IsInPlaceOf}
-use Rattle.t1_source.specs.Editing.{with_items}
 use Rattle.t1_source.proofs.ChangeLaws.{raised_put, raised_removed}
 use Rattle.t1_font.specs.Assembly.{private_text}
 use Rattle.t1_run.specs.Run.{Key, Subr, Glyph}
 use Rattle.t1_charstrings.specs.declared.entries.Charstrings.{Charstrings}
-use Rattle.t1_charstrings.specs.Entries.{Kept}
 use Rattle.t1_charstrings.specs.Lengths.{IsPrivateLen}
-use Rattle.t1_charstrings.specs.Lines.{kept_line, kept_text}
-use Rattle.t1_charstrings.specs.Sums.{has_key, item_at, section_line, section_text, AreEdited, InsertSumLaw, PutSumLaw, RemoveSumLaw}
+use Rattle.t1_charstrings.specs.Lines.{kept_text}
+use Rattle.t1_charstrings.specs.Sums.{has_key, item_at, section_line, section_text, InsertSumLaw, PutSumLaw, RemoveSumLaw}
 use Rattle.t1_charstrings.proofs.Adding.{inserted_len, put_len, raised_len, remove_len}
 use Rattle.t1_charstrings.proofs.Putting.{bytes_tell, numbers_tell}
 use Rattle.t1_charstrings.proofs.Texts.{kept_text_is}

@@ -1,5 +1,5 @@
 //! How long the private text is, and whether a part of the PFB file is too long.
-ghost use Rattle.std.specs.Prelude.{◌≡◌, ◌^◌, ◌-◌, Some, min, length, option_copied};
+ghost use Rattle.std.specs.Prelude.{◌≡◌, ◌^◌, ◌-◌, ◌∷◌, ◌++◌, [], Some, decimal, min, length, option_copied};
 ghost use Rattle.t1_frac.specs.Outcome.{Gives};
 ghost use Rattle.t1_text.specs.Lines.{joined};
 ghost use Rattle.t1_parts.specs.SourceParts.{SourceParts};
@@ -66,6 +66,17 @@ fn kept_line_len(operator: &[u8], kept: Option<&Entry>, closing: &[u8]) -> usize
     }
 }
 
+/// How long a section line is, up to 2^64 - 1.
+fn section_line_len(before: &[u8], count: u64, after: &[u8]) -> usize
+    ensures { result ≡ min (length (before.now ++ decimal count ++ after.now ++ 10 ∷ [])) (2 ^ 64 - 1) }
+{
+    let digits = Buffer::new().format(count).len();
+    digits
+        .saturating_add(1)
+        .saturating_add(before.len())
+        .saturating_add(after.len())
+}
+
 /// How long the line of an item is, up to 2^64 - 1.
 pub fn line_len(charstrings: &Charstrings, operator: &[u8], item: &Item) -> usize
     ensures { result ≡ min (length (kept_line charstrings.now operator.now item.now)) (2 ^ 64 - 1) }
@@ -73,12 +84,7 @@ pub fn line_len(charstrings: &Charstrings, operator: &[u8], item: &Item) -> usiz
     match item {
         Item::Plain(line) => line.as_slice().len().saturating_add(1),
         Item::Section(before, count, after) => {
-            let digits = Buffer::new().format(*count).len();
-            let text = before
-                .as_slice()
-                .len()
-                .saturating_add(after.as_slice().len());
-            text.saturating_add(digits).saturating_add(1)
+            section_line_len(before.as_slice(), *count, after.as_slice())
         }
         Item::Subr(number, _, closing) => {
             let kept = charstrings.subrs.get(number);
@@ -117,12 +123,7 @@ fn section_len(item: &Item) -> usize
 {
     match item {
         Item::Section(before, count, after) => {
-            let digits = Buffer::new().format(*count).len();
-            let text = before
-                .as_slice()
-                .len()
-                .saturating_add(after.as_slice().len());
-            text.saturating_add(digits).saturating_add(1)
+            section_line_len(before.as_slice(), *count, after.as_slice())
         }
         _ => 0,
     }
