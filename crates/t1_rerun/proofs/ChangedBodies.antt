@@ -1,6 +1,7 @@
 -- The bodies of records with one of them changed, and what is judged by them.
 use Rattle.std.proofs.Common.{◌≡◌, ℕ, Bool, true, false, List, [], ◌∷◌, map, refl, sym, ◌∙◌, ap, subst, Option, Some, None, Ok, inl, inr, cond}
 use Rattle.std.specs.Option.{option_to_list}
+use Rattle.std.specs.List.{AllByRecursion}
 use Rattle.t1_parts.specs.SourceParts.{SourceParts}
 use Rattle.t1_run.specs.Footprint.{Includes}
 use Rattle.t1_run.specs.Overlay.{changed}
@@ -16,10 +17,12 @@ use Rattle.t1_cache.specs.Users.{key_eq, key_of}
 use Rattle.t1_cache.proofs.Adding.{key-itself, key-same}
 use Rattle.t1_rerun.specs.declared.renewal.Renewal.{Renewal}
 use Rattle.t1_rerun.specs.declared.settling.EntryChange.{EntryChange}
-use Rattle.t1_rerun.specs.Changing.{glyph_changed, subr_changed, IsChangeOf}
-use Rattle.t1_rerun.specs.Renewals.{IsRenewal}
+use Rattle.t1_rerun.specs.declared.settling.Ready.{Ready}
+use Rattle.t1_rerun.specs.Changing.{glyph_changed, subr_changed, IsChangeOf, IsReadyFor}
+use Rattle.t1_rerun.specs.Renewals.{IsLater, IsRenewal}
 use Rattle.t1_rerun.specs.Right.{IsEdit}
-use Rattle.t1_rerun.specs.Settled.{changed_keys, AreDistinctKeys, IsJudged}
+use Rattle.t1_rerun.specs.Settled.{changed_keys, AreAsBefore, AreDistinctKeys, IsJudged, IsReady}
+use Rattle.t1_rerun.proofs.Preparing.{judged-again}
 use Rattle.t1_rerun.proofs.Single.{one-last}
 
 -- the bodies of records, with one of them changed
@@ -31,7 +34,7 @@ not-included : (k key : Key) → key_eq k key ≡ false → Includes (key ∷ []
 not-included k key off (inl e) = let never : true ≡ false = sym (key-itself k) ∙ ap (key_eq k) (sym e) ∙ off in absurd (cc)
 not-included k key off (inr i) = i
 
-alone : (change : Option EntryChange) → AreDistinctKeys (changed_keys (option_to_list change))
+pub alone : (change : Option EntryChange) → AreDistinctKeys (changed_keys (option_to_list change))
 alone None = tt
 alone (Some change) = (refl, tt)
 
@@ -74,4 +77,15 @@ module _ (old new : SourceParts) (records : Records) (ordered : List (List ℕ))
       order = j.order;
       last = one-last change old new _ j.right.kept faultless j.edited j.bodies j.distinct j.unmoved;
       renewed = subst (λ keys. IsRenewal keys old new renewal) keys renewed;
+    }
+
+    -- and what was prepared for it is so of records that are as before
+    pub is-ready : source_check new ≡ Ok tt → (renewal : Renewal) → IsRenewal (map key_of edits) old new renewal
+        → (count : ℕ) → AllByRecursion (IsLater count) renewal.reruns.items → (mid : Records) → AreAsBefore records mid
+        → (ready : Ready) → IsReady (option_to_list change) renewal mid ready → IsReadyFor count change old new mid ready
+    is-ready faultless renewal renewed count later mid same ready prepared = record {
+      renewal = renewal;
+      prepared = prepared;
+      judged = judged-again (option_to_list change) old new records mid renewal same (is-judged faultless renewal renewed);
+      later = later;
     }

@@ -11,9 +11,12 @@ use Rattle.t1_cache.specs.declared.records.Records.{Records}
 use Rattle.t1_cache.specs.Edited.{IsEditedAt}
 use Rattle.t1_cache.specs.Laws.{AreDistinct}
 use Rattle.t1_cache.specs.Users.{key_eq, key_of}
+use Rattle.t1_rerun.specs.declared.renewal.Renewal.{Renewal}
 use Rattle.t1_rerun.specs.declared.settling.EntryChange.{EntryChange}
+use Rattle.t1_rerun.specs.declared.settling.Ready.{Ready}
+use Rattle.t1_rerun.specs.Renewals.{IsLater}
 use Rattle.t1_rerun.specs.Right.{IsInOrder, IsRight}
-use Rattle.t1_rerun.specs.Settled.{changed_keys, was_moved, HasBody}
+use Rattle.t1_rerun.specs.Settled.{changed_keys, was_moved, HasBody, IsJudged, IsReady}
 
 -- what a change sets, or takes out, at a Subr
 abbrev pub subr_changed : Option EntryChange → ℕ → Option (Option (List Command))
@@ -40,3 +43,18 @@ pub record IsChangeOf (change : Option EntryChange) (old new : SourceParts) (rec
 -- there are such sources
 abbrev pub MayBeRenewed : Option EntryChange → Records → List (List ℕ) → Type 0
 MayBeRenewed change records ordered = (old : SourceParts) × ((new : SourceParts) × IsChangeOf change old new records ordered)
+
+-- the edited source has no fault, each stale glyph was run after this count, and all that the change of the records takes is there
+pub record IsReadyFor (count : ℕ) (change : Option EntryChange) (old new : SourceParts) (records : Records) (ready : Ready) : Type 0 where
+  pub renewal : Renewal
+  pub prepared : IsReady (option_to_list change) renewal records ready
+  pub judged : IsJudged (option_to_list change) old new records renewal
+  pub later : AllByRecursion (IsLater count) renewal.reruns.items
+
+-- there are such a change and such sources
+pub record IsPrepared (records : Records) (ready : Ready) : Type 0 where
+  pub count : ℕ
+  pub change : Option EntryChange
+  pub old : SourceParts
+  pub new : SourceParts
+  pub prepared : IsReadyFor count change old new records ready

@@ -24,7 +24,7 @@ mod reruns;
 mod settling;
 mod stale;
 
-pub use changing::{Changing, renew_change};
+pub use changing::{Changing, prepare_change, renew_change, settle_ready};
 pub use edit_change::change_of_edit;
 pub use judging::rerun;
 pub use measured::measured_records;

@@ -43,10 +43,6 @@ pub returns-in_err-settle_one-clause-refused : goal.returns-in_err-settle_one-cl
 returns-in_err-settle_one-clause-refused c =
     on-err c.from_residual-in_err-settle_one.result (still-right c.args.records.now c.settle_one.new.records c.in_err-settle_one.ensures.refused)
 
-pub returns-in_err-settle-clause-kept : goal.returns-in_err-settle-clause-kept
-returns-in_err-settle-clause-kept c =
-    on-err c.from_residual-in_err-settle.result c.in_err-settle.ensures.refused.kept
-
 pub returns-clause-checked : goal.returns-clause-checked
 returns-clause-checked c =
     let new = c.args.source.now in
@@ -115,3 +111,7 @@ pub returns-in_err-entry-clause-counted : goal.returns-in_err-entry-clause-count
 returns-in_err-entry-clause-counted c = λ e.
     let p = err_from_is_err_and c.from_residual-in_err-entry.result c.from_residual-in_err-entry.ensures.1 in
     counts-none (renewing_runs c.args.edit.now e.old c.args.source.now) c.args.meter.now c.from_residual-in_err-entry.result p.0 p.1 p.2
+
+pub returns-in_err-settle_one-clause-kept : goal.returns-in_err-settle_one-clause-kept
+returns-in_err-settle_one-clause-kept c =
+    on-err c.from_residual-in_err-settle_one.result c.in_err-settle_one.ensures.refused.kept
