@@ -98,7 +98,10 @@ pub fn settle(records: &mut Records, ready: Ready)
 }
 
 /// The change as a list.
-pub(crate) fn changes_of(alloc: Global, change: Option<EntryChange>) -> Result<Vec<EntryChange>, AllocError>
+pub(crate) fn changes_of(
+    alloc: Global,
+    change: Option<EntryChange>,
+) -> Result<Vec<EntryChange>, AllocError>
     ensures { IfOk result (λ changes. changes.items ≡ option_to_list change) }
 {
     let mut changes = Vec::new(alloc);

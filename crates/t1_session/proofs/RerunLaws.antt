@@ -32,7 +32,13 @@ abbrev pub edited_right : (s : SourceParts) (k : List Pair) (records : Records) 
 edited_right s k records edit made ps right again e =
     let well = source_well_formed (text s) s (again (counts_checked s (right_checked s records right))) in
     record {
-      old = s; pairs = k; made_pairs = ps; right = right; well = well; well_made = edited_well_formed s k edit made ps well e; made = e;
+      old = s;
+      pairs = k;
+      made_pairs = ps;
+      right = right;
+      well = well;
+      well_made = edited_well_formed s k edit made ps well e;
+      made = e;
     }
 
 -- as many runs as stale glyphs, where the file has no fault
@@ -50,11 +56,11 @@ pub edit_renews : (v new : SessionView) (old made : SourceParts) (edit : Edit) (
     → Renews (record { keys = named edit; source = made }) v new
 edit_renews v new old made edit count kept source was were checked runs each = record {
   runs = runs ∙ ap (counted count) (runs-all edit old made checked)
-    ∙ ap (λ n. counted n (length (stale old (named edit) made))) (sym were)
-    ∙ ap (λ s. counted v.runs (length (stale s (named edit) made))) (sym source);
+      ∙ ap (λ n. counted n (length (stale old (named edit) made))) (sym were)
+      ∙ ap (λ s. counted v.runs (length (stale s (named edit) made))) (sym source);
   each = subst (λ l. AllByRecursion (IsRunWhereStale v.runs (named edit) v.state.source l) new.kept) (sym was)
       (subst (λ s. AllByRecursion (IsRunWhereStale v.runs (named edit) s kept) new.kept) (sym source)
-        (subst (λ n. AllByRecursion (IsRunWhereStale n (named edit) old kept) new.kept) (sym were) each));
+      (subst (λ n. AllByRecursion (IsRunWhereStale n (named edit) old kept) new.kept) (sym were) each));
 }
 
 pub edit_spends : (T : Type 0) (v new : SessionView) (old made : SourceParts) (edit : Edit) (count : ℕ) (kept : List Kept) (refusal : Refusal)
