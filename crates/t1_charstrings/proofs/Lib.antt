@@ -4,3 +4,4 @@ pub mod Gathered
 pub mod Putting
 pub mod Sources
 pub mod Texts
+pub mod Totals

@@ -1,16 +1,20 @@
 -- How long the private text is after an entry was put in the place of another, put in or taken out.
-use Rattle.std.specs.Prelude.{◌≡◌, ◌+◌, ◌<◌, ◌≤◌, ℕ, Bool, true, false, List, [], ◌∷◌, ◌++◌, Option, decimal, length, flat_map}
+use Rattle.std.specs.Prelude.{◌≡◌, ◌+◌, ◌-◌, ◌^◌, ◌<◌, ◌≤◌, min, ℕ, Bool, true, false, List, [], ◌∷◌, ◌++◌, Option, decimal, length, flat_map}
 use Rattle.std.specs.List.{insert, list_any, remove, slice_set, slice_index_or}
 use Rattle.t1_parts.specs.declared.item.Item.{Item}
 use Rattle.t1_parts.specs.declared.item.Item.TheVariants.{Plain, Section}
 use Rattle.t1_parts.specs.Counts.{raised}
 use Rattle.t1_parts.specs.Entries.{is_glyph, is_subr}
+use Rattle.t1_parts.specs.Operator.{operator}
 use Rattle.t1_parts.specs.SourceParts.{SourceParts}
+use Rattle.t1_source.specs.Editing.{with_items}
 use Rattle.t1_source.specs.WellFormed.{IsWellFormed}
 use Rattle.t1_run.specs.Run.{Key, Subr, Glyph}
 use Rattle.t1_charstrings.specs.declared.entries.Charstrings.{Charstrings}
 use Rattle.t1_charstrings.specs.Changed.{Sets}
 use Rattle.t1_charstrings.specs.Entries.{Kept}
+use Rattle.t1_charstrings.specs.Kept.{AreEncrypted}
+use Rattle.t1_charstrings.specs.Lengths.{IsPrivateLen}
 use Rattle.t1_charstrings.specs.Lines.{kept_line, kept_text}
 
 -- whether an item is the entry of this key
@@ -58,3 +62,37 @@ abbrev pub RaisedLenLaw : Type 0
 RaisedLenLaw =
     (items : List Item) (c : Charstrings) (operator : List ℕ)
     → length (kept_text c operator (raised items)) + length (section_text items) ≡ length (kept_text c operator items) + length (section_text (raised items))
+
+-- ---- of a source that was edited
+
+-- the charstrings of a source and those of an edited one, which differ at one key
+pub record AreEdited (key : Key) (entry : Option Kept) (s made : SourceParts) (old new : Charstrings) : Type 0 where
+  pub well : IsWellFormed s
+  pub well_made : IsWellFormed made
+  pub kept : AreEncrypted s old
+  pub kept_made : AreEncrypted made new
+  pub sets : Sets key entry old new
+
+-- an entry of the key is put in its place: the new line's length more, and the old one's less
+abbrev pub PutSumLaw : Type 0
+PutSumLaw =
+    (key : Key) (entry : Option Kept) (s made : SourceParts) (old new : Charstrings) → AreEdited key entry s made old new
+    → (at : ℕ) (item : Item) → at < length s.items → has_key key (item_at s.items at) ≡ true → has_key key item ≡ true → made ≡ with_items s (slice_set s.items at item)
+    → (n m : ℕ) → IsPrivateLen s n → n < 2 ^ 64 - 1 → m + length (kept_line old (operator s) (item_at s.items at)) ≡ n + length (kept_line new (operator s) item)
+    → IsPrivateLen made (min m (2 ^ 64 - 1))
+
+-- an entry whose key no other has is put in: its line's length more, and what the raised counts add
+abbrev pub InsertSumLaw : Type 0
+InsertSumLaw =
+    (key : Key) (entry : Option Kept) (s made : SourceParts) (old new : Charstrings) → AreEdited key entry s made old new
+    → (at : ℕ) (item : Item) → at ≤ length s.items → list_any (has_key key) s.items ≡ false → has_key key item ≡ true → made ≡ with_items s (insert s.items at item)
+    → (n m : ℕ) → IsPrivateLen s n → n < 2 ^ 64 - 1 → m + length (section_text s.items) ≡ n + length (kept_line new (operator s) item) + length (section_text made.items)
+    → IsPrivateLen made (min m (2 ^ 64 - 1))
+
+-- the entry of the key is taken out: its line's length less
+abbrev pub RemoveSumLaw : Type 0
+RemoveSumLaw =
+    (key : Key) (entry : Option Kept) (s made : SourceParts) (old new : Charstrings) → AreEdited key entry s made old new
+    → (at : ℕ) → at < length s.items → has_key key (item_at s.items at) ≡ true → made ≡ with_items s (remove s.items at)
+    → (n m : ℕ) → IsPrivateLen s n → n < 2 ^ 64 - 1 → m + length (kept_line old (operator s) (item_at s.items at)) ≡ n
+    → IsPrivateLen made (min m (2 ^ 64 - 1))

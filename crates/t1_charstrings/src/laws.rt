@@ -1,7 +1,7 @@
 //! Laws of the charstrings that are kept.
 ghost use Rattle.t1_charstrings.specs.Changed.{AnewLaw, ChangedLaw};
 ghost use Rattle.t1_charstrings.specs.Laws.{KeptTextLaw};
-ghost use Rattle.t1_charstrings.specs.Sums.{InsertLenLaw, PutLenLaw, RaisedLenLaw, RemoveLenLaw};
+ghost use Rattle.t1_charstrings.specs.Sums.{InsertLenLaw, InsertSumLaw, PutLenLaw, PutSumLaw, RaisedLenLaw, RemoveLenLaw, RemoveSumLaw};
 
 /// The private text of a source is that of the charstrings that are kept of it.
 pub fn kept_text()
@@ -36,4 +36,19 @@ pub fn remove_len()
 /// The length of the private text whose counts are raised.
 pub fn raised_len()
     ensures { RaisedLenLaw }
+{}
+
+/// The length of the private text of a source in which an entry was put in the place of that of its key.
+pub fn put_sum()
+    ensures { PutSumLaw }
+{}
+
+/// The length of the private text of a source in which an entry was put in.
+pub fn insert_sum()
+    ensures { InsertSumLaw }
+{}
+
+/// The length of the private text of a source of which an entry was taken out.
+pub fn remove_sum()
+    ensures { RemoveSumLaw }
 {}

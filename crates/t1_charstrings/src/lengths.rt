@@ -1,13 +1,15 @@
 //! How long the private text is, and whether a part of the PFB file is too long.
-ghost use Rattle.std.specs.Prelude.{◌≡◌, ◌^◌, ◌-◌, min, length, option_copied};
+ghost use Rattle.std.specs.Prelude.{◌≡◌, ◌^◌, ◌-◌, ◌∷◌, ◌++◌, [], Some, decimal, min, length, option_copied};
 ghost use Rattle.t1_frac.specs.Outcome.{Gives};
 ghost use Rattle.t1_text.specs.Lines.{joined};
+ghost use Rattle.t1_parts.specs.SourceParts.{SourceParts};
 ghost use Rattle.t1_code.specs.Pfb.{closing_text};
 ghost use Rattle.t1_source.specs.WellFormed.{IsWellFormed};
 ghost use Rattle.t1_font.specs.Assembly.{length_check};
 ghost use Rattle.t1_charstrings.specs.Kept.{AreEncrypted};
 ghost use Rattle.t1_charstrings.specs.Lengths.{IsPrivateLen};
 ghost use Rattle.t1_charstrings.specs.Lines.{entry_line, kept_line, kept_text};
+ghost use Rattle.t1_charstrings.specs.Sums.{section_line, section_text};
 
 use crate::entries::{Charstrings, Entry};
 use crate::files::ZEROS_LEN;
@@ -40,23 +42,39 @@ fn closing_len(closing: &[u8]) -> usize
     }
 }
 
-/// How long the line of an entry is, up to 2^64 - 1; 0 where its charstring isn't kept.
-fn entry_len(operator: &[u8], kept: Option<&Entry>, closing: &[u8]) -> usize
+/// How long the line of an entry is, up to 2^64 - 1.
+pub fn entry_line_len(operator: &[u8], entry: &Entry, closing: &[u8]) -> usize
+    ensures { result ≡ min (length (entry_line operator.now closing.now (Some entry.now))) (2 ^ 64 - 1) }
+{
+    let digits = Buffer::new().format(entry.charstring().len()).len();
+    // Three spaces and the line's end.
+    digits
+        .saturating_add(4)
+        .saturating_add(entry.head().len())
+        .saturating_add(operator.len())
+        .saturating_add(entry.charstring().len())
+        .saturating_add(closing_len(closing))
+}
+
+/// How long the line of an entry is whose charstring may be kept, up to 2^64 - 1; 0 where it isn't.
+fn kept_line_len(operator: &[u8], kept: Option<&Entry>, closing: &[u8]) -> usize
     ensures { result ≡ min (length (entry_line operator.now closing.now (option_copied kept.entry))) (2 ^ 64 - 1) }
 {
     match kept {
         None => 0,
-        Some(entry) => {
-            let digits = Buffer::new().format(entry.charstring().len()).len();
-            // Three spaces and the line's end.
-            digits
-                .saturating_add(4)
-                .saturating_add(entry.head().len())
-                .saturating_add(operator.len())
-                .saturating_add(entry.charstring().len())
-                .saturating_add(closing_len(closing))
-        }
+        Some(entry) => entry_line_len(operator, entry, closing),
     }
+}
+
+/// How long a section line is, up to 2^64 - 1.
+fn section_line_len(before: &[u8], count: u64, after: &[u8]) -> usize
+    ensures { result ≡ min (length (before.now ++ decimal count ++ after.now ++ 10 ∷ [])) (2 ^ 64 - 1) }
+{
+    let digits = Buffer::new().format(count).len();
+    digits
+        .saturating_add(1)
+        .saturating_add(before.len())
+        .saturating_add(after.len())
 }
 
 /// How long the line of an item is, up to 2^64 - 1.
@@ -66,20 +84,15 @@ pub fn line_len(charstrings: &Charstrings, operator: &[u8], item: &Item) -> usiz
     match item {
         Item::Plain(line) => line.as_slice().len().saturating_add(1),
         Item::Section(before, count, after) => {
-            let digits = Buffer::new().format(*count).len();
-            let text = before
-                .as_slice()
-                .len()
-                .saturating_add(after.as_slice().len());
-            text.saturating_add(digits).saturating_add(1)
+            section_line_len(before.as_slice(), *count, after.as_slice())
         }
         Item::Subr(number, _, closing) => {
             let kept = charstrings.subrs.get(number);
-            entry_len(operator, kept, closing.as_slice())
+            kept_line_len(operator, kept, closing.as_slice())
         }
         Item::Glyph(name, _, closing) => {
             let kept = charstrings.glyphs.get(name.as_slice());
-            entry_len(operator, kept, closing.as_slice())
+            kept_line_len(operator, kept, closing.as_slice())
         }
     }
 }
@@ -104,16 +117,47 @@ pub fn private_len(charstrings: &Charstrings, source: &Source) -> usize
     items_len(charstrings, source.operator(), source.items())
 }
 
+/// How long the line of a section is, up to 2^64 - 1; 0 for another item.
+fn section_len(item: &Item) -> usize
+    ensures { result ≡ min (length (section_line item.now)) (2 ^ 64 - 1) }
+{
+    match item {
+        Item::Section(before, count, after) => {
+            section_line_len(before.as_slice(), *count, after.as_slice())
+        }
+        _ => 0,
+    }
+}
+
+/// How long the section lines are, up to 2^64 - 1.
+pub fn sections_len(items: &[Item]) -> usize
+    ensures { result ≡ min (length (section_text items.now)) (2 ^ 64 - 1) }
+{
+    let mut total: usize = 0;
+    for item in items {
+        total = total.saturating_add(section_len(item));
+    }
+    total
+}
+
+/// F23 where a part of the PFB file is too long, for each source with these clear lines and this tail whose private text is
+/// so long.
+pub fn check_parts(clear: &[Bytes], private_len: usize, tail: &[Bytes]) -> Result<(), Refusal>
+    ensures { (s : SourceParts) → s.clear ≡ clear.now → s.tail ≡ tail.now → IsPrivateLen s private_len → Gives (λ x. x) result (length_check s) }
+{
+    let clear = lines_len(clear);
+    let private = private_len.saturating_add(EEXEC_LEAD);
+    let trailer = lines_len(tail).saturating_add(ZEROS_LEN);
+    if clear.max(private).max(trailer) > MAX_PART {
+        return Err(Refusal::from(Code::F23));
+    }
+    Ok(())
+}
+
 /// F23 where a part of the PFB file of a source is too long, whose private text is so long.
 pub fn check_length(source: &Source, private_len: usize) -> Result<(), Refusal>
     requires { IsPrivateLen source.now private_len }
     ensures { Gives (λ x. x) result (length_check source.now) }
 {
-    let clear = lines_len(source.clear());
-    let private = private_len.saturating_add(EEXEC_LEAD);
-    let trailer = lines_len(source.tail()).saturating_add(ZEROS_LEN);
-    if clear.max(private).max(trailer) > MAX_PART {
-        return Err(Refusal::from(Code::F23));
-    }
-    Ok(())
+    check_parts(source.clear(), private_len, source.tail())
 }

@@ -18,7 +18,7 @@ pub use changed::{
 pub use encrypted::{charstrings_of, encrypted_anew, encrypted_glyph, encrypted_subr};
 pub use entries::{Charstrings, Entry};
 pub use files::{write_kept_pfa, write_kept_pfb};
-pub use lengths::{check_length, line_len, private_len};
+pub use lengths::{check_length, check_parts, entry_line_len, line_len, private_len, sections_len};
 
 #[cfg(test)]
 mod tests;

@@ -195,6 +195,7 @@ fn sums_lengths(rt: HostRuntime) -> Result<(), Fail> {
     let len = private_len(&charstrings, &source);
     // The file has 694 bytes: 20 of heads and its end, 52 and 532 of its texts, and 4 before the private text.
     assert_eq!(rt; len, 86);
+    assert_eq!(rt; sections_len(source.items()), 30);
     assert_eq!(rt; check_length(&source, len).is_ok(), true);
     Ok(())
 }

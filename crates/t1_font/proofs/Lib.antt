@@ -3,14 +3,15 @@ pub mod Counted
 pub mod Drawing
 pub mod Filing
 pub mod Gathering
-pub mod Joining
 pub mod Keeping
 pub mod LengthLaws
 pub mod Measuring
 pub mod Naming
 pub mod Ordering
 pub mod Outlining
+pub mod PrivateLaws
 pub mod Rows
+pub mod Slotting
 pub mod SourceMetrics
 pub mod SubrsFirst
 pub mod UsageRows

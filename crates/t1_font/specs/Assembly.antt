@@ -18,8 +18,6 @@ use Rattle.t1_code.specs.Charstring.{charstring}
 use Rattle.t1_code.specs.Cipher.{encrypted_charstring}
 use Rattle.t1_code.specs.Pfa.{pfa_of}
 use Rattle.t1_code.specs.Pfb.{entry_text, pfb_of, whole_file}
-use Rattle.t1_font.specs.declared.private.PrivateLine.{PrivateLine}
-use Rattle.t1_font.specs.declared.private.PrivateLine.TheVariants as lines
 
 -- Type 1 Font Format, Chapter 2: an entry's line, with its body's encrypted charstring; or the body's fault, at the entry
 unfoldable pub entry_line : ℕ → List ℕ → Place → List ℕ → List (List ℕ) → List ℕ → Result (List ℕ) Fault
@@ -65,7 +63,7 @@ counts_check items = if list_all is_counted items then Ok tt else Err (fault_at 
 unfoldable pub file_check : SourceParts → Result (Unit {0}) Fault
 file_check source = length_check source >>= λ checked. counts_check source.items
 
--- the bytes of a line that is ready to be written
-abbrev pub line_text : PrivateLine → List ℕ
-line_text (lines.Text bytes) = bytes.items
-line_text (lines.Entry head operator charstring closing) = entry_text head.items operator.now charstring.items closing.now
+-- a text stands in front of what a definition gives
+abbrev pub behind : List ℕ → Result (List ℕ) Fault → Result (List ℕ) Fault
+behind front (Ok rest) = Ok (front ++ rest)
+behind front (Err fault) = Err fault

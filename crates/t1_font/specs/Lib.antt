@@ -8,5 +8,6 @@ pub mod Metrics
 pub mod Names
 pub mod Outlines
 pub mod Runs
+pub mod Slots
 pub mod SourceChecks
 pub mod Usage

@@ -1,14 +1,13 @@
 //! A source assembled to its PFB file.
 ghost use Rattle.std.specs.Prelude.{◌≡◌, ◌≤◌, ◌-◌, ◌^◌, ◌++◌, IfOk, OnOk, replicate};
-ghost use Rattle.std.specs.List.{flat_map};
 ghost use Rattle.t1_text.specs.Lines.{joined};
-ghost use Rattle.t1_code.specs.Parts.{piece_text, Prints};
+ghost use Rattle.t1_code.specs.Parts.{Prints};
 ghost use Rattle.t1_code.specs.Pfa.{pfa_of};
 ghost use Rattle.t1_code.specs.Pfb.{pfb_of};
 ghost use Rattle.t1_font.specs.Assembly.{source_file, source_pfa, trailer_text};
 ghost use Rattle.t1_frac.specs.Outcome.{Gives};
 
-use crate::private::{lines_of, pieces_of};
+use crate::private::private_text_of;
 use std::alloc::{AllocError, Global};
 use std::io::Write;
 use t1_code::{Counted, OutError, Parts, Piece, write_pfa, write_pfb};
@@ -47,18 +46,19 @@ fn trailer(alloc: Global, tail: &[Bytes]) -> Result<Vec<u8>, AllocError>
 /// Writes the PFB file of three parts, or answers F23 with nothing written.
 fn write_pfb_parts<W: Write>(
     clear: &[u8],
-    pieces: &[Piece],
+    private: &[u8],
     trailer: &[u8],
     size: usize,
     out: &mut Counted<W>,
 ) -> Result<(), OutError>
     requires some { 1 ≤ size }
     requires short { size ≤ 2 ^ 31 - 1 }
-    ensures { Prints W.contents out.old out.new (pfb_of size clear.now (flat_map piece_text pieces.now) trailer.now) result }
+    ensures { Prints W.contents out.old out.new (pfb_of size clear.now private.now trailer.now) result }
 {
+    let pieces = [Piece::Plain(private)];
     let parts = Parts {
         clear,
-        pieces,
+        pieces: &pieces,
         trailer,
     };
     write_pfb(&parts, size, out)
@@ -78,25 +78,25 @@ pub fn write_source_pfb<W: Write>(
     requires short { size ≤ 2 ^ 31 - 1 }
     ensures { Prints W.contents out.old out.new (source_file size source.now) result }
 {
-    let lines = lines_of(alloc, source.lead(), source.operator(), source.items())?;
-    let pieces = pieces_of(alloc, &lines)?;
+    let private = private_text_of(alloc, source.lead(), source.operator(), source.items())?;
     let clear = clear_text(alloc, source.clear())?;
     let trailer = trailer(alloc, source.tail())?;
-    write_pfb_parts(&clear, &pieces, &trailer, size, out)
+    write_pfb_parts(&clear, &private, &trailer, size, out)
 }
 
 /// Writes the PFA file of three parts, or answers F23 with nothing written.
 fn write_pfa_parts<W: Write>(
     clear: &[u8],
-    pieces: &[Piece],
+    private: &[u8],
     trailer: &[u8],
     out: &mut Counted<W>,
 ) -> Result<(), OutError>
-    ensures { Prints W.contents out.old out.new (pfa_of clear.now (flat_map piece_text pieces.now) trailer.now) result }
+    ensures { Prints W.contents out.old out.new (pfa_of clear.now private.now trailer.now) result }
 {
+    let pieces = [Piece::Plain(private)];
     let parts = Parts {
         clear,
-        pieces,
+        pieces: &pieces,
         trailer,
     };
     write_pfa(&parts, out)
@@ -111,11 +111,10 @@ pub fn write_source_pfa<W: Write>(
 ) -> Result<(), OutError>
     ensures { Prints W.contents out.old out.new (source_pfa source.now) result }
 {
-    let lines = lines_of(alloc, source.lead(), source.operator(), source.items())?;
-    let pieces = pieces_of(alloc, &lines)?;
+    let private = private_text_of(alloc, source.lead(), source.operator(), source.items())?;
     let clear = clear_text(alloc, source.clear())?;
     let trailer = trailer(alloc, source.tail())?;
-    write_pfa_parts(&clear, &pieces, &trailer, out)
+    write_pfa_parts(&clear, &private, &trailer, out)
 }
 
 /// The PFB file of a source in segments of so many bytes, or the first fault of its bodies, or F23.

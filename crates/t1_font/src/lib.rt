@@ -34,7 +34,6 @@ pub use kept_runs::KeptRuns;
 pub use lengths::checked_bodies;
 pub use numbers::SubrNumbers;
 pub use outline::{Outline, outline_of};
-pub use private::PrivateLine;
 pub use runs::{Runs, runs_of};
 pub use usage::usage_text;
 

@@ -1,193 +1,180 @@
-//! The private text of a source, line by line.
-ghost use Rattle.std.specs.Prelude.{◌≡◌, ◌∷◌, ◌++◌, [], IfOk, codes, decimal};
-ghost use Rattle.std.specs.List.{flat_map};
+//! The private text of a source, in one buffer.
+ghost use Rattle.std.specs.Prelude.{◌≡◌, ◌∷◌, ◌++◌, [], OnOk, codes, decimal};
 ghost use Rattle.t1_frac.specs.declared.fault.Place.TheVariants as places;
-ghost use Rattle.t1_frac.specs.Outcome.{Gives};
-ghost use Rattle.t1_code.specs.Charstring.{charstring};
-ghost use Rattle.t1_code.specs.Cipher.{encrypted_charstring as encrypted};
-ghost use Rattle.t1_code.specs.Parts.{piece_text};
-ghost use Rattle.t1_code.specs.Pfb.{entry_text};
-ghost use Rattle.t1_font.specs.Assembly.{entry_line, item_line, line_text, private_text};
+ghost use Rattle.t1_frac.specs.Outcome.{Gives, told_at};
+ghost use Rattle.t1_code.specs.Cipher.{encrypted_words};
+ghost use Rattle.t1_code.specs.Pfb.{closing_text, entry_text};
+ghost use Rattle.t1_font.specs.Assembly.{behind, item_line, private_text};
 
-use crate::bodies::{compiled_glyph, compiled_subr};
 use itoa::Buffer;
 use std::alloc::{AllocError, Global};
-use t1_code::{Body, Piece, encrypted_charstring};
-use t1_frac::{Refusal, Words};
+use t1_code::encrypt_words;
+use t1_frac::{Bytes, Fault, Place, Refusal, Words};
 use t1_source::Item;
 
-/// A line of the private text, ready to be written.
-#[derive(Debug, Drop)]
-pub enum PrivateLine<'a> {
-    /// The bytes of a line that is no entry, with its end.
-    Text(Vec<u8>),
-    /// The parts of an entry's line.
-    Entry {
-        head: Vec<u8>,
-        operator: &'a [u8],
-        charstring: Vec<u8>,
-        closing: &'a [u8],
-    },
-}
-
-/// An entry's line after `dup N` or `/NAME`.
-fn entry<'a>(
-    alloc: Global,
-    lead: u8,
-    operator: &'a [u8],
-    head: Vec<u8>,
-    body: &Body,
-    closing: &'a [u8],
-) -> Result<PrivateLine<'a>, AllocError>
-    ensures { IfOk result (λ line. line_text line ≡ entry_text head.items operator.now (encrypted lead (charstring body.now)) closing.now) }
+/// Adds a plain line with its end.
+fn push_plain(text: &mut Vec<u8>, line: &[u8]) -> Result<(), AllocError>
+    ensures { OnOk result (text.new.items ≡ text.old.items ++ (line.now ++ 10 ∷ [])) }
 {
-    let charstring = encrypted_charstring(alloc, lead, body.commands())?;
-    Ok(PrivateLine::Entry {
-        head,
-        operator,
-        charstring,
-        closing,
-    })
-}
-
-/// The line of a Subr.
-#[tactic(auto, unfolding(crate::specs::Assembly::entry_line))]
-fn subr_line<'a>(
-    alloc: Global,
-    lead: u8,
-    operator: &'a [u8],
-    number: u16,
-    words: &Words,
-    closing: &'a [u8],
-) -> Result<PrivateLine<'a>, Refusal>
-    ensures { Gives line_text result (entry_line lead operator.now (places.Subr number) (codes "dup " ++ decimal number) words.now closing.now) }
-{
-    let body = compiled_subr(alloc, number, words)?;
-    let mut head = Vec::from_slice(alloc, b"dup ")?;
-    head.extend_from_slice(Buffer::new().format(number).as_bytes())?;
-    Ok(entry(alloc, lead, operator, head, &body, closing)?)
-}
-
-/// The line of a glyph.
-#[tactic(auto, unfolding(crate::specs::Assembly::entry_line))]
-fn glyph_line<'a>(
-    alloc: Global,
-    lead: u8,
-    operator: &'a [u8],
-    name: &[u8],
-    words: &Words,
-    closing: &'a [u8],
-) -> Result<PrivateLine<'a>, Refusal>
-    ensures { Gives line_text result (entry_line lead operator.now (places.Glyph name.now) (47 ∷ name.now) words.now closing.now) }
-{
-    let body = compiled_glyph(alloc, name, words)?;
-    let mut head = Vec::from_slice(alloc, b"/")?;
-    head.extend_from_slice(name)?;
-    Ok(entry(alloc, lead, operator, head, &body, closing)?)
-}
-
-/// A plain line with its end.
-fn plain_text(alloc: Global, line: &[u8]) -> Result<Vec<u8>, AllocError>
-    ensures { IfOk result (λ text. text.items ≡ line.now ++ 10 ∷ []) }
-{
-    let mut text = Vec::from_slice(alloc, line)?;
+    text.extend_from_slice(line)?;
     text.push(b'\n')?;
-    Ok(text)
+    Ok(())
 }
 
-/// A section line with its count and its end.
-fn section_text(
-    alloc: Global,
+/// Adds a section line with its count and its end.
+fn push_section(
+    text: &mut Vec<u8>,
     before: &[u8],
     count: u64,
     after: &[u8],
-) -> Result<Vec<u8>, AllocError>
-    ensures { IfOk result (λ text. text.items ≡ before.now ++ decimal count ++ after.now ++ 10 ∷ []) }
+) -> Result<(), AllocError>
+    ensures { OnOk result (text.new.items ≡ text.old.items ++ (before.now ++ decimal count ++ after.now ++ 10 ∷ [])) }
 {
-    let mut text = Vec::from_slice(alloc, before)?;
+    text.extend_from_slice(before)?;
     text.extend_from_slice(Buffer::new().format(count).as_bytes())?;
     text.extend_from_slice(after)?;
     text.push(b'\n')?;
-    Ok(text)
+    Ok(())
 }
 
-/// The line of an item.
-fn line_of<'a>(
+/// Adds an entry's closing text after a space, where it has one.
+fn push_closing(text: &mut Vec<u8>, closing: &[u8]) -> Result<(), AllocError>
+    ensures { OnOk result (text.new.items ≡ text.old.items ++ closing_text closing.now) }
+{
+    if closing.is_empty() {
+        return Ok(());
+    }
+    text.push(b' ')?;
+    text.extend_from_slice(closing)
+}
+
+/// Adds an entry's line after its `dup N` or `/NAME`.
+fn push_data(
+    text: &mut Vec<u8>,
+    operator: &[u8],
+    charstring: &[u8],
+    closing: &[u8],
+) -> Result<(), AllocError>
+    ensures { OnOk result (text.new.items ≡ entry_text text.old.items operator.now charstring.now closing.now) }
+{
+    text.push(b' ')?;
+    text.extend_from_slice(Buffer::new().format(charstring.len()).as_bytes())?;
+    text.push(b' ')?;
+    text.extend_from_slice(operator)?;
+    text.push(b' ')?;
+    text.extend_from_slice(charstring)?;
+    push_closing(text, closing)?;
+    text.push(b'\n')?;
+    Ok(())
+}
+
+/// Adds the line of a Subr.
+#[tactic(auto, using(crate::proofs::PrivateLaws::headed))]
+fn push_subr(
+    text: &mut Vec<u8>,
+    operator: &[u8],
+    number: u16,
+    charstring: &[u8],
+    closing: &[u8],
+) -> Result<(), AllocError>
+    ensures { OnOk result (text.new.items ≡ text.old.items ++ entry_text (codes "dup " ++ decimal number) operator.now charstring.now closing.now) }
+{
+    text.extend_from_slice(b"dup ")?;
+    text.extend_from_slice(Buffer::new().format(number).as_bytes())?;
+    push_data(text, operator, charstring, closing)
+}
+
+/// Adds the line of a glyph.
+#[tactic(auto, using(crate::proofs::PrivateLaws::headed))]
+fn push_glyph(
+    text: &mut Vec<u8>,
+    operator: &[u8],
+    name: &[u8],
+    charstring: &[u8],
+    closing: &[u8],
+) -> Result<(), AllocError>
+    ensures { OnOk result (text.new.items ≡ text.old.items ++ entry_text (47 ∷ name.now) operator.now charstring.now closing.now) }
+{
+    text.push(b'/')?;
+    text.extend_from_slice(name)?;
+    push_data(text, operator, charstring, closing)
+}
+
+/// Puts the encrypted charstring of a Subr in the place of what the buffer holds.
+fn encrypt_subr(code: &mut Vec<u8>, lead: u8, number: u16, words: &Words) -> Result<(), Refusal>
+    ensures { Gives (λ _. code.new.items) result (told_at (places.Subr number) (encrypted_words lead words.now)) }
+{
+    match encrypt_words(code, lead, words) {
+        Err(Refusal::Fault(fault)) => Err(Refusal::Fault(Fault {
+            code: fault.code,
+            place: Place::Subr(number),
+        })),
+        encrypted => encrypted,
+    }
+}
+
+/// Puts the encrypted charstring of a glyph in the place of what the buffer holds.
+fn encrypt_glyph(
     alloc: Global,
+    code: &mut Vec<u8>,
     lead: u8,
-    operator: &'a [u8],
-    item: &'a Item,
-) -> Result<PrivateLine<'a>, Refusal>
-    ensures { Gives line_text result (item_line lead operator.now item.now) }
+    name: &[u8],
+    words: &Words,
+) -> Result<(), Refusal>
+    ensures { Gives (λ _. code.new.items) result (told_at (places.Glyph name.now) (encrypted_words lead words.now)) }
+{
+    match encrypt_words(code, lead, words) {
+        Err(Refusal::Fault(fault)) => Err(Refusal::Fault(Fault {
+            code: fault.code,
+            place: Place::Glyph(Bytes::copied(alloc, name)?),
+        })),
+        encrypted => encrypted,
+    }
+}
+
+/// Adds the line of an item. `code` is a buffer for an entry's charstring, whose length stands before it in the line; what
+/// it holds doesn't matter.
+#[tactic(auto, using(crate::proofs::PrivateLaws::entry_fault))]
+fn push_item(
+    alloc: Global,
+    text: &mut Vec<u8>,
+    code: &mut Vec<u8>,
+    lead: u8,
+    operator: &[u8],
+    item: &Item,
+) -> Result<(), Refusal>
+    ensures { Gives (λ _. text.new.items) result (behind text.old.items (item_line lead operator.now item.now)) }
 {
     match item {
-        Item::Plain(line) => Ok(PrivateLine::Text(plain_text(alloc, line.as_slice())?)),
+        Item::Plain(line) => Ok(push_plain(text, line.as_slice())?),
         Item::Section(before, count, after) => {
-            let text = section_text(alloc, before.as_slice(), *count, after.as_slice())?;
-            Ok(PrivateLine::Text(text))
+            Ok(push_section(text, before.as_slice(), *count, after.as_slice())?)
         }
         Item::Subr(number, words, closing) => {
-            subr_line(alloc, lead, operator, *number, words, closing.as_slice())
+            encrypt_subr(code, lead, *number, words)?;
+            Ok(push_subr(text, operator, *number, code, closing.as_slice())?)
         }
         Item::Glyph(name, words, closing) => {
-            glyph_line(
-                alloc,
-                lead,
-                operator,
-                name.as_slice(),
-                words,
-                closing.as_slice(),
-            )
+            let name = name.as_slice();
+            encrypt_glyph(alloc, code, lead, name, words)?;
+            Ok(push_glyph(text, operator, name, code, closing.as_slice())?)
         }
     }
 }
 
-/// The lines of the private text, or the first fault of a body, at its entry.
-pub fn lines_of<'a>(
+/// The private text of the items, or the first fault of a body, at its entry.
+pub fn private_text_of(
     alloc: Global,
     lead: u8,
-    operator: &'a [u8],
-    items: &'a [Item],
-) -> Result<Vec<PrivateLine<'a>>, Refusal>
-    ensures { Gives (λ lines. flat_map line_text lines.items) result (private_text lead operator.now items.now) }
+    operator: &[u8],
+    items: &[Item],
+) -> Result<Vec<u8>, Refusal>
+    ensures { Gives (λ text. text.items) result (private_text lead operator.now items.now) }
 {
-    let mut lines = Vec::new(alloc);
+    let mut text = Vec::new(alloc);
+    let mut code = Vec::new(alloc);
     for item in items {
-        lines.push(line_of(alloc, lead, operator, item)?)?;
+        push_item(alloc, &mut text, &mut code, lead, operator, item)?;
     }
-    Ok(lines)
-}
-
-/// A line as the PFB's writer takes it.
-fn piece<'a>(line: &'a PrivateLine<'a>) -> Piece<'a>
-    ensures { piece_text result ≡ line_text line.now }
-{
-    match line {
-        PrivateLine::Text(bytes) => Piece::Plain(bytes.as_slice()),
-        PrivateLine::Entry {
-            head,
-            operator,
-            charstring,
-            closing,
-        } => Piece::Entry {
-            head: head.as_slice(),
-            operator,
-            charstring: charstring.as_slice(),
-            closing,
-        },
-    }
-}
-
-/// The private text as the PFB's writer takes it.
-pub fn pieces_of<'a>(
-    alloc: Global,
-    lines: &'a [PrivateLine<'a>],
-) -> Result<Vec<Piece<'a>>, AllocError>
-    ensures { IfOk result (λ pieces. flat_map piece_text pieces.items ≡ flat_map line_text lines.now) }
-{
-    let mut pieces = Vec::with_capacity(alloc, lines.len())?;
-    for line in lines {
-        pieces.push(piece(line))?;
-    }
-    Ok(pieces)
+    Ok(text)
 }

@@ -229,3 +229,29 @@ fn writes_the_small_font_in_blocks(rt: HostRuntime) -> Result<(), Fail> {
     assert_eq!(rt; pfb_of_source(rt.alloc(), &source, 532)?.len(), 694);
     Ok(())
 }
+
+/// A font whose glyphs both have a faulty body.
+const FAULTY: &str = "\
+    %!\n\
+    /Encoding StandardEncoding def\n\
+    currentfile eexec\n\
+    /CharStrings 2 dict dup begin\n\
+    /A {\n\
+    \t0 250 hsbw\n\
+    \t99999999999\n\
+    \t} ND\n\
+    /B {\n\
+    \tnothing\n\
+    \t} ND\n\
+    end\n\
+    mark currentfile closefile\n";
+
+#[test]
+fn tells_the_first_fault_of_the_bodies(rt: HostRuntime) -> Result<(), Fail> {
+    let source = read_source(rt.alloc(), FAULTY.as_bytes())?;
+    let Err(Refusal::Fault(fault)) = pfb_of_source(rt.alloc(), &source, 40) else {
+        return Err(Fail::new("no fault"));
+    };
+    assert_eq!(rt; fault.code, Code::F21);
+    Ok(())
+}

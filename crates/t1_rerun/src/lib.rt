@@ -2,8 +2,12 @@
 //!
 //! [`opened_records`] gives the records of a source, or its first fault. [`renew`] brings them to those of the source after
 //! an edit, or answers its first fault: [`rerun`] runs the stale glyphs, each once, and measures them by their newest runs,
-//! [`make_ready`] makes all that the change of the records takes, and
-//! [`settle`] changes them. [`measured_records`] gives the metrics of the font by them.
+//! [`make_ready`] makes all that the change of the records takes, and [`settle`] changes them. [`measured_records`] gives the
+//! metrics of the font by them.
+//!
+//! [`change_of_edit`] gives the one entry that an edit changes, and [`renew_change`] brings the records there without a pass
+//! over the font: the bodies are those of the records with the one [`Changing`], and the order of the glyphs is asked for
+//! ([`GlyphOrder`], as of [`Prepared`]) only where one has a fault.
 #![tactic(auto)]
 
 mod changing;

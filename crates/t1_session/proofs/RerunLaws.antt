@@ -1,5 +1,5 @@
 -- What an edit leaves of what a session keeps.
-use Rattle.std.proofs.Common.{◌≡◌, ◌≤◌, ℕ, true, length, map, List, Option, Some, Result, Ok, Err, refl, ap, sym, ◌∙◌, subst, arith}
+use Rattle.std.proofs.Common.{◌≡◌, ◌≤◌, ℕ, true, length, List, Result, Ok, Err, ap, sym, ◌∙◌, subst, arith}
 use Rattle.std.specs.List.{list_all, AllByRecursion}
 use Rattle.t1_frac.specs.declared.fault.Fault.{Fault}
 use Rattle.t1_frac.specs.declared.fault.Refusal.{Refusal}
@@ -7,7 +7,6 @@ use Rattle.t1_frac.specs.declared.fault.Refusal.TheVariants as refusals
 use Rattle.t1_parts.specs.SourceParts.{SourceParts}
 use Rattle.t1_parts.specs.Printing.{text}
 use Rattle.t1_parts.specs.Reading.{reads}
-use Rattle.t1_source.specs.declared.edit.Cause.{Cause}
 use Rattle.t1_source.specs.declared.edit.Edit.{Edit}
 use Rattle.t1_source.specs.declared.pairs.Pair.{Pair}
 use Rattle.t1_source.specs.Editing.{edited}
@@ -19,11 +18,11 @@ use Rattle.t1_font.specs.Runs.{counted, Counts}
 use Rattle.t1_font.specs.SourceChecks.{source_check}
 use Rattle.t1_cache.specs.declared.records.Records.{Records}
 use Rattle.t1_cache.specs.Edited.{named, stale}
-use Rattle.t1_cache.specs.Renewed.{Kept, kept_of}
+use Rattle.t1_cache.specs.Renewed.{Kept}
 use Rattle.t1_rerun.specs.Opened.{runs_where}
 use Rattle.t1_rerun.specs.Renewing.{renewing_runs, IsEdited, IsRunWhereStale}
 use Rattle.t1_rerun.specs.Right.{IsRight}
-use Rattle.t1_session.specs.Reruns.{Edition, Renews, Reruns, Spends}
+use Rattle.t1_session.specs.Reruns.{Renews, Spends}
 use Rattle.t1_session.specs.State.{SessionView}
 use Rattle.t1_session.proofs.StateLaws.{counts_checked, file_checked, right_checked}
 
@@ -33,7 +32,13 @@ abbrev pub edited_right : (s : SourceParts) (k : List Pair) (records : Records) 
 edited_right s k records edit made ps right again e =
     let well = source_well_formed (text s) s (again (counts_checked s (right_checked s records right))) in
     record {
-      old = s; pairs = k; made_pairs = ps; right = right; well = well; well_made = edited_well_formed s k edit made ps well e; made = e;
+      old = s;
+      pairs = k;
+      made_pairs = ps;
+      right = right;
+      well = well;
+      well_made = edited_well_formed s k edit made ps well e;
+      made = e;
     }
 
 -- as many runs as stale glyphs, where the file has no fault
@@ -51,11 +56,11 @@ pub edit_renews : (v new : SessionView) (old made : SourceParts) (edit : Edit) (
     → Renews (record { keys = named edit; source = made }) v new
 edit_renews v new old made edit count kept source was were checked runs each = record {
   runs = runs ∙ ap (counted count) (runs-all edit old made checked)
-    ∙ ap (λ n. counted n (length (stale old (named edit) made))) (sym were)
-    ∙ ap (λ s. counted v.runs (length (stale s (named edit) made))) (sym source);
+      ∙ ap (λ n. counted n (length (stale old (named edit) made))) (sym were)
+      ∙ ap (λ s. counted v.runs (length (stale s (named edit) made))) (sym source);
   each = subst (λ l. AllByRecursion (IsRunWhereStale v.runs (named edit) v.state.source l) new.kept) (sym was)
       (subst (λ s. AllByRecursion (IsRunWhereStale v.runs (named edit) s kept) new.kept) (sym source)
-        (subst (λ n. AllByRecursion (IsRunWhereStale n (named edit) old kept) new.kept) (sym were) each));
+      (subst (λ n. AllByRecursion (IsRunWhereStale n (named edit) old kept) new.kept) (sym were) each));
 }
 
 pub edit_spends : (T : Type 0) (v new : SessionView) (old made : SourceParts) (edit : Edit) (count : ℕ) (kept : List Kept) (refusal : Refusal)

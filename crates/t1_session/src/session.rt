@@ -201,7 +201,13 @@ impl Session {
     {
         text_of_source_read(&self.source);
         text_of_source_read(&source);
-        match renew(self.alloc, &mut self.records, edit, &source, &mut self.meter) {
+        match renew(
+            self.alloc,
+            &mut self.records,
+            edit,
+            &source,
+            &mut self.meter,
+        ) {
             Ok(()) => {
                 self.source = source;
                 self.pairs = pairs;

@@ -117,11 +117,7 @@ fn edited(alloc: Global) -> Result<(Session, [u64; 4]), Fail> {
         b"10 600 hsbw 4 1 3 callothersubr pop callsubr endchar",
     )?)?;
     let first = session.runs();
-    session.apply(glyph_edit(
-        alloc,
-        b"V",
-        b"15 722 hsbw 8 2 div callsubr endchar",
-    )?)?;
+    session.apply(glyph_edit(alloc, b"V", b"15 722 hsbw 8 2 div callsubr endchar")?)?;
     let second = session.runs();
     session.apply(subr_edit(alloc, 4, b"50 50 rlineto return")?)?;
     let third = session.runs();
@@ -143,7 +139,10 @@ fn runs_nothing_for_pairs_and_prints(rt: HostRuntime) -> Result<(), Fail> {
     session.apply(Edit::Kern(left, Bytes::copied(alloc, b"V")?, -92))?;
     session.apply(Edit::LenIv(0))?;
     let table = uses(alloc, &session)?;
-    assert_eq!(rt; table.as_slice(), b"U .notdef ;\nU Aacute ; P A ; P acute ;\nU A ; S 4 ;\nU acute ; S 4 ;\nU V ; S 4 ;\nU space ;\n".as_slice());
+    assert_eq!(rt;
+        table.as_slice(),
+        b"U .notdef ;\nU Aacute ; P A ; P acute ;\nU A ; S 4 ;\nU acute ; S 4 ;\nU V ; S 4 ;\nU space ;\n".as_slice()
+    );
     assert_eq!(rt; session.runs(), 13);
     Ok(())
 }

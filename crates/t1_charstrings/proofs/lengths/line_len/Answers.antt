@@ -8,7 +8,7 @@ returns-in-Glyph c =
     let operator = c.args.operator.now in
     let kept = c.get-kept-in-Glyph in
     rw c.in-Glyph.is
-    (c.entry_len-in-Glyph.ensures
+    (c.kept_line_len-in-Glyph.ensures
     ∙ ap (λ closing. min (length (entry_line operator closing (option_copied kept.result))) (2 ^ 64 - 1)) c.as_slice-in-Glyph-2.ensures
     ∙ ap (λ r. min (length (entry_line operator c.in-Glyph.closing r)) (2 ^ 64 - 1))
     (kept.ensures.value ∙ ap (glyph_kept c.args.charstrings.now.glyphs.entries) c.as_slice-in-Glyph.ensures))
