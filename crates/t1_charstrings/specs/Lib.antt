@@ -4,4 +4,5 @@ pub mod Kept
 pub mod Laws
 pub mod Lengths
 pub mod Lines
+pub mod Ready
 pub mod Sums

@@ -5,12 +5,15 @@
 #![tactic(auto)]
 
 mod changed;
+mod counting;
 mod encrypted;
 mod entries;
 mod files;
 pub mod laws;
 mod lengths;
 mod lines;
+mod preparing;
+mod settling;
 
 pub use changed::{
     insert_glyph, insert_subr, make_room, put_glyph, put_subr, remove_glyph, remove_subr,
@@ -19,6 +22,8 @@ pub use encrypted::{charstrings_of, encrypted_anew, encrypted_glyph, encrypted_s
 pub use entries::{Charstrings, Entry};
 pub use files::{write_kept_pfa, write_kept_pfb};
 pub use lengths::{check_length, check_parts, entry_line_len, line_len, private_len, sections_len};
+pub use preparing::prepare_lines;
+pub use settling::{ReadyLine, ReadyLines, settle_lines};
 
 #[cfg(test)]
 mod tests;
