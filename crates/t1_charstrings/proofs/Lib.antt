@@ -1,4 +1,6 @@
 pub mod Adding
+pub mod Entered
+pub mod Entering
 pub mod Filed
 pub mod Gathered
 pub mod Putting

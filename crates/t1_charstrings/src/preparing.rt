@@ -16,6 +16,7 @@ use crate::counting::check_counts;
 use crate::encrypted::charstrings_of;
 use crate::entries::Charstrings;
 use crate::lengths::{check_length, check_parts, private_len as len_of};
+use crate::replacing::{prepare_put, prepare_remove};
 use crate::settling::{ReadyLine, ReadyLines};
 use std::alloc::Global;
 use t1_frac::{Bytes, Refusal};
@@ -39,7 +40,7 @@ fn ready_source(alloc: Global, source: &Source) -> Result<ReadyLines, Refusal>
 }
 
 /// The charstrings of an edited source, all encrypted anew, as where lenIV is edited; or the first fault of the edited source.
-fn ready_anew(
+pub(crate) fn ready_anew(
     alloc: Global,
     source: &Source,
     pairs: &Pairs,
@@ -56,7 +57,7 @@ fn ready_anew(
 }
 
 /// The same, where an item comes in the place of another.
-fn put_anew(
+pub(crate) fn put_anew(
     alloc: Global,
     source: &Source,
     pairs: &Pairs,
@@ -106,6 +107,19 @@ fn ready_clear(
     })
 }
 
+/// The charstrings stay where the source stays.
+fn ready_same(source: &Source, private_len: usize) -> Result<ReadyLines, Refusal>
+    requires file { file_check source.now ≡ Ok tt }
+    requires len { IsPrivateLen source.now private_len }
+    ensures judged { Gives (λ _. tt) result (file_check source.now) }
+    ensures ready { (c : Charstrings) → AreEncrypted source.now c → IfOk result (IsReadyLines source.now c) }
+{
+    Ok(ReadyLines {
+        line: ReadyLine::Kept,
+        len: private_len,
+    })
+}
+
 /// What an edit makes of the charstrings and of the length of the private text, or the first fault of the edited source.
 /// Nothing is changed: there may be more room among the charstrings.
 pub fn prepare_lines(
@@ -127,16 +141,15 @@ pub fn prepare_lines(
 {
     match change {
         Change::PutItem(at, item) => {
-            put_anew(alloc, source, pairs, *at, item)
+            prepare_put(alloc, charstrings, private_len, source, pairs, *at, item)
         }
-        Change::InsertItem(at, item) => {
-            insert_anew(alloc, source, pairs, *at, item)
+        Change::InsertItem(at, item) => insert_anew(alloc, source, pairs, *at, item),
+        Change::RemoveItem(at) => {
+            prepare_remove(alloc, charstrings, private_len, source, pairs, *at)
         }
-        Change::RemoveItem(at) => ready_anew(alloc, source, pairs, Change::RemoveItem(*at)),
         Change::PutClear(lines) => ready_clear(private_len, source, lines),
-        _ => Ok(ReadyLines {
-            line: ReadyLine::Kept,
-            len: private_len,
-        }),
+        Change::PutPair(_, _) => ready_same(source, private_len),
+        Change::InsertPair(_, _) => ready_same(source, private_len),
+        Change::RemovePair(_) => ready_same(source, private_len),
     }
 }
