@@ -55,7 +55,7 @@ use Rattle.t1_charstrings.proofs.Totals.{len-of, put_sum, remove_sum}
 
 -- ---- what is ready for an entry, at its key
 
-record IsEntered (front : ℕ) (item : Item) (line : ReadyLine) (c : Charstrings) : Type 0 where
+pub record IsEntered (front : ℕ) (item : Item) (line : ReadyLine) (c : Charstrings) : Type 0 where
   pub key : Key
   pub body : List Command
   pub has : has_key key item ≡ true
@@ -106,7 +106,7 @@ entered-glyph front name ws closing body c h =
       text = λ o. ap (entry_line o closing) (sym (ap (λ b. cond b (Some entry) (glyph_kept c.glyphs.entries g)) (bytes_tell.itself g)));
     }
 
-entered : (front : ℕ) (item : Item) (line : ReadyLine) (c : Charstrings) → EntersLine front item line → IsEntered front item line c
+pub entered : (front : ℕ) (item : Item) (line : ReadyLine) (c : Charstrings) → EntersLine front item line → IsEntered front item line c
 entered front (items.Subr n ws closing) (ready.Subr number entry) c h =
     subst (λ m. IsEntered front (items.Subr n ws closing) (ready.Subr m entry) c) (sym h.0)
     (subst (λ e. IsEntered front (items.Subr n ws closing) (ready.Subr n e) c) (sym h.1.2) (entered-subr front n ws closing h.1.0 c h.1.1))
@@ -209,6 +209,15 @@ pub length_refused : (s : SourceParts) (refused : Refusal) → Refuses refused (
 unfolding file_check
 length_refused s refusals.Memory h = tt
 length_refused s (refusals.Fault fault) h = ap (λ r. r >>= λ checked. counts_check s.items) h
+
+pub counts_refused : (s : SourceParts) (refused : Refusal) → length_check s ≡ Ok tt → Refuses refused (counts_check s.items) → Refuses refused (file_check s)
+unfolding file_check
+counts_refused s refusals.Memory short h = tt
+counts_refused s (refusals.Fault fault) short h = ap (λ r. r >>= λ checked. counts_check s.items) short ∙ h
+
+pub file_passed : (s : SourceParts) → length_check s ≡ Ok tt → counts_check s.items ≡ Ok tt → file_check s ≡ Ok tt
+unfolding file_check
+file_passed s short counts = ap (λ r. r >>= λ checked. counts_check s.items) short ∙ counts
 
 place-has : (key : Key) (i x : Item) → IsInPlaceOf i x → has_key key x ≡ true → has_key key i ≡ true
 place-has (Subr k) (items.Subr m ws c) (items.Subr n vs d) same on = ap (nat_eq k) same ∙ on

@@ -3,6 +3,7 @@ pub mod Entered
 pub mod Entering
 pub mod Filed
 pub mod Gathered
+pub mod Inserting
 pub mod Putting
 pub mod Readying
 pub mod Sources

@@ -1,5 +1,5 @@
 -- What is ready to be kept of a source that is about to be edited.
-use Rattle.std.specs.Prelude.{◌≡◌, ◌<◌, ◌-◌, ◌^◌, min, length, ℕ, List, [], Option, Some, None, Ok}
+use Rattle.std.specs.Prelude.{◌≡◌, ◌<◌, ◌+◌, ◌-◌, ◌^◌, min, length, ℕ, List, [], Option, Some, None, Ok}
 use Rattle.indexmap.specs.IndexMap.{spare}
 use Rattle.t1_frac.specs.declared.fault.Place.TheVariants as places
 use Rattle.t1_frac.specs.Outcome.{told_at}
@@ -9,6 +9,7 @@ use Rattle.t1_parts.specs.declared.item.Item.{Item}
 use Rattle.t1_parts.specs.declared.item.Item.TheVariants as items
 use Rattle.t1_parts.specs.Operator.{operator}
 use Rattle.t1_parts.specs.SourceParts.{SourceParts}
+use Rattle.t1_source.specs.Editing.{closing_of}
 use Rattle.t1_run.specs.Run.{Subr, Glyph}
 use Rattle.t1_charstrings.specs.declared.entries.Charstrings.{Charstrings}
 use Rattle.t1_charstrings.specs.declared.settling.ReadyLine.{ReadyLine}
@@ -19,7 +20,8 @@ use Rattle.t1_charstrings.specs.Entries.{encrypted}
 use Rattle.t1_charstrings.specs.Kept.{AreEncrypted}
 use Rattle.t1_charstrings.specs.Lengths.{IsPrivateLen}
 use Rattle.t1_charstrings.specs.Lines.{entry_line, kept_line}
-use Rattle.t1_charstrings.specs.Sums.{item_at}
+use Rattle.t1_charstrings.specs.Raising.{raised_text}
+use Rattle.t1_charstrings.specs.Sums.{item_at, section_text}
 
 -- the charstrings before and after what is ready was put in its place
 abbrev pub SettlesTo : ReadyLine → Charstrings → Charstrings → Type 0
@@ -77,3 +79,9 @@ ready_text operator closing line = []
 -- how long the line of the item at a place is, up to 2^64 - 1
 abbrev pub old_len : Charstrings → SourceParts → ℕ → ℕ
 old_len c s at = min (length (kept_line c (operator s) (item_at s.items at))) (2 ^ 64 - 1)
+
+-- how long the private text is with an entry put in: its line more, and raised section lines in the place of the old ones
+abbrev pub inserted_len : ℕ → SourceParts → Item → ReadyLine → ℕ → ℕ → ℕ
+inserted_len n s item line subrs glyphs =
+    min (min ((n - min (length (section_text s.items)) (2 ^ 64 - 1)) + min (length (ready_text (operator s) (closing_of item) line)) (2 ^ 64 - 1)) (2 ^ 64 - 1)
+    + min (length (raised_text subrs glyphs s.items)) (2 ^ 64 - 1)) (2 ^ 64 - 1)

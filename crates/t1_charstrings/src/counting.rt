@@ -9,7 +9,7 @@ use t1_frac::{Code, Refusal};
 use t1_source::Item;
 
 /// The least count of ten digits.
-const TEN_DIGITS: u64 = 1_000_000_000;
+pub(crate) const TEN_DIGITS: u64 = 1_000_000_000;
 
 /// Whether the count of an item that is a section line has at most nine digits.
 fn is_counted(item: &Item) -> bool

@@ -13,6 +13,7 @@ pub mod laws;
 mod lengths;
 mod lines;
 mod preparing;
+mod raising;
 mod replacing;
 mod settling;
 

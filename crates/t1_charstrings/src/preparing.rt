@@ -16,7 +16,7 @@ use crate::counting::check_counts;
 use crate::encrypted::charstrings_of;
 use crate::entries::Charstrings;
 use crate::lengths::{check_length, check_parts, private_len as len_of};
-use crate::replacing::{prepare_put, prepare_remove};
+use crate::replacing::{prepare_insert, prepare_put, prepare_remove};
 use crate::settling::{ReadyLine, ReadyLines};
 use std::alloc::Global;
 use t1_frac::{Bytes, Refusal};
@@ -73,7 +73,7 @@ pub(crate) fn put_anew(
 }
 
 /// The same, where an item is put in.
-fn insert_anew(
+pub(crate) fn insert_anew(
     alloc: Global,
     source: &Source,
     pairs: &Pairs,
@@ -143,7 +143,9 @@ pub fn prepare_lines(
         Change::PutItem(at, item) => {
             prepare_put(alloc, charstrings, private_len, source, pairs, *at, item)
         }
-        Change::InsertItem(at, item) => insert_anew(alloc, source, pairs, *at, item),
+        Change::InsertItem(at, item) => {
+            prepare_insert(alloc, charstrings, private_len, source, pairs, *at, item)
+        }
         Change::RemoveItem(at) => {
             prepare_remove(alloc, charstrings, private_len, source, pairs, *at)
         }

@@ -1,6 +1,6 @@
 //! What an edit makes of one charstring, before anything is changed.
 ghost use Rattle.std.specs.Prelude.{◌≡◌, ◌<◌, ◌-◌, ◌+◌, ◌^◌, min, length, Ok, IfOk};
-ghost use Rattle.std.specs.List.{remove, slice_set};
+ghost use Rattle.std.specs.List.{insert, remove, slice_set};
 ghost use Rattle.t1_frac.specs.Outcome.{Gives};
 ghost use Rattle.t1_parts.specs.Operator.{operator};
 ghost use Rattle.t1_source.specs.declared.editing.change.Change.TheVariants as changes;
@@ -12,14 +12,15 @@ ghost use Rattle.t1_font.specs.Bodies.{body_check};
 ghost use Rattle.t1_charstrings.specs.Changed.{AreUnchanged};
 ghost use Rattle.t1_charstrings.specs.Kept.{AreEncrypted};
 ghost use Rattle.t1_charstrings.specs.Lengths.{IsPrivateLen};
-ghost use Rattle.t1_charstrings.specs.Ready.{old_len, ready_text, Enters, IsReadyLines, Leaves};
+ghost use Rattle.t1_charstrings.specs.Ready.{inserted_len, old_len, ready_text, Enters, IsReadyLines, Leaves};
 ghost use Rattle.t1_charstrings.specs.Sums.{item_at};
 
 use crate::changed::make_room;
 use crate::encrypted::{encrypted_glyph, encrypted_subr};
 use crate::entries::Charstrings;
-use crate::lengths::{check_parts, entry_line_len, line_len};
-use crate::preparing::{put_anew, ready_anew};
+use crate::lengths::{check_parts, entry_line_len, line_len, sections_len};
+use crate::preparing::{insert_anew, put_anew, ready_anew};
+use crate::raising::{Needed, check_raised, needed_with, raised_sections_len};
 use crate::settling::{ReadyLine, ReadyLines};
 use std::alloc::{AllocError, Global};
 use t1_font::{compiled_glyph, compiled_subr};
@@ -128,6 +129,54 @@ pub(crate) fn prepare_put(
         .saturating_sub(old_len(charstrings, source, at))
         .saturating_add(ready_len(source.operator(), item, &line));
     check_parts(source.clear(), len, source.tail())?;
+    make_room(charstrings, 1, 1)?;
+    Ok(ReadyLines { line, len })
+}
+
+/// How long the private text is with an entry put in, whose section lines are raised to what is needed.
+fn longer_len(
+    private_len: usize,
+    source: &Source,
+    item: &Item,
+    line: &ReadyLine,
+    needed: &Needed,
+) -> usize
+    ensures { result ≡ inserted_len private_len source.now item.now line.now needed.now.subrs needed.now.glyphs }
+{
+    let items = source.items();
+    private_len
+        .saturating_sub(sections_len(items))
+        .saturating_add(ready_len(source.operator(), item, line))
+        .saturating_add(raised_sections_len(items, needed))
+}
+
+/// What is ready where an item is put in, or the first fault of the edited source. The items are gone through for their
+/// section lines.
+pub(crate) fn prepare_insert(
+    alloc: Global,
+    charstrings: &mut Charstrings,
+    private_len: usize,
+    source: &Source,
+    pairs: &Pairs,
+    at: usize,
+    item: &Item,
+) -> Result<ReadyLines, Refusal>
+    requires serves { Serves (changes.InsertItem at item.now) source.now pairs.now }
+    requires well { IsWellFormed source.now }
+    requires file { file_check source.now ≡ Ok tt }
+    requires kept { AreEncrypted source.now charstrings.old }
+    requires len { IsPrivateLen source.now private_len }
+    ensures same { AreUnchanged charstrings.old charstrings.new }
+    ensures judged { Gives (λ _. tt) result (file_check (with_items source.now (insert source.now.items at item.now))) }
+    ensures ready { IfOk result (IsReadyLines (with_items source.now (insert source.now.items at item.now)) charstrings.new) }
+{
+    let Some(line) = entered_line(alloc, source.lead(), item)? else {
+        return insert_anew(alloc, source, pairs, at, item);
+    };
+    let needed = needed_with(source.items(), item);
+    let len = longer_len(private_len, source, item, &line, &needed);
+    check_parts(source.clear(), len, source.tail())?;
+    check_raised(source.items(), &needed)?;
     make_room(charstrings, 1, 1)?;
     Ok(ReadyLines { line, len })
 }
