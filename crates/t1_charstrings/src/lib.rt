@@ -1,7 +1,9 @@
 //! The encrypted charstrings of a font's entries, kept under edits.
 //!
 //! [`charstrings_of`] encrypts the charstrings of a source, or gives the first fault of its bodies. [`write_kept_pfb`] and
-//! [`write_kept_pfa`] write its files with them: nothing is compiled or encrypted anew.
+//! [`write_kept_pfa`] write its files with them: nothing is compiled or encrypted anew. [`put_subr`] and the functions beside
+//! it change what is kept of one entry, in the room that [`make_room`] made. [`private_len`] is the length of the private
+//! text, and [`check_parts`] judges by it whether a part of a file is too long; [`laws`] say what an edit makes of both.
 #![tactic(auto)]
 
 mod changed;
