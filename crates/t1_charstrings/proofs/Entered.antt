@@ -1,8 +1,7 @@
 -- What is ready of a source in which an entry is put in the place of another, or taken out.
-use Rattle.std.proofs.Common.{◌≡◌, ◌-◌, ◌+◌, ◌^◌, ◌<◌, ◌≤◌, min, max, ℕ, zero, suc, Bool, true, false, cond, not, List, [], ◌∷◌, ◌++◌, length, filter, filter_map, refl, sym, ap, subst, ◌∙◌, Option, None, Some, Result, Ok, Err, inl, inr, arith, length-append}
-use Rattle.std.specs.Prelude.{nat_eq, nat_le}
-use Rattle.std.specs.List.{insert, list_all, list_any, remove, slice_set}
-use Rattle.std.specs.Option.{option_map}
+use Rattle.std.proofs.Common.{◌≡◌, ◌-◌, ◌+◌, ◌^◌, ◌<◌, ◌≤◌, min, ℕ, zero, suc, true, cond, not, List, [], ◌∷◌, length, filter, filter_map, refl, sym, ap, subst, ◌∙◌, None, Some, Result, Ok, Err, inl, inr, arith}
+use Rattle.std.specs.Prelude.{nat_eq}
+use Rattle.std.specs.List.{list_all, remove, slice_set}
 use Rattle.std.specs.Result.{result_ok}
 use Rattle.std.specs.Str.{bytes_eq}
 use Rattle.std.specs.declared.alloc.Global.{Global}
@@ -14,23 +13,21 @@ use Rattle.t1_frac.specs.declared.fault.Fault.{Fault}
 use Rattle.t1_frac.specs.declared.fault.Place.TheVariants as places
 use Rattle.t1_frac.specs.declared.fault.Refusal.{Refusal}
 use Rattle.t1_frac.specs.declared.fault.Refusal.TheVariants as refusals
-use Rattle.t1_frac.specs.Outcome.{Gives, Refuses, told_at, ◌>>=◌}
-use Rattle.t1_code.specs.Cipher.{eexec}
+use Rattle.t1_frac.specs.Outcome.{Refuses, told_at, ◌>>=◌}
 use Rattle.t1_code.specs.declared.command.Command.{Command}
 use Rattle.t1_code.specs.Words.{commands}
 use Rattle.t1_code.proofs.Encrypting.{length-eexec}
-use Rattle.t1_text.specs.Lines.{joined}
 use Rattle.t1_parts.specs.declared.item.Item.{Item}
 use Rattle.t1_parts.specs.declared.item.Item.TheVariants as items
 use Rattle.t1_parts.specs.LenIV.{lead, first_lead, said_lead}
 use Rattle.t1_parts.specs.Operator.{operator}
 use Rattle.t1_parts.specs.SourceParts.{SourceParts}
-use Rattle.t1_source.specs.Changes.{Fits, IsInPlaceOf}
+use Rattle.t1_source.specs.Changes.{IsInPlaceOf}
 use Rattle.t1_source.specs.Editing.{closing_of, with_items}
 use Rattle.t1_source.specs.WellFormed.{IsWellFormed, is_counted}
 use Rattle.t1_source.proofs.ChangeLaws.{raised_put, raised_removed}
 use Rattle.t1_run.specs.Run.{Key, Subr, Glyph}
-use Rattle.t1_font.specs.Assembly.{counts_check, file_check, length_check, private_text, trailer_text}
+use Rattle.t1_font.specs.Assembly.{counts_check, file_check, length_check}
 use Rattle.t1_font.specs.Bodies.{bodies, bodies_check, body_check, words_check}
 use Rattle.t1_font.proofs.Compiling.{told-ok}
 use Rattle.t1_font.proofs.Counted.{counted-source}
@@ -38,13 +35,13 @@ use Rattle.t1_charstrings.specs.declared.entries.Charstrings.{Charstrings}
 use Rattle.t1_charstrings.specs.declared.settling.ReadyLine.{ReadyLine}
 use Rattle.t1_charstrings.specs.declared.settling.ReadyLine.TheVariants as ready
 use Rattle.t1_charstrings.specs.Changed.{AreUnchanged, Sets}
-use Rattle.t1_charstrings.specs.Entries.{Kept, body_at, encrypted, glyph_kept, key_eq, subr_kept}
+use Rattle.t1_charstrings.specs.Entries.{body_at, encrypted, glyph_kept, key_eq, subr_kept}
 use Rattle.t1_charstrings.specs.Kept.{AreEncrypted, kept_at}
 use Rattle.t1_charstrings.specs.Lengths.{IsPrivateLen}
 use Rattle.t1_charstrings.specs.Lines.{entry_line, kept_line, kept_text}
 use Rattle.t1_charstrings.specs.Ready.{EntersLine, HasRoom, IsReadyLines, LeavesLine, SettlesTo, old_len, ready_text}
 use Rattle.t1_charstrings.specs.Sums.{AreEdited, has_key, item_at}
-use Rattle.t1_charstrings.proofs.Adding.{Alone, alone, text-both}
+use Rattle.t1_charstrings.proofs.Adding.{alone, text-both}
 use Rattle.t1_charstrings.proofs.Entering.{body_in, check-put, check-remove, counted-entry, counted-put, counted-remove, lead-put, lead-remove, other_kept, put-other, put-own, remove-other, remove-own, IsOther}
 use Rattle.t1_charstrings.proofs.Filed.{long_told}
 use Rattle.t1_charstrings.proofs.Gathered.{at-key}

@@ -1,5 +1,5 @@
 -- A source in which an entry is put in the place of another, put in or taken out.
-use Rattle.std.proofs.Common.{◌≡◌, ◌-◌, ◌+◌, ◌^◌, ◌<◌, ◌≤◌, min, max, ℕ, zero, suc, Bool, true, false, cond, List, [], ◌∷◌, ◌++◌, map, length, filter_map, refl, sym, ap, ◌∙◌, Option, None, Some, Result, Ok, Err, inl, inr, arith, length-append}
+use Rattle.std.proofs.Common.{◌≡◌, ◌<◌, ◌≤◌, ℕ, zero, suc, Bool, true, false, cond, List, [], ◌∷◌, map, length, filter_map, refl, sym, ap, ◌∙◌, Option, None, Some, Result, Ok, Err, arith}
 use Rattle.std.specs.Prelude.{nat_eq}
 use Rattle.std.specs.List.{insert, list_all, list_any, remove, slice_set}
 use Rattle.std.specs.Option.{option_map, option_or}
@@ -12,8 +12,8 @@ use Rattle.t1_code.specs.declared.command.Command.{Command}
 use Rattle.t1_code.specs.Words.{commands}
 use Rattle.t1_parts.specs.declared.item.Item.{Item}
 use Rattle.t1_parts.specs.declared.item.Item.TheVariants as items
-use Rattle.t1_parts.specs.Counts.{glyphs_needed, raised, raised_item, subrs_needed}
-use Rattle.t1_parts.specs.LenIV.{lead, lead_among, first_lead, said_lead}
+use Rattle.t1_parts.specs.Counts.{raised_item}
+use Rattle.t1_parts.specs.LenIV.{lead, said_lead}
 use Rattle.t1_parts.specs.SourceParts.{SourceParts}
 use Rattle.t1_source.specs.WellFormed.{is_counted}
 use Rattle.t1_run.specs.Run.{Key, Subr, Glyph}

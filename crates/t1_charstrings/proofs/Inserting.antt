@@ -1,22 +1,20 @@
 -- A source into which an entry is put, whose key no other has.
-use Rattle.std.proofs.Common.{◌≡◌, ◌+◌, ◌-◌, ◌^◌, ◌<◌, ◌≤◌, min, max, ℕ, zero, suc, Bool, true, false, cond, List, [], ◌∷◌, ◌++◌, map, length, length-append, filter_map, refl, sym, ap, subst, ◌∙◌, Option, Some, Result, Ok, arith}
-use Rattle.std.specs.Prelude.{◌||◌, ◌&&◌, nat_eq, if◌then◌else◌, Err}
+use Rattle.std.proofs.Common.{◌≡◌, ◌+◌, ◌-◌, ◌^◌, ◌<◌, ◌≤◌, min, max, ℕ, zero, suc, true, false, cond, List, [], ◌∷◌, ◌++◌, map, length, length-append, filter_map, refl, sym, ap, subst, ◌∙◌, Some, Ok, arith}
+use Rattle.std.specs.Prelude.{◌||◌, ◌&&◌, Err}
 use Rattle.std.specs.List.{insert, list_all, list_any}
-use Rattle.std.specs.Str.{bytes_eq}
 use Rattle.std.proofs.lemmas.List.Sums.{sum_by-cons}
 use Rattle.indexmap.specs.IndexMap.{spare}
 use Rattle.t1_frac.specs.declared.fault.Code.TheVariants.{F23}
-use Rattle.t1_frac.specs.declared.fault.Fault.{Fault}
 use Rattle.t1_frac.specs.declared.fault.Place.TheVariants.{Nowhere}
 use Rattle.t1_frac.specs.declared.fault.Refusal.{Refusal}
 use Rattle.t1_frac.specs.Outcome.{Refuses, fault_at}
 use Rattle.t1_parts.specs.declared.item.Item.{Item}
 use Rattle.t1_parts.specs.declared.item.Item.TheVariants as items
-use Rattle.t1_parts.specs.Counts.{glyphs_needed, is_glyph_entry, raised, raised_item, subrs_needed}
+use Rattle.t1_parts.specs.Counts.{glyphs_needed, is_glyph_entry, raised_item, subrs_needed}
 use Rattle.t1_parts.specs.LenIV.{lead, first_lead, said_lead}
 use Rattle.t1_parts.specs.Operator.{operator}
 use Rattle.t1_parts.specs.SourceParts.{SourceParts}
-use Rattle.t1_source.specs.Editing.{closing_of, with_items}
+use Rattle.t1_source.specs.Editing.{with_items}
 use Rattle.t1_source.specs.WellFormed.{IsWellFormed, is_counted}
 use Rattle.t1_run.specs.Run.{Key, Subr, Glyph}
 use Rattle.t1_font.specs.Assembly.{counts_check, file_check}
@@ -29,9 +27,9 @@ use Rattle.t1_charstrings.specs.Kept.{AreEncrypted}
 use Rattle.t1_charstrings.specs.Lengths.{IsPrivateLen}
 use Rattle.t1_charstrings.specs.Lines.{kept_line, kept_text}
 use Rattle.t1_charstrings.specs.Raising.{is_raised_counted, raised_check, raised_text}
-use Rattle.t1_charstrings.specs.Ready.{EntersLine, IsReadyLines, inserted_len, ready_text}
+use Rattle.t1_charstrings.specs.Ready.{EntersLine, IsReadyLines, inserted_len}
 use Rattle.t1_charstrings.specs.Sums.{AreEdited, has_key, item_at, section_line, section_text}
-use Rattle.t1_charstrings.proofs.Adding.{alone, neither, text-both, Alone}
+use Rattle.t1_charstrings.proofs.Adding.{alone, text-both, Alone}
 use Rattle.t1_charstrings.proofs.Entered.{entered, len_small, IsEntered}
 use Rattle.t1_charstrings.proofs.Entering.{check-insert, insert-other, insert-own, lead-insert, other_kept, raised-bodies, raised-checks, raised-leads, IsOther}
 use Rattle.t1_charstrings.proofs.Readying.{bodies_refused, unchanged}

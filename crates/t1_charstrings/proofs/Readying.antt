@@ -1,9 +1,9 @@
 -- What is ready of a source that was edited.
-use Rattle.std.proofs.Common.{◌≡◌, ℕ, List, refl, ap, sym, ◌∙◌}
+use Rattle.std.proofs.Common.{◌≡◌, ℕ, List, ap, ◌∙◌}
 use Rattle.std.specs.Option.{option_map}
 use Rattle.t1_parts.specs.LenIV.{lead}
 use Rattle.t1_parts.specs.SourceParts.{SourceParts}
-use Rattle.t1_run.specs.Run.{Key, Subr, Glyph}
+use Rattle.t1_run.specs.Run.{Subr, Glyph}
 use Rattle.t1_frac.specs.declared.fault.Refusal.{Refusal}
 use Rattle.t1_frac.specs.declared.fault.Refusal.TheVariants as refusals
 use Rattle.t1_frac.specs.Outcome.{Refuses}

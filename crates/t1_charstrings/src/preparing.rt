@@ -90,11 +90,7 @@ pub(crate) fn insert_anew(
 
 /// The charstrings stay where the clear part gets other lines; F23 where it is too long.
 #[tactic(auto, unfolding(t1_font::specs::Assembly::file_check))]
-fn ready_clear(
-    private_len: usize,
-    source: &Source,
-    clear: &[Bytes],
-) -> Result<ReadyLines, Refusal>
+fn ready_clear(private_len: usize, source: &Source, clear: &[Bytes]) -> Result<ReadyLines, Refusal>
     requires file { file_check source.now ≡ Ok tt }
     requires len { IsPrivateLen source.now private_len }
     ensures judged { Gives (λ _. tt) result (file_check (with_clear source.now clear.now)) }

@@ -11,5 +11,15 @@ returns c =
     let operator = ap (λ o. length (ready_text o (closing_of c.args.item.now) c.args.line.now)) c.operator.ensures in
     let sections = ap (λ is. length (section_text is)) c.items-items.ensures in
     let raised = ap (λ is. length (raised_text needed.subrs needed.glyphs is)) c.items-items.ensures in
-    omega (arith, c.saturating_sub.ensures, c.saturating_add.ensures, c.saturating_add-2.ensures, c.sections_len.ensures, c.ready_len.ensures,
-    c.raised_sections_len.ensures, operator, sections, raised)
+    omega (
+      arith,
+      c.saturating_sub.ensures,
+      c.saturating_add.ensures,
+      c.saturating_add-2.ensures,
+      c.sections_len.ensures,
+      c.ready_len.ensures,
+      c.raised_sections_len.ensures,
+      operator,
+      sections,
+      raised,
+    )

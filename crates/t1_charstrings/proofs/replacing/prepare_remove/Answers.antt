@@ -1,4 +1,4 @@
-use Rattle.std.proofs.Common.{◌≡◌, ◌-◌, subst, sym, arith, Some}
+use Rattle.std.proofs.Common.{◌≡◌, ◌-◌, subst, sym, arith}
 use Rattle.std.proofs.lemmas.Result.{err_from_is_err_and}
 use Rattle.std.specs.List.{remove}
 use Rattle.t1_source.specs.Editing.{with_items}
