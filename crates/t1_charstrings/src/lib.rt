@@ -4,6 +4,9 @@
 //! [`write_kept_pfa`] write its files with them: nothing is compiled or encrypted anew. [`put_subr`] and the functions beside
 //! it change what is kept of one entry, in the room that [`make_room`] made. [`private_len`] is the length of the private
 //! text, and [`check_parts`] judges by it whether a part of a file is too long; [`laws`] say what an edit makes of both.
+//!
+//! An edit is made in two steps: [`prepare_lines`] makes what it changes of the charstrings and of that length ready, or gives
+//! the first fault of the edited source, and [`settle_lines`] puts it in its place, which can't fail.
 #![tactic(auto)]
 
 mod changed;
