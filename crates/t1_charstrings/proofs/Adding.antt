@@ -21,7 +21,7 @@ use Rattle.t1_charstrings.specs.Sums.{has_key, item_at, section_line, section_te
 
 -- ---- items that don't have the key
 
-neither : (a b : Bool) → (a || b) ≡ false → (a ≡ false) × (b ≡ false)
+pub neither : (a b : Bool) → (a || b) ≡ false → (a ≡ false) × (b ≡ false)
 neither true b h = absurd (cc)
 neither false b h = (refl, h)
 
@@ -52,12 +52,12 @@ same-lines key entry old new sets operator (i ∷ is) h =
 
 -- ---- one item in the place of another, put in, taken out
 
-text-both : (c : Charstrings) (operator : List ℕ) (i : Item) (is : List Item)
+pub text-both : (c : Charstrings) (operator : List ℕ) (i : Item) (is : List Item)
     → length (kept_text c operator (i ∷ is)) ≡ length (kept_line c operator i) + length (kept_text c operator is)
 text-both c operator i is = length-append (kept_line c operator i) (kept_text c operator is)
 
 -- no other item has the key
-abbrev Alone : (Item → Bool) → ℕ → List Item → Type 0
+abbrev pub Alone : (Item → Bool) → ℕ → List Item → Type 0
 Alone test at [] = Unit {0}
 Alone test zero (i ∷ is) = list_any test is ≡ false
 Alone test (suc at) (i ∷ is) = (test i ≡ false) × Alone test at is
@@ -160,7 +160,7 @@ alone-at key earlier (i ∷ is) last (suc at) h on none =
         (none-later key (earlier ++ i ∷ []) is last (last-any (has_key key) earlier i false none ∙ ap (λ b. b || false) here) h.1))
     by false off rest = (refl, rest off)
 
-alone : (s : SourceParts) (key : Key) (at : ℕ) → IsWellFormed s → has_key key (item_at s.items at) ≡ true → Alone (has_key key) at s.items
+pub alone : (s : SourceParts) (key : Key) (at : ℕ) → IsWellFormed s → has_key key (item_at s.items at) ≡ true → Alone (has_key key) at s.items
 alone s key at well on =
     let p = well.items in
     subst (Alone (has_key key) at) (sym p.whole)

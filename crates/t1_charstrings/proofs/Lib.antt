@@ -1,7 +1,11 @@
 pub mod Adding
+pub mod Entered
+pub mod Entering
 pub mod Filed
 pub mod Gathered
+pub mod Inserting
 pub mod Putting
+pub mod Readying
 pub mod Sources
 pub mod Texts
 pub mod Totals

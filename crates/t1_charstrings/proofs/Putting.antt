@@ -96,7 +96,7 @@ all-but test (e ∷ es) gone = by (test e.0) refl gone (all-but test es) where
   by true on gone rest = none-left test es gone
   by false off gone rest = ap (λ l. e ∷ l) (rest (sym (ap (λ b. cond b (Some e.1) (lookup test (remove_entry test es))) off) ∙ gone))
 
-lookup-but : {Q K R : Type 0} (eq : Q → Q → Bool) → Tells eq → (name : K → Q) (p q : Q) (es : List (K × R))
+pub lookup-but : {Q K R : Type 0} (eq : Q → Q → Bool) → Tells eq → (name : K → Q) (p q : Q) (es : List (K × R))
     → lookup (λ x. eq q (name x)) (filter (λ e. not (eq p (name e.0))) es) ≡ cond (eq q p) None (lookup (λ x. eq q (name x)) es)
 lookup-but {R} eq t name p q [] = none (eq q p) where
   none : (b : Bool) → None ≡ cond {A = Option R} b None None

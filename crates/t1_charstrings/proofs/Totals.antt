@@ -97,7 +97,7 @@ same-ok : (a b : List ℕ) → ◌≡◌ {A = Result (List ℕ) Fault} (Ok a) (O
 same-ok a b e = cc
 
 -- the length of the lines that are kept is that of the private text
-len-of : (s : SourceParts) (c : Charstrings) (n : ℕ) → private_text (lead s) (operator s) s.items ≡ Ok (kept_text c (operator s) s.items)
+pub len-of : (s : SourceParts) (c : Charstrings) (n : ℕ) → private_text (lead s) (operator s) s.items ≡ Ok (kept_text c (operator s) s.items)
     → IsPrivateLen s n → n < 2 ^ 64 - 1 → n ≡ length (kept_text c (operator s) s.items)
 len-of s c n known len small =
     let same = ap (λ (t : List ℕ). length t) (same-ok len.0 (kept_text c (operator s) s.items) (sym len.1 ∙ known)) in

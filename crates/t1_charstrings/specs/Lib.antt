@@ -4,4 +4,6 @@ pub mod Kept
 pub mod Laws
 pub mod Lengths
 pub mod Lines
+pub mod Raising
+pub mod Ready
 pub mod Sums

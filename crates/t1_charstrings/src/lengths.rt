@@ -67,7 +67,7 @@ fn kept_line_len(operator: &[u8], kept: Option<&Entry>, closing: &[u8]) -> usize
 }
 
 /// How long a section line is, up to 2^64 - 1.
-fn section_line_len(before: &[u8], count: u64, after: &[u8]) -> usize
+pub(crate) fn section_line_len(before: &[u8], count: u64, after: &[u8]) -> usize
     ensures { result ≡ min (length (before.now ++ decimal count ++ after.now ++ 10 ∷ [])) (2 ^ 64 - 1) }
 {
     let digits = Buffer::new().format(count).len();

@@ -1,16 +1,26 @@
 //! The encrypted charstrings of a font's entries, kept under edits.
 //!
 //! [`charstrings_of`] encrypts the charstrings of a source, or gives the first fault of its bodies. [`write_kept_pfb`] and
-//! [`write_kept_pfa`] write its files with them: nothing is compiled or encrypted anew.
+//! [`write_kept_pfa`] write its files with them: nothing is compiled or encrypted anew. [`put_subr`] and the functions beside
+//! it change what is kept of one entry, in the room that [`make_room`] made. [`private_len`] is the length of the private
+//! text, and [`check_parts`] judges by it whether a part of a file is too long; [`laws`] say what an edit makes of both.
+//!
+//! An edit is made in two steps: [`prepare_lines`] makes what it changes of the charstrings and of that length ready, or gives
+//! the first fault of the edited source, and [`settle_lines`] puts it in its place, which can't fail.
 #![tactic(auto)]
 
 mod changed;
+mod counting;
 mod encrypted;
 mod entries;
 mod files;
 pub mod laws;
 mod lengths;
 mod lines;
+mod preparing;
+mod raising;
+mod replacing;
+mod settling;
 
 pub use changed::{
     insert_glyph, insert_subr, make_room, put_glyph, put_subr, remove_glyph, remove_subr,
@@ -19,6 +29,8 @@ pub use encrypted::{charstrings_of, encrypted_anew, encrypted_glyph, encrypted_s
 pub use entries::{Charstrings, Entry};
 pub use files::{write_kept_pfa, write_kept_pfb};
 pub use lengths::{check_length, check_parts, entry_line_len, line_len, private_len, sections_len};
+pub use preparing::prepare_lines;
+pub use settling::{ReadyLine, ReadyLines, settle_lines};
 
 #[cfg(test)]
 mod tests;

@@ -2,6 +2,8 @@
 ghost use Rattle.std.specs.Prelude.{IfOk};
 ghost use Rattle.t1_source.specs.WellFormed.{IsWellFormed};
 
+mod edits;
+
 use super::*;
 use std::alloc::Global;
 use std::test::Fail;

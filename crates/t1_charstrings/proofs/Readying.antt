@@ -1,0 +1,54 @@
+-- What is ready of a source that was edited.
+use Rattle.std.proofs.Common.{◌≡◌, ℕ, List, ap, ◌∙◌}
+use Rattle.std.specs.Option.{option_map}
+use Rattle.t1_parts.specs.LenIV.{lead}
+use Rattle.t1_parts.specs.SourceParts.{SourceParts}
+use Rattle.t1_run.specs.Run.{Subr, Glyph}
+use Rattle.t1_frac.specs.declared.fault.Refusal.{Refusal}
+use Rattle.t1_frac.specs.declared.fault.Refusal.TheVariants as refusals
+use Rattle.t1_frac.specs.Outcome.{Refuses}
+use Rattle.t1_font.specs.Assembly.{file_check}
+use Rattle.t1_font.specs.Bodies.{bodies, bodies_check}
+use Rattle.t1_font.proofs.LengthLaws.{body_fault_told}
+use Rattle.t1_source.specs.Editing.{with_clear}
+use Rattle.t1_charstrings.specs.declared.entries.Charstrings.{Charstrings}
+use Rattle.t1_charstrings.specs.declared.settling.ReadyLine.TheVariants as ready
+use Rattle.t1_charstrings.specs.Changed.{AreUnchanged}
+use Rattle.t1_charstrings.specs.Entries.{body_at, encrypted, glyph_kept, subr_kept}
+use Rattle.t1_charstrings.specs.Kept.{AreEncrypted, kept_at}
+use Rattle.t1_charstrings.specs.Lengths.{IsPrivateLen}
+use Rattle.t1_charstrings.specs.Ready.{IsReadyLines}
+use Rattle.t1_charstrings.proofs.Gathered.{at-key}
+
+-- the same entries are the charstrings of the same source
+pub unchanged : (s : SourceParts) (old new : Charstrings) → AreUnchanged old new → AreEncrypted s old → AreEncrypted s new
+unchanged s old new same kept = record {
+  sound = kept.sound;
+  each = at-key (λ k. kept_at new k ≡ option_map (encrypted (lead s) k) (body_at (bodies s.items) k))
+      (λ n. ap (λ es. subr_kept es n) same.0 ∙ kept.each (Subr n))
+      (λ g. ap (λ es. glyph_kept es g) same.1 ∙ kept.each (Glyph g));
+}
+
+-- all were encrypted anew
+pub all_ready : (s : SourceParts) (old c : Charstrings) (len : ℕ) → AreEncrypted s c → IsPrivateLen s len
+    → IsReadyLines s old (record { line = ready.All c; len = len })
+all_ready s old c len kept known = record { room = tt; kept = λ new same. unchanged s c new same kept; len = known }
+
+-- nothing changes
+pub kept_ready : (s : SourceParts) (c : Charstrings) (len : ℕ) → AreEncrypted s c → IsPrivateLen s len
+    → IsReadyLines s c (record { line = ready.Kept; len = len })
+kept_ready s c len kept known = record { room = tt; kept = λ new same. unchanged s c new same kept; len = known }
+
+-- the clear part has other lines
+pub clear_ready : (s : SourceParts) (lines : List (List ℕ)) (c : Charstrings) (len : ℕ) → AreEncrypted s c → IsPrivateLen s len
+    → IsReadyLines (with_clear s lines) c (record { line = ready.Kept; len = len })
+clear_ready s lines c len kept known = record {
+  room = tt;
+  kept = λ new same. let now = unchanged s c new same kept in record { sound = now.sound; each = now.each };
+  len = known;
+}
+
+-- the fault of a body is that of the file
+pub bodies_refused : (s : SourceParts) (refused : Refusal) → Refuses refused (bodies_check s.items) → Refuses refused (file_check s)
+bodies_refused s refusals.Memory h = tt
+bodies_refused s (refusals.Fault fault) h = body_fault_told s fault h

@@ -1,0 +1,149 @@
+//! The counts of section lines, as they are raised where an entry is put in.
+ghost use Rattle.std.specs.Prelude.{◌≡◌, ◌≤◌, ◌^◌, ◌-◌, ◌∷◌, codes, if◌then◌else◌, length, max, min};
+ghost use Rattle.std.specs.List.{list_all};
+ghost use Rattle.t1_frac.specs.Outcome.{Gives};
+ghost use Rattle.t1_text.specs.Tokens.{last_is, tokens};
+ghost use Rattle.t1_parts.specs.Counts.{glyphs_needed, raised_item, subrs_needed};
+ghost use Rattle.t1_source.specs.WellFormed.{is_counted};
+ghost use Rattle.t1_charstrings.specs.Raising.{is_raised_counted, raised_check, raised_text};
+ghost use Rattle.t1_charstrings.specs.Sums.{section_line};
+
+use crate::counting::TEN_DIGITS;
+use crate::lengths::section_line_len;
+use t1_frac::{Code, Refusal};
+use t1_source::Item;
+use t1_text::last_is;
+
+/// The highest Subr number plus one.
+fn subrs_needed(items: &[Item]) -> u64
+    ensures { result ≡ subrs_needed items.now }
+{
+    let mut needed = 0;
+    let mut rest = items;
+    while let Some((item, after)) = rest.split_first() {
+        if let Item::Subr(number, _, _) = item {
+            needed = (u64::from(*number) + 1).max(needed);
+        }
+        rest = after;
+    }
+    needed
+}
+
+/// The number of glyphs.
+fn glyphs_needed(items: &[Item]) -> u64
+    ensures value { result ≡ glyphs_needed items.now }
+    ensures within { result ≤ length items.now }
+{
+    let mut needed = 0;
+    let mut rest = items;
+    while let Some((item, after)) = rest.split_first() {
+        if let Item::Glyph(_, _, _) = item {
+            needed += 1;
+        }
+        rest = after;
+    }
+    needed
+}
+
+/// What the items need for their Subrs and glyphs, with one more.
+#[derive(Drop)]
+pub(crate) struct Needed {
+    subrs: u64,
+    glyphs: u64,
+}
+
+/// The highest Subr number plus one, with an item more.
+fn subrs_with(items: &[Item], item: &Item) -> u64
+    ensures { result ≡ subrs_needed (item.now ∷ items.now) }
+{
+    let needed = subrs_needed(items);
+    match item {
+        Item::Subr(number, _, _) => (u64::from(*number) + 1).max(needed),
+        _ => needed,
+    }
+}
+
+/// The number of glyphs, with an item more.
+#[tactic(auto, using(crate::proofs::Inserting::glyphs_first))]
+fn glyphs_with(items: &[Item], item: &Item) -> u64
+    ensures { result ≡ glyphs_needed (item.now ∷ items.now) }
+{
+    let needed = glyphs_needed(items);
+    match item {
+        Item::Glyph(_, _, _) => needed + 1,
+        _ => needed,
+    }
+}
+
+/// What is needed with an item more.
+pub(crate) fn needed_with(items: &[Item], item: &Item) -> Needed
+    ensures subrs { result.subrs ≡ subrs_needed (item.now ∷ items.now) }
+    ensures glyphs { result.glyphs ≡ glyphs_needed (item.now ∷ items.now) }
+{
+    Needed {
+        subrs: subrs_with(items, item),
+        glyphs: glyphs_with(items, item),
+    }
+}
+
+/// A section's count, raised to what is needed.
+fn raised_count(before: &[u8], count: u64, needed: &Needed) -> u64
+    ensures { result ≡ max count (if last_is (codes "/CharStrings") (tokens before.now) then needed.now.glyphs else needed.now.subrs) }
+{
+    let needed = if last_is(b"/CharStrings", before) {
+        needed.glyphs
+    } else {
+        needed.subrs
+    };
+    count.max(needed)
+}
+
+/// How long the raised line of a section is, up to 2^64 - 1; 0 for another item.
+fn raised_len(item: &Item, needed: &Needed) -> usize
+    ensures { result ≡ min (length (section_line (raised_item needed.now.subrs needed.now.glyphs item.now))) (2 ^ 64 - 1) }
+{
+    match item {
+        Item::Section(before, count, after) => {
+            let count = raised_count(before.as_slice(), *count, needed);
+            section_line_len(before.as_slice(), count, after.as_slice())
+        }
+        _ => 0,
+    }
+}
+
+/// How long the raised section lines are, up to 2^64 - 1.
+pub(crate) fn raised_sections_len(items: &[Item], needed: &Needed) -> usize
+    ensures { result ≡ min (length (raised_text needed.now.subrs needed.now.glyphs items.now)) (2 ^ 64 - 1) }
+{
+    let mut total: usize = 0;
+    for item in items {
+        total = total.saturating_add(raised_len(item, needed));
+    }
+    total
+}
+
+/// Whether a raised count has at most nine digits.
+fn is_raised_counted(item: &Item, needed: &Needed) -> bool
+    ensures { result ≡ is_raised_counted needed.now.subrs needed.now.glyphs item.now }
+{
+    match item {
+        Item::Section(before, count, _) => {
+            raised_count(before.as_slice(), *count, needed) < TEN_DIGITS
+        }
+        _ => true,
+    }
+}
+
+/// F23 where a raised count has more than nine digits.
+pub(crate) fn check_raised(items: &[Item], needed: &Needed) -> Result<(), Refusal>
+    ensures { Gives (λ x. x) result (raised_check needed.now.subrs needed.now.glyphs items.now) }
+{
+    let mut rest = items;
+    while let Some((item, after)) = rest.split_first() {
+        if !is_raised_counted(item, needed) {
+            return Err(Refusal::from(Code::F23));
+        }
+        rest = after;
+    }
+    Ok(())
+}
