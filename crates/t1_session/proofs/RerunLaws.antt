@@ -1,5 +1,5 @@
 -- What an edit leaves of what a session keeps.
-use Rattle.std.proofs.Common.{◌≡◌, ◌≤◌, ℕ, true, length, List, Result, Ok, Err, ap, sym, ◌∙◌, subst, arith}
+use Rattle.std.proofs.Common.{◌≡◌, ◌≤◌, ℕ, true, length, map, List, Option, Some, Result, Ok, Err, refl, ap, sym, ◌∙◌, subst, arith}
 use Rattle.std.specs.List.{list_all, AllByRecursion}
 use Rattle.t1_frac.specs.declared.fault.Fault.{Fault}
 use Rattle.t1_frac.specs.declared.fault.Refusal.{Refusal}
@@ -7,39 +7,33 @@ use Rattle.t1_frac.specs.declared.fault.Refusal.TheVariants as refusals
 use Rattle.t1_parts.specs.SourceParts.{SourceParts}
 use Rattle.t1_parts.specs.Printing.{text}
 use Rattle.t1_parts.specs.Reading.{reads}
+use Rattle.t1_source.specs.declared.edit.Cause.{Cause}
 use Rattle.t1_source.specs.declared.edit.Edit.{Edit}
 use Rattle.t1_source.specs.declared.pairs.Pair.{Pair}
 use Rattle.t1_source.specs.Editing.{edited}
 use Rattle.t1_source.specs.WellFormed.{is_counted}
-use Rattle.t1_source.proofs.WellFormedEditedLaws.{edited_well_formed}
-use Rattle.t1_source.proofs.WellFormedSourceLaws.{source_well_formed}
+use Rattle.t1_source.specs.declared.editing.change.Change.{Change}
+use Rattle.t1_source.specs.Changes.{changed, Serves}
 use Rattle.t1_font.specs.Assembly.{file_check}
 use Rattle.t1_font.specs.Runs.{counted, Counts}
 use Rattle.t1_font.specs.SourceChecks.{source_check}
-use Rattle.t1_cache.specs.declared.records.Records.{Records}
 use Rattle.t1_cache.specs.Edited.{named, stale}
-use Rattle.t1_cache.specs.Renewed.{Kept}
+use Rattle.t1_cache.specs.Renewed.{Kept, kept_of}
 use Rattle.t1_rerun.specs.Opened.{runs_where}
-use Rattle.t1_rerun.specs.Renewing.{renewing_runs, IsEdited, IsRunWhereStale}
-use Rattle.t1_rerun.specs.Right.{IsRight}
-use Rattle.t1_session.specs.Reruns.{Renews, Spends}
+use Rattle.t1_rerun.specs.Renewing.{renewing_runs, IsRunWhereStale}
+use Rattle.t1_held.specs.declared.held.Held.{Held}
+use Rattle.t1_held.specs.Held.{IsHeld, IsPreparedEdit}
+use Rattle.t1_held.proofs.HeldLaws.{checked_well}
+use Rattle.t1_session.specs.Reruns.{Edition, Renews, Reruns, Spends}
 use Rattle.t1_session.specs.State.{SessionView}
-use Rattle.t1_session.proofs.StateLaws.{counts_checked, file_checked, right_checked}
+use Rattle.t1_session.proofs.StateLaws.{file_checked, right_checked}
 
--- the records of a session are right for its source, which an edit edited
-abbrev pub edited_right : (s : SourceParts) (k : List Pair) (records : Records) (edit : Edit) (made : SourceParts) (ps : List Pair) → IsRight s records
-    → (list_all is_counted s.items ≡ true → reads (text s) ≡ Ok s) → edited s k edit ≡ Ok (made, ps) → IsEdited records edit made
-edited_right s k records edit made ps right again e =
-    let well = source_well_formed (text s) s (again (counts_checked s (right_checked s records right))) in
-    record {
-      old = s;
-      pairs = k;
-      made_pairs = ps;
-      right = right;
-      well = well;
-      well_made = edited_well_formed s k edit made ps well e;
-      made = e;
-    }
+-- an edit of a session's source was prepared
+abbrev pub edit_prepared : (s : SourceParts) (k : List Pair) (held : Held) (edit : Edit) (change : Change) → IsHeld s held
+    → (list_all is_counted s.items ≡ true → reads (text s) ≡ Ok s) → Serves change s k → edited s k edit ≡ Ok (changed change s k)
+    → IsPreparedEdit s k edit change held
+edit_prepared s k held edit change is again serves e =
+    record { held = is; well = checked_well s (right_checked s held.records is.right) again; serves = serves; made = e }
 
 -- as many runs as stale glyphs, where the file has no fault
 runs-all : (edit : Edit) (old new : SourceParts) → source_check new ≡ Ok tt → renewing_runs edit old new ≡ length (stale old (named edit) new)
@@ -80,3 +74,11 @@ edit_spends T v new old made edit count kept (refusals.Fault fault) source was w
   at_most = subst (λ s. renewing_runs edit old made ≤ length (stale s (named edit) made)) (sym source) (runs-most (file_check made) (stale old (named edit) made));
   count = counts ∙ ap (λ n. counted n (renewing_runs edit old made)) (sym were);
 }
+
+-- its runs were made, and then memory ran out
+pub edit_unmade : (v new : SessionView) (old made : SourceParts) (edit : Edit) (count : ℕ) (kept : List Kept)
+    → v.state.source ≡ old → v.kept ≡ kept → v.runs ≡ count → new.kept ≡ kept → source_check made ≡ Ok tt
+    → new.runs ≡ counted count (renewing_runs edit old made)
+    → Spends (length (stale v.state.source (named edit) made)) v new
+edit_unmade v new old made edit count kept source was were same checked runs =
+    edit_spends (Unit {0}) v new old made edit count kept refusals.Memory source was were same (renewing_runs edit old made, omega arith, runs)

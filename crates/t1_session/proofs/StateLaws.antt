@@ -29,6 +29,8 @@ use Rattle.t1_font.specs.Usage.{usage_table}
 use Rattle.t1_font.specs.Glyphs.{Glyph as Told}
 use Rattle.t1_cache.specs.declared.records.Records.{Records}
 use Rattle.t1_rerun.specs.Right.{IsRight}
+use Rattle.t1_held.specs.declared.held.Held.{Held}
+use Rattle.t1_held.specs.Held.{IsHeld}
 use Rattle.std.specs.List.{list_all}
 use Rattle.t1_source.specs.WellFormed.{is_counted}
 use Rattle.t1_font.proofs.Counted.{counted-source}
@@ -162,8 +164,17 @@ file_checked s e =
 pub right_checked : (s : SourceParts) (records : Records) → IsRight s records → source_check s ≡ Ok tt
 right_checked s records right = ap (λ (r : Result (List Told) Fault). r >>= λ glyphs. Ok (tt {0})) right.kept.faultless
 
+pub held_checked : (s : SourceParts) (h : Held) → IsHeld s h → source_check s ≡ Ok tt
+held_checked s h is = right_checked s h.records is.right
+
 pub counts_checked : (s : SourceParts) → source_check s ≡ Ok tt → list_all is_counted s.items ≡ true
 counts_checked s e = let font = checked-metrics s e in counts_short s font.0 font.1
+
+-- a source that is refused
+pub refused_takes : (refusal : Refusal) (old : State) (made : SourceParts × List Pair) → Refuses refusal (source_check made.0) → old.batch ≡ None
+    → Took {T = Unit {0}} old (judged old made (source_check made.0)) true old (Err (refused_source refusal)) old
+refused_takes refusals.Memory old made h none = (refl, refl)
+refused_takes (refusals.Fault fault) old made h none = rw h (refl, holding_alone old.source old.pairs old.batch none)
 
 -- the AFM file that a print shows
 pub afm_shown : {A E F : Type 0} (given : Result (Vec ℕ A) E) (result : Result Answer F) (s : State) (file : List ℕ)

@@ -2,18 +2,18 @@
 use crate::batch::Batch;
 use std::alloc::Global;
 use std::marker::Model;
-use t1_cache::Records;
+use t1_held::Held;
 use t1_run::Meter;
 use t1_source::{Pairs, Source};
 
-/// A font under edits: its source and its pairs, the batch that is open, the records of its Subrs and glyphs, and the count
-/// of runs. The source has no fault, and the records are those of the source from scratch.
+/// A font under edits: its source and its pairs, the batch that is open, what is held of its Subrs and glyphs, and the count
+/// of runs. The source has no fault, and what is held is that of the source from scratch.
 #[derive(Drop)]
 pub struct Session {
     alloc: Global,
     source: Source,
     pairs: Pairs,
-    records: Records,
+    held: Held,
     meter: Meter,
     batch: Option<Batch>,
 }
@@ -21,18 +21,19 @@ pub struct Session {
 impl Model for Session {
     ghost use Rattle.std.specs.Prelude.{map};
     ghost use Rattle.t1_cache.specs.Renewed.{kept_of};
-    ghost use Rattle.t1_rerun.specs.Right.{IsRight};
+    ghost use Rattle.t1_held.specs.Held.{IsHeld};
     ghost use Rattle.t1_session.specs.State.{SessionView};
 
     ghost Value = { SessionView };
 
-    ghost view = { λ s. record { state = record { source = s.source; pairs = s.pairs; batch = s.batch }; kept = map kept_of s.records.glyphs.entries; runs = s.meter } };
+    ghost view = { λ s. record { state = record { source = s.source; pairs = s.pairs; batch = s.batch }; kept = map kept_of s.held.records.glyphs.entries; runs = s.meter } };
 
-    ghost invariant = { λ s. IsRight s.source s.records };
+    ghost invariant = { λ s. IsHeld s.source s.held };
 }
 
 ghost use Rattle.std.specs.Prelude.{◌≡◌, ◌≤◌, ◌-◌, ◌^◌, Ok, IfOk, None, Some, is_some, length, true};
 ghost use Rattle.t1_frac.specs.Outcome.{Gives};
+ghost use Rattle.t1_source.specs.Changes.{changed, Serves};
 ghost use Rattle.t1_source.specs.Editing.{edited};
 ghost use Rattle.t1_source.specs.Kerning.{kern, pairs};
 ghost use Rattle.t1_parts.specs.Printing.{text};
@@ -63,9 +64,9 @@ use t1_font::{
     write_source_pfa, write_source_pfb,
 };
 use t1_frac::Refusal;
-use t1_rerun::{measured_records, opened_records, renew};
+use t1_held::{held_metrics, held_of, prepare_edit, settle_edit};
 use t1_source::laws::{text_of_pairs_read, text_of_source_read};
-use t1_source::{Cause, Edit, Rule};
+use t1_source::{Cause, Change, Edit, Rule};
 
 /// Why an edit is refused whose source is refused.
 fn cause_of(refusal: Refusal) -> Cause
@@ -87,12 +88,12 @@ impl Session {
         ensures runs { IfOk result (λ session. session.runs ≡ counted 0 (length (glyph_names source.items))) }
     {
         let mut meter = Meter::new();
-        let records = opened_records(alloc, &source, &mut meter)?;
+        let held = held_of(alloc, &source, &mut meter)?;
         Ok(Session {
             alloc,
             source,
             pairs,
-            records,
+            held,
             meter,
             batch: None,
         })
@@ -186,35 +187,40 @@ impl Session {
         if let Some(batch) = &mut self.batch {
             return batch.edit(edit);
         }
-        let (source, pairs) = self.source.edited(&self.pairs, edit)?;
-        self.accept_edited(edit, source, pairs)
+        let change = self.source.prepared(&self.pairs, edit)?;
+        self.make(edit, change)
     }
 
-    /// Takes the source that an edit made and its pairs in the place of its own, unless the source has a fault. The glyphs that
-    /// the edit makes stale are run, and no others.
-    fn accept_edited(&mut self, edit: &Edit, source: Source, pairs: Pairs) -> Result<(), Cause>
+    /// Makes the change that was prepared for an edit, unless the edited source has a fault. The glyphs that the edit makes
+    /// stale are run, and no others.
+    fn make(&mut self, edit: &Edit, change: Change) -> Result<(), Cause>
         requires none { self.old.state.batch ≡ None }
-        requires made { edited self.old.state.source self.old.state.pairs edit.now ≡ Ok (source, pairs) }
-        ensures took { Took self.old.state (judged self.old.state (source, pairs) (source_check source)) true self.old.state result self.new.state }
+        requires serves { Serves change self.old.state.source self.old.state.pairs }
+        requires made { edited self.old.state.source self.old.state.pairs edit.now ≡ Ok (changed change self.old.state.source self.old.state.pairs) }
+        ensures took { Took self.old.state (judged self.old.state (changed change self.old.state.source self.old.state.pairs) (source_check (changed change self.old.state.source self.old.state.pairs).0)) true self.old.state result self.new.state }
         ensures right { KeepsAll self.new.state.source self.new.kept }
-        ensures runs { Reruns (Some (record { keys = named edit.now; source = source })) self.old result self.new }
+        ensures runs { Reruns (Some (record { keys = named edit.now; source = (changed change self.old.state.source self.old.state.pairs).0 })) self.old result self.new }
     {
         text_of_source_read(&self.source);
-        text_of_source_read(&source);
-        match renew(
+        let prepared = prepare_edit(
             self.alloc,
-            &mut self.records,
+            &mut self.held,
+            &self.source,
+            &self.pairs,
             edit,
-            &source,
+            &change,
             &mut self.meter,
-        ) {
-            Ok(()) => {
-                self.source = source;
-                self.pairs = pairs;
-                Ok(())
+        );
+        let ready = match prepared {
+            Ok(ready) => ready,
+            Err(refusal) => {
+                drop(change);
+                return Err(cause_of(refusal));
             }
-            Err(refusal) => Err(cause_of(refusal)),
-        }
+        };
+        self.source.commit(&mut self.pairs, change)?;
+        settle_edit(&mut self.held, ready);
+        Ok(())
     }
 
     /// Takes a source and its pairs in the place of its own, unless the source has a fault. All its glyphs are run.
@@ -223,18 +229,18 @@ impl Session {
         ensures took { Took self.old.state (judged self.old.state (source, pairs) (source_check source)) true self.old.state result self.new.state }
         ensures right { KeepsAll self.new.state.source self.new.kept }
     {
-        let records = match opened_records(self.alloc, &source, &mut self.meter) {
-            Ok(records) => records,
+        let held = match held_of(self.alloc, &source, &mut self.meter) {
+            Ok(held) => held,
             Err(refusal) => return Err(cause_of(refusal)),
         };
         self.source = source;
         self.pairs = pairs;
-        self.records = records;
+        self.held = held;
         Ok(())
     }
 
     /// The texts of a session read back as what it holds, and its source has no fault.
-    #[tactic(auto, using(crate::proofs::StateLaws::counts_checked, crate::proofs::StateLaws::right_checked))]
+    #[tactic(auto, using(crate::proofs::StateLaws::counts_checked, crate::proofs::StateLaws::held_checked))]
     fn reads_back(&self)
         ensures faultless { source_check self.now.state.source ≡ Ok tt }
         ensures source { reads (text self.now.state.source) ≡ Ok self.now.state.source }
@@ -248,10 +254,7 @@ impl Session {
     fn glyphs(&self) -> Result<MeasuredGlyphs, AllocError>
         ensures { IfOk result (λ glyphs. measured_source self.now.state.source ≡ Ok glyphs) }
     {
-        match measured_records(self.alloc, &self.records) {
-            Ok(glyphs) => Ok(glyphs),
-            Err(_) => Err(AllocError),
-        }
+        held_metrics(self.alloc, &self.held)
     }
 
     /// Writes the PFB file: that of the printed source and pairs from scratch.

@@ -1,4 +1,4 @@
-use Rattle.std.proofs.Common.{◌∙◌, ◌++◌, [], List, ℕ, ◌<◌, ap, sym, refl, subst, append-nil, length, arith}
+use Rattle.std.proofs.Common.{◌∙◌, ◌++◌, [], List, ℕ, ◌<◌, ap, sym, refl, subst, append-nil, length, arith, rules}
 use Rattle.std.proofs.KnownBytes.{Consumes-nil, Consumes-trans, Consumes-kept}
 use Rattle.std.proofs.lemmas.Result.{err_from_is_err_and}
 use Rattle.std.specs.Io.KnownBytes.{Consumes}
@@ -63,3 +63,6 @@ returns-in_err-feed g c =
     rw (p.1, p.2) (Converses-fed remaining g.W.Write.contents (Unit {0}) c.args.session (conversation_of c.pieces.dialogue) (conversation_of c.feed.new.self)
     (streams c.args.reader.now c.args.writer.now) (streams c.take.new.self c.feed.new.writer) c.pieces.writer i.0 piece i.2.text c.in_err-feed.field-0.0 i.2.goes
     (record { consumes = Consumes-trans _ _ _ i.0 piece i.1.consumes took; failures = c.in-Ok.ensures.failures ∙ i.1.failures }) i.2.written c.in_err-feed.ensures)
+
+pub pieces-smaller : goal.pieces-smaller
+pieces-smaller g c = search rules

@@ -2,11 +2,11 @@ use Rattle.std.proofs.Common.{◌≡◌, Ok, subst}
 use Rattle.t1_parts.specs.Printing.{text}
 use Rattle.t1_parts.specs.Reading.{reads}
 use Rattle.t1_session.specs.State.{SessionView}
-use Rattle.t1_session.proofs.StateLaws.{counts_checked, right_checked}
+use Rattle.t1_session.proofs.StateLaws.{counts_checked, held_checked}
 use Rattle.t1_session.proofs.session.Session.reads_back.Goals as goal
 
 pub returns-clause-source : goal.returns-clause-source
 returns-clause-source c =
     let s = c.self.inside in
     subst (λ (v : SessionView). reads (text v.state.source) ≡ Ok v.state.source) c.self.view_is
-    (c.text_of_source_read.ensures (counts_checked s.source (right_checked s.source s.records c.self.invariant)))
+    (c.text_of_source_read.ensures (counts_checked s.source (held_checked s.source s.held c.self.invariant)))

@@ -1,0 +1,148 @@
+-- What is held of a source, and of an edited one.
+use Rattle.std.proofs.Common.{◌≡◌, ℕ, true, length, List, [], Option, Result, Ok, Err, refl, ap, sym, ◌∙◌, subst, arith}
+use Rattle.std.specs.List.{list_all}
+use Rattle.std.specs.Option.{option_to_list}
+use Rattle.t1_frac.specs.declared.fault.Fault.{Fault}
+use Rattle.t1_frac.specs.declared.fault.Refusal.{Refusal}
+use Rattle.t1_frac.specs.declared.fault.Refusal.TheVariants as refusals
+use Rattle.t1_frac.specs.Outcome.{Refuses, ◌>>=◌}
+use Rattle.t1_parts.specs.SourceParts.{SourceParts}
+use Rattle.t1_parts.specs.LenIV.{lead}
+use Rattle.t1_font.specs.Bodies.{bodies, bodies_check}
+use Rattle.t1_font.proofs.LengthLaws.{body_fault_told}
+use Rattle.t1_parts.specs.Printing.{text}
+use Rattle.t1_parts.specs.Reading.{reads}
+use Rattle.t1_source.specs.declared.edit.Edit.{Edit}
+use Rattle.t1_source.specs.declared.editing.change.Change.{Change}
+use Rattle.t1_source.specs.declared.editing.change.Change.TheVariants as changes
+use Rattle.t1_source.specs.declared.pairs.Pair.{Pair}
+use Rattle.t1_source.specs.Changes.{changed}
+use Rattle.t1_source.specs.WellFormed.{is_counted, IsWellFormed}
+use Rattle.t1_source.proofs.WellFormedEditedLaws.{edited_well_formed}
+use Rattle.t1_source.proofs.WellFormedSourceLaws.{source_well_formed}
+use Rattle.t1_run.specs.Run.{Subr, Glyph}
+use Rattle.t1_font.specs.Assembly.{file_check}
+use Rattle.t1_font.specs.Glyphs.{glyph_names}
+use Rattle.t1_font.specs.Runs.{Counts}
+use Rattle.t1_font.specs.SourceChecks.{source_check}
+use Rattle.t1_charstrings.specs.declared.entries.Charstrings.{Charstrings}
+use Rattle.t1_charstrings.specs.Changed.{AreUnchanged}
+use Rattle.t1_charstrings.specs.Entries.{glyph_kept, subr_kept}
+use Rattle.t1_charstrings.specs.Kept.{AreEncrypted, Encrypt}
+use Rattle.t1_charstrings.specs.Lengths.{IsPrivateLen}
+use Rattle.t1_cache.specs.declared.records.Records.{Records}
+use Rattle.t1_cache.specs.Edited.{named, stale}
+use Rattle.t1_cache.proofs.Distinct.{names_distinct}
+use Rattle.t1_rerun.specs.declared.settling.EntryChange.{EntryChange}
+use Rattle.t1_rerun.specs.Changing.{IsChangeOf}
+use Rattle.t1_rerun.specs.EntryChanges.{IsChanged, IsMade}
+use Rattle.t1_rerun.specs.Opened.{runs_where}
+use Rattle.t1_rerun.specs.Renewing.{renewing_runs}
+use Rattle.t1_rerun.specs.Right.{IsRight}
+use Rattle.t1_rerun.specs.Settled.{changed_keys, AreAsBefore}
+use Rattle.t1_rerun.proofs.Judged.{still-right}
+use Rattle.t1_held.specs.declared.held.Held.{Held}
+use Rattle.t1_held.specs.Held.{IsHeld, IsPreparedEdit}
+use Rattle.t1_font.specs.Glyphs.{Glyph as Told}
+use Rattle.t1_font.specs.MeasuredGlyphs.{MeasuredFont, measured}
+use Rattle.t1_font.specs.SourceChecks.{measured_source}
+use Rattle.t1_font.proofs.Counted.{counted-source}
+use Rattle.t1_font.proofs.SourceMetrics.{by-source-metrics}
+
+-- ---- a source without a fault
+
+first-ok : {A B : Type 0} (a : Result A Fault) (f : A → Result B Fault) (b : B) → (a >>= f) ≡ Ok b → (x : A) × (a ≡ Ok x)
+first-ok (Ok x) f b h = (x, refl)
+first-ok (Err fault) f b h = absurd (cc)
+
+measured-file : (s : SourceParts) (font : MeasuredFont) → measured_source s ≡ Ok font → (u : Unit {0}) × (file_check s ≡ Ok u)
+unfolding measured_source
+measured-file s font e = first-ok (file_check s) (λ checked. measured s.items) font e
+
+pub file_checked : (s : SourceParts) → source_check s ≡ Ok tt → file_check s ≡ Ok tt
+file_checked s e =
+    let font = first-ok (measured_source s) (λ metrics. Ok (tt {0})) tt (sym (by-source-metrics s).check ∙ e) in
+    (measured-file s font.0 font.1).1
+
+pub right_checked : (s : SourceParts) (records : Records) → IsRight s records → source_check s ≡ Ok tt
+right_checked s records right = ap (λ (r : Result (List Told) Fault). r >>= λ glyphs. Ok (tt {0})) right.kept.faultless
+
+pub counts_checked : (s : SourceParts) → source_check s ≡ Ok tt → list_all is_counted s.items ≡ true
+counts_checked s e = counted-source s (file_checked s e)
+
+-- ---- what is held stays
+
+pub still_encrypted : (old new : Charstrings) → AreUnchanged old new → (s : SourceParts) → AreEncrypted s old → AreEncrypted s new
+still_encrypted old new same s held = record { sound = held.sound; each = each } where
+  each : Encrypt (lead s) (bodies s.items) new
+  each (Subr n) = ap (λ es. subr_kept es n) same.0 ∙ held.each (Subr n)
+  each (Glyph g) = ap (λ es. glyph_kept es g) same.1 ∙ held.each (Glyph g)
+
+pub still_held : (old new : Held) → AreAsBefore old.records new.records → AreUnchanged old.charstrings new.charstrings → new.private_len ≡ old.private_len
+    → (s : SourceParts) → IsHeld s old → IsHeld s new
+still_held old new records charstrings len s held = record {
+  right = still-right old.records new.records records s held.right;
+  encrypted = still_encrypted old.charstrings new.charstrings charstrings s held.encrypted;
+  len = subst (IsPrivateLen s) (sym len) held.len;
+}
+
+-- ---- an edit that was prepared
+
+-- the file of the source has no fault
+pub held_file : (s : SourceParts) (h : Held) → IsHeld s h → file_check s ≡ Ok tt
+held_file s h held = file_checked s (right_checked s h.records held.right)
+
+-- a change makes the same source, whatever the pairs
+source-alone : (change : Change) (s : SourceParts) (k : List Pair) → (changed change s []).0 ≡ (changed change s k).0
+source-alone (changes.PutItem at item) s k = refl
+source-alone (changes.InsertItem at item) s k = refl
+source-alone (changes.RemoveItem at) s k = refl
+source-alone (changes.PutClear lines) s k = refl
+source-alone (changes.PutPair at pair) s k = refl
+source-alone (changes.InsertPair at pair) s k = refl
+source-alone (changes.RemovePair at) s k = refl
+
+module _ (s : SourceParts) (k : List Pair) (edit : Edit) (change : Change) (h : Held) (e : IsPreparedEdit s k edit change h) where
+  abbrev made : SourceParts
+  made = (changed change s k).0
+
+  well-made : IsWellFormed made
+  well-made = edited_well_formed s k edit made (changed change s k).1 e.well e.made
+
+  pub edit_made : IsMade edit s made
+  edit_made = record { pairs = k; made_pairs = (changed change s k).1; compiled = e.held.encrypted.sound; well = e.well; well_made = well-made; made = e.made }
+
+  pub change_of : (entry : Option EntryChange) → IsChanged edit s made entry → file_check made ≡ Ok tt
+      → IsChangeOf entry s made h.records (glyph_names (changed change s []).0.items)
+  change_of entry is file = record {
+    right = e.held.right;
+    edited = is.edited;
+    bodies = is.bodies;
+    unmoved = is.unmoved;
+    file = file;
+    distinct = names_distinct made well-made;
+    order = is.order;
+    names = ap (λ (m : SourceParts). glyph_names m.items) (source-alone change s k);
+  }
+
+  -- the stale glyphs were run
+  pub runs_made : (entry : Option EntryChange) → IsChanged edit s made entry → file_check made ≡ Ok tt
+      → length (stale s (changed_keys (option_to_list entry)) made) ≡ renewing_runs edit s made
+  runs_made entry is file =
+      ap (λ keys. length (stale s keys made)) is.keys ∙ sym (ap (λ r. runs_where r (stale s (named edit) made)) file)
+
+-- no glyph was run, where the file has a fault or memory ran out
+pub counts_none : {T : Type 0} (names : List (List ℕ)) (check : Result (Unit {0}) Fault) (old : ℕ) (r : Result T Refusal) (e : Refusal) → r ≡ Err e → Refuses e check
+    → Counts (runs_where check names) old old r
+counts_none names check old r refusals.Memory is h = rw is (0, omega arith, refl)
+counts_none names (Err first) old r (refusals.Fault fault) is h = rw is refl
+counts_none names (Ok checked) old r (refusals.Fault fault) is h = absurd (cc)
+
+-- ---- what is held of a source from scratch
+
+pub bodies_refused : (s : SourceParts) (refusal : Refusal) → Refuses refusal (bodies_check s.items) → Refuses refusal (file_check s)
+bodies_refused s refusals.Memory h = h
+bodies_refused s (refusals.Fault fault) h = body_fault_told s fault h
+
+pub checked_well : (s : SourceParts) → source_check s ≡ Ok tt → (list_all is_counted s.items ≡ true → reads (text s) ≡ Ok s) → IsWellFormed s
+checked_well s checked again = source_well_formed (text s) s (again (counts_checked s checked))
