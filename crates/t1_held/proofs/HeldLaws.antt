@@ -146,3 +146,6 @@ bodies_refused s (refusals.Fault fault) h = body_fault_told s fault h
 
 pub checked_well : (s : SourceParts) → source_check s ≡ Ok tt → (list_all is_counted s.items ≡ true → reads (text s) ≡ Ok s) → IsWellFormed s
 checked_well s checked again = source_well_formed (text s) s (again (counts_checked s checked))
+
+pub held_well : (s : SourceParts) (h : Held) → IsHeld s h → (list_all is_counted s.items ≡ true → reads (text s) ≡ Ok s) → IsWellFormed s
+held_well s h held again = checked_well s (right_checked s h.records held.right) again

@@ -59,12 +59,12 @@ use crate::print::{Print, put_text};
 use std::alloc::AllocError;
 use std::io::Write;
 use t1_code::{Counted, OutError, WHOLE_PARTS};
-use t1_font::{
-    MeasuredGlyphs, afm_of_source, pfa_of_source, pfb_of_source, usage_text, write_source_afm,
-    write_source_pfa, write_source_pfb,
-};
+use t1_font::{MeasuredGlyphs, afm_of_source, usage_text, write_source_afm};
 use t1_frac::Refusal;
-use t1_held::{held_metrics, held_of, prepare_edit, settle_edit};
+use t1_held::{
+    held_metrics, held_of, held_pfa, held_pfb, prepare_edit, settle_edit, write_held_pfa,
+    write_held_pfb,
+};
 use t1_source::laws::{text_of_pairs_read, text_of_source_read};
 use t1_source::{Cause, Change, Edit, Rule};
 
@@ -263,7 +263,7 @@ impl Session {
         ensures { Prints W.contents out.old out.new (pfb_from_scratch self.now.state) result }
     {
         self.reads_back();
-        write_source_pfb(self.alloc, &self.source, WHOLE_PARTS, out)
+        write_held_pfb(self.alloc, &self.held, &self.source, WHOLE_PARTS, out)
     }
 
     /// Writes the PFB file in segments of so many bytes, the last of a part with the rest: that of the printed source from
@@ -279,7 +279,7 @@ impl Session {
         ensures { Prints W.contents out.old out.new (blocks_from_scratch size self.now.state) result }
     {
         self.reads_back();
-        write_source_pfb(self.alloc, &self.source, size, out)
+        write_held_pfb(self.alloc, &self.held, &self.source, size, out)
     }
 
     /// Writes the PFA file: that of the printed source from scratch.
@@ -288,7 +288,7 @@ impl Session {
         ensures { Prints W.contents out.old out.new (pfa_from_scratch self.now.state) result }
     {
         self.reads_back();
-        write_source_pfa(self.alloc, &self.source, out)
+        write_held_pfa(self.alloc, &self.held, &self.source, out)
     }
 
     /// Writes the AFM file: that of the printed source and pairs from scratch.
@@ -332,7 +332,7 @@ impl Session {
         ensures { IfOk result (λ answer. answer ≡ blocks_answer self.now.state.source (block_size number)) }
     {
         match block_size(number) {
-            Some(size) => file_answer(pfb_of_source(self.alloc, &self.source, size)),
+            Some(size) => file_answer(held_pfb(self.alloc, &self.held, &self.source, size)),
             None => Ok(Answer::Broken(Rule::E4)),
         }
     }
@@ -361,9 +361,9 @@ impl Session {
         match print {
             Print::Source => text_answer(self.source.text()),
             Print::Kern => text_answer(self.pairs.text()),
-            Print::Pfb => file_answer(pfb_of_source(self.alloc, &self.source, WHOLE_PARTS)),
+            Print::Pfb => file_answer(held_pfb(self.alloc, &self.held, &self.source, WHOLE_PARTS)),
             Print::Blocks(number) => self.shown_blocks(number),
-            Print::Pfa => file_answer(pfa_of_source(self.alloc, &self.source)),
+            Print::Pfa => file_answer(held_pfa(self.alloc, &self.held, &self.source)),
             Print::Afm => self.shown_metrics(),
             Print::Uses => self.shown_uses(),
         }

@@ -1,0 +1,131 @@
+//! What is held of a font of three glyphs, with memory that doesn't run out.
+ghost use Rattle.std.specs.Prelude.{IfOk};
+ghost use Rattle.t1_source.specs.WellFormed.{IsWellFormed};
+ghost use Rattle.t1_held.specs.Held.{IsHeld};
+
+use super::*;
+use std::alloc::Global;
+use std::test::Fail;
+use t1_afm::BBox;
+use t1_code::WHOLE_PARTS;
+use t1_font::pfb_of_source;
+use t1_frac::Bytes;
+use t1_run::Meter;
+use t1_source::laws::read_source_is_well_formed;
+use t1_source::{Edit, Source, read_pairs, read_source};
+
+/// Three glyphs of the demo font: acute enters Subr 4, and Aacute is composed of A and acute.
+const THREE: &str = "\
+    /Encoding StandardEncoding def\n\
+    currentfile eexec\n\
+    /Subrs 5 array\n\
+    dup 4 {\n\
+    \t100 178 rlineto\n\
+    \treturn\n\
+    \t} NP\n\
+    ND\n\
+    2 index /CharStrings 3 dict dup begin\n\
+    /Aacute {\n\
+    \t10 600 hsbw\n\
+    \t93 170 214 65 194 seac\n\
+    \t} ND\n\
+    /A {\n\
+    \t10 600 hsbw\n\
+    \t300 hlineto\n\
+    \t700 vlineto\n\
+    \tclosepath\n\
+    \tendchar\n\
+    \t} ND\n\
+    /acute {\n\
+    \t93 333 hsbw\n\
+    \t500 vmoveto\n\
+    \t4 callsubr\n\
+    \tclosepath\n\
+    \tendchar\n\
+    \t} ND\n\
+    end\n\
+    mark currentfile closefile\n";
+
+/// A source that is well formed, as each that was read is.
+fn read(alloc: Global, text: &str) -> Result<Source, Fail>
+    ensures { IfOk result IsWellFormed }
+{
+    read_source_is_well_formed();
+    Ok(read_source(alloc, text.as_bytes())?)
+}
+
+/// The font after an edit, what is held of it then, and how many runs were counted.
+fn edited(alloc: Global, edit: &Edit) -> Result<(Source, Held, u64), Fail>
+    ensures { IfOk result (λ made. IsHeld made.0 made.1) }
+{
+    let mut source = read(alloc, THREE)?;
+    let mut pairs = read_pairs(alloc, b"")?;
+    let mut meter = Meter::new();
+    let mut held = held_of(alloc, &source, &mut meter)?;
+    let change = source.prepared(&pairs, edit)?;
+    let ready = prepare_edit(alloc, &mut held, &source, &pairs, edit, &change, &mut meter)?;
+    source.commit(&mut pairs, change)?;
+    settle_edit(&mut held, ready);
+    Ok((source, held, meter.count()))
+}
+
+/// Subr 4 with another body.
+fn subr_4(alloc: Global) -> Result<Edit, Fail> {
+    Ok(Edit::ReplaceSubr(4, Bytes::copied(alloc, b"100 278 rlineto return")?))
+}
+
+/// How many runs are counted with an edit of Subr 4, and the font's box then.
+fn rises(alloc: Global) -> Result<(u64, BBox), Fail> {
+    let (_, held, runs) = edited(alloc, &subr_4(alloc)?)?;
+    let glyphs = held_metrics(alloc, &held)?;
+    Ok((runs, glyphs.font_box()))
+}
+
+#[test]
+fn runs_what_an_edit_makes_stale(rt: HostRuntime) -> Result<(), Fail> {
+    let risen = BBox {
+        left: 10,
+        bottom: 0,
+        right: 310,
+        top: 992,
+    };
+    let rises = rises(rt.alloc())?;
+    assert!(rt; rises == (5, risen));
+    Ok(())
+}
+
+/// Whether the file with what is held after an edit is that of the edited source from scratch.
+fn writes_as_from_scratch(alloc: Global, edit: &Edit) -> Result<bool, Fail> {
+    let (source, held, _) = edited(alloc, edit)?;
+    let kept = held_pfb(alloc, &held, &source, WHOLE_PARTS)?;
+    let made = pfb_of_source(alloc, &source, WHOLE_PARTS)?;
+    Ok(kept.as_slice() == made.as_slice())
+}
+
+#[test]
+fn writes_a_replaced_subr(rt: HostRuntime) -> Result<(), Fail> {
+    let alloc = rt.alloc();
+    let same = writes_as_from_scratch(alloc, &subr_4(alloc)?)?;
+    assert!(rt; same);
+    Ok(())
+}
+
+#[test]
+fn writes_charstrings_by_another_len_iv(rt: HostRuntime) -> Result<(), Fail> {
+    let same = writes_as_from_scratch(rt.alloc(), &Edit::LenIv(1))?;
+    assert!(rt; same);
+    Ok(())
+}
+
+/// How long the PFA file is with what is held after an edit.
+fn hexadecimal_len(alloc: Global, edit: &Edit) -> Result<usize, Fail> {
+    let (source, held, _) = edited(alloc, edit)?;
+    Ok(held_pfa(alloc, &held, &source)?.len())
+}
+
+#[test]
+fn writes_in_hexadecimal(rt: HostRuntime) -> Result<(), Fail> {
+    let len = hexadecimal_len(rt.alloc(), &Edit::LenIv(0))?;
+    assert!(rt; len == 1006);
+    Ok(())
+}
