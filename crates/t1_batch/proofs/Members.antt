@@ -1,0 +1,2 @@
+-- Keys with the same members.
+use Rattle.std.proofs.Common.{◌≡◌, refl}
