@@ -14,6 +14,7 @@ use Rattle.t1_source.specs.Editing.{edited}
 use Rattle.t1_source.specs.WellFormed.{is_counted}
 use Rattle.t1_source.specs.declared.editing.change.Change.{Change}
 use Rattle.t1_source.specs.Changes.{changed, Serves}
+use Rattle.t1_run.specs.Run.{Key}
 use Rattle.t1_font.specs.Assembly.{file_check}
 use Rattle.t1_font.specs.Runs.{counted, Counts}
 use Rattle.t1_font.specs.SourceChecks.{source_check}
@@ -36,49 +37,70 @@ edit_prepared s k held edit change is again serves e =
     record { held = is; well = checked_well s (right_checked s held.records is.right) again; serves = serves; made = e }
 
 -- as many runs as stale glyphs, where the file has no fault
-runs-all : (edit : Edit) (old new : SourceParts) → source_check new ≡ Ok tt → renewing_runs edit old new ≡ length (stale old (named edit) new)
-runs-all edit old new e = ap (λ r. runs_where r (stale old (named edit) new)) (file_checked new e)
+runs-all : (keys : List Key) (old new : SourceParts) → source_check new ≡ Ok tt → runs_where (file_check new) (stale old keys new) ≡ length (stale old keys new)
+runs-all keys old new e = ap (λ r. runs_where r (stale old keys new)) (file_checked new e)
 
 runs-most : (check : Result (Unit {0}) Fault) (names : List (List ℕ)) → runs_where check names ≤ length names
 runs-most (Ok checked) names = omega arith
 runs-most (Err fault) names = omega arith
+
+pub edits_renew : (v new : SessionView) (old made : SourceParts) (keys : List Key) (count : ℕ) (kept : List Kept)
+    → v.state.source ≡ old → v.kept ≡ kept → v.runs ≡ count → source_check made ≡ Ok tt
+    → new.runs ≡ counted count (runs_where (file_check made) (stale old keys made))
+    → AllByRecursion (IsRunWhereStale count keys old kept) new.kept
+    → Renews (record { keys = keys; source = made }) v new
+edits_renew v new old made keys count kept source was were checked runs each = record {
+  runs = runs ∙ ap (counted count) (runs-all keys old made checked)
+      ∙ ap (λ n. counted n (length (stale old keys made))) (sym were)
+      ∙ ap (λ s. counted v.runs (length (stale s keys made))) (sym source);
+  each = subst (λ l. AllByRecursion (IsRunWhereStale v.runs keys v.state.source l) new.kept) (sym was)
+      (subst (λ s. AllByRecursion (IsRunWhereStale v.runs keys s kept) new.kept) (sym source)
+      (subst (λ n. AllByRecursion (IsRunWhereStale n keys old kept) new.kept) (sym were) each));
+}
+
+pub edits_spend : (T : Type 0) (v new : SessionView) (old made : SourceParts) (keys : List Key) (count : ℕ) (kept : List Kept) (refusal : Refusal)
+    → v.state.source ≡ old → v.kept ≡ kept → v.runs ≡ count → new.kept ≡ kept
+    → Counts {T = T} (runs_where (file_check made) (stale old keys made)) count new.runs (Err refusal)
+    → Spends (length (stale v.state.source keys made)) v new
+edits_spend T v new old made keys count kept refusals.Memory source was were same some = record {
+  kept = same ∙ sym was;
+  made = some.0;
+  at_most = let most = runs-most (file_check made) (stale old keys made) in
+      subst (λ s. some.0 ≤ length (stale s keys made)) (sym source) (let few = some.1 in omega arith);
+  count = some.2 ∙ ap (λ n. counted n some.0) (sym were);
+}
+edits_spend T v new old made keys count kept (refusals.Fault fault) source was were same counts = record {
+  kept = same ∙ sym was;
+  made = runs_where (file_check made) (stale old keys made);
+  at_most = subst (λ s. runs_where (file_check made) (stale old keys made) ≤ length (stale s keys made)) (sym source) (runs-most (file_check made) (stale old keys made));
+  count = counts ∙ ap (λ n. counted n (runs_where (file_check made) (stale old keys made))) (sym were);
+}
+
+-- their runs were made, and then memory ran out
+pub edits_unmade : (v new : SessionView) (old made : SourceParts) (keys : List Key) (count : ℕ) (kept : List Kept)
+    → v.state.source ≡ old → v.kept ≡ kept → v.runs ≡ count → new.kept ≡ kept → source_check made ≡ Ok tt
+    → new.runs ≡ counted count (runs_where (file_check made) (stale old keys made))
+    → Spends (length (stale v.state.source keys made)) v new
+edits_unmade v new old made keys count kept source was were same checked runs =
+    edits_spend (Unit {0}) v new old made keys count kept refusals.Memory source was were same (runs_where (file_check made) (stale old keys made), omega arith, runs)
+
+-- one edit
 
 pub edit_renews : (v new : SessionView) (old made : SourceParts) (edit : Edit) (count : ℕ) (kept : List Kept)
     → v.state.source ≡ old → v.kept ≡ kept → v.runs ≡ count → source_check made ≡ Ok tt
     → new.runs ≡ counted count (renewing_runs edit old made)
     → AllByRecursion (IsRunWhereStale count (named edit) old kept) new.kept
     → Renews (record { keys = named edit; source = made }) v new
-edit_renews v new old made edit count kept source was were checked runs each = record {
-  runs = runs ∙ ap (counted count) (runs-all edit old made checked)
-      ∙ ap (λ n. counted n (length (stale old (named edit) made))) (sym were)
-      ∙ ap (λ s. counted v.runs (length (stale s (named edit) made))) (sym source);
-  each = subst (λ l. AllByRecursion (IsRunWhereStale v.runs (named edit) v.state.source l) new.kept) (sym was)
-      (subst (λ s. AllByRecursion (IsRunWhereStale v.runs (named edit) s kept) new.kept) (sym source)
-      (subst (λ n. AllByRecursion (IsRunWhereStale n (named edit) old kept) new.kept) (sym were) each));
-}
+edit_renews v new old made edit = edits_renew v new old made (named edit)
 
 pub edit_spends : (T : Type 0) (v new : SessionView) (old made : SourceParts) (edit : Edit) (count : ℕ) (kept : List Kept) (refusal : Refusal)
     → v.state.source ≡ old → v.kept ≡ kept → v.runs ≡ count → new.kept ≡ kept
     → Counts {T = T} (renewing_runs edit old made) count new.runs (Err refusal)
     → Spends (length (stale v.state.source (named edit) made)) v new
-edit_spends T v new old made edit count kept refusals.Memory source was were same some = record {
-  kept = same ∙ sym was;
-  made = some.0;
-  at_most = let most = runs-most (file_check made) (stale old (named edit) made) in
-      subst (λ s. some.0 ≤ length (stale s (named edit) made)) (sym source) (let few = some.1 in omega arith);
-  count = some.2 ∙ ap (λ n. counted n some.0) (sym were);
-}
-edit_spends T v new old made edit count kept (refusals.Fault fault) source was were same counts = record {
-  kept = same ∙ sym was;
-  made = renewing_runs edit old made;
-  at_most = subst (λ s. renewing_runs edit old made ≤ length (stale s (named edit) made)) (sym source) (runs-most (file_check made) (stale old (named edit) made));
-  count = counts ∙ ap (λ n. counted n (renewing_runs edit old made)) (sym were);
-}
+edit_spends T v new old made edit = edits_spend T v new old made (named edit)
 
--- its runs were made, and then memory ran out
 pub edit_unmade : (v new : SessionView) (old made : SourceParts) (edit : Edit) (count : ℕ) (kept : List Kept)
     → v.state.source ≡ old → v.kept ≡ kept → v.runs ≡ count → new.kept ≡ kept → source_check made ≡ Ok tt
     → new.runs ≡ counted count (renewing_runs edit old made)
     → Spends (length (stale v.state.source (named edit) made)) v new
-edit_unmade v new old made edit count kept source was were same checked runs =
-    edit_spends (Unit {0}) v new old made edit count kept refusals.Memory source was were same (renewing_runs edit old made, omega arith, runs)
+edit_unmade v new old made edit = edits_unmade v new old made (named edit)

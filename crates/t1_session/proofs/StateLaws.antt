@@ -1,5 +1,5 @@
 -- What the source of a session gives.
-use Rattle.std.proofs.Common.{◌≡◌, ℕ, true, List, Option, Some, None, Result, Ok, Err, refl, ap, sym, ◌∙◌, inl, inr, subst}
+use Rattle.std.proofs.Common.{◌≡◌, ◌++◌, ℕ, true, List, Option, Some, None, Result, Ok, Err, refl, ap, sym, ◌∙◌, inl, inr, subst}
 use Rattle.std.specs.Prelude.{IfOk}
 use Rattle.std.proofs.lemmas.Bool.{cases_Bool}
 use Rattle.t1_frac.specs.declared.fault.Fault.{Fault}
@@ -14,6 +14,7 @@ use Rattle.t1_parts.specs.LenIV.{lead}
 use Rattle.t1_parts.specs.Operator.{operator}
 use Rattle.t1_parts.specs.Printing.{text}
 use Rattle.t1_parts.specs.Reading.{reads}
+use Rattle.t1_source.specs.declared.edit.Edit.{Edit}
 use Rattle.t1_source.specs.declared.edit.Rule.{Rule}
 use Rattle.t1_source.specs.declared.pairs.Pair.{Pair}
 use Rattle.t1_source.specs.Editing.{edited}
@@ -45,7 +46,8 @@ use Rattle.t1_session.specs.Files.{assembled, assembled_pfa}
 use Rattle.t1_session.specs.FromScratch.{blocks_from_scratch, pfa_from_scratch, texts_of, from_scratch, pfb_from_scratch, metrics_from_scratch, uses_from_scratch}
 use Rattle.t1_session.specs.Machine.{IsFaultless, OpensFaultless, KeepsFaultless, abort_in, begin_in, commit_in, drafted, edit_in, holding, judged, opened, perform, printed, scratch, source_metrics, taken}
 use Rattle.t1_session.specs.Outcomes.{Took, refused_source}
-use Rattle.t1_session.specs.State.{Draft, State}
+use Rattle.t1_batch.specs.Batch.{Draft, EntryEdit, edited_entries}
+use Rattle.t1_session.specs.State.{State}
 
 -- ---- by the metrics of its glyphs
 
@@ -248,13 +250,13 @@ taken-faultless : (s : State) (r : Result (SourceParts × List Pair) Rule) → I
 taken-faultless s (Ok made) h = judged-faultless s made (source_check made.0) refl h
 taken-faultless s (Err rule) h = h
 
-drafted-faultless : (s : State) (r : Result (SourceParts × List Pair) Rule) → IsFaultless s → IsFaultless (drafted s r).next
-drafted-faultless s (Ok made) h = h
-drafted-faultless s (Err rule) h = h
+drafted-faultless : (s : State) (entries : List EntryEdit) (r : Result (SourceParts × List Pair) Rule) → IsFaultless s → IsFaultless (drafted s entries r).next
+drafted-faultless s entries (Ok made) h = h
+drafted-faultless s entries (Err rule) h = h
 
-edit-faultless : (b : Option Draft) (s : State) (change : SourceParts → List Pair → Result (SourceParts × List Pair) Rule) → IsFaultless s → IsFaultless (edit_in b s change).next
-edit-faultless None s change h = taken-faultless s (change s.source s.pairs) h
-edit-faultless (Some d) s change h = drafted-faultless s (change d.source d.pairs) h
+edit-faultless : (b : Option Draft) (s : State) (edit : Edit) → IsFaultless s → IsFaultless (edit_in b s edit).next
+edit-faultless None s edit h = taken-faultless s (edited s.source s.pairs edit) h
+edit-faultless (Some d) s edit h = drafted-faultless s (d.entries ++ edited_entries edit) (edited d.source d.pairs edit) h
 
 begin-faultless : (b : Option Draft) (s : State) → IsFaultless s → IsFaultless (begin_in b s).next
 begin-faultless None s h = h
@@ -270,7 +272,7 @@ abort-faultless (Some d) s h = h
 
 pub keeps_faultless : KeepsFaultless
 unfolding perform
-keeps_faultless s (commands.Edit edit) h = edit-faultless s.batch s (λ source pairs. edited source pairs edit) h
+keeps_faultless s (commands.Edit edit) h = edit-faultless s.batch s edit h
 keeps_faultless s (commands.Print print) h = h
 keeps_faultless s commands.Begin h = begin-faultless s.batch s h
 keeps_faultless s commands.Commit h = commit-faultless s.batch s h

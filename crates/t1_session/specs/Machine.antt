@@ -1,11 +1,12 @@
 -- The commands of a session.
-use Rattle.std.specs.Prelude.{◌≡◌, ℕ, Bool, true, false, not, List, Option, Some, None, is_some, Result, Ok, Err}
+use Rattle.std.specs.Prelude.{◌≡◌, ◌++◌, ℕ, Bool, true, false, not, List, [], Option, Some, None, is_some, Result, Ok, Err}
 use Rattle.t1_frac.specs.declared.fault.Fault.{Fault}
 use Rattle.t1_frac.specs.Outcome.{◌>>=◌}
 use Rattle.t1_parts.specs.SourceParts.{SourceParts}
 use Rattle.t1_parts.specs.Reading.{reads}
 use Rattle.t1_parts.specs.Printing.{text}
 use Rattle.t1_source.specs.declared.pairs.Pair.{Pair}
+use Rattle.t1_source.specs.declared.edit.Edit.{Edit}
 use Rattle.t1_source.specs.declared.edit.Rule.{Rule}
 use Rattle.t1_source.specs.declared.edit.Rule.TheVariants.{E4, E11, E12}
 use Rattle.t1_source.specs.Kerning.{pairs, kern}
@@ -15,6 +16,7 @@ use Rattle.t1_afm.specs.Afm.{afm}
 use Rattle.t1_font.specs.Assembly.{source_file, source_pfa}
 use Rattle.t1_font.specs.FontMetrics.{metrics_of}
 use Rattle.t1_font.specs.SourceChecks.{measured_source, source_check, source_usage}
+use Rattle.t1_batch.specs.Batch.{Draft, EntryEdit, edited_entries}
 use Rattle.t1_session.specs.declared.print.Print.{Print}
 use Rattle.t1_session.specs.declared.print.Print.TheVariants as prints
 use Rattle.t1_session.specs.declared.answer.Answer.{Answer}
@@ -23,7 +25,7 @@ use Rattle.t1_session.specs.declared.command.Command.{Command}
 use Rattle.t1_session.specs.declared.command.Command.TheVariants as commands
 use Rattle.t1_session.specs.Blocks.{block_size}
 use Rattle.t1_session.specs.Answers.{Performed, Machine}
-use Rattle.t1_session.specs.State.{Draft, State}
+use Rattle.t1_session.specs.State.{State}
 
 -- the state with this source and these pairs, and no batch
 abbrev pub holding : SourceParts → List Pair → State
@@ -48,21 +50,22 @@ taken s (Err rule) = stays s (Broken rule)
 
 -- ---- batches
 
-abbrev pub drafting : SourceParts → List Pair → Option Draft
-drafting source pairs = Some (record { source = source; pairs = pairs })
+abbrev pub drafting : SourceParts → List Pair → List EntryEdit → Option Draft
+drafting source pairs entries = Some (record { source = source; pairs = pairs; entries = entries })
 
--- profile, batches: an edit in a batch is judged by the edit rules alone, on the batch's source and pairs
-abbrev pub drafted : State → Result (SourceParts × List Pair) Rule → Performed State
-drafted s (Ok made) = record { answer = Accepted; next = record s { batch = drafting made.0 made.1 } }
-drafted s (Err rule) = stays s (Broken rule)
+-- profile, batches: an edit in a batch is judged by the edit rules alone, on the batch's source and pairs; the entry that it
+-- names is noted
+abbrev pub drafted : State → List EntryEdit → Result (SourceParts × List Pair) Rule → Performed State
+drafted s entries (Ok made) = record { answer = Accepted; next = record s { batch = drafting made.0 made.1 entries } }
+drafted s entries (Err rule) = stays s (Broken rule)
 
-abbrev pub edit_in : Option Draft → State → (SourceParts → List Pair → Result (SourceParts × List Pair) Rule) → Performed State
-edit_in None s change = taken s (change s.source s.pairs)
-edit_in (Some d) s change = drafted s (change d.source d.pairs)
+abbrev pub edit_in : Option Draft → State → Edit → Performed State
+edit_in None s edit = taken s (edited s.source s.pairs edit)
+edit_in (Some d) s edit = drafted s (d.entries ++ edited_entries edit) (edited d.source d.pairs edit)
 
 -- profile, batches: E11 where one is open already
 abbrev pub begin_in : Option Draft → State → Performed State
-begin_in None s = record { answer = Accepted; next = record s { batch = drafting s.source s.pairs } }
+begin_in None s = record { answer = Accepted; next = record s { batch = drafting s.source s.pairs [] } }
 begin_in (Some d) s = stays s (Broken E11)
 
 -- profile, batches: the edits of a batch are judged once, together; E12 where none is open
@@ -104,7 +107,7 @@ printed s prints.Uses = file_answer (source_usage s.source)
 
 -- profile, session commands: what a command is answered, and the state after it
 unfoldable pub perform : State → Command → Performed State
-perform s (commands.Edit edit) = edit_in s.batch s (λ source pairs. edited source pairs edit)
+perform s (commands.Edit edit) = edit_in s.batch s edit
 perform s (commands.Print print) = stays s (printed s print)
 perform s commands.Begin = begin_in s.batch s
 perform s commands.Commit = commit_in s.batch s

@@ -4,13 +4,11 @@ use Rattle.t1_frac.specs.declared.fault.Refusal.{Refusal}
 use Rattle.t1_frac.specs.declared.fault.Refusal.TheVariants as refusals
 use Rattle.t1_source.specs.declared.edit.Cause.{Cause}
 use Rattle.t1_source.specs.declared.edit.Cause.TheVariants as causes
-use Rattle.t1_source.specs.declared.edit.Edit.{Edit}
-use Rattle.t1_source.specs.Editing.{edited}
 use Rattle.t1_session.specs.declared.answer.Answer.TheVariants.{Accepted, Broken, Faulty}
 use Rattle.t1_session.specs.declared.command.Command.{Command}
 use Rattle.t1_session.specs.Answers.{Performed}
 use Rattle.t1_session.specs.Machine.{perform, may_want_memory, after_want}
-use Rattle.t1_session.specs.State.{Draft, State}
+use Rattle.t1_session.specs.State.{State}
 
 -- an edit whose source is refused is refused for the same reason
 abbrev pub refused_source : Refusal → Cause
@@ -33,11 +31,3 @@ Takes old c result new = Took old (perform old c) (may_want_memory old c) (after
 abbrev pub TakesOrReturns : {T E : Type 0} → State → Command → E → Result T (Cause × E) → State → Type 0
 TakesOrReturns {T} old c given (Ok done) new = Takes {T = T} old c (Ok done) new
 TakesOrReturns {T} old c given (Err refused) new = Takes {T = T} old c (Err refused.0) new × (refused.1 ≡ given)
-
--- profile: an edit was made in a draft of a source and its pairs, or broke a rule, which changes nothing, as want of
--- memory does
-abbrev pub Drafts : {T : Type 0} → Draft → Edit → Result T Cause → Draft → Type 0
-Drafts old edit (Ok done) new = edited old.source old.pairs edit ≡ Ok (new.source, new.pairs)
-Drafts old edit (Err (causes.Rule rule)) new = (edited old.source old.pairs edit ≡ Err rule) × (new ≡ old)
-Drafts old edit (Err (causes.Fault fault)) new = ⊥
-Drafts old edit (Err causes.Memory) new = new ≡ old

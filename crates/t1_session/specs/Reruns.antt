@@ -12,7 +12,8 @@ use Rattle.t1_cache.specs.Edited.{named, stale}
 use Rattle.t1_rerun.specs.Renewing.{IsRunWhereStale}
 use Rattle.t1_session.specs.declared.command.Command.{Command}
 use Rattle.t1_session.specs.declared.command.Command.TheVariants as commands
-use Rattle.t1_session.specs.State.{Draft, SessionView, State}
+use Rattle.t1_batch.specs.Batch.{Draft, keys}
+use Rattle.t1_session.specs.State.{SessionView, State}
 
 -- the keys at which a source was edited, and the edited source
 pub record Edition : Type 0 where
@@ -21,9 +22,11 @@ pub record Edition : Type 0 where
 
 abbrev pub edition_in : Option Draft → State → Command → Option Edition
 edition_in None s (commands.Edit edit) = option_map (λ made. record { keys = named edit; source = made.0 }) (result_ok (edited s.source s.pairs edit))
+edition_in (Some d) s commands.Commit = Some (record { keys = keys d.entries; source = d.source })
 edition_in batch s c = None
 
--- profile, edits: an edit outside a batch that breaks no edit rule edits the session's source; it is judged by its runs
+-- profile, edits, batches: an edit outside a batch that breaks no edit rule edits the session's source, and so does the commit
+-- of a batch, by all its edits; it is judged by its runs
 abbrev pub edition : State → Command → Option Edition
 edition s c = edition_in s.batch s c
 
@@ -43,7 +46,7 @@ pub record Spends (runs : ℕ) (old new : SessionView) : Type 0 where
 abbrev pub AreKept : SessionView → SessionView → Type 0
 AreKept old new = (new.kept ≡ old.kept) × (new.runs ≡ old.runs)
 
--- profile: only an edit that is judged by its runs makes some: it runs the stale glyphs, each once, and no other
+-- profile: only an edit, or the commit of some, that is judged by its runs makes some: it runs the stale glyphs, each once, and no other
 abbrev pub Reruns : {T : Type 0} → Option Edition → SessionView → Result T Cause → SessionView → Type 0
 Reruns None old result new = AreKept old new
 Reruns (Some e) old (Ok done) new = Renews e old new

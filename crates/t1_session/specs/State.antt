@@ -1,13 +1,9 @@
 -- What contracts see of a session.
-use Rattle.std.specs.Prelude.{ℕ, List, Option}
+use Rattle.std.specs.Prelude.{ℕ, List, Option, Some, None}
 use Rattle.t1_parts.specs.SourceParts.{SourceParts}
 use Rattle.t1_source.specs.declared.pairs.Pair.{Pair}
 use Rattle.t1_cache.specs.Renewed.{Kept}
-
--- profile, batches: the source and the pairs after the edits of a batch so far
-pub record Draft : Type 0 where
-  pub source : SourceParts
-  pub pairs : List Pair
+use Rattle.t1_batch.specs.Batch.{Draft, IsDraftOf}
 
 -- a source, its kerning pairs, and the batch that is open, or none
 pub record State : Type 0 where
@@ -20,3 +16,8 @@ pub record SessionView : Type 0 where
   pub state : State
   pub kept : List Kept
   pub runs : ℕ
+
+-- the source of the batch that is open is what its edits made of this one
+abbrev pub IsOpenOn : SourceParts → Option Draft → Type 0
+IsOpenOn s None = Unit {0}
+IsOpenOn s (Some draft) = IsDraftOf s draft

@@ -5,7 +5,6 @@
 mod answer;
 mod answering;
 mod assembling;
-mod batch;
 mod command;
 mod dialogue;
 mod error;

@@ -1,13 +1,14 @@
 //! A session: a font that is kept current under edits.
-use crate::batch::Batch;
 use std::alloc::Global;
 use std::marker::Model;
+use t1_batch::Batch;
 use t1_held::Held;
 use t1_run::Meter;
 use t1_source::{Pairs, Source};
 
 /// A font under edits: its source and its pairs, the batch that is open, what is held of its Subrs and glyphs, and the count
-/// of runs. The source has no fault, and what is held is that of the source from scratch.
+/// of runs. The source has no fault, what is held is that of the source from scratch, and the batch's source is what its edits
+/// made of the session's.
 #[derive(Drop)]
 pub struct Session {
     alloc: Global,
@@ -22,16 +23,16 @@ impl Model for Session {
     ghost use Rattle.std.specs.Prelude.{map};
     ghost use Rattle.t1_cache.specs.Renewed.{kept_of};
     ghost use Rattle.t1_held.specs.Held.{IsHeld};
-    ghost use Rattle.t1_session.specs.State.{SessionView};
+    ghost use Rattle.t1_session.specs.State.{IsOpenOn, SessionView};
 
     ghost Value = { SessionView };
 
     ghost view = { λ s. record { state = record { source = s.source; pairs = s.pairs; batch = s.batch }; kept = map kept_of s.held.records.glyphs.entries; runs = s.meter } };
 
-    ghost invariant = { λ s. IsHeld s.source s.held };
+    ghost invariant = { λ s. IsHeld s.source s.held × IsOpenOn s.source s.batch };
 }
 
-ghost use Rattle.std.specs.Prelude.{◌≡◌, ◌≤◌, ◌-◌, ◌^◌, Ok, IfOk, None, Some, is_some, length, true};
+ghost use Rattle.std.specs.Prelude.{◌≡◌, ◌≤◌, ◌-◌, ◌^◌, Ok, IfOk, None, Some, is_some, length, map, true};
 ghost use Rattle.t1_frac.specs.Outcome.{Gives};
 ghost use Rattle.t1_source.specs.Changes.{changed, Serves};
 ghost use Rattle.t1_source.specs.Editing.{edited};
@@ -44,6 +45,7 @@ ghost use Rattle.t1_font.specs.Runs.{counted};
 ghost use Rattle.t1_font.specs.SourceChecks.{measured_source, source_check};
 ghost use Rattle.t1_cache.specs.Edited.{named};
 ghost use Rattle.t1_cache.specs.Kept.{KeepsAll};
+ghost use Rattle.t1_batch.specs.Batch.{entry_edit, keys, IsEditedBy};
 ghost use Rattle.t1_session.specs.declared.command.Command.TheVariants as commands;
 ghost use Rattle.t1_session.specs.declared.print.Print.TheVariants as prints;
 ghost use Rattle.t1_session.specs.FromScratch.{blocks_from_scratch, pfa_from_scratch, pfb_from_scratch, metrics_from_scratch, uses_from_scratch};
@@ -61,9 +63,10 @@ use std::io::Write;
 use t1_code::{Counted, OutError, WHOLE_PARTS};
 use t1_font::{MeasuredGlyphs, afm_of_source, usage_text, write_source_afm};
 use t1_frac::Refusal;
+use t1_batch::EditedEntry;
 use t1_held::{
-    held_metrics, held_of, held_pfa, held_pfb, prepare_edit, settle_edit, write_held_pfa,
-    write_held_pfb,
+    held_metrics, held_of, held_pfa, held_pfb, prepare_commit, prepare_edit, settle_commit,
+    settle_edit, write_held_pfa, write_held_pfb,
 };
 use t1_source::laws::{text_of_pairs_read, text_of_source_read};
 use t1_source::{Cause, Change, Edit, Rule};
@@ -136,7 +139,7 @@ impl Session {
         }
     }
 
-    /// Opens a batch; E11 where one is open.
+    /// Opens a batch, on a copy of the source and of the pairs; E11 where one is open.
     #[tactic(auto, unfolding(crate::specs::Machine::perform))]
     pub fn begin(&mut self) -> Result<(), Cause>
         ensures takes { Takes self.old.state commands.Begin result self.new.state }
@@ -145,21 +148,24 @@ impl Session {
         if self.batch.is_some() {
             return Err(Cause::Rule(Rule::E11));
         }
-        self.batch = Some(Batch::of(&self.source, &self.pairs)?);
+        text_of_source_read(&self.source);
+        self.batch = Some(Batch::of(self.alloc, &self.source, &self.pairs)?);
         Ok(())
     }
 
-    /// Closes the batch, and takes its source and its pairs unless the source has a fault; E12 where none is open. A
-    /// refusal, also for want of memory, leaves the session as before the batch.
+    /// Closes the batch, and takes its source and its pairs unless the source has a fault; E12 where none is open. Each glyph
+    /// that some edit of the batch makes stale is run once. A refusal, also for want of memory, leaves the session as before
+    /// the batch.
     #[tactic(auto, unfolding(crate::specs::Machine::perform))]
     pub fn commit(&mut self) -> Result<(), Cause>
         ensures takes { Takes self.old.state commands.Commit result self.new.state }
         ensures right { KeepsAll self.new.state.source self.new.kept }
+        ensures runs { Reruns (edition self.old.state commands.Commit) self.old result self.new }
     {
         match self.batch.take() {
             Some(batch) => {
-                let (source, pairs) = batch.into_parts();
-                self.accept(source, pairs)
+                let (source, pairs, entries) = batch.into_parts();
+                self.accept(source, pairs, entries)
             }
             None => Err(Cause::Rule(Rule::E12)),
         }
@@ -185,7 +191,7 @@ impl Session {
         ensures runs { Reruns (edition self.old.state (commands.Edit edit.now)) self.old result self.new }
     {
         if let Some(batch) = &mut self.batch {
-            return batch.edit(edit);
+            return batch.edit(self.alloc, edit);
         }
         let change = self.source.prepared(&self.pairs, edit)?;
         self.make(edit, change)
@@ -223,19 +229,36 @@ impl Session {
         Ok(())
     }
 
-    /// Takes a source and its pairs in the place of its own, unless the source has a fault. All its glyphs are run.
-    fn accept(&mut self, source: Source, pairs: Pairs) -> Result<(), Cause>
-        requires { self.old.state.batch ≡ None }
+    /// Takes the source and the pairs of a batch in the place of its own, unless the source has a fault. The glyphs that its
+    /// edits make stale are run, and no others.
+    fn accept(
+        &mut self,
+        source: Source,
+        pairs: Pairs,
+        entries: Vec<EditedEntry>,
+    ) -> Result<(), Cause>
+        requires none { self.old.state.batch ≡ None }
+        requires edited { IsEditedBy (map entry_edit entries.items) self.old.state.source source }
         ensures took { Took self.old.state (judged self.old.state (source, pairs) (source_check source)) true self.old.state result self.new.state }
         ensures right { KeepsAll self.new.state.source self.new.kept }
+        ensures runs { Reruns (Some (record { keys = keys (map entry_edit entries.items); source = source })) self.old result self.new }
     {
-        let held = match held_of(self.alloc, &source, &mut self.meter) {
-            Ok(held) => held,
+        let meter = &mut self.meter;
+        let prepared = prepare_commit(
+            self.alloc,
+            &mut self.held,
+            &self.source,
+            &source,
+            entries,
+            meter,
+        );
+        let ready = match prepared {
+            Ok(ready) => ready,
             Err(refusal) => return Err(cause_of(refusal)),
         };
         self.source = source;
         self.pairs = pairs;
-        self.held = held;
+        settle_commit(&mut self.held, ready);
         Ok(())
     }
 
