@@ -6,6 +6,7 @@ use std::test::Fail;
 use t1_code::{Counted, MAX_PUT};
 use t1_frac::{Code, Fault, Place};
 
+mod batches;
 mod files;
 mod runs;
 

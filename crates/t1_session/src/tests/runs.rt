@@ -84,24 +84,24 @@ const DEMO: &str = "\
     ";
 
 /// A session of the demo font.
-fn demo(alloc: Global) -> Result<Session, Fail> {
+pub(super) fn demo(alloc: Global) -> Result<Session, Fail> {
     let source = read_source(alloc, DEMO.as_bytes())?;
     Ok(Session::open(alloc, source, read_pairs(alloc, b"")?)?)
 }
 
 /// Other words for a glyph.
-fn glyph_edit(alloc: Global, name: &[u8], body: &[u8]) -> Result<Edit, Fail> {
+pub(super) fn glyph_edit(alloc: Global, name: &[u8], body: &[u8]) -> Result<Edit, Fail> {
     let name = Bytes::copied(alloc, name)?;
     Ok(Edit::ReplaceGlyph(name, Bytes::copied(alloc, body)?))
 }
 
 /// Other words for a Subr.
-fn subr_edit(alloc: Global, number: i64, body: &[u8]) -> Result<Edit, Fail> {
+pub(super) fn subr_edit(alloc: Global, number: i64, body: &[u8]) -> Result<Edit, Fail> {
     Ok(Edit::ReplaceSubr(number, Bytes::copied(alloc, body)?))
 }
 
 /// The usage table of a session.
-fn uses(alloc: Global, session: &Session) -> Result<Vec<u8>, Fail> {
+pub(super) fn uses(alloc: Global, session: &Session) -> Result<Vec<u8>, Fail> {
     let mut out = Counted::new(Vec::new(alloc));
     session.print_uses(&mut out)?;
     Ok(out.into_inner())
