@@ -1,4 +1,5 @@
 pub mod Adding
+pub mod Batches
 pub mod Entered
 pub mod Entering
 pub mod Filed
