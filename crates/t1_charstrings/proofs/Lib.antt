@@ -1,7 +1,9 @@
 pub mod Adding
+pub mod Batches
 pub mod Entered
 pub mod Entering
 pub mod Filed
+pub mod Filling
 pub mod Gathered
 pub mod Inserting
 pub mod Putting

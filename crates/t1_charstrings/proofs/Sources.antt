@@ -20,7 +20,7 @@ key-same (Glyph g) (Glyph h) e = ap Glyph (bytes_tell.same g h e)
 key-same (Subr n) (Glyph h) e = absurd (cc)
 key-same (Glyph g) (Subr m) e = absurd (cc)
 
-at-same : (m n : FontBodies) (k : Key) → SameAt m n k → body_at m k ≡ body_at n k
+pub at-same : (m n : FontBodies) (k : Key) → SameAt m n k → body_at m k ≡ body_at n k
 at-same m n (Subr x) e = e
 at-same m n (Glyph x) e = e
 

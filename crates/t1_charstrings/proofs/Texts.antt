@@ -1,7 +1,7 @@
 -- The private text of a source, of the charstrings that are kept.
-use Rattle.std.proofs.Common.{◌≡◌, ℕ, Bool, true, false, cond, List, [], ◌∷◌, ◌++◌, append_assoc, Option, None, Result, Ok, Err, refl, sym, ap, subst, ◌∙◌, arith}
+use Rattle.std.proofs.Common.{◌≡◌, ℕ, Bool, true, false, cond, List, [], ◌∷◌, ◌++◌, append_assoc, Option, None, Some, Result, Ok, Err, refl, sym, ap, subst, ◌∙◌, arith}
 use Rattle.std.specs.Prelude.{◌||◌, ◌==◌}
-use Rattle.std.specs.List.{list_any}
+use Rattle.std.specs.List.{flat_map, list_any}
 use Rattle.std.specs.Option.{option_map, option_or}
 use Rattle.std.specs.Result.{result_ok}
 use Rattle.std.proofs.lemmas.Bool.Decides.{nat_tests}
@@ -16,7 +16,8 @@ use Rattle.t1_parts.specs.declared.item.Item.TheVariants as items
 use Rattle.t1_parts.specs.Entries.{is_glyph, is_subr}
 use Rattle.t1_parts.specs.LenIV.{lead}
 use Rattle.t1_parts.specs.Operator.{operator}
-use Rattle.t1_source.specs.WellFormed.{Stand, Stands}
+use Rattle.t1_parts.specs.SourceParts.{SourceParts}
+use Rattle.t1_source.specs.WellFormed.{IsWellFormed, Stand, Stands}
 use Rattle.t1_code.specs.declared.command.Command.{Command}
 use Rattle.t1_code.specs.Charstring.{charstring}
 use Rattle.t1_code.specs.Cipher.{encrypted_charstring}
@@ -26,10 +27,11 @@ use Rattle.t1_run.specs.Run.{Key, Subr, Glyph}
 use Rattle.t1_font.specs.Assembly.{item_line, private_text, entry_line as font_line}
 use Rattle.t1_font.specs.Bodies.{bodies, bodies_check, body_check, glyph_among, glyph_in, subr_among, subr_in, words_check}
 use Rattle.t1_charstrings.specs.declared.entries.Charstrings.{Charstrings}
-use Rattle.t1_charstrings.specs.Entries.{encrypted, head_of}
-use Rattle.t1_charstrings.specs.Kept.{Encrypt}
+use Rattle.t1_charstrings.specs.Batch.{line_by, text_by}
+use Rattle.t1_charstrings.specs.Entries.{Kept, body_at, encrypted, head_of}
+use Rattle.t1_charstrings.specs.Kept.{kept_at}
 use Rattle.t1_charstrings.specs.Laws.{KeptTextLaw}
-use Rattle.t1_charstrings.specs.Lines.{entry_line, kept_line, kept_text}
+use Rattle.t1_charstrings.specs.Lines.{entry_line, kept_line}
 
 -- ---- each entry is the first of its key
 
@@ -86,50 +88,68 @@ number-itself n = grind (arith, nat_tests)
 
 -- ---- a line, and all lines
 
-line-of : (front : ℕ) (name closing : List ℕ) (place : Place) (key : Key) (r : Result (List Command) Code) (rest : Option (List Command))
+-- at the key of each body of these items its charstring is kept
+abbrev pub Serves : ℕ → List Item → (Key → Option Kept) → Type 0
+Serves front all at = (k : Key) (body : List Command) → body_at (bodies all) k ≡ Some body → at k ≡ Some (encrypted front k body)
+
+line-of : (front : ℕ) (name closing : List ℕ) (place : Place) (key : Key) (r : Result (List Command) Code) (kept : Option Kept)
+    → ((body : List Command) → result_ok r ≡ Some body → kept ≡ Some (encrypted front key body))
     → ◌≡◌ {A = Result (Unit {0}) Fault} (told_at place r >>= λ _. Ok tt) (Ok tt)
     → ◌≡◌ {A = Result (List ℕ) Fault} (told_at place r >>= λ body. Ok (entry_text (head_of key) name (encrypted_charstring front (charstring body)) closing))
-    (Ok (entry_line name closing (option_map (encrypted front key) (option_or (result_ok r) rest))))
-line-of front name closing place key (Ok body) rest h = refl
-line-of front name closing place key (Err code) rest h = absurd (cc)
+    (Ok (entry_line name closing kept))
+line-of front name closing place key (Ok body) kept is h = sym (ap (λ k. Ok (entry_line name closing k)) (is body refl))
+line-of front name closing place key (Err code) kept is h = absurd (cc)
 
-line-kept : (front : ℕ) (name : List ℕ) (c : Charstrings) (all : List Item) → Encrypt front (bodies all) c
+line-kept : (front : ℕ) (name : List ℕ) (at : Key → Option Kept) (all : List Item) → Serves front all at
     → (earlier : List Item) (i : Item) (is : List Item) → all ≡ earlier ++ i ∷ is → IsFirst earlier i → body_check i ≡ Ok tt
-    → item_line front name i ≡ Ok (kept_line c name i)
+    → item_line front name i ≡ Ok (line_by at name i)
 unfolding font_line words_check
-line-kept front name c all each earlier (items.Plain l) is whole first sound = refl
-line-kept front name c all each earlier (items.Section before n after) is whole first sound = refl
-line-kept front name c all each earlier (items.Subr n ws closing) is whole first sound =
+line-kept front name at all each earlier (items.Plain l) is whole first sound = refl
+line-kept front name at all each earlier (items.Section before n after) is whole first sound = refl
+line-kept front name at all each earlier (items.Subr n ws closing) is whole first sound =
     let i = items.Subr n ws closing in
     let own : subr_among all n ≡ option_or (result_ok (commands ws)) (subr_among is n) =
     ap (λ l. subr_among l n) whole ∙ subr-past n earlier (i ∷ is) first
     ∙ ap (λ b. option_or (cond b (result_ok (commands ws)) None) (subr_among is n)) (number-itself n) in
-    line-of front name closing (places.Subr n) (Subr n) (commands ws) (subr_among is n) sound
-    ∙ sym (ap (λ r. Ok (entry_line name closing r)) (each (Subr n) ∙ ap (option_map (encrypted front (Subr n))) own))
-line-kept front name c all each earlier (items.Glyph g ws closing) is whole first sound =
+    line-of front name closing (places.Subr n) (Subr n) (commands ws) (at (Subr n))
+    (λ body e. each (Subr n) body (own ∙ ap (λ r. option_or r (subr_among is n)) e)) sound
+line-kept front name at all each earlier (items.Glyph g ws closing) is whole first sound =
     let i = items.Glyph g ws closing in
     let own : glyph_among all g ≡ option_or (result_ok (commands ws)) (glyph_among is g) =
     ap (λ l. glyph_among l g) whole ∙ glyph-past g earlier (i ∷ is) first
     ∙ ap (λ b. option_or (cond b (result_ok (commands ws)) None) (glyph_among is g)) ((bytes_eq-Decides g g).1 refl) in
-    line-of front name closing (places.Glyph g) (Glyph g) (commands ws) (glyph_among is g) sound
-    ∙ sym (ap (λ r. Ok (entry_line name closing r)) (each (Glyph g) ∙ ap (option_map (encrypted front (Glyph g))) own))
+    line-of front name closing (places.Glyph g) (Glyph g) (commands ws) (at (Glyph g))
+    (λ body e. each (Glyph g) body (own ∙ ap (λ r. option_or r (glyph_among is g)) e)) sound
 
 both : (a b : Result (Unit {0}) Fault) → (a >>= λ _. b) ≡ Ok tt → (a ≡ Ok tt) × (b ≡ Ok tt)
 both (Ok tt) b h = (refl, h)
 both (Err fault) b h = absurd (cc)
 
-text-kept : (front : ℕ) (name : List ℕ) (c : Charstrings) (all : List Item) → Encrypt front (bodies all) c
+text-kept : (front : ℕ) (name : List ℕ) (at : Key → Option Kept) (all : List Item) → Serves front all at
     → (earlier is : List Item) → all ≡ earlier ++ is → AreFirst earlier is → bodies_check is ≡ Ok tt
-    → private_text front name is ≡ Ok (kept_text c name is)
-text-kept front name c all each earlier [] whole first sound = refl
-text-kept front name c all each earlier (i ∷ is) whole first sound =
+    → private_text front name is ≡ Ok (text_by at name is)
+text-kept front name at all each earlier [] whole first sound = refl
+text-kept front name at all each earlier (i ∷ is) whole first sound =
     let checks = both (body_check i) (bodies_check is) sound in
-    let line = line-kept front name c all each earlier i is whole first.0 checks.0 in
-    let rest = text-kept front name c all each (earlier ++ i ∷ []) is (whole ∙ sym (append_assoc earlier (i ∷ []) is)) first.1 checks.1 in
+    let line = line-kept front name at all each earlier i is whole first.0 checks.0 in
+    let rest = text-kept front name at all each (earlier ++ i ∷ []) is (whole ∙ sym (append_assoc earlier (i ∷ []) is)) first.1 checks.1 in
     rw (line, rest) refl
+
+-- the private text of a source is that of what is kept at the keys of its bodies
+pub text_by_is : (s : SourceParts) (at : Key → Option Kept) → IsWellFormed s → bodies_check s.items ≡ Ok tt → Serves (lead s) s.items at
+    → private_text (lead s) (operator s) s.items ≡ Ok (text_by at (operator s) s.items)
+text_by_is s at well sound each =
+    let p = well.items in
+    text-kept (lead s) (operator s) at s.items each [] s.items refl
+    (subst (AreFirst []) (sym p.whole) (first-all [] p.inner p.closefile p.stand)) sound
+
+kept-line : (c : Charstrings) (name : List ℕ) (i : Item) → line_by (kept_at c) name i ≡ kept_line c name i
+kept-line c name (items.Plain l) = refl
+kept-line c name (items.Section before n after) = refl
+kept-line c name (items.Subr n ws closing) = refl
+kept-line c name (items.Glyph g ws closing) = refl
 
 pub kept_text_is : KeptTextLaw
 kept_text_is s c well kept =
-    let p = well.items in
-    text-kept (lead s) (operator s) c s.items kept.each [] s.items refl
-    (subst (AreFirst []) (sym p.whole) (first-all [] p.inner p.closefile p.stand)) kept.sound
+    text_by_is s (kept_at c) well kept.sound (λ k body there. kept.each k ∙ ap (option_map (encrypted (lead s) k)) there)
+    ∙ (λ j. Ok (flat_map (λ i. kept-line c (operator s) i j) s.items))

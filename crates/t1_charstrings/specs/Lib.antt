@@ -1,3 +1,4 @@
+pub mod Batch
 pub mod Changed
 pub mod Entries
 pub mod Kept

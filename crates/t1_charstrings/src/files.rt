@@ -19,7 +19,7 @@ use t1_parts::push_lines;
 use t1_source::Source;
 
 /// The text of the clear part.
-fn clear_text(alloc: Global, lines: &[Bytes]) -> Result<Vec<u8>, AllocError>
+pub(crate) fn clear_text(alloc: Global, lines: &[Bytes]) -> Result<Vec<u8>, AllocError>
     ensures { IfOk result (λ text. text.items ≡ joined lines.now) }
 {
     let mut text = Vec::new(alloc);
@@ -34,7 +34,7 @@ const ZEROS: [[u8; 64]; 8] = [[b'0'; 64]; 8];
 pub(crate) const ZEROS_LEN: usize = 8 * 65;
 
 /// The text after the encrypted part: eight lines of zeros, and the tail.
-fn trailer(alloc: Global, tail: &[Bytes]) -> Result<Vec<u8>, AllocError>
+pub(crate) fn trailer(alloc: Global, tail: &[Bytes]) -> Result<Vec<u8>, AllocError>
     ensures { IfOk result (λ text. text.items ≡ trailer_text tail.now) }
 {
     let mut text = Vec::new(alloc);
@@ -47,7 +47,7 @@ fn trailer(alloc: Global, tail: &[Bytes]) -> Result<Vec<u8>, AllocError>
 }
 
 /// Writes the PFB file of three parts, or answers F23 with nothing written.
-fn write_pfb_parts<W: Write>(
+pub(crate) fn write_pfb_parts<W: Write>(
     clear: &[u8],
     pieces: &[Piece],
     trailer: &[u8],

@@ -7,8 +7,14 @@
 //!
 //! An edit is made in two steps: [`prepare_lines`] makes what it changes of the charstrings and of that length ready, or gives
 //! the first fault of the edited source, and [`settle_lines`] puts it in its place, which can't fail.
+//!
+//! A batch of edits goes the same way. [`put_fresh_subr`] and [`put_fresh_glyph`] fill fresh charstrings, of the entries that
+//! were replaced or added; with these, the entries that are [`Gone`] and the edited source, [`prepare_batch`] judges that
+//! source, and [`settle_batch`] puts them in their places. Where lenIV was edited, [`prepare_anew`] makes all charstrings of the
+//! edited source, for [`settle_lines`].
 #![tactic(auto)]
 
+mod batch;
 mod changed;
 mod counting;
 mod encrypted;
@@ -22,6 +28,10 @@ mod raising;
 mod replacing;
 mod settling;
 
+pub use batch::{
+    Gone, ReadyBatch, batch_len, no_charstrings, prepare_batch, put_fresh_glyph, put_fresh_subr,
+    settle_batch,
+};
 pub use changed::{
     insert_glyph, insert_subr, make_room, put_glyph, put_subr, remove_glyph, remove_subr,
 };
@@ -29,7 +39,7 @@ pub use encrypted::{charstrings_of, encrypted_anew, encrypted_glyph, encrypted_s
 pub use entries::{Charstrings, Entry};
 pub use files::{write_kept_pfa, write_kept_pfb};
 pub use lengths::{check_length, check_parts, entry_line_len, line_len, private_len, sections_len};
-pub use preparing::prepare_lines;
+pub use preparing::{prepare_anew, prepare_lines};
 pub use settling::{ReadyLine, ReadyLines, settle_lines};
 
 #[cfg(test)]

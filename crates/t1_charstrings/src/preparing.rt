@@ -23,8 +23,9 @@ use t1_frac::{Bytes, Refusal};
 use t1_source::{Change, Item, Pairs, Source};
 
 /// The charstrings of a source, all encrypted anew, and the length of its private text; or the first fault of the source.
+/// Settled, they take the place of any that were kept.
 #[tactic(auto, unfolding(t1_font::specs::Assembly::file_check))]
-fn ready_source(alloc: Global, source: &Source) -> Result<ReadyLines, Refusal>
+pub fn prepare_anew(alloc: Global, source: &Source) -> Result<ReadyLines, Refusal>
     requires well { IsWellFormed source.now }
     ensures judged { Gives (λ _. tt) result (file_check source.now) }
     ensures ready { (c : Charstrings) → IfOk result (IsReadyLines source.now c) }
@@ -53,7 +54,7 @@ pub(crate) fn ready_anew(
     let mut made = source.copied()?;
     let mut pairs = pairs.copied()?;
     made.commit(&mut pairs, change)?;
-    ready_source(alloc, &made)
+    prepare_anew(alloc, &made)
 }
 
 /// The same, where an item comes in the place of another.

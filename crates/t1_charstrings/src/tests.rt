@@ -2,6 +2,7 @@
 ghost use Rattle.std.specs.Prelude.{IfOk};
 ghost use Rattle.t1_source.specs.WellFormed.{IsWellFormed};
 
+mod batch;
 mod edits;
 
 use super::*;

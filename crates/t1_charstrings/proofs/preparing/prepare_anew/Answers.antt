@@ -1,5 +1,5 @@
 use Rattle.t1_charstrings.proofs.Readying.{all_ready, bodies_refused}
-use Rattle.t1_charstrings.proofs.preparing.ready_source.Goals as goal
+use Rattle.t1_charstrings.proofs.preparing.prepare_anew.Goals as goal
 use Rattle.std.proofs.lemmas.Result.{err_from_is_err_and}
 
 pub returns-in_err-charstrings-clause-judged : goal.returns-in_err-charstrings-clause-judged

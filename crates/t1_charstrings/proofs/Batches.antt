@@ -1,0 +1,149 @@
+-- What many edits at once make of the charstrings.
+use Rattle.std.proofs.Common.{◌≡◌, ℕ, ◌^◌, ◌-◌, ◌<◌, zero, suc, min, Bool, true, false, cond, ◌&&◌, List, [], ◌∷◌, ◌++◌, length, is_none, refl, sym, ap, ◌∙◌, Option, None, Some, Result, Ok, Err, IsOk, IsSome, OnOk, inl, inr, arith}
+use Rattle.std.specs.Prelude.{◌||◌}
+use Rattle.std.specs.List.{list_any}
+use Rattle.std.specs.Map.{lookup}
+use Rattle.std.specs.Option.{option_map, option_or}
+use Rattle.std.specs.Str.{bytes_eq}
+use Rattle.t1_code.specs.declared.command.Command.{Command}
+use Rattle.t1_parts.specs.declared.item.Item.{Item}
+use Rattle.t1_parts.specs.LenIV.{lead}
+use Rattle.t1_parts.specs.Operator.{operator}
+use Rattle.t1_parts.specs.SourceParts.{SourceParts}
+use Rattle.t1_run.specs.Footprint.{Includes}
+use Rattle.t1_run.specs.Run.{Key, Subr, Glyph}
+use Rattle.t1_font.specs.Bodies.{bodies}
+use Rattle.t1_font.proofs.Keeping.{lookup-taken}
+use Rattle.t1_charstrings.specs.declared.batch.Gone.{Gone}
+use Rattle.t1_charstrings.specs.declared.batch.ReadyBatch.{ReadyBatch}
+use Rattle.t1_charstrings.specs.declared.entries.Charstrings.{Charstrings}
+use Rattle.t1_charstrings.specs.Batch.{is_gone, over, text_by, AreFresh, AreGone, IsBatchOf, SettlesBatch}
+use Rattle.t1_charstrings.specs.Changed.{AreUnchanged}
+use Rattle.t1_charstrings.specs.Entries.{Kept, body_at, encrypted, glyph_kept, key_eq, subr_kept}
+use Rattle.t1_charstrings.specs.Kept.{AreEncrypted, kept_at}
+use Rattle.t1_charstrings.specs.Lengths.{IsPrivateLen}
+use Rattle.t1_charstrings.proofs.Gathered.{at-key}
+use Rattle.t1_charstrings.proofs.Putting.{bytes_tell}
+use Rattle.t1_charstrings.proofs.Sources.{at-same, key-itself}
+use Rattle.t1_charstrings.proofs.Texts.{text_by_is, Serves}
+
+-- ---- what is kept of a batch
+
+-- a key that is among others is told to be
+pub told-among : (keys : List Key) (k : Key) → Includes keys k → list_any (key_eq k) keys ≡ true
+told-among [] k among = absurd among
+told-among (first ∷ keys) k (inl same) = ap (λ b. b || list_any (key_eq k) keys) (ap (key_eq k) same ∙ key-itself k)
+told-among (first ∷ keys) k (inr among) = either (key_eq k first) (told-among keys k among) where
+  either : (b : Bool) → list_any (key_eq k) keys ≡ true → (b || list_any (key_eq k) keys) ≡ true
+  either true told = refl
+  either false told = told
+
+module _ (keys : List Key) (s made : SourceParts) (c : Charstrings) (batch : IsBatchOf keys s made c) where
+  -- the charstrings of the entries that weren't edited stay
+  old-stays : (k : Key) → list_any (key_eq k) keys ≡ false → kept_at c k ≡ option_map (encrypted (lead made) k) (body_at (bodies made.items) k)
+  old-stays k off =
+      batch.kept.each k
+      ∙ ap (option_map (encrypted (lead s) k)) (at-same (bodies s.items) (bodies made.items) k (batch.same.same k apart))
+      ∙ ap (λ front. option_map (encrypted front k) (body_at (bodies made.items) k)) (sym batch.front)
+    where
+      apart : Includes keys k → ⊥
+      apart among = let never : true ≡ false = sym (told-among keys k among) ∙ off in cc
+
+  -- what a batch settles to at a key
+  settled-at : (k : Key) (named gone : Bool) (body : Option (List Command)) (fresh old : Option Kept)
+      → fresh ≡ cond named (option_map (encrypted (lead made) k) body) None → gone ≡ (named && is_none body)
+      → (named ≡ false → old ≡ option_map (encrypted (lead made) k) body)
+      → option_or fresh (cond gone None old) ≡ option_map (encrypted (lead made) k) body
+  settled-at k true gone (Some body) fresh old fresh_is gone_is stays = ap (λ f. option_or f (cond gone None old)) fresh_is
+  settled-at k true gone None fresh old fresh_is gone_is stays =
+      ap (λ f. option_or f (cond gone None old)) fresh_is ∙ ap (λ b. cond b None old) gone_is
+  settled-at k false gone body fresh old fresh_is gone_is stays =
+      ap (λ f. option_or f (cond gone None old)) fresh_is ∙ ap (λ b. cond b None old) gone_is ∙ stays refl
+
+  pub batch_settled : (ready : ReadyBatch) (old new : Charstrings) → AreFresh keys made ready.fresh → AreGone keys made ready.gone.items → AreUnchanged c old
+      → SettlesBatch ready old new → AreEncrypted made new
+  batch_settled ready old new fresh gone same settles = record {
+    sound = batch.sound;
+    each = λ k.
+        settles k
+        ∙ settled-at k (list_any (key_eq k) keys) (is_gone ready.gone.items k) (body_at (bodies made.items) k) (kept_at ready.fresh k) (kept_at old k)
+        (fresh k) (gone k) (λ off. kept-same k ∙ old-stays k off);
+  } where
+    kept-same : (k : Key) → kept_at old k ≡ kept_at c k
+    kept-same = at-key (λ k. kept_at old k ≡ kept_at c k) (λ n. ap (λ es. subr_kept es n) same.0) (λ g. ap (λ es. glyph_kept es g) same.1)
+
+  -- fresh charstrings over the old ones are those of the bodies of the edited source
+  over-at : (k : Key) (named : Bool) (body : List Command) (fresh old : Option Kept)
+      → fresh ≡ cond named (Some (encrypted (lead made) k body)) None → (named ≡ false → old ≡ Some (encrypted (lead made) k body))
+      → option_or fresh old ≡ Some (encrypted (lead made) k body)
+  over-at k true body fresh old fresh_is stays = ap (λ f. option_or f old) fresh_is
+  over-at k false body fresh old fresh_is stays = ap (λ f. option_or f old) fresh_is ∙ stays refl
+
+  over-serves : (fresh : Charstrings) → AreFresh keys made fresh → Serves (lead made) made.items (over fresh c)
+  over-serves fresh are k body there =
+      over-at k (list_any (key_eq k) keys) body (kept_at fresh k) (kept_at c k)
+      (are k ∙ ap (λ b. cond (list_any (key_eq k) keys) (option_map (encrypted (lead made) k) b) None) there)
+      (λ off. old-stays k off ∙ ap (option_map (encrypted (lead made) k)) there)
+
+  pub batch_len_is : (fresh : Charstrings) (o : List ℕ) (is : List Item) (len : ℕ) → AreFresh keys made fresh → o ≡ operator made → is ≡ made.items
+      → len ≡ min (length (text_by (over fresh c) o is)) (2 ^ 64 - 1) → IsPrivateLen made len
+  batch_len_is fresh o is len are operator_is items_are len_is =
+      (text_by (over fresh c) (operator made) made.items,
+      text_by_is made (over fresh c) batch.well batch.sound (over-serves fresh are),
+      len_is ∙ ap (λ name. min (length (text_by (over fresh c) name is)) (2 ^ 64 - 1)) operator_is
+      ∙ ap (λ l. min (length (text_by (over fresh c) (operator made) l)) (2 ^ 64 - 1)) items_are)
+
+bytes-turned : (a b : List ℕ) → bytes_eq a b ≡ bytes_eq b a
+bytes-turned a b = by (bytes_eq a b) refl (bytes_eq b a) refl where
+  by : (x : Bool) → bytes_eq a b ≡ x → (y : Bool) → bytes_eq b a ≡ y → x ≡ y
+  by true on true also = refl
+  by false off false also = refl
+  by true on false off = let never : true ≡ false = sym (bytes_tell.itself b) ∙ ap (bytes_eq b) (sym (bytes_tell.same a b on)) ∙ off in absurd (cc)
+  by false off true on = let never : true ≡ false = sym (bytes_tell.itself a) ∙ ap (bytes_eq a) (sym (bytes_tell.same b a on)) ∙ off in absurd (cc)
+
+-- ---- entries put in one after another
+
+or-last : {Y : Type 0} (before : Option Y) (b : Bool) (v : Y) (old : Option Y)
+    → option_or before (cond b (Some v) old) ≡ option_or (option_or before (cond b (Some v) None)) old
+or-last (Some x) b v old = refl
+or-last None true v old = refl
+or-last None false v old = refl
+
+lookup-last : {K X : Type 0} (test : K → Bool) (es : List (K × X)) (k : K) (v : X)
+    → lookup test (es ++ (k, v) ∷ []) ≡ option_or (lookup test es) (cond (test k) (Some v) None)
+lookup-last test [] k v = refl
+lookup-last test (e ∷ es) k v = by (test e.0) (lookup-last test es k v) where
+  by : (b : Bool) → lookup test (es ++ (k, v) ∷ []) ≡ option_or (lookup test es) (cond (test k) (Some v) None)
+      → cond b (Some e.1) (lookup test (es ++ (k, v) ∷ [])) ≡ option_or (cond b (Some e.1) (lookup test es)) (cond (test k) (Some v) None)
+  by true rest = refl
+  by false rest = rest
+
+-- the last entry is as well put in as found in front
+pub put-last : {K X : Type 0} (test : K → Bool) (left rest : List (K × X)) (k : K) (v : X) (old new : Option X) → left ≡ rest ++ (k, v) ∷ []
+    → new ≡ cond (test k) (Some v) old → option_or (lookup test rest) new ≡ option_or (lookup test left) old
+put-last test left rest k v old new left_is new_is =
+    ap (option_or (lookup test rest)) new_is ∙ or-last (lookup test rest) (test k) v old
+    ∙ sym (ap (λ r. option_or r old) (ap (lookup test) left_is ∙ lookup-last test rest k v))
+
+pub none-found : {X : Type 0} (o : Option X) (n : ℕ) → o ≡ None → (0 < n → IsSome o) → n ≡ 0
+none-found o zero e h = refl
+none-found None (suc n) e h = let never : false ≡ true = h (omega arith) in absurd (cc)
+none-found (Some x) (suc n) e h = absurd (cc)
+
+-- where none is left all is put in
+pub all-put : {K X : Type 0} (test : K → Bool) (left : List (K × X)) (kept : Option X) → length left ≡ 0 → kept ≡ option_or (lookup test left) kept
+all-put test [] kept none = refl
+all-put test (e ∷ es) kept none = absurd (omega (arith, none))
+
+pub on-ok : {T E : Type 0} (r : Result T E) {P : Type 0} → IsOk r → OnOk r P → P
+on-ok (Ok x) ok p = p
+on-ok (Err e) ok p = absurd (cc)
+
+-- ---- entries taken out one after another
+
+-- a name that is taken out has nothing, and each other name what it had
+pub taken-at : {K X : Type 0} (name : K → List ℕ) (old new : List (K × X)) (n p : List ℕ) → n ≡ p
+    → ((q : K) → lookup (λ k. bytes_eq (name q) (name k)) new ≡ cond (bytes_eq n (name q)) None (lookup (λ k. bytes_eq (name q) (name k)) old))
+    → (g : List ℕ) → lookup (λ k. bytes_eq g (name k)) new ≡ cond (bytes_eq g p) None (lookup (λ k. bytes_eq g (name k)) old)
+taken-at name old new n p same at g =
+    lookup-taken name old new n at g ∙ ap (λ b. cond b None (lookup (λ k. bytes_eq g (name k)) old)) (bytes-turned n g ∙ ap (bytes_eq g) same)

@@ -1,0 +1,60 @@
+//! How long the private text is with fresh charstrings.
+ghost use Rattle.std.specs.Prelude.{◌≡◌, ◌^◌, ◌-◌, List, length, min};
+ghost use Rattle.t1_parts.specs.SourceParts.{SourceParts};
+ghost use Rattle.t1_run.specs.Run.{Key};
+ghost use Rattle.t1_charstrings.specs.Batch.{has_line, line_by, over, text_by, AreFresh, IsBatchOf};
+ghost use Rattle.t1_charstrings.specs.Lengths.{IsPrivateLen};
+
+use crate::entries::Charstrings;
+use crate::lengths::line_len;
+use t1_source::{Item, Source};
+
+/// Whether the charstring of an item's entry is among these.
+fn has_line(charstrings: &Charstrings, item: &Item) -> bool
+    ensures { result ≡ has_line charstrings.now item.now }
+{
+    match item {
+        Item::Subr(number, _, _) => charstrings.subrs.contains_key(number),
+        Item::Glyph(name, _, _) => charstrings.glyphs.contains_key(name.as_slice()),
+        _ => false,
+    }
+}
+
+/// How long the line of an item is, up to 2^64 - 1: that of its fresh charstring, or else that of the old one.
+fn batch_line_len(
+    charstrings: &Charstrings,
+    fresh: &Charstrings,
+    operator: &[u8],
+    item: &Item,
+) -> usize
+    ensures { result ≡ min (length (line_by (over fresh.now charstrings.now) operator.now item.now)) (2 ^ 64 - 1) }
+{
+    if has_line(fresh, item) {
+        return line_len(fresh, operator, item);
+    }
+    line_len(charstrings, operator, item)
+}
+
+/// How long the lines of the items are, up to 2^64 - 1.
+fn batch_items_len(
+    charstrings: &Charstrings,
+    fresh: &Charstrings,
+    operator: &[u8],
+    items: &[Item],
+) -> usize
+    ensures { result ≡ min (length (text_by (over fresh.now charstrings.now) operator.now items.now)) (2 ^ 64 - 1) }
+{
+    let mut total: usize = 0;
+    for item in items {
+        total = total.saturating_add(batch_line_len(charstrings, fresh, operator, item));
+    }
+    total
+}
+
+/// How long the private text of an edited source is, up to 2^64 - 1, by the fresh charstrings of the entries that were edited
+/// and the old ones of the others. The items are gone through once, and nothing is copied.
+pub fn batch_len(charstrings: &Charstrings, fresh: &Charstrings, source: &Source) -> usize
+    ensures { (keys : List Key) (s : SourceParts) → IsBatchOf keys s source.now charstrings.now → AreFresh keys source.now fresh.now → IsPrivateLen source.now result }
+{
+    batch_items_len(charstrings, fresh, source.operator(), source.items())
+}

@@ -1,0 +1,71 @@
+//! Charstrings taken out and put in their places.
+ghost use Rattle.std.specs.Prelude.{◌≡◌, ◌≤◌, ℕ, List, None, if◌then◌else◌, length};
+ghost use Rattle.std.specs.Option.{option_or};
+ghost use Rattle.indexmap.specs.IndexMap.{spare};
+ghost use Rattle.t1_run.specs.Run.{Key};
+ghost use Rattle.t1_charstrings.specs.Batch.{gone_key, is_gone, over};
+ghost use Rattle.t1_charstrings.specs.Changed.{Sets};
+ghost use Rattle.t1_charstrings.specs.Entries.{glyph_kept, subr_kept};
+ghost use Rattle.t1_charstrings.specs.Kept.{kept_at};
+
+use crate::batch::Gone;
+use crate::changed::{insert_glyph, insert_subr};
+use crate::entries::{Charstrings, Entry};
+use indexmap::IndexMap;
+
+/// Takes the charstring of an entry out.
+fn take_one_out(charstrings: &mut Charstrings, gone: &Gone)
+    ensures sets { Sets (gone_key gone.now) None charstrings.old charstrings.new }
+    ensures room { (spare charstrings.old.subrs ≤ spare charstrings.new.subrs) × (spare charstrings.old.glyphs ≤ spare charstrings.new.glyphs) }
+{
+    match gone {
+        Gone::Subr(number) => {
+            charstrings.subrs.swap_remove(number);
+        }
+        Gone::Glyph(name) => {
+            charstrings.glyphs.swap_remove(name.as_slice());
+        }
+    }
+}
+
+/// Takes the charstrings of entries out. It takes no memory and can't fail.
+pub(crate) fn take_out(charstrings: &mut Charstrings, gone: &[Gone])
+    ensures kept { (k : Key) → kept_at charstrings.new k ≡ (if is_gone gone.now k then None else kept_at charstrings.old k) }
+    ensures room { (spare charstrings.old.subrs ≤ spare charstrings.new.subrs) × (spare charstrings.old.glyphs ≤ spare charstrings.new.glyphs) }
+{
+    for entry in gone {
+        take_one_out(charstrings, entry);
+    }
+}
+
+/// Puts the charstrings of Subrs in, in room that was made.
+fn put_subrs(charstrings: &mut Charstrings, fresh: IndexMap<u16, Entry>)
+    ensures subrs { length fresh.entries ≤ spare charstrings.old.subrs → (n : ℕ) → subr_kept charstrings.new.subrs.entries n ≡ option_or (subr_kept fresh.entries n) (subr_kept charstrings.old.subrs.entries n) }
+    ensures glyphs { charstrings.new.glyphs ≡ charstrings.old.glyphs }
+{
+    let mut left = fresh;
+    while let Some((number, entry)) = left.pop() {
+        let _put = insert_subr(charstrings, number, entry);
+    }
+}
+
+/// Puts the charstrings of glyphs in, in room that was made.
+fn put_glyphs(charstrings: &mut Charstrings, fresh: IndexMap<Vec<u8>, Entry>)
+    ensures glyphs { length fresh.entries ≤ spare charstrings.old.glyphs → (g : List ℕ) → glyph_kept charstrings.new.glyphs.entries g ≡ option_or (glyph_kept fresh.entries g) (glyph_kept charstrings.old.glyphs.entries g) }
+    ensures subrs { charstrings.new.subrs ≡ charstrings.old.subrs }
+{
+    let mut left = fresh;
+    while let Some((name, entry)) = left.pop() {
+        let _put = insert_glyph(charstrings, name, entry);
+    }
+}
+
+/// Puts charstrings in, each in the place of what was kept of its entry. In room that was made it takes no memory and can't
+/// fail.
+pub(crate) fn put_in(charstrings: &mut Charstrings, fresh: Charstrings)
+    ensures { length fresh.subrs.entries ≤ spare charstrings.old.subrs → length fresh.glyphs.entries ≤ spare charstrings.old.glyphs → (k : Key) → kept_at charstrings.new k ≡ over fresh charstrings.old k }
+{
+    let Charstrings { subrs, glyphs } = fresh;
+    put_subrs(charstrings, subrs);
+    put_glyphs(charstrings, glyphs);
+}
