@@ -1,1 +1,3 @@
-pub mod Members
+pub mod Drafting
+pub mod Ordering
+pub mod Sounding
