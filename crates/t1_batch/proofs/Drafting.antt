@@ -7,7 +7,9 @@ use Rattle.std.proofs.lemmas.List.{map-append}
 use Rattle.std.proofs.lemmas.List.Folds.{list_any-append}
 use Rattle.t1_parts.specs.SourceParts.{SourceParts}
 use Rattle.t1_source.specs.declared.edit.Edit.{Edit}
+use Rattle.t1_source.specs.declared.editing.change.Change.{Change}
 use Rattle.t1_source.specs.declared.pairs.Pair.{Pair}
+use Rattle.t1_source.specs.Changes.{changed}
 use Rattle.t1_source.specs.Editing.{edited}
 use Rattle.t1_source.specs.WellFormed.{IsWellFormed}
 use Rattle.t1_run.specs.Run.{Key, Subr, Glyph}
@@ -23,7 +25,7 @@ use Rattle.t1_cache.proofs.Turns.{turns}
 use Rattle.t1_rerun.specs.Renewing.{entry_key}
 use Rattle.t1_rerun.proofs.Entries.{key-named}
 use Rattle.t1_batch.specs.declared.entries.EditedEntry.{EditedEntry}
-use Rattle.t1_batch.specs.Batch.{adds, edited_entries, entry_edit, keys, was_added, EntryEdit, IsEditedBy, IsSoundBut}
+use Rattle.t1_batch.specs.Batch.{adds, edited_entries, entry_edit, keys, was_added, Draft, EntryEdit, IsDraftOf, IsEditedBy, IsSoundBut}
 use Rattle.t1_batch.proofs.Ordering.{begins, edit-order, order-as}
 use Rattle.t1_batch.proofs.Sounding.{all-sound, edits_sound}
 
@@ -38,6 +40,11 @@ no-edits s well = record {
   same : (k : Key) → (Includes [] k → ⊥) → SameAt (bodies s.items) (bodies s.items) k
   same (Subr n) other = refl
   same (Glyph g) other = refl
+
+-- the copy of a source
+pub first-draft : (s copy : SourceParts) (entries : List EditedEntry) → copy ≡ s → entries ≡ [] → IsWellFormed s → IsEditedBy (map entry_edit entries) s copy
+first-draft s copy entries same none well =
+    subst (λ es. IsEditedBy (map entry_edit es) s copy) (sym none) (subst (IsEditedBy [] s) (sym same) (no-edits s well))
 
 -- ---- the entries
 
@@ -94,3 +101,25 @@ edit-drafted entries s old k edit new ps e well was = record {
 } where
   AllSound : List Key → Type 0
   AllSound ks = AllByRecursion (IsSoundBut ks) new.items
+
+-- ---- the call
+
+module _ (old : Draft) (edit : Edit) (change : Change) (source new : SourceParts) (pairs ps : List Pair) (entry : Option EditedEntry) (es mid made : List EditedEntry)
+    (view : record { source = source; pairs = pairs; entries = map entry_edit es } ≡ old)
+    (told : edited source pairs edit ≡ Ok (changed change source pairs))
+    (source-is : new ≡ (changed change source pairs).0) (pairs-are : ps ≡ (changed change source pairs).1)
+    (named-is : option_map entry_edit entry ≡ option_map (marked (adds edit)) (entry_key edit))
+    (room : mid ≡ es) (more : made ≡ mid ++ option_to_list entry) where
+  is-made : edited source pairs edit ≡ Ok (new, ps)
+  is-made = told ∙ ap Ok (sym (λ j. (source-is j, pairs-are j)))
+
+  are-noted : map entry_edit made ≡ map entry_edit es ++ edited_entries edit
+  are-noted = entries-noted source pairs edit new ps entry es made is-made named-is (more ∙ ap (λ l. l ++ option_to_list entry) room)
+
+  pub drafts : (edited old.source old.pairs edit ≡ Ok (new, ps)) × (map entry_edit made ≡ old.entries ++ edited_entries edit)
+  drafts = (ap (λ d. edited d.source d.pairs edit) (sym view) ∙ is-made, are-noted ∙ ap (λ d. d.entries ++ edited_entries edit) view)
+
+  pub draft-of : IsWellFormed (changed change source pairs).0 → (s : SourceParts) → IsDraftOf s old → IsEditedBy (map entry_edit made) s new
+  draft-of well s was =
+      subst (λ l. IsEditedBy l s new) (sym are-noted)
+      (edit-drafted (map entry_edit es) s source pairs edit new ps is-made (subst IsWellFormed (sym source-is) well) (subst (IsDraftOf s) (sym view) was))

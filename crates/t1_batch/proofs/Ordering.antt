@@ -84,7 +84,7 @@ among-passing q g (y ∷ ys) = by (q y) refl (bytes_eq g y) refl (among-passing 
 -- the last of distinct names isn't among the others
 last-apart : (ys : List (List ℕ)) (g : List ℕ) → AreDistinct (ys ++ g ∷ []) → (x : List ℕ) → list_any (bytes_eq x) ys ≡ true → bytes_eq x g ≡ false
 last-apart [] g d x there = absurd (cc)
-last-apart (y ∷ ys) g d x there = by (bytes_eq x y) refl there where
+last-apart (y ∷ ys) g d x there = by (bytes_eq x y) refl there (last-apart ys g d.1 x) where
   apart : bytes_eq x y ≡ true → (b : Bool) → bytes_eq x g ≡ b → bytes_eq x g ≡ false
   apart here false off = off
   apart here true on =
@@ -97,9 +97,9 @@ last-apart (y ∷ ys) g d x there = by (bytes_eq x y) refl there where
       in
       absurd (cc)
 
-  by : (b : Bool) → bytes_eq x y ≡ b → (b || list_any (bytes_eq x) ys) ≡ true → bytes_eq x g ≡ false
-  by true here there = apart here (bytes_eq x g) refl
-  by false off there = last-apart ys g d.1 x there
+  by : (b : Bool) → bytes_eq x y ≡ b → (b || list_any (bytes_eq x) ys) ≡ true → (list_any (bytes_eq x) ys ≡ true → bytes_eq x g ≡ false) → bytes_eq x g ≡ false
+  by true here there later = apart here (bytes_eq x g) refl
+  by false off there later = later there
 
 -- ---- one edit more
 

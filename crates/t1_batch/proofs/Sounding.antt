@@ -87,10 +87,11 @@ sound-raised s g ks (items.Glyph x ws c ∷ is) h = (h.0, sound-raised s g ks is
 -- items whose bodies have no fault
 pub all-sound : (ks : List Key) (is : List Item) → bodies_check is ≡ Ok tt → AllByRecursion (IsSoundBut ks) is
 all-sound ks [] fine = tt
-all-sound ks (i ∷ is) fine = one (body_check i) refl fine where
-  one : (r : Result (Unit {0}) Fault) → body_check i ≡ r → (r >>= λ _. bodies_check is) ≡ Ok tt → AllByRecursion (IsSoundBut ks) (i ∷ is)
-  one (Ok u) here fine = (inr here, all-sound ks is fine)
-  one (Err e) here fine = absurd (cc)
+all-sound ks (i ∷ is) fine = one (body_check i) refl fine (all-sound ks is) where
+  one : (r : Result (Unit {0}) Fault) → body_check i ≡ r → (r >>= λ _. bodies_check is) ≡ Ok tt → (bodies_check is ≡ Ok tt → AllByRecursion (IsSoundBut ks) is)
+      → AllByRecursion (IsSoundBut ks) (i ∷ is)
+  one (Ok u) here fine rest = (inr here, rest fine)
+  one (Err e) here fine rest = absurd (cc)
 
 sound_middle : (keys : List Key) (s made : SourceParts) (a xs ys b : List Item) → AllByRecursion (IsAmong keys) ys → s.items ≡ a ++ (xs ++ b)
     → made.items ≡ raised (a ++ (ys ++ b)) → KeepsSound keys s made
