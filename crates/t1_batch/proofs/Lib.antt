@@ -1,3 +1,4 @@
 pub mod Drafting
+pub mod Flags
 pub mod Ordering
 pub mod Sounding

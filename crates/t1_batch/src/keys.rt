@@ -57,9 +57,10 @@ fn note_glyph(
 fn note_key(keys: &mut EditedKeys, entry: EditedEntry) -> Result<(), AllocError>
     ensures { OnOk result ((k : Key) → flag_at keys.new k ≡ (if key_eq k (key_of entry.named) then Some (unwrap_or (flag_at keys.old (key_of entry.named)) false || entry.added) else flag_at keys.old k)) }
 {
-    match entry.named {
-        Named::Subr(number) => note_subr(&mut keys.subrs, number, entry.added),
-        Named::Glyph(name) => note_glyph(&mut keys.glyphs, name.into_vec(), entry.added),
+    let EditedEntry { named, added } = entry;
+    match named {
+        Named::Subr(number) => note_subr(&mut keys.subrs, number, added),
+        Named::Glyph(name) => note_glyph(&mut keys.glyphs, name.into_vec(), added),
     }
 }
 
