@@ -1,1 +1,5 @@
-pub mod Members
+pub mod Drafting
+pub mod Flags
+pub mod Ordering
+pub mod Passing
+pub mod Sounding

@@ -6,7 +6,10 @@
 #![tactic(auto)]
 
 mod batch;
+mod changes;
 mod entries;
+mod keys;
 
 pub use batch::Batch;
+pub use changes::batch_changes;
 pub use entries::EditedEntry;

@@ -1,2 +1,0 @@
--- Keys with the same members.
-use Rattle.std.proofs.Common.{◌≡◌, refl}
