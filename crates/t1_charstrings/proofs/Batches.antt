@@ -11,10 +11,9 @@ use Rattle.t1_parts.specs.LenIV.{lead}
 use Rattle.t1_parts.specs.Operator.{operator}
 use Rattle.t1_parts.specs.SourceParts.{SourceParts}
 use Rattle.t1_run.specs.Footprint.{Includes}
-use Rattle.t1_run.specs.Run.{Key, Subr, Glyph}
+use Rattle.t1_run.specs.Run.{Key}
 use Rattle.t1_font.specs.Bodies.{bodies}
 use Rattle.t1_font.proofs.Keeping.{lookup-taken}
-use Rattle.t1_charstrings.specs.declared.batch.Gone.{Gone}
 use Rattle.t1_charstrings.specs.declared.batch.ReadyBatch.{ReadyBatch}
 use Rattle.t1_charstrings.specs.declared.entries.Charstrings.{Charstrings}
 use Rattle.t1_charstrings.specs.Batch.{is_gone, over, text_by, AreFresh, AreGone, IsBatchOf, SettlesBatch}

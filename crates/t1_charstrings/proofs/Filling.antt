@@ -1,5 +1,5 @@
 -- Fresh charstrings and entries that are gone, found key by key.
-use Rattle.std.proofs.Common.{◌≡◌, Bool, true, false, cond, ◌&&◌, List, [], ◌∷◌, ◌++◌, is_none, refl, sym, ap, ◌∙◌, Option, None, Some}
+use Rattle.std.proofs.Common.{◌≡◌, Bool, true, false, cond, ◌&&◌, List, [], ◌∷◌, ◌++◌, is_none, refl, sym, ap, ◌∙◌, None, Some}
 use Rattle.std.specs.Prelude.{◌||◌}
 use Rattle.std.specs.List.{list_any}
 use Rattle.std.specs.Option.{option_map}
@@ -13,7 +13,7 @@ use Rattle.t1_charstrings.specs.declared.batch.Gone.{Gone}
 use Rattle.t1_charstrings.specs.declared.entries.Charstrings.{Charstrings}
 use Rattle.t1_charstrings.specs.Batch.{gone_key, is_gone, AreFresh, AreGone}
 use Rattle.t1_charstrings.specs.Changed.{Sets}
-use Rattle.t1_charstrings.specs.Entries.{Kept, body_at, encrypted, key_eq}
+use Rattle.t1_charstrings.specs.Entries.{body_at, encrypted, key_eq}
 use Rattle.t1_charstrings.specs.Kept.{kept_at}
 use Rattle.t1_charstrings.proofs.Sources.{key-same}
 

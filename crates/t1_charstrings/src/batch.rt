@@ -1,13 +1,12 @@
 //! What many edits at once make of the charstrings, made ready and put in its place.
-ghost use Rattle.std.specs.Prelude.{◌≡◌, ◌≤◌, ℕ, List, length, IfOk};
-ghost use Rattle.indexmap.specs.IndexMap.{spare};
+ghost use Rattle.std.specs.Prelude.{List, IfOk};
 ghost use Rattle.t1_frac.specs.Outcome.{Gives};
 ghost use Rattle.t1_parts.specs.SourceParts.{SourceParts};
 ghost use Rattle.t1_run.specs.Run.{Key};
 ghost use Rattle.t1_font.specs.Assembly.{file_check};
-ghost use Rattle.t1_charstrings.specs.Batch.{over, AreFresh, AreGone, IsBatchOf, IsReadyBatch};
+ghost use Rattle.t1_charstrings.specs.Batch.{AreFresh, AreGone, IsBatchOf, IsReadyBatch};
 ghost use Rattle.t1_charstrings.specs.Changed.{AreUnchanged};
-ghost use Rattle.t1_charstrings.specs.Kept.{kept_at, AreEncrypted};
+ghost use Rattle.t1_charstrings.specs.Kept.{AreEncrypted};
 ghost use Rattle.t1_charstrings.specs.Lengths.{IsPrivateLen};
 
 mod fresh;
