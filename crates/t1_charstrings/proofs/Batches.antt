@@ -86,11 +86,12 @@ module _ (keys : List Key) (s made : SourceParts) (c : Charstrings) (batch : IsB
 
   pub batch_len_is : (fresh : Charstrings) (o : List ℕ) (is : List Item) (len : ℕ) → AreFresh keys made fresh → o ≡ operator made → is ≡ made.items
       → len ≡ min (length (text_by (over fresh c) o is)) (2 ^ 64 - 1) → IsPrivateLen made len
-  batch_len_is fresh o is len are operator_is items_are len_is =
-      (text_by (over fresh c) (operator made) made.items,
-      text_by_is made (over fresh c) batch.well batch.sound (over-serves fresh are),
-      len_is ∙ ap (λ name. min (length (text_by (over fresh c) name is)) (2 ^ 64 - 1)) operator_is
-      ∙ ap (λ l. min (length (text_by (over fresh c) (operator made) l)) (2 ^ 64 - 1)) items_are)
+  batch_len_is fresh o is len are operator_is items_are len_is = (
+    text_by (over fresh c) (operator made) made.items,
+    text_by_is made (over fresh c) batch.well batch.sound (over-serves fresh are),
+    len_is ∙ ap (λ name. min (length (text_by (over fresh c) name is)) (2 ^ 64 - 1)) operator_is
+        ∙ ap (λ l. min (length (text_by (over fresh c) (operator made) l)) (2 ^ 64 - 1)) items_are,
+  )
 
 bytes-turned : (a b : List ℕ) → bytes_eq a b ≡ bytes_eq b a
 bytes-turned a b = by (bytes_eq a b) refl (bytes_eq b a) refl where

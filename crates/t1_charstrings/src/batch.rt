@@ -17,12 +17,11 @@ use crate::changed::make_room;
 use crate::counting::check_counts;
 use crate::entries::Charstrings;
 use crate::lengths::check_parts;
-use t1_frac::Refusal;
-use t1_source::Source;
-
 pub use fresh::{no_charstrings, put_fresh_glyph, put_fresh_subr};
 pub use lengths::batch_len;
 use settling::{put_in, take_out};
+use t1_frac::Refusal;
+use t1_source::Source;
 
 /// An entry that edits remove.
 #[derive(Drop)]
