@@ -11,10 +11,9 @@ use Rattle.t1_parts.specs.LenIV.{lead}
 use Rattle.t1_parts.specs.Operator.{operator}
 use Rattle.t1_parts.specs.SourceParts.{SourceParts}
 use Rattle.t1_run.specs.Footprint.{Includes}
-use Rattle.t1_run.specs.Run.{Key, Subr, Glyph}
+use Rattle.t1_run.specs.Run.{Key}
 use Rattle.t1_font.specs.Bodies.{bodies}
 use Rattle.t1_font.proofs.Keeping.{lookup-taken}
-use Rattle.t1_charstrings.specs.declared.batch.Gone.{Gone}
 use Rattle.t1_charstrings.specs.declared.batch.ReadyBatch.{ReadyBatch}
 use Rattle.t1_charstrings.specs.declared.entries.Charstrings.{Charstrings}
 use Rattle.t1_charstrings.specs.Batch.{is_gone, over, text_by, AreFresh, AreGone, IsBatchOf, SettlesBatch}
@@ -87,11 +86,12 @@ module _ (keys : List Key) (s made : SourceParts) (c : Charstrings) (batch : IsB
 
   pub batch_len_is : (fresh : Charstrings) (o : List ℕ) (is : List Item) (len : ℕ) → AreFresh keys made fresh → o ≡ operator made → is ≡ made.items
       → len ≡ min (length (text_by (over fresh c) o is)) (2 ^ 64 - 1) → IsPrivateLen made len
-  batch_len_is fresh o is len are operator_is items_are len_is =
-      (text_by (over fresh c) (operator made) made.items,
-      text_by_is made (over fresh c) batch.well batch.sound (over-serves fresh are),
-      len_is ∙ ap (λ name. min (length (text_by (over fresh c) name is)) (2 ^ 64 - 1)) operator_is
-      ∙ ap (λ l. min (length (text_by (over fresh c) (operator made) l)) (2 ^ 64 - 1)) items_are)
+  batch_len_is fresh o is len are operator_is items_are len_is = (
+    text_by (over fresh c) (operator made) made.items,
+    text_by_is made (over fresh c) batch.well batch.sound (over-serves fresh are),
+    len_is ∙ ap (λ name. min (length (text_by (over fresh c) name is)) (2 ^ 64 - 1)) operator_is
+        ∙ ap (λ l. min (length (text_by (over fresh c) (operator made) l)) (2 ^ 64 - 1)) items_are,
+  )
 
 bytes-turned : (a b : List ℕ) → bytes_eq a b ≡ bytes_eq b a
 bytes-turned a b = by (bytes_eq a b) refl (bytes_eq b a) refl where

@@ -1,5 +1,5 @@
 -- Fresh charstrings and entries that are gone, found key by key.
-use Rattle.std.proofs.Common.{◌≡◌, Bool, true, false, cond, ◌&&◌, List, [], ◌∷◌, ◌++◌, is_none, refl, sym, ap, ◌∙◌, Option, None, Some}
+use Rattle.std.proofs.Common.{◌≡◌, Bool, true, false, cond, ◌&&◌, List, [], ◌∷◌, ◌++◌, is_none, refl, sym, ap, ◌∙◌, None, Some}
 use Rattle.std.specs.Prelude.{◌||◌}
 use Rattle.std.specs.List.{list_any}
 use Rattle.std.specs.Option.{option_map}
@@ -13,7 +13,7 @@ use Rattle.t1_charstrings.specs.declared.batch.Gone.{Gone}
 use Rattle.t1_charstrings.specs.declared.entries.Charstrings.{Charstrings}
 use Rattle.t1_charstrings.specs.Batch.{gone_key, is_gone, AreFresh, AreGone}
 use Rattle.t1_charstrings.specs.Changed.{Sets}
-use Rattle.t1_charstrings.specs.Entries.{Kept, body_at, encrypted, key_eq}
+use Rattle.t1_charstrings.specs.Entries.{body_at, encrypted, key_eq}
 use Rattle.t1_charstrings.specs.Kept.{kept_at}
 use Rattle.t1_charstrings.proofs.Sources.{key-same}
 
@@ -49,6 +49,7 @@ fresh-more key keys more adds made body there old new fresh sets k =
     at-key same =
         ap (λ j. Some (encrypted (lead made) j body)) (sym same)
         ∙ sym (ap (option_map (encrypted (lead made) k)) (ap (body_at (bodies made.items)) same ∙ there))
+
     by : (own : Bool) → key_eq k key ≡ own → (b : Bool) → kept_at old k ≡ cond b (option_map (encrypted (lead made) k) (body_at (bodies made.items) k)) None
         → cond own (Some (encrypted (lead made) key body)) (kept_at old k)
         ≡ cond (own || b) (option_map (encrypted (lead made) k) (body_at (bodies made.items) k)) None
@@ -64,6 +65,7 @@ fresh-without key keys more adds made none fresh are k =
   where
     none-at : k ≡ key → option_map (encrypted (lead made) k) (body_at (bodies made.items) k) ≡ None
     none-at same = ap (option_map (encrypted (lead made) k)) (ap (body_at (bodies made.items)) same ∙ none)
+
     by : (own : Bool) → key_eq k key ≡ own → (b : Bool)
         → cond b (option_map (encrypted (lead made) k) (body_at (bodies made.items) k)) None
         ≡ cond (own || b) (option_map (encrypted (lead made) k) (body_at (bodies made.items) k)) None
@@ -92,6 +94,7 @@ gone-more key keys more adds made none gone entry entry_is are k =
   where
     none-at : k ≡ key → is_none (body_at (bodies made.items) k) ≡ true
     none-at same = ap is_none (ap (body_at (bodies made.items)) same ∙ none)
+
     by : (own : Bool) → key_eq k key ≡ own → (b : Bool)
         → ((b && is_none (body_at (bodies made.items) k)) || (own || false)) ≡ ((own || b) && is_none (body_at (bodies made.items) k))
     by true on true = ap (λ c. c || true) (none-at (key-same k key on)) ∙ sym (none-at (key-same k key on))
@@ -108,6 +111,7 @@ gone-without key keys more adds made body there gone are k =
   where
     some-at : k ≡ key → is_none (body_at (bodies made.items) k) ≡ false
     some-at same = ap is_none (ap (body_at (bodies made.items)) same ∙ there)
+
     by : (own : Bool) → key_eq k key ≡ own → (b : Bool)
         → (b && is_none (body_at (bodies made.items) k)) ≡ ((own || b) && is_none (body_at (bodies made.items) k))
     by true on true = refl

@@ -1,13 +1,12 @@
 //! What many edits at once make of the charstrings, made ready and put in its place.
-ghost use Rattle.std.specs.Prelude.{◌≡◌, ◌≤◌, ℕ, List, length, IfOk};
-ghost use Rattle.indexmap.specs.IndexMap.{spare};
+ghost use Rattle.std.specs.Prelude.{List, IfOk};
 ghost use Rattle.t1_frac.specs.Outcome.{Gives};
 ghost use Rattle.t1_parts.specs.SourceParts.{SourceParts};
 ghost use Rattle.t1_run.specs.Run.{Key};
 ghost use Rattle.t1_font.specs.Assembly.{file_check};
-ghost use Rattle.t1_charstrings.specs.Batch.{over, AreFresh, AreGone, IsBatchOf, IsReadyBatch};
+ghost use Rattle.t1_charstrings.specs.Batch.{AreFresh, AreGone, IsBatchOf, IsReadyBatch};
 ghost use Rattle.t1_charstrings.specs.Changed.{AreUnchanged};
-ghost use Rattle.t1_charstrings.specs.Kept.{kept_at, AreEncrypted};
+ghost use Rattle.t1_charstrings.specs.Kept.{AreEncrypted};
 ghost use Rattle.t1_charstrings.specs.Lengths.{IsPrivateLen};
 
 mod fresh;
@@ -18,12 +17,11 @@ use crate::changed::make_room;
 use crate::counting::check_counts;
 use crate::entries::Charstrings;
 use crate::lengths::check_parts;
-use t1_frac::Refusal;
-use t1_source::Source;
-
 pub use fresh::{no_charstrings, put_fresh_glyph, put_fresh_subr};
 pub use lengths::batch_len;
 use settling::{put_in, take_out};
+use t1_frac::Refusal;
+use t1_source::Source;
 
 /// An entry that edits remove.
 #[derive(Drop)]

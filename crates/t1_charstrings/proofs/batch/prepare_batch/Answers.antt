@@ -1,5 +1,4 @@
-use Rattle.std.proofs.Common.{◌∙◌, sym, arith}
-use Rattle.t1_charstrings.specs.Lengths.{IsPrivateLen}
+use Rattle.std.proofs.Common.{arith}
 use Rattle.t1_charstrings.proofs.Batches.{batch_settled}
 use Rattle.t1_charstrings.proofs.batch.prepare_batch.Goals as goal
 

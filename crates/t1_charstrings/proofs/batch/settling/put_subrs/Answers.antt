@@ -1,4 +1,4 @@
-use Rattle.std.proofs.Common.{◌∙◌, arith, sym, length}
+use Rattle.std.proofs.Common.{◌∙◌, arith, length}
 use Rattle.std.specs.Prelude.{nat_eq}
 use Rattle.t1_run.specs.Run.{Subr}
 use Rattle.t1_charstrings.specs.Entries.{subr_kept}
