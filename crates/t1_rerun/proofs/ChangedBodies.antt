@@ -1,16 +1,19 @@
--- The bodies of records with one of them changed, and what is judged by them.
-use Rattle.std.proofs.Common.{◌≡◌, ℕ, Bool, true, false, List, [], ◌∷◌, map, refl, sym, ◌∙◌, ap, subst, Option, Some, None, Ok, inl, inr, cond}
-use Rattle.std.specs.Option.{option_to_list}
+-- The bodies of records under changes, and what is judged by them.
+use Rattle.std.proofs.Common.{◌≡◌, ◌<◌, ◌+◌, ◌++◌, ℕ, suc, Bool, true, false, List, [], ◌∷◌, add-one, drop, drop-cons, get_or, length, map, take, refl, sym, ◌∙◌, ap, subst, Option, Some, None, Ok, inl, inr, cond}
+use Rattle.std.specs.Borrow.{Bor}
+use Rattle.std.proofs.lemmas.List.{map-append, take_more}
+use Rattle.std.specs.Option.{option_copied, option_or, option_to_list}
 use Rattle.std.specs.List.{AllByRecursion}
+use Rattle.t1_code.specs.declared.command.Command.{Command}
 use Rattle.t1_parts.specs.SourceParts.{SourceParts}
 use Rattle.t1_run.specs.Footprint.{Includes}
 use Rattle.t1_run.specs.Overlay.{changed}
-use Rattle.t1_run.specs.Run.{FontBodies, Key, Subr, Glyph, font}
+use Rattle.t1_run.specs.Run.{FontBodies, Key, Subr, Glyph}
 use Rattle.t1_font.specs.Bodies.{bodies, SameBodies}
 use Rattle.t1_font.specs.SourceChecks.{source_check}
 use Rattle.t1_cache.specs.declared.records.Named.{Named}
 use Rattle.t1_cache.specs.declared.records.Records.{Records}
-use Rattle.t1_cache.specs.Bodies.{glyph_body, subr_body}
+use Rattle.t1_cache.specs.Bodies.{record_bodies}
 use Rattle.t1_cache.specs.Edited.{IsEditedAt}
 use Rattle.t1_cache.specs.Overlay.{body_at}
 use Rattle.t1_cache.specs.Users.{key_eq, key_of}
@@ -18,74 +21,146 @@ use Rattle.t1_cache.proofs.Adding.{key-itself, key-same}
 use Rattle.t1_rerun.specs.declared.renewal.Renewal.{Renewal}
 use Rattle.t1_rerun.specs.declared.settling.EntryChange.{EntryChange}
 use Rattle.t1_rerun.specs.declared.settling.Ready.{Ready}
-use Rattle.t1_rerun.specs.Changing.{glyph_changed, subr_changed, IsChangeOf, IsReadyFor}
+use Rattle.t1_rerun.specs.Changing.{body_changed, AreChangesOf, IsChangeOf, IsReadyFor}
 use Rattle.t1_rerun.specs.Renewals.{IsLater, IsRenewal}
 use Rattle.t1_rerun.specs.Right.{IsEdit}
-use Rattle.t1_rerun.specs.Settled.{changed_keys, AreAsBefore, AreDistinctKeys, IsJudged, IsReady}
+use Rattle.t1_rerun.specs.Settled.{changed_keys, AreAsBefore, AreDistinctKeys, HasBody, IsJudged, IsReady}
 use Rattle.t1_rerun.proofs.Preparing.{judged-again}
+use Rattle.t1_rerun.proofs.Reordering.{has-its-body}
 use Rattle.t1_rerun.proofs.Single.{one-last}
 
--- the bodies of records, with one of them changed
-abbrev pub changed_bodies : Option EntryChange → Records → FontBodies
-changed_bodies change records =
-    font (λ n. changed (subr_changed change n) (subr_body records.subrs.entries n)) (λ g. changed (glyph_changed change g) (glyph_body records.glyphs.entries g))
+-- ---- what changes do at a key
 
-not-included : (k key : Key) → key_eq k key ≡ false → Includes (key ∷ []) k → ⊥
-not-included k key off (inl e) = let never : true ≡ false = sym (key-itself k) ∙ ap (key_eq k) (sym e) ∙ off in absurd (cc)
-not-included k key off (inr i) = i
+-- what is behind a borrow, put behind what there was
+pub copied-last : {X : Type 0} (r : Option (Bor X)) (b : Bool) (x : Bor X) → option_copied (option_or r (cond b (Some x) None)) ≡ option_or (option_copied r) (cond b (Some x.now) None)
+copied-last (Some y) b x = refl
+copied-last None true x = refl
+copied-last None false x = refl
 
-pub alone : (change : Option EntryChange) → AreDistinctKeys (changed_keys (option_to_list change))
-alone None = tt
-alone (Some change) = (refl, tt)
+-- the changes that are left begin with this one
+pub change-first : (xs : List EntryChange) (i : ℕ) (x : EntryChange) → i < length xs → x ≡ get_or xs i x → drop i xs ≡ x ∷ drop (i + 1) xs
+change-first xs i x h e = rw (add-one, drop-cons xs i x) (ap (λ y. y ∷ drop (suc i) xs) (sym e))
 
-module _ (old new : SourceParts) (records : Records) (ordered : List (List ℕ)) where
-  -- they are those of the edited source
-  bodies-are : (change : Option EntryChange) → IsChangeOf change old new records ordered → SameBodies (changed_bodies change records) (bodies new.items)
-  bodies-are None j (Subr n) = j.right.compiled (Subr n) ∙ j.edited.bodies.same (Subr n) (λ i. i)
-  bodies-are None j (Glyph g) = j.right.compiled (Glyph g) ∙ j.edited.bodies.same (Glyph g) (λ i. i)
-  bodies-are (Some x) j (Subr n) = by (key_eq (Subr n) (key_of x.named)) refl where
-    by : (b : Bool) → key_eq (Subr n) (key_of x.named) ≡ b
-        → changed (cond b (Some x.body) None) (subr_body records.subrs.entries n) ≡ body_at (bodies new.items) (Subr n)
-    by true on = sym (ap (body_at (bodies new.items)) (key-same (Subr n) (key_of x.named) on) ∙ j.bodies.0)
-    by false off = j.right.compiled (Subr n) ∙ j.edited.bodies.same (Subr n) (not-included (Subr n) (key_of x.named) off)
-  bodies-are (Some x) j (Glyph g) = by (key_eq (Glyph g) (key_of x.named)) refl where
-    by : (b : Bool) → key_eq (Glyph g) (key_of x.named) ≡ b
-        → changed (cond b (Some x.body) None) (glyph_body records.glyphs.entries g) ≡ body_at (bodies new.items) (Glyph g)
-    by true on = sym (ap (body_at (bodies new.items)) (key-same (Glyph g) (key_of x.named) on) ∙ j.bodies.0)
-    by false off = j.right.compiled (Glyph g) ∙ j.edited.bodies.same (Glyph g) (not-included (Glyph g) (key_of x.named) off)
+-- the first of the changes, or else one behind it
+pub changed-first : (c : EntryChange) (changes : List EntryChange) (k : Key) → body_changed (c ∷ changes) k ≡ option_or (body_changed (c ∷ []) k) (body_changed changes k)
+changed-first c changes k = by (key_eq k (key_of c.named)) where
+  by : (b : Bool) → cond b (Some c.body) (body_changed changes k) ≡ option_or (cond b (Some c.body) None) (body_changed changes k)
+  by true = refl
+  by false = refl
 
-  module _ (change : Option EntryChange) (j : IsChangeOf change old new records ordered) (edits : List Named) (keys : map key_of edits ≡ changed_keys (option_to_list change)) where
-    pub is-edit : IsEdit edits old new records (changed_bodies change records) ordered
+-- the keys of one more change
+pub keys-more : (xs : List EntryChange) (i : ℕ) (x : EntryChange) → i < length xs → x ≡ get_or xs i x
+    → changed_keys (take (i + 1) xs) ≡ changed_keys (take i xs) ++ key_of x.named ∷ []
+keys-more xs i x far is =
+    ap changed_keys (take_more xs i x far) ∙ map-append (λ c. key_of c.named) (take i xs) (get_or xs i x ∷ [])
+    ∙ ap (λ c. changed_keys (take i xs) ++ key_of c.named ∷ []) (sym is)
+
+-- the edited source has what is set
+set-is : (new : SourceParts) (changes : List EntryChange) (k : Key) (body : Option (List Command)) → AllByRecursion (HasBody new) changes
+    → body_changed changes k ≡ Some body → body_at (bodies new.items) k ≡ body
+set-is new [] k body all e = absurd (cc)
+set-is new (c ∷ changes) k body all e = by (key_eq k (key_of c.named)) refl e (set-is new changes k body all.1) where
+  by : (b : Bool) → key_eq k (key_of c.named) ≡ b → cond b (Some c.body) (body_changed changes k) ≡ Some body
+      → (body_changed changes k ≡ Some body → body_at (bodies new.items) k ≡ body) → body_at (bodies new.items) k ≡ body
+  by true on e others =
+      let is : c.body ≡ body = cc in
+      ap (body_at (bodies new.items)) (key-same k (key_of c.named) on) ∙ all.0 ∙ is
+  by false off e others = others e
+
+-- a key where nothing is set isn't named
+unset-unnamed : (changes : List EntryChange) (k : Key) → body_changed changes k ≡ None → Includes (changed_keys changes) k → ⊥
+unset-unnamed [] k e i = i
+unset-unnamed (c ∷ changes) k e i = by (key_eq k (key_of c.named)) refl e i (unset-unnamed changes k) where
+  by : (b : Bool) → key_eq k (key_of c.named) ≡ b → cond b (Some c.body) (body_changed changes k) ≡ None → Includes (key_of c.named ∷ changed_keys changes) k
+      → (body_changed changes k ≡ None → Includes (changed_keys changes) k → ⊥) → ⊥
+  by true on e i others = absurd (cc)
+  by false off e (inl is) others = let never : true ≡ false = sym (key-itself k) ∙ ap (key_eq k) (sym is) ∙ off in absurd (cc)
+  by false off e (inr i) others = others e i
+
+-- ---- changes of entries
+
+same-at : (m n : FontBodies) → ((k : Key) → body_at m k ≡ body_at n k) → SameBodies m n
+same-at m n same (Subr k) = same (Subr k)
+same-at m n same (Glyph g) = same (Glyph g)
+
+at-same : (m n : FontBodies) (k : Key) → SameBodies m n → body_at m k ≡ body_at n k
+at-same m n (Subr k) same = same (Subr k)
+at-same m n (Glyph g) same = same (Glyph g)
+
+module _ (changes : List EntryChange) (old new : SourceParts) (records : Records) (ordered : List (List ℕ)) (j : AreChangesOf changes old new records ordered) where
+  kept-there : (k : Key) → (Includes (changed_keys changes) k → ⊥) → body_at (bodies old.items) k ≡ body_at (bodies new.items) k
+  kept-there (Subr n) out = j.edited.bodies.same (Subr n) out
+  kept-there (Glyph g) out = j.edited.bodies.same (Glyph g) out
+
+  -- the records' bodies under the changes are those of the edited source
+  edited-there : (k : Key) → changed (body_changed changes k) (body_at (record_bodies records) k) ≡ body_at (bodies new.items) k
+  edited-there k = by (body_changed changes k) refl where
+    by : (r : Option (Option (List Command))) → body_changed changes k ≡ r → changed r (body_at (record_bodies records) k) ≡ body_at (bodies new.items) k
+    by (Some body) e = sym (set-is new changes k body j.bodies e)
+    by None e = at-same (record_bodies records) (bodies old.items) k j.right.compiled ∙ kept-there k (unset-unnamed changes k e)
+
+  module _ (edits : List Named) (keys : map key_of edits ≡ changed_keys changes) (m : FontBodies)
+      (are : (k : Key) → body_at m k ≡ changed (body_changed changes k) (body_at (record_bodies records) k)) where
+    pub is-edit : IsEdit edits old new records m ordered
     is-edit = record {
       right = j.right;
       edited = subst (λ keys. IsEditedAt keys old new) (sym keys) j.edited;
       file = j.file;
-      bodies = bodies-are change j;
+      bodies = same-at m (bodies new.items) (λ k. are k ∙ edited-there k);
       names = j.names;
       distinct = j.distinct;
     }
 
-    pub is-judged : source_check new ≡ Ok tt → (renewal : Renewal) → IsRenewal (map key_of edits) old new renewal
-        → IsJudged (option_to_list change) old new records renewal
-    is-judged faultless renewal renewed = record {
-      right = j.right;
-      edited = j.edited;
-      keys = alone change;
-      bodies = j.bodies;
-      faultless = faultless;
-      distinct = j.distinct;
-      order = j.order;
-      last = one-last change old new _ j.right.kept faultless j.edited j.bodies j.distinct j.unmoved;
-      renewed = subst (λ keys. IsRenewal keys old new renewal) keys renewed;
-    }
+  is-judged : source_check new ≡ Ok tt → (renewal : Renewal) → IsRenewal (changed_keys changes) old new renewal → IsJudged changes old new records renewal
+  is-judged faultless renewal renewed = record {
+    right = j.right;
+    edited = j.edited;
+    keys = j.keys;
+    bodies = j.bodies;
+    faultless = faultless;
+    distinct = j.distinct;
+    order = j.order;
+    last = j.last;
+    renewed = renewed;
+  }
 
-    -- and what was prepared for it is so of records that are as before
-    pub is-ready : source_check new ≡ Ok tt → (renewal : Renewal) → IsRenewal (map key_of edits) old new renewal
-        → (count : ℕ) → AllByRecursion (IsLater count) renewal.reruns.items → (mid : Records) → AreAsBefore records mid
-        → (ready : Ready) → IsReady (option_to_list change) renewal mid ready → IsReadyFor count change old new mid ready
-    is-ready faultless renewal renewed count later mid same ready prepared = record {
-      renewal = renewal;
-      prepared = prepared;
-      judged = judged-again (option_to_list change) old new records mid renewal same (is-judged faultless renewal renewed);
-      later = later;
-    }
+  -- and what was prepared for them is so of records that are as before
+  pub is-ready : source_check new ≡ Ok tt → (renewal : Renewal) → IsRenewal (changed_keys changes) old new renewal
+      → (count : ℕ) → AllByRecursion (IsLater count) renewal.reruns.items → (mid : Records) → AreAsBefore records mid
+      → (ready : Ready) → IsReady changes renewal mid ready → IsReadyFor count changes old new mid ready
+  is-ready faultless renewal renewed count later mid same ready prepared = record {
+    renewal = renewal;
+    prepared = prepared;
+    judged = judged-again changes old new records mid renewal same (is-judged faultless renewal renewed);
+    later = later;
+  }
+
+-- the same changes, lent
+pub as-lent : (lent changes : List EntryChange) (old new : SourceParts) (records : Records) (ordered : List (List ℕ)) → lent ≡ changes
+    → AreChangesOf changes old new records ordered → AreChangesOf lent old new records ordered
+as-lent lent changes old new records ordered is j = subst (λ l. AreChangesOf l old new records ordered) (sym is) j
+
+-- ---- a change of one entry, or of none
+
+alone : (change : Option EntryChange) → AreDistinctKeys (changed_keys (option_to_list change))
+alone None = tt
+alone (Some change) = (refl, tt)
+
+are-changes : (change : Option EntryChange) (old new : SourceParts) (records : Records) (ordered : List (List ℕ)) → IsChangeOf change old new records ordered
+    → AreChangesOf (option_to_list change) old new records ordered
+are-changes change old new records ordered j = record {
+  right = j.right;
+  edited = j.edited;
+  keys = alone change;
+  bodies = j.bodies;
+  file = j.file;
+  distinct = j.distinct;
+  order = j.order;
+  last = one-last change old new _ j.right.kept (has-its-body new j.file) j.edited j.bodies j.distinct j.unmoved;
+  names = j.names;
+}
+
+pub as-list : (changes : List EntryChange) (change : Option EntryChange) (old new : SourceParts) (records : Records) (ordered : List (List ℕ)) → changes ≡ option_to_list change
+    → IsChangeOf change old new records ordered → AreChangesOf changes old new records ordered
+as-list changes change old new records ordered is j =
+    subst (λ l. AreChangesOf l old new records ordered) (sym is) (are-changes change old new records ordered j)

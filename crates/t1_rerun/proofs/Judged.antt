@@ -32,6 +32,7 @@ use Rattle.t1_rerun.specs.Renewing.{entry_key, renewing_runs, IsChangeIn, IsEdit
 use Rattle.t1_rerun.specs.Right.{IsEdit, IsRight}
 use Rattle.t1_rerun.specs.Settled.{changed_keys, was_moved, AreAsBefore, AreDistinctKeys, HasBody, IsJudged, IsRenewedBy}
 use Rattle.t1_rerun.proofs.Entries.{edited-order, key-named}
+use Rattle.t1_rerun.proofs.Settled.{has-body, told-of}
 use Rattle.t1_rerun.proofs.Single.{one-last, one-order}
 
 same-trans : (a b c : FontBodies) → SameBodies a b → SameBodies b c → SameBodies a c
@@ -118,7 +119,7 @@ module _ (records : Records) (edit : Edit) (new : SourceParts) (e : IsEdited rec
         faultless = faultless;
         distinct = distinct;
         order = one-order (option_to_list change) e.old new (change-unmoved m entry change h) (edited-order e.old e.pairs edit new e.made_pairs e.well e.well_made e.made);
-        last = one-last change e.old new _ e.right.kept faultless edited (change-bodies m same entry change h) distinct (change-unmoved m entry change h);
+        last = one-last change e.old new _ e.right.kept (has-body new (told-of new faultless).0 (told-of new faultless).1) edited (change-bodies m same entry change h) distinct (change-unmoved m entry change h);
         renewed = subst (λ keys. IsRenewal keys e.old new renewal) (sym (change-keys m entry change h)) renewed;
       }
 

@@ -15,14 +15,14 @@ use Rattle.t1_code.specs.declared.command.Command.{Command}
 use Rattle.t1_parts.specs.SourceParts.{SourceParts}
 use Rattle.t1_run.specs.declared.outline.Segment.{Segment}
 use Rattle.t1_run.specs.Composite.{outline_within}
-use Rattle.t1_run.specs.Run.{FontBodies, Key, Glyph, Drawing, own}
+use Rattle.t1_run.specs.Run.{FontBodies, Key, Subr, Glyph, Drawing, own}
 use Rattle.t1_run.specs.Touched.{is_user}
 use Rattle.t1_afm.specs.declared.bbox.BBox.{BBox}
 use Rattle.t1_afm.specs.Box.{drawn_box}
 use Rattle.t1_font.specs.declared.glyph_metrics.GlyphMetrics.{GlyphMetrics}
 use Rattle.t1_font.specs.Assembly.{file_check}
-use Rattle.t1_font.specs.Bodies.{bodies, bodies_check}
-use Rattle.t1_font.specs.Glyphs.{Glyph as Told, glyph_of, glyphs_by}
+use Rattle.t1_font.specs.Bodies.{bodies, bodies_check, SameBodies}
+use Rattle.t1_font.specs.Glyphs.{Glyph as Told, glyph_names, glyph_of, glyphs_by}
 use Rattle.t1_font.specs.MeasuredGlyphs.{glyph_metrics, glyph_metrics_among}
 use Rattle.t1_font.specs.Runs.{Kept as KeptRun, kept_of as run_of, own_among}
 use Rattle.t1_font.specs.SourceChecks.{source_check}
@@ -41,7 +41,7 @@ use Rattle.t1_cache.proofs.Putting.{bytes_tell}
 use Rattle.t1_rerun.specs.declared.renewal.Renewal.{Renewal}
 use Rattle.t1_rerun.specs.Newest.{judged_in, newest_among, FirstIn}
 use Rattle.t1_rerun.specs.Renewals.{rerun_names, HasBox, IsMeasured, IsRenewal, IsRerun}
-use Rattle.t1_rerun.specs.Right.{IsEdit}
+use Rattle.t1_rerun.specs.Right.{has_glyph, IsEdit}
 use Rattle.t1_rerun.proofs.Gathering.{box-measured, measured-all, measured-names}
 use Rattle.t1_rerun.proofs.Meeting.{all-among, among-off, among-passing, glyph-among, same-function}
 use Rattle.t1_rerun.proofs.Reaching.{all-some, has-names, is-faultless, is-refused, is-renewal, stale-names}
@@ -249,6 +249,31 @@ bodies-fine s file = by (bodies_check s.items) refl where
 lent : (names : List (List ℕ)) → (lent_names : List (Bor (List ℕ))) × (map (λ name. name.now) lent_names ≡ names)
 lent [] = ([], refl)
 lent (g ∷ names) = let rest = lent names in (record { ref_ptr = (0, 0); now = g } ∷ rest.0, ap (λ l. g ∷ l) rest.1)
+
+-- a source whose file has no fault has the glyphs that have a body
+module _ (s : SourceParts) (file : file_check s ≡ Ok tt) where
+  abbrev its-bodies : FontBodies
+  its-bodies = bodies s.items
+
+  same-as-itself : SameBodies its-bodies its-bodies
+  same-as-itself (Subr n) = refl
+  same-as-itself (Glyph g) = refl
+
+  have-bodies : AllByRecursion (λ g. (b : List Command) × (its-bodies.glyphs g ≡ Some b)) (glyph_names s.items)
+  have-bodies =
+      let names = lent (glyph_names s.items) in
+      subst (AllByRecursion (λ g. (b : List Command) × (its-bodies.glyphs g ≡ Some b))) names.1
+      (all-some its-bodies.glyphs names.0 (names-there its-bodies s.items names.0 tt (bodies-fine s file) same-as-itself names.1))
+
+  pub has-its-body : (g : List ℕ) → has_glyph s g ≡ is_some (its-bodies.glyphs g)
+  has-its-body g = by (its-bodies.glyphs g) refl (has_glyph s g) refl where
+    by : (o : Option (List Command)) → its-bodies.glyphs g ≡ o → (t : Bool) → has_glyph s g ≡ t → t ≡ is_some o
+    by (Some b) is t h = sym h ∙ glyph-among s.items g b is
+    by None is false h = refl
+    by None is true h =
+        let there = all-at (λ x. (b : List Command) × (its-bodies.glyphs x ≡ Some b)) (glyph_names s.items) have-bodies g h in
+        let never : ◌≡◌ {A = Option (List Command)} None (Some there.0) = sym is ∙ there.1 in
+        absurd (cc)
 
 module _ (edits : List Named) (old new : SourceParts) (records : Records) (m : FontBodies) (names : List (List ℕ)) (e : IsEdit edits old new records m names)
     (found : List ℕ → Bool) (reached : AreStale (bodies old.items) (map key_of edits) found)

@@ -12,7 +12,6 @@ use Rattle.t1_run.specs.Run.{Glyph}
 use Rattle.t1_run.specs.Touched.{is_key_of}
 use Rattle.t1_font.specs.Bodies.{bodies}
 use Rattle.t1_font.specs.Glyphs.{glyph_names}
-use Rattle.t1_font.specs.SourceChecks.{source_check}
 use Rattle.t1_cache.specs.declared.records.Named.{Named}
 use Rattle.t1_cache.specs.declared.records.Named.TheVariants as named
 use Rattle.t1_cache.specs.Edited.{IsEditedAt}
@@ -27,7 +26,7 @@ use Rattle.t1_rerun.specs.Right.{has_glyph, IsInOrder}
 use Rattle.t1_rerun.specs.Settled.{changed_keys, last_glyph, last_glyphs, was_moved, HasBody}
 use Rattle.t1_rerun.proofs.Changes.{filter-as}
 use Rattle.t1_rerun.proofs.Entries.{IsInOrderAlone}
-use Rattle.t1_rerun.proofs.Settled.{has-body, told-of}
+use Rattle.t1_rerun.proofs.Settled.{has-body}
 
 -- ---- lists
 
@@ -76,12 +75,10 @@ one-order changes old new none order =
     others : (g : List ℕ) → not (has_glyph old g) ≡ (was_moved changes g || not (has_glyph old g))
     others g = ap (λ b. b || not (has_glyph old g)) (sym (none g))
 
-module _ (old new : SourceParts) (keeps : (ks : List Kept) × KeepsAll old ks) (fine : source_check new ≡ Ok tt) (distinct : AreDistinct (glyph_names new.items)) where
+module _ (old new : SourceParts) (keeps : (ks : List Kept) × KeepsAll old ks) (new-has : (g : List ℕ) → has_glyph new g ≡ is_some ((bodies new.items).glyphs g))
+    (distinct : AreDistinct (glyph_names new.items)) where
   old-has : (g : List ℕ) → has_glyph old g ≡ is_some ((bodies old.items).glyphs g)
   old-has = has-body old keeps.1.glyphs keeps.1.faultless
-
-  new-has : (g : List ℕ) → has_glyph new g ≡ is_some ((bodies new.items).glyphs g)
-  new-has = has-body new (told-of new fine).0 (told-of new fine).1
 
   not-in : (d : Named) (g : List ℕ) → is_key_of g (key_of d) ≡ false → Includes (key_of d ∷ []) (Glyph g) → ⊥
   not-in d g off (inl e) = let never : true ≡ false = sym (bytes_tell.itself g) ∙ ap (is_key_of g) (sym e) ∙ off in absurd (cc)
@@ -157,13 +154,13 @@ last-glyph-unmoved old true (Some body) (named.Subr n) none = refl
 last-glyph-unmoved old true (Some body) (named.Glyph g) none =
     let never : true ≡ false = ap (λ b. b || false) (sym (bytes_tell.itself g)) ∙ none g in absurd (cc)
 
-pub one-last : (change : Option EntryChange) (old new : SourceParts) (ks : List Kept) → KeepsAll old ks → source_check new ≡ Ok tt
+pub one-last : (change : Option EntryChange) (old new : SourceParts) (ks : List Kept) → KeepsAll old ks → ((g : List ℕ) → has_glyph new g ≡ is_some ((bodies new.items).glyphs g))
     → IsEditedAt (changed_keys (option_to_list change)) old new → AllByRecursion (HasBody new) (option_to_list change) → AreDistinct (glyph_names new.items)
     → ((g : List ℕ) → was_moved (option_to_list change) g ≡ false)
     → filter (λ g. was_moved (option_to_list change) g || not (has_glyph old g)) (glyph_names new.items) ≡ last_glyphs old (option_to_list change)
-one-last None old new ks keeps fine edit has distinct none = last-none old new (ks, keeps) fine distinct edit
-one-last (Some c) old new ks keeps fine edit has distinct none =
+one-last None old new ks keeps new-has edit has distinct none = last-none old new (ks, keeps) new-has distinct edit
+one-last (Some c) old new ks keeps new-has edit has distinct none =
     ap (λ p. filter p (glyph_names new.items)) (λ j. λ g. (none g j) || not (has_glyph old g))
-    ∙ last-one old new (ks, keeps) fine distinct c.named c.body edit has.0
+    ∙ last-one old new (ks, keeps) new-has distinct c.named c.body edit has.0
     ∙ last-glyph-unmoved old c.moved c.body c.named none
     ∙ sym (append-nil (last_glyph old c.moved c.body c.named))

@@ -1,7 +1,7 @@
-//! Records brought to those of a source that is edited at one entry.
-ghost use Rattle.std.specs.Prelude.{◌≡◌, ℕ, IfOk, Option, OnErr, OnOk, length, map};
+//! Records brought to those of a source that is edited at some entries.
+ghost use Rattle.std.specs.Prelude.{◌≡◌, ℕ, IfOk, List, Option, OnErr, OnOk, length, map};
 ghost use Rattle.std.specs.List.{AllByRecursion};
-ghost use Rattle.std.specs.Option.{option_copied, option_to_list};
+ghost use Rattle.std.specs.Option.{option_to_list};
 ghost use Rattle.t1_frac.specs.Outcome.{Gives};
 ghost use Rattle.t1_parts.specs.SourceParts.{SourceParts};
 ghost use Rattle.t1_font.specs.Runs.{Counts};
@@ -9,87 +9,84 @@ ghost use Rattle.t1_font.specs.SourceChecks.{source_check};
 ghost use Rattle.t1_cache.specs.Edited.{stale};
 ghost use Rattle.t1_cache.specs.Renewed.{kept_of};
 ghost use Rattle.t1_cache.specs.Users.{key_of};
-ghost use Rattle.t1_rerun.specs.Changing.{glyph_changed, subr_changed, IsChangeOf, IsPrepared, IsReadyFor, MayBeRenewed};
+ghost use Rattle.t1_rerun.specs.Changing.{AreChangesOf, IsChangeOf, IsPrepared, IsReadyFor, MayBePrepared, MayBeRenewed};
+ghost use Rattle.t1_rerun.specs.Renewals.{IsLater, IsRenewal};
 ghost use Rattle.t1_rerun.specs.Renewing.{IsRunWhereStale};
 ghost use Rattle.t1_rerun.specs.Right.{IsRight};
 ghost use Rattle.t1_rerun.specs.Settled.{changed_keys, AreAsBefore};
 
+use crate::bodies::edited_bodies;
 use crate::judging::rerun;
 use crate::order::GlyphOrder;
+use crate::renewal::Renewal;
 use crate::settling::{EntryChange, Ready, changes_of, make_ready, settle};
-use std::alloc::Global;
-use std::slice;
+use std::alloc::{AllocError, Global};
 use t1_cache::{Named, Records};
-use t1_code::Body;
-use t1_frac::Refusal;
-use t1_run::{Bodies, Meter};
+use t1_frac::{Bytes, Refusal};
+use t1_run::Meter;
 
-/// The bodies of records, with one of them changed.
-#[derive(Drop)]
-pub struct Changing<'a> {
-    pub records: &'a Records,
-    pub change: &'a Option<EntryChange>,
-}
-
-/// The body that a change gives a Subr, where it names it.
-fn subr_in(change: &Option<EntryChange>, n: u16) -> Option<&Option<Body>>
-    ensures { option_copied result ≡ subr_changed change.now n }
+/// A copy of a Subr's number or of a glyph's name.
+fn copied(alloc: Global, named: &Named) -> Result<Named, AllocError>
+    ensures { IfOk result (λ copy. key_of copy ≡ key_of named.now) }
 {
-    let EntryChange { named, body, .. } = change.as_ref()?;
     match named {
-        Named::Subr(number) if *number == n => Some(body),
-        _ => None,
+        Named::Subr(number) => Ok(Named::Subr(*number)),
+        Named::Glyph(name) => Ok(Named::Glyph(Bytes::copied(alloc, name.as_slice())?)),
     }
 }
 
-/// The body that a change gives a glyph, where it names it.
-fn glyph_in<'a>(change: &'a Option<EntryChange>, name: &[u8]) -> Option<&'a Option<Body>>
-    ensures { option_copied result ≡ glyph_changed change.now name.now }
+/// The entries that changes name, in their order.
+fn named_in(alloc: Global, changes: &[EntryChange]) -> Result<Vec<Named>, AllocError>
+    ensures { IfOk result (λ named. map key_of named.items ≡ changed_keys changes.now) }
 {
-    let EntryChange { named, body, .. } = change.as_ref()?;
-    match named {
-        Named::Glyph(glyph) if glyph.as_slice() == name => Some(body),
-        _ => None,
+    let mut named = Vec::new(alloc);
+    for change in changes {
+        named.push(copied(alloc, &change.named)?)?;
     }
+    Ok(named)
 }
 
-impl<'a> Bodies for Changing<'a> {
-    ghost use Rattle.t1_run.specs.Overlay.{changed};
-    ghost use Rattle.t1_cache.specs.Bodies.{glyph_body, subr_body};
-    ghost use Rattle.t1_rerun.specs.Changing.{glyph_changed, subr_changed};
-
-    ghost subrs = { λ c n. changed (subr_changed c.change.now n) (subr_body c.records.now.subrs.entries n) };
-
-    ghost glyphs = { λ c name. changed (glyph_changed c.change.now name) (glyph_body c.records.now.glyphs.entries name) };
-
-    fn subr(&self, n: u16) -> Option<&Body> {
-        match subr_in(self.change, n) {
-            None => self.records.subr(n),
-            Some(body) => body.as_ref(),
-        }
-    }
-
-    fn glyph(&self, name: &[u8]) -> Option<&Body> {
-        match glyph_in(self.change, name) {
-            None => self.records.glyph(name),
-            Some(body) => body.as_ref(),
-        }
-    }
-}
-
-/// The entry of a change as a slice.
-fn entry_of(change: &Option<EntryChange>) -> &[Named]
-    ensures { map key_of result.now ≡ changed_keys (option_to_list change.now) }
+/// Runs the glyphs that changes make stale, each once, by the bodies of the records under the changes: what is new of the
+/// edited font, or its first fault.
+fn rerun_changed<O: GlyphOrder>(
+    alloc: Global,
+    records: &Records,
+    changes: &[EntryChange],
+    order: &O,
+    meter: &mut Meter,
+) -> Result<Renewal, Refusal>
+    ensures checked { (old new : SourceParts) → AreChangesOf changes.now old new records.now (O.ordered order.now) → Gives (λ _. tt) result (source_check new) }
+    ensures renewal { (old new : SourceParts) → AreChangesOf changes.now old new records.now (O.ordered order.now) → IfOk result (IsRenewal (changed_keys changes.now) old new) }
+    ensures later { IfOk result (λ renewal. AllByRecursion (IsLater meter.old) renewal.reruns.items) }
+    ensures counted { (old new : SourceParts) → AreChangesOf changes.now old new records.now (O.ordered order.now) → Counts (length (stale old (changed_keys changes.now) new)) meter.old meter.new result }
 {
-    match change {
-        None => &[],
-        Some(change) => slice::from_ref(&change.named),
-    }
+    let named = named_in(alloc, changes)?;
+    let bodies = edited_bodies(alloc, records, changes)?;
+    rerun(alloc, records, &bodies, order, &named, meter)
 }
 
-/// Runs the glyphs that a change of one entry makes stale, each once, and makes all growths that the change of the records
-/// takes; or answers the first fault of one of the edited source's glyphs, in their order, which is asked for only then. The
-/// records stay as they are, at a refusal too.
+/// Runs the glyphs that changes of entries make stale, each once, and makes all growths that the changes of the records take;
+/// or answers the first fault of one of the edited source's glyphs, in their order, which is asked for only then. The records
+/// stay as they are, at a refusal too.
+pub fn prepare_changes<O: GlyphOrder>(
+    alloc: Global,
+    records: &mut Records,
+    changes: Vec<EntryChange>,
+    order: &O,
+    meter: &mut Meter,
+) -> Result<Ready, Refusal>
+    requires { MayBePrepared changes.items records.old (O.ordered order.now) }
+    ensures checked { (old new : SourceParts) → AreChangesOf changes.items old new records.old (O.ordered order.now) → Gives (λ _. tt) result (source_check new) }
+    ensures ready { (old new : SourceParts) → AreChangesOf changes.items old new records.old (O.ordered order.now) → IfOk result (IsReadyFor meter.old changes.items old new records.new) }
+    ensures counted { (old new : SourceParts) → AreChangesOf changes.items old new records.old (O.ordered order.now) → Counts (length (stale old (changed_keys changes.items) new)) meter.old meter.new result }
+    ensures same { AreAsBefore records.old records.new }
+{
+    let renewal = rerun_changed(alloc, records, &changes, order, meter)?;
+    let ready = make_ready(alloc, records, changes, renewal)?;
+    Ok(ready)
+}
+
+/// The same for a change of one entry or of none.
 pub fn prepare_change<O: GlyphOrder>(
     alloc: Global,
     records: &mut Records,
@@ -99,26 +96,20 @@ pub fn prepare_change<O: GlyphOrder>(
 ) -> Result<Ready, Refusal>
     requires { MayBeRenewed change records.old (O.ordered order.now) }
     ensures checked { (old new : SourceParts) → IsChangeOf change old new records.old (O.ordered order.now) → Gives (λ _. tt) result (source_check new) }
-    ensures ready { (old new : SourceParts) → IsChangeOf change old new records.old (O.ordered order.now) → IfOk result (IsReadyFor meter.old change old new records.new) }
+    ensures ready { (old new : SourceParts) → IsChangeOf change old new records.old (O.ordered order.now) → IfOk result (IsReadyFor meter.old (option_to_list change) old new records.new) }
     ensures counted { (old new : SourceParts) → IsChangeOf change old new records.old (O.ordered order.now) → Counts (length (stale old (changed_keys (option_to_list change)) new)) meter.old meter.new result }
     ensures same { AreAsBefore records.old records.new }
 {
-    let bodies = Changing {
-        records,
-        change: &change,
-    };
-    let renewal = rerun(alloc, records, &bodies, order, entry_of(&change), meter)?;
     let changes = changes_of(alloc, change)?;
-    let ready = make_ready(alloc, records, changes, renewal)?;
-    Ok(ready)
+    prepare_changes(alloc, records, changes, order, meter)
 }
 
-/// Brings the records of a source to those of the edited one, by what was prepared for its change. It takes no memory and
+/// Brings the records of a source to those of the edited one, by what was prepared for its changes. It takes no memory and
 /// can't fail.
 pub fn settle_ready(records: &mut Records, ready: Ready)
     requires { IsPrepared records.old ready }
-    ensures right { (count : ℕ) (change : Option EntryChange) (old new : SourceParts) → IsReadyFor count change old new records.old ready → IsRight new records.new }
-    ensures renews { (count : ℕ) (change : Option EntryChange) (old new : SourceParts) → IsReadyFor count change old new records.old ready → AllByRecursion (IsRunWhereStale count (changed_keys (option_to_list change)) old (map kept_of records.old.glyphs.entries)) (map kept_of records.new.glyphs.entries) }
+    ensures right { (count : ℕ) (changes : List EntryChange) (old new : SourceParts) → IsReadyFor count changes old new records.old ready → IsRight new records.new }
+    ensures renews { (count : ℕ) (changes : List EntryChange) (old new : SourceParts) → IsReadyFor count changes old new records.old ready → AllByRecursion (IsRunWhereStale count (changed_keys changes) old (map kept_of records.old.glyphs.entries)) (map kept_of records.new.glyphs.entries) }
 {
     settle(records, ready);
 }

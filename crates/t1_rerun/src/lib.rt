@@ -6,10 +6,12 @@
 //! metrics of the font by them.
 //!
 //! [`change_of_edit`] gives the one entry that an edit changes, and [`renew_change`] brings the records there without a pass
-//! over the font: the bodies are those of the records with the one [`Changing`], and the order of the glyphs is asked for
-//! ([`GlyphOrder`], as of [`Prepared`]) only where one has a fault.
+//! over the font: the bodies are those of the records under the change ([`EditedBodies`]), and the order of the glyphs is asked
+//! for ([`GlyphOrder`], as of [`Prepared`]) only where one has a fault. [`prepare_changes`] and [`settle_ready`] are its two
+//! steps, for any number of changes of as many entries.
 #![tactic(auto)]
 
+mod bodies;
 mod changing;
 mod edit_change;
 mod judging;
@@ -24,7 +26,8 @@ mod reruns;
 mod settling;
 mod stale;
 
-pub use changing::{Changing, prepare_change, renew_change, settle_ready};
+pub use bodies::{EditedBodies, edited_bodies};
+pub use changing::{prepare_change, prepare_changes, renew_change, settle_ready};
 pub use edit_change::change_of_edit;
 pub use judging::rerun;
 pub use measured::measured_records;

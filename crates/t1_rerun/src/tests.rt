@@ -6,7 +6,7 @@ use t1_afm::BBox;
 use t1_cache::{Named, Names, Records};
 use t1_frac::{Bytes, Fault, Place, Refusal};
 use t1_run::Meter;
-use t1_source::{Change, Edit, read_pairs, read_source};
+use t1_source::{Change, Edit, Source, read_pairs, read_source};
 
 /// Three glyphs of the demo font: acute enters Subr 4, and Aacute is composed of A and acute.
 const THREE: &str = "\
@@ -40,6 +40,11 @@ const THREE: &str = "\
     end\n\
     mark currentfile closefile\n";
 
+/// The source of the three glyphs.
+pub(crate) fn three_source(alloc: Global) -> Result<Source, Fail> {
+    Ok(read_source(alloc, THREE.as_bytes())?)
+}
+
 /// The records of the three glyphs, in the order Aacute, A, acute.
 pub(crate) fn three(alloc: Global, meter: &mut Meter) -> Result<Records, Fail> {
     let source = read_source(alloc, THREE.as_bytes())?;
@@ -64,7 +69,7 @@ fn has(records: &Records, name: &str, bbox: BBox, users: &[&str]) -> bool {
 }
 
 /// The box with these sides.
-fn sides(left: i32, bottom: i32, right: i32, top: i32) -> BBox {
+pub(crate) fn sides(left: i32, bottom: i32, right: i32, top: i32) -> BBox {
     BBox {
         left,
         bottom,

@@ -1,10 +1,16 @@
 //! Records of a Subr and of three glyphs, with memory that doesn't run out.
-ghost use Rattle.std.specs.Prelude.{◌≡◌, []};
+ghost use Rattle.std.specs.Prelude.{◌≡◌, [], IfOk};
+ghost use Rattle.t1_run.specs.Run.{Glyph};
+ghost use Rattle.t1_cache.specs.Users.{key_of};
+ghost use Rattle.t1_rerun.specs.Settled.{changed_keys, AreDistinctKeys};
 
 use super::*;
-use crate::tests::three;
+use crate::bodies::edited_bodies;
+use crate::judging::rerun as rerun_edited;
+use crate::tests::{sides, three, three_source};
 use indexmap::{IndexMap, IndexSet};
 use std::test::Fail;
+use t1_afm::BBox;
 use t1_cache::{Rerun, SubrRecord};
 use t1_code::compile;
 use t1_frac::{Bytes, Words};
@@ -145,5 +151,112 @@ fn moves_a_glyph_that_was_added_again_behind_the_others(rt: HostRuntime) -> Resu
     assert!(rt;
         records.glyphs.len() == 3 && stands(&records, 1, "acute") && stands(&records, 2, "A")
     );
+    Ok(())
+}
+
+/// A glyph with a body, behind the others where it moved.
+fn glyph_change(alloc: Global, name: &[u8], words: &str, moved: bool) -> Result<EntryChange, Fail>
+    ensures { IfOk result (λ change. key_of change.named ≡ Glyph name.now) }
+{
+    Ok(EntryChange {
+        named: Named::Glyph(Bytes::copied(alloc, name)?),
+        body: Some(body(alloc, words)?),
+        moved,
+    })
+}
+
+/// Subr 4 rises, A is removed and added again with another width, and B is new.
+fn three_changes(alloc: Global) -> Result<Vec<EntryChange>, Fail>
+    ensures { IfOk result (λ changes. AreDistinctKeys (changed_keys changes.items)) }
+{
+    let subr = EntryChange {
+        named: Named::Subr(4),
+        body: Some(body(alloc, "100 278 rlineto return")?),
+        moved: false,
+    };
+    let a = glyph_change(
+        alloc,
+        b"A",
+        "10 500 hsbw 300 hlineto 700 vlineto closepath endchar",
+        true,
+    )?;
+    let b = glyph_change(
+        alloc,
+        b"B",
+        "0 400 hsbw 200 hlineto 100 vlineto closepath endchar",
+        false,
+    )?;
+    let mut changes = Vec::new(alloc);
+    changes.push(subr)?;
+    changes.push(a)?;
+    changes.push(b)?;
+    Ok(changes)
+}
+
+/// What the three changes make new of the three glyphs.
+fn renewal_of_three(
+    alloc: Global,
+    records: &Records,
+    changes: &[EntryChange],
+    meter: &mut Meter,
+) -> Result<Renewal, Fail> {
+    let source = three_source(alloc)?;
+    let bodies = edited_bodies(alloc, records, changes)?;
+    let named = [
+        Named::Subr(4),
+        Named::Glyph(Bytes::copied(alloc, b"A")?),
+        Named::Glyph(Bytes::copied(alloc, b"B")?),
+    ];
+    Ok(rerun_edited(alloc, records, &bodies, &source, &named, meter)?)
+}
+
+/// The records of the three glyphs after the three changes, and how many runs were counted in all.
+fn change_three(alloc: Global) -> Result<(Records, u64), Fail> {
+    let mut meter = Meter::new();
+    let mut records = three(alloc, &mut meter)?;
+    let changes = three_changes(alloc)?;
+    let renewal = renewal_of_three(alloc, &records, &changes, &mut meter)?;
+    let ready = make_ready(alloc, &mut records, changes, renewal)?;
+    let Ready { steps, runs, .. } = ready;
+    change_all(&mut records, steps);
+    renew_by_name(&mut records.glyphs, runs);
+    Ok((records, meter.count()))
+}
+
+#[test]
+fn runs_each_glyph_that_three_changes_make_stale_once(rt: HostRuntime) -> Result<(), Fail> {
+    let (_, runs) = change_three(rt.alloc())?;
+    assert!(rt; runs == 7);
+    Ok(())
+}
+
+#[test]
+fn settles_three_changes_in_the_order_of_the_font(rt: HostRuntime) -> Result<(), Fail> {
+    let (records, _) = change_three(rt.alloc())?;
+    assert!(rt;
+        records.glyphs.len() == 4
+            && stands(&records, 0, "Aacute")
+            && stands(&records, 1, "acute")
+            && stands(&records, 2, "A")
+            && stands(&records, 3, "B")
+    );
+    Ok(())
+}
+
+/// Whether a glyph has this box.
+fn has_box(records: &Records, name: &str, bbox: BBox) -> bool {
+    match records.glyphs.get(name.as_bytes()) {
+        None => false,
+        Some(record) => record.bbox == Some(bbox),
+    }
+}
+
+#[test]
+fn measures_the_glyphs_that_three_changes_make_stale(rt: HostRuntime) -> Result<(), Fail> {
+    let (records, _) = change_three(rt.alloc())?;
+    let composite = has_box(&records, "Aacute", sides(10, 0, 310, 992));
+    let accent = has_box(&records, "acute", sides(93, 500, 193, 778));
+    let new = has_box(&records, "B", sides(0, 0, 200, 100));
+    assert!(rt; composite && accent && new);
     Ok(())
 }

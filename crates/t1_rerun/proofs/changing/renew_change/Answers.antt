@@ -14,7 +14,7 @@ settle_ready-requires g c =
     let new = c.requires.1.0 in
     record {
       count = c.args.meter.now;
-      change = c.args.change;
+      changes = option_to_list c.args.change;
       old = old;
       new = new;
       prepared = c.in_ok-ready.ensures.ready old new c.requires.1.1;
@@ -26,10 +26,10 @@ returns-in_err-ready-clause-refused g c =
 
 pub returns-clause-right : goal.returns-clause-right
 returns-clause-right g c = λ old new e.
-    c.settle_ready.ensures.right c.args.meter.now c.args.change old new (c.in_ok-ready.ensures.ready old new e)
+    c.settle_ready.ensures.right c.args.meter.now (option_to_list c.args.change) old new (c.in_ok-ready.ensures.ready old new e)
 
 pub returns-clause-renews : goal.returns-clause-renews
 returns-clause-renews g c = λ old new e.
     subst (λ ks. AllByRecursion (IsRunWhereStale c.args.meter.now (changed_keys (option_to_list c.args.change)) old ks) (map kept_of c.settle_ready.new.records.glyphs.entries))
     c.prepare_change.ensures.same.kept
-    (c.settle_ready.ensures.renews c.args.meter.now c.args.change old new (c.in_ok-ready.ensures.ready old new e))
+    (c.settle_ready.ensures.renews c.args.meter.now (option_to_list c.args.change) old new (c.in_ok-ready.ensures.ready old new e))
