@@ -1,5 +1,9 @@
 pub mod Drafting
-pub mod Flags
+pub mod Gathering
+pub mod Marking
+pub mod Members
 pub mod Ordering
 pub mod Passing
+pub mod Removing
 pub mod Sounding
+pub mod Telling

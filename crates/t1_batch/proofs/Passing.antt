@@ -1,197 +1,368 @@
--- The pass over the items of a source, and the keys that are left behind it.
-use Rattle.std.proofs.Common.{◌≡◌, ◌<◌, ◌+◌, ℕ, Bool, true, false, cond, List, [], ◌∷◌, ◌++◌, map, take, drop, length, get_or, refl, sym, ◌∙◌, ap, subst, Option, Some, None, is_some, Result, Ok, Err}
-use Rattle.std.specs.Prelude.{◌||◌}
+-- What one pass over an edited source tells of the entries that edits name.
+use Rattle.std.proofs.Common.{◌≡◌, ℕ, Bool, true, false, cond, not, List, [], ◌∷◌, ◌++◌, map, filter, Option, None, Some, Result, Ok, Err, is_some, refl, sym, ◌∙◌, ap, subst, inl, inr}
+use Rattle.std.specs.Prelude.{◌||◌, ◌&&◌, ◌⊎◌}
 use Rattle.std.specs.List.{list_any, AllByRecursion}
-use Rattle.std.specs.Option.{option_map, option_to_list}
-use Rattle.std.proofs.lemmas.List.{append_assoc, append-nil, map-append}
-use Rattle.std.proofs.lemmas.List.Folds.{list_any-append, list_any_more}
-use Rattle.t1_frac.specs.declared.fault.Fault.{Fault}
-use Rattle.t1_frac.specs.declared.fault.Refusal.{Refusal}
-use Rattle.t1_frac.specs.declared.fault.Refusal.TheVariants as refusals
-use Rattle.t1_frac.specs.Outcome.{◌>>=◌, Refuses}
+use Rattle.std.specs.Option.{option_or, option_to_list}
+use Rattle.std.specs.Result.{result_ok}
+use Rattle.std.specs.Str.{bytes_eq}
+use Rattle.std.proofs.lemmas.List.{append_assoc}
+use Rattle.std.proofs.lemmas.List.Folds.{list_any-append}
+use Rattle.t1_frac.specs.declared.fault.Code.{Code}
+use Rattle.t1_frac.specs.declared.fault.Place.{Place}
+use Rattle.t1_frac.specs.declared.fault.Place.TheVariants as places
+use Rattle.t1_frac.specs.Outcome.{told_at, ◌>>=◌}
+use Rattle.t1_code.specs.declared.command.Command.{Command}
+use Rattle.t1_code.specs.Words.{commands}
 use Rattle.t1_parts.specs.declared.item.Item.{Item}
-use Rattle.t1_run.specs.Run.{Key}
-use Rattle.t1_cache.specs.Users.{key_eq}
+use Rattle.t1_parts.specs.declared.item.Item.TheVariants as items
+use Rattle.t1_parts.specs.SourceParts.{SourceParts}
+use Rattle.t1_run.specs.Run.{Key, Subr, Glyph}
+use Rattle.t1_run.specs.Touched.{is_key_of}
+use Rattle.t1_font.specs.Bodies.{bodies, subr_among, glyph_among}
+use Rattle.t1_font.specs.Glyphs.{glyph_names}
+use Rattle.t1_cache.specs.declared.records.Named.{Named}
+use Rattle.t1_cache.specs.declared.records.Named.TheVariants as named
+use Rattle.t1_cache.specs.Laws.{AreDistinct}
+use Rattle.t1_cache.specs.Overlay.{body_at}
+use Rattle.t1_cache.specs.Users.{key_eq, key_of}
+use Rattle.t1_cache.proofs.Adding.{key-itself, key-same}
+use Rattle.t1_cache.proofs.Putting.{bytes_tell}
 use Rattle.t1_rerun.specs.declared.settling.EntryChange.{EntryChange}
-use Rattle.t1_rerun.specs.EntryChanges.{key_change, KeyChange}
-use Rattle.t1_rerun.specs.Settled.{AreDistinctKeys}
-use Rattle.t1_batch.specs.Keys.{entry_change, entry_of, has_key, item_changes, left, AreRemoved}
-use Rattle.t1_cache.proofs.Adding.{key-same}
-use Rattle.t1_batch.proofs.Flags.{key-turned}
+use Rattle.t1_rerun.specs.Right.{has_glyph}
+use Rattle.t1_rerun.specs.Settled.{changed_keys, last_glyph, last_glyphs, AreDistinctKeys}
+use Rattle.t1_rerun.specs.Steps.{changed}
+use Rattle.t1_batch.specs.declared.entries.EditedEntry.{EditedEntry}
+use Rattle.t1_batch.specs.Batch.{entry_edit, keys}
+use Rattle.t1_batch.specs.Passing.{all_marked, all_removed, behind_items, items_put, marked, put_of, removed_at, with_mark, without, Sought}
+use Rattle.t1_batch.proofs.Gathering.{in_front, Outcome}
+use Rattle.t1_batch.proofs.Members.{both-ways, or-right}
 
-abbrev pub Flags : Type 0
-Flags = Key → Option Bool
+-- ---- tests
 
-abbrev Told : Type 0
-Told = Result (List KeyChange) Fault
+pub and-false : (a : Bool) → (a && false) ≡ false
+and-false true = refl
+and-false false = refl
 
--- changes in front of what is told of the others
-abbrev pub in-front : List EntryChange → Told → Told
-in-front changes told = told >>= λ rest. Ok (map key_change changes ++ rest)
+or-true : (a : Bool) → true ≡ (a || true)
+or-true true = refl
+or-true false = refl
 
--- what holds of the pass so far
-pub record IsPassing (all : List Item) (first : Flags) (at : ℕ) (flags : Flags) (changes : List EntryChange) : Type 0 where
-  pub told : item_changes first all ≡ in-front changes (item_changes flags (drop at all))
-  pub past : (k : Key) → flags k ≡ left (take at all) first k
+or-none : (a : Bool) → a ≡ (a || false)
+or-none true = refl
+or-none false = refl
 
-pub not-passed : (all : List Item) (first : Flags) → IsPassing all first 0 first []
-not-passed all first = record { told = sym (alone (item_changes first all)); past = λ k. refl } where
-  alone : (r : Told) → in-front [] r ≡ r
-  alone (Ok changes) = refl
-  alone (Err fault) = refl
+pub or-split : (a b : Bool) → (a || b) ≡ false → (a ≡ false) × (b ≡ false)
+or-split true b h = absurd (cc)
+or-split false b h = (refl, h)
 
-module _ (all : List Item) (first : Flags) (at : ℕ) (flags : Flags) (changes : List EntryChange) (before : IsPassing all first at flags changes)
-    (i : Item) (split : drop at all ≡ i ∷ drop (at + 1) all) where
-  abbrev rest : List Item
-  rest = drop (at + 1) all
+pub neither : (a b : Bool) → a ≡ false → b ≡ false → (a || b) ≡ false
+neither true b h i = absurd (cc)
+neither false b h i = i
 
-  here : item_changes first all ≡ in-front changes (item_changes flags (i ∷ rest))
-  here = before.told ∙ ap (λ l. in-front changes (item_changes flags l)) split
+pub all-weaken : {X : Type 0} (P Q : X → Type 0) → ((x : X) → P x → Q x) → (xs : List X) → AllByRecursion P xs → AllByRecursion Q xs
+all-weaken P Q step [] h = tt
+all-weaken P Q step (x ∷ xs) h = (step x h.0, all-weaken P Q step xs h.1)
 
-  -- the fault of an item is the first
-  pub item-refused : (refusal : Refusal) → Refuses refusal (entry_change flags (entry_of i)) → Refuses refusal (item_changes first all)
-  item-refused refusals.Memory h = tt
-  item-refused (refusals.Fault fault) h =
-      here
-      ∙ ap (λ r. in-front changes (r >>= λ change. item_changes (left (i ∷ []) flags) rest >>= λ others. Ok (option_to_list change ++ others))) h
+pub all-append : {X : Type 0} (P : X → Type 0) (xs ys : List X) → AllByRecursion P xs → AllByRecursion P ys → AllByRecursion P (xs ++ ys)
+all-append P [] ys h i = i
+all-append P (x ∷ xs) ys h i = (h.0, all-append P xs ys h.1 i)
 
-  pub item-passed : (new : Flags) (change : Option EntryChange) → at < length all → i ≡ get_or all at i
-      → entry_change flags (entry_of i) ≡ Ok (option_map key_change change) → ((k : Key) → new k ≡ left (i ∷ []) flags k)
-      → IsPassing all first (at + 1) new (changes ++ option_to_list change)
-  item-passed new change far is told past = record {
-    told =
-        here
-        ∙ ap (λ r. in-front changes (r >>= λ change. item_changes (left (i ∷ []) flags) rest >>= λ others. Ok (option_to_list change ++ others))) told
-        ∙ ap (λ f. in-front changes (item_changes f rest >>= λ others. Ok (option_to_list (option_map key_change change) ++ others))) (sym (λ j. λ k. past k j))
-        ∙ both (item_changes new rest);
-    past = λ k.
-        past k
-        ∙ ap (λ b. cond b None (flags k)) (or-false (has_key (entry_of i) k))
-        ∙ ap (cond (has_key (entry_of i) k) None) (before.past k)
-        ∙ twice (has_key (entry_of i) k) (list_any (λ x. has_key (entry_of x) k) (take at all)) (first k)
-        ∙ ap (λ x. cond (list_any (λ x. has_key (entry_of x) k) (take at all) || has_key (entry_of x) k) None (first k)) is
-        ∙ ap (λ b. cond b None (first k)) (sym (list_any_more (λ x. has_key (entry_of x) k) all at i far));
-  } where
-    or-false : (b : Bool) → (b || false) ≡ b
-    or-false true = refl
-    or-false false = refl
+-- ---- keys
 
-    twice : (a b : Bool) (r : Option Bool) → cond a None (cond b None r) ≡ cond (b || a) None r
-    twice true true r = refl
-    twice true false r = refl
-    twice false true r = refl
-    twice false false r = refl
+key-sym : (j k : Key) → key_eq j k ≡ key_eq k j
+key-sym j k =
+    both-ways (key_eq j k) (key_eq k j) (λ on. ap (key_eq k) (key-same j k on) ∙ key-itself k) (λ on. ap (key_eq j) (key-same k j on) ∙ key-itself j)
 
-    listed : (o : Option EntryChange) → option_to_list (option_map key_change o) ≡ map key_change (option_to_list o)
-    listed None = refl
-    listed (Some c) = refl
+pub glyph-key : (g : List ℕ) (k : Key) → is_key_of g k ≡ key_eq (Glyph g) k
+glyph-key g (Subr n) = refl
+glyph-key g (Glyph h) = refl
 
-    both : (r : Told) → in-front changes (r >>= λ others. Ok (option_to_list (option_map key_change change) ++ others)) ≡ in-front (changes ++ option_to_list change) r
-    both (Ok others) =
-        ap Ok
-        (sym (append_assoc (map key_change changes) (option_to_list (option_map key_change change)) others)
-        ∙ ap (λ l. (map key_change changes ++ l) ++ others) (listed change)
-        ∙ ap (λ l. l ++ others) (sym (map-append key_change changes (option_to_list change))))
-    both (Err fault) = refl
+pub without-at : (key k : Key) (m : Sought) → without key m k ≡ cond (key_eq k key) None (m k)
+without-at key k m = ap (λ b. cond b None (m k)) (key-sym key k)
 
-pub all-passed : (all : List Item) (first : Flags) (at : ℕ) (flags : Flags) (changes : List EntryChange) → drop at all ≡ [] → IsPassing all first at flags changes
-    → item_changes first all ≡ Ok (map key_change changes)
-all-passed all first at flags changes none is =
-    is.told ∙ ap (λ l. in-front changes (item_changes flags l)) none ∙ ap Ok (append-nil (map key_change changes))
+gone : (key : Key) (m : Sought) → without key m key ≡ None
+gone key m = ap (λ b. cond b None (m key)) (key-itself key)
 
--- ---- the keys that are left
+-- ---- marks
 
-abbrev pub keys : List KeyChange → List Key
-keys changes = map (λ c. c.key) changes
+-- an entry is looked for, and its mark passes
+abbrev pub mark_is : (Bool → Bool) → Option Bool → Bool
+mark_is f None = false
+mark_is f (Some added) = f added
 
--- some of the entries of the keys are put behind the changes
-pub record IsRemoving (first flags : Flags) (before after : List EntryChange) : Type 0 where
-  pub rest : List KeyChange
-  pub whole : map key_change after ≡ map key_change before ++ rest
-  pub same : (k : Key) → is_some (first k) ≡ (list_any (key_eq k) (keys rest) || is_some (flags k))
-  pub apart : (k : Key) → list_any (key_eq k) (keys rest) ≡ true → flags k ≡ None
-  pub distinct : AreDistinctKeys (keys rest)
-  pub none : AllByRecursion (λ c. (c.body ≡ None) × (c.moved ≡ false)) rest
+abbrev pub itself : Bool → Bool
+itself b = b
 
-pub none-removed : (first : Flags) (before : List EntryChange) → IsRemoving first first before before
-none-removed first before = record {
-  rest = [];
-  whole = sym (append-nil (map key_change before));
-  same = λ k. refl;
-  apart = λ k there. absurd (cc);
-  distinct = tt;
-  none = tt;
-}
+abbrev pub always : Bool → Bool
+always b = true
 
-distinct-last : (ks : List Key) (k : Key) → AreDistinctKeys ks → list_any (key_eq k) ks ≡ false → AreDistinctKeys (ks ++ k ∷ [])
-distinct-last [] k d off = (refl, tt)
-distinct-last (x ∷ ks) k d off = by (key_eq k x) refl off (distinct-last ks k d.1) where
-  by : (b : Bool) → key_eq k x ≡ b → (b || list_any (key_eq k) ks) ≡ false → (list_any (key_eq k) ks ≡ false → AreDistinctKeys (ks ++ k ∷ []))
-      → AreDistinctKeys (x ∷ (ks ++ k ∷ []))
-  by true here off later = absurd (cc)
-  by false here off later = (
-    list_any-append (key_eq x) ks (k ∷ [])
-        ∙ ap (λ b. b || (key_eq x k || false)) d.0
-        ∙ ap (λ b. b || false) (key-turned x k ∙ here),
-    later off,
-  )
+pub marks-named : (es : List EditedEntry) (m : Sought) (k : Key)
+    → is_some (all_marked es m k) ≡ (is_some (m k) || list_any (key_eq k) (keys (map entry_edit es)))
+marks-named [] m k = or-none (is_some (m k))
+marks-named (e ∷ es) m k = marks-named es (with_mark (key_of e.named) e.added m) k ∙ by (key_eq k (key_of e.named)) where
+  by : (b : Bool)
+      → (is_some (cond b (marked e.added (m k)) (m k)) || list_any (key_eq k) (keys (map entry_edit es)))
+      ≡ (is_some (m k) || (b || list_any (key_eq k) (keys (map entry_edit es))))
+  by true = or-true (is_some (m k))
+  by false = refl
 
-all-last : {X : Type 0} (P : X → Type 0) (xs : List X) (x : X) → AllByRecursion P xs → P x → AllByRecursion P (xs ++ x ∷ [])
-all-last P [] x h p = (p, tt)
-all-last P (y ∷ xs) x h p = (h.0, all-last P xs x h.1 p)
+mark-more : (r : Option Bool) (added rest : Bool) → (mark_is itself (marked added r) || rest) ≡ (mark_is itself r || ((added && true) || rest))
+mark-more None true rest = refl
+mark-more None false rest = refl
+mark-more (Some true) true rest = refl
+mark-more (Some true) false rest = refl
+mark-more (Some false) true rest = refl
+mark-more (Some false) false rest = refl
 
-pub one-removed : (first flags new : Flags) (before after more : List EntryChange) (c : EntryChange) → IsRemoving first flags before after
-    → c.body ≡ None → c.moved ≡ false → is_some (flags (key_change c).key) ≡ true
-    → ((k : Key) → new k ≡ cond (key_eq k (key_change c).key) None (flags k)) → more ≡ after ++ c ∷ []
-    → IsRemoving first new before more
-one-removed first flags new before after more c was body moved there left is = record {
-  rest = was.rest ++ x ∷ [];
-  whole =
-      ap (map key_change) is ∙ map-append key_change after (c ∷ []) ∙ ap (λ l. l ++ x ∷ []) was.whole
-      ∙ append_assoc (map key_change before) was.rest (x ∷ []);
-  same = λ k.
-      was.same k
-      ∙ by k (key_eq k x.key) refl (list_any (key_eq k) (keys was.rest))
-      ∙ ap (λ b. b || is_some (new k)) (sym (any-more k));
-  apart = λ k h. left k ∙ gone k (key_eq k x.key) refl (sym (any-more k) ∙ h);
-  distinct = subst AreDistinctKeys (sym (map-append (λ c. c.key) was.rest (x ∷ []))) (distinct-last (keys was.rest) x.key was.distinct (absent (list_any (key_eq x.key) (keys was.rest)) refl));
-  none = all-last (λ c. (c.body ≡ None) × (c.moved ≡ false)) was.rest x was.none (body, moved);
-} where
-  x : KeyChange
-  x = key_change c
+and-drop : (a rest : Bool) → rest ≡ ((a && false) || rest)
+and-drop true rest = refl
+and-drop false rest = refl
 
-  any-more : (k : Key) → list_any (key_eq k) (keys (was.rest ++ x ∷ [])) ≡ (list_any (key_eq k) (keys was.rest) || (key_eq k x.key || false))
-  any-more k = ap (list_any (key_eq k)) (map-append (λ c. c.key) was.rest (x ∷ [])) ∙ list_any-append (key_eq k) (keys was.rest) (x.key ∷ [])
+pub marks-added : (es : List EditedEntry) (m : Sought) (k : Key)
+    → mark_is itself (all_marked es m k) ≡ (mark_is itself (m k) || list_any (λ e. e.added && key_eq k e.key) (map entry_edit es))
+marks-added [] m k = or-none (mark_is itself (m k))
+marks-added (e ∷ es) m k = marks-added es (with_mark (key_of e.named) e.added m) k ∙ by (key_eq k (key_of e.named)) where
+  by : (b : Bool)
+      → (mark_is itself (cond b (marked e.added (m k)) (m k)) || list_any (λ x. x.added && key_eq k x.key) (map entry_edit es))
+      ≡ (mark_is itself (m k) || ((e.added && b) || list_any (λ x. x.added && key_eq k x.key) (map entry_edit es)))
+  by true = mark-more (m k) e.added (list_any (λ x. x.added && key_eq k x.key) (map entry_edit es))
+  by false = ap (λ b. mark_is itself (m k) || b) (and-drop e.added (list_any (λ x. x.added && key_eq k x.key) (map entry_edit es)))
 
-  absent : (b : Bool) → list_any (key_eq x.key) (keys was.rest) ≡ b → list_any (key_eq x.key) (keys was.rest) ≡ false
-  absent true e = let never : true ≡ false = sym there ∙ ap is_some (was.apart x.key e) in absurd (cc)
-  absent false e = e
+-- ---- items
 
-  by : (k : Key) (t : Bool) → key_eq k x.key ≡ t → (a : Bool) → (a || is_some (flags k)) ≡ ((a || (key_eq k x.key || false)) || is_some (new k))
-  by k t e true = refl
-  by k true e false = ap (λ y. is_some (flags y)) (key-same k x.key e) ∙ there ∙ sym (ap (λ b. (b || false) || is_some (new k)) e)
-  by k false e false = ap is_some (sym (left k ∙ ap (λ b. cond b None (flags k)) e)) ∙ sym (ap (λ b. (b || false) || is_some (new k)) e)
+abbrev pub is_at : Key → Item → Bool
+is_at k (items.Subr n words closing) = key_eq k (Subr n)
+is_at k (items.Glyph g words closing) = key_eq k (Glyph g)
+is_at k (items.Plain line) = false
+is_at k (items.Section before n after) = false
 
-  gone : (k : Key) (t : Bool) → key_eq k x.key ≡ t → (list_any (key_eq k) (keys was.rest) || (key_eq k x.key || false)) ≡ true
-      → cond (key_eq k x.key) None (flags k) ≡ None
-  gone k true e h = ap (λ b. cond b None (flags k)) e
-  gone k false e h =
-      ap (λ b. cond b None (flags k)) e
-      ∙ was.apart k (sym (or-false (list_any (key_eq k) (keys was.rest))) ∙ sym (ap (λ b. list_any (key_eq k) (keys was.rest) || (b || false)) e) ∙ h)
-    where
-      or-false : (b : Bool) → (b || false) ≡ b
-      or-false true = refl
-      or-false false = refl
+abbrev pub has_at : Key → List Item → Bool
+has_at k is = list_any (is_at k) is
 
-pub all-removed : (first flags : Flags) (before after : List EntryChange) → ((k : Key) → flags k ≡ None) → IsRemoving first flags before after
-    → AreRemoved first (map key_change before) (map key_change after)
-all-removed first flags before after none is = record {
-  rest = is.rest;
-  whole = is.whole;
-  same = λ k. sym (is.same k ∙ ap (λ r. list_any (key_eq k) (keys is.rest) || is_some r) (none k) ∙ or-false (list_any (key_eq k) (keys is.rest)));
-  distinct = is.distinct;
-  none = is.none;
-} where
-  or-false : (b : Bool) → (b || false) ≡ b
-  or-false true = refl
-  or-false false = refl
+pub at-glyph : (g : List ℕ) (is : List Item) → has_at (Glyph g) is ≡ list_any (bytes_eq g) (glyph_names is)
+at-glyph g [] = refl
+at-glyph g (items.Plain l ∷ is) = at-glyph g is
+at-glyph g (items.Section b n a ∷ is) = at-glyph g is
+at-glyph g (items.Subr n words c ∷ is) = at-glyph g is
+at-glyph g (items.Glyph h words c ∷ is) = ap (λ b. bytes_eq g h || b) (at-glyph g is)
+
+behind-step : (key : Key) (m : Sought) (k : Key) (has : Bool) → cond has None (without key m k) ≡ cond (key_eq k key || has) None (m k)
+behind-step key m k has = ap (cond has None) (without-at key k m) ∙ by (key_eq k key) has where
+  by : (b has : Bool) → cond has None (cond b None (m k)) ≡ cond (b || has) None (m k)
+  by true true = refl
+  by true false = refl
+  by false has = refl
+
+-- what is left is what was looked for and isn't there
+pub behind-at : (is : List Item) (m : Sought) (k : Key) → behind_items is m k ≡ cond (has_at k is) None (m k)
+behind-at [] m k = refl
+behind-at (items.Plain l ∷ is) m k = behind-at is m k
+behind-at (items.Section b n a ∷ is) m k = behind-at is m k
+behind-at (items.Subr n words c ∷ is) m k = behind-at is (without (Subr n) m) k ∙ behind-step (Subr n) m k (has_at k is)
+behind-at (items.Glyph g words c ∷ is) m k = behind-at is (without (Glyph g) m) k ∙ behind-step (Glyph g) m k (has_at k is)
+
+-- ---- a pass without a fault
+
+-- an entry that is looked for is the first of the changes
+pub record First (P : Sought → List EntryChange → Type 0) (m : Sought) (d : Named) (words : List (List ℕ)) (cs : List EntryChange) : Type 0 where
+  pub moved : Bool
+  pub body : List Command
+  pub rest : List EntryChange
+  pub mark : m (key_of d) ≡ Some moved
+  pub compiled : commands words ≡ Ok body
+  pub whole : cs ≡ changed d (Some body) moved ∷ rest
+  pub others : P (without (key_of d) m) rest
+
+abbrev pub Met : (Sought → List EntryChange → Type 0) → Sought → Named → List (List ℕ) → List EntryChange → Type 0
+Met P m d words cs = ((m (key_of d) ≡ None) × P (without (key_of d) m) cs) ⊎ First P m d words cs
+
+abbrev pub Passes : List Item → Sought → List EntryChange → Type 0
+Passes [] m cs = cs ≡ []
+Passes (items.Plain l ∷ is) m cs = Passes is m cs
+Passes (items.Section b n a ∷ is) m cs = Passes is m cs
+Passes (items.Subr n words c ∷ is) m cs = Met (Passes is) m (named.Subr n) words cs
+Passes (items.Glyph g words c ∷ is) m cs = Met (Passes is) m (named.Glyph g) words cs
+
+front-ok : (front : List EntryChange) (r : Outcome) (cs : List EntryChange) → in_front front r ≡ Ok cs
+    → (rest : List EntryChange) × (r ≡ Ok rest) × (cs ≡ front ++ rest)
+front-ok front (Ok rest) cs e = let same : front ++ rest ≡ cs = cc in (rest, refl, sym same)
+front-ok front (Err fault) cs e = absurd (cc)
+
+met : (is : List Item) (m : Sought) (d : Named) (place : Place) (words : List (List ℕ)) (cs : List EntryChange)
+    → (put_of (m (key_of d)) d place words >>= λ change. in_front (option_to_list change) (items_put (without (key_of d) m) is)) ≡ Ok cs
+    → ((n : Sought) (rest : List EntryChange) → items_put n is ≡ Ok rest → Passes is n rest)
+    → Met (Passes is) m d words cs
+met is m d place words cs e passes = by (m (key_of d)) refl e where
+  tail : Outcome
+  tail = items_put (without (key_of d) m) is
+
+  put : (moved : Bool) → m (key_of d) ≡ Some moved → (r : Result (List Command) Code) → commands words ≡ r
+      → ((told_at place r >>= λ body. Ok (Some (changed d (Some body) moved))) >>= λ change. in_front (option_to_list change) tail) ≡ Ok cs
+      → Met (Passes is) m d words cs
+  put moved mark (Ok body) compiled e =
+      let f = front-ok (changed d (Some body) moved ∷ []) tail cs e in
+      inr (record { moved = moved; body = body; rest = f.0; mark = mark; compiled = compiled; whole = f.2; others = passes (without (key_of d) m) f.0 f.1 })
+  put moved mark (Err code) compiled e = absurd (cc)
+
+  by : (r : Option Bool) → m (key_of d) ≡ r → (put_of r d place words >>= λ change. in_front (option_to_list change) tail) ≡ Ok cs → Met (Passes is) m d words cs
+  by None none e = let f = front-ok [] tail cs e in inl (none, passes (without (key_of d) m) cs (f.1 ∙ ap Ok (sym f.2)))
+  by (Some moved) mark e = put moved mark (commands words) refl e
+
+pub passes : (is : List Item) (m : Sought) (cs : List EntryChange) → items_put m is ≡ Ok cs → Passes is m cs
+passes [] m cs e = let same : [] ≡ cs = cc in sym same
+passes (items.Plain l ∷ is) m cs e = let f = front-ok [] (items_put m is) cs e in passes is m cs (f.1 ∙ ap Ok (sym f.2))
+passes (items.Section b n a ∷ is) m cs e = let f = front-ok [] (items_put m is) cs e in passes is m cs (f.1 ∙ ap Ok (sym f.2))
+passes (items.Subr n words c ∷ is) m cs e = met is m (named.Subr n) (places.Subr n) words cs e (passes is)
+passes (items.Glyph g words c ∷ is) m cs e = met is m (named.Glyph g) (places.Glyph g) words cs e (passes is)
+
+-- ---- which entries are among the changes
+
+abbrev pub tally : (Bool → Bool) → Key → List EntryChange → Bool
+tally f k cs = list_any (λ c. f c.moved && key_eq k (key_of c.named)) cs
+
+tally-met : (f : Bool → Bool) (k : Key) (d : Named) (words : List (List ℕ)) (has : Bool) (P : Sought → List EntryChange → Type 0) (m : Sought) (cs : List EntryChange)
+    → ((n : Sought) (rest : List EntryChange) → P n rest → tally f k rest ≡ (has && mark_is f (n k))) → Met P m d words cs
+    → tally f k cs ≡ ((key_eq k (key_of d) || has) && mark_is f (m k))
+tally-met f k d words has P m cs rest (inl h) =
+    rest (without (key_of d) m) cs h.1 ∙ ap (λ r. has && mark_is f r) (without-at (key_of d) k m) ∙ by (key_eq k (key_of d)) refl
+  where
+    by : (b : Bool) → key_eq k (key_of d) ≡ b → (has && mark_is f (cond b None (m k))) ≡ ((b || has) && mark_is f (m k))
+    by true on = and-false has ∙ sym (ap (mark_is f) (ap m (key-same k (key_of d) on) ∙ h.0))
+    by false off = refl
+tally-met f k d words has P m cs rest (inr x) =
+    ap (tally f k) x.whole
+    ∙ ap (λ b. (f x.moved && key_eq k (key_of d)) || b)
+    (rest (without (key_of d) m) x.rest x.others ∙ ap (λ r. has && mark_is f r) (without-at (key_of d) k m))
+    ∙ by (key_eq k (key_of d)) refl
+  where
+    alone : (a has : Bool) → ((a && true) || (has && false)) ≡ a
+    alone true has = refl
+    alone false has = and-false has
+
+    by : (b : Bool) → key_eq k (key_of d) ≡ b → ((f x.moved && b) || (has && mark_is f (cond b None (m k)))) ≡ ((b || has) && mark_is f (m k))
+    by true on = alone (f x.moved) has ∙ sym (ap (mark_is f) (ap m (key-same k (key_of d) on) ∙ x.mark))
+    by false off = sym (and-drop (f x.moved) (has && mark_is f (m k)))
+
+pub tallied : (f : Bool → Bool) (k : Key) (is : List Item) (m : Sought) (cs : List EntryChange) → Passes is m cs → tally f k cs ≡ (has_at k is && mark_is f (m k))
+tallied f k [] m cs p = ap (tally f k) p
+tallied f k (items.Plain l ∷ is) m cs p = tallied f k is m cs p
+tallied f k (items.Section b n a ∷ is) m cs p = tallied f k is m cs p
+tallied f k (items.Subr n words c ∷ is) m cs p = tally-met f k (named.Subr n) words (has_at k is) (Passes is) m cs (tallied f k is) p
+tallied f k (items.Glyph g words c ∷ is) m cs p = tally-met f k (named.Glyph g) words (has_at k is) (Passes is) m cs (tallied f k is) p
+
+pub keys-any : (k : Key) (cs : List EntryChange) → list_any (key_eq k) (changed_keys cs) ≡ tally always k cs
+keys-any k [] = refl
+keys-any k (c ∷ cs) = ap (λ b. key_eq k (key_of c.named) || b) (keys-any k cs)
+
+pub changed-append : (cs ds : List EntryChange) → changed_keys (cs ++ ds) ≡ changed_keys cs ++ changed_keys ds
+changed-append [] ds = refl
+changed-append (c ∷ cs) ds = ap (λ l. key_of c.named ∷ l) (changed-append cs ds)
+
+-- ---- each entry once
+
+-- what is behind has none of the entries that were met
+abbrev Apart : List Item → Sought → List EntryChange → Type 0
+Apart is m back = (k : Key) → behind_items is m k ≡ None → list_any (key_eq k) (changed_keys back) ≡ false
+
+distinct-met : (is : List Item) (m : Sought) (d : Named) (words : List (List ℕ)) (cs back : List EntryChange)
+    → ((n : Sought) (rest : List EntryChange) → Passes is n rest → Apart is n back → AreDistinctKeys (changed_keys (rest ++ back)))
+    → Met (Passes is) m d words cs → Apart is (without (key_of d) m) back → AreDistinctKeys (changed_keys (cs ++ back))
+distinct-met is m d words cs back rest (inl h) apart = rest (without (key_of d) m) cs h.1 apart
+distinct-met is m d words cs back rest (inr x) apart =
+    subst (λ l. AreDistinctKeys (changed_keys (l ++ back))) (sym x.whole) (first, rest (without (key_of d) m) x.rest x.others apart)
+  where
+    none : (b : Bool) → ◌≡◌ {A = Option Bool} (cond b None None) None
+    none true = refl
+    none false = refl
+
+    first : list_any (key_eq (key_of d)) (changed_keys (x.rest ++ back)) ≡ false
+    first =
+        ap (list_any (key_eq (key_of d))) (changed-append x.rest back)
+        ∙ list_any-append (key_eq (key_of d)) (changed_keys x.rest) (changed_keys back)
+        ∙ neither (list_any (key_eq (key_of d)) (changed_keys x.rest)) (list_any (key_eq (key_of d)) (changed_keys back))
+        (keys-any (key_of d) x.rest ∙ tallied always (key_of d) is (without (key_of d) m) x.rest x.others
+        ∙ ap (λ r. has_at (key_of d) is && mark_is always r) (gone (key_of d) m) ∙ and-false (has_at (key_of d) is))
+        (apart (key_of d)
+        (behind-at is (without (key_of d) m) (key_of d) ∙ ap (cond (has_at (key_of d) is) None) (gone (key_of d) m) ∙ none (has_at (key_of d) is)))
+
+pub distinct : (is : List Item) (back : List EntryChange) → AreDistinctKeys (changed_keys back) → (m : Sought) (cs : List EntryChange) → Passes is m cs → Apart is m back
+    → AreDistinctKeys (changed_keys (cs ++ back))
+distinct [] back d m cs p apart = subst (λ l. AreDistinctKeys (changed_keys (l ++ back))) (sym p) d
+distinct (items.Plain l ∷ is) back d m cs p apart = distinct is back d m cs p apart
+distinct (items.Section b n a ∷ is) back d m cs p apart = distinct is back d m cs p apart
+distinct (items.Subr n words c ∷ is) back d m cs p apart = distinct-met is m (named.Subr n) words cs back (distinct is back d) p apart
+distinct (items.Glyph g words c ∷ is) back d m cs p apart = distinct-met is m (named.Glyph g) words cs back (distinct is back d) p apart
+
+-- ---- bodies
+
+-- the first item of the entry has its body
+pub record IsPut (is : List Item) (m : Sought) (c : EntryChange) : Type 0 where
+  pub mark : m (key_of c.named) ≡ Some c.moved
+  pub body : body_at (bodies is) (key_of c.named) ≡ c.body
+
+skip-plain : (l : List ℕ) (is : List Item) (k : Key) → body_at (bodies (items.Plain l ∷ is)) k ≡ body_at (bodies is) k
+skip-plain l is (Subr n) = refl
+skip-plain l is (Glyph g) = refl
+
+skip-section : (b : List ℕ) (n : ℕ) (a : List ℕ) (is : List Item) (k : Key) → body_at (bodies (items.Section b n a ∷ is)) k ≡ body_at (bodies is) k
+skip-section b n a is (Subr x) = refl
+skip-section b n a is (Glyph g) = refl
+
+skip-subr : (n : ℕ) (words : List (List ℕ)) (c : List ℕ) (is : List Item) (k : Key) → key_eq k (Subr n) ≡ false
+    → body_at (bodies (items.Subr n words c ∷ is)) k ≡ body_at (bodies is) k
+skip-subr n words c is (Subr x) off = ap (λ b. option_or (cond b (result_ok (commands words)) None) (subr_among is x)) off
+skip-subr n words c is (Glyph g) off = refl
+
+skip-glyph : (h : List ℕ) (words : List (List ℕ)) (c : List ℕ) (is : List Item) (k : Key) → key_eq k (Glyph h) ≡ false
+    → body_at (bodies (items.Glyph h words c ∷ is)) k ≡ body_at (bodies is) k
+skip-glyph h words c is (Subr x) off = refl
+skip-glyph h words c is (Glyph g) off = ap (λ b. option_or (cond b (result_ok (commands words)) None) (glyph_among is g)) off
+
+head-subr : (n : ℕ) (words : List (List ℕ)) (c : List ℕ) (is : List Item) (body : List Command) → commands words ≡ Ok body
+    → body_at (bodies (items.Subr n words c ∷ is)) (Subr n) ≡ Some body
+head-subr n words c is body e =
+    ap (λ b. option_or (cond b (result_ok (commands words)) None) (subr_among is n)) (key-itself (Subr n))
+    ∙ ap (λ r. option_or (result_ok r) (subr_among is n)) e
+
+head-glyph : (g : List ℕ) (words : List (List ℕ)) (c : List ℕ) (is : List Item) (body : List Command) → commands words ≡ Ok body
+    → body_at (bodies (items.Glyph g words c ∷ is)) (Glyph g) ≡ Some body
+head-glyph g words c is body e =
+    ap (λ b. option_or (cond b (result_ok (commands words)) None) (glyph_among is g)) (key-itself (Glyph g))
+    ∙ ap (λ r. option_or (result_ok r) (glyph_among is g)) e
+
+module _ (i : Item) (d : Named) (words : List (List ℕ)) (is : List Item)
+    (skip : (k : Key) → key_eq k (key_of d) ≡ false → body_at (bodies (i ∷ is)) k ≡ body_at (bodies is) k)
+    (head : (body : List Command) → commands words ≡ Ok body → body_at (bodies (i ∷ is)) (key_of d) ≡ Some body) (m : Sought) where
+  lifted : (c : EntryChange) → IsPut is (without (key_of d) m) c → IsPut (i ∷ is) m c
+  lifted c h = by (key_eq (key_of c.named) (key_of d)) refl (sym (without-at (key_of d) (key_of c.named) m) ∙ h.mark) where
+    by : (b : Bool) → key_eq (key_of c.named) (key_of d) ≡ b → cond b None (m (key_of c.named)) ≡ Some c.moved → IsPut (i ∷ is) m c
+    by true on e = absurd (cc)
+    by false off e = record { mark = e; body = skip (key_of c.named) off ∙ h.body }
+
+  put-met : (cs : List EntryChange) → ((n : Sought) (rest : List EntryChange) → Passes is n rest → AllByRecursion (IsPut is n) rest) → Met (Passes is) m d words cs
+      → AllByRecursion (IsPut (i ∷ is) m) cs
+  put-met cs rest (inl h) = all-weaken (IsPut is (without (key_of d) m)) (IsPut (i ∷ is) m) lifted cs (rest (without (key_of d) m) cs h.1)
+  put-met cs rest (inr x) =
+      subst (AllByRecursion (IsPut (i ∷ is) m)) (sym x.whole)
+      (record { mark = x.mark; body = head x.body x.compiled },
+      all-weaken (IsPut is (without (key_of d) m)) (IsPut (i ∷ is) m) lifted x.rest (rest (without (key_of d) m) x.rest x.others))
+
+pub all-put : (is : List Item) (m : Sought) (cs : List EntryChange) → Passes is m cs → AllByRecursion (IsPut is m) cs
+all-put [] m cs p = subst (AllByRecursion (IsPut [] m)) (sym p) tt
+all-put (items.Plain l ∷ is) m cs p =
+    all-weaken (IsPut is m) (IsPut (items.Plain l ∷ is) m) (λ c h. record { mark = h.mark; body = skip-plain l is (key_of c.named) ∙ h.body }) cs (all-put is m cs p)
+all-put (items.Section b n a ∷ is) m cs p =
+    all-weaken (IsPut is m) (IsPut (items.Section b n a ∷ is) m) (λ c h. record { mark = h.mark; body = skip-section b n a is (key_of c.named) ∙ h.body }) cs (all-put is m cs p)
+all-put (items.Subr n words c ∷ is) m cs p =
+    put-met (items.Subr n words c) (named.Subr n) words is (skip-subr n words c is) (head-subr n words c is) m cs (all-put is) p
+all-put (items.Glyph g words c ∷ is) m cs p =
+    put-met (items.Glyph g words c) (named.Glyph g) words is (skip-glyph g words c is) (head-glyph g words c is) m cs (all-put is) p
+
+-- where an entry has no item there is no body
+pub absent : (is : List Item) (k : Key) → has_at k is ≡ false → body_at (bodies is) k ≡ None
+absent [] (Subr n) h = refl
+absent [] (Glyph g) h = refl
+absent (items.Plain l ∷ is) k h = skip-plain l is k ∙ absent is k h
+absent (items.Section b n a ∷ is) k h = skip-section b n a is k ∙ absent is k h
+absent (items.Subr n words c ∷ is) k h = let o = or-split (key_eq k (Subr n)) (has_at k is) h in skip-subr n words c is k o.0 ∙ absent is k o.1
+absent (items.Glyph g words c ∷ is) k h = let o = or-split (key_eq k (Glyph g)) (has_at k is) h in skip-glyph g words c is k o.0 ∙ absent is k o.1

@@ -1,2 +1,3 @@
 pub mod Batch
-pub mod Keys
+pub mod Members
+pub mod Passing

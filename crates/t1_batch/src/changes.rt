@@ -1,18 +1,20 @@
 //! What the edits of a batch changed.
-ghost use Rattle.std.specs.Prelude.{◌≡◌, ◌++◌, ◌∷◌, [], Ok, Some, IfOk, MatchResult, OnOk, map};
-ghost use Rattle.std.specs.Option.{option_map, option_to_list};
+ghost use Rattle.std.specs.Prelude.{◌≡◌, ◌++◌, Ok, MatchResult, OnOk, map};
+ghost use Rattle.std.specs.Option.{option_to_list};
 ghost use Rattle.t1_frac.specs.Outcome.{Gives, Refuses};
 ghost use Rattle.t1_frac.specs.declared.fault.Place.TheVariants as places;
 ghost use Rattle.t1_parts.specs.SourceParts.{SourceParts};
+ghost use Rattle.t1_source.specs.WellFormed.{IsWellFormed};
 ghost use Rattle.t1_run.specs.Run.{Key, Subr, Glyph};
 ghost use Rattle.t1_font.specs.Assembly.{file_check};
 ghost use Rattle.t1_font.specs.Bodies.{bodies_check};
-ghost use Rattle.t1_rerun.specs.EntryChanges.{key_change};
-ghost use Rattle.t1_batch.specs.Batch.{entry_edit, keys as keys_named, AreBatchChanges, IsEditedBy};
-ghost use Rattle.t1_batch.specs.Keys.{entry_change, entry_of, flag_at, flag_in, flagged, item_changes as told_changes, left, AreRemoved};
+ghost use Rattle.t1_cache.specs.declared.records.Named.TheVariants as named;
+ghost use Rattle.t1_cache.specs.Users.{key_of};
+ghost use Rattle.t1_batch.specs.Batch.{entry_edit, keys, AreBatchChanges, IsEditedBy};
+ghost use Rattle.t1_batch.specs.Passing.{all_removed, behind_item, behind_items, changes_by, item_put, items_put, mark_at, put_of, removed_at, without};
 
 use crate::entries::EditedEntry;
-use crate::keys::{EditedKeys, keys_of, take_glyph, take_subr};
+use crate::marks::Marks;
 use std::alloc::{AllocError, Global};
 use t1_cache::Named;
 use t1_font::{compiled_glyph, compiled_subr};
@@ -20,74 +22,66 @@ use t1_frac::{Bytes, Refusal, Words};
 use t1_rerun::EntryChange;
 use t1_source::{Item, Source};
 
-/// A Subr with the commands of its words, or their fault.
+/// A Subr with the commands of its words, or their fault, where it is marked; its mark is taken out.
 fn subr_change(
     alloc: Global,
+    marks: &mut Marks,
     number: u16,
     words: &Words,
-    moved: bool,
-) -> Result<EntryChange, Refusal>
-    ensures { Gives (λ change. Some (key_change change)) result (flagged (record { key = Subr number; place = places.Subr number; words = words.now }) (Some moved)) }
+) -> Result<Option<EntryChange>, Refusal>
+    ensures change { Gives (λ change. change) result (put_of (mark_at marks.old (Subr number)) (named.Subr number) (places.Subr number) words.now) }
+    ensures others { (k : Key) → mark_at marks.new k ≡ without (Subr number) (mark_at marks.old) k }
 {
+    let Some(moved) = marks.take_subr(number) else {
+        return Ok(None);
+    };
     let body = compiled_subr(alloc, number, words)?;
-    Ok(EntryChange {
+    Ok(Some(EntryChange {
         named: Named::Subr(number),
         body: Some(body),
         moved,
-    })
+    }))
 }
 
-/// A glyph with the commands of its words, or their fault.
+/// A glyph with the commands of its words, or their fault, where it is marked; its mark is taken out.
 fn glyph_change(
     alloc: Global,
+    marks: &mut Marks,
     name: &Bytes,
     words: &Words,
-    moved: bool,
-) -> Result<EntryChange, Refusal>
-    ensures { Gives (λ change. Some (key_change change)) result (flagged (record { key = Glyph name.now; place = places.Glyph name.now; words = words.now }) (Some moved)) }
+) -> Result<Option<EntryChange>, Refusal>
+    ensures change { Gives (λ change. change) result (put_of (mark_at marks.old (Glyph name.now)) (named.Glyph name.now) (places.Glyph name.now) words.now) }
+    ensures others { (k : Key) → mark_at marks.new k ≡ without (Glyph name.now) (mark_at marks.old) k }
 {
+    let Some(moved) = marks.take_glyph(name.as_slice()) else {
+        return Ok(None);
+    };
     let body = compiled_glyph(alloc, name.as_slice(), words)?;
-    Ok(EntryChange {
+    Ok(Some(EntryChange {
         named: Named::Glyph(Bytes::copied(alloc, name.as_slice())?),
         body: Some(body),
         moved,
-    })
+    }))
 }
 
-/// Takes the key of an item out, where it is among these, and gives whether an edit added it.
-fn take_key(keys: &mut EditedKeys, item: &Item) -> Option<bool>
-    ensures flag { result ≡ flag_in (flag_at keys.old) (entry_of item.now) }
-    ensures left { (k : Key) → flag_at keys.new k ≡ left (item.now ∷ []) (flag_at keys.old) k }
-{
-    match item {
-        Item::Subr(number, _, _) => take_subr(&mut keys.subrs, *number),
-        Item::Glyph(name, _, _) => take_glyph(&mut keys.glyphs, name.as_slice()),
-        Item::Plain(_) => None,
-        Item::Section(_, _, _) => None,
-    }
-}
-
-/// The change of an item whose key is among these, or the fault of its words.
+/// The entry of an item with its commands, or its fault, where it is marked; its mark is taken out.
 fn item_change(
     alloc: Global,
-    keys: &mut EditedKeys,
+    marks: &mut Marks,
     item: &Item,
 ) -> Result<Option<EntryChange>, Refusal>
-    ensures change { Gives (option_map key_change) result (entry_change (flag_at keys.old) (entry_of item.now)) }
-    ensures left { (k : Key) → flag_at keys.new k ≡ left (item.now ∷ []) (flag_at keys.old) k }
+    ensures change { Gives (λ change. change) result (item_put (mark_at marks.old) item.now) }
+    ensures others { (k : Key) → mark_at marks.new k ≡ behind_item item.now (mark_at marks.old) k }
 {
-    let Some(moved) = take_key(keys, item) else {
-        return Ok(None);
-    };
     match item {
-        Item::Subr(number, words, _) => Ok(Some(subr_change(alloc, *number, words, moved)?)),
-        Item::Glyph(name, words, _) => Ok(Some(glyph_change(alloc, name, words, moved)?)),
+        Item::Subr(number, words, _) => subr_change(alloc, marks, *number, words),
+        Item::Glyph(name, words, _) => glyph_change(alloc, marks, name, words),
         Item::Plain(_) => Ok(None),
         Item::Section(_, _, _) => Ok(None),
     }
 }
 
-/// Puts a change behind others, where there is one.
+/// Adds a change, where there is one.
 fn push_change(
     changes: &mut Vec<EntryChange>,
     change: Option<EntryChange>,
@@ -100,51 +94,75 @@ fn push_change(
     Ok(())
 }
 
-/// The changes of the items whose keys are among these, in their order, or their first fault. Each key is taken out at its
-/// item.
-fn item_changes(
+/// The marked entries of the items, each with its commands, or the first fault of one; their marks are taken out.
+fn changes_of_items(
     alloc: Global,
-    keys: &mut EditedKeys,
+    marks: &mut Marks,
     items: &[Item],
 ) -> Result<Vec<EntryChange>, Refusal>
-    ensures changes { Gives (λ changes. map key_change changes.items) result (told_changes (flag_at keys.old) items.now) }
-    ensures left { OnOk result ((k : Key) → flag_at keys.new k ≡ left items.now (flag_at keys.old) k) }
+    ensures changes { Gives (λ changes. changes.items) result (items_put (mark_at marks.old) items.now) }
+    ensures others { OnOk result ((k : Key) → mark_at marks.new k ≡ behind_items items.now (mark_at marks.old) k) }
 {
     let mut changes = Vec::new(alloc);
     for item in items {
-        let change = item_change(alloc, keys, item)?;
+        let change = item_change(alloc, marks, item)?;
         push_change(&mut changes, change)?;
     }
     Ok(changes)
 }
 
-/// Puts the entries of the keys behind the changes, as removed.
-fn push_removed(changes: &mut Vec<EntryChange>, keys: EditedKeys) -> Result<(), AllocError>
-    ensures { OnOk result (AreRemoved (flag_at keys) (map key_change changes.old.items) (map key_change changes.new.items)) }
+/// An entry that was removed, where it is still marked; its mark is taken out.
+fn removed_change(marks: &mut Marks, named: Named) -> Option<EntryChange>
+    ensures change { result ≡ removed_at (mark_at marks.old (key_of named)) named }
+    ensures others { (k : Key) → mark_at marks.new k ≡ without (key_of named) (mark_at marks.old) k }
 {
-    let mut left = keys;
-    while let Some(named) = left.pop() {
-        changes.push(EntryChange {
-            named,
-            body: None,
-            moved: false,
-        })?;
+    marks.take(&named)?;
+    Some(EntryChange {
+        named,
+        body: None,
+        moved: false,
+    })
+}
+
+/// Adds the entries that are still marked: they were removed.
+fn push_removed(
+    changes: &mut Vec<EntryChange>,
+    marks: Marks,
+    entries: Vec<EditedEntry>,
+) -> Result<(), AllocError>
+    ensures { OnOk result (changes.new.items ≡ changes.old.items ++ all_removed (mark_at marks) entries.items) }
+{
+    let mut marks = marks;
+    for entry in entries {
+        let change = removed_change(&mut marks, entry.named);
+        push_change(changes, change)?;
     }
     Ok(())
 }
 
-/// What became of the entries that edits name, by the source after the edits: the body of each, those of the source in their
-/// order, then those that were removed. Or the first fault of their words: where the bodies of the source before the edits
-/// have no fault it is the first of the edited source.
+/// What became of the entries, or the first fault of one.
+fn changes_by_entries(
+    alloc: Global,
+    items: &[Item],
+    entries: Vec<EditedEntry>,
+) -> Result<Vec<EntryChange>, Refusal>
+    ensures { Gives (λ changes. changes.items) result (changes_by entries.items items.now) }
+{
+    let mut marks = Marks::of(alloc, entries.as_slice())?;
+    let mut changes = changes_of_items(alloc, &mut marks, items)?;
+    push_removed(&mut changes, marks, entries)?;
+    Ok(changes)
+}
+
+/// What became of the entries that the edits of a batch name, each once: its body in the batch's source, `None` where it was
+/// removed, and whether an edit added it. Or the source's first fault. It is one pass over the source, and compiles these
+/// entries alone.
 pub fn batch_changes(
     alloc: Global,
     source: &Source,
     entries: Vec<EditedEntry>,
 ) -> Result<Vec<EntryChange>, Refusal>
-    ensures { (old : SourceParts) → bodies_check old.items ≡ Ok tt → IsEditedBy (map entry_edit entries.items) old source.now → MatchResult result (λ changes. AreBatchChanges old source.now (keys_named (map entry_edit entries.items)) changes.items) (λ refusal. Refuses refusal (file_check source.now)) }
+    ensures { (old : SourceParts) → IsWellFormed old → bodies_check old.items ≡ Ok tt → IsEditedBy (map entry_edit entries.items) old source.now → MatchResult result (λ changes. AreBatchChanges old source.now (keys (map entry_edit entries.items)) changes.items) (λ refusal. Refuses refusal (file_check source.now)) }
 {
-    let mut keys = keys_of(alloc, entries)?;
-    let mut changes = item_changes(alloc, &mut keys, source.items())?;
-    push_removed(&mut changes, keys)?;
-    Ok(changes)
+    changes_by_entries(alloc, source.items(), entries)
 }

@@ -8,7 +8,8 @@
 mod batch;
 mod changes;
 mod entries;
-mod keys;
+pub mod laws;
+mod marks;
 
 pub use batch::Batch;
 pub use changes::batch_changes;

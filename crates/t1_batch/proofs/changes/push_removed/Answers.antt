@@ -1,11 +1,15 @@
-use Rattle.std.proofs.Common.{false, refl, None}
-use Rattle.t1_rerun.specs.declared.settling.EntryChange.{EntryChange}
-use Rattle.t1_batch.specs.Keys.{flag_at}
-use Rattle.t1_batch.proofs.Passing.{one-removed}
+use Rattle.std.proofs.Common.{◌∙◌, ◌++◌, ap}
+use Rattle.t1_batch.specs.Passing.{all_removed, mark_at}
+use Rattle.t1_batch.proofs.Gathering.{removed-more}
 use Rattle.t1_batch.proofs.changes.push_removed.Goals as goal
 
-pub loop-named-preserved : goal.loop-named-preserved
-loop-named-preserved c =
-    let removed : EntryChange = record { named = c.in-Some.named; body = None; moved = false } in
-    one-removed (flag_at c.args.keys) (flag_at c.loop-named.left) (flag_at c.pop.new.self) c.args.changes.now.items c.loop-named.changes.items c.push.new.self.items
-    removed c.loop-named.invariant refl refl c.in-Some.ensures.there c.in-Some.ensures.others c.in_ok-push.ensures.items
+pub loop-entry-preserved : goal.loop-entry-preserved
+loop-entry-preserved c =
+    let old = mark_at c.loop-entry.marks in
+    let new = mark_at c.removed_change-change.new.marks in
+    let done = c.loop-entry.changes.items in
+    let told = c.removed_change-change.ensures in
+    c.loop-entry.invariant
+    ∙ ap (λ l. done ++ all_removed old l) c.in-Some.ensures.steps.0
+    ∙ removed-more c.in-Some.entry c.next.new.self.rest.items old new done c.push_change.new.changes.items c.removed_change-change.result told.change told.others
+    c.in_ok-push_change.ensures

@@ -1,10 +1,9 @@
-use Rattle.t1_batch.specs.Keys.{flag_at, key_count}
-use Rattle.t1_batch.proofs.Passing.{IsRemoving}
+use Rattle.std.proofs.Common.{◌≡◌, ◌++◌}
+use Rattle.t1_batch.specs.Passing.{all_removed, mark_at}
 use Rattle.t1_batch.proofs.changes.push_removed.Given as goal
 
--- the keys so far
-abbrev pub invariant-loop-named : goal.invariant-loop-named
-invariant-loop-named l = IsRemoving (flag_at l.fn.keys) (flag_at l.left) l.fn.changes.items l.changes.items
-
-abbrev pub decreases-loop-named : goal.decreases-loop-named
-decreases-loop-named l = key_count l.left
+-- the changes so far, in front of those of the entries that are left
+abbrev pub invariant-loop-entry : goal.invariant-loop-entry
+invariant-loop-entry l =
+    l.fn.changes.items ++ all_removed (mark_at l.fn.marks) l.fn.entries.items
+    ≡ l.changes.items ++ all_removed (mark_at l.marks) l.entry-iterator.rest.items
