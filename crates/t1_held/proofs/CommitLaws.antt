@@ -1,5 +1,5 @@
 -- What the edits of a batch make of the charstrings that are held.
-use Rattle.std.proofs.Common.{◌≡◌, ◌<◌, ◌+◌, ℕ, suc, Bool, true, false, cond, ◌&&◌, List, [], ◌∷◌, ◌++◌, map, filter, drop, drop-cons, get_or, length, add-one, Option, Some, None, refl, ap, sym, ◌∙◌, append-nil}
+use Rattle.std.proofs.Common.{◌≡◌, ◌<◌, ◌+◌, ℕ, suc, Bool, true, false, cond, ◌&&◌, ◌||◌, List, [], ◌∷◌, ◌++◌, map, filter, drop, drop-cons, get_or, length, add-one, Option, Some, None, Ok, refl, ap, sym, ◌∙◌, append-nil}
 use Rattle.std.specs.Prelude.{is_none}
 use Rattle.std.specs.List.{AllByRecursion, list_any}
 use Rattle.std.specs.Option.{option_map, option_or}
@@ -11,7 +11,7 @@ use Rattle.t1_font.specs.Bodies.{bodies}
 use Rattle.t1_font.proofs.Compiling.{or-assoc, or-none}
 use Rattle.t1_charstrings.specs.declared.batch.Gone.{Gone}
 use Rattle.t1_charstrings.specs.declared.entries.Charstrings.{Charstrings}
-use Rattle.t1_charstrings.specs.Batch.{gone_key, is_gone, AreFresh, AreGone}
+use Rattle.t1_charstrings.specs.Batch.{gone_key, is_gone, AreFresh, AreGone, IsBatchOf}
 use Rattle.t1_charstrings.specs.Changed.{Sets}
 use Rattle.t1_charstrings.specs.Entries.{Kept, encrypted, body_at as kept_body_at, key_eq as same_key}
 use Rattle.t1_charstrings.specs.Kept.{kept_at}
@@ -20,7 +20,22 @@ use Rattle.t1_cache.specs.Users.{key_eq, key_of}
 use Rattle.t1_cache.proofs.Adding.{key-same}
 use Rattle.t1_rerun.specs.declared.settling.EntryChange.{EntryChange}
 use Rattle.t1_rerun.specs.Settled.{changed_keys, AreDistinctKeys, HasBody}
-use Rattle.t1_held.specs.Commit.{fresh_in, fresh_one, gone_keys}
+use Rattle.t1_source.specs.WellFormed.{IsWellFormed}
+use Rattle.t1_font.specs.Assembly.{file_check}
+use Rattle.t1_font.specs.Glyphs.{glyph_names}
+use Rattle.t1_charstrings.specs.Kept.{AreEncrypted}
+use Rattle.t1_cache.specs.Edited.{stale}
+use Rattle.t1_cache.specs.Renewed.{Kept as KeptGlyph}
+use Rattle.t1_cache.proofs.Distinct.{names_distinct}
+use Rattle.t1_rerun.specs.Changing.{AreChangesOf}
+use Rattle.t1_rerun.specs.Opened.{runs_where}
+use Rattle.t1_rerun.specs.Renewing.{IsRunWhereStale}
+use Rattle.t1_batch.specs.Batch.{AreBatchChanges}
+use Rattle.t1_batch.specs.Members.{HaveSameKeys}
+use Rattle.t1_batch.proofs.Members.{same_stale, same_stale_glyphs}
+use Rattle.t1_held.specs.declared.held.Held.{Held}
+use Rattle.t1_held.specs.Commit.{commit_runs, fresh_in, fresh_one, gone_keys}
+use Rattle.t1_held.specs.Held.{IsHeld}
 
 -- ---- keys
 
@@ -82,25 +97,25 @@ module _ (front : ℕ) (made : SourceParts) (k : Key) where
 
   fresh-none : (changes : List EntryChange) → list_any (key_eq k) (changed_keys changes) ≡ false → fresh_in front changes k ≡ None
   fresh-none [] e = refl
-  fresh-none (c ∷ changes) e = by (key_eq k (key_of c.named)) refl where
-    by : (b : Bool) → key_eq k (key_of c.named) ≡ b → option_or (fresh_in front changes k) (cond b (option_map (encrypted front k) c.body) None) ≡ None
-    by true on = let never : true ≡ false = sym (rw on refl) ∙ e in absurd (cc)
-    by false off =
-        let rest : list_any (key_eq k) (changed_keys changes) ≡ false = sym (rw off refl) ∙ e in
-        sym (or-none (fresh_in front changes k)) ∙ fresh-none changes rest
+  fresh-none (c ∷ changes) e = by (key_eq k (key_of c.named)) e (fresh-none changes) where
+    by : (b : Bool) → (b || list_any (key_eq k) (changed_keys changes)) ≡ false
+        → (list_any (key_eq k) (changed_keys changes) ≡ false → fresh_in front changes k ≡ None)
+        → option_or (fresh_in front changes k) (cond b (option_map (encrypted front k) c.body) None) ≡ None
+    by true e rest = absurd (cc)
+    by false e rest = sym (or-none (fresh_in front changes k)) ∙ rest e
 
   fresh-at : (changes : List EntryChange) → AreDistinctKeys (changed_keys changes) → AllByRecursion (HasBody made) changes
       → fresh_in front changes k ≡ wanted-at (list_any (key_eq k) (changed_keys changes))
   fresh-at [] distinct has = refl
-  fresh-at (c ∷ changes) distinct has = by (key_eq k (key_of c.named)) refl where
-    by : (b : Bool) → key_eq k (key_of c.named) ≡ b
-        → option_or (fresh_in front changes k) (cond b (option_map (encrypted front k) c.body) None) ≡ wanted-at (list_any (key_eq k) (changed_keys (c ∷ changes)))
-    by true on =
+  fresh-at (c ∷ changes) distinct has = by (key_eq k (key_of c.named)) refl (fresh-at changes distinct.1 has.1) where
+    by : (b : Bool) → key_eq k (key_of c.named) ≡ b → fresh_in front changes k ≡ wanted-at (list_any (key_eq k) (changed_keys changes))
+        → option_or (fresh_in front changes k) (cond b (option_map (encrypted front k) c.body) None) ≡ wanted-at ((b || list_any (key_eq k) (changed_keys changes)))
+    by true on rest =
         let is : k ≡ key_of c.named = key-same k (key_of c.named) on in
         let none : fresh_in front changes k ≡ None = fresh-none changes (ap (λ j. list_any (key_eq j) (changed_keys changes)) is ∙ distinct.0) in
         let body : kept_body_at (bodies made.items) k ≡ c.body = same-body (bodies made.items) k ∙ ap (body_at (bodies made.items)) is ∙ has.0 in
-        ap (λ r. option_or r (option_map (encrypted front k) c.body)) none ∙ sym (ap (option_map (encrypted front k)) body) ∙ sym (rw on refl)
-    by false off = sym (or-none (fresh_in front changes k)) ∙ fresh-at changes distinct.1 has.1 ∙ sym (rw off refl)
+        ap (λ r. option_or r (option_map (encrypted front k) c.body)) none ∙ sym (ap (option_map (encrypted front k)) body)
+    by false off rest = sym (or-none (fresh_in front changes k)) ∙ rest
 
 pub fresh-are : (made : SourceParts) (changes : List EntryChange) (fresh : Charstrings) → AreDistinctKeys (changed_keys changes)
     → AllByRecursion (HasBody made) changes → ((k : Key) → kept_at fresh k ≡ fresh_in (lead made) changes k) → AreFresh (changed_keys changes) made fresh
@@ -129,36 +144,83 @@ gone-among : (k : Key) (gone : List Gone) → is_gone gone k ≡ list_any (same_
 gone-among k [] = refl
 gone-among k (g ∷ gone) = rw (gone-among k gone) refl
 
+-- a change in front of others adds its key to those that are gone, where it has no body
+gone-first : (c : EntryChange) (changes : List EntryChange) (k : Key) (b : Bool) → is_none c.body ≡ b
+    → list_any (key_eq k) (gone_keys (c ∷ changes)) ≡ cond b (key_eq k (key_of c.named) || list_any (key_eq k) (gone_keys changes)) (list_any (key_eq k) (gone_keys changes))
+gone-first c changes k true is = rw is refl
+gone-first c changes k false is = rw is refl
+
 module _ (made : SourceParts) (k : Key) where
   none-gone : (changes : List EntryChange) → list_any (key_eq k) (changed_keys changes) ≡ false → list_any (key_eq k) (gone_keys changes) ≡ false
   none-gone [] e = refl
-  none-gone (c ∷ changes) e = by (key_eq k (key_of c.named)) (is_none c.body) refl refl where
-    by : (b n : Bool) → key_eq k (key_of c.named) ≡ b → is_none c.body ≡ n → list_any (key_eq k) (gone_keys (c ∷ changes)) ≡ false
-    by true n on gone = let never : true ≡ false = sym (rw on refl) ∙ e in absurd (cc)
-    by false true off gone = rw (gone, off) (none-gone changes (sym (rw off refl) ∙ e))
-    by false false off gone = rw gone (none-gone changes (sym (rw off refl) ∙ e))
+  none-gone (c ∷ changes) e = gone-first c changes k (is_none c.body) refl ∙ by (is_none c.body) (key_eq k (key_of c.named)) e (none-gone changes) where
+    by : (n b : Bool) → (b || list_any (key_eq k) (changed_keys changes)) ≡ false
+        → (list_any (key_eq k) (changed_keys changes) ≡ false → list_any (key_eq k) (gone_keys changes) ≡ false)
+        → cond n (b || list_any (key_eq k) (gone_keys changes)) (list_any (key_eq k) (gone_keys changes)) ≡ false
+    by n true e rest = absurd (cc)
+    by true false e rest = rest e
+    by false false e rest = rest e
 
   gone-at : (changes : List EntryChange) → AreDistinctKeys (changed_keys changes) → AllByRecursion (HasBody made) changes
       → list_any (key_eq k) (gone_keys changes) ≡ (list_any (key_eq k) (changed_keys changes) && is_none (body_at (bodies made.items) k))
   gone-at [] distinct has = refl
-  gone-at (c ∷ changes) distinct has = by (key_eq k (key_of c.named)) (is_none c.body) refl refl where
-    by : (b n : Bool) → key_eq k (key_of c.named) ≡ b → is_none c.body ≡ n
-        → list_any (key_eq k) (gone_keys (c ∷ changes)) ≡ (list_any (key_eq k) (changed_keys (c ∷ changes)) && is_none (body_at (bodies made.items) k))
-    by true n on gone =
+  gone-at (c ∷ changes) distinct has =
+      gone-first c changes k (is_none c.body) refl ∙ by (is_none c.body) (key_eq k (key_of c.named)) refl refl (gone-at changes distinct.1 has.1) where
+    by : (n b : Bool) → is_none c.body ≡ n → key_eq k (key_of c.named) ≡ b
+        → list_any (key_eq k) (gone_keys changes) ≡ (list_any (key_eq k) (changed_keys changes) && is_none (body_at (bodies made.items) k))
+        → cond n (b || list_any (key_eq k) (gone_keys changes)) (list_any (key_eq k) (gone_keys changes))
+        ≡ ((b || list_any (key_eq k) (changed_keys changes)) && is_none (body_at (bodies made.items) k))
+    by n true gone on rest =
         let is : k ≡ key_of c.named = key-same k (key_of c.named) on in
         let body : body_at (bodies made.items) k ≡ c.body = ap (body_at (bodies made.items)) is ∙ has.0 in
         let none : list_any (key_eq k) (gone_keys changes) ≡ false = none-gone changes (ap (λ j. list_any (key_eq j) (changed_keys changes)) is ∙ distinct.0) in
-        here n gone on body none
+        here n ∙ sym (ap is_none body ∙ gone)
       where
-      here : (n : Bool) → is_none c.body ≡ n → key_eq k (key_of c.named) ≡ true → body_at (bodies made.items) k ≡ c.body → list_any (key_eq k) (gone_keys changes) ≡ false
-          → list_any (key_eq k) (gone_keys (c ∷ changes)) ≡ (list_any (key_eq k) (changed_keys (c ∷ changes)) && is_none (body_at (bodies made.items) k))
-      here true gone on body none = rw (gone, on, body, gone) refl
-      here false gone on body none = rw (gone, on, body, gone) none
-    by false true off gone = rw (gone, off) (gone-at changes distinct.1 has.1)
-    by false false off gone = rw (gone, off) (gone-at changes distinct.1 has.1)
+      here : (n : Bool) → cond n true (list_any (key_eq k) (gone_keys changes)) ≡ n
+      here true = refl
+      here false = none-gone changes (ap (λ j. list_any (key_eq j) (changed_keys changes)) (key-same k (key_of c.named) on) ∙ distinct.0)
+    by true false gone off rest = rest
+    by false false gone off rest = rest
 
 pub gone-are : (made : SourceParts) (changes : List EntryChange) (gone : List Gone) → AreDistinctKeys (changed_keys changes)
     → AllByRecursion (HasBody made) changes → map gone_key gone ≡ gone_keys changes → AreGone (changed_keys changes) made gone
 gone-are made changes gone distinct has are k =
     gone-among k gone ∙ ap (list_any (same_key k)) are ∙ among k (gone_keys changes) ∙ gone-at made k changes distinct has
     ∙ sym (ap (λ b. b && is_none (kept_body_at (bodies made.items) k)) (among k (changed_keys changes)) ∙ ap (λ r. list_any (key_eq k) (changed_keys changes) && is_none r) (same-body (bodies made.items) k))
+
+-- ---- a batch
+
+pub batch-is : (s made : SourceParts) (ks : List Key) (changes : List EntryChange) (c : Charstrings) → AreEncrypted s c → IsWellFormed made
+    → AreBatchChanges s made ks changes → lead made ≡ lead s → IsBatchOf (changed_keys changes) s made c
+batch-is s made ks changes c kept well are front =
+    record { kept = kept; well = well; sound = are.compiled; same = are.edited.bodies; front = front }
+
+pub run-where-stale : (count : ℕ) (ks ls : List Key) (s : SourceParts) (kept l : List KeptGlyph) → HaveSameKeys ks ls
+    → AllByRecursion (IsRunWhereStale count ks s kept) l → AllByRecursion (IsRunWhereStale count ls s kept) l
+run-where-stale count ks ls s kept [] same all = tt
+run-where-stale count ks ls s kept (k ∷ l) same all = (one, run-where-stale count ks ls s kept l same all.1) where
+  one : IsRunWhereStale count ls s kept k
+  one = record {
+    stale = λ is. all.0.stale (same_stale ks ls same s k.name ∙ is);
+    fresh = λ is. all.0.fresh (same_stale ks ls same s k.name ∙ is);
+  }
+
+module _ (s made : SourceParts) (ks : List Key) (changes : List EntryChange) (h : Held) (held : IsHeld s h) (well : IsWellFormed made)
+    (are : AreBatchChanges s made ks changes) (file : file_check made ≡ Ok tt) where
+  pub changes_of : AreChangesOf changes s made h.records (glyph_names made.items)
+  changes_of = record {
+    right = held.right;
+    edited = are.edited;
+    keys = are.keys;
+    bodies = are.bodies;
+    file = file;
+    distinct = names_distinct made well;
+    order = are.order;
+    last = are.last;
+    names = refl;
+  }
+
+  -- as many runs as stale glyphs
+  pub commit_runs_are : length (stale s (changed_keys changes) made) ≡ commit_runs ks s made
+  commit_runs_are =
+      ap length (same_stale_glyphs (changed_keys changes) ks are.same s made) ∙ sym (ap (λ r. runs_where r (stale s ks made)) file)

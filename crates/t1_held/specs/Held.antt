@@ -37,7 +37,7 @@ pub record IsPreparedEdit (s : SourceParts) (k : List Pair) (edit : Edit) (chang
 pub record IsReadyEdit (count : ℕ) (edit : Edit) (s made : SourceParts) (h : Held) (ready : ReadyEdit) : Type 0 where
   pub change : Option EntryChange
   pub keys : changed_keys (option_to_list change) ≡ named edit
-  pub records : IsReadyFor count change s made h.records ready.records
+  pub records : IsReadyFor count (option_to_list change) s made h.records ready.records
   pub lines : IsReadyLines made h.charstrings ready.lines
 
 -- there are such an edit and such sources
