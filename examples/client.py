@@ -66,7 +66,7 @@ class Session:
         self.edit("commit")
 
     def print(self, what):
-        """The bytes of what is printed: 'source', 'kern', 'pfb', 'afm' or 'uses'."""
+        """The bytes of what is printed: 'source', 'kern', 'pfb', 'pfb N' in segments, 'pfa', 'afm' or 'uses'."""
         answer = self._ask([f"print {what}"])
         head, _, length = answer.partition(" ")
         if head != "data":

@@ -10,7 +10,7 @@ the AFM file that are new are shown.
 import os
 import sys
 
-from client import Refused, Session
+from client import Refused, Session, Stopped
 
 
 def metrics(font):
@@ -35,4 +35,9 @@ def main(source, glyph, *bodies):
             before = now
 
 
-main(*sys.argv[1:])
+if len(sys.argv) < 4:
+    sys.exit("usage: nudge.py SOURCE GLYPH BODY..")
+try:
+    main(*sys.argv[1:])
+except (Refused, Stopped) as error:
+    sys.exit(f"nudge.py: {error}")

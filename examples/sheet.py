@@ -26,7 +26,10 @@ CHAR = re.compile(r"(?m)^C (-?\d+) ; WX? (-?\d+).* ; N (\S+) ; B (-?\d+) (-?\d+)
 
 
 def by_program(command, source):
-    return subprocess.run([PROGRAM, command, "-"], input=source, stdout=subprocess.PIPE, check=True).stdout
+    ran = subprocess.run([PROGRAM, command, "-"], input=source, stdout=subprocess.PIPE)
+    if ran.returncode:
+        sys.exit(ran.returncode)  # (the program has said why)
+    return ran.stdout
 
 
 def path(outline):
@@ -63,8 +66,8 @@ def main(source, target):
         text = file.read()
     if b"/FontMatrix" not in text:
         text = text.replace(b"currentfile eexec", MATRIX + b"currentfile eexec", 1)
-    face = freetype.Face(io.BytesIO(by_program("assemble", text)))
     chars = CHAR.findall(by_program("measure", text).decode("latin-1"))
+    face = freetype.Face(io.BytesIO(by_program("assemble", text)))
     cells = []
     for at, (_, width, name, *box) in enumerate(chars):
         face.load_glyph(face.get_name_index(name.encode("latin-1")), freetype.FT_LOAD_NO_SCALE | freetype.FT_LOAD_NO_HINTING)
@@ -79,4 +82,9 @@ def main(source, target):
     print(f"{len(cells)} glyphs in {target}")
 
 
-main(*sys.argv[1:])
+if len(sys.argv) != 3:
+    sys.exit("usage: sheet.py SOURCE FILE.svg")
+try:
+    main(*sys.argv[1:])
+except (OSError, freetype.FT_Exception) as error:
+    sys.exit(f"sheet.py: {error}")

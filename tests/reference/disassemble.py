@@ -1,7 +1,11 @@
 # Independent implementation for the tests; no part of the product.
-"""A font disassembled to a readable source, for fonts that t1disasm can't read to their end."""
+"""A font disassembled to a readable source, for fonts that t1disasm can't read to their end.
+
+usage: disassemble.py FONT > SOURCE
+"""
 
 import re
+import sys
 
 from charstrings import COMMANDS
 
@@ -93,3 +97,8 @@ def disassembled(file):
     private = private_text(plain[:closed] + b"\n", int(lead[1]) if lead else 4)
     kept = [line for line in lines_of(tail).split(b"\n") if line.strip(b"0")]
     return lines_of(clear) + private + b"\n".join(kept) + b"\n"
+
+
+if __name__ == "__main__":
+    with open(sys.argv[1], "rb") as font:
+        sys.stdout.buffer.write(disassembled(font.read()))

@@ -19,7 +19,7 @@ use Rattle.t1_session.proofs.session.Session.make.Goals as goal
 pub prepare_edit-prepared-requires : goal.prepare_edit-prepared-requires
 prepare_edit-prepared-requires c =
     let s = c.self.inside in
-    edit_prepared s.source s.pairs s.held c.args.edit.now c.args.change c.self.invariant c.text_of_source_read.ensures
+    edit_prepared s.source s.pairs s.held c.args.edit.now c.args.change c.self.invariant.0 c.text_of_source_read.ensures
     (subst (λ (v : SessionView). Serves c.args.change v.state.source v.state.pairs) (sym c.self.view_is) c.requires.serves)
     (subst (λ (v : SessionView). edited v.state.source v.state.pairs c.args.edit.now ≡ Ok (changed c.args.change v.state.source v.state.pairs)) (sym c.self.view_is) c.requires.made)
 
@@ -44,7 +44,7 @@ returns-in-Err-clause-took c =
     (subst (λ (v : SessionView). v.state.batch ≡ None) (sym c.self.view_is) c.requires.none)))
 
 pub returns-in-Err-clause-right : goal.returns-in-Err-clause-right
-returns-in-Err-clause-right c = subst (KeepsAll c.self.inside.source) (sym c.in-Err.ensures.kept) c.self.invariant.right.kept
+returns-in-Err-clause-right c = subst (KeepsAll c.self.inside.source) (sym c.in-Err.ensures.kept) c.self.invariant.0.right.kept
 
 pub returns-in-Err-clause-runs : goal.returns-in-Err-clause-runs
 returns-in-Err-clause-runs c =

@@ -9,4 +9,4 @@ pub returns-clause-source : goal.returns-clause-source
 returns-clause-source c =
     let s = c.self.inside in
     subst (λ (v : SessionView). reads (text v.state.source) ≡ Ok v.state.source) c.self.view_is
-    (c.text_of_source_read.ensures (counts_checked s.source (held_checked s.source s.held c.self.invariant)))
+    (c.text_of_source_read.ensures (counts_checked s.source (held_checked s.source s.held c.self.invariant.0)))
