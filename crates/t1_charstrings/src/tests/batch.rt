@@ -42,19 +42,29 @@ const BARE: &str = "\
     end\n\
     mark currentfile closefile\n";
 
-/// The charstrings of the font with a Subr and the length of its private text, brought to those after the edits.
-fn settled(alloc: Global) -> Result<(Charstrings, usize), Fail> {
-    let source = read(alloc, SUBR)?;
-    let mut charstrings = charstrings_of(alloc, &source)?;
-    let mut len = private_len(&charstrings, &source);
+/// The charstrings of the glyphs that are replaced and added.
+fn fresh(alloc: Global) -> Result<Charstrings, Fail> {
     let mut fresh = no_charstrings(alloc);
     let replaced = body(alloc, "20 700 hsbw endchar")?;
     put_fresh_glyph(alloc, 2, &mut fresh, b"A", &replaced)?;
     let added = body(alloc, "30 800 hsbw 4 callsubr endchar")?;
     put_fresh_glyph(alloc, 2, &mut fresh, b"B", &added)?;
+    Ok(fresh)
+}
+
+/// The glyph that is removed.
+fn gone(alloc: Global) -> Result<Vec<Gone>, Fail> {
     let mut gone = Vec::new(alloc);
     gone.push(Gone::Glyph(Vec::from_slice(alloc, b"space")?))?;
-    let ready = prepare_batch(&mut charstrings, &read(alloc, EDITED)?, fresh, gone)?;
+    Ok(gone)
+}
+
+/// The charstrings of the font with a Subr and the length of its private text, brought to those after the edits.
+fn settled(alloc: Global) -> Result<(Charstrings, usize), Fail> {
+    let made = read(alloc, EDITED)?;
+    let mut charstrings = charstrings_of(alloc, &read(alloc, SUBR)?)?;
+    let mut len = 0;
+    let ready = prepare_batch(&mut charstrings, &made, fresh(alloc)?, gone(alloc)?)?;
     settle_batch(&mut charstrings, &mut len, ready);
     Ok((charstrings, len))
 }
@@ -112,9 +122,8 @@ fn puts_a_fresh_subr(rt: HostRuntime) -> Result<(), Fail> {
 
 /// The small font's charstrings and the length of its private text, brought to those after its lenIV was edited.
 fn anew(alloc: Global) -> Result<(Charstrings, usize), Fail> {
-    let source = read(alloc, SMALL)?;
-    let mut charstrings = charstrings_of(alloc, &source)?;
-    let mut len = private_len(&charstrings, &source);
+    let mut charstrings = charstrings_of(alloc, &read(alloc, SMALL)?)?;
+    let mut len = 0;
     let ready = prepare_anew(alloc, &read(alloc, BARE)?)?;
     settle_lines(&mut charstrings, &mut len, ready);
     Ok((charstrings, len))
