@@ -17,7 +17,7 @@ mod users;
 mod uses;
 
 pub use changed::{
-    insert_glyph, insert_subr, put_glyph, put_in_subr, put_last_glyph, put_subr, remove_glyph,
+    insert_glyph, insert_subr, put_glyph, put_in_subr, put_last_glyph, put_subr, remove_glyph, remove_glyphs,
     remove_subr,
 };
 pub use records::{GlyphRecord, Named, Names, NewRun, NewRuns, Records, Rerun, SubrRecord};
