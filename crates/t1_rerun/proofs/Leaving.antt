@@ -12,6 +12,7 @@ use Rattle.t1_cache.specs.Bodies.{record_bodies}
 use Rattle.t1_cache.specs.Overlay.{body_at}
 use Rattle.t1_cache.specs.Renewed.{Kept, kept, kept_of}
 use Rattle.t1_cache.specs.Users.{has, is_key_among, key_eq, key_of, users_at}
+use Rattle.t1_cache.proofs.Putting.{bytes_tell}
 use Rattle.t1_rerun.specs.declared.settling.steps.Step.{Step}
 use Rattle.t1_rerun.specs.declared.settling.steps.Step.TheVariants as steps
 use Rattle.t1_rerun.specs.Steps.{after, after_all, seen, step_body, step_kept, step_key, step_users, takes_out, AreTakenOut, Seen}
@@ -45,7 +46,7 @@ filter-all (k ∷ ks) = ap (λ l. k ∷ l) (filter-all ks)
 -- ---- seen alike but for some glyphs
 
 -- the glyph of a key is one of these
-of-key : (List ℕ → Bool) → Key → Bool
+abbrev of-key : (List ℕ → Bool) → Key → Bool
 of-key p (Subr n) = false
 of-key p (Glyph g) = p g
 
@@ -94,27 +95,27 @@ of-named g (Glyph h) = refl
 
 kept-after : (p : List ℕ → Bool) (step : Step) (xs ys : List Kept) → filter (λ k. not (p k.name)) ys ≡ filter (λ k. not (p k.name)) xs
     → filter (λ k. not (still p step k.name)) (step_kept step ys) ≡ filter (λ k. not (still p step k.name)) (step_kept step xs)
-kept-after p (steps.Remove named) xs ys same = as ys ∙ taken-kept p (λ g. key_eq (Glyph g) (key_of named)) xs ys same ∙ sym (as xs) where
-  as : (ks : List Kept) → filter (λ k. not (still p (steps.Remove named) k.name)) (filter (λ k. not (is_key_of k.name (key_of named))) ks)
+kept-after p (steps.Remove named) xs ys same = each ys ∙ taken-kept p (λ g. key_eq (Glyph g) (key_of named)) xs ys same ∙ sym (each xs) where
+  each : (ks : List Kept) → filter (λ k. not (still p (steps.Remove named) k.name)) (filter (λ k. not (is_key_of k.name (key_of named))) ks)
       ≡ filter (λ k. not (still p (steps.Remove named) k.name)) (filter (λ k. not (key_eq (Glyph k.name) (key_of named))) ks)
-  as ks =
+  each ks =
       ap (filter (λ k. not (still p (steps.Remove named) k.name)))
       (filter-same (λ k. not (is_key_of k.name (key_of named))) (λ k. not (key_eq (Glyph k.name) (key_of named))) (λ k. ap not (of-named k.name (key_of named))) ks)
-kept-after p (steps.Put named body) xs ys same = as ys ∙ same ∙ sym (as xs) where
-  as : (ks : List Kept) → filter (λ k. not (p k.name && true)) ks ≡ filter (λ k. not (p k.name)) ks
-  as ks = filter-same (λ k. not (p k.name && true)) (λ k. not (p k.name)) (λ k. ap not (stays-false (p k.name))) ks
-kept-after p (steps.InsertSubr n r) xs ys same = as ys ∙ same ∙ sym (as xs) where
-  as : (ks : List Kept) → filter (λ k. not (p k.name && true)) ks ≡ filter (λ k. not (p k.name)) ks
-  as ks = filter-same (λ k. not (p k.name && true)) (λ k. not (p k.name)) (λ k. ap not (stays-false (p k.name))) ks
-kept-after p (steps.InsertGlyph name r) xs ys same = as ys ∙ ap (λ l. l ++ filter left (new ∷ [])) (taken-kept p (λ g. bytes_eq g name.items) xs ys same) ∙ sym (as xs) where
+kept-after p (steps.Put named body) xs ys same = each ys ∙ same ∙ sym (each xs) where
+  each : (ks : List Kept) → filter (λ k. not (p k.name && true)) ks ≡ filter (λ k. not (p k.name)) ks
+  each ks = filter-same (λ k. not (p k.name && true)) (λ k. not (p k.name)) (λ k. ap not (stays-false (p k.name))) ks
+kept-after p (steps.InsertSubr n r) xs ys same = each ys ∙ same ∙ sym (each xs) where
+  each : (ks : List Kept) → filter (λ k. not (p k.name && true)) ks ≡ filter (λ k. not (p k.name)) ks
+  each ks = filter-same (λ k. not (p k.name && true)) (λ k. not (p k.name)) (λ k. ap not (stays-false (p k.name))) ks
+kept-after p (steps.InsertGlyph name r) xs ys same = each ys ∙ ap (λ l. l ++ filter left (new ∷ [])) (taken-kept p (λ g. bytes_eq g name.items) xs ys same) ∙ sym (each xs) where
   left : Kept → Bool
   left k = not (still p (steps.InsertGlyph name r) k.name)
 
   new : Kept
   new = kept name.items r.run r.bbox
 
-  as : (ks : List Kept) → filter left (filter (λ k. not (bytes_eq name.items k.name)) ks ++ new ∷ []) ≡ filter left (filter (λ k. not (bytes_eq k.name name.items)) ks) ++ filter left (new ∷ [])
-  as ks =
+  each : (ks : List Kept) → filter left (filter (λ k. not (bytes_eq name.items k.name)) ks ++ new ∷ []) ≡ filter left (filter (λ k. not (bytes_eq k.name name.items)) ks) ++ filter left (new ∷ [])
+  each ks =
       filter-append left (filter (λ k. not (bytes_eq name.items k.name)) ks) (new ∷ [])
       ∙ ap (λ l. filter left l ++ filter left (new ∷ []))
       (filter-same (λ k. not (bytes_eq name.items k.name)) (λ k. not (bytes_eq k.name name.items)) (λ k. ap not (turned name.items k.name)) ks)
@@ -224,3 +225,13 @@ taken-at (s ∷ steps) (suc at) step g far is on = or-right (takes_out s g) (som
   or-right : (a b : Bool) → b ≡ true → (a || b) ≡ true
   or-right true b h = refl
   or-right false b h = h
+
+-- one name more
+pub taken-more : (steps : List Step) (names new : List (Vec ℕ Global)) (key : Vec ℕ Global) (at : ℕ) (step : Step) → AreTakenOut names steps
+    → ((g : List ℕ) → has (λ name. name.items) new g ≡ (has (λ name. name.items) names g || bytes_eq g key.items))
+    → at < length steps → step ≡ get_or steps at step → takes_out step key.items ≡ true → AreTakenOut new steps
+taken-more steps names new key at step taken more far is on = λ g h. by g (has (λ name. name.items) names g) refl (bytes_eq g key.items) refl (sym (more g) ∙ h) where
+  by : (g : List ℕ) (a : Bool) → has (λ name. name.items) names g ≡ a → (b : Bool) → bytes_eq g key.items ≡ b → (a || b) ≡ true → list_any (λ s. takes_out s g) steps ≡ true
+  by g true old b e h = taken g old
+  by g false old true e h = taken-at steps at step g far is (ap (takes_out step) (bytes_tell.same g key.items e) ∙ on)
+  by g false old false e h = absurd (cc)

@@ -1,17 +1,15 @@
-use Rattle.std.proofs.Common.{rules, ◌≡◌, ◌&&◌, ℕ, Bool, false, List, Option, None, Some, IfOk, IfSome, true, is_some, length, not, if◌then◌else◌, ◌+◌, ◌-◌, ◌*◌, ◌<◌, ◌≤◌, ◌/◌, ◌%◌, nat_eq, nat_lt, [], ◌∷◌, ◌++◌, slice_index_or, slice_set, bit_and, bit_or, Fits, w8, w32, w64, Bor, MutBor}
-use Rattle.std.specs.Str.{bytes_eq}
-use Rattle.t1_run.specs.Run.{Glyph, NumberedRun}
-use Rattle.t1_afm.specs.declared.bbox.BBox.{BBox}
-use Rattle.t1_cache.specs.declared.records.Named.TheVariants as named
-use Rattle.t1_cache.specs.Bodies.{record_bodies}
-use Rattle.t1_cache.specs.Overlay.{body_at}
-use Rattle.t1_cache.specs.Renewed.{reruns_by_name}
-use Rattle.t1_cache.specs.Room.{count_at}
-use Rattle.t1_cache.specs.Users.{wanted}
-use Rattle.t1_rerun.specs.Settled.{changed_keys, AreDistinctKeys}
-use Rattle.t1_rerun.specs.Steps.{changed, inserts, new_run, new_run_of, some_inserts, takes_out, AreStepsOf, AreTakenOut, IsStepOf}
+use Rattle.std.proofs.Common.{◌∙◌, ap}
+use Rattle.t1_cache.specs.Users.{has}
+use Rattle.t1_cache.proofs.Names.{name-inserted}
+use Rattle.t1_rerun.specs.Steps.{takes_out}
+use Rattle.t1_rerun.proofs.Leaving.{taken-more}
 use Rattle.t1_rerun.proofs.settling.preparing.taken_out.Goals as goal
 
--- src/settling/preparing.rt:191:5
 pub loop-step-preserved : goal.loop-step-preserved
-loop-step-preserved c = ?
+loop-step-preserved c =
+    let keys = c.loop-step.names.keys in
+    let key = c.in_ok-from_slice.field-0 in
+    let step = c.step-item.result in
+    taken-more c.args.steps.now keys c.insert.new.self.keys key c.loop-step.step-index step c.loop-step.invariant
+    (λ g. ap (λ ks. has (λ name. name.items) ks g) c.in_ok-insert.ensures.keys ∙ name-inserted (λ x. x.items) g key keys)
+    c.loop-step-test.true c.step-item.is (ap (takes_out step) c.in_ok-from_slice.ensures.items ∙ c.in-Some.ensures)
