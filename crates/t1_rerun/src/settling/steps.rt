@@ -9,8 +9,8 @@ ghost use Rattle.t1_run.specs.Run.{Key};
 ghost use Rattle.t1_rerun.specs.Steps.{after, after_all, seen, AreTakenOut};
 
 use t1_cache::{
-    GlyphRecord, Named, Names, Records, SubrRecord, put_glyph, put_in_subr, put_last_glyph, put_subr,
-    remove_glyph, remove_glyphs, remove_subr,
+    GlyphRecord, Named, Names, Records, SubrRecord, put_glyph, put_in_subr, put_last_glyph,
+    put_subr, remove_glyph, remove_glyphs, remove_subr,
 };
 use t1_code::Body;
 

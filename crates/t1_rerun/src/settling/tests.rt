@@ -54,7 +54,10 @@ fn change(
     let changes = changes_of(alloc, Some(change))?;
     let ready = make_ready(alloc, records, changes, renewal)?;
     let Ready {
-        steps, taken, runs, ..
+        steps,
+        taken,
+        runs,
+        ..
     } = ready;
     change_all(records, steps, &taken);
     renew_by_name(&mut records.glyphs, runs);
@@ -220,7 +223,10 @@ fn change_three(alloc: Global) -> Result<(Records, u64), Fail> {
     let renewal = renewal_of_three(alloc, &records, &changes, &mut meter)?;
     let ready = make_ready(alloc, &mut records, changes, renewal)?;
     let Ready {
-        steps, taken, runs, ..
+        steps,
+        taken,
+        runs,
+        ..
     } = ready;
     change_all(&mut records, steps, &taken);
     renew_by_name(&mut records.glyphs, runs);

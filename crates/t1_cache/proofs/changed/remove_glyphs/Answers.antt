@@ -1,7 +1,5 @@
-use Rattle.std.proofs.Common.{rules, Vec, Global, ◌≡◌, ◌∙◌, List, None, ap, cond, filter, map, not, refl}
-use Rattle.std.specs.Map.{lookup}
+use Rattle.std.proofs.Common.{rules, ◌≡◌, ◌∙◌, None, ap, cond, filter, map, not, refl}
 use Rattle.indexmap.proofs.CallerLemmas.{filter-RetainsPairs}
-use Rattle.t1_cache.specs.declared.records.GlyphRecord.{GlyphRecord}
 use Rattle.t1_cache.specs.declared.records.Records.{Records}
 use Rattle.t1_cache.specs.Bodies.{glyph_body, record_bodies}
 use Rattle.t1_cache.specs.Overlay.{body_at}

@@ -1,4 +1,4 @@
-use Rattle.std.proofs.Common.{◌∙◌, ◌+◌, ap, arith, sym}
+use Rattle.std.proofs.Common.{◌∙◌, ap, arith, sym}
 use Rattle.indexmap.specs.IndexMap.{spare}
 use Rattle.t1_rerun.specs.Steps.{after_all, seen}
 use Rattle.t1_rerun.proofs.Leaving.{taken-first}
