@@ -20,6 +20,7 @@ pub mod Putting
 pub mod Recorded
 pub mod Renewing
 pub mod Rerunning
+pub mod Retaining
 pub mod Rooming
 pub mod Rows
 pub mod There

@@ -88,6 +88,11 @@ key_eq (Subr n) (Subr m) = nat_eq n m
 key_eq (Glyph g) (Glyph h) = bytes_eq g h
 key_eq _ _ = false
 
+-- the glyph of a key is among these names
+abbrev pub is_key_among : List (Vec ℕ Global) → Key → Bool
+is_key_among names (Subr n) = false
+is_key_among names (Glyph g) = has (λ name. name.items) names g
+
 -- a Subr or a glyph, and the glyph that leaves or joins its users
 abbrev pub Pairs : Type 0
 Pairs = List (Named × Vec ℕ Global)

@@ -8,9 +8,9 @@ ghost use Rattle.t1_cache.specs.Bodies.{record_bodies};
 ghost use Rattle.t1_cache.specs.Changed.{AreUnchanged, PutsBody, SetsBody, SetsUsers, UsesUp};
 ghost use Rattle.t1_cache.specs.Overlay.{body_at};
 ghost use Rattle.t1_cache.specs.Renewed.{kept, kept_of};
-ghost use Rattle.t1_cache.specs.Users.{key_eq, lists, users_at, users_of, HasRoom};
+ghost use Rattle.t1_cache.specs.Users.{has, is_key_among, key_eq, lists, users_at, users_of, HasRoom};
 
-use crate::records::{GlyphRecord, Records, SubrRecord};
+use crate::records::{GlyphRecord, Names, Records, SubrRecord};
 use indexmap::IndexSet;
 use std::alloc::{AllocError, Global};
 use t1_afm::BBox;
@@ -121,7 +121,7 @@ pub fn remove_subr(records: &mut Records, number: u16)
     ensures kept { map kept_of records.new.glyphs.entries ≡ map kept_of records.old.glyphs.entries }
     ensures room { UsesUp 0 records.old records.new }
 {
-    records.subrs.shift_remove(&number);
+    records.subrs.swap_remove(&number);
 }
 
 /// Takes out the record of a glyph, with its users; the others stay in their order. It takes no memory and can't fail.
@@ -132,4 +132,22 @@ pub fn remove_glyph(records: &mut Records, name: &[u8])
     ensures room { UsesUp 0 records.old records.new }
 {
     records.glyphs.shift_remove(name);
+}
+
+/// Takes out the records of the glyphs of these names, with their users, in one pass; the others stay in their order. It takes
+/// no memory and can't fail.
+pub fn remove_glyphs(records: &mut Records, names: &Names)
+    ensures bodies { (k : Key) → body_at (record_bodies records.new) k ≡ (if is_key_among names.now.keys k then None else body_at (record_bodies records.old) k) }
+    ensures users { (k : Key) → users_at records.new k ≡ (if is_key_among names.now.keys k then None else users_at records.old k) }
+    ensures kept { map kept_of records.new.glyphs.entries ≡ filter (λ k. not (has (λ name. name.items) names.now.keys k.name)) (map kept_of records.old.glyphs.entries) }
+    ensures room { UsesUp 0 records.old records.new }
+{
+    if names.is_empty() {
+        return;
+    }
+    records.glyphs.retain(
+        |name: &Vec<u8>, glyph: &mut GlyphRecord| -> bool
+            ensures { (result ≡ not (has (λ key. key.items) names.entry.now.keys name.now.items)) × (glyph.new ≡ glyph.old) }
+        { !names.contains(name.as_slice()) },
+    );
 }

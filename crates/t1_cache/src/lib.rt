@@ -18,7 +18,7 @@ mod uses;
 
 pub use changed::{
     insert_glyph, insert_subr, put_glyph, put_in_subr, put_last_glyph, put_subr, remove_glyph,
-    remove_subr,
+    remove_glyphs, remove_subr,
 };
 pub use records::{GlyphRecord, Named, Names, NewRun, NewRuns, Records, Rerun, SubrRecord};
 pub use renewed::{renew, renew_all, renew_by_name};

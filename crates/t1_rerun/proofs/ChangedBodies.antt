@@ -1,16 +1,22 @@
 -- The bodies of records under changes, and what is judged by them.
 use Rattle.std.proofs.Common.{◌≡◌, ◌<◌, ◌+◌, ◌++◌, ℕ, suc, Bool, true, false, List, [], ◌∷◌, add-one, drop, drop-cons, get_or, length, map, take, refl, sym, ◌∙◌, ap, subst, Option, Some, None, Ok, inl, inr, cond}
+use Rattle.std.specs.Prelude.{Result, Err}
 use Rattle.std.specs.Borrow.{Bor}
 use Rattle.std.proofs.lemmas.List.{map-append, take_more}
 use Rattle.std.specs.Option.{option_copied, option_or, option_to_list}
 use Rattle.std.specs.List.{AllByRecursion}
 use Rattle.t1_code.specs.declared.command.Command.{Command}
+use Rattle.t1_frac.specs.declared.fault.Fault.{Fault}
+use Rattle.t1_frac.specs.Outcome.{◌>>=◌}
 use Rattle.t1_parts.specs.SourceParts.{SourceParts}
+use Rattle.t1_source.specs.declared.edit.Edit.{Edit}
 use Rattle.t1_run.specs.Footprint.{Includes}
 use Rattle.t1_run.specs.Overlay.{changed}
 use Rattle.t1_run.specs.Run.{FontBodies, Key, Subr, Glyph}
 use Rattle.t1_font.specs.Bodies.{bodies, SameBodies}
-use Rattle.t1_font.specs.SourceChecks.{source_check}
+use Rattle.t1_font.specs.Assembly.{file_check}
+use Rattle.t1_font.specs.Glyphs.{Glyph as Told, glyphs, glyph_names}
+use Rattle.t1_font.specs.SourceChecks.{source_check, source_glyphs}
 use Rattle.t1_cache.specs.declared.records.Named.{Named}
 use Rattle.t1_cache.specs.declared.records.Records.{Records}
 use Rattle.t1_cache.specs.Bodies.{record_bodies}
@@ -18,15 +24,18 @@ use Rattle.t1_cache.specs.Edited.{IsEditedAt}
 use Rattle.t1_cache.specs.Overlay.{body_at}
 use Rattle.t1_cache.specs.Users.{key_eq, key_of}
 use Rattle.t1_cache.proofs.Adding.{key-itself, key-same}
+use Rattle.t1_cache.proofs.Distinct.{names_distinct}
 use Rattle.t1_rerun.specs.declared.renewal.Renewal.{Renewal}
 use Rattle.t1_rerun.specs.declared.settling.EntryChange.{EntryChange}
 use Rattle.t1_rerun.specs.declared.settling.Ready.{Ready}
-use Rattle.t1_rerun.specs.Changing.{body_changed, AreChangesOf, IsChangeOf, IsReadyFor}
+use Rattle.t1_rerun.specs.Changing.{body_changed, AreChangesOf, IsChangeOf, IsReadyFor, MayBeRenewed}
+use Rattle.t1_rerun.specs.EntryChanges.{IsChanged, IsMade}
 use Rattle.t1_rerun.specs.Renewals.{IsLater, IsRenewal}
+use Rattle.t1_rerun.specs.Renewing.{IsEdited}
 use Rattle.t1_rerun.specs.Right.{IsEdit}
 use Rattle.t1_rerun.specs.Settled.{changed_keys, AreAsBefore, AreDistinctKeys, HasBody, IsJudged, IsReady}
 use Rattle.t1_rerun.proofs.Preparing.{judged-again}
-use Rattle.t1_rerun.proofs.Reordering.{has-its-body}
+use Rattle.t1_rerun.proofs.Reordering.{bodies-fine, has-its-body}
 use Rattle.t1_rerun.proofs.Single.{one-last}
 
 -- ---- what changes do at a key
@@ -164,3 +173,33 @@ pub as-list : (changes : List EntryChange) (change : Option EntryChange) (old ne
     → IsChangeOf change old new records ordered → AreChangesOf changes old new records ordered
 as-list changes change old new records ordered is j =
     subst (λ l. AreChangesOf l old new records ordered) (sym is) (are-changes change old new records ordered j)
+
+-- ---- the entry that an edit changes
+
+told-file : (s : SourceParts) (told : List Told) → source_glyphs s ≡ Ok told → file_check s ≡ Ok tt
+told-file s told e = by (file_check s) e where
+  by : (r : Result (Unit {0}) Fault) → (r >>= λ checked. glyphs (bodies s.items) (glyph_names s.items)) ≡ Ok told → r ≡ Ok tt
+  by (Ok checked) e = refl
+  by (Err fault) e = absurd (cc)
+
+-- where an edit was made of a source whose records are right, its change may be prepared
+pub entry-changed : (records : Records) (edit : Edit) (new : SourceParts) → IsEdited records edit new → file_check new ≡ Ok tt → (change : Option EntryChange)
+    → ((old new : SourceParts) → IsMade edit old new → IsChanged edit old new change) → MayBeRenewed change records (glyph_names new.items)
+entry-changed records edit new e file change changes =
+    let compiled = bodies-fine e.old (told-file e.old e.right.kept.glyphs e.right.kept.faultless) in
+    let is = changes e.old new (record { pairs = e.pairs; made_pairs = e.made_pairs; compiled = compiled; well = e.well; well_made = e.well_made; made = e.made }) in (
+      e.old,
+      (
+        new,
+        record {
+          right = e.right;
+          edited = is.edited;
+          bodies = is.bodies;
+          unmoved = is.unmoved;
+          file = file;
+          distinct = names_distinct new e.well_made;
+          order = is.order;
+          names = refl;
+        },
+      ),
+    )

@@ -6,6 +6,7 @@ pub mod Entries
 pub mod FirstRecords
 pub mod Gathering
 pub mod Judged
+pub mod Leaving
 pub mod Meeting
 pub mod OrderNames
 pub mod Preparing

@@ -238,7 +238,7 @@ first-told {X} {Y} r (Err other) (refusals.Fault fault) refused h first =
 
 -- ---- an edit
 
-bodies-fine : (s : SourceParts) → file_check s ≡ Ok tt → bodies_check s.items ≡ Ok tt
+pub bodies-fine : (s : SourceParts) → file_check s ≡ Ok tt → bodies_check s.items ≡ Ok tt
 bodies-fine s file = by (bodies_check s.items) refl where
   by : (r : Result (Unit {0}) Fault) → bodies_check s.items ≡ r → r ≡ Ok tt
   by (Ok checked) e = refl

@@ -1,6 +1,6 @@
 -- The glyphs that stand last after one edit.
 use Rattle.std.proofs.Common.{◌≡◌, ℕ, Bool, true, false, cond, List, [], ◌∷◌, ◌++◌, filter, not, refl, sym, ◌∙◌, ap, Option, Some, None, inl, inr, is_some}
-use Rattle.std.specs.Prelude.{◌||◌, ◌&&◌, Ok}
+use Rattle.std.specs.Prelude.{◌||◌, ◌&&◌}
 use Rattle.std.specs.List.{AllByRecursion, list_any}
 use Rattle.std.specs.Option.{option_to_list}
 use Rattle.std.specs.Str.{bytes_eq}

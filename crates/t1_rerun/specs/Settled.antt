@@ -26,7 +26,7 @@ use Rattle.t1_rerun.specs.declared.settling.EntryChange.{EntryChange}
 use Rattle.t1_rerun.specs.declared.settling.Ready.{Ready}
 use Rattle.t1_rerun.specs.Renewals.{rerun_kept, IsRenewal}
 use Rattle.t1_rerun.specs.Right.{has_glyph, IsInOrder, IsRight}
-use Rattle.t1_rerun.specs.Steps.{new_run, some_inserts, AreStepsOf}
+use Rattle.t1_rerun.specs.Steps.{new_run, some_inserts, AreStepsOf, AreTakenOut}
 
 -- the keys of the entries that edits name
 abbrev pub changed_keys : List EntryChange → List Key
@@ -85,10 +85,12 @@ pub record AreAsBefore (old new : Records) : Type 0 where
 
 -- ---- the two steps
 
--- all that the changes take is there: a step for each change, the new runs that no step has, and the room in the records
+-- all that the changes take is there: a step for each change, the new runs that no step has, the names of glyphs whose records
+-- are taken out, and the room in the records
 pub record IsReady (changes : List EntryChange) (renewal : Renewal) (records : Records) (ready : Ready) : Type 0 where
   pub steps : AreStepsOf (new_run renewal.reruns.items) (wanted renewal.joins.items) records changes ready.steps.items
   pub runs : (g : List ℕ) → new_run (reruns_by_name ready.runs.entries) g ≡ (if some_inserts ready.steps.items g then None else new_run renewal.reruns.items g)
+  pub taken : AreTakenOut ready.taken.keys ready.steps.items
   pub leaves : ready.leaves.items ≡ renewal.leaves.items
   pub joins : ready.joins.items ≡ renewal.joins.items
   pub subrs : length ready.steps.items ≤ spare records.subrs

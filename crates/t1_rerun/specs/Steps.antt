@@ -18,7 +18,7 @@ use Rattle.t1_cache.specs.declared.records.Rerun.{Rerun}
 use Rattle.t1_cache.specs.Bodies.{record_bodies}
 use Rattle.t1_cache.specs.Overlay.{body_at}
 use Rattle.t1_cache.specs.Renewed.{Kept, kept, kept_of, rerun_of}
-use Rattle.t1_cache.specs.Users.{key_eq, key_of, users_at, users_of, UserSet}
+use Rattle.t1_cache.specs.Users.{has, key_eq, key_of, users_at, users_of, UserSet}
 use Rattle.t1_rerun.specs.declared.settling.EntryChange.{EntryChange}
 use Rattle.t1_rerun.specs.declared.settling.steps.Step.{Step}
 use Rattle.t1_rerun.specs.declared.settling.steps.Step.TheVariants as steps
@@ -74,6 +74,18 @@ after step x = record {
 abbrev pub after_all : List Step → Seen → Seen
 after_all [] x = x
 after_all (step ∷ steps) x = after step (after_all steps x)
+
+-- ---- what leaves its place
+
+-- the glyph's record, where there is one, is taken out
+abbrev pub takes_out : Step → List ℕ → Bool
+takes_out (steps.Remove named) g = key_eq (Glyph g) (key_of named)
+takes_out (steps.InsertGlyph name r) g = bytes_eq g name.items
+takes_out _ g = false
+
+-- steps take out the records of these glyphs
+abbrev pub AreTakenOut : List (Vec ℕ Global) → List Step → Type 0
+AreTakenOut names steps = (g : List ℕ) → has (λ name. name.items) names g ≡ true → list_any (λ step. takes_out step g) steps ≡ true
 
 -- ---- the steps of changes
 

@@ -14,10 +14,10 @@ mod preparing;
 mod steps;
 
 use crate::renewal::Renewal;
-use preparing::{runs_by_name, steps_with_room};
+use preparing::{runs_by_name, steps_with_room, taken_out};
 use std::alloc::{AllocError, Global};
 use steps::{Step, change_all};
-use t1_cache::{Named, NewRuns, Records, make_room, move_users, renew_by_name};
+use t1_cache::{Named, Names, NewRuns, Records, make_room, move_users, renew_by_name};
 use t1_code::Body;
 
 /// An entry that edits name, and its body in the edited font; `None` where it was removed. A glyph that was removed and added
@@ -34,6 +34,8 @@ pub struct EntryChange {
 pub struct Ready {
     // The first is the last.
     steps: Vec<Step>,
+    // The glyphs whose records leave their places.
+    taken: Names,
     runs: NewRuns,
     leaves: Vec<(Named, Vec<u8>)>,
     joins: Vec<(Named, Vec<u8>)>,
@@ -50,7 +52,8 @@ fn reserve_entries(records: &mut Records, count: usize) -> Result<(), AllocError
 }
 
 /// Makes all growths that changes of the records take: room for new entries and for the users that join each, the records of
-/// new entries, and the new runs by their names. The records stay as they are, also where memory runs out.
+/// new entries, the new runs by their names, and the names of what leaves its place. The records stay as they are, also where
+/// memory runs out.
 pub fn make_ready(
     alloc: Global,
     records: &mut Records,
@@ -70,8 +73,10 @@ pub fn make_ready(
     reserve_entries(records, changes.len())?;
     let mut runs = runs_by_name(alloc, reruns)?;
     let steps = steps_with_room(alloc, records, changes, &joins, &mut runs)?;
+    let taken = taken_out(alloc, records, &steps)?;
     Ok(Ready {
         steps,
+        taken,
         runs,
         leaves,
         joins,
@@ -79,8 +84,8 @@ pub fn make_ready(
 }
 
 /// Brings the records from those of a source to those of the edited one, which has no fault: records of removed entries are
-/// taken out, those of new ones put in, users move, and each stale glyph has its new run and box. It takes no memory and can't
-/// fail.
+/// taken out, those of new ones put in, users move, and each stale glyph has its new run and box. However many glyphs leave
+/// their places, one pass over the records takes them out. It takes no memory and can't fail.
 pub fn settle(records: &mut Records, ready: Ready)
     requires { MayBeSettled records.old ready }
     ensures right { (changes : List EntryChange) (renewal : Renewal) → IsReady changes renewal records.old ready → (old new : SourceParts) → IsJudged changes old new records.old renewal → IsRight new records.new }
@@ -88,11 +93,12 @@ pub fn settle(records: &mut Records, ready: Ready)
 {
     let Ready {
         steps,
+        taken,
         runs,
         leaves,
         joins,
     } = ready;
-    change_all(records, steps);
+    change_all(records, steps, &taken);
     move_users(records, leaves, joins);
     renew_by_name(&mut records.glyphs, runs);
 }

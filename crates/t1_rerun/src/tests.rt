@@ -1,9 +1,14 @@
 //! The records of a font of three glyphs, with memory that doesn't run out.
+ghost use Rattle.std.specs.Prelude.{IfOk};
+ghost use Rattle.t1_source.specs.WellFormed.{IsWellFormed};
+ghost use Rattle.t1_rerun.specs.Renewing.{IsEdited};
+
 use super::*;
 use std::alloc::Global;
 use std::test::Fail;
 use t1_afm::BBox;
 use t1_cache::{Named, Names, Records};
+use t1_font::checked_bodies;
 use t1_frac::{Bytes, Fault, Place, Refusal};
 use t1_run::Meter;
 use t1_source::{Change, Edit, Source, read_pairs, read_source};
@@ -41,7 +46,9 @@ const THREE: &str = "\
     mark currentfile closefile\n";
 
 /// The source of the three glyphs.
-pub(crate) fn three_source(alloc: Global) -> Result<Source, Fail> {
+pub(crate) fn three_source(alloc: Global) -> Result<Source, Fail>
+    ensures { IfOk result IsWellFormed }
+{
     Ok(read_source(alloc, THREE.as_bytes())?)
 }
 
@@ -215,18 +222,86 @@ fn renewed(alloc: Global, edit: &Edit) -> Result<(Records, u64), Fail> {
     Ok((records, meter.count()))
 }
 
-/// Whether the boxes of acute and of the composite on it rise with Subr 4, for which two glyphs are run again.
+/// Brings records to those of a source that an edit made, by the entry that it changes.
+fn renew_entry(
+    alloc: Global,
+    records: &mut Records,
+    edit: &Edit,
+    made: &Source,
+    meter: &mut Meter,
+) -> Result<(), Fail>
+    requires { IsEdited records.old edit.now made.now }
+{
+    checked_bodies(alloc, made)?;
+    let change = change_of_edit(alloc, edit)?;
+    renew_change(alloc, records, change, made, meter)?;
+    Ok(())
+}
+
+/// The same in two steps.
+fn renew_entry_in_steps(
+    alloc: Global,
+    records: &mut Records,
+    edit: &Edit,
+    made: &Source,
+    meter: &mut Meter,
+) -> Result<(), Fail>
+    requires { IsEdited records.old edit.now made.now }
+{
+    checked_bodies(alloc, made)?;
+    let change = change_of_edit(alloc, edit)?;
+    let ready = prepare_change(alloc, records, change, made, meter)?;
+    settle_ready(records, ready);
+    Ok(())
+}
+
+/// Whether the boxes of acute and of the composite on it are those of a Subr 4 that rises by 100.
+fn are_raised(records: &Records) -> bool {
+    let accent = has(records, "acute", sides(93, 500, 193, 778), &["Aacute"]);
+    let composite = has(records, "Aacute", sides(10, 0, 310, 992), &[]);
+    accent && composite
+}
+
+/// Whether the boxes rise with Subr 4, for which two glyphs are run again.
 fn rises(alloc: Global) -> Result<bool, Fail> {
     let edit = subr_4(alloc, b"100 278 rlineto return")?;
     let (records, runs) = renewed(alloc, &edit)?;
-    let accent = has(&records, "acute", sides(93, 500, 193, 778), &["Aacute"]);
-    let composite = has(&records, "Aacute", sides(10, 0, 310, 992), &[]);
-    Ok(accent && composite && runs == 5)
+    Ok(are_raised(&records) && runs == 5)
 }
 
 #[test]
 fn renews_stale_glyphs(rt: HostRuntime) -> Result<(), Fail> {
     let rises = rises(rt.alloc())?;
+    assert!(rt; rises);
+    Ok(())
+}
+
+/// The same by the entry that the edit changes, at once or in two steps.
+fn rises_by_entry(alloc: Global, in_steps: bool) -> Result<bool, Fail> {
+    let edit = subr_4(alloc, b"100 278 rlineto return")?;
+    let source = three_source(alloc)?;
+    let pairs = read_pairs(alloc, b"")?;
+    let mut meter = Meter::new();
+    let mut records = opened_records(alloc, &source, &mut meter)?;
+    let (made, _) = source.edited(&pairs, &edit)?;
+    if in_steps {
+        renew_entry_in_steps(alloc, &mut records, &edit, &made, &mut meter)?;
+    } else {
+        renew_entry(alloc, &mut records, &edit, &made, &mut meter)?;
+    }
+    Ok(are_raised(&records) && meter.count() == 5)
+}
+
+#[test]
+fn renews_by_the_entry_that_an_edit_changes(rt: HostRuntime) -> Result<(), Fail> {
+    let rises = rises_by_entry(rt.alloc(), false)?;
+    assert!(rt; rises);
+    Ok(())
+}
+
+#[test]
+fn renews_in_two_steps(rt: HostRuntime) -> Result<(), Fail> {
+    let rises = rises_by_entry(rt.alloc(), true)?;
     assert!(rt; rises);
     Ok(())
 }

@@ -1,5 +1,5 @@
 //! The changes of records, each with the memory that it takes.
-ghost use Rattle.std.specs.Prelude.{◌≡◌, ◌&&◌, ℕ, Bool, false, List, Option, None, Some, IfOk, is_some, length, not, if◌then◌else◌};
+ghost use Rattle.std.specs.Prelude.{◌≡◌, ◌&&◌, ℕ, Bool, false, List, Option, None, Some, IfOk, IfSome, true, is_some, length, not, if◌then◌else◌};
 ghost use Rattle.std.specs.Str.{bytes_eq};
 ghost use Rattle.t1_run.specs.Run.{Glyph, NumberedRun};
 ghost use Rattle.t1_afm.specs.declared.bbox.BBox.{BBox};
@@ -10,14 +10,14 @@ ghost use Rattle.t1_cache.specs.Renewed.{reruns_by_name};
 ghost use Rattle.t1_cache.specs.Room.{count_at};
 ghost use Rattle.t1_cache.specs.Users.{wanted};
 ghost use Rattle.t1_rerun.specs.Settled.{changed_keys, AreDistinctKeys};
-ghost use Rattle.t1_rerun.specs.Steps.{changed, inserts, new_run, new_run_of, some_inserts, AreStepsOf, IsStepOf};
+ghost use Rattle.t1_rerun.specs.Steps.{changed, inserts, new_run, new_run_of, some_inserts, takes_out, AreStepsOf, AreTakenOut, IsStepOf};
 
 use super::EntryChange;
 use super::steps::Step;
-use indexmap::IndexMap;
+use indexmap::{IndexMap, IndexSet};
 use std::alloc::{AllocError, Global};
 use t1_cache::{
-    Counts, GlyphRecord, Named, NewRun, NewRuns, Records, Rerun, SubrRecord, count_joins,
+    Counts, GlyphRecord, Named, Names, NewRun, NewRuns, Records, Rerun, SubrRecord, count_joins,
     users_of_glyph, users_of_subr,
 };
 use t1_code::Body;
@@ -159,4 +159,40 @@ pub fn steps_with_room(
 {
     let counts = count_joins(alloc, joins)?;
     steps_of(alloc, records, changes, &counts, runs)
+}
+
+/// The glyph that a step takes out of its place, where it takes out one.
+fn name_taken_out(step: &Step) -> Option<&[u8]>
+    ensures { IfSome result (λ name. takes_out step.now name.now ≡ true) }
+{
+    match step {
+        Step::Remove(Named::Glyph(name)) => Some(name.as_slice()),
+        Step::InsertGlyph(name, _) => Some(name.as_slice()),
+        _ => None,
+    }
+}
+
+/// The same, where the glyph has a record.
+fn recorded_name_taken_out<'a>(records: &Records, step: &'a Step) -> Option<&'a [u8]>
+    ensures { IfSome result (λ name. takes_out step.now name.now ≡ true) }
+{
+    let name = name_taken_out(step)?;
+    if records.glyph(name).is_none() {
+        return None;
+    }
+    Some(name)
+}
+
+/// The names of the glyphs with a record that steps take out of their places.
+pub fn taken_out(alloc: Global, records: &Records, steps: &[Step]) -> Result<Names, AllocError>
+    ensures { IfOk result (λ names. AreTakenOut names.keys steps.now) }
+{
+    let mut names = IndexSet::new(alloc);
+    for step in steps {
+        let Some(name) = recorded_name_taken_out(records, step) else {
+            continue;
+        };
+        names.insert(Vec::from_slice(alloc, name)?)?;
+    }
+    Ok(names)
 }

@@ -6,11 +6,11 @@ ghost use Rattle.t1_cache.specs.Changed.{PutsBody, SetsBody, SetsUsers, UsesUp};
 ghost use Rattle.t1_cache.specs.Renewed.{kept_of};
 ghost use Rattle.t1_cache.specs.Users.{key_of, users_at};
 ghost use Rattle.t1_run.specs.Run.{Key};
-ghost use Rattle.t1_rerun.specs.Steps.{after, after_all, seen};
+ghost use Rattle.t1_rerun.specs.Steps.{after, after_all, seen, AreTakenOut};
 
 use t1_cache::{
-    GlyphRecord, Named, Records, SubrRecord, put_glyph, put_in_subr, put_last_glyph, put_subr,
-    remove_glyph, remove_subr,
+    GlyphRecord, Named, Names, Records, SubrRecord, put_glyph, put_in_subr, put_last_glyph,
+    put_subr, remove_glyph, remove_glyphs, remove_subr,
 };
 use t1_code::Body;
 
@@ -68,12 +68,15 @@ fn change_one(records: &mut Records, step: Step)
     }
 }
 
-/// Makes the changes, the last one first, in the room that was made. It takes no memory and can't fail.
-pub fn change_all(records: &mut Records, steps: Vec<Step>)
+/// Makes the changes, the last one first, in the room that was made. It takes no memory and can't fail. The glyphs that are
+/// named as taken out go first, all in one pass over the records: a step takes out a glyph that isn't there at once.
+pub fn change_all(records: &mut Records, steps: Vec<Step>, taken: &Names)
+    requires taken { AreTakenOut taken.now.keys steps.items }
     requires subrs { length steps.items ≤ spare records.old.subrs }
     requires glyphs { length steps.items ≤ spare records.old.glyphs }
     ensures { seen records.new ≡ after_all steps.items (seen records.old) }
 {
+    remove_glyphs(records, taken);
     let mut left = steps;
     while let Some(step) = left.pop() {
         change_one(records, step);

@@ -53,8 +53,13 @@ fn change(
 ) -> Result<(), Fail> {
     let changes = changes_of(alloc, Some(change))?;
     let ready = make_ready(alloc, records, changes, renewal)?;
-    let Ready { steps, runs, .. } = ready;
-    change_all(records, steps);
+    let Ready {
+        steps,
+        taken,
+        runs,
+        ..
+    } = ready;
+    change_all(records, steps, &taken);
     renew_by_name(&mut records.glyphs, runs);
     Ok(())
 }
@@ -217,8 +222,13 @@ fn change_three(alloc: Global) -> Result<(Records, u64), Fail> {
     let changes = three_changes(alloc)?;
     let renewal = renewal_of_three(alloc, &records, &changes, &mut meter)?;
     let ready = make_ready(alloc, &mut records, changes, renewal)?;
-    let Ready { steps, runs, .. } = ready;
-    change_all(&mut records, steps);
+    let Ready {
+        steps,
+        taken,
+        runs,
+        ..
+    } = ready;
+    change_all(&mut records, steps, &taken);
     renew_by_name(&mut records.glyphs, runs);
     Ok((records, meter.count()))
 }

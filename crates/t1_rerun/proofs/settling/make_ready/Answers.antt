@@ -1,7 +1,7 @@
 use Rattle.std.proofs.Common.{◌∙◌, None, ap, arith, cond, refl, subst, sym}
 use Rattle.t1_cache.specs.Room.{MayJoin}
 use Rattle.t1_cache.specs.Users.{users_at, wanted}
-use Rattle.t1_rerun.specs.Steps.{new_run, some_inserts, AreStepsOf}
+use Rattle.t1_rerun.specs.Steps.{new_run, some_inserts, AreStepsOf, AreTakenOut}
 use Rattle.t1_rerun.proofs.Preparing.{as-unchanged, users-same}
 use Rattle.t1_rerun.proofs.Steps.{as-rest}
 use Rattle.t1_rerun.proofs.settling.make_ready.Goals as goal
@@ -24,6 +24,11 @@ returns-in_err-steps-clause-same c =
     as-unchanged c.args.records.now c.make_room.new.records c.reserve_entries.new.records
     (as-rest c.args.records.now c.make_room.new.records c.make_room.ensures.rest c.make_room.ensures.users) c.reserve_entries.ensures.same
 
+pub returns-in_err-taken-clause-same : goal.returns-in_err-taken-clause-same
+returns-in_err-taken-clause-same c =
+    as-unchanged c.args.records.now c.make_room.new.records c.reserve_entries.new.records
+    (as-rest c.args.records.now c.make_room.new.records c.make_room.ensures.rest c.make_room.ensures.users) c.reserve_entries.ensures.same
+
 pub returns-clause-same : goal.returns-clause-same
 returns-clause-same c =
     as-unchanged c.args.records.now c.make_room.new.records c.reserve_entries.new.records
@@ -42,6 +47,7 @@ returns-clause-ready c =
           subst (λ l. AreStepsOf (new_run c.args.renewal.reruns.items) (wanted l) new changes steps) c.deref-2.ensures.value
           (subst (λ run. AreStepsOf run (wanted c.deref-2.result.now) new changes steps) (λ j. λ g. c.in_ok-runs.ensures g j) made.steps);
       runs = λ g. made.runs g ∙ ap (cond (some_inserts steps g) None) (c.in_ok-runs.ensures g);
+      taken = subst (AreTakenOut c.in_ok-taken.taken.keys) c.deref-3.ensures.value c.in_ok-taken.ensures;
       leaves = refl;
       joins = refl;
       subrs = omega (arith, made.count, c.len.ensures, c.in_ok-reserve_entries.ensures.subrs);

@@ -1,9 +1,19 @@
-use Rattle.std.proofs.Common.{◌∙◌, ap, sym}
+use Rattle.std.proofs.Common.{◌∙◌, ap, arith, sym}
 use Rattle.indexmap.specs.IndexMap.{spare}
 use Rattle.t1_rerun.specs.Steps.{after_all, seen}
+use Rattle.t1_rerun.proofs.Leaving.{taken-first}
 use Rattle.t1_rerun.proofs.Preparing.{fewer-steps}
 use Rattle.t1_rerun.proofs.Stepping.{after-last}
 use Rattle.t1_rerun.proofs.settling.steps.change_all.Goals as goal
+
+pub loop-step-init : goal.loop-step-init
+loop-step-init c =
+    let gone = c.remove_glyphs.ensures in
+    record {
+      seen = taken-first c.args.steps.items c.args.taken.now.keys c.requires.taken c.args.records.now c.remove_glyphs.new.records gone.bodies gone.users gone.kept;
+      subrs = omega (arith, c.requires.subrs, gone.room.0);
+      glyphs = omega (arith, c.requires.glyphs, gone.room.1);
+    }
 
 pub loop-step-preserved : goal.loop-step-preserved
 loop-step-preserved c =
