@@ -3,7 +3,6 @@ pub mod Batches
 pub mod Entered
 pub mod Entering
 pub mod Filed
-pub mod Filling
 pub mod Gathered
 pub mod Inserting
 pub mod Putting
