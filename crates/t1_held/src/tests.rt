@@ -7,6 +7,7 @@ use super::*;
 use std::alloc::Global;
 use std::test::Fail;
 use t1_afm::BBox;
+use t1_batch::Batch;
 use t1_code::WHOLE_PARTS;
 use t1_font::pfb_of_source;
 use t1_frac::Bytes;
@@ -127,5 +128,60 @@ fn hexadecimal_len(alloc: Global, edit: &Edit) -> Result<usize, Fail> {
 fn writes_in_hexadecimal(rt: HostRuntime) -> Result<(), Fail> {
     let len = hexadecimal_len(rt.alloc(), &Edit::LenIv(0))?;
     assert!(rt; len == 1006);
+    Ok(())
+}
+
+/// The font after a batch of two edits, what is held of it then, and how many runs were counted.
+fn committed(alloc: Global, first: &Edit, second: &Edit) -> Result<(Source, Held, u64), Fail>
+    ensures { IfOk result (λ made. IsHeld made.0 made.1) }
+{
+    let source = read(alloc, THREE)?;
+    let pairs = read_pairs(alloc, b"")?;
+    let mut meter = Meter::new();
+    let mut held = held_of(alloc, &source, &mut meter)?;
+    let mut batch = Batch::of(alloc, &source, &pairs)?;
+    batch.edit(alloc, first)?;
+    batch.edit(alloc, second)?;
+    let (made, _, entries) = batch.into_parts();
+    let ready = prepare_commit(alloc, &mut held, &source, &made, entries, &mut meter)?;
+    settle_commit(&mut held, ready);
+    Ok((made, held, meter.count()))
+}
+
+/// How many runs are counted with a batch that edits Subr 4 and lenIV, and whether the file with what is held then is that of
+/// the batch's source from scratch.
+fn commits(alloc: Global) -> Result<(u64, bool), Fail> {
+    let (source, held, runs) = committed(alloc, &subr_4(alloc)?, &Edit::LenIv(1))?;
+    let kept = held_pfb(alloc, &held, &source, WHOLE_PARTS)?;
+    let made = pfb_of_source(alloc, &source, WHOLE_PARTS)?;
+    Ok((runs, kept.as_slice() == made.as_slice()))
+}
+
+#[test]
+fn commits_a_batch(rt: HostRuntime) -> Result<(), Fail> {
+    let (runs, same) = commits(rt.alloc())?;
+    assert!(rt; runs == 5 && same);
+    Ok(())
+}
+
+/// Another body for A.
+fn glyph_a(alloc: Global) -> Result<Edit, Fail> {
+    let body = Bytes::copied(alloc, b"10 600 hsbw 50 hlineto endchar")?;
+    Ok(Edit::AddGlyph(Bytes::copied(alloc, b"A")?, body))
+}
+
+/// The same of a batch that removes A and adds it again.
+fn adds_again(alloc: Global) -> Result<(u64, bool), Fail> {
+    let removed = Edit::RemoveGlyph(Bytes::copied(alloc, b"A")?);
+    let (source, held, runs) = committed(alloc, &removed, &glyph_a(alloc)?)?;
+    let kept = held_pfb(alloc, &held, &source, WHOLE_PARTS)?;
+    let made = pfb_of_source(alloc, &source, WHOLE_PARTS)?;
+    Ok((runs, kept.as_slice() == made.as_slice()))
+}
+
+#[test]
+fn commits_a_glyph_that_was_added_again(rt: HostRuntime) -> Result<(), Fail> {
+    let (runs, same) = adds_again(rt.alloc())?;
+    assert!(rt; runs == 5 && same);
     Ok(())
 }
