@@ -1,5 +1,5 @@
 -- Marks that are made one after another.
-use Rattle.std.proofs.Common.{◌≡◌, ℕ, ◌+◌, ◌<◌, suc, Bool, true, false, cond, List, [], ◌∷◌, length, get_or, drop, drop-cons, add-one, refl, sym, ◌∙◌, ap, Option, Some, None}
+use Rattle.std.proofs.Common.{◌≡◌, ℕ, ◌+◌, ◌<◌, suc, Bool, true, false, cond, List, ◌∷◌, length, get_or, drop, drop-cons, add-one, refl, sym, ◌∙◌, ap, Option, Some}
 use Rattle.std.specs.Str.{bytes_eq}
 use Rattle.t1_font.proofs.Keeping.{same_bytes}
 use Rattle.t1_batch.specs.declared.entries.EditedEntry.{EditedEntry}

@@ -3,13 +3,11 @@ use Rattle.std.proofs.Common.{◌≡◌, ℕ, zero, suc, Bool, true, false, not,
 use Rattle.std.specs.Prelude.{◌||◌}
 use Rattle.std.specs.List.{list_any}
 use Rattle.t1_frac.specs.declared.fault.Code.{Code}
-use Rattle.t1_parts.specs.SourceParts.{SourceParts}
 use Rattle.t1_run.specs.Footprint.{Includes, uses}
 use Rattle.t1_run.specs.Run.{FontBodies, Key, Drawing, own}
 use Rattle.t1_run.specs.Touched.{is_key_of, is_named, is_touched, meets_parts, meets_run, touched_within}
 use Rattle.t1_font.specs.Bodies.{bodies}
 use Rattle.t1_font.specs.Glyphs.{glyph_names}
-use Rattle.t1_cache.specs.Edited.{is_stale, stale, IsEditedAt}
 use Rattle.t1_cache.specs.Users.{key_eq}
 use Rattle.t1_cache.proofs.Adding.{key-itself, key-same}
 use Rattle.t1_batch.specs.Members.{HaveSameKeys, SameEditedLaw, SameStaleGlyphsLaw, SameStaleLaw}

@@ -90,10 +90,10 @@ last-apart (y ∷ ys) g d x there = by (bytes_eq x y) refl there (last-apart ys 
   apart here true on =
       let same : y ≡ g = sym (bytes_tell.same x y here) ∙ bytes_tell.same x g on in
       let never : true ≡ false =
-          sym (list_any-append (bytes_eq y) ys (g ∷ [])
-          ∙ ap (λ b. list_any (bytes_eq y) ys || (b || false)) (ap (bytes_eq y) (sym same) ∙ bytes_tell.itself y)
-          ∙ or-true (list_any (bytes_eq y) ys))
-          ∙ d.0
+      sym (list_any-append (bytes_eq y) ys (g ∷ [])
+      ∙ ap (λ b. list_any (bytes_eq y) ys || (b || false)) (ap (bytes_eq y) (sym same) ∙ bytes_tell.itself y)
+      ∙ or-true (list_any (bytes_eq y) ys))
+      ∙ d.0
       in
       absurd (cc)
 

@@ -1,11 +1,10 @@
 -- What one pass over an edited source tells of the entries that edits name.
-use Rattle.std.proofs.Common.{◌≡◌, ℕ, Bool, true, false, cond, not, List, [], ◌∷◌, ◌++◌, map, filter, Option, None, Some, Result, Ok, Err, is_some, refl, sym, ◌∙◌, ap, subst, inl, inr}
+use Rattle.std.proofs.Common.{◌≡◌, ℕ, Bool, true, false, cond, List, [], ◌∷◌, ◌++◌, map, Option, None, Some, Result, Ok, Err, is_some, refl, sym, ◌∙◌, ap, subst, inl, inr}
 use Rattle.std.specs.Prelude.{◌||◌, ◌&&◌, ◌⊎◌}
 use Rattle.std.specs.List.{list_any, AllByRecursion}
 use Rattle.std.specs.Option.{option_or, option_to_list}
 use Rattle.std.specs.Result.{result_ok}
 use Rattle.std.specs.Str.{bytes_eq}
-use Rattle.std.proofs.lemmas.List.{append_assoc}
 use Rattle.std.proofs.lemmas.List.Folds.{list_any-append}
 use Rattle.t1_frac.specs.declared.fault.Code.{Code}
 use Rattle.t1_frac.specs.declared.fault.Place.{Place}
@@ -15,27 +14,23 @@ use Rattle.t1_code.specs.declared.command.Command.{Command}
 use Rattle.t1_code.specs.Words.{commands}
 use Rattle.t1_parts.specs.declared.item.Item.{Item}
 use Rattle.t1_parts.specs.declared.item.Item.TheVariants as items
-use Rattle.t1_parts.specs.SourceParts.{SourceParts}
 use Rattle.t1_run.specs.Run.{Key, Subr, Glyph}
 use Rattle.t1_run.specs.Touched.{is_key_of}
 use Rattle.t1_font.specs.Bodies.{bodies, subr_among, glyph_among}
 use Rattle.t1_font.specs.Glyphs.{glyph_names}
 use Rattle.t1_cache.specs.declared.records.Named.{Named}
 use Rattle.t1_cache.specs.declared.records.Named.TheVariants as named
-use Rattle.t1_cache.specs.Laws.{AreDistinct}
 use Rattle.t1_cache.specs.Overlay.{body_at}
 use Rattle.t1_cache.specs.Users.{key_eq, key_of}
 use Rattle.t1_cache.proofs.Adding.{key-itself, key-same}
-use Rattle.t1_cache.proofs.Putting.{bytes_tell}
 use Rattle.t1_rerun.specs.declared.settling.EntryChange.{EntryChange}
-use Rattle.t1_rerun.specs.Right.{has_glyph}
-use Rattle.t1_rerun.specs.Settled.{changed_keys, last_glyph, last_glyphs, AreDistinctKeys}
+use Rattle.t1_rerun.specs.Settled.{changed_keys, AreDistinctKeys}
 use Rattle.t1_rerun.specs.Steps.{changed}
 use Rattle.t1_batch.specs.declared.entries.EditedEntry.{EditedEntry}
 use Rattle.t1_batch.specs.Batch.{entry_edit, keys}
-use Rattle.t1_batch.specs.Passing.{all_marked, all_removed, behind_items, items_put, marked, put_of, removed_at, with_mark, without, Sought}
+use Rattle.t1_batch.specs.Passing.{all_marked, behind_items, items_put, marked, put_of, with_mark, without, Sought}
 use Rattle.t1_batch.proofs.Gathering.{in_front, Outcome}
-use Rattle.t1_batch.proofs.Members.{both-ways, or-right}
+use Rattle.t1_batch.proofs.Members.{both-ways}
 
 -- ---- tests
 
@@ -343,9 +338,10 @@ module _ (i : Item) (d : Named) (words : List (List ℕ)) (is : List Item)
       → AllByRecursion (IsPut (i ∷ is) m) cs
   put-met cs rest (inl h) = all-weaken (IsPut is (without (key_of d) m)) (IsPut (i ∷ is) m) lifted cs (rest (without (key_of d) m) cs h.1)
   put-met cs rest (inr x) =
-      subst (AllByRecursion (IsPut (i ∷ is) m)) (sym x.whole)
-      (record { mark = x.mark; body = head x.body x.compiled },
-      all-weaken (IsPut is (without (key_of d) m)) (IsPut (i ∷ is) m) lifted x.rest (rest (without (key_of d) m) x.rest x.others))
+      subst (AllByRecursion (IsPut (i ∷ is) m)) (sym x.whole) (
+        record { mark = x.mark; body = head x.body x.compiled },
+        all-weaken (IsPut is (without (key_of d) m)) (IsPut (i ∷ is) m) lifted x.rest (rest (without (key_of d) m) x.rest x.others),
+      )
 
 pub all-put : (is : List Item) (m : Sought) (cs : List EntryChange) → Passes is m cs → AllByRecursion (IsPut is m) cs
 all-put [] m cs p = subst (AllByRecursion (IsPut [] m)) (sym p) tt

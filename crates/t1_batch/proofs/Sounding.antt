@@ -1,5 +1,5 @@
 -- Each edit leaves the bodies of the entries that it doesn't name without a fault.
-use Rattle.std.proofs.Common.{◌≡◌, ℕ, Bool, true, not, ℤ, ok_or, Option, None, Result, Ok, Err, List, [], ◌∷◌, ◌++◌, map, take, drop, filter, codes, refl, sym, ◌∙◌, ap, subst, inl, inr, Some}
+use Rattle.std.proofs.Common.{◌≡◌, ℕ, Bool, not, ℤ, ok_or, Option, None, Result, Ok, Err, List, [], ◌∷◌, ◌++◌, map, take, drop, filter, codes, refl, sym, ◌∙◌, ap, subst, inl, inr, Some}
 use Rattle.std.specs.List.{list_any, position, position_or_len, insert, remove, slice_set, AllByRecursion}
 use Rattle.std.proofs.lemmas.List.{take-append-drop}
 use Rattle.t1_frac.specs.declared.fault.Fault.{Fault}

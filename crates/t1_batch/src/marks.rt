@@ -25,11 +25,7 @@ fn now_added(was_added: Option<bool>, added: bool) -> bool
 }
 
 /// Marks a Subr. One that was added stays so marked.
-fn mark_subr(
-    subrs: &mut IndexMap<u16, bool>,
-    number: u16,
-    added: bool,
-) -> Result<(), AllocError>
+fn mark_subr(subrs: &mut IndexMap<u16, bool>, number: u16, added: bool) -> Result<(), AllocError>
     ensures { OnOk result ((n : ℕ) → subr_mark subrs.new.entries n ≡ (if nat_eq n number then marked added (subr_mark subrs.old.entries n) else subr_mark subrs.old.entries n)) }
 {
     let added = now_added(subrs.get(&number).copied(), added);
