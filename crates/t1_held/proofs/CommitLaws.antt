@@ -70,6 +70,7 @@ pub put-one : (front : ℕ) (c : EntryChange) (key : Key) (body : List Command) 
 put-one front c key body old new named has sets k = by (key_eq k (key_of c.named)) refl where
   test : same_key k key ≡ key_eq k (key_of c.named)
   test = key-test k key ∙ ap (key_eq k) (sym named)
+
   by : (b : Bool) → key_eq k (key_of c.named) ≡ b → kept_at new k ≡ option_or (cond b (option_map (encrypted front k) c.body) None) (kept_at old k)
   by true on =
       let is : k ≡ key = key-same k (key_of c.named) on ∙ named in
@@ -124,22 +125,6 @@ fresh-are made changes fresh distinct has are k =
 
 -- ---- the entries that are gone
 
-pub gone-more : (changes : List EntryChange) (i : ℕ) (c : EntryChange) (keys new : List Key) → i < length changes → c ≡ get_or changes i c
-    → keys ++ gone_keys (drop i changes) ≡ gone_keys changes → new ≡ keys ++ gone_keys (c ∷ [])
-    → new ++ gone_keys (drop (i + 1) changes) ≡ gone_keys changes
-gone-more changes i c keys new inside is before more =
-    rw more (append-both keys ∙ sym (ap (λ l. keys ++ gone_keys l) (change-first changes i c inside is)) ∙ before) where
-  rest : List EntryChange
-  rest = drop (i + 1) changes
-  one : gone_keys (c ∷ []) ++ gone_keys rest ≡ gone_keys (c ∷ rest)
-  one = by (is_none c.body) where
-    by : (b : Bool) → changed_keys (cond b (c ∷ []) []) ++ gone_keys rest ≡ changed_keys (cond b (c ∷ filter (λ c. is_none c.body) rest) (filter (λ c. is_none c.body) rest))
-    by true = refl
-    by false = refl
-  append-both : (keys : List Key) → (keys ++ gone_keys (c ∷ [])) ++ gone_keys rest ≡ keys ++ gone_keys (c ∷ rest)
-  append-both [] = one
-  append-both (k ∷ keys) = ap (λ l. k ∷ l) (append-both keys)
-
 gone-among : (k : Key) (gone : List Gone) → is_gone gone k ≡ list_any (same_key k) (map gone_key gone)
 gone-among k [] = refl
 gone-among k (g ∷ gone) = rw (gone-among k gone) refl
@@ -166,21 +151,20 @@ module _ (made : SourceParts) (k : Key) where
   gone-at [] distinct has = refl
   gone-at (c ∷ changes) distinct has =
       gone-first c changes k (is_none c.body) refl ∙ by (is_none c.body) (key_eq k (key_of c.named)) refl refl (gone-at changes distinct.1 has.1) where
-    by : (n b : Bool) → is_none c.body ≡ n → key_eq k (key_of c.named) ≡ b
-        → list_any (key_eq k) (gone_keys changes) ≡ (list_any (key_eq k) (changed_keys changes) && is_none (body_at (bodies made.items) k))
-        → cond n (b || list_any (key_eq k) (gone_keys changes)) (list_any (key_eq k) (gone_keys changes))
-        ≡ ((b || list_any (key_eq k) (changed_keys changes)) && is_none (body_at (bodies made.items) k))
-    by n true gone on rest =
-        let is : k ≡ key_of c.named = key-same k (key_of c.named) on in
-        let body : body_at (bodies made.items) k ≡ c.body = ap (body_at (bodies made.items)) is ∙ has.0 in
-        let none : list_any (key_eq k) (gone_keys changes) ≡ false = none-gone changes (ap (λ j. list_any (key_eq j) (changed_keys changes)) is ∙ distinct.0) in
-        here n ∙ sym (ap is_none body ∙ gone)
-      where
-      here : (n : Bool) → cond n true (list_any (key_eq k) (gone_keys changes)) ≡ n
-      here true = refl
-      here false = none-gone changes (ap (λ j. list_any (key_eq j) (changed_keys changes)) (key-same k (key_of c.named) on) ∙ distinct.0)
-    by true false gone off rest = rest
-    by false false gone off rest = rest
+        by : (n b : Bool) → is_none c.body ≡ n → key_eq k (key_of c.named) ≡ b
+            → list_any (key_eq k) (gone_keys changes) ≡ (list_any (key_eq k) (changed_keys changes) && is_none (body_at (bodies made.items) k))
+            → cond n (b || list_any (key_eq k) (gone_keys changes)) (list_any (key_eq k) (gone_keys changes))
+            ≡ ((b || list_any (key_eq k) (changed_keys changes)) && is_none (body_at (bodies made.items) k))
+        by n true gone on rest =
+            let is : k ≡ key_of c.named = key-same k (key_of c.named) on in
+            let body : body_at (bodies made.items) k ≡ c.body = ap (body_at (bodies made.items)) is ∙ has.0 in
+            here n ∙ sym (ap is_none body ∙ gone)
+          where
+            here : (n : Bool) → cond n true (list_any (key_eq k) (gone_keys changes)) ≡ n
+            here true = refl
+            here false = none-gone changes (ap (λ j. list_any (key_eq j) (changed_keys changes)) (key-same k (key_of c.named) on) ∙ distinct.0)
+        by true false gone off rest = rest
+        by false false gone off rest = rest
 
 pub gone-are : (made : SourceParts) (changes : List EntryChange) (gone : List Gone) → AreDistinctKeys (changed_keys changes)
     → AllByRecursion (HasBody made) changes → map gone_key gone ≡ gone_keys changes → AreGone (changed_keys changes) made gone

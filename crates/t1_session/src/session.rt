@@ -60,10 +60,10 @@ use crate::numbers::block_size;
 use crate::print::{Print, put_text};
 use std::alloc::AllocError;
 use std::io::Write;
+use t1_batch::EditedEntry;
 use t1_code::{Counted, OutError, WHOLE_PARTS};
 use t1_font::{MeasuredGlyphs, afm_of_source, usage_text, write_source_afm};
 use t1_frac::Refusal;
-use t1_batch::EditedEntry;
 use t1_held::{
     held_metrics, held_of, held_pfa, held_pfb, prepare_commit, prepare_edit, settle_commit,
     settle_edit, write_held_pfa, write_held_pfb,
