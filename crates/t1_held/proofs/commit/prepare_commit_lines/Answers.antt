@@ -1,4 +1,4 @@
-use Rattle.std.proofs.Common.{◌≡◌, ◌∙◌, ap, sym}
+use Rattle.std.proofs.Common.{◌∙◌, ap, sym}
 use Rattle.std.proofs.lemmas.Result.{err_from_is_err_and}
 use Rattle.t1_held.specs.Commit.{fresh_in}
 use Rattle.t1_held.proofs.CommitLaws.{batch-is, fresh-are, gone-are}
