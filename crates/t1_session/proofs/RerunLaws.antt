@@ -1,5 +1,5 @@
 -- What an edit leaves of what a session keeps.
-use Rattle.std.proofs.Common.{◌≡◌, ◌≤◌, ℕ, true, length, map, List, Option, Some, Result, Ok, Err, refl, ap, sym, ◌∙◌, subst, arith}
+use Rattle.std.proofs.Common.{◌≡◌, ◌≤◌, ℕ, true, length, List, Result, Ok, Err, ap, sym, ◌∙◌, subst, arith}
 use Rattle.std.specs.List.{list_all, AllByRecursion}
 use Rattle.t1_frac.specs.declared.fault.Fault.{Fault}
 use Rattle.t1_frac.specs.declared.fault.Refusal.{Refusal}
@@ -7,7 +7,6 @@ use Rattle.t1_frac.specs.declared.fault.Refusal.TheVariants as refusals
 use Rattle.t1_parts.specs.SourceParts.{SourceParts}
 use Rattle.t1_parts.specs.Printing.{text}
 use Rattle.t1_parts.specs.Reading.{reads}
-use Rattle.t1_source.specs.declared.edit.Cause.{Cause}
 use Rattle.t1_source.specs.declared.edit.Edit.{Edit}
 use Rattle.t1_source.specs.declared.pairs.Pair.{Pair}
 use Rattle.t1_source.specs.Editing.{edited}
@@ -19,13 +18,13 @@ use Rattle.t1_font.specs.Assembly.{file_check}
 use Rattle.t1_font.specs.Runs.{counted, Counts}
 use Rattle.t1_font.specs.SourceChecks.{source_check}
 use Rattle.t1_cache.specs.Edited.{named, stale}
-use Rattle.t1_cache.specs.Renewed.{Kept, kept_of}
+use Rattle.t1_cache.specs.Renewed.{Kept}
 use Rattle.t1_rerun.specs.Opened.{runs_where}
 use Rattle.t1_rerun.specs.Renewing.{renewing_runs, IsRunWhereStale}
 use Rattle.t1_held.specs.declared.held.Held.{Held}
 use Rattle.t1_held.specs.Held.{IsHeld, IsPreparedEdit}
 use Rattle.t1_held.proofs.HeldLaws.{checked_well}
-use Rattle.t1_session.specs.Reruns.{Edition, Renews, Reruns, Spends}
+use Rattle.t1_session.specs.Reruns.{Renews, Spends}
 use Rattle.t1_session.specs.State.{SessionView}
 use Rattle.t1_session.proofs.StateLaws.{file_checked, right_checked}
 
