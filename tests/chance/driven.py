@@ -4,24 +4,13 @@
 import os
 import subprocess
 
+from chance.recount import Recount
 from chance.sessions import Chooser
-from session import Session, commands
+from chance.unjudged import Unjudged
+from session import commands
 from source import kern_text
 
 SECONDS = 60
-
-
-class Unjudged(Session):
-    """Source and pairs by the rules of edits alone; a fault is for the program to report."""
-
-    def judged(self, source):
-        return None
-
-    def state(self):
-        return self.source, self.pairs, self.batch
-
-    def restore(self, state):
-        self.source, self.pairs, self.batch = state
 
 
 class Program:
@@ -48,9 +37,9 @@ class Program:
 class Driver:
     """Makes edits on a font, and collects what differs."""
 
-    def __init__(self, program, source, room, chance):
-        self.program, self.room, self.failures, self.counts = program, room, [], {}
-        self.model = Unjudged(source, {})
+    def __init__(self, program, counter, source, room, chance):
+        self.program, self.counter, self.room, self.failures, self.counts = program, counter, room, [], {}
+        self.model, self.recount = Unjudged(source, {}), Recount(source)
         self.chooser = Chooser(chance, self.model)
         self.write("font.t1", source.text())
         self.session = Program(program, os.path.join(room, "font.t1"))
@@ -83,6 +72,7 @@ class Driver:
         status, complaint = self.session.close()
         if status or complaint:
             self.failures.append(f"the session ended with status {status}: {complaint.decode(errors='replace')}")
+        self.failures += self.recount.differences(self.counter, os.path.join(self.room, "font.t1"))
 
     def edit(self, text, words, body, is_open):
         before = self.model.state()
@@ -90,6 +80,7 @@ class Driver:
         found = self.session.ask(text)
         kind = found.split()[0].decode() if found else "none"
         self.counts[kind] = self.counts.get(kind, 0) + 1
+        self.recount.note(words, body, found)
         if found != wanted and found.startswith(b"refused F") and wanted == b"ok":
             self.refused_by_fault(text, words, found, before)
         elif found != wanted:

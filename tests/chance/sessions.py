@@ -206,8 +206,8 @@ def depths(font):
     return [it for it in map(depth, font.glyphs) if it]
 
 
-def random_commands(chance, session, tally, count):
-    """The input, and what the session answers."""
+def random_commands(chance, session, tally, count, recount=None):
+    """The input, and what the session answers; a recount notes both."""
     chooser, given, answers = Chooser(chance, session), [], []
     last = [it + b"\n" for it in PRINTS]
     for index in range(count + len(last)):
@@ -216,4 +216,6 @@ def random_commands(chance, session, tally, count):
         for words, body, is_open in commands(text):
             answers.append(session.answer(words, body, is_open))
             tally.count(words, answers[-1], session)
+            if recount:
+                recount.note(words, body, answers[-1].rstrip())
     return b"".join(given), b"".join(answers)

@@ -1,12 +1,13 @@
 -- Lines, written one after another.
-use Rattle.std.proofs.Common.{◌≡◌, ℕ, ◌+◌, ◌<◌, List, [], ◌∷◌, ◌++◌, length, drop, get_or, drop-cons, add-one, refl, ℤ, pos, negsuc, zero, suc, ◌≢◌, sym, ap}
+use Rattle.std.proofs.Common.{◌≡◌, ℕ, ◌+◌, ◌<◌, List, [], ◌∷◌, ◌++◌, length, drop, get_or, drop-cons, add-one, refl, ℤ, pos, negsuc, zero, suc, ◌≢◌, sym, ap, ◌∙◌, append-nil}
 use Rattle.std.specs.Prelude.{codes, flat_map}
 use mir.Syntax.{w64}
 use mir.Val.{of_z}
 use Rattle.std.specs.Fmt.{signed_decimal}
 use Rattle.t1_afm.specs.declared.line.Word.{Word}
 use Rattle.t1_afm.specs.declared.line.Word.TheVariants.{Text}
-use Rattle.t1_afm.specs.Afm.{rest_text, width_words}
+use Rattle.t1_afm.specs.declared.metrics.CharMetric.{CharMetric}
+use Rattle.t1_afm.specs.Afm.{code_number, entries, line_text, rest_text, sides, width_words}
 use Rattle.t1_afm.specs.Lines.{word_text, words_of}
 
 abbrev pub no_word : Word
@@ -27,3 +28,10 @@ pub width_both : (wx wy : ℤ) → of_z w64 wy ≢ 0 → width_words wx wy ≡ c
 width_both wx (pos zero) h = absurd (h refl)
 width_both wx (pos (suc n)) h = refl
 width_both wx (negsuc n) h = refl
+
+-- a glyph's line is what stands before its name, the name, and its box
+pub glyph_line : (c : CharMetric) (front end : List ℕ)
+    → ((rest : List ℕ) → front ++ rest ≡ codes "C " ++ (signed_decimal (code_number c.code) ++ (codes " ; WX " ++ (signed_decimal c.wx ++ (codes " ; N " ++ rest)))))
+    → end ≡ codes " ; B" ++ rest_text (sides c.bbox ++ codes ";" ∷ [])
+    → front ++ (c.name ++ (end ++ [])) ≡ line_text (codes "C" ∷ entries (codes "WX" ∷ signed_decimal c.wx ∷ []) c)
+glyph_line c front end f e = f (c.name ++ (end ++ [])) ∙ rw (e, append-nil) refl

@@ -1,13 +1,16 @@
-//! Parts of the file, each of which puts its own text.
-ghost use Rattle.std.specs.Prelude.{◌≡◌, [], ◌∷◌, OnOk, OnErr, flat_map, codes};
+//! Parts of the file, each of which puts its own text. A line whose form is fixed is put as slices: its values, and the text
+//! between each two of them.
+ghost use Rattle.std.specs.Prelude.{◌≡◌, ℕ, List, [], ◌∷◌, ◌++◌, OnOk, OnErr, flat_map, codes};
 ghost use Rattle.std.specs.Fmt.{signed_decimal};
 ghost use Rattle.t1_code.specs.Counted.{Passes, Stops, outlet};
-ghost use Rattle.t1_afm.specs.Afm.{line_text, lines_text, value_line, char_line, pair_line, composite_line, sides, entries, code_number};
+ghost use Rattle.t1_afm.specs.Afm.{line_text, rest_text, lines_text, value_line, char_line, pair_line, composite_line, sides, entries, code_number};
 ghost use Rattle.t1_afm.specs.Lines.{words_of, value_of};
 
 use crate::bbox::BBox;
-use crate::line::{Word, put_line};
+use crate::line::{Word, put_line, put_slices};
+use crate::line_end::LineEnd;
 use crate::metrics::{CharMetric, CompositeMetric, KernPair};
+use itoa::Buffer;
 use std::io::{self, Write};
 use t1_code::{Chunk, Counted};
 
@@ -58,19 +61,11 @@ impl Part for Value<'_> {
 /// The words of a line that aren't values.
 const END: Word<'static> = Word::Text(b";");
 
-const WX: Word<'static> = Word::Text(b"WX");
-
 const BOTH: Word<'static> = Word::Text(b"W");
 
 const NAME: Word<'static> = Word::Text(b"N");
 
 const BOX: Word<'static> = Word::Text(b"B");
-
-const TWO: Word<'static> = Word::Text(b"2");
-
-const ZERO: Word<'static> = Word::Text(b"0");
-
-const PART: Word<'static> = Word::Text(b"PCC");
 
 /// The left, bottom, right and top side of a box.
 pub(crate) fn sides(bbox: &BBox) -> [Word<'static>; 4]
@@ -93,17 +88,52 @@ fn code_number(code: Option<u8>) -> i64
     }
 }
 
+/// A glyph's line up to its name, with the width along x alone.
+fn width_front(code: i64, wx: i64) -> LineEnd
+    ensures { (rest : List ℕ) → result ++ rest ≡ codes "C " ++ (signed_decimal code ++ (codes " ; WX " ++ (signed_decimal wx ++ (codes " ; N " ++ rest)))) }
+{
+    let mut front = LineEnd::new();
+    front.text(b" ; N ");
+    front.number(wx);
+    front.text(b" ; WX ");
+    front.number(code);
+    front.text(b"C ");
+    front
+}
+
+/// A glyph's line from its name on: its box.
+fn box_end(bbox: &BBox) -> LineEnd
+    ensures { result ≡ codes " ; B" ++ rest_text (sides bbox.now ++ codes ";" ∷ []) }
+{
+    let mut end = LineEnd::new();
+    end.text(b" ;\n");
+    end.number(i64::from(bbox.top));
+    end.text(b" ");
+    end.number(i64::from(bbox.right));
+    end.text(b" ");
+    end.number(i64::from(bbox.bottom));
+    end.text(b" ");
+    end.number(i64::from(bbox.left));
+    end.text(b" ; B ");
+    end
+}
+
 impl<'a> CharMetric<'a> {
-    /// The words after `C`, with the width along x alone.
-    fn words(&self) -> [Word<'a>; 14]
-        ensures { words_of result ≡ entries (codes "WX" ∷ signed_decimal self.now.wx ∷ []) self.now }
+    /// Puts the line with the width along x alone.
+    #[tactic(auto, using(crate::proofs::Sheets::glyph_line))]
+    fn put_across<W: Write>(&self, out: &mut Counted<W>, chunk: &mut Chunk) -> io::Result<()>
+        ensures ok { OnOk result (Passes W.contents (outlet out.old chunk.old) (outlet out.new chunk.new)
+            (line_text (codes "C" ∷ entries (codes "WX" ∷ signed_decimal self.now.wx ∷ []) self.now))) }
+        ensures err { OnErr result (Stops W.contents (outlet out.old chunk.old) (outlet out.new chunk.new)
+            (line_text (codes "C" ∷ entries (codes "WX" ∷ signed_decimal self.now.wx ∷ []) self.now))) }
     {
-        let code = Word::Number(code_number(self.code));
-        let (wx, name) = (Word::Number(self.wx), Word::Text(self.name.as_slice()));
-        let [left, bottom, right, top] = sides(&self.bbox);
-        [
-            code, END, WX, wx, END, NAME, name, END, BOX, left, bottom, right, top, END,
-        ]
+        let front = width_front(code_number(self.code), self.wx);
+        let end = box_end(&self.bbox);
+        put_slices(
+            out,
+            chunk,
+            &[front.as_slice(), self.name.as_slice(), end.as_slice()],
+        )
     }
 
     /// The words after `C`, with the width along both axes.
@@ -129,7 +159,7 @@ impl Part for CharMetric<'_> {
 
     fn put<W: Write>(&self, out: &mut Counted<W>, chunk: &mut Chunk) -> io::Result<()> {
         if self.wy == 0 {
-            put_line(out, chunk, b"C", &self.words())
+            self.put_across(out, chunk)
         } else {
             put_line(out, chunk, b"C", &self.words_of_both())
         }
@@ -153,18 +183,22 @@ impl Part for CompositeMetric<'_> {
     ghost text = { λ c. line_text (composite_line c) };
 
     fn put<W: Write>(&self, out: &mut Counted<W>, chunk: &mut Chunk) -> io::Result<()> {
-        let (name, base, accent) = (
-            Word::Text(self.name.as_slice()),
-            Word::Text(self.base.as_slice()),
-            Word::Text(self.accent.as_slice()),
-        );
-        let (dx, dy) = (Word::Number(self.dx), Word::Number(self.dy));
-        put_line(
+        let (mut dx, mut dy) = (Buffer::new(), Buffer::new());
+        put_slices(
             out,
             chunk,
-            b"CC",
             &[
-                name, TWO, END, PART, base, ZERO, ZERO, END, PART, accent, dx, dy, END,
+                b"CC ",
+                self.name.as_slice(),
+                b" 2 ; PCC ",
+                self.base.as_slice(),
+                b" 0 0 ; PCC ",
+                self.accent.as_slice(),
+                b" ",
+                dx.format(self.dx).as_bytes(),
+                b" ",
+                dy.format(self.dy).as_bytes(),
+                b" ;\n",
             ],
         )
     }

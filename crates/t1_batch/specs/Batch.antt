@@ -7,7 +7,7 @@ use Rattle.t1_source.specs.declared.edit.Cause.{Cause}
 use Rattle.t1_source.specs.declared.edit.Cause.TheVariants as causes
 use Rattle.t1_source.specs.declared.edit.Edit.{Edit}
 use Rattle.t1_source.specs.declared.edit.Edit.TheVariants.{AddGlyph, AddSubr}
-use Rattle.t1_source.specs.declared.pairs.Pair.{Pair}
+use Rattle.t1_pairs.specs.declared.pairs.Pair.{Pair}
 use Rattle.t1_source.specs.Editing.{edited}
 use Rattle.t1_source.specs.WellFormed.{IsWellFormed}
 use Rattle.t1_run.specs.Run.{Key}

@@ -1,7 +1,8 @@
 //! The edits of an open batch.
 use crate::entries::EditedEntry;
 use std::marker::Model;
-use t1_source::{Pairs, Source};
+use t1_pairs::Pairs;
+use t1_source::Source;
 
 /// The source and the pairs after the edits of a batch so far, and the entries that the edits name, in the order of the
 /// edits.

@@ -5,8 +5,9 @@ use std::test::Fail;
 use t1_cache::Named;
 use t1_code::Body;
 use t1_frac::{Bytes, Fault, Place, Refusal};
+use t1_pairs::read_pairs;
 use t1_rerun::EntryChange;
-use t1_source::{Cause, Edit, Rule, read_pairs, read_source};
+use t1_source::{Cause, Edit, Rule, read_source};
 
 /// Three glyphs of the demo font: acute enters Subr 4, and Aacute is composed of A and acute.
 const THREE: &str = "\

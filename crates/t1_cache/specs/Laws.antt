@@ -10,7 +10,7 @@ use Rattle.t1_frac.specs.declared.fault.Code.{Code}
 use Rattle.t1_frac.specs.declared.fault.Fault.{Fault}
 use Rattle.t1_frac.specs.Outcome.{◌>>=◌}
 use Rattle.t1_source.specs.declared.edit.Edit.{Edit}
-use Rattle.t1_source.specs.declared.pairs.Pair.{Pair}
+use Rattle.t1_pairs.specs.declared.pairs.Pair.{Pair}
 use Rattle.t1_source.specs.Editing.{edited}
 use Rattle.t1_source.specs.WellFormed.{IsWellFormed}
 use Rattle.t1_parts.specs.SourceParts.{SourceParts}

@@ -7,7 +7,7 @@ use Rattle.t1_run.specs.Overlay.{changed}
 use Rattle.t1_run.specs.Touched.{SameBut}
 use Rattle.t1_parts.specs.SourceParts.{SourceParts}
 use Rattle.t1_source.specs.declared.edit.Edit.{Edit}
-use Rattle.t1_source.specs.declared.pairs.Pair.{Pair}
+use Rattle.t1_pairs.specs.declared.pairs.Pair.{Pair}
 use Rattle.t1_source.specs.Editing.{edited}
 use Rattle.t1_source.specs.WellFormed.{IsWellFormed}
 use Rattle.t1_font.specs.Bodies.{SameBodies, bodies}

@@ -7,7 +7,7 @@ use Rattle.t1_run.specs.declared.outline.Segment.{Segment}
 use Rattle.t1_run.specs.Run.{FontBodies, Key, NumberedRun, own}
 use Rattle.t1_source.specs.declared.edit.Edit.{Edit}
 use Rattle.t1_source.specs.declared.edit.Edit.TheVariants.{AddGlyph, RemoveGlyph}
-use Rattle.t1_source.specs.declared.pairs.Pair.{Pair}
+use Rattle.t1_pairs.specs.declared.pairs.Pair.{Pair}
 use Rattle.t1_source.specs.Editing.{edited}
 use Rattle.t1_source.specs.WellFormed.{IsWellFormed}
 use Rattle.t1_afm.specs.declared.bbox.BBox.{BBox}

@@ -1,6 +1,7 @@
 -- The files of a source, by the charstrings that are kept.
-use Rattle.std.proofs.Common.{◌≡◌, ℕ, ◌<◌, ◌≤◌, ◌-◌, ◌^◌, min, max, length, List, Ok, Err, refl, sym, ap, ◌∙◌}
+use Rattle.std.proofs.Common.{◌≡◌, ℕ, ◌<◌, ◌≤◌, ◌-◌, ◌^◌, min, max, length, List, Result, Ok, Err, refl, sym, ap, ◌∙◌}
 use Rattle.t1_frac.specs.declared.fault.Code.TheVariants.{F23}
+use Rattle.t1_frac.specs.declared.fault.Fault.{Fault}
 use Rattle.t1_frac.specs.declared.fault.Place.TheVariants.{Nowhere}
 use Rattle.t1_frac.specs.Outcome.{fault_at}
 use Rattle.t1_parts.specs.declared.item.Item.{Item}
@@ -10,12 +11,10 @@ use Rattle.t1_parts.specs.LenIV.{lead}
 use Rattle.t1_parts.specs.Operator.{operator}
 use Rattle.t1_source.specs.WellFormed.{IsWellFormed}
 use Rattle.t1_code.specs.Cipher.{eexec}
-use Rattle.t1_code.specs.Pfa.{pfa_of}
-use Rattle.t1_code.specs.Pfb.{pfb_of}
 use Rattle.t1_code.proofs.Framing.{long_part, no_long_part}
-use Rattle.t1_font.specs.Assembly.{length_check, private_text, trailer_text, source_file, source_pfa}
-use Rattle.t1_font.proofs.Filing.{source_parts, pfa_parts}
+use Rattle.t1_font.specs.Assembly.{length_check, private_text, trailer_text, source_file}
 use Rattle.t1_charstrings.specs.declared.entries.Charstrings.{Charstrings}
+use Rattle.t1_charstrings.specs.Files.{file_in}
 use Rattle.t1_charstrings.specs.Kept.{AreEncrypted}
 use Rattle.t1_charstrings.specs.Lengths.{IsPrivateLen}
 use Rattle.t1_charstrings.specs.Lines.{kept_text}
@@ -27,17 +26,12 @@ private : (s : SourceParts) (c : Charstrings) (o : List ℕ) (items : List Item)
 private s c o items text well kept operator_is items_are text_is =
     kept_text_is s c well kept ∙ ap (λ t. Ok t) (ap (λ name. kept_text c name s.items) (sym operator_is) ∙ ap (λ is. kept_text c o is) (sym items_are) ∙ sym text_is)
 
-pub kept_file : (size : ℕ) (s : SourceParts) (c : Charstrings) (o : List ℕ) (items : List Item) (text clear trailer : List ℕ) → IsWellFormed s → AreEncrypted s c
-    → o ≡ operator s → items ≡ s.items → text ≡ kept_text c o items → clear ≡ joined s.clear → trailer ≡ trailer_text s.tail
-    → source_file size s ≡ pfb_of size clear text trailer
-kept_file size s c o items text clear trailer well kept operator_is items_are text_is clear_is trailer_is =
-    source_parts size s (lead s) (operator s) s.items text clear trailer refl refl refl (private s c o items text well kept operator_is items_are text_is) clear_is trailer_is
-
-pub kept_pfa : (s : SourceParts) (c : Charstrings) (o : List ℕ) (items : List Item) (text clear trailer : List ℕ) → IsWellFormed s → AreEncrypted s c
-    → o ≡ operator s → items ≡ s.items → text ≡ kept_text c o items → clear ≡ joined s.clear → trailer ≡ trailer_text s.tail
-    → source_pfa s ≡ pfa_of clear text trailer
-kept_pfa s c o items text clear trailer well kept operator_is items_are text_is clear_is trailer_is =
-    pfa_parts s (lead s) (operator s) s.items text clear trailer refl refl refl (private s c o items text well kept operator_is items_are text_is) clear_is trailer_is
+-- the file in any form, by its parts
+pub kept_file : (form : List ℕ → List ℕ → List ℕ → Result (List ℕ) Fault) (s : SourceParts) (c : Charstrings) (o : List ℕ) (items : List Item) (text clear trailer : List ℕ)
+    → IsWellFormed s → AreEncrypted s c → o ≡ operator s → items ≡ s.items → text ≡ kept_text c o items → clear ≡ joined s.clear → trailer ≡ trailer_text s.tail
+    → file_in form s ≡ form clear text trailer
+kept_file form s c o items text clear trailer well kept operator_is items_are text_is clear_is trailer_is =
+    rw (private s c o items text well kept operator_is items_are text_is, clear_is, trailer_is) refl
 
 -- how long the private text is
 pub kept_len : (s : SourceParts) (c : Charstrings) (o : List ℕ) (items : List Item) (len : ℕ) → IsWellFormed s → AreEncrypted s c

@@ -1,6 +1,7 @@
 pub mod Batch
 pub mod Changed
 pub mod Entries
+pub mod Files
 pub mod Kept
 pub mod Laws
 pub mod Lengths

@@ -1,19 +1,18 @@
-//! The PFB and PFA files of a source, with the charstrings that are kept.
-ghost use Rattle.std.specs.Prelude.{◌≡◌, ◌≤◌, ◌-◌, ◌^◌, IfOk};
+//! The files of a source, with the charstrings that are kept.
+ghost use Rattle.std.specs.Prelude.{◌≡◌, IfOk};
 ghost use Rattle.std.specs.List.{flat_map};
 ghost use Rattle.t1_text.specs.Lines.{joined};
 ghost use Rattle.t1_code.specs.Parts.{piece_text, Prints};
-ghost use Rattle.t1_code.specs.Pfa.{pfa_of};
-ghost use Rattle.t1_code.specs.Pfb.{pfb_of};
 ghost use Rattle.t1_source.specs.WellFormed.{IsWellFormed};
-ghost use Rattle.t1_font.specs.Assembly.{source_file, source_pfa, trailer_text};
+ghost use Rattle.t1_font.specs.Assembly.{trailer_text};
+ghost use Rattle.t1_charstrings.specs.Files.{file_in};
 ghost use Rattle.t1_charstrings.specs.Kept.{AreEncrypted};
 
 use crate::entries::Charstrings;
 use crate::lines::{lines_of, pieces_of};
 use std::alloc::{AllocError, Global};
 use std::io::Write;
-use t1_code::{Counted, OutError, Parts, Piece, write_pfa, write_pfb};
+use t1_code::{Counted, FileForm, OutError, Parts, Piece, write_file};
 use t1_frac::Bytes;
 use t1_parts::push_lines;
 use t1_source::Source;
@@ -46,80 +45,41 @@ pub(crate) fn trailer(alloc: Global, tail: &[Bytes]) -> Result<Vec<u8>, AllocErr
     Ok(text)
 }
 
-/// Writes the PFB file of three parts, or answers F23 with nothing written.
-pub(crate) fn write_pfb_parts<W: Write>(
+/// Writes the file of three parts in a form, or answers F23 with nothing written.
+pub(crate) fn write_parts<F: FileForm, W: Write>(
+    form: &F,
     clear: &[u8],
     pieces: &[Piece],
     trailer: &[u8],
-    size: usize,
     out: &mut Counted<W>,
 ) -> Result<(), OutError>
-    requires some { 1 ≤ size }
-    requires short { size ≤ 2 ^ 31 - 1 }
-    ensures { Prints W.contents out.old out.new (pfb_of size clear.now (flat_map piece_text pieces.now) trailer.now) result }
+    ensures { Prints W.contents out.old out.new (F.file form.now clear.now (flat_map piece_text pieces.now) trailer.now) result }
 {
     let parts = Parts {
         clear,
         pieces,
         trailer,
     };
-    write_pfb(&parts, size, out)
+    write_file(form, &parts, out)
 }
 
-/// Writes the PFB file of a source in segments of so many bytes, with the charstrings that are kept: nothing is compiled
-/// or encrypted. The whole file at `Ok`, a beginning of it at `Write`; nothing is written at F23, nor where memory runs
-/// out.
-pub fn write_kept_pfb<W: Write>(
+/// Writes the file of a source in a form, with the charstrings that are kept: nothing is compiled or encrypted but the whole
+/// by eexec, and no file is made in memory. The whole file at `Ok`, a beginning of it at `Write`; nothing is written at F23,
+/// nor where memory runs out.
+pub fn write_kept_file<F: FileForm, W: Write>(
     alloc: Global,
     charstrings: &Charstrings,
     source: &Source,
-    size: usize,
+    form: &F,
     out: &mut Counted<W>,
 ) -> Result<(), OutError>
-    requires some { 1 ≤ size }
-    requires short { size ≤ 2 ^ 31 - 1 }
     requires well { IsWellFormed source.now }
     requires kept { AreEncrypted source.now charstrings.now }
-    ensures { Prints W.contents out.old out.new (source_file size source.now) result }
+    ensures { Prints W.contents out.old out.new (file_in (F.file form.now) source.now) result }
 {
     let lines = lines_of(alloc, charstrings, source.operator(), source.items())?;
     let pieces = pieces_of(alloc, &lines)?;
     let clear = clear_text(alloc, source.clear())?;
     let trailer = trailer(alloc, source.tail())?;
-    write_pfb_parts(&clear, &pieces, &trailer, size, out)
-}
-
-/// Writes the PFA file of three parts, or answers F23 with nothing written.
-fn write_pfa_parts<W: Write>(
-    clear: &[u8],
-    pieces: &[Piece],
-    trailer: &[u8],
-    out: &mut Counted<W>,
-) -> Result<(), OutError>
-    ensures { Prints W.contents out.old out.new (pfa_of clear.now (flat_map piece_text pieces.now) trailer.now) result }
-{
-    let parts = Parts {
-        clear,
-        pieces,
-        trailer,
-    };
-    write_pfa(&parts, out)
-}
-
-/// Writes the PFA file of a source, with the answers of `write_kept_pfb`.
-pub fn write_kept_pfa<W: Write>(
-    alloc: Global,
-    charstrings: &Charstrings,
-    source: &Source,
-    out: &mut Counted<W>,
-) -> Result<(), OutError>
-    requires well { IsWellFormed source.now }
-    requires kept { AreEncrypted source.now charstrings.now }
-    ensures { Prints W.contents out.old out.new (source_pfa source.now) result }
-{
-    let lines = lines_of(alloc, charstrings, source.operator(), source.items())?;
-    let pieces = pieces_of(alloc, &lines)?;
-    let clear = clear_text(alloc, source.clear())?;
-    let trailer = trailer(alloc, source.tail())?;
-    write_pfa_parts(&clear, &pieces, &trailer, out)
+    write_parts(form, &clear, &pieces, &trailer, out)
 }

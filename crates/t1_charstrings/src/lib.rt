@@ -1,7 +1,7 @@
 //! The encrypted charstrings of a font's entries, kept under edits.
 //!
-//! [`charstrings_of`] encrypts the charstrings of a source, or gives the first fault of its bodies. [`write_kept_pfb`] and
-//! [`write_kept_pfa`] write its files with them: nothing is compiled or encrypted anew. [`put_subr`] and the functions beside
+//! [`charstrings_of`] encrypts the charstrings of a source, or gives the first fault of its bodies. [`write_kept_file`]
+//! writes its files with them: nothing is compiled or encrypted anew. [`put_subr`] and the functions beside
 //! it change what is kept of one entry, in the room that [`make_room`] made. [`private_len`] is the length of the private
 //! text, and [`check_parts`] judges by it whether a part of a file is too long; [`laws`] say what an edit makes of both.
 //!
@@ -37,7 +37,7 @@ pub use changed::{
 };
 pub use encrypted::{charstrings_of, encrypted_anew, encrypted_glyph, encrypted_subr};
 pub use entries::{Charstrings, Entry};
-pub use files::{write_kept_pfa, write_kept_pfb};
+pub use files::write_kept_file;
 pub use lengths::{check_length, check_parts, entry_line_len, line_len, private_len, sections_len};
 pub use preparing::{prepare_anew, prepare_lines};
 pub use settling::{ReadyLine, ReadyLines, settle_lines};

@@ -20,7 +20,8 @@ use crate::replacing::{prepare_insert, prepare_put, prepare_remove};
 use crate::settling::{ReadyLine, ReadyLines};
 use std::alloc::Global;
 use t1_frac::{Bytes, Refusal};
-use t1_source::{Change, Item, Pairs, Source};
+use t1_pairs::Pairs;
+use t1_source::{Change, Item, Source};
 
 /// The charstrings of a source, all encrypted anew, and the length of its private text; or the first fault of the source.
 /// Settled, they take the place of any that were kept.

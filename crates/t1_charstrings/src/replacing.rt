@@ -25,7 +25,8 @@ use crate::settling::{ReadyLine, ReadyLines};
 use std::alloc::{AllocError, Global};
 use t1_font::{compiled_glyph, compiled_subr};
 use t1_frac::Refusal;
-use t1_source::{Change, Item, Pairs, Source};
+use t1_pairs::Pairs;
+use t1_source::{Change, Item, Source};
 
 /// The charstring of an entry that is put in, or the fault of its body; none of another item.
 #[tactic(auto, unfolding(t1_font::specs::Bodies::words_check))]

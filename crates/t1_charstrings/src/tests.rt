@@ -8,7 +8,7 @@ mod edits;
 use super::*;
 use std::alloc::Global;
 use std::test::Fail;
-use t1_code::{Body, Counted, WHOLE_PARTS, compile};
+use t1_code::{Body, Counted, Pfa, Pfb, WHOLE_PARTS, compile};
 use t1_font::pfb_of_source;
 use t1_frac::Words;
 use t1_source::laws::read_source_is_well_formed;
@@ -71,13 +71,8 @@ fn kept_pfb(alloc: Global, text: &str, size: usize) -> Result<Vec<u8>, Fail> {
     let source = read(alloc, text)?;
     let charstrings = charstrings_of(alloc, &source)?;
     let mut out = Counted::new(Vec::new(alloc));
-    write_kept_pfb(
-        alloc,
-        &charstrings,
-        &source,
-        size.max(1).min(WHOLE_PARTS),
-        &mut out,
-    )?;
+    let form = Pfb::in_blocks(size.max(1).min(WHOLE_PARTS));
+    write_kept_file(alloc, &charstrings, &source, &form, &mut out)?;
     Ok(out.into_inner())
 }
 
@@ -119,7 +114,7 @@ fn writes_the_small_font_in_hexadecimal(rt: HostRuntime) -> Result<(), Fail> {
     let source = read(alloc, SMALL)?;
     let charstrings = charstrings_of(alloc, &source)?;
     let mut out = Counted::new(Vec::new(alloc));
-    write_kept_pfa(alloc, &charstrings, &source, &mut out)?;
+    write_kept_file(alloc, &charstrings, &source, &Pfa, &mut out)?;
     assert_eq!(rt; out.into_inner().len(), 767);
     Ok(())
 }

@@ -23,7 +23,7 @@ onto_some : (digit : ℕ) (blocks : List (List ℕ)) → 0 < length (onto_first 
 onto_some digit [] = omega arith
 onto_some digit (block ∷ blocks) = omega arith
 
-blocks_some : (size room : ℕ) (digits : List ℕ) → 0 < length (blocks_from size room digits)
+pub blocks_some : (size room : ℕ) (digits : List ℕ) → 0 < length (blocks_from size room digits)
 blocks_some size room [] = omega arith
 blocks_some size zero (digit ∷ digits) = omega arith
 blocks_some size (suc room) (digit ∷ digits) = onto_some digit (blocks_from size room digits)

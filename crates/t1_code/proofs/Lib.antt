@@ -14,5 +14,6 @@ pub mod Reading
 pub mod Rows
 pub mod Scanning
 pub mod Segmenting
+pub mod Summing
 pub mod Tables
 pub mod Writing

@@ -4,6 +4,9 @@ use Rattle.std.specs.Result.{MatchResult, OnErr, OnOk}
 use Rattle.std.proofs.lemmas.List.{take-append-drop, take-take}
 use Rattle.std.proofs.KnownBytes.{Appends-trans, Appends-nil}
 use Rattle.std.specs.Io.KnownBytes.{Appends}
+use Rattle.t1_frac.specs.declared.fault.Fault.{Fault}
+use Rattle.t1_code.specs.declared.parts.OutError.TheVariants as out
+use Rattle.t1_code.specs.Parts.{PassesFile, Prints}
 use Rattle.t1_code.specs.Counted.{Tally, WritesAll, WritesFront, Outlet, outlet, Passes, Stops, Puts, Writes, one_more}
 
 -- The laws of a way to write, with All for a call that wrote all its bytes and Front for one that failed after a beginning of them.
@@ -154,6 +157,10 @@ module _ {W : Type 0} (contents : W → Option (List ℕ)) where
   Puts-emptied (Ok x) old new waiting left p e q = record { sent = waiting; parts = ap (λ l. waiting ++ l) (sym e); writes = p }
   Puts-emptied (Err x) old new waiting left p e q = rw append-nil q
 
+  -- bytes that the chunk takes wait there
+  pub kept_passes : (tally : Tally W) (waiting kept bytes : List ℕ) → kept ≡ waiting ++ bytes → Passes contents (outlet tally waiting) (outlet tally kept) bytes
+  kept_passes tally waiting kept bytes is = record { sent = []; parts = sym is; writes = (writing contents).none tally }
+
   -- the front of the rest waits too, after room was made for it
   pub Written-kept : (start old : Outlet W) (tally : Tally W) (waiting kept bytes rest front after : List ℕ) → Written (passing contents) start old bytes rest → rest ≡ front ++ after
       → Passes contents old (outlet tally waiting) [] → kept ≡ waiting ++ front → Written (passing contents) start (outlet tally kept) bytes after
@@ -161,3 +168,14 @@ module _ {W : Type 0} (contents : W → Option (List ℕ)) where
       let keeps : Passes contents (outlet tally waiting) (outlet tally (waiting ++ front)) front = record { sent = []; parts = refl; writes = (writing contents).none tally } in
       rw is (Written-step (passing contents) start old (outlet tally (waiting ++ front)) bytes front after (rw e at p)
       ((passing contents).join old (outlet tally waiting) (outlet tally (waiting ++ front)) [] front q keeps))
+
+-- a file that passed on, and the last call, which sends what waits
+pub File-unsent : {W T : Type 0} (contents : W → Option (List ℕ)) (old : Tally W) (b : Outlet W) (new : Tally W) (file : Result (List ℕ) Fault) (done : T)
+    → PassesFile contents (outlet old []) b file (Ok done) → WritesFront contents b.tally new b.waiting → Prints {T = Unit {0}} contents old new file (Err out.Write)
+File-unsent contents old b new file done p f =
+    (p.0, p.1, subst (WritesFront contents old new) (sym p.2.parts) (WritesFront-append contents old b.tally new p.2.sent b.waiting p.2.writes f))
+
+pub File-sent : {W T : Type 0} (contents : W → Option (List ℕ)) (old : Tally W) (b : Outlet W) (new : Tally W) (file : Result (List ℕ) Fault) (done : T)
+    → PassesFile contents (outlet old []) b file (Ok done) → WritesAll contents b.tally new b.waiting → Prints {T = Unit {0}} contents old new file (Ok tt)
+File-sent contents old b new file done p q =
+    (p.0, p.1, subst (WritesAll contents old new) (sym p.2.parts) (WritesAll-append contents old b.tally new p.2.sent b.waiting p.2.writes q))

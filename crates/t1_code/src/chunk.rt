@@ -94,8 +94,8 @@ impl Chunk {
     }
 }
 
-/// Passes bytes on as they are.
-pub fn put_plain<W: Write>(out: &mut Counted<W>, chunk: &mut Chunk, bytes: &[u8]) -> io::Result<()>
+/// Passes bytes on as they are, a chunk of them at a time.
+fn put_in_turns<W: Write>(out: &mut Counted<W>, chunk: &mut Chunk, bytes: &[u8]) -> io::Result<()>
     ensures ok { OnOk result (Passes W.contents (outlet out.old chunk.old) (outlet out.new chunk.new) bytes.now) }
     ensures err { OnErr result (Stops W.contents (outlet out.old chunk.old) (outlet out.new chunk.new) bytes.now) }
 {
@@ -107,4 +107,17 @@ pub fn put_plain<W: Write>(out: &mut Counted<W>, chunk: &mut Chunk, bytes: &[u8]
         rest = after;
     }
     Ok(())
+}
+
+/// Passes bytes on as they are. Those that the chunk still takes only wait there.
+#[tactic(auto, using(crate::proofs::Writing::kept_passes))]
+pub fn put_plain<W: Write>(out: &mut Counted<W>, chunk: &mut Chunk, bytes: &[u8]) -> io::Result<()>
+    ensures ok { OnOk result (Passes W.contents (outlet out.old chunk.old) (outlet out.new chunk.new) bytes.now) }
+    ensures err { OnErr result (Stops W.contents (outlet out.old chunk.old) (outlet out.new chunk.new) bytes.now) }
+{
+    if bytes.len() <= chunk.room() {
+        chunk.keep(bytes);
+        return Ok(());
+    }
+    put_in_turns(out, chunk, bytes)
 }

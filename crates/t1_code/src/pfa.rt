@@ -9,6 +9,7 @@ ghost use Rattle.t1_code.specs.Pfa.{hexadecimal_lines, pfa};
 use crate::chunk::{Chunk, put_plain};
 use crate::counted::Counted;
 use crate::eexec::{Form, put_private};
+use crate::form::{FileForm, write_file};
 use crate::hexadecimal::HexLines;
 use crate::parts::{OutError, Parts, Piece};
 use crate::pieces::private_part_len;
@@ -31,13 +32,25 @@ fn put_file<W: Write>(out: &mut Counted<W>, chunk: &mut Chunk, parts: &Parts) ->
     put_plain(out, chunk, parts.trailer)
 }
 
-/// Writes the file by way of a chunk.
-fn send_file<W: Write>(out: &mut Counted<W>, parts: &Parts) -> io::Result<()>
-    ensures { Writes W.contents out.old out.new (pfa parts.now.clear.now (private_text parts.now) parts.now.trailer.now) result }
-{
-    let mut chunk = Chunk::new();
-    put_file(out, &mut chunk, parts)?;
-    chunk.send(out)
+/// The PFA form: the private part in lines of 64 lower-case hexadecimal digits.
+#[derive(Clone, Copy, Debug)]
+pub struct Pfa;
+
+impl FileForm for Pfa {
+    ghost use Rattle.t1_code.specs.Pfa.{pfa_of};
+
+    ghost file = { λ _. pfa_of };
+
+    fn put<W: Write>(
+        &self,
+        parts: &Parts,
+        out: &mut Counted<W>,
+        chunk: &mut Chunk,
+    ) -> Result<(), OutError> {
+        private_part_len(parts)?;
+        put_file(out, chunk, parts)?;
+        Ok(())
+    }
 }
 
 /// Writes the PFA file of the parts: the clear text, the encrypted private text in lines of 64 lower-case hexadecimal
@@ -48,7 +61,5 @@ pub fn write_pfa<W: Write>(parts: &Parts, out: &mut Counted<W>) -> Result<(), Ou
     ensures prints { Prints W.contents out.old out.new (hexadecimal_file_of parts.now) result }
     ensures no_memory { result ≢ Err OutError.Memory }
 {
-    private_part_len(parts)?;
-    send_file(out, parts)?;
-    Ok(())
+    write_file(&Pfa, parts, out)
 }

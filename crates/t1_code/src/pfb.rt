@@ -8,10 +8,12 @@ ghost use Rattle.t1_code.specs.Pfb.{pfb};
 use crate::chunk::{Chunk, put_plain};
 use crate::counted::Counted;
 use crate::eexec::{Form, put_private};
+use crate::form::{FileForm, write_file};
 use crate::parts::{OutError, Parts};
 use crate::pieces::{MAX_PART, private_part_len};
 use crate::segments::{MARKER, Segmenter, put_part};
 use std::io::{self, Write};
+use std::marker::Model;
 
 /// The block length of a file that holds each part whole, in one segment.
 pub const WHOLE_PARTS: usize = MAX_PART;
@@ -45,21 +47,48 @@ fn put_file<W: Write>(
     put_plain(out, chunk, &[MARKER, END])
 }
 
-/// Writes the file by way of a chunk.
-fn send_file<W: Write>(
-    out: &mut Counted<W>,
-    parts: &Parts,
+/// The PFB form, in segments of so many bytes.
+#[derive(Debug, Drop)]
+pub struct Pfb {
     size: usize,
-    private_len: usize,
-) -> io::Result<()>
-    requires some { 1 ≤ size }
-    requires short { size < 2 ^ 31 }
-    requires whole { private_len ≡ length (eexec (private_text parts.now)) }
-    ensures { Writes W.contents out.old out.new (pfb size parts.now.clear.now (private_text parts.now) parts.now.trailer.now) result }
-{
-    let mut chunk = Chunk::new();
-    put_file(out, &mut chunk, parts, size, private_len)?;
-    chunk.send(out)
+}
+
+impl Model for Pfb {
+    ghost use Rattle.std.specs.Prelude.{ℕ, ◌≤◌, ◌-◌, ◌^◌};
+
+    ghost Value = { ℕ };
+
+    ghost view = { λ form. form.size };
+
+    ghost invariant = { λ form. (1 ≤ form.size) × (form.size ≤ 2 ^ 31 - 1) };
+}
+
+impl Pfb {
+    /// Each part cut into segments of so many bytes, the last with the rest; an empty part is one empty segment.
+    pub fn in_blocks(size: usize) -> Pfb
+        requires some { 1 ≤ size }
+        requires short { size ≤ 2 ^ 31 - 1 }
+        ensures { result ≡ size }
+    {
+        Pfb { size }
+    }
+}
+
+impl FileForm for Pfb {
+    ghost use Rattle.t1_code.specs.Pfb.{pfb_of};
+
+    ghost file = { pfb_of };
+
+    fn put<W: Write>(
+        &self,
+        parts: &Parts,
+        out: &mut Counted<W>,
+        chunk: &mut Chunk,
+    ) -> Result<(), OutError> {
+        let private_len = private_part_len(parts)?;
+        put_file(out, chunk, parts, self.size, private_len)?;
+        Ok(())
+    }
 }
 
 /// Writes the PFB file of the parts, each cut into segments of so many bytes, the last with the rest; an empty part
@@ -71,7 +100,5 @@ pub fn write_pfb<W: Write>(parts: &Parts, size: usize, out: &mut Counted<W>) -> 
     ensures prints { Prints W.contents out.old out.new (file_of size parts.now) result }
     ensures no_memory { result ≢ Err OutError.Memory }
 {
-    let private_len = private_part_len(parts)?;
-    send_file(out, parts, size, private_len)?;
-    Ok(())
+    write_file(&Pfb::in_blocks(size), parts, out)
 }

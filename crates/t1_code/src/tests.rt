@@ -232,3 +232,39 @@ fn stops_at_a_failed_write(rt: HostRuntime) -> Result<(), Fail> {
     assert_eq!(rt; out.into_inner().taken.len(), MAX_PUT);
     Ok(())
 }
+
+#[test]
+fn knows_how_long_a_file_is(rt: HostRuntime) -> Result<(), Fail> {
+    let trailer = trailer(rt.alloc())?;
+    let len = pfb_len(&small_font(&trailer), WHOLE_PARTS);
+    assert!(rt; matches!(len, Ok(694)));
+    Ok(())
+}
+
+#[test]
+fn knows_how_long_blocks_are(rt: HostRuntime) -> Result<(), Fail> {
+    let trailer = trailer(rt.alloc())?;
+    let len = pfb_len(&small_font(&trailer), 40);
+    assert!(rt; matches!(len, Ok(790)));
+    Ok(())
+}
+
+#[test]
+fn knows_how_long_hexadecimal_is(rt: HostRuntime) -> Result<(), Fail> {
+    let trailer = trailer(rt.alloc())?;
+    let len = pfa_len(&small_font(&trailer));
+    assert!(rt; matches!(len, Ok(767)));
+    Ok(())
+}
+
+/// Two empty segments, one of the four leading bytes, and the end of the file.
+#[test]
+fn knows_how_long_empty_parts_are(rt: HostRuntime) -> Result<(), Fail> {
+    let parts = Parts {
+        clear: b"",
+        pieces: &[],
+        trailer: b"",
+    };
+    assert!(rt; matches!(pfb_len(&parts, 40), Ok(24)));
+    Ok(())
+}

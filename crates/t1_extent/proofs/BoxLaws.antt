@@ -1,19 +1,18 @@
 -- Boxes of outlines that are moved by whole distances.
-use Rattle.std.proofs.Common.{◌≡◌, ◌<◌, ◌+◌, List, [], ◌∷◌, ◌++◌, map, refl, ap, ◌∙◌, sym, Option, Some, None, ℤ, ◌+ℤ◌}
+use Rattle.std.proofs.Common.{◌≡◌, ◌<◌, List, [], ◌∷◌, ◌++◌, map, refl, ap, ◌∙◌, sym, Some, ◌+ℤ◌}
 use Rattle.std.specs.Prelude.{fold, option_map, IfOk, Result, Ok, Err}
 use Rattle.std.specs.List.{AllByRecursion, range_with_len}
-use Rattle.t1_frac.specs.Fraction.{Fraction, lowest, plus, whole, floor_of, ceiling_of}
+use Rattle.t1_frac.specs.Fraction.{Fraction, plus, floor_of, ceiling_of}
 use Rattle.t1_frac.specs.declared.fault.Code.{Code}
 use Rattle.t1_frac.proofs.Rounded.{floor_and_ceiling_move}
 use Rattle.t1_run.specs.declared.outline.Point.{Point}
 use Rattle.t1_run.specs.declared.outline.Segment.{Segment}
 use Rattle.t1_run.specs.declared.outline.Segment.TheVariants.{Line, Curve}
 use Rattle.t1_run.specs.Composite.{moved_outline}
-use Rattle.t1_afm.specs.declared.bbox.BBox.{BBox}
 use Rattle.t1_afm.specs.Box.{drawn_box}
 use Rattle.t1_afm.specs.Points.{points, curve_at, sixty_fourths}
 use Rattle.t1_extent.specs.Extremes.{Extremes, at_point, reaching, extremes, rounded, boxed, shifted, shifted_by, moved_box, IsWhole}
-use Rattle.t1_extent.specs.Laws.{Summary, summary, shifted_summary, AreWithin, IsDistance, DrawnBoxLaw, BoxMovesLaw}
+use Rattle.t1_extent.specs.Laws.{Summary, summary, shifted_summary, AreWithin, DrawnBoxLaw, BoxMovesLaw}
 use Rattle.t1_extent.proofs.Exacts.{floor_value, ceiling_value}
 use Rattle.t1_extent.proofs.Flags.{whole_is}
 use Rattle.t1_extent.proofs.Folding.{IsNumber, AreLowest, point_lowest, points_lowest, fold_lowest, same_box}
@@ -24,7 +23,7 @@ use Rattle.t1_extent.proofs.Summaries.{box_law, moved_law, outline_within, dista
 some_box : (ps qs : List Point) (p : Point) → ps ≡ p ∷ qs → Some (boxed (extremes ps)) ≡ option_map rounded (extremes ps)
 some_box ps qs p e = rw e refl
 
-drawn_some : (s : Segment) (ss : List Segment) → Some (boxed (extremes (points (s ∷ ss)))) ≡ option_map rounded (extremes (points (s ∷ ss)))
+pub drawn_some : (s : Segment) (ss : List Segment) → Some (boxed (extremes (points (s ∷ ss)))) ≡ option_map rounded (extremes (points (s ∷ ss)))
 unfolding sixty_fourths
 drawn_some (Line a b) ss = some_box (points (Line a b ∷ ss)) (b ∷ points ss) a refl
 drawn_some (Curve a b c d) ss =

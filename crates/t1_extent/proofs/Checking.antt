@@ -227,7 +227,7 @@ passed_bind (Err c) f true u e h = e
 passed_bind (Err c) f false u e h = absurd (cc)
 
 -- one of two is whole
-abbrev OneWhole : Fraction → Fraction → Type 0
+abbrev pub OneWhole : Fraction → Fraction → Type 0
 OneWhole a b = (a.den ≡ 1) ⊎ (b.den ≡ 1)
 
 product_fine : (m n : ℕ) → (m ≡ 1) ⊎ (n ≡ 1) → m ≤ 2 ^ 20 → n ≤ 2 ^ 20 → m * n ≤ 2 ^ 20
@@ -237,55 +237,51 @@ product_fine m n (inr e) h k = rw e (omega (arith, h))
 at_most_test : (n : ℕ) → n ≤ 2 ^ 20 → nat_lt (2 ^ 20) n ≡ false
 at_most_test n h = grind (arith, nat_tests)
 
-not_fine : (a b : Fraction) → OneWhole a b → a.den ≤ 2 ^ 20 → b.den ≤ 2 ^ 20 → is_too_fine (lowest (plus a b)) ≡ false
+pub fine_sum : (a b : Fraction) → a.den * b.den ≤ 2 ^ 20 → is_too_fine (lowest (plus a b)) ≡ false
 unfolding lowest
-not_fine a b one h k =
-    let small : a.den * b.den ≤ 2 ^ 20 = product_fine a.den b.den one h k in
+fine_sum a b small =
     let less : (a.den * b.den) / gcd (unsigned_abs (plus a b).num) (a.den * b.den) ≤ a.den * b.den = div-le_self (a.den * b.den) (gcd (unsigned_abs (plus a b).num) (a.den * b.den)) in
     at_most_test ((a.den * b.den) / gcd (unsigned_abs (plus a b).num) (a.den * b.den)) (omega (arith, small, less))
+
+pub not_fine : (a b : Fraction) → OneWhole a b → a.den ≤ 2 ^ 20 → b.den ≤ 2 ^ 20 → is_too_fine (lowest (plus a b)) ≡ false
+not_fine a b one h k = fine_sum a b (product_fine a.den b.den one h k)
 
 passed_within : (s : Fraction) (ex fine : Bool) → fine ≡ false → passed (if ex then Err F40 else (if fine then Err F39 else Ok s)) ≡ check ex
 passed_within s true fine e = refl
 passed_within s false true e = absurd (cc)
 passed_within s false false e = refl
 
-sum_passed : (a d : Fraction) → OneWhole a d → a.den ≤ 2 ^ 20 → d.den ≤ 2 ^ 20 → passed (coordinate_sum a d) ≡ check (is_below (shifted d a) || is_above (shifted d a))
+sum_passed : (a d : Fraction) → is_too_fine (lowest (plus a d)) ≡ false → passed (coordinate_sum a d) ≡ check (is_below (shifted d a) || is_above (shifted d a))
 unfolding coordinate_sum
-sum_passed a d one h k =
-    passed_within (shifted d a) (exceeds (2 ^ 20) (shifted d a)) (is_too_fine (shifted d a)) (not_fine a d one h k) ∙ ap check (exceeds_is (shifted d a))
+sum_passed a d fine = passed_within (shifted d a) (exceeds (2 ^ 20) (shifted d a)) (is_too_fine (shifted d a)) fine ∙ ap check (exceeds_is (shifted d a))
 
 -- ---- points
 
--- both denominators are at most 2^20
-pub record IsFine (p : Point) : Type 0 where
-  pub x : p.x.den ≤ 2 ^ 20
-  pub y : p.y.den ≤ 2 ^ 20
-
+-- the point can be moved by this distance, but for the limit of coordinates
 pub record IsEasy (by p : Point) : Type 0 where
-  pub x : OneWhole p.x by.x
-  pub y : OneWhole p.y by.y
+  pub x : is_too_fine (lowest (plus p.x by.x)) ≡ false
+  pub y : is_too_fine (lowest (plus p.y by.y)) ≡ false
   pub number : IsNumber p
-  pub fine : IsFine p
 
-point_passed : (by p : Point) → IsNumber by → IsFine by → IsEasy by p → passed (moved_point by p) ≡ check (out_at by p)
-point_passed by p hb fb h =
+point_passed : (by p : Point) → IsNumber by → IsEasy by p → passed (moved_point by p) ≡ check (out_at by p)
+point_passed by p hb h =
     passed_bind (coordinate_sum p.x by.x) _ (is_below (shifted by.x p.x) || is_above (shifted by.x p.x)) ((is_below (shifted by.y p.y) || is_above (shifted by.y p.y)) || false)
-    (sum_passed p.x by.x h.x h.fine.x fb.x) (λ x.
-    passed_bind (coordinate_sum p.y by.y) _ (is_below (shifted by.y p.y) || is_above (shifted by.y p.y)) false (sum_passed p.y by.y h.y h.fine.y fb.y) (λ y. refl))
+    (sum_passed p.x by.x h.x) (λ x.
+    passed_bind (coordinate_sum p.y by.y) _ (is_below (shifted by.y p.y) || is_above (shifted by.y p.y)) false (sum_passed p.y by.y h.y) (λ y. refl))
     ∙ ap (λ t. check ((is_below (shifted by.x p.x) || is_above (shifted by.x p.x)) || t)) (or_false (is_below (shifted by.y p.y) || is_above (shifted by.y p.y)))
     ∙ rw (shifted_lowest by.x p.x hb.x h.number.x, shifted_lowest by.y p.y hb.y h.number.y) refl
 
 -- ---- segments and outlines
 
-segment_passed : (by : Point) (s : Segment) → IsNumber by → IsFine by → AllByRecursion (IsEasy by) (corners_of s) → passed (moved_segment by s) ≡ check (list_any (out_at by) (corners_of s))
-segment_passed by (Line a b) hb fb h =
-    passed_bind (moved_point by a) _ (out_at by a) (out_at by b || false) (point_passed by a hb fb h.0) (λ a'.
-    passed_bind (moved_point by b) _ (out_at by b) false (point_passed by b hb fb h.1.0) (λ b'. refl))
-segment_passed by (Curve a b c e) hb fb h =
-    passed_bind (moved_point by a) _ (out_at by a) (out_at by b || (out_at by c || (out_at by e || false))) (point_passed by a hb fb h.0) (λ a'.
-    passed_bind (moved_point by b) _ (out_at by b) (out_at by c || (out_at by e || false)) (point_passed by b hb fb h.1.0) (λ b'.
-    passed_bind (moved_point by c) _ (out_at by c) (out_at by e || false) (point_passed by c hb fb h.1.1.0) (λ c'.
-    passed_bind (moved_point by e) _ (out_at by e) false (point_passed by e hb fb h.1.1.1.0) (λ e'. refl))))
+segment_passed : (by : Point) (s : Segment) → IsNumber by → AllByRecursion (IsEasy by) (corners_of s) → passed (moved_segment by s) ≡ check (list_any (out_at by) (corners_of s))
+segment_passed by (Line a b) hb h =
+    passed_bind (moved_point by a) _ (out_at by a) (out_at by b || false) (point_passed by a hb h.0) (λ a'.
+    passed_bind (moved_point by b) _ (out_at by b) false (point_passed by b hb h.1.0) (λ b'. refl))
+segment_passed by (Curve a b c e) hb h =
+    passed_bind (moved_point by a) _ (out_at by a) (out_at by b || (out_at by c || (out_at by e || false))) (point_passed by a hb h.0) (λ a'.
+    passed_bind (moved_point by b) _ (out_at by b) (out_at by c || (out_at by e || false)) (point_passed by b hb h.1.0) (λ b'.
+    passed_bind (moved_point by c) _ (out_at by c) (out_at by e || false) (point_passed by c hb h.1.1.0) (λ c'.
+    passed_bind (moved_point by e) _ (out_at by e) false (point_passed by e hb h.1.1.1.0) (λ e'. refl))))
 
 all_first : {X : Type 0} (P : X → Type 0) (xs ys : List X) → AllByRecursion P (xs ++ ys) → AllByRecursion P xs
 all_first P [] ys h = tt
@@ -295,12 +291,12 @@ all_second : {X : Type 0} (P : X → Type 0) (xs ys : List X) → AllByRecursion
 all_second P [] ys h = h
 all_second P (x ∷ xs) ys h = all_second P xs ys h.1
 
-outline_any : (by : Point) (ss : List Segment) → IsNumber by → IsFine by → AllByRecursion (IsEasy by) (corners ss) → passed (moved_outline by ss) ≡ check (list_any (out_at by) (corners ss))
-outline_any by [] hb fb h = refl
-outline_any by (s ∷ ss) hb fb h =
+outline_any : (by : Point) (ss : List Segment) → IsNumber by → AllByRecursion (IsEasy by) (corners ss) → passed (moved_outline by ss) ≡ check (list_any (out_at by) (corners ss))
+outline_any by [] hb h = refl
+outline_any by (s ∷ ss) hb h =
     passed_bind (moved_segment by s) _ (list_any (out_at by) (corners_of s)) (list_any (out_at by) (corners ss) || false)
-    (segment_passed by s hb fb (all_first (IsEasy by) (corners_of s) (corners ss) h)) (λ s'.
-    passed_bind (moved_outline by ss) _ (list_any (out_at by) (corners ss)) false (outline_any by ss hb fb (all_second (IsEasy by) (corners_of s) (corners ss) h)) (λ ss'. refl))
+    (segment_passed by s hb (all_first (IsEasy by) (corners_of s) (corners ss) h)) (λ s'.
+    passed_bind (moved_outline by ss) _ (list_any (out_at by) (corners ss)) false (outline_any by ss hb (all_second (IsEasy by) (corners_of s) (corners ss) h)) (λ ss'. refl))
     ∙ ap (λ t. check (list_any (out_at by) (corners_of s) || t)) (or_false (list_any (out_at by) (corners ss)))
     ∙ ap check (sym (any_append (out_at by) (corners_of s) (corners ss)))
 
@@ -308,6 +304,6 @@ easy_numbers : (by : Point) (ps : List Point) → AllByRecursion (IsEasy by) ps 
 easy_numbers by [] h = tt
 easy_numbers by (p ∷ ps) h = (h.0.number, easy_numbers by ps h.1)
 
--- whether an outline can be moved is passed by the extremes of its corners, where the move or each corner is whole
-pub outline_passed : (by : Point) (ss : List Segment) → IsNumber by → IsFine by → AllByRecursion (IsEasy by) (corners ss) → passed (moved_outline by ss) ≡ move_check by (extremes (corners ss))
-outline_passed by ss hb fb h = outline_any by ss hb fb h ∙ sym (check_any by (corners ss) hb (easy_numbers by (corners ss) h))
+-- whether an outline can be moved is passed by the extremes of its corners, where no moved coordinate is too fine
+pub outline_passed : (by : Point) (ss : List Segment) → IsNumber by → AllByRecursion (IsEasy by) (corners ss) → passed (moved_outline by ss) ≡ move_check by (extremes (corners ss))
+outline_passed by ss hb h = outline_any by ss hb h ∙ sym (check_any by (corners ss) hb (easy_numbers by (corners ss) h))

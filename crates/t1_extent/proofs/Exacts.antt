@@ -1,17 +1,17 @@
 -- Fractions that aren't in lowest terms, compared and rounded.
-use Rattle.std.proofs.Common.{◌≡◌, ℕ, ◌+◌, ◌*◌, ◌<◌, ◌≤◌, ◌^◌, ◌⊎◌, inl, inr, ℤ, pos, negsuc, ◌*ℤ◌, Bool, true, false, arith, refl, sym, ◌∙◌, ap, mul-pos}
+use Rattle.std.proofs.Common.{◌≡◌, ℕ, ◌+◌, ◌*◌, ◌<◌, ◌≤◌, ◌^◌, ◌⊎◌, inl, inr, ℤ, pos, negsuc, neg_ℤ, ◌+ℤ◌, ◌-ℤ◌, ◌*ℤ◌, Bool, true, false, arith, refl, sym, ◌∙◌, ap, mul-pos}
 use Rattle.std.specs.Prelude.{◌||◌, if◌then◌else◌, MatchResult, IfOk, Result, Ok, Err, Option, Some, None}
 use Rattle.std.specs.Int.{int_div_euclid}
 use Rattle.std.specs.Int.RustNames.{unsigned_abs, int_lt}
 use Rattle.std.proofs.Math.Nat.{div-le_self, mul-le-mul, mul-le-mul_right, mul-lt-mul_of_pos_right}
-use Rattle.std.proofs.lemmas.Int.{ints}
-use borrow.Author.Differences.{up, down, product_is, lt-true, lt-false}
+use Rattle.std.proofs.lemmas.Int.{ints, unsigned_abs-mul}
+use borrow.Author.Differences.{up, down, neg_is, product_is, lt-true, lt-false}
 use mir.Syntax.{w128}
 use mir.Val.{to_z, of_z}
 use lib.Signed.{mag}
 use Rattle.t1_afm.proofs.Longs.{read, read_small}
-use Rattle.t1_frac.specs.Fraction.{Fraction, IsSame, lowest, plus, floor_of, ceiling_of}
-use Rattle.t1_frac.specs.Limits.{exceeds}
+use Rattle.t1_frac.specs.Fraction.{Fraction, IsSame, lowest, plus, minus, floor_of, ceiling_of}
+use Rattle.t1_frac.specs.Limits.{exceeds, IsCoordinate}
 use Rattle.t1_frac.specs.declared.fault.Code.{Code}
 use Rattle.t1_frac.specs.declared.fault.Code.TheVariants.{F40}
 use Rattle.t1_extent.specs.declared.exact.Exact.{Exact}
@@ -278,3 +278,41 @@ pub unite_inside : (d e : Option Extremes) → limit_check d ≡ Ok tt → limit
 unite_inside None e h k = k
 unite_inside (Some d) None h k = h
 unite_inside (Some d) (Some e) h k = reaching_inside d e h k
+
+-- ---- distances
+
+-- the difference of two coordinates, in 64 bits
+pub between_is : (n m d : ℤ) (u : ℕ) (to from : Fraction) → IsCoordinate from → IsCoordinate to → from.den ≡ 1 → n ≡ to.num → m ≡ from.num → d ≡ pos to.den → u ≡ to.den
+    → ◌≡◌ {A = Fraction} (record { num = read (read n -ℤ read (read m *ℤ read d)); den = u }) (minus to from)
+between_is n m d u to from cf ct one en em ed eu =
+    let small : unsigned_abs from.num ≤ 2 ^ 20 = omega (arith, cf.size, one) in
+    let tall : unsigned_abs to.num ≤ 2 ^ 40 = omega (arith, ct.size, ct.fine) in
+    let product : unsigned_abs (from.num *ℤ pos to.den) ≤ 2 ^ 20 * 2 ^ 20 = rw (unsigned_abs-mul from.num (pos to.den)) (mul-le-mul small ct.fine) in
+    let wide : unsigned_abs (to.num -ℤ from.num *ℤ pos to.den) ≤ 2 ^ 60 = apart_small to.num (from.num *ℤ pos to.den) tall (omega (arith, product)) in
+    let inner : read (read m *ℤ read d) ≡ from.num *ℤ pos to.den =
+    ap (λ x. read (read x *ℤ read d)) em ∙ ap (λ x. read (x *ℤ read d)) (read_small from.num (omega (arith, small)))
+    ∙ ap (λ x. read (from.num *ℤ read x)) ed ∙ ap (λ x. read (from.num *ℤ x)) (read_small (pos to.den) (omega (arith, ct.fine)))
+    ∙ read_small (from.num *ℤ pos to.den) (omega (arith, product)) in
+    let outer : read (read n -ℤ read (read m *ℤ read d)) ≡ to.num -ℤ from.num *ℤ pos to.den =
+    ap (λ x. read (read n -ℤ x)) inner ∙ ap (λ x. read (read x -ℤ from.num *ℤ pos to.den)) en
+    ∙ ap (λ x. read (x -ℤ from.num *ℤ pos to.den)) (read_small to.num (omega (arith, tall)))
+    ∙ read_small (to.num -ℤ from.num *ℤ pos to.den) wide in
+    let den : u ≡ to.den * from.den = eu ∙ over_one to.den from.den one in
+    same_terms _ _ u (to.den * from.den) (outer ∙ crossed_one to.num from.num to.den from.den one) den
+  where
+    apart_small : (a b : ℤ) → unsigned_abs a ≤ 2 ^ 40 → unsigned_abs b ≤ 2 ^ 40 → unsigned_abs (a -ℤ b) ≤ 2 ^ 60
+    apart_small a b h k = omega (arith, ints, h, k)
+
+    over_one : (a b : ℕ) → b ≡ 1 → a ≡ a * b
+    over_one a b e = rw e (omega arith)
+
+    crossed_one : (a b : ℤ) (k l : ℕ) → l ≡ 1 → a -ℤ b *ℤ pos k ≡ a *ℤ pos l +ℤ neg_ℤ b *ℤ pos k
+    crossed_one a b k l e =
+        let n = neg_is b in
+        let x = product_is a (pos 1) in
+        let y = product_is b (pos k) in
+        let z = product_is (neg_ℤ b) (pos k) in
+        rw e (omega (arith, ints, x, y, z, ap (λ m. m * k) n.0, ap (λ m. m * k) n.1))
+
+    same_terms : (a b : ℤ) (k l : ℕ) → a ≡ b → k ≡ l → ◌≡◌ {A = Fraction} (record { num = a; den = k }) (record { num = b; den = l })
+    same_terms a b k l e f = rw (e, f) refl

@@ -1,7 +1,7 @@
 -- Outlines whose coordinates are all whole.
-use Rattle.std.proofs.Common.{◌≡◌, arith, List, [], ◌∷◌, ◌++◌, Bool, true, false, inl, inr, ap, ◌∙◌, sym, refl}
-use Rattle.std.specs.Prelude.{◌&&◌, ◌==◌, All, IfOk, Result, Ok, Err}
-use Rattle.std.specs.List.{AllByRecursion, list_all}
+use Rattle.std.proofs.Common.{◌≡◌, arith, List, [], ◌∷◌, Bool, true, false, ap, ◌∙◌, refl}
+use Rattle.std.specs.Prelude.{◌&&◌, ◌==◌, All, IfOk}
+use Rattle.std.specs.List.{AllByRecursion}
 use Rattle.std.proofs.lemmas.Bool.Decides.{nat_tests}
 use Rattle.std.proofs.lemmas.List.Elements.{All-from_recursion}
 use Rattle.std.proofs.Common.{ℕ, ◌*◌, ◌^◌}
@@ -36,7 +36,7 @@ segment_whole (Curve a b c d) h =
     let t = both_true (is_whole a) (is_whole b) s.0 in
     (point_whole a t.0, point_whole b t.1, point_whole c s.1, point_whole d r.1)
 
-each_whole : (ss : List Segment) → is_whole_outline ss ≡ true → AllByRecursion IsWholeSegment ss
+pub each_whole : (ss : List Segment) → is_whole_outline ss ≡ true → AllByRecursion IsWholeSegment ss
 each_whole [] h = tt
 each_whole (s ∷ ss) h =
     let t = both_true (is_whole_segment s) (is_whole_outline ss) h in

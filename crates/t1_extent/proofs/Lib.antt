@@ -15,5 +15,10 @@ pub mod Nested
 pub mod BoxLaws
 pub mod Limited
 pub mod Accents
-pub mod Reducing
+pub mod Keeping
+pub mod Displacing
+pub mod Turning
+pub mod Reaching
+pub mod Riding
+pub mod Walking
 pub mod Runs

@@ -1,13 +1,12 @@
 -- Extremes of outlines within the limits.
-use Rattle.std.proofs.Common.{◌≡◌, ℕ, zero, suc, ◌+◌, ◌*◌, ◌<◌, ◌≤◌, ◌^◌, List, [], ◌∷◌, ◌++◌, map, Bool, true, false, arith, refl, ap, ◌∙◌, sym, subst, Option, Some, None}
-use Rattle.std.specs.Prelude.{fold, ◌||◌, nat_lt, option_map, IfOk, Result, Ok, Err}
+use Rattle.std.proofs.Common.{◌≡◌, ℕ, zero, suc, ◌+◌, ◌*◌, ◌<◌, ◌≤◌, ◌^◌, List, [], ◌∷◌, map, false, arith, refl, ap, ◌∙◌, sym}
+use Rattle.std.specs.Prelude.{fold, ◌||◌, nat_lt, IfOk, Result, Ok, Err}
 use Rattle.std.specs.List.{AllByRecursion, list_any, range_with_len}
 use Rattle.std.specs.Int.RustNames.{unsigned_abs}
 use Rattle.std.proofs.lemmas.Bool.Decides.{nat_tests}
 use Rattle.std.proofs.lemmas.Int.{ints}
 use Rattle.t1_frac.specs.Fraction.{Fraction, lowest, floor_of, ceiling_of, negated}
-use Rattle.t1_frac.specs.Limits.{exceeds, IsCoordinate}
-use Rattle.t1_frac.specs.Outcome.{◌>>=◌}
+use Rattle.t1_frac.specs.Limits.{exceeds}
 use Rattle.t1_frac.specs.declared.fault.Code.{Code}
 use Rattle.t1_run.specs.declared.outline.Point.{Point}
 use Rattle.t1_run.specs.declared.outline.Segment.{Segment}
@@ -17,13 +16,12 @@ use Rattle.t1_run.proofs.Within.{each-append}
 use Rattle.t1_afm.specs.Bounds.{IsInRange}
 use Rattle.t1_afm.specs.Points.{points, points_of, curve_at, sixty_fourths}
 use Rattle.t1_afm.proofs.Convex.{coordinate_in_range, cubic_in_range, floor_small, negated_in_range}
-use Rattle.t1_extent.specs.Extremes.{Extremes, at_point, reaching, extremes, corners, corners_of, shifted_by, is_out, limit_check, move_check}
+use Rattle.t1_extent.specs.Extremes.{at_point, reaching, extremes, corners, limit_check, move_check}
 use Rattle.t1_extent.specs.Laws.{Summary, summary, shifted_summary, AreWithin, LimitsLaw, DrawnMovesLaw}
 use Rattle.t1_extent.proofs.Canonical.{lowest_above}
-use Rattle.t1_extent.proofs.Checking.{IsOrdered, is_below, is_above, is_past, check, passed, past_fold, out_past, fold_ordered, exceeds_is}
+use Rattle.t1_extent.proofs.Checking.{is_below, is_above, is_past, check, passed, past_fold, out_past, fold_ordered, exceeds_is}
 use Rattle.t1_extent.proofs.Exacts.{exceeds_lowest}
 use Rattle.t1_extent.proofs.Folding.{IsNumber, point_lowest, points_lowest, fold_lowest}
-use Rattle.t1_extent.proofs.Moving.{corners_numbers, outline_numbers}
 use Rattle.t1_extent.proofs.Order.{under_refl}
 use Rattle.t1_extent.proofs.Summaries.{check_law, corners_points, moved_law, numbers, outline_within, distance_number}
 

@@ -1,6 +1,6 @@
 -- What runs draw is within the limits.
-use Rattle.std.proofs.Common.{◌≡◌, List, [], ◌∷◌, subst, Option, Some, None}
-use Rattle.std.specs.Prelude.{Result, Ok, IfOk, IfSome}
+use Rattle.std.proofs.Common.{List, [], ◌∷◌, subst, Option, Some, None}
+use Rattle.std.specs.Prelude.{IfOk, IfSome}
 use Rattle.t1_frac.specs.Fraction.{Fraction}
 use Rattle.t1_frac.specs.Limits.{IsCoordinate}
 use Rattle.t1_run.specs.declared.outline.Composite.{Composite}
@@ -8,7 +8,6 @@ use Rattle.t1_run.specs.declared.outline.Point.{Point}
 use Rattle.t1_run.specs.declared.outline.Segment.{Segment}
 use Rattle.t1_run.specs.declared.outline.Segment.TheVariants.{Line, Curve}
 use Rattle.t1_run.specs.Composite.{accent_move, IsPoint, IsWithin}
-use Rattle.t1_run.specs.Run.{Drawing}
 use Rattle.t1_run.proofs.Within.{IsPlace, IsPlaced, IsDrawn, AllDrawn}
 use Rattle.t1_run.proofs.WithinRuns.{PartsWithin, DrawingWithin, OwnWithin, own-within}
 use Rattle.t1_extent.specs.Laws.{AreWithin, IsDistance, IsAccented, RunsLaw}

@@ -1,8 +1,8 @@
 -- Fractions moved, and the values of a cubic that is moved.
 use Rattle.std.proofs.Common.{◌≡◌, ℕ, ◌+◌, ◌-◌, ◌*◌, ◌<◌, ◌≤◌, inl, inr, ⊎_elim, ℤ, pos, ◌+ℤ◌, ◌*ℤ◌, arith, refl, sym, ◌∙◌, ap, subst, mul-pos}
 use Rattle.std.proofs.Math.Nat.{mul-le-mul_right}
-use borrow.Author.Differences.{up, down, sum_is_lem, product_is, same_in}
-use Rattle.t1_frac.specs.Fraction.{Fraction, IsSame, lowest, plus}
+use borrow.Author.Differences.{up, down, neg_is, sum_is_lem, product_is, same_in}
+use Rattle.t1_frac.specs.Fraction.{Fraction, IsSame, lowest, plus, minus, negated}
 use Rattle.t1_frac.proofs.Exact.{lowest_same}
 use Rattle.t1_afm.specs.Points.{times, over_whole, weighted, cubic_at}
 use Rattle.t1_afm.proofs.Convex.{weights}
@@ -211,3 +211,37 @@ cubic_shifted d a b c e k inside hd ha hb hc he =
     ∙ same_lowest (cubic_at (plus a d) (plus b d) (plus c d) (plus e d) k) (plus value d) (cubic_above (plus a d) (plus b d) (plus c d) (plus e d) k pa pb pc pe) (mul-pos hv hd)
     (cubic_moved a b c e d k inside ha hb hc he hd)
     ∙ sym (shifted_lowest d value hd hv)
+
+-- ---- a distance that is moved
+
+has_negated : (a : Fraction) (p q d : ℕ) → Has a p q d → Has (negated a) q p d
+has_negated a p q d h = let n = neg_is a.num in record { num = record { parts = omega (arith, n.0, n.1, h.num.parts) }; den = h.den }
+
+moved_apart : (v q n m : Fraction) → IsSame (plus (plus v (plus q n)) m) (plus v (plus (plus q m) n))
+moved_apart v q n m =
+    same_has _ _ _ _ _ _ _ _
+    (has_plus _ _ _ _ _ _ _ _ (has_plus _ _ _ _ _ _ _ _ (has v) (has_plus q n _ _ _ _ _ _ (has q) (has n))) (has m))
+    (has_plus _ _ _ _ _ _ _ _ (has v) (has_plus _ _ _ _ _ _ _ _ (has_plus q m _ _ _ _ _ _ (has q) (has m)) (has n)))
+    (omega arith)
+
+not_moved : (v s : Fraction) → IsSame (plus v (minus s s)) v
+not_moved v s =
+    same_has _ _ _ _ _ _ _ _
+    (has_plus _ _ _ _ _ _ _ _ (has v) (has_plus s (negated s) _ _ _ _ _ _ (has s) (has_negated s _ _ _ (has s)))) (has v)
+    (omega arith)
+
+-- what was moved as a place was from a start, and is moved again, was moved as the place was in all
+pub shifted_apart : (m q s v : Fraction) → 0 < m.den → 0 < q.den → 0 < s.den → 0 < v.den → shifted m (shifted (minus q s) v) ≡ shifted (minus (shifted m q) s) v
+shifted_apart m q s v hm hq hs hv =
+    let n = negated s in
+    let far = plus q m in
+    let hqn = mul-pos hq hs in
+    let hfar = mul-pos hq hm in
+    let hlow = lowest_above far hfar in
+    shifted_lowest m (plus v (plus q n)) hm (mul-pos hv hqn)
+    ∙ same_lowest (plus (plus v (plus q n)) m) (plus v (plus far n)) (mul-pos (mul-pos hv hqn) hm) (mul-pos hv (mul-pos hfar hs)) (moved_apart v q n m)
+    ∙ same_lowest (plus v (plus far n)) (plus v (plus (lowest far) n)) (mul-pos hv (mul-pos hfar hs)) (mul-pos hv (mul-pos hlow hs))
+    (plus_same v v (plus far n) (plus (lowest far) n) (same_refl v) (plus_same far (lowest far) n n (sym (lowest_same far)) (same_refl n)))
+
+pub shifted_nowhere : (s v : Fraction) → 0 < s.den → IsCanonical v → shifted (minus s s) v ≡ v
+shifted_nowhere s v hs h = same_lowest (plus v (minus s s)) v (mul-pos h.above (mul-pos hs hs)) h.above (not_moved v s) ∙ h.lowest

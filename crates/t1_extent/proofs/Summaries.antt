@@ -21,9 +21,9 @@ use Rattle.t1_extent.specs.Extremes.{Extremes, corners_of, corners, extremes, mo
 use Rattle.t1_extent.specs.Laws.{Summary, summary, united, shifted_summary, AreWithin, IsDistance, BoxLaw, BothLaw, MovedLaw, CheckLaw, JoinedLaw}
 use Rattle.t1_extent.proofs.Folding.{IsNumber, box_rounded, extremes-append}
 use Rattle.t1_extent.proofs.Moving.{AreNumbers, AreMoved, outline_moved, outline_numbers, corners_numbers, extremes_shifted}
-use Rattle.t1_extent.proofs.Checking.{IsFine, IsEasy, passed, outline_passed}
+use Rattle.t1_extent.proofs.Checking.{IsEasy, not_fine, passed, outline_passed}
 
-point_number : (p : Point) → IsPoint p → IsNumber p
+pub point_number : (p : Point) → IsPoint p → IsNumber p
 point_number p h = record { x = h.x.above; y = h.y.above }
 
 segment_numbers : (s : Segment) → IsWithin s → AreNumbers s
@@ -37,9 +37,6 @@ numbers (s ∷ ss) h = (segment_numbers s h.0, numbers ss h.1)
 pub distance_number : (by : Point) → IsDistance by → IsNumber by
 distance_number by h = record { x = h.x; y = h.y }
 
-distance_fine : (by : Point) → IsDistance by → IsFine by
-distance_fine by h = record { x = h.x_fine; y = h.y_fine }
-
 same_summary : (d d' c c' : Option Extremes) → d ≡ d' → c ≡ c' → ◌≡◌ {A = Summary} (record { drawn = d; corners = c }) (record { drawn = d'; corners = c' })
 same_summary d d' c c' e f = rw (e, f) refl
 
@@ -52,7 +49,7 @@ both_law a b h k =
     (ap extremes (flat_map-append points_of a b) ∙ extremes-append (points a) (points b) (outline_numbers a (numbers a h)) (outline_numbers b (numbers b k)))
     (ap extremes (flat_map-append corners_of a b) ∙ extremes-append (corners a) (corners b) (corners_numbers a (numbers a h)) (corners_numbers b (numbers b k)))
 
-moved_by_law : (by : Point) (ss ts : List Segment) → IsNumber by → AllByRecursion AreNumbers ss → AreMoved by ss ts → summary ts ≡ shifted_summary by (summary ss)
+pub moved_by_law : (by : Point) (ss ts : List Segment) → IsNumber by → AllByRecursion AreNumbers ss → AreMoved by ss ts → summary ts ≡ shifted_summary by (summary ss)
 moved_by_law by ss ts h hs m =
     same_summary _ _ _ _
     (extremes_shifted by (points ss) (points ts) h (outline_numbers ss hs) m.points)
@@ -71,9 +68,9 @@ moved_law by outline hb h =
 
 -- ---- where F40 alone refuses
 
-easy_point : (by p : Point) → IsPoint p → IsWhole by ⊎ IsWhole p → IsEasy by p
-easy_point by p h (inl w) = record { x = inr w.x; y = inr w.y; number = point_number p h; fine = record { x = h.x.fine; y = h.y.fine } }
-easy_point by p h (inr w) = record { x = inl w.x; y = inl w.y; number = point_number p h; fine = record { x = h.x.fine; y = h.y.fine } }
+easy_point : (by p : Point) → IsDistance by → IsPoint p → IsWhole by ⊎ IsWhole p → IsEasy by p
+easy_point by p hb h (inl w) = record { x = not_fine p.x by.x (inr w.x) h.x.fine hb.x_fine; y = not_fine p.y by.y (inr w.y) h.y.fine hb.y_fine; number = point_number p h }
+easy_point by p hb h (inr w) = record { x = not_fine p.x by.x (inl w.x) h.x.fine hb.x_fine; y = not_fine p.y by.y (inl w.y) h.y.fine hb.y_fine; number = point_number p h }
 
 corner_points : (s : Segment) → IsWithin s → AllByRecursion IsPoint (corners_of s)
 corner_points (Line a b) h = (h.0, (h.1, tt))
@@ -83,20 +80,20 @@ pub corners_points : (ss : List Segment) → AreWithin ss → AllByRecursion IsP
 corners_points [] h = tt
 corners_points (s ∷ ss) h = each-append IsPoint (corners_of s) (corners ss) (corner_points s h.0) (corners_points ss h.1)
 
-easy_by : (by : Point) (ps : List Point) → AllByRecursion IsPoint ps → IsWhole by → AllByRecursion (IsEasy by) ps
-easy_by by [] h w = tt
-easy_by by (p ∷ ps) h w = (easy_point by p h.0 (inl w), easy_by by ps h.1 w)
+easy_by : (by : Point) (ps : List Point) → IsDistance by → AllByRecursion IsPoint ps → IsWhole by → AllByRecursion (IsEasy by) ps
+easy_by by [] hb h w = tt
+easy_by by (p ∷ ps) hb h w = (easy_point by p hb h.0 (inl w), easy_by by ps hb h.1 w)
 
-easy_points : (by : Point) (ps : List Point) → AllByRecursion IsPoint ps → AllByRecursion IsWhole ps → AllByRecursion (IsEasy by) ps
-easy_points by [] h w = tt
-easy_points by (p ∷ ps) h w = (easy_point by p h.0 (inr w.0), easy_points by ps h.1 w.1)
+easy_points : (by : Point) (ps : List Point) → IsDistance by → AllByRecursion IsPoint ps → AllByRecursion IsWhole ps → AllByRecursion (IsEasy by) ps
+easy_points by [] hb h w = tt
+easy_points by (p ∷ ps) hb h w = (easy_point by p hb h.0 (inr w.0), easy_points by ps hb h.1 w.1)
 
-easy_all : (by : Point) (outline : List Segment) → AreWithin outline → MovesEasily by outline → AllByRecursion (IsEasy by) (corners outline)
-easy_all by outline h (inl w) = easy_by by (corners outline) (corners_points outline h) w
-easy_all by outline h (inr w) = easy_points by (corners outline) (corners_points outline h) w
+easy_all : (by : Point) (outline : List Segment) → IsDistance by → AreWithin outline → MovesEasily by outline → AllByRecursion (IsEasy by) (corners outline)
+easy_all by outline hb h (inl w) = easy_by by (corners outline) hb (corners_points outline h) w
+easy_all by outline hb h (inr w) = easy_points by (corners outline) hb (corners_points outline h) w
 
 pub check_law : CheckLaw
-check_law by outline hb h easy = outline_passed by outline (distance_number by hb) (distance_fine by hb) (easy_all by outline h easy)
+check_law by outline hb h easy = outline_passed by outline (distance_number by hb) (easy_all by outline hb h easy)
 
 -- ---- composites
 
@@ -110,7 +107,7 @@ sum_within : (a d : Fraction) → 0 < a.den → 0 < d.den → IfOk (coordinate_s
 unfolding coordinate_sum
 sum_within a d ha hd = lowest_within F40 (plus a d) (mul-pos ha hd)
 
-point_within : (by p : Point) → IsNumber by → IsNumber p → IfOk (moved_point by p) IsPoint
+pub point_within : (by p : Point) → IsNumber by → IsNumber p → IfOk (moved_point by p) IsPoint
 point_within by p hb h =
     bind-ok IsCoordinate IsPoint (coordinate_sum p.x by.x) _ (sum_within p.x by.x h.x hb.x) (λ x hx.
     bind-ok IsCoordinate IsPoint (coordinate_sum p.y by.y) _ (sum_within p.y by.y h.y hb.y) (λ y hy.

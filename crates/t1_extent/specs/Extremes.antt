@@ -1,5 +1,5 @@
 -- The exact extremes of an outline's points, from which its box is had after any move.
-use Rattle.std.specs.Prelude.{◌*◌, ◌^◌, ◌==◌, Bool, ◌&&◌, ◌||◌, if◌then◌else◌, List, [], ◌∷◌, map, flat_map, Option, Some, None, option_map, Result, Ok, Err, pos, ◌+ℤ◌, ◌*ℤ◌, ◌≡◌, ◌⊎◌}
+use Rattle.std.specs.Prelude.{◌^◌, ◌==◌, Bool, ◌&&◌, ◌||◌, if◌then◌else◌, List, [], ◌∷◌, map, flat_map, Option, Some, None, option_map, Result, Ok, Err, pos, ◌+ℤ◌, ◌*ℤ◌, ◌≡◌, ◌⊎◌}
 use Rattle.std.specs.Int.RustNames.{int_lt}
 use Rattle.std.specs.List.{reduce, list_all, AllByRecursion}
 use Rattle.t1_frac.specs.Fraction.{Fraction, lowest, plus, floor_of, ceiling_of}

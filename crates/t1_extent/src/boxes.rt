@@ -9,22 +9,19 @@ use t1_run::Point;
 
 /// A coordinate of a box, moved.
 fn moved_side(side: i32, by: i64) -> i32
-    requires side { unsigned_abs side ≤ 2 ^ 29 }
-    requires by { unsigned_abs by ≤ 2 ^ 29 }
+    requires { unsigned_abs (side +ℤ by) ≤ 2 ^ 29 }
     ensures { result ≡ side +ℤ by }
 {
-    side + by as i32
+    (i64::from(side) + by) as i32
 }
 
 /// A box in whole numbers, moved by a whole distance: the box of the moved points, though the points have fractions.
 pub fn moved_box(bbox: &BBox, by: &Point) -> BBox
     requires whole { IsWhole by.now }
-    requires left { unsigned_abs bbox.now.left ≤ 2 ^ 29 }
-    requires bottom { unsigned_abs bbox.now.bottom ≤ 2 ^ 29 }
-    requires right { unsigned_abs bbox.now.right ≤ 2 ^ 29 }
-    requires top { unsigned_abs bbox.now.top ≤ 2 ^ 29 }
-    requires x { unsigned_abs by.now.x.num ≤ 2 ^ 29 }
-    requires y { unsigned_abs by.now.y.num ≤ 2 ^ 29 }
+    requires left { unsigned_abs (bbox.now.left +ℤ by.now.x.num) ≤ 2 ^ 29 }
+    requires bottom { unsigned_abs (bbox.now.bottom +ℤ by.now.y.num) ≤ 2 ^ 29 }
+    requires right { unsigned_abs (bbox.now.right +ℤ by.now.x.num) ≤ 2 ^ 29 }
+    requires top { unsigned_abs (bbox.now.top +ℤ by.now.y.num) ≤ 2 ^ 29 }
     ensures { result ≡ moved_box_of by.now bbox.now }
 {
     let dx = by.x.num();

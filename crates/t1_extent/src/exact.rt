@@ -26,7 +26,7 @@ fn scaled(num: i64, den: u64) -> i128
 
 impl Exact {
     ghost use Rattle.std.specs.Prelude.{ℕ, ◌*◌, ◌⊎◌, true, false, MatchResult, IfOk, Ok, Err};
-    ghost use Rattle.t1_frac.specs.Fraction.{whole as whole_of, plus, negated as negated_of, floor_of, ceiling_of};
+    ghost use Rattle.t1_frac.specs.Fraction.{whole as whole_of, plus, minus, negated as negated_of, floor_of, ceiling_of};
     ghost use Rattle.t1_frac.specs.Limits.{exceeds, IsCoordinate};
     ghost use Rattle.t1_frac.specs.declared.fault.Code.TheVariants.{F40};
     ghost use Rattle.t1_extent.specs.Extremes.{is_less as is_less_of, lesser as lesser_of, greater as greater_of, shifted as shifted_of, shift_checked};
@@ -178,5 +178,43 @@ impl Exact {
         let num = self.moved_num(by);
         let den = self.den * by.den().unsigned_abs();
         Exact::limited(num, den)
+    }
+
+    /// The difference of two coordinates, of which the one that is taken away is whole.
+    pub fn between(from: &Frac, to: &Frac) -> Exact
+        requires from { IsCoordinate from.now }
+        requires to { IsCoordinate to.now }
+        requires whole { from.now.den ≡ 1 }
+        ensures value { raw result ≡ minus to.now from.now }
+        ensures fine { result.den ≤ 2 ^ 20 }
+    {
+        Exact {
+            num: to.num() - from.num() * to.den(),
+            den: to.den().unsigned_abs(),
+        }
+    }
+
+    /// The numerator of its sum with another.
+    fn sum_num(&self, other: &Exact) -> i128
+        ensures { result ≡ (plus (raw self.now) (raw other.now)).num }
+    {
+        let left = scaled(self.num, other.den);
+        let right = scaled(other.num, self.den);
+        left + right
+    }
+
+    /// Its sum with a distance, or F40 past 1,048,576 in size.
+    pub fn displaced(&self, by: &Exact) -> Result<Exact, Code>
+        requires one { self.now.den ≤ 2 ^ 20 }
+        requires by { by.now.den ≤ 2 ^ 20 }
+        ensures outcome { MatchResult
+            result
+            (λ e. shift_checked (raw by.now) (value_of self.now) ≡ Ok (value_of e))
+            (λ c. shift_checked (raw by.now) (value_of self.now) ≡ Err c) }
+        ensures value { IfOk result (λ e. value_of e ≡ shifted_of (raw by.now) (value_of self.now)) }
+        ensures fine { IfOk result (λ e. e.den ≡ self.now.den * by.now.den) }
+    {
+        let num = self.sum_num(by);
+        Exact::limited(num, self.den * by.den)
     }
 }

@@ -3,9 +3,12 @@
 ghost use Rattle.std.specs.Prelude.{◌≡◌, ℕ, ◌≤◌, ◌⊎◌, ◌^◌, IfOk, MatchResult, Some, Ok, Err, false};
 ghost use Rattle.t1_extent.specs.Extremes.{reaching as reaching_of, rounded as rounded_of, shifted_by, limit_check, move_check, IsWhole};
 ghost use Rattle.t1_extent.specs.Exacts.{value_of, extremes_of, AreFine};
+ghost use Rattle.t1_extent.specs.Figures.{distance_of, IsFineDistance};
+ghost use Rattle.t1_extent.specs.Laws.{IsDistance};
 ghost use Rattle.t1_frac.specs.Fraction.{floor_of, ceiling_of};
 ghost use Rattle.t1_frac.specs.Limits.{exceeds};
 
+use crate::distance::Distance;
 use crate::exact::Exact;
 use t1_afm::BBox;
 use t1_frac::Code;
@@ -78,11 +81,37 @@ impl Extent {
         ensures value { IfOk result (λ e. extremes_of e ≡ shifted_by by.now (extremes_of self.now)) }
         ensures within { IfOk result (λ e. limit_check (Some (extremes_of e)) ≡ Ok tt) }
         ensures fine { IfOk result (λ e. (n : ℕ) → IsWhole by.now → AreFine n self.now → AreFine n e) }
+        ensures whole { IfOk result (λ e. IsDistance by.now → AreFine 1 self.now → AreFine (2 ^ 20) e) }
     {
         let left = self.left.shifted(&by.x)?;
         let bottom = self.bottom.shifted(&by.y)?;
         let right = self.right.shifted(&by.x)?;
         let top = self.top.shifted(&by.y)?;
+        Ok(Extent {
+            left,
+            bottom,
+            right,
+            top,
+        })
+    }
+
+    /// The extremes, moved by a distance that may be past the limit, or F40 where one of them comes to be past it.
+    #[tactic(auto, using(crate::proofs::Exacts::none_out))]
+    pub fn displaced(&self, by: &Distance) -> Result<Extent, Code>
+        requires fine { AreFine (2 ^ 20) self.now }
+        requires by { IsFineDistance by.now }
+        ensures outcome { MatchResult
+            result
+            (λ _. move_check (distance_of by.now) (Some (extremes_of self.now)) ≡ Ok tt)
+            (λ code. move_check (distance_of by.now) (Some (extremes_of self.now)) ≡ Err code) }
+        ensures value { IfOk result (λ e. extremes_of e ≡ shifted_by (distance_of by.now) (extremes_of self.now)) }
+        ensures within { IfOk result (λ e. limit_check (Some (extremes_of e)) ≡ Ok tt) }
+        ensures fine { IfOk result (λ e. AreFine 1 self.now → AreFine (2 ^ 20) e) }
+    {
+        let left = self.left.displaced(&by.x)?;
+        let bottom = self.bottom.displaced(&by.y)?;
+        let right = self.right.displaced(&by.x)?;
+        let top = self.top.displaced(&by.y)?;
         Ok(Extent {
             left,
             bottom,

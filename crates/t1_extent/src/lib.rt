@@ -3,21 +3,33 @@
 
 mod boxes;
 mod corners;
+mod distance;
 mod drawn;
 mod exact;
 mod extent;
+mod figure;
+mod kept_run;
+mod kept_runs;
 pub mod laws;
+mod moves;
+mod outline_reach;
 mod reach;
-mod reduced;
+mod reached;
+mod turns;
 mod wholes;
 
 pub use boxes::moved_box;
 pub use corners::{corners_extent, unite};
+pub use distance::Distance;
 pub use drawn::drawn_extent;
 pub use exact::Exact;
 pub use extent::Extent;
+pub use figure::Figure;
+pub use kept_run::{KeptRun, Trace};
+pub use kept_runs::KeptRuns;
+pub use outline_reach::{box_of, reach_of};
 pub use reach::{Reach, cubic_reach};
-pub use reduced::{Drawn, Reduced};
+pub use reached::{Drawn, Reached};
 pub use wholes::{is_whole, is_whole_outline};
 
 #[cfg(test)]

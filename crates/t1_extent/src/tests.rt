@@ -11,8 +11,8 @@ use std::alloc::Global;
 use std::test::Fail;
 use t1_afm::BBox;
 use t1_code::compile;
-use t1_frac::{Frac, Words};
-use t1_run::{Bodies, Meter, Plain, Point, Run, Segment, moved_segment, run};
+use t1_frac::{Code, Frac, Refusal, Words};
+use t1_run::{Bodies, Meter, Plain, Point, Segment, moved_segment, run};
 
 fn point(x: i16, y: i16) -> Point
     ensures within { IsPoint result }
@@ -155,44 +155,219 @@ fn whole_outlines_are_known(rt: HostRuntime) {
     assert!(rt; is_whole_accent() == Some(false));
 }
 
-/// The run of a glyph with this body.
-fn run_of(alloc: Global, words: &str) -> Result<Run, Fail> {
+/// What is kept of the runs of glyphs.
+#[derive(Drop)]
+struct Font {
+    runs: IndexMap<Vec<u8>, KeptRun>,
+}
+
+impl KeptRuns for Font {
+    ghost use Rattle.std.specs.Prelude.{option_map, Ok};
+    ghost use Rattle.std.specs.Map.{lookup};
+    ghost use Rattle.std.specs.Str.{bytes_eq};
+
+    ghost drawn = { λ font name. option_map (λ run. Ok run.drawing) (lookup (λ key. bytes_eq name key.items) font.runs.entries) };
+
+    fn run_of(&self, name: &[u8]) -> Option<Result<&KeptRun, Code>> {
+        match self.runs.get(name) {
+            None => None,
+            Some(run) => Some(Ok(run)),
+        }
+    }
+}
+
+/// Adds a glyph's compiled body.
+fn add_body(alloc: Global, bodies: &mut Plain, name: &str, words: &str) -> Result<(), Fail> {
     let mut list = Words::new(alloc);
     list.push_line(words.as_bytes())?;
+    let name = Vec::from_slice(alloc, name.as_bytes())?;
+    bodies.glyphs.insert(name, compile(alloc, &list)?)?;
+    Ok(())
+}
+
+/// What is kept of a glyph's run.
+fn kept_of(alloc: Global, bodies: &Plain, name: &[u8]) -> Result<KeptRun, Fail> {
+    if bodies.glyph(name).is_none() {
+        return Err(Fail::new("no such glyph"));
+    }
+    let run = run(alloc, bodies, name, &mut Meter::new())?;
+    Ok(KeptRun::of(alloc, run)?)
+}
+
+/// What is kept of the runs of these glyphs, each a name and a body.
+fn kept_font(alloc: Global, glyphs: &[[&str; 2]]) -> Result<Font, Fail> {
     let mut bodies = Plain {
         subrs: IndexMap::new(alloc),
         glyphs: IndexMap::new(alloc),
     };
-    let name = Vec::from_slice(alloc, b"A".as_slice())?;
-    bodies.glyphs.insert(name, compile(alloc, &list)?)?;
-    if bodies.glyph(b"A").is_none() {
-        return Err(Fail::new("no A"));
+    for glyph in glyphs {
+        add_body(alloc, &mut bodies, glyph[0], glyph[1])?;
     }
-    Ok(run(alloc, &bodies, b"A", &mut Meter::new())?)
+    let mut runs = IndexMap::new(alloc);
+    for glyph in glyphs {
+        let name = glyph[0].as_bytes();
+        runs.insert(
+            Vec::from_slice(alloc, name)?,
+            kept_of(alloc, &bodies, name)?,
+        )?;
+    }
+    Ok(Font { runs })
 }
 
-/// The box of what is kept of a run.
-fn kept_sides(alloc: Global, words: &str) -> Result<Option<[i32; 4]>, Fail> {
-    let kept = Reduced::of(alloc, run_of(alloc, words)?)?;
-    Ok(kept.bbox().map(|bbox| sides(&bbox)))
+/// The box of one of these glyphs, or its fault.
+fn box_among(
+    alloc: Global,
+    glyphs: &[[&str; 2]],
+    name: &str,
+) -> Result<Result<Option<[i32; 4]>, Code>, Fail> {
+    let font = kept_font(alloc, glyphs)?;
+    match box_of(alloc, &font, name.as_bytes()) {
+        Ok(bbox) => Ok(Ok(bbox.map(|bbox| sides(&bbox)))),
+        Err(Refusal::Fault(fault)) => Ok(Err(fault.code)),
+        Err(Refusal::Memory) => Err(Fail::new("no memory")),
+    }
 }
 
 #[test]
 fn keeps_an_exact_box(rt: HostRuntime) -> Result<(), Fail> {
-    let kept = kept_sides(
-        rt.alloc(),
-        "0 250 hsbw 0 1366 0 -1366 10 0 rrcurveto endchar",
-    )?;
-    assert!(rt; kept == Some([0, 0, 10, 607]));
+    let glyphs = [["A", "0 250 hsbw 0 1366 0 -1366 10 0 rrcurveto endchar"]];
+    let kept = box_among(rt.alloc(), &glyphs, "A")?;
+    assert!(rt; kept == Ok(Some([0, 0, 10, 607])));
     Ok(())
 }
 
 #[test]
 fn keeps_a_rounded_box(rt: HostRuntime) -> Result<(), Fail> {
-    let kept = kept_sides(
-        rt.alloc(),
+    let glyphs = [[
+        "acute",
         "93 333 hsbw 1 4 div 500 rmoveto 100 178 rlineto endchar",
+    ]];
+    let kept = box_among(rt.alloc(), &glyphs, "acute")?;
+    assert!(rt; kept == Ok(Some([93, 500, 194, 678])));
+    Ok(())
+}
+
+/// An accent with fractions, moved by 87 1/2, 214, comes to stand from 180 3/4 to 280 3/4.
+#[test]
+fn moves_fractions_by_a_fraction(rt: HostRuntime) -> Result<(), Fail> {
+    let glyphs = [
+        ["space", "0 250 hsbw endchar"],
+        [
+            "acute",
+            "93 333 hsbw 1 4 div 500 rmoveto 100 178 rlineto endchar",
+        ],
+        ["aacute", "0 500 hsbw 93 361 2 div 214 32 194 seac"],
+    ];
+    let moved = box_among(rt.alloc(), &glyphs, "aacute")?;
+    assert!(rt; moved == Ok(Some([180, 714, 281, 892])));
+    Ok(())
+}
+
+/// The same accent, moved by 87, 214, comes to stand from 180 1/4 to 280 1/4.
+#[test]
+fn moves_a_rounded_box_by_a_whole_distance(rt: HostRuntime) -> Result<(), Fail> {
+    let glyphs = [
+        ["space", "0 250 hsbw endchar"],
+        [
+            "acute",
+            "93 333 hsbw 1 4 div 500 rmoveto 100 178 rlineto endchar",
+        ],
+        ["aacute", "0 500 hsbw 93 180 214 32 194 seac"],
+    ];
+    let moved = box_among(rt.alloc(), &glyphs, "aacute")?;
+    assert!(rt; moved == Ok(Some([180, 714, 281, 892])));
+    Ok(())
+}
+
+/// Two dots, the second moved by 1/3, 5, are moved by 2/3, 700: the second dot comes to stand from 11 to 41.
+#[test]
+fn moves_a_composite_accent(rt: HostRuntime) -> Result<(), Fail> {
+    let glyphs = [
+        ["space", "0 250 hsbw endchar"],
+        [
+            "dotaccent",
+            "0 100 hsbw 10 20 rmoveto 30 40 rlineto endchar",
+        ],
+        ["dieresis", "0 200 hsbw 0 1 3 div 5 199 199 seac"],
+        ["adieresis", "0 500 hsbw 0 2 3 div 700 32 200 seac"],
+    ];
+    let moved = box_among(rt.alloc(), &glyphs, "adieresis")?;
+    assert!(rt; moved == Ok(Some([10, 720, 41, 765])));
+    Ok(())
+}
+
+/// Moved by 1/1021 and by 1/1031, a whole coordinate comes to stand over 1,052,651.
+#[test]
+fn composite_accents_come_to_be_too_fine(rt: HostRuntime) -> Result<(), Fail> {
+    let glyphs = [
+        ["space", "0 250 hsbw endchar"],
+        [
+            "dotaccent",
+            "0 100 hsbw 10 20 rmoveto 30 40 rlineto endchar",
+        ],
+        ["dieresis", "0 200 hsbw 0 1 1021 div 5 199 199 seac"],
+        ["adieresis", "0 500 hsbw 0 1 1031 div 700 32 200 seac"],
+    ];
+    let moved = box_among(rt.alloc(), &glyphs, "adieresis")?;
+    assert!(rt; moved == Err(Code::F39));
+    Ok(())
+}
+
+/// The points between a curve's ends come to stand at 1,053,000, those that it draws at 1,047,000 at most.
+#[test]
+fn corners_are_limited(rt: HostRuntime) -> Result<(), Fail> {
+    let glyphs = [
+        ["space", "0 250 hsbw endchar"],
+        [
+            "acute",
+            "0 100 hsbw \
+             32000 vmoveto 32000 vmoveto 32000 vmoveto 32000 vmoveto \
+             32000 vmoveto 32000 vmoveto 32000 vmoveto 32000 vmoveto \
+             32000 vmoveto 32000 vmoveto 32000 vmoveto 32000 vmoveto \
+             32000 vmoveto 32000 vmoveto 32000 vmoveto 32000 vmoveto \
+             32000 vmoveto 32000 vmoveto 32000 vmoveto 32000 vmoveto \
+             32000 vmoveto 32000 vmoveto 32000 vmoveto 32000 vmoveto \
+             32000 vmoveto 32000 vmoveto 32000 vmoveto 32000 vmoveto \
+             32000 vmoveto 32000 vmoveto 32000 vmoveto 32000 vmoveto \
+             0 24000 100 0 0 -24000 rrcurveto endchar",
+        ],
+        ["aacute", "0 500 hsbw 0 0 5000 32 194 seac"],
+    ];
+    let moved = box_among(rt.alloc(), &glyphs, "aacute")?;
+    assert!(rt; moved == Err(Code::F40));
+    Ok(())
+}
+
+#[test]
+fn a_composite_of_itself_is_too_deep(rt: HostRuntime) -> Result<(), Fail> {
+    let glyphs = [["A", "0 500 hsbw 0 0 0 65 65 seac"]];
+    let nested = box_among(rt.alloc(), &glyphs, "A")?;
+    assert!(rt; nested == Err(Code::F46));
+    Ok(())
+}
+
+/// How many segments are kept of a glyph's run.
+fn segments_kept(alloc: Global, words: &str) -> Result<Option<usize>, Fail> {
+    let font = kept_font(alloc, &[["A", words]])?;
+    match font.run_of(b"A") {
+        Some(Ok(run)) => Ok(run.segments().map(|segments| segments.len())),
+        _ => Err(Fail::new("no A")),
+    }
+}
+
+#[test]
+fn whole_segments_are_dropped(rt: HostRuntime) -> Result<(), Fail> {
+    let kept = segments_kept(rt.alloc(), "0 250 hsbw 10 20 rlineto 5 hlineto endchar")?;
+    assert!(rt; kept == None);
+    Ok(())
+}
+
+#[test]
+fn segments_with_fractions_are_kept(rt: HostRuntime) -> Result<(), Fail> {
+    let kept = segments_kept(
+        rt.alloc(),
+        "0 250 hsbw 10 1 3 div rlineto 5 hlineto endchar",
     )?;
-    assert!(rt; kept == Some([93, 500, 194, 678]));
+    assert!(rt; kept == Some(2));
     Ok(())
 }

@@ -1,6 +1,6 @@
 -- What an AFM file tells of a source.
 use Rattle.std.specs.Prelude.{List, map, codes}
-use Rattle.t1_source.specs.declared.pairs.Pair.{Pair}
+use Rattle.t1_pairs.specs.declared.pairs.Pair.{Pair}
 use Rattle.t1_source.specs.Codes.{code_of}
 use Rattle.t1_parts.specs.SourceParts.{SourceParts}
 use Rattle.t1_parts.specs.Header.{header}

@@ -1,6 +1,7 @@
 -- Names that are kept beside glyphs, and their codes.
 use Rattle.std.specs.Prelude.{◌≡◌, ℕ, Bool, List, Option, None, codes, if◌then◌else◌}
 use Rattle.std.specs.Map.{lookup}
+use Rattle.std.specs.Borrow.{Bor}
 use Rattle.std.specs.List.{list_any}
 use Rattle.std.specs.Str.{bytes_eq}
 use Rattle.std.specs.declared.vec.Vec.{Vec}
@@ -8,11 +9,11 @@ use Rattle.t1_font.specs.declared.glyph_metrics.GlyphMetrics.{GlyphMetrics}
 use Rattle.t1_font.specs.Metrics.{has_glyph}
 
 -- whether a name is among those kept
-abbrev pub has_name : {A : Type 0} → List (Vec ℕ A) → List ℕ → Bool
-has_name names g = list_any (λ key. bytes_eq g key.items) names
+abbrev pub has_name : List (Bor (List ℕ)) → List ℕ → Bool
+has_name names g = list_any (λ key. bytes_eq g key.now) names
 
 -- the names are those of the glyphs
-abbrev pub HasNames : {A : Type 0} → List (Vec ℕ A) → List GlyphMetrics → Type 0
+abbrev pub HasNames : List (Bor (List ℕ)) → List GlyphMetrics → Type 0
 HasNames names metrics = (g : List ℕ) → has_name names g ≡ has_glyph metrics g
 
 -- the code that is kept for a name

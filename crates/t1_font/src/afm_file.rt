@@ -10,7 +10,8 @@ use std::alloc::{AllocError, Global};
 use std::io::Write;
 use t1_afm::write_afm;
 use t1_code::{Counted, OutError};
-use t1_source::{Pairs, Source};
+use t1_pairs::Pairs;
+use t1_source::Source;
 
 /// Writes the AFM file of a source, its pairs and its measured glyphs: the whole file at `Ok`, a beginning of it at
 /// `Write`, nothing where memory runs out. No fault is answered.

@@ -9,7 +9,8 @@ use crate::glyphs::MeasuredGlyphs;
 use crate::kern::kern_metrics;
 use std::alloc::{AllocError, Global};
 use t1_afm::{Header, Metrics, Text};
-use t1_source::{Pairs, Source};
+use t1_pairs::Pairs;
+use t1_source::Source;
 
 /// The value of a header key.
 fn value<'a>(source: &'a Source, key: &str) -> Option<Text<'a>>

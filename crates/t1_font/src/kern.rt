@@ -8,29 +8,29 @@ use crate::glyph_metrics::GlyphMetrics;
 use indexmap::IndexSet;
 use std::alloc::{AllocError, Global};
 use t1_afm::{KernPair, Text};
-use t1_source::Pair;
+use t1_pairs::Pair;
 
 /// Adds a name.
-fn add_name(alloc: Global, names: &mut IndexSet<Vec<u8>>, name: &[u8]) -> Result<(), AllocError>
+fn add_name<'a>(names: &mut IndexSet<&'a [u8]>, name: &'a [u8]) -> Result<(), AllocError>
     ensures { OnOk result ((g : List ℕ) → has_name names.new.keys g ≡ (has_name names.old.keys g || bytes_eq g name.now)) }
 {
-    names.insert(Vec::from_slice(alloc, name)?)?;
+    names.insert(name)?;
     Ok(())
 }
 
 /// The names of the glyphs.
-fn names_of(alloc: Global, metrics: &[GlyphMetrics]) -> Result<IndexSet<Vec<u8>>, AllocError>
+fn names_of(alloc: Global, metrics: &[GlyphMetrics]) -> Result<IndexSet<&[u8]>, AllocError>
     ensures { IfOk result (λ names. HasNames names.keys metrics.now) }
 {
-    let mut names = IndexSet::new(alloc);
+    let mut names = IndexSet::with_capacity(alloc, metrics.len())?;
     for glyph in metrics {
-        add_name(alloc, &mut names, glyph.name.as_slice())?;
+        add_name(&mut names, glyph.name.as_slice())?;
     }
     Ok(names)
 }
 
 /// A pair whose both glyphs are there.
-fn kern_pair<'a>(names: &IndexSet<Vec<u8>>, pair: &'a Pair) -> Option<KernPair<'a>>
+fn kern_pair<'a>(names: &IndexSet<&[u8]>, pair: &'a Pair) -> Option<KernPair<'a>>
     ensures { result ≡ kern_of (has_name names.now.keys) pair.now }
 {
     let left = pair.left.as_slice();
@@ -48,7 +48,7 @@ fn kern_pair<'a>(names: &IndexSet<Vec<u8>>, pair: &'a Pair) -> Option<KernPair<'
 /// The pairs whose both glyphs are among the names, in their order.
 fn pairs_among<'a>(
     alloc: Global,
-    names: &IndexSet<Vec<u8>>,
+    names: &IndexSet<&[u8]>,
     pairs: &'a [Pair],
 ) -> Result<Vec<KernPair<'a>>, AllocError>
     ensures { IfOk result (λ found. found.items ≡ filter_map (kern_of (has_name names.now.keys)) pairs.now) }
@@ -71,6 +71,9 @@ pub fn kern_metrics<'a>(
 ) -> Result<Vec<KernPair<'a>>, AllocError>
     ensures { IfOk result (λ found. found.items ≡ kern_pairs metrics.now pairs.now) }
 {
+    if pairs.is_empty() {
+        return Ok(Vec::new(alloc));
+    }
     let names = names_of(alloc, metrics)?;
     pairs_among(alloc, &names, pairs)
 }

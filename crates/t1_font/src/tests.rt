@@ -5,8 +5,9 @@ use std::test::Fail;
 use t1_afm::write_afm;
 use t1_code::Counted;
 use t1_frac::{Code, Fault, Place, Refusal};
+use t1_pairs::read_pairs;
 use t1_run::Meter;
-use t1_source::{Source, read_pairs, read_source};
+use t1_source::{Source, read_source};
 
 /// The demo font.
 const DEMO: &str = "\

@@ -15,7 +15,7 @@ use Rattle.t1_parts.specs.Reading.{reads}
 use Rattle.t1_source.specs.declared.edit.Edit.{Edit}
 use Rattle.t1_source.specs.declared.editing.change.Change.{Change}
 use Rattle.t1_source.specs.declared.editing.change.Change.TheVariants as changes
-use Rattle.t1_source.specs.declared.pairs.Pair.{Pair}
+use Rattle.t1_pairs.specs.declared.pairs.Pair.{Pair}
 use Rattle.t1_source.specs.Changes.{changed}
 use Rattle.t1_source.specs.WellFormed.{is_counted, IsWellFormed}
 use Rattle.t1_source.proofs.WellFormedEditedLaws.{edited_well_formed}

@@ -21,12 +21,13 @@ use t1_charstrings::{
 };
 use t1_font::MeasuredGlyphs;
 use t1_frac::Refusal;
+use t1_pairs::Pairs;
 use t1_rerun::{
     Prepared, Ready, change_of_edit, measured_records, opened_records, prepare_change, settle_ready,
 };
 use t1_run::Meter;
 use t1_source::laws::text_of_source_read;
-use t1_source::{Change, Edit, Pairs, Source};
+use t1_source::{Change, Edit, Source};
 
 /// What a session keeps of its source.
 #[derive(Drop)]

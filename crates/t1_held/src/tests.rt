@@ -8,12 +8,13 @@ use std::alloc::Global;
 use std::test::Fail;
 use t1_afm::BBox;
 use t1_batch::Batch;
-use t1_code::WHOLE_PARTS;
+use t1_code::{Counted, Pfa, Pfb, WHOLE_PARTS};
 use t1_font::pfb_of_source;
 use t1_frac::Bytes;
+use t1_pairs::read_pairs;
 use t1_run::Meter;
 use t1_source::laws::read_source_is_well_formed;
-use t1_source::{Edit, Source, read_pairs, read_source};
+use t1_source::{Edit, Source, read_source};
 
 /// Three glyphs of the demo font: acute enters Subr 4, and Aacute is composed of A and acute.
 const THREE: &str = "\
@@ -95,10 +96,19 @@ fn runs_what_an_edit_makes_stale(rt: HostRuntime) -> Result<(), Fail> {
     Ok(())
 }
 
+/// The PFB file with what is held of a source.
+fn held_pfb(alloc: Global, held: &Held, source: &Source) -> Result<Vec<u8>, Fail>
+    requires { IsHeld source.now held.now }
+{
+    let mut out = Counted::new(Vec::new(alloc));
+    write_held_file(alloc, held, source, &Pfb::in_blocks(WHOLE_PARTS), &mut out)?;
+    Ok(out.into_inner())
+}
+
 /// Whether the file with what is held after an edit is that of the edited source from scratch.
 fn writes_as_from_scratch(alloc: Global, edit: &Edit) -> Result<bool, Fail> {
     let (source, held, _) = edited(alloc, edit)?;
-    let kept = held_pfb(alloc, &held, &source, WHOLE_PARTS)?;
+    let kept = held_pfb(alloc, &held, &source)?;
     let made = pfb_of_source(alloc, &source, WHOLE_PARTS)?;
     Ok(kept.as_slice() == made.as_slice())
 }
@@ -121,7 +131,9 @@ fn writes_charstrings_by_another_len_iv(rt: HostRuntime) -> Result<(), Fail> {
 /// How long the PFA file is with what is held after an edit.
 fn hexadecimal_len(alloc: Global, edit: &Edit) -> Result<usize, Fail> {
     let (source, held, _) = edited(alloc, edit)?;
-    Ok(held_pfa(alloc, &held, &source)?.len())
+    let mut out = Counted::new(Vec::new(alloc));
+    write_held_file(alloc, &held, &source, &Pfa, &mut out)?;
+    Ok(out.into_inner().len())
 }
 
 #[test]
@@ -152,7 +164,7 @@ fn committed(alloc: Global, first: &Edit, second: &Edit) -> Result<(Source, Held
 /// the batch's source from scratch.
 fn commits(alloc: Global) -> Result<(u64, bool), Fail> {
     let (source, held, runs) = committed(alloc, &subr_4(alloc)?, &Edit::LenIv(1))?;
-    let kept = held_pfb(alloc, &held, &source, WHOLE_PARTS)?;
+    let kept = held_pfb(alloc, &held, &source)?;
     let made = pfb_of_source(alloc, &source, WHOLE_PARTS)?;
     Ok((runs, kept.as_slice() == made.as_slice()))
 }
@@ -174,7 +186,7 @@ fn glyph_a(alloc: Global) -> Result<Edit, Fail> {
 fn adds_again(alloc: Global) -> Result<(u64, bool), Fail> {
     let removed = Edit::RemoveGlyph(Bytes::copied(alloc, b"A")?);
     let (source, held, runs) = committed(alloc, &removed, &glyph_a(alloc)?)?;
-    let kept = held_pfb(alloc, &held, &source, WHOLE_PARTS)?;
+    let kept = held_pfb(alloc, &held, &source)?;
     let made = pfb_of_source(alloc, &source, WHOLE_PARTS)?;
     Ok((runs, kept.as_slice() == made.as_slice()))
 }

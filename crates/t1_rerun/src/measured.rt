@@ -17,7 +17,7 @@ use t1_frac::Refusal;
 fn kept_glyphs(alloc: Global, records: &Records) -> Result<Vec<GlyphMetrics>, Refusal>
     ensures { Gives (λ metrics. metrics.items) result (told_at Nowhere (kept_metrics (map kept_of records.now.glyphs.entries))) }
 {
-    let mut metrics = Vec::new(alloc);
+    let mut metrics = Vec::with_capacity(alloc, records.glyphs.len())?;
     for at in 0..records.glyphs.len() {
         let Some((name, record)) = records.glyphs.get_index(at) else {
             break;

@@ -10,8 +10,9 @@ use t1_afm::BBox;
 use t1_cache::{Named, Names, Records};
 use t1_font::checked_bodies;
 use t1_frac::{Bytes, Fault, Place, Refusal};
+use t1_pairs::read_pairs;
 use t1_run::Meter;
-use t1_source::{Change, Edit, Source, read_pairs, read_source};
+use t1_source::{Change, Edit, Source, read_source};
 
 /// Three glyphs of the demo font: acute enters Subr 4, and Aacute is composed of A and acute.
 const THREE: &str = "\

@@ -1,9 +1,9 @@
 -- From a text that is printed to the file that is delivered.
 use Rattle.std.proofs.Common.{◌≡◌, ℕ, List, Option, Result, Ok, Err, refl, ◌∙◌}
 use Rattle.t1_frac.specs.declared.fault.Fault.{Fault}
-use Rattle.t1_source.specs.declared.pairs.Pair.{Pair}
+use Rattle.t1_pairs.specs.declared.pairs.Pair.{Pair}
 use Rattle.t1_parts.specs.SourceParts.{SourceParts}
-use Rattle.t1_source.specs.Kerning.{pairs}
+use Rattle.t1_pairs.specs.Kerning.{pairs}
 use Rattle.t1_parts.specs.Reading.{reads}
 use Rattle.t1_code.specs.declared.parts.OutError.{OutError}
 use Rattle.t1_code.specs.declared.parts.OutError.TheVariants as out

@@ -16,9 +16,9 @@ use Rattle.t1_parts.specs.Printing.{text}
 use Rattle.t1_parts.specs.Reading.{reads}
 use Rattle.t1_source.specs.declared.edit.Edit.{Edit}
 use Rattle.t1_source.specs.declared.edit.Rule.{Rule}
-use Rattle.t1_source.specs.declared.pairs.Pair.{Pair}
+use Rattle.t1_pairs.specs.declared.pairs.Pair.{Pair}
 use Rattle.t1_source.specs.Editing.{edited}
-use Rattle.t1_source.specs.Kerning.{pairs, kern}
+use Rattle.t1_pairs.specs.Kerning.{pairs, kern}
 use Rattle.t1_code.specs.Pfa.{pfa, pfa_of}
 use Rattle.t1_code.specs.Pfb.{has_long_part, pfb, pfb_of, whole_file}
 use Rattle.t1_afm.specs.Afm.{afm}
@@ -28,6 +28,7 @@ use Rattle.t1_font.specs.MeasuredGlyphs.{MeasuredFont, measured}
 use Rattle.t1_font.specs.SourceChecks.{measured_source, source_check, source_usage}
 use Rattle.t1_font.specs.Usage.{usage_table}
 use Rattle.t1_font.specs.Glyphs.{Glyph as Told}
+use Rattle.t1_charstrings.specs.Files.{file_in}
 use Rattle.t1_cache.specs.declared.records.Records.{Records}
 use Rattle.t1_rerun.specs.Right.{IsRight}
 use Rattle.t1_held.specs.declared.held.Held.{Held}
@@ -36,15 +37,14 @@ use Rattle.std.specs.List.{list_all}
 use Rattle.t1_source.specs.WellFormed.{is_counted}
 use Rattle.t1_font.proofs.Counted.{counted-source}
 use Rattle.t1_font.proofs.SourceMetrics.{by-source-metrics}
-use Rattle.std.specs.declared.vec.Vec.{Vec}
-use Rattle.t1_session.specs.declared.answer.Answer.{Answer}
 use Rattle.t1_session.specs.declared.answer.Answer.TheVariants.{Accepted, Faulty, Data}
 use Rattle.t1_session.specs.declared.print.Print.TheVariants as prints
-use Rattle.t1_session.specs.Answering.{ShowsText}
+use Rattle.std.specs.declared.vec.Vec.{Vec}
+use Rattle.t1_session.specs.AnswerTexts.{answer_text, data_of}
 use Rattle.t1_session.specs.declared.command.Command.TheVariants as commands
 use Rattle.t1_session.specs.Files.{assembled, assembled_pfa}
 use Rattle.t1_session.specs.FromScratch.{blocks_from_scratch, pfa_from_scratch, texts_of, from_scratch, pfb_from_scratch, metrics_from_scratch, uses_from_scratch}
-use Rattle.t1_session.specs.Machine.{IsFaultless, OpensFaultless, KeepsFaultless, abort_in, begin_in, commit_in, drafted, edit_in, holding, judged, opened, perform, printed, scratch, source_metrics, taken}
+use Rattle.t1_session.specs.Machine.{IsFaultless, OpensFaultless, KeepsFaultless, abort_in, begin_in, commit_in, drafted, edit_in, file_answer, holding, judged, opened, perform, printed, scratch, source_metrics, taken}
 use Rattle.t1_session.specs.Outcomes.{Took, refused_source}
 use Rattle.t1_batch.specs.Batch.{Draft, EntryEdit, edited_entries}
 use Rattle.t1_session.specs.State.{State}
@@ -152,6 +152,31 @@ has_pfa s e =
     let made = pfa-of (joined s.clear) private.0 (trailer_text s.tail) file.0 private.2 in
     (made.0, ap (λ (r : Result (List ℕ) Fault). r >>= λ text. pfa_of (joined s.clear) text (trailer_text s.tail)) private.1 ∙ made.1)
 
+-- its files as data
+pub data_blocks : (s : SourceParts) (size : ℕ) → source_check s ≡ Ok tt
+    → file_in (λ clear private trailer. data_of (pfb_of size clear private trailer)) s ≡ Ok (answer_text (file_answer (source_file size s)))
+unfolding source_file answer_text
+data_blocks s size e =
+    let metrics = checked-metrics s e in
+    let file = has_file s metrics.0 metrics.1 in
+    let private = private-made s file.0 file.1 in
+    let made = blocks-of size (joined s.clear) private.0 (trailer_text s.tail) file.0 private.2 in
+    let is = ap (λ (r : Result (List ℕ) Fault). r >>= λ text. pfb_of size (joined s.clear) text (trailer_text s.tail)) private.1 ∙ made.1 in
+    ap (λ (r : Result (List ℕ) Fault). r >>= λ text. data_of (pfb_of size (joined s.clear) text (trailer_text s.tail))) private.1
+    ∙ ap data_of made.1 ∙ ap (λ (r : Result (List ℕ) Fault). Ok (answer_text (file_answer r))) (sym is)
+
+pub data_pfa : (s : SourceParts) → source_check s ≡ Ok tt
+    → file_in (λ clear private trailer. data_of (pfa_of clear private trailer)) s ≡ Ok (answer_text (file_answer (source_pfa s)))
+unfolding source_pfa answer_text
+data_pfa s e =
+    let metrics = checked-metrics s e in
+    let file = has_file s metrics.0 metrics.1 in
+    let private = private-made s file.0 file.1 in
+    let made = pfa-of (joined s.clear) private.0 (trailer_text s.tail) file.0 private.2 in
+    let is = ap (λ (r : Result (List ℕ) Fault). r >>= λ text. pfa_of (joined s.clear) text (trailer_text s.tail)) private.1 ∙ made.1 in
+    ap (λ (r : Result (List ℕ) Fault). r >>= λ text. data_of (pfa_of (joined s.clear) text (trailer_text s.tail))) private.1
+    ∙ ap data_of made.1 ∙ ap (λ (r : Result (List ℕ) Fault). Ok (answer_text (file_answer r))) (sym is)
+
 -- its counts have at most nine digits
 pub counts_short : (s : SourceParts) (font : MeasuredFont) → measured_source s ≡ Ok font → list_all is_counted s.items ≡ true
 counts_short s font e = let checked = file-checked s font e in counted-source s checked.1
@@ -178,14 +203,16 @@ pub refused_takes : (refusal : Refusal) (old : State) (made : SourceParts × Lis
 refused_takes refusals.Memory old made h none = (refl, refl)
 refused_takes (refusals.Fault fault) old made h none = rw h (refl, holding_alone old.source old.pairs old.batch none)
 
--- the AFM file that a print shows
-pub afm_shown : {A E F : Type 0} (given : Result (Vec ℕ A) E) (result : Result Answer F) (s : State) (file : List ℕ)
-    → ShowsText given result → IfOk given (λ found. found.items ≡ file) → source_metrics s.source s.pairs ≡ Ok file
-    → IfOk result (λ answer. answer ≡ printed s prints.Afm)
-afm_shown (Ok found) (Ok answer) s file shows is known = rw known (shows ∙ ap (λ (l : List ℕ). Data l) is)
-afm_shown (Ok found) (Err f) s file shows is known = tt
-afm_shown (Err e) (Ok answer) s file shows is known = absurd shows
-afm_shown (Err e) (Err f) s file shows is known = tt
+-- the texts that prints show
+pub afm_shown : {A E : Type 0} (given : Result (Vec ℕ A) E) (s : State) (file : List ℕ) → IfOk given (λ found. found.items ≡ file) → source_metrics s.source s.pairs ≡ Ok file
+    → IfOk given (λ found. printed s prints.Afm ≡ Data found.items)
+afm_shown (Ok found) s file is known = ap file_answer known ∙ ap (λ (l : List ℕ). Data l) (sym is)
+afm_shown (Err e) s file is known = tt
+
+pub uses_shown : {A E : Type 0} (given : Result (Vec ℕ A) E) (s : State) (table : List ℕ) → IfOk given (λ found. found.items ≡ table) → source_usage s.source ≡ Ok table
+    → IfOk given (λ found. printed s prints.Uses ≡ Data found.items)
+uses_shown (Ok found) s table is known = ap file_answer known ∙ ap (λ (l : List ℕ). Data l) (sym is)
+uses_shown (Err e) s table is known = tt
 
 -- ---- its texts from scratch
 
@@ -212,16 +239,17 @@ module _ (s : State) (font : MeasuredFont) (known : measured_source s.source ≡
       ap (λ r. r >>= λ texts. Ok texts.uses) (all-texts file.0 file.1)
 
 pub pfb_checked : (s : State) → source_check s.source ≡ Ok tt → reads (text s.source) ≡ Ok s.source → pairs (kern s.pairs) ≡ Ok s.pairs
-    → pfb_from_scratch s ≡ source_file whole_file s.source
+    → pfb_from_scratch s ≡ file_in (pfb_of whole_file) s.source
+unfolding source_file
 pfb_checked s e source kerning = let font = checked-metrics s.source e in pfb_scratch s font.0 font.1 source kerning
 
 -- the files that the assembler alone makes
-pub blocks_scratch : (s : State) (size : ℕ) → reads (text s.source) ≡ Ok s.source → blocks_from_scratch size s ≡ source_file size s.source
-unfolding assembled
+pub blocks_scratch : (s : State) (size : ℕ) → reads (text s.source) ≡ Ok s.source → blocks_from_scratch size s ≡ file_in (pfb_of size) s.source
+unfolding assembled source_file
 blocks_scratch s size source = ap (λ r. r >>= λ parts. source_file size parts) source
 
-pub pfa_scratch : (s : State) → reads (text s.source) ≡ Ok s.source → pfa_from_scratch s ≡ source_pfa s.source
-unfolding assembled_pfa
+pub pfa_scratch : (s : State) → reads (text s.source) ≡ Ok s.source → pfa_from_scratch s ≡ file_in pfa_of s.source
+unfolding assembled_pfa source_pfa
 pfa_scratch s source = ap (λ r. r >>= λ parts. source_pfa parts) source
 
 -- ---- no fault

@@ -1,8 +1,9 @@
 -- What commands are answered.
-use Rattle.std.specs.Prelude.{ℕ, List, [], ◌∷◌, ◌++◌, codes, decimal, length}
+use Rattle.std.specs.Prelude.{ℕ, List, [], ◌∷◌, ◌++◌, Result, Ok, codes, decimal, length}
 use Rattle.t1_frac.specs.declared.fault.Code.{Code}
 use Rattle.t1_frac.specs.declared.fault.Code.TheVariants.{F1, F2, F3, F4, F5, F6, F7, F8, F9, F10, F11, F12, F13, F20, F21, F22, F23, F30, F31, F32, F33, F34, F35, F36, F37, F38, F39, F40, F41, F42, F43, F44, F45, F46, F47, F48}
 use Rattle.t1_frac.specs.declared.fault.Fault.{Fault}
+use Rattle.t1_frac.specs.Outcome.{◌>>=◌}
 use Rattle.t1_frac.specs.declared.fault.Place.{Place}
 use Rattle.t1_frac.specs.declared.fault.Place.TheVariants.{Nowhere, Line, Subr, Glyph}
 use Rattle.t1_source.specs.declared.edit.Rule.{Rule}
@@ -82,9 +83,17 @@ place_number (Glyph name) = 0
 unfoldable pub fault_text : Fault → List ℕ
 fault_text fault = code_name fault.code ++ place_text fault.place
 
+-- profile, answers: the line that says how many bytes follow
+abbrev pub data_head : ℕ → List ℕ
+data_head len = codes "data " ++ decimal len ++ 10 ∷ []
+
 -- profile, answers: what a print shows, after its length
 abbrev pub data_text : List ℕ → List ℕ
 data_text bytes = codes "data " ++ decimal (length bytes) ++ 10 ∷ bytes ++ 10 ∷ []
+
+-- profile, answers: a file as data
+abbrev pub data_of : Result (List ℕ) Fault → Result (List ℕ) Fault
+data_of file = file >>= λ bytes. Ok (data_text bytes)
 
 -- profile, answers: the bytes of an answer
 unfoldable pub answer_text : Answer → List ℕ

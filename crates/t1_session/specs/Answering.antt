@@ -1,12 +1,13 @@
 -- What outcomes of a command are answered.
-use Rattle.std.specs.Prelude.{◌≡◌, ℕ, Result, Ok, Err}
-use Rattle.std.specs.declared.vec.Vec.{Vec}
-use Rattle.t1_frac.specs.declared.fault.Refusal.{Refusal}
-use Rattle.t1_frac.specs.declared.fault.Refusal.TheVariants as refusals
+use Rattle.std.specs.Prelude.{◌≡◌, ℕ, List, Option, Result, Ok, Err}
+use Rattle.t1_code.specs.Counted.{Tally, WritesAll, WritesFront}
+use Rattle.t1_code.specs.declared.parts.OutError.{OutError}
+use Rattle.t1_code.specs.declared.parts.OutError.TheVariants as out
 use Rattle.t1_source.specs.declared.edit.Cause.{Cause}
 use Rattle.t1_source.specs.declared.edit.Cause.TheVariants as causes
 use Rattle.t1_session.specs.declared.answer.Answer.{Answer}
-use Rattle.t1_session.specs.declared.answer.Answer.TheVariants.{Accepted, Broken, Faulty, Data}
+use Rattle.t1_session.specs.declared.answer.Answer.TheVariants.{Accepted, Broken, Faulty}
+use Rattle.t1_session.specs.AnswerTexts.{answer_text}
 
 -- an answer, where memory didn't run out
 abbrev pub Says : {E : Type 0} → Answer → Result Answer E → Type 0
@@ -24,12 +25,16 @@ Answers (Err (causes.Rule rule)) result = Says (Broken rule) result
 Answers (Err (causes.Fault fault)) result = Says (Faulty fault) result
 Answers (Err causes.Memory) result = WantsMemory result
 
--- profile, answers: a text is answered as data
-abbrev pub ShowsText : {A E F : Type 0} → Result (Vec ℕ A) E → Result Answer F → Type 0
-ShowsText (Ok text) result = Says (Data text.items) result
-ShowsText (Err e) result = WantsMemory result
+-- profile, answers: the text of an answer went out, or a failed write cut it short
+abbrev pub SendsText : {W T : Type 0} → (W → Option (List ℕ)) → Tally W → Tally W → List ℕ → Result T OutError → Type 0
+SendsText contents before after text (Ok done) = WritesAll contents before after text
+SendsText contents before after text (Err out.Write) = WritesFront contents before after text
+SendsText contents before after text (Err (out.Fault fault)) = ⊥
+SendsText contents before after text (Err out.Memory) = ⊥
 
-abbrev pub ShowsFile : {A F : Type 0} → Result (Vec ℕ A) Refusal → Result Answer F → Type 0
-ShowsFile (Ok file) result = Says (Data file.items) result
-ShowsFile (Err (refusals.Fault fault)) result = Says (Faulty fault) result
-ShowsFile (Err refusals.Memory) result = WantsMemory result
+-- profile, answers: what was performed was answered; nothing was written where memory ran out
+abbrev pub Reports : {W T E : Type 0} → (W → Option (List ℕ)) → Tally W → Tally W → Result T Cause → Result E OutError → Type 0
+Reports contents before after (Ok done) result = SendsText contents before after (answer_text Accepted) result
+Reports contents before after (Err (causes.Rule rule)) result = SendsText contents before after (answer_text (Broken rule)) result
+Reports contents before after (Err (causes.Fault fault)) result = SendsText contents before after (answer_text (Faulty fault)) result
+Reports contents before after (Err causes.Memory) result = (after ≡ before) × (result ≡ Err out.Memory)

@@ -3,11 +3,12 @@
 use Rattle.std.specs.Prelude.{◌≡◌, ℕ, Bool, true, false, not, ◌==◌, ◌&&◌, ◌||◌, if◌then◌else◌, List, [], ◌∷◌, ◌++◌, drop, Option, Some, None, Result, Ok, Err}
 use Rattle.std.specs.List.{list_all}
 use Rattle.t1_code.specs.Counted.{Tally, WritesAll, WritesFront}
+use Rattle.t1_code.specs.declared.parts.OutError.{OutError}
+use Rattle.t1_code.specs.declared.parts.OutError.TheVariants as out
 use Rattle.t1_text.specs.Lines.{unified, begins_with}
 use Rattle.t1_session.specs.declared.error.ServeError.{ServeError}
 use Rattle.t1_session.specs.declared.error.ServeError.TheVariants as errors
 use Rattle.t1_session.specs.declared.command.Command.{Command}
-use Rattle.t1_session.specs.declared.answer.Answer.{Answer}
 use Rattle.t1_session.specs.Lines.{finished_lines}
 use Rattle.t1_session.specs.Commands.{Opening, commands_of, ends_body}
 use Rattle.t1_session.specs.AnswerTexts.{answer_text}
@@ -66,10 +67,16 @@ Sends contents old new text (Err errors.Memory) = ⊥
 Sends contents old new text (Err errors.Read) = ⊥
 Sends contents old new text (Err (errors.Load fault)) = ⊥
 
--- a command was performed, or met want of memory
-abbrev pub IsPerformed : {E : Type 0} → State → State → Command → Result Answer E → Type 0
-IsPerformed old new command (Ok answer) = (answer ≡ (machine.perform old command).answer) × (new ≡ (machine.perform old command).next)
-IsPerformed old new command (Err e) = (may_want_memory old command ≡ true) × (new ≡ after_want old command)
+-- a command was performed, and its answer went out, or a failed write cut it short; or it met want of memory, and nothing
+-- was written
+abbrev pub IsPerformed : {W T : Type 0} → (W → Option (List ℕ)) → State → State → Tally W → Tally W → Command → Result T OutError → Type 0
+IsPerformed contents old new before after command (Ok done) =
+    WritesAll contents before after (answer_text (machine.perform old command).answer) × (new ≡ (machine.perform old command).next)
+IsPerformed contents old new before after command (Err out.Write) =
+    WritesFront contents before after (answer_text (machine.perform old command).answer) × (new ≡ (machine.perform old command).next)
+IsPerformed contents old new before after command (Err (out.Fault fault)) = ⊥
+IsPerformed contents old new before after command (Err out.Memory) =
+    (after ≡ before) × (may_want_memory old command ≡ true) × (new ≡ after_want old command)
 
 -- the answer to one command, marked or not
 pub record AnswersCommand {W T : Type 0} (contents : W → Option (List ℕ)) (old new : State) (before after : Tally W) (command : Command) (result : Result T ServeError) : Type 0 where

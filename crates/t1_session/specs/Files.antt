@@ -2,9 +2,9 @@
 use Rattle.std.specs.Prelude.{◌≡◌, ℕ, List, Result, Ok}
 use Rattle.t1_frac.specs.declared.fault.Fault.{Fault}
 use Rattle.t1_frac.specs.Outcome.{◌>>=◌}
-use Rattle.t1_source.specs.declared.pairs.Pair.{Pair}
+use Rattle.t1_pairs.specs.declared.pairs.Pair.{Pair}
 use Rattle.t1_parts.specs.SourceParts.{SourceParts}
-use Rattle.t1_source.specs.Kerning.{pairs}
+use Rattle.t1_pairs.specs.Kerning.{pairs}
 use Rattle.t1_parts.specs.Reading.{reads}
 use Rattle.t1_afm.specs.Afm.{afm}
 use Rattle.t1_font.specs.Assembly.{source_file, source_pfa, file_check}

@@ -4,7 +4,7 @@ use Rattle.t1_frac.specs.declared.fault.Fault.{Fault}
 use Rattle.t1_frac.specs.Outcome.{◌>>=◌}
 use Rattle.t1_parts.specs.Printing.{text}
 use Rattle.t1_parts.specs.Reading.{reads}
-use Rattle.t1_source.specs.Kerning.{pairs, kern}
+use Rattle.t1_pairs.specs.Kerning.{pairs, kern}
 use Rattle.t1_code.specs.Pfb.{whole_file}
 use Rattle.t1_afm.specs.Afm.{afm}
 use Rattle.t1_font.specs.Assembly.{source_file}

@@ -5,11 +5,11 @@ use Rattle.t1_frac.specs.Outcome.{◌>>=◌}
 use Rattle.t1_parts.specs.SourceParts.{SourceParts}
 use Rattle.t1_parts.specs.Reading.{reads}
 use Rattle.t1_parts.specs.Printing.{text}
-use Rattle.t1_source.specs.declared.pairs.Pair.{Pair}
+use Rattle.t1_pairs.specs.declared.pairs.Pair.{Pair}
 use Rattle.t1_source.specs.declared.edit.Edit.{Edit}
 use Rattle.t1_source.specs.declared.edit.Rule.{Rule}
 use Rattle.t1_source.specs.declared.edit.Rule.TheVariants.{E4, E11, E12}
-use Rattle.t1_source.specs.Kerning.{pairs, kern}
+use Rattle.t1_pairs.specs.Kerning.{pairs, kern}
 use Rattle.t1_source.specs.Editing.{edited}
 use Rattle.t1_code.specs.Pfb.{whole_file}
 use Rattle.t1_afm.specs.Afm.{afm}

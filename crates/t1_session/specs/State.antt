@@ -1,7 +1,7 @@
 -- What contracts see of a session.
 use Rattle.std.specs.Prelude.{ℕ, List, Option, Some, None}
 use Rattle.t1_parts.specs.SourceParts.{SourceParts}
-use Rattle.t1_source.specs.declared.pairs.Pair.{Pair}
+use Rattle.t1_pairs.specs.declared.pairs.Pair.{Pair}
 use Rattle.t1_cache.specs.Renewed.{Kept}
 use Rattle.t1_batch.specs.Batch.{Draft, IsDraftOf}
 

@@ -2,14 +2,14 @@
 ghost use Rattle.std.specs.Prelude.{◌≡◌, OnOk, OnErr, ◌++◌, decimal, length};
 ghost use Rattle.t1_code.specs.Counted.{WritesAll, WritesFront, Passes, Stops, outlet};
 ghost use Rattle.t1_code.specs.Parts.{bytes_of};
-ghost use Rattle.t1_session.specs.Answering.{Answers, ShowsText, ShowsFile};
+ghost use Rattle.t1_session.specs.Answering.{Answers};
 ghost use Rattle.t1_session.specs.AnswerTexts.{rule_name, code_name, place_number, place_text, fault_text, data_text, answer_text};
 
 use itoa::Buffer;
 use std::alloc::AllocError;
 use std::io::{self, Write};
 use t1_code::{Chunk, Counted, put_plain};
-use t1_frac::{Bytes, Code, Fault, Place, Refusal};
+use t1_frac::{Bytes, Code, Fault, Place};
 use t1_source::{Cause, Rule};
 
 /// What a command is answered.
@@ -36,24 +36,6 @@ pub fn answer_of(performed: Result<(), Cause>) -> Result<Answer, AllocError>
         Err(Cause::Rule(rule)) => Ok(Answer::Broken(rule)),
         Err(Cause::Fault(fault)) => Ok(Answer::Faulty(fault)),
         Err(Cause::Memory) => Err(AllocError),
-    }
-}
-
-/// What a print of a text is answered.
-pub fn text_answer(text: Result<Vec<u8>, AllocError>) -> Result<Answer, AllocError>
-    ensures { ShowsText text result }
-{
-    Ok(Answer::Data(Bytes::new(text?)))
-}
-
-/// What a print of a file is answered.
-pub fn file_answer(file: Result<Vec<u8>, Refusal>) -> Result<Answer, AllocError>
-    ensures { ShowsFile file result }
-{
-    match file {
-        Ok(file) => Ok(Answer::Data(Bytes::new(file))),
-        Err(Refusal::Fault(fault)) => Ok(Answer::Faulty(fault)),
-        Err(Refusal::Memory) => Err(AllocError),
     }
 }
 
@@ -122,7 +104,7 @@ fn code_name(code: Code) -> &'static [u8]
 }
 
 /// Passes slices on, one after another.
-fn pass_slices<W: Write>(
+pub fn pass_slices<W: Write>(
     writer: &mut Counted<W>,
     chunk: &mut Chunk,
     slices: &[&[u8]],

@@ -2,8 +2,6 @@
 ghost use Rattle.std.specs.Prelude.{◌≡◌};
 ghost use Rattle.t1_session.specs.AnswerTexts.{answer_text};
 ghost use Rattle.t1_session.specs.Commands.{Makes};
-ghost use Rattle.t1_session.specs.Answers.{answer_to};
-ghost use Rattle.t1_session.specs.Machine.{machine};
 ghost use Rattle.t1_session.specs.Conversation.{Sends, AnswersCommand, IsPerformed};
 
 use crate::answer::{Answer, put_answer};
@@ -12,7 +10,7 @@ use crate::error::ServeError;
 use crate::performer::Performer;
 use std::alloc::AllocError;
 use std::io::Write;
-use t1_code::Counted;
+use t1_code::{Counted, OutError};
 
 /// Writes an answer, and passes it on.
 fn send<W: Write>(writer: &mut Counted<W>, answer: &Answer) -> Result<(), ServeError>
@@ -23,14 +21,17 @@ fn send<W: Write>(writer: &mut Counted<W>, answer: &Answer) -> Result<(), ServeE
     Ok(())
 }
 
-/// Performs the command that was made, where there was the memory for it.
-fn try_answer(
+/// Performs the command that was made, where there was the memory for it, and passes its answer on.
+fn try_answer<W: Write>(
     session: &mut Performer,
     made: Result<Command, AllocError>,
-) -> Result<Answer, AllocError>
-    ensures { (wanted : Command) → Makes made wanted → IsPerformed session.old session.new wanted result }
+    writer: &mut Counted<W>,
+) -> Result<(), OutError>
+    ensures { (wanted : Command) → Makes made wanted → IsPerformed W.contents session.old session.new writer.old writer.new wanted result }
 {
-    session.perform(made?)
+    session.perform(made?, writer)?;
+    writer.flush()?;
+    Ok(())
 }
 
 /// Performs a command, and answers it, also where memory ran out.
@@ -41,8 +42,8 @@ pub fn answer_command<W: Write>(
 ) -> Result<(), ServeError>
     ensures { (wanted : Command) → Makes made wanted → AnswersCommand W.contents session.old session.new writer.old writer.new wanted result }
 {
-    match try_answer(session, made) {
-        Ok(answer) => send(writer, &answer),
-        Err(_) => send(writer, &Answer::OutOfMemory),
+    match try_answer(session, made, writer) {
+        Err(OutError::Memory) => send(writer, &Answer::OutOfMemory),
+        answered => Ok(answered?),
     }
 }

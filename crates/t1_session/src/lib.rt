@@ -6,6 +6,7 @@ mod answer;
 mod answering;
 mod assembling;
 mod command;
+mod data;
 mod dialogue;
 mod error;
 pub mod laws;

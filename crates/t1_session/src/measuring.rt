@@ -7,8 +7,9 @@ use std::alloc::Global;
 use std::io::Write;
 use t1_code::Counted;
 use t1_font::{checked_bodies, measured, write_source_afm};
+use t1_pairs::read_pairs;
 use t1_run::Meter;
-use t1_source::{read_pairs, read_source};
+use t1_source::read_source;
 
 /// Reads a source and a kerning file, and writes the AFM file of the font: the whole file at `Ok`, a beginning of it at
 /// `Write`. `Load` has the first fault: of reading the source, of the pairs, of the bodies, F23, or of a glyph, in

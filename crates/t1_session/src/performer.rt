@@ -16,12 +16,24 @@ impl Model for Performer {
     ghost view = { λ performer. performer.session.state };
 }
 
-ghost use Rattle.std.specs.Prelude.{◌≡◌, IfOk, OnOk, OnErr, true};
-ghost use Rattle.t1_session.specs.Machine.{perform, may_want_memory, after_want};
+ghost use Rattle.std.specs.Prelude.{◌≡◌};
+ghost use Rattle.t1_session.specs.Answering.{Reports};
+ghost use Rattle.t1_session.specs.Conversation.{IsPerformed};
 
-use crate::answer::{Answer, answer_of};
+use crate::answer::{answer_of, put_answer};
 use crate::command::Command;
-use std::alloc::AllocError;
+use std::io::Write;
+use t1_code::{Counted, OutError};
+use t1_source::Cause;
+
+/// Writes what is answered to a command that was performed, or refused; nothing where memory ran out.
+fn report<W: Write>(performed: Result<(), Cause>, out: &mut Counted<W>) -> Result<(), OutError>
+    ensures { Reports W.contents out.old out.new performed result }
+{
+    let answer = answer_of(performed)?;
+    put_answer(out, &answer)?;
+    Ok(())
+}
 
 impl Performer {
     pub fn of(session: Session) -> Performer
@@ -30,21 +42,22 @@ impl Performer {
         Performer { session }
     }
 
-    /// Performs a command. Where memory runs out the session is as before, but for the batch of a commit.
-    #[tactic(auto, unfolding(crate::specs::Machine::perform))]
-    pub fn perform(&mut self, command: Command) -> Result<Answer, AllocError>
-        ensures answer { IfOk result (λ answer. answer ≡ (perform self.old command).answer) }
-        ensures next { OnOk result (self.new ≡ (perform self.old command).next) }
-        ensures want { OnErr result (may_want_memory self.old command ≡ true) }
-        ensures err { OnErr result (self.new ≡ after_want self.old command) }
+    /// Performs a command, and writes its answer. Where memory runs out nothing is written, and the session is as before, but
+    /// for the batch of a commit.
+    pub fn perform<W: Write>(
+        &mut self,
+        command: Command,
+        out: &mut Counted<W>,
+    ) -> Result<(), OutError>
+        ensures { IsPerformed W.contents self.old self.new out.old out.new command result }
     {
         match command {
-            Command::Edit(edit) => answer_of(self.session.take(&edit)),
-            Command::Begin => answer_of(self.session.begin()),
-            Command::Commit => answer_of(self.session.commit()),
-            Command::Abort => answer_of(self.session.abort()),
-            Command::Print(print) => self.session.shown(print),
-            Command::Broken(rule) => Ok(Answer::Broken(rule)),
+            Command::Edit(edit) => report(self.session.apply(edit), out),
+            Command::Begin => report(self.session.begin(), out),
+            Command::Commit => report(self.session.commit(), out),
+            Command::Abort => report(self.session.abort(), out),
+            Command::Print(print) => self.session.put_print(print, out),
+            Command::Broken(rule) => report(Err(Cause::Rule(rule)), out),
         }
     }
 }

@@ -12,7 +12,8 @@ use std::alloc::Global;
 use std::io::{Read, Write};
 use t1_code::Counted;
 use t1_frac::Refusal;
-use t1_source::{read_pairs, read_source};
+use t1_pairs::read_pairs;
+use t1_source::read_source;
 
 /// The session of the bytes of a source and of a kerning file, or the first fault: of reading the source, of the pairs, of
 /// the source.

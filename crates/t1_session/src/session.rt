@@ -3,8 +3,9 @@ use std::alloc::Global;
 use std::marker::Model;
 use t1_batch::Batch;
 use t1_held::Held;
+use t1_pairs::Pairs;
 use t1_run::Meter;
-use t1_source::{Pairs, Source};
+use t1_source::Source;
 
 /// A font under edits: its source and its pairs, the batch that is open, what is held of its Subrs and glyphs, and the count
 /// of runs. The source has no fault, what is held is that of the source from scratch, and the batch's source is what its edits
@@ -36,10 +37,11 @@ ghost use Rattle.std.specs.Prelude.{◌≡◌, ◌≤◌, ◌-◌, ◌^◌, Ok, 
 ghost use Rattle.t1_frac.specs.Outcome.{Gives};
 ghost use Rattle.t1_source.specs.Changes.{changed, Serves};
 ghost use Rattle.t1_source.specs.Editing.{edited};
-ghost use Rattle.t1_source.specs.Kerning.{kern, pairs};
+ghost use Rattle.t1_pairs.specs.Kerning.{kern, pairs};
 ghost use Rattle.t1_parts.specs.Printing.{text};
 ghost use Rattle.t1_parts.specs.Reading.{reads};
 ghost use Rattle.t1_code.specs.Parts.{Prints};
+ghost use Rattle.t1_font.specs.Assembly.{source_file};
 ghost use Rattle.t1_font.specs.Glyphs.{glyph_names};
 ghost use Rattle.t1_font.specs.Runs.{counted};
 ghost use Rattle.t1_font.specs.SourceChecks.{measured_source, source_check};
@@ -51,24 +53,27 @@ ghost use Rattle.t1_session.specs.declared.print.Print.TheVariants as prints;
 ghost use Rattle.t1_session.specs.FromScratch.{blocks_from_scratch, pfa_from_scratch, pfb_from_scratch, metrics_from_scratch, uses_from_scratch};
 ghost use Rattle.t1_session.specs.Blocks.{block_size};
 ghost use Rattle.t1_session.specs.declared.answer.Answer.TheVariants.{Data};
-ghost use Rattle.t1_session.specs.Machine.{blocks_answer, opened, judged, printed};
+ghost use Rattle.t1_session.specs.AnswerTexts.{answer_text};
+ghost use Rattle.t1_session.specs.Machine.{blocks_answer, file_answer, opened, judged, printed};
 ghost use Rattle.t1_session.specs.Outcomes.{Takes, TakesOrReturns, Took, refused_source};
 ghost use Rattle.t1_session.specs.Reruns.{edition, AreKept, Reruns, RerunsOrReturns};
 
-use crate::answer::{Answer, file_answer, text_answer};
+use crate::answer::{Answer, put_answer};
+use crate::data::{PfaData, PfbData};
 use crate::numbers::block_size;
 use crate::print::{Print, put_text};
 use std::alloc::AllocError;
 use std::io::Write;
 use t1_batch::EditedEntry;
-use t1_code::{Counted, OutError, WHOLE_PARTS};
+use t1_code::{Counted, OutError, Pfa, Pfb, WHOLE_PARTS};
 use t1_font::{MeasuredGlyphs, afm_of_source, usage_text, write_source_afm};
-use t1_frac::Refusal;
+use t1_frac::{Bytes, Refusal};
 use t1_held::{
-    held_metrics, held_of, held_pfa, held_pfb, prepare_commit, prepare_edit, settle_commit,
-    settle_edit, write_held_pfa, write_held_pfb,
+    held_metrics, held_of, prepare_commit, prepare_edit, settle_commit, settle_edit,
+    write_held_file,
 };
-use t1_source::laws::{text_of_pairs_read, text_of_source_read};
+use t1_pairs::laws::text_of_pairs_read;
+use t1_source::laws::text_of_source_read;
 use t1_source::{Cause, Change, Edit, Rule};
 
 /// Why an edit is refused whose source is refused.
@@ -286,7 +291,8 @@ impl Session {
         ensures { Prints W.contents out.old out.new (pfb_from_scratch self.now.state) result }
     {
         self.reads_back();
-        write_held_pfb(self.alloc, &self.held, &self.source, WHOLE_PARTS, out)
+        let form = Pfb::in_blocks(WHOLE_PARTS);
+        write_held_file(self.alloc, &self.held, &self.source, &form, out)
     }
 
     /// Writes the PFB file in segments of so many bytes, the last of a part with the rest: that of the printed source from
@@ -302,7 +308,8 @@ impl Session {
         ensures { Prints W.contents out.old out.new (blocks_from_scratch size self.now.state) result }
     {
         self.reads_back();
-        write_held_pfb(self.alloc, &self.held, &self.source, size, out)
+        let form = Pfb::in_blocks(size);
+        write_held_file(self.alloc, &self.held, &self.source, &form, out)
     }
 
     /// Writes the PFA file: that of the printed source from scratch.
@@ -311,7 +318,7 @@ impl Session {
         ensures { Prints W.contents out.old out.new (pfa_from_scratch self.now.state) result }
     {
         self.reads_back();
-        write_held_pfa(self.alloc, &self.held, &self.source, out)
+        write_held_file(self.alloc, &self.held, &self.source, &Pfa, out)
     }
 
     /// Writes the AFM file: that of the printed source and pairs from scratch.
@@ -350,45 +357,74 @@ impl Session {
         put_text(&text, out)
     }
 
-    /// What a print in segments of so many bytes is answered.
-    fn shown_blocks(&self, number: i64) -> Result<Answer, AllocError>
-        ensures { IfOk result (λ answer. answer ≡ blocks_answer self.now.state.source (block_size number)) }
+    /// Writes the PFB file as the data of an answer. No file is made in memory.
+    fn put_pfb<W: Write>(&self, size: usize, out: &mut Counted<W>) -> Result<(), OutError>
+        requires some { 1 ≤ size }
+        requires short { size ≤ 2 ^ 31 - 1 }
+        ensures { Prints W.contents out.old out.new (Ok (answer_text (file_answer (source_file size self.now.state.source)))) result }
+    {
+        let form = PfbData::in_blocks(size);
+        write_held_file(self.alloc, &self.held, &self.source, &form, out)
+    }
+
+    /// Writes what a print in segments of so many bytes is answered.
+    fn put_blocks<W: Write>(&self, number: i64, out: &mut Counted<W>) -> Result<(), OutError>
+        ensures { Prints W.contents out.old out.new (Ok (answer_text (blocks_answer self.now.state.source (block_size number)))) result }
     {
         match block_size(number) {
-            Some(size) => file_answer(held_pfb(self.alloc, &self.held, &self.source, size)),
-            None => Ok(Answer::Broken(Rule::E4)),
+            Some(size) => self.put_pfb(size, out),
+            None => Ok(put_answer(out, &Answer::Broken(Rule::E4))?),
         }
     }
 
-    /// What a print of the AFM file is answered.
-    fn shown_metrics(&self) -> Result<Answer, AllocError>
-        ensures { IfOk result (λ answer. answer ≡ printed self.now.state prints.Afm) }
+    /// Writes the PFA file as the data of an answer. No file is made in memory.
+    fn put_pfa<W: Write>(&self, out: &mut Counted<W>) -> Result<(), OutError>
+        ensures { Prints W.contents out.old out.new (Ok (answer_text (printed self.now.state prints.Pfa))) result }
     {
-        let glyphs = self.glyphs()?;
-        text_answer(afm_of_source(self.alloc, &self.source, &self.pairs, &glyphs))
+        write_held_file(self.alloc, &self.held, &self.source, &PfaData, out)
     }
 
-    /// What a print of the usage table is answered.
+    /// The AFM file.
+    fn metrics_text(&self) -> Result<Vec<u8>, AllocError>
+        ensures { IfOk result (λ text. printed self.now.state prints.Afm ≡ Data text.items) }
+    {
+        let glyphs = self.glyphs()?;
+        afm_of_source(self.alloc, &self.source, &self.pairs, &glyphs)
+    }
+
+    /// The usage table.
     #[tactic(auto, using(crate::proofs::StateLaws::usage_is))]
-    fn shown_uses(&self) -> Result<Answer, AllocError>
-        ensures { IfOk result (λ answer. answer ≡ printed self.now.state prints.Uses) }
+    fn uses_text(&self) -> Result<Vec<u8>, AllocError>
+        ensures { IfOk result (λ text. printed self.now.state prints.Uses ≡ Data text.items) }
     {
         let glyphs = self.glyphs()?;
-        text_answer(usage_text(self.alloc, glyphs.metrics()))
+        usage_text(self.alloc, glyphs.metrics())
     }
 
-    /// What a print is answered. The whole text is there before any of it is written.
-    pub(crate) fn shown(&self, print: Print) -> Result<Answer, AllocError>
-        ensures { IfOk result (λ answer. answer ≡ printed self.now.state print) }
+    /// Writes what a print is answered. All that takes memory is there before any of it is written.
+    pub(crate) fn put_print<W: Write>(
+        &self,
+        print: Print,
+        out: &mut Counted<W>,
+    ) -> Result<(), OutError>
+        ensures { Prints W.contents out.old out.new (Ok (answer_text (printed self.now.state print))) result }
     {
         match print {
-            Print::Source => text_answer(self.source.text()),
-            Print::Kern => text_answer(self.pairs.text()),
-            Print::Pfb => file_answer(held_pfb(self.alloc, &self.held, &self.source, WHOLE_PARTS)),
-            Print::Blocks(number) => self.shown_blocks(number),
-            Print::Pfa => file_answer(held_pfa(self.alloc, &self.held, &self.source)),
-            Print::Afm => self.shown_metrics(),
-            Print::Uses => self.shown_uses(),
+            Print::Source => put_data(self.source.text()?, out),
+            Print::Kern => put_data(self.pairs.text()?, out),
+            Print::Pfb => self.put_pfb(WHOLE_PARTS, out),
+            Print::Blocks(number) => self.put_blocks(number, out),
+            Print::Pfa => self.put_pfa(out),
+            Print::Afm => put_data(self.metrics_text()?, out),
+            Print::Uses => put_data(self.uses_text()?, out),
         }
     }
+}
+
+/// Writes a text as the data of an answer.
+fn put_data<W: Write>(text: Vec<u8>, out: &mut Counted<W>) -> Result<(), OutError>
+    ensures { Prints W.contents out.old out.new (Ok (answer_text (Data text.items))) result }
+{
+    put_answer(out, &Answer::Data(Bytes::new(text)))?;
+    Ok(())
 }

@@ -10,7 +10,7 @@ use Rattle.t1_source.specs.declared.edit.Rule.{Rule}
 use Rattle.t1_source.specs.declared.edit.Rule.TheVariants.{E1, E2, E10}
 use Rattle.t1_parts.specs.declared.item.Item.{Item}
 use Rattle.t1_parts.specs.declared.item.Item.TheVariants.{Plain, Subr, Glyph}
-use Rattle.t1_source.specs.declared.pairs.Pair.{Pair}
+use Rattle.t1_pairs.specs.declared.pairs.Pair.{Pair}
 use Rattle.t1_parts.specs.SourceParts.{SourceParts}
 use Rattle.t1_parts.specs.Entries.{is_subr, is_glyph}
 use Rattle.t1_parts.specs.Counts.{is_glyph_entry, glyphs_needed, raised}
@@ -18,7 +18,7 @@ use Rattle.t1_source.specs.Editing.{keeps, number_up_to, body_words, good_name, 
 use Rattle.std.specs.List.{filter}
 use Rattle.t1_source.specs.Leads.{line_with_lead, lead_line, says_lead, is_section_line, line_at, lead_put, items_with_lead}
 use Rattle.t1_source.specs.WellFormed.{IsWellFormed, is_counted}
-use Rattle.t1_source.proofs.PairsWellFormedLaws.{bind_ok}
+use Rattle.t1_pairs.proofs.OutcomeLaws.{bind_ok}
 use Rattle.t1_source.proofs.WellFormedBodyLaws.{all_take, all_drop}
 use Rattle.t1_source.proofs.WellFormedEditedLaws.{source_given, source_same, edited_well_formed}
 use Rattle.t1_source.proofs.CountedLaws.{raised_counted}

@@ -9,7 +9,8 @@ use Rattle.t1_parts.specs.SourceParts.{SourceParts}
 use Rattle.t1_source.specs.Editing.{edited, replaced_glyph, added_glyph, removed_glyph, replaced_subr, added_subr, removed_subr, encoded, unencoded, kerned, unkerned, array_parts, through_last, among_subrs_items, among_glyphs_items, is_slot, is_slot_of, lead_edited}
 use Rattle.t1_source.specs.Leads.{items_with_lead, line_with_lead}
 use Rattle.t1_parts.proofs.ReadingRows.{space_form}
-use Rattle.t1_source.proofs.PrintingRows.{array_form, kern_av}
+use Rattle.t1_pairs.proofs.KernRows.{kern_av}
+use Rattle.t1_source.proofs.PrintingRows.{array_form}
 
 abbrev pub space_glyph : Item
 space_glyph = Glyph (codes "space") (codes "0" ∷ codes "250" ∷ codes "hsbw" ∷ codes "endchar" ∷ []) (codes "ND")

@@ -1,12 +1,9 @@
--- Kerning files, header values, codes and printed forms of small sources.
-use Rattle.std.specs.Prelude.{◌≡◌, ℕ, pos, negsuc, List, [], ◌∷◌, ◌++◌, Some, None, Ok, Err, codes, take, refl, length}
+-- Header values, codes and printed forms of small sources.
+use Rattle.std.specs.Prelude.{◌≡◌, ℕ, List, [], ◌∷◌, ◌++◌, Some, None, Ok, codes, take, refl, length}
 use Rattle.std.proofs.Common.{ap, ◌∙◌}
 use Rattle.std.specs.Fmt.{digits}
-use Rattle.t1_frac.specs.declared.fault.Code.TheVariants.{F12, F13}
-use Rattle.t1_frac.specs.declared.fault.Place.TheVariants.{Line}
-use Rattle.t1_frac.specs.Outcome.{fault_at, ◌>>=◌}
+use Rattle.t1_frac.specs.Outcome.{◌>>=◌}
 use Rattle.t1_code.specs.Encoding.{standard_names, standard_name}
-use Rattle.t1_source.specs.declared.pairs.Pair.{Pair}
 use Rattle.t1_parts.specs.SourceParts.{SourceParts}
 use Rattle.t1_text.specs.Lines.{joined}
 use Rattle.t1_parts.specs.Encoding.{clear_check, opening_check, later_check}
@@ -14,37 +11,11 @@ use Rattle.t1_parts.specs.Entries.{subr_entry, glyph_entry}
 use Rattle.t1_parts.specs.Private.{item_at, line_item, private_items}
 use Rattle.t1_parts.specs.Parts.{parts_of, tail_of}
 use Rattle.t1_parts.specs.Reading.{reads, reads_lines, whole_check}
-use Rattle.t1_source.specs.Kerning.{line_pairs, pairs, kern}
 use Rattle.t1_parts.specs.Header.{header, header_among}
 use Rattle.t1_source.specs.Codes.{lowest_code, code_of}
 use Rattle.t1_parts.specs.Printing.{text}
 use Rattle.t1_parts.proofs.ReadingRows.{space_lines, space_form}
 use Rattle.t1_parts.proofs.DemoRows.{demo_lines, demo_form, demo_read}
-
-abbrev pub kern_av : Pair
-kern_av = record { left = codes "A"; right = codes "V"; value = negsuc 91 }
-
-pub fraction_kern : pairs (codes "KPX A V -9.5") ≡ Err (fault_at (Line 1) F12)
-unfolding pairs line_pairs
-fraction_kern = refl
-
-pub long_kern : pairs (joined (codes "x" ∷ codes "KPX A V 1 2" ∷ [])) ≡ Err (fault_at (Line 2) F12)
-unfolding pairs line_pairs
-long_kern = refl
-
-pub other_kern : pairs (codes "KP A V 1 2") ≡ Err (fault_at (Line 1) F13)
-unfolding pairs line_pairs
-other_kern = refl
-
--- the later line counts; the printed order is that of the names
-pub later_kern : pairs (joined (codes "KPX A V 7" ∷ codes "KPX A A 0" ∷ codes "Comment" ∷ codes " KPX A V -092 " ∷ []))
-    ≡ Ok (record { left = codes "A"; right = codes "A"; value = pos 0 } ∷ kern_av ∷ [])
-unfolding pairs line_pairs
-later_kern = refl
-
-pub kern_text : kern (kern_av ∷ []) ≡ joined (codes "KPX A V -92" ∷ [])
-unfolding digits
-kern_text = refl
 
 pub space_text : text space_form ≡ joined (space_lines ++ codes "cleartomark" ∷ [])
 unfolding digits

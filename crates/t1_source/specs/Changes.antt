@@ -6,9 +6,9 @@ use Rattle.t1_parts.specs.declared.item.Item.TheVariants.{Plain, Subr, Glyph}
 use Rattle.t1_parts.specs.SourceParts.{SourceParts}
 use Rattle.t1_source.specs.declared.editing.change.Change.{Change}
 use Rattle.t1_source.specs.declared.editing.change.Change.TheVariants.{PutItem, InsertItem, RemoveItem, PutClear, PutPair, InsertPair, RemovePair}
-use Rattle.t1_source.specs.declared.pairs.Pair.{Pair}
+use Rattle.t1_pairs.specs.declared.pairs.Pair.{Pair}
 use Rattle.t1_source.specs.Editing.{with_items, with_clear}
-use Rattle.t1_source.specs.Kerning.{are_pairs}
+use Rattle.t1_pairs.specs.Kerning.{are_pairs}
 use Rattle.t1_source.specs.WellFormed.{IsWellFormed}
 
 -- the source and the pairs after a change

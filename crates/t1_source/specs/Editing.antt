@@ -1,12 +1,11 @@
 -- Edits of a source and its kerning pairs.
-use Rattle.std.specs.Prelude.{◌≡◌, ℕ, Bool, true, false, not, ◌+◌, ◌-◌, ◌||◌, ◌&&◌, ◌==◌, nat_le, ℤ, pos, negsuc, if◌then◌else◌, Option, Some, None, Result, Ok, Err, ok_or, option_map, unwrap_or, List, [], ◌∷◌, ◌++◌, length, take, drop, reverse, filter, codes, flat_map, decimal}
+use Rattle.std.specs.Prelude.{◌≡◌, ℕ, Bool, true, false, not, ◌+◌, ◌-◌, ◌||◌, ◌==◌, nat_le, ℤ, pos, negsuc, if◌then◌else◌, Option, Some, None, Result, Ok, Err, ok_or, option_map, unwrap_or, List, [], ◌∷◌, ◌++◌, length, take, drop, reverse, filter, codes, flat_map, decimal}
 use Rattle.std.specs.List.{list_any, find, position, position_or_len, insert, remove, slice_set, slice_index_or}
-use Rattle.std.specs.Str.{bytes_eq}
 use Rattle.t1_frac.specs.Outcome.{◌>>=◌}
 use Rattle.t1_frac.specs.Words.{words}
 use Rattle.t1_parts.specs.declared.item.Item.{Item}
 use Rattle.t1_parts.specs.declared.item.Item.TheVariants.{Plain, Section, Subr, Glyph}
-use Rattle.t1_source.specs.declared.pairs.Pair.{Pair}
+use Rattle.t1_pairs.specs.declared.pairs.Pair.{Pair}
 use Rattle.t1_source.specs.declared.edit.Cause.{Cause}
 use Rattle.t1_source.specs.declared.edit.Cause.TheVariants as causes
 use Rattle.t1_source.specs.declared.edit.Edit.{Edit}
@@ -21,7 +20,7 @@ use Rattle.t1_parts.specs.Encoding.{opens_encoding, chooses_standard, array_line
 use Rattle.t1_parts.specs.Sections.{is_subrs_line, is_glyphs_line}
 use Rattle.t1_parts.specs.Entries.{has_brace, is_subr, is_glyph}
 use Rattle.t1_parts.specs.Counts.{is_glyph_entry, raised}
-use Rattle.t1_source.specs.Kerning.{is_kerning_value, put_pair}
+use Rattle.t1_pairs.specs.Kerning.{is_kerning_value, is_pair, put_pair}
 use Rattle.t1_source.specs.Leads.{items_with_lead}
 
 -- a rule that is broken where the test fails
@@ -212,10 +211,6 @@ kerned k left right v = do
   also ← good_name right
   value ← kerning_number v
   Ok (put_pair (record { left = left; right = right; value = value }) k)
-
--- whether a pair has these names
-abbrev pub is_pair : List ℕ → List ℕ → Pair → Bool
-is_pair left right p = bytes_eq left p.left && bytes_eq right p.right
 
 -- profile, edits: a pair taken out
 unfoldable pub unkerned : List Pair → List ℕ → List ℕ → Result (List Pair) Rule

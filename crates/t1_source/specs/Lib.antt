@@ -1,7 +1,5 @@
 pub mod Changes
 pub mod Codes
 pub mod Editing
-pub mod Kerning
 pub mod Leads
-pub mod Sorted
 pub mod WellFormed

@@ -19,10 +19,8 @@ ghost use Rattle.t1_source.specs.WellFormed.{IsWellFormed, is_counted};
 ghost use Rattle.t1_source.specs.declared.edit.Edit.{Edit};
 ghost use Rattle.t1_source.specs.declared.edit.Edit.TheVariants.{LenIv};
 ghost use Rattle.t1_source.specs.Editing.{edited, is_subr_entry};
-ghost use Rattle.t1_source.specs.declared.pairs.Pair.{Pair};
-ghost use Rattle.t1_source.specs.Kerning.{are_pairs, pairs, kern};
+ghost use Rattle.t1_pairs.specs.declared.pairs.Pair.{Pair};
 
-use crate::pairs::Pairs;
 use crate::source::Source;
 
 /// Lines that are joined are cut as they were.
@@ -110,18 +108,4 @@ pub fn text_of_source_read(source: &Source)
     ensures { list_all is_counted source.now.items ≡ true → reads (text source.now) ≡ Ok source.now }
 {
     let _items = source.kept_items();
-}
-
-/// Kerning pairs that are printed are read as they were.
-#[tactic(auto, using(crate::proofs::KernLaws::kern_again))]
-pub fn printed_pairs_read()
-    ensures { (ps : List Pair) → are_pairs ps ≡ true → pairs (kern ps) ≡ Ok ps }
-{}
-
-/// The text of some pairs is read as the pairs.
-#[tactic(auto, using(crate::proofs::KernLaws::kern_again))]
-pub fn text_of_pairs_read(kept: &Pairs)
-    ensures { pairs (kern kept.now) ≡ Ok kept.now }
-{
-    let _list = kept.list();
 }

@@ -3,6 +3,7 @@ use super::*;
 use std::alloc::Global;
 use std::test::Fail;
 use t1_frac::{Bytes, Words};
+use t1_pairs::{Pairs, read_pairs};
 
 const SMALL: &[u8] = b"%!
 /FullName (Demo (Roman\\)) readonly) def
@@ -191,48 +192,6 @@ fn names_codes_of_slots(rt: HostRuntime) -> Result<(), Fail> {
         source.names_by_code().split_at(64).1.split_at(4).0,
         [None, Some(b"space".as_slice()), Some(b"B".as_slice()), None].as_slice()
     );
-    Ok(())
-}
-
-#[test]
-fn reads_pairs(rt: HostRuntime) -> Result<(), Fail> {
-    let pairs = kerning(rt.alloc())?;
-    assert_eq!(rt;
-        pairs.text()?.as_slice(),
-        b"KPX A V -92\nKPX V A 7\n".as_slice()
-    );
-    Ok(())
-}
-
-#[test]
-fn copies_pairs(rt: HostRuntime) -> Result<(), Fail> {
-    let pairs = kerning(rt.alloc())?.copied()?;
-    assert_eq!(rt;
-        pairs.text()?.as_slice(),
-        b"KPX A V -92\nKPX V A 7\n".as_slice()
-    );
-    Ok(())
-}
-
-#[test]
-fn lists_pairs(rt: HostRuntime) -> Result<(), Fail> {
-    let pairs = kerning(rt.alloc())?;
-    let mut values = Vec::new(rt.alloc());
-    for pair in pairs.list() {
-        values.push(pair.value)?;
-    }
-    assert_eq!(rt; values.as_slice(), [-92, 7].as_slice());
-    Ok(())
-}
-
-#[test]
-fn copies_a_pair(rt: HostRuntime) -> Result<(), Fail> {
-    let pair = Pair {
-        left: Bytes::copied(rt.alloc(), b"A")?,
-        right: Bytes::copied(rt.alloc(), b"V")?,
-        value: -92,
-    };
-    assert_eq!(rt; pair.copied(rt.alloc())?.value, -92);
     Ok(())
 }
 

@@ -1,7 +1,7 @@
 //! Charstrings that are kept under a batch of edits.
 
 use super::*;
-use crate::files::{clear_text, trailer, write_pfb_parts};
+use crate::files::{clear_text, trailer, write_parts};
 use crate::lines::{lines_of, pieces_of};
 
 /// The font with a Subr after three edits: A is replaced, B is added, and space is removed.
@@ -77,7 +77,8 @@ fn pfb_with(alloc: Global, charstrings: &Charstrings, text: &str) -> Result<Vec<
     let clear = clear_text(alloc, source.clear())?;
     let trailer = trailer(alloc, source.tail())?;
     let mut out = Counted::new(Vec::new(alloc));
-    write_pfb_parts(&clear, &pieces, &trailer, WHOLE_PARTS, &mut out)?;
+    let form = Pfb::in_blocks(WHOLE_PARTS);
+    write_parts(&form, &clear, &pieces, &trailer, &mut out)?;
     Ok(out.into_inner())
 }
 

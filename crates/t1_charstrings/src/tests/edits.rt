@@ -3,7 +3,8 @@
 use super::*;
 use t1_font::checked_bodies;
 use t1_frac::Bytes;
-use t1_source::{Edit, read_pairs};
+use t1_pairs::read_pairs;
+use t1_source::Edit;
 
 /// The charstrings of a font and the length of its private text, brought from those before an edit to those after it.
 fn settled(alloc: Global, text: &str, edit: &Edit) -> Result<(Charstrings, usize), Fail> {

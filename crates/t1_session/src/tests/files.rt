@@ -1,7 +1,8 @@
 //! Assembled files and an edit of lenIV, with memory that doesn't run out. Their bytes are those of docs/PFB.md and of
 //! t1asm.
 use super::*;
-use t1_source::{Cause, Edit, Rule, read_pairs, read_source};
+use t1_pairs::read_pairs;
+use t1_source::{Cause, Edit, Rule, read_source};
 
 /// The encrypted part of the font in hexadecimal.
 const DIGITS: &[u8] = b"d9d66f6370eee3ab068e8c1efa81b201c643594025b5e986d74368bdfaaab61a

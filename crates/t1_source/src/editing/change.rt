@@ -1,7 +1,7 @@
 //! What an edit changes, made before anything is changed.
 
-use crate::pairs::Pair;
 use t1_frac::Bytes;
+use t1_pairs::Pair;
 use t1_parts::Item;
 
 /// What an edit changes of a source or of its pairs.

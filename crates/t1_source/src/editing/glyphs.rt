@@ -6,7 +6,7 @@ ghost use Rattle.t1_parts.specs.Counts.{is_glyph_entry};
 ghost use Rattle.t1_parts.specs.Entries.{is_glyph};
 ghost use Rattle.t1_source.specs.Changes.{changed, Fits};
 ghost use Rattle.t1_source.specs.Editing.{Edits, added_glyph, among_glyphs_items, beside_pairs, closing_among, removed_glyph, replaced_glyph, through_last};
-ghost use Rattle.t1_source.specs.declared.pairs.Pair.{Pair};
+ghost use Rattle.t1_pairs.specs.declared.pairs.Pair.{Pair};
 
 use crate::edit::{Cause, Rule};
 use crate::editing::change::Change;

@@ -6,7 +6,7 @@ ghost use Rattle.t1_text.specs.Tokens.{places_from};
 ghost use Rattle.t1_source.specs.Changes.{changed, Fits};
 ghost use Rattle.t1_source.specs.Editing.{Edits, beside_pairs, lead_edited};
 ghost use Rattle.t1_source.specs.Leads.{first_place, is_section_line, lead_line, line_at, line_of, line_with_lead, place_after, says_lead};
-ghost use Rattle.t1_source.specs.declared.pairs.Pair.{Pair};
+ghost use Rattle.t1_pairs.specs.declared.pairs.Pair.{Pair};
 
 use crate::edit::Cause;
 use crate::editing::change::Change;

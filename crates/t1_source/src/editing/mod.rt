@@ -19,11 +19,11 @@ use crate::editing::kerning::{kerning_pair, unkerning_pair};
 use crate::editing::leads::putting_lead;
 use crate::editing::slots::{encoding_code, unencoding_code};
 use crate::editing::subrs::{adding_subr, removing_subr, replacing_subr};
-use crate::pairs::Pairs;
 use crate::source::Source;
 pub use change::Change;
 pub use rules::body_words;
 use std::alloc::AllocError;
+use t1_pairs::Pairs;
 
 impl Source {
     /// What an edit changes, or the first rule that it breaks.

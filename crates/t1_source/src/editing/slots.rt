@@ -4,7 +4,7 @@ ghost use Rattle.std.specs.Prelude.{◌≡◌, ◌≤◌, List, length, Ok, Err,
 ghost use Rattle.std.specs.List.{list_any};
 ghost use Rattle.t1_source.specs.Changes.{changed, Fits};
 ghost use Rattle.t1_source.specs.Editing.{Edits, array_parts, beside_pairs, is_slot, is_slot_of, through_last, slot_line, encoded_lines, encoded, unencoded};
-ghost use Rattle.t1_source.specs.declared.pairs.Pair.{Pair};
+ghost use Rattle.t1_pairs.specs.declared.pairs.Pair.{Pair};
 
 use crate::edit::{Cause, Rule};
 use crate::editing::change::Change;

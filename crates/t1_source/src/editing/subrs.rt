@@ -6,7 +6,7 @@ ghost use Rattle.t1_parts.specs.Entries.{is_subr};
 ghost use Rattle.t1_parts.specs.Sections.{is_subrs_line};
 ghost use Rattle.t1_source.specs.Changes.{changed, Fits};
 ghost use Rattle.t1_source.specs.Editing.{Edits, added_subr, among_subrs_items, beside_pairs, closing_among, has_section, is_subr_entry, removed_subr, replaced_subr, through_last};
-ghost use Rattle.t1_source.specs.declared.pairs.Pair.{Pair};
+ghost use Rattle.t1_pairs.specs.declared.pairs.Pair.{Pair};
 
 use crate::edit::{Cause, Rule};
 use crate::editing::change::Change;

@@ -1,6 +1,5 @@
-use Rattle.std.proofs.Common.{arith, ◌+◌, ap, ◌∙◌, ◌≡◌}
+use Rattle.std.proofs.Common.{arith, ◌+◌, ap, ◌∙◌}
 use Rattle.std.specs.Int.{int_min, int_max}
-use Rattle.t1_afm.specs.Differences.{sum_at}
 use Rattle.t1_afm.proofs.Longs.{read, read_small}
 use Rattle.t1_afm.proofs.Spans.{Spans-all}
 use Rattle.t1_afm.proofs.Sampling.{cubic, values_read, sampling-start, sampling-next, sampling-read, small_read, summing-start, summing-next, summing-read, summed, sums_read}

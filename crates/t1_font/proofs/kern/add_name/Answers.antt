@@ -1,5 +1,4 @@
-use Rattle.std.proofs.Common.{◌∙◌, ap, ◌||◌}
-use Rattle.std.specs.Str.{bytes_eq}
+use Rattle.std.proofs.Common.{◌∙◌, ap}
 use Rattle.t1_font.specs.Names.{has_name}
 use Rattle.t1_font.proofs.Naming.{name-inserted}
 use Rattle.t1_font.proofs.kern.add_name.Goals as goal
@@ -7,6 +6,4 @@ use Rattle.t1_font.proofs.kern.add_name.Goals as goal
 pub returns : goal.returns
 returns c = λ g.
     let old = c.args.names.now.keys in
-    let key = c.in_ok-from_slice.field-0 in
-    ap (λ keys. has_name keys g) c.in_ok-insert.ensures.keys ∙ name-inserted (λ k. k.items) g key old
-    ∙ ap (λ bytes. has_name old g || bytes_eq g bytes) c.in_ok-from_slice.ensures.items
+    ap (λ keys. has_name keys g) c.in_ok-insert.ensures.keys ∙ name-inserted (λ k. k.now) g c.args.name old

@@ -8,7 +8,7 @@ use Rattle.t1_rerun.proofs.measured.kept_glyphs.Goals as goal
 
 pub returns-in_err-metrics_of_run : goal.returns-in_err-metrics_of_run
 returns-in_err-metrics_of_run c =
-    let p = err_from_is_err_and c.from_residual.result c.from_residual.ensures.1 in
+    let p = err_from_is_err_and c.from_residual-in_err-metrics_of_run.result c.from_residual-in_err-metrics_of_run.ensures.1 in
     let kept = c.in-Some.record.now in
     rw (p.1, p.2)
     (telling-refused c.args.records.now.glyphs.entries c.loop-at.at c.loop-at.metrics.items (c.in-Some.name.now, kept) c.in_err-metrics_of_run.field-0.0 (sym c.in-Some.ensures.entry)

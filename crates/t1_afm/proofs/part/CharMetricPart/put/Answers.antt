@@ -3,8 +3,8 @@ use Rattle.t1_afm.proofs.part.CharMetricPart.put.Goals as goal
 
 pub returns-else-self-eq0-clause-ok : goal.returns-else-self-eq0-clause-ok
 returns-else-self-eq0-clause-ok g c =
-    rw (width_both c.args.self.now.wx c.args.self.now.wy c.if-self-eq0.false) (rw c.words_of_both.ensures at c.put_line-else-self-eq0.ensures.ok)
+    rw (width_both c.args.self.now.wx c.args.self.now.wy c.if-self-eq0.false) (rw c.words_of_both.ensures at c.put_line.ensures.ok)
 
 pub returns-else-self-eq0-clause-err : goal.returns-else-self-eq0-clause-err
 returns-else-self-eq0-clause-err g c =
-    rw (width_both c.args.self.now.wx c.args.self.now.wy c.if-self-eq0.false) (rw c.words_of_both.ensures at c.put_line-else-self-eq0.ensures.err)
+    rw (width_both c.args.self.now.wx c.args.self.now.wy c.if-self-eq0.false) (rw c.words_of_both.ensures at c.put_line.ensures.err)

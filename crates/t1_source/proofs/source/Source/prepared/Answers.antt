@@ -1,7 +1,7 @@
 use Rattle.std.proofs.Common.{◌≡◌, ◌∙◌, true, ap, sym, Ok, rules}
 use Rattle.t1_source.specs.Changes.{changed}
 use Rattle.t1_source.specs.Editing.{edited}
-use Rattle.t1_source.specs.Kerning.{are_pairs}
+use Rattle.t1_pairs.specs.Kerning.{are_pairs}
 use Rattle.t1_source.proofs.WellFormedEditedLaws.{edited_well_formed, edited_pairs}
 use Rattle.t1_source.proofs.source.Source.prepared.Goals as goal
 

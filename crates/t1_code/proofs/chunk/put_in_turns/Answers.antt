@@ -1,0 +1,18 @@
+use Rattle.std.proofs.Common.{◌≡◌, ◌++◌, [], sym}
+use Rattle.std.proofs.lemmas.List.{take-append-drop}
+use Rattle.t1_code.specs.Counted.{outlet}
+use Rattle.t1_code.proofs.Writing.{passing, Written-fails, Written-kept, at_error}
+use Rattle.t1_code.proofs.chunk.put_in_turns.Goals as goal
+
+pub loop-rest-preserved : goal.loop-rest-preserved
+loop-rest-preserved g c =
+    let front = c.split_at.result.0.now in
+    let after = c.split_at.result.1.now in
+    let parts : c.loop-rest.rest.now ≡ front ++ after = rw (c.split_at.ensures.front, c.split_at.ensures.back) (sym (take-append-drop c.min.result c.loop-rest.rest.now)) in
+    Written-kept g.W.Write.contents (outlet c.args.out.now c.args.chunk.now) (outlet c.loop-rest.out c.loop-rest.chunk) c.make_room.new.out c.make_room.new.self c.keep.new.self
+    c.args.bytes.now c.loop-rest.rest.now front after c.loop-rest.invariant parts c.in_ok-make_room.ensures.text c.keep.ensures
+
+pub returns-in_err-make_room-clause-err : goal.returns-in_err-make_room-clause-err
+returns-in_err-make_room-clause-err g c =
+    at_error c.from_residual.result (Written-fails (passing g.W.Write.contents) (outlet c.args.out.now c.args.chunk.now) (outlet c.loop-rest.out c.loop-rest.chunk) (outlet c.make_room.new.out c.make_room.new.self)
+    c.args.bytes.now [] c.loop-rest.rest.now c.loop-rest.invariant c.in_err-make_room.ensures.text)

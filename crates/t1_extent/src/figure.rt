@@ -1,0 +1,105 @@
+//! Outlines whose coordinates are all whole.
+
+ghost use Rattle.std.specs.Prelude.{◌^◌};
+ghost use Rattle.t1_run.specs.Composite.{IsPoint};
+ghost use Rattle.t1_extent.specs.Exacts.{AreFine};
+ghost use Rattle.t1_extent.specs.Extremes.{IsWhole};
+
+use crate::corners::corners_extent;
+use crate::distance::Distance;
+use crate::drawn::drawn_extent;
+use crate::extent::Extent;
+use crate::reached::{Drawn, Reached};
+use crate::turns::point_through;
+use t1_frac::Code;
+use t1_run::{Point, Segment};
+
+/// An outline whose coordinates are all whole: where it starts, and how far its drawn points and all its points reach.
+#[derive(Clone, Copy, Debug)]
+pub struct Figure {
+    start: Point,
+    drawn: Extent,
+    corners: Extent,
+    ghost place: { IsPoint start },
+    ghost whole: { IsWhole start },
+    ghost drawn_fine: { AreFine (2 ^ 20) drawn },
+    ghost corners_fine: { AreFine 1 corners },
+}
+
+impl Figure {
+    ghost use Rattle.std.specs.Prelude.{◌≡◌, List, All, IfSome, IsOk};
+    ghost use Rattle.t1_run.specs.declared.outline.Segment.{Segment};
+    ghost use Rattle.t1_run.specs.Composite.{IsWithin};
+    ghost use Rattle.t1_extent.specs.Extremes.{IsWholeSegment};
+    ghost use Rattle.t1_extent.specs.Figures.{first_point as first_point_of, IsFigureOf, IsWholeFigure};
+    ghost use Rattle.t1_extent.specs.Laws.{IsDistance};
+    ghost use Rattle.t1_extent.specs.Reached.{IsReach, TellsAtOnce};
+    ghost use Rattle.t1_extent.specs.Turns.{in_turn, through as through_of};
+
+    /// The first point of an outline.
+    fn first_point(segments: &[Segment]) -> Option<Point>
+        requires within { All IsWithin segments.now }
+        requires whole { All IsWholeSegment segments.now }
+        ensures value { result ≡ first_point_of segments.now }
+        ensures place { IfSome result IsPoint }
+        ensures whole { IfSome result IsWhole }
+    {
+        match segments.first() {
+            None => None,
+            Some(Segment::Line(start, _)) => Some(*start),
+            Some(Segment::Curve(start, _, _, _)) => Some(*start),
+        }
+    }
+
+    /// The figure of an outline whose coordinates are whole, where it draws.
+    pub fn of(segments: &[Segment]) -> Option<Figure>
+        requires within { All IsWithin segments.now }
+        requires whole { All IsWholeSegment segments.now }
+        ensures { IsFigureOf result segments.now }
+    {
+        let start = Figure::first_point(segments)?;
+        let drawn = drawn_extent(segments)?;
+        let corners = corners_extent(segments)?;
+        Some(Figure {
+            start,
+            drawn,
+            corners,
+        })
+    }
+
+    /// How far an outline reaches whose coordinates are whole.
+    pub fn reach(figure: Option<Figure>) -> Reached
+        ensures { (outline : List Segment) → IsWholeFigure figure outline → IsReach result outline }
+    {
+        match figure {
+            None => Reached::nothing(),
+            Some(figure) => Reached {
+                drawn: Drawn::Whole(Some(figure.drawn)),
+                corners: Some(figure.corners),
+            },
+        }
+    }
+
+    /// How far such an outline reaches, moved by the moves in turn and then by the last. Without the last it isn't refused.
+    pub(crate) fn through(
+        figure: Option<Figure>,
+        moves: &[Point],
+        last: &Point,
+    ) -> Result<Reached, Code>
+        requires moves { All IsDistance moves.now }
+        requires last { IsDistance last.now }
+        ensures { (outline : List Segment) → IsWholeFigure figure outline → IsOk (in_turn moves.now outline) → TellsAtOnce result (through_of moves.now last.now outline) }
+    {
+        let Some(figure) = figure else {
+            return Ok(Reached::nothing());
+        };
+        let place = point_through(&figure.start, moves, last)?;
+        let by = Distance::between(&figure.start, &place);
+        let corners = figure.corners.displaced(&by)?;
+        let drawn = figure.drawn.displaced(&by)?;
+        Ok(Reached {
+            drawn: Drawn::Mixed(Some(drawn.rounded())),
+            corners: Some(corners),
+        })
+    }
+}

@@ -1,0 +1,142 @@
+//! How far the outlines of glyphs reach whose runs are kept.
+
+ghost use Rattle.std.specs.Prelude.{◌≡◌, All, Ok, IsOk};
+ghost use Rattle.t1_frac.specs.Outcome.{Gives, told_at};
+ghost use Rattle.t1_frac.specs.declared.fault.Place.TheVariants.{Nowhere};
+ghost use Rattle.t1_run.specs.Composite.{outline_within};
+ghost use Rattle.t1_extent.specs.Extremes.{is_whole as is_whole_of};
+ghost use Rattle.t1_extent.specs.Laws.{IsDistance};
+ghost use Rattle.t1_extent.specs.Reached.{Tells, TellsAtOnce};
+ghost use Rattle.t1_extent.specs.Turns.{in_turn, through, given_in_turn, given_through, given_moved, given_box};
+
+use crate::figure::Figure;
+use crate::kept_run::{KeptRun, Trace};
+use crate::kept_runs::KeptRuns;
+use crate::moves::{Move, move_of_accent, with_first};
+use crate::reached::Reached;
+use crate::turns::segments_through;
+use std::alloc::Global;
+use t1_afm::BBox;
+use t1_frac::{Code, Refusal};
+use t1_run::Point;
+
+/// How far what a glyph itself draws reaches, moved by the moves in turn and then by the last.
+fn own_through(run: &KeptRun, moves: &[Point], last: &Point) -> Result<Reached, Code>
+    requires moves { All IsDistance moves.now }
+    requires last { IsDistance last.now }
+    requires passed { IsOk (in_turn moves.now run.now.drawing.segments) }
+    ensures { TellsAtOnce result (through moves.now last.now run.now.drawing.segments) }
+{
+    match run.trace() {
+        Trace::Whole(figure) => Figure::through(figure, moves, last),
+        Trace::Segments(segments) => segments_through(segments, moves, last),
+    }
+}
+
+/// How far the outline of a glyph reaches, in which composites nest so deep, moved by the moves in turn and then by the
+/// last. Without the last it isn't refused. No segments are joined.
+fn moved_reach<R: KeptRuns>(
+    alloc: Global,
+    runs: &R,
+    depth: u8,
+    name: &[u8],
+    moves: &[Point],
+    last: &Point,
+) -> Result<Reached, Refusal>
+    requires moves { All IsDistance moves.now }
+    requires last { IsDistance last.now }
+    requires passed { IsOk (given_in_turn moves.now (outline_within (R.drawn runs.now) depth name.now)) }
+    ensures { Tells result (given_through moves.now last.now (outline_within (R.drawn runs.now) depth name.now)) }
+{
+    let run = match runs.run_of(name) {
+        None => return Err(Refusal::from(Code::F45)),
+        Some(Err(code)) => return Err(Refusal::from(code)),
+        Some(Ok(run)) => run,
+    };
+    let Some(parts) = run.composite() else {
+        return Ok(own_through(run, moves, last)?);
+    };
+    if depth == 0 {
+        return Err(Refusal::from(Code::F46));
+    }
+    let accent_move = move_of_accent(&run.side_bearing(), parts)?;
+    let own = own_through(run, moves, last)?;
+    let base = moved_reach(alloc, runs, depth - 1, parts.base.as_slice(), moves, last)?;
+    let inner = with_first(alloc, accent_move.by, moves)?;
+    let accent = moved_reach(
+        alloc,
+        runs,
+        depth - 1,
+        parts.accent.as_slice(),
+        inner.as_slice(),
+        last,
+    )?;
+    Ok(own.united(&base).united(&accent))
+}
+
+/// How far an accent reaches, moved: by what is known of it where its move or its outline is whole, else by its parts.
+fn accent_reach<R: KeptRuns>(
+    alloc: Global,
+    runs: &R,
+    depth: u8,
+    name: &[u8],
+    accent: &Reached,
+    by: &Move,
+) -> Result<Reached, Refusal>
+    requires accent { Tells (Ok accent.now) (outline_within (R.drawn runs.now) depth name.now) }
+    requires distance { IsDistance by.now.by }
+    requires whole { by.now.is_whole ≡ is_whole_of by.now.by }
+    ensures { Tells result (given_moved by.now.by (outline_within (R.drawn runs.now) depth name.now)) }
+{
+    if by.is_whole || accent.is_whole() {
+        return Ok(accent.moved(&by.by)?);
+    }
+    moved_reach(alloc, runs, depth, name, &[], &by.by)
+}
+
+/// How far the outline of a glyph reaches, in which composites nest so deep.
+fn reach_at<R: KeptRuns>(
+    alloc: Global,
+    runs: &R,
+    depth: u8,
+    name: &[u8],
+) -> Result<Reached, Refusal>
+    ensures { Tells result (outline_within (R.drawn runs.now) depth name.now) }
+{
+    let run = match runs.run_of(name) {
+        None => return Err(Refusal::from(Code::F45)),
+        Some(Err(code)) => return Err(Refusal::from(code)),
+        Some(Ok(run)) => run,
+    };
+    let Some(parts) = run.composite() else {
+        return Ok(run.reached());
+    };
+    if depth == 0 {
+        return Err(Refusal::from(Code::F46));
+    }
+    let base = reach_at(alloc, runs, depth - 1, parts.base.as_slice())?;
+    let name = parts.accent.as_slice();
+    let accent = reach_at(alloc, runs, depth - 1, name)?;
+    let by = move_of_accent(&run.side_bearing(), parts)?;
+    let moved = accent_reach(alloc, runs, depth - 1, name, &accent, &by)?;
+    Ok(run.reached().united(&base).united(&moved))
+}
+
+/// How far the outline of a glyph reaches, whose composites nest four deep at most, or its first fault. No segments of
+/// its parts are joined.
+pub fn reach_of<R: KeptRuns>(alloc: Global, runs: &R, name: &[u8]) -> Result<Reached, Refusal>
+    ensures { Tells result (outline_within (R.drawn runs.now) 4 name.now) }
+{
+    reach_at(alloc, runs, 4, name)
+}
+
+/// The box of a glyph's outline, where it draws, or the outline's first fault.
+pub fn box_of<R: KeptRuns>(alloc: Global, runs: &R, name: &[u8]) -> Result<Option<BBox>, Refusal>
+    ensures { Gives
+        (λ bbox. bbox)
+        result
+        (told_at Nowhere (given_box (outline_within (R.drawn runs.now) 4 name.now))) }
+{
+    let reached = reach_of(alloc, runs, name)?;
+    Ok(reached.bbox())
+}

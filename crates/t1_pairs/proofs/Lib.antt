@@ -1,0 +1,7 @@
+pub mod KernLaws
+pub mod KernRows
+pub mod OutcomeLaws
+pub mod PairLaws
+pub mod PairsWellFormedLaws
+pub mod PutLaws
+pub mod SearchLaws

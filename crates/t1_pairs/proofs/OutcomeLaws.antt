@@ -1,0 +1,14 @@
+-- What stands behind an outcome that is no fault.
+use Rattle.std.proofs.Common.{◌≡◌, Result, Ok, Err, refl, ap}
+use Rattle.t1_frac.specs.declared.fault.Code.{Code}
+use Rattle.t1_frac.specs.declared.fault.Place.{Place}
+use Rattle.t1_frac.specs.Outcome.{told_at, ◌>>=◌}
+
+-- the step that gave what a step after it was given
+pub bind_ok : {E A B : Type 0} (r : Result A E) (f : A → Result B E) (b : B) → (r >>= f) ≡ Ok b → (a : A) × (r ≡ Ok a) × (f a ≡ Ok b)
+bind_ok (Ok a) f b e = (a, refl, e)
+bind_ok (Err x) f b e = cc
+
+pub told_ok : {X : Type 0} (place : Place) (r : Result X Code) (x : X) → told_at place r ≡ Ok x → r ≡ Ok x
+told_ok place (Ok y) x e = let same : y ≡ x = cc in ap Ok same
+told_ok place (Err c) x e = cc

@@ -1,0 +1,2 @@
+pub mod Kerning
+pub mod Sorted

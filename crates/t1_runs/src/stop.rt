@@ -1,0 +1,63 @@
+//! Why the program ends before its work is done.
+
+use std::alloc::{AllocError, AllocFailed};
+use std::io::{self, Write};
+use t1_frac::Refusal;
+
+/// Why the program ends before its work is done.
+#[derive(Clone, Copy, Debug, PartialEq, Eq)]
+pub enum Stop {
+    /// There isn't one argument.
+    Usage,
+    /// A read or a write failed.
+    Failed,
+    /// The source has a fault.
+    Fault,
+    /// A line of the script is no step.
+    NoStep,
+    Memory,
+}
+
+impl Stop {
+    fn line(self) -> &'static [u8] {
+        match self {
+            Stop::Usage => b"usage: t1_runs SOURCE < SCRIPT\n",
+            Stop::Failed => b"t1_runs: a read or a write failed\n",
+            Stop::Fault => b"t1_runs: the source has a fault\n",
+            Stop::NoStep => b"t1_runs: a line of the script is no step\n",
+            Stop::Memory => b"t1_runs: out of memory\n",
+        }
+    }
+}
+
+/// Writes why the program ends.
+pub fn report<W: Write>(stop: Stop, writer: &mut W) {
+    let _written = writer.write_all(stop.line());
+}
+
+impl From<io::Error> for Stop {
+    fn from(_error: io::Error) -> Stop {
+        Stop::Failed
+    }
+}
+
+impl From<AllocError> for Stop {
+    fn from(_error: AllocError) -> Stop {
+        Stop::Memory
+    }
+}
+
+impl<T: Drop> From<AllocFailed<T>> for Stop {
+    fn from(_error: AllocFailed<T>) -> Stop {
+        Stop::Memory
+    }
+}
+
+impl From<Refusal> for Stop {
+    fn from(refusal: Refusal) -> Stop {
+        match refusal {
+            Refusal::Fault(_) => Stop::Fault,
+            Refusal::Memory => Stop::Memory,
+        }
+    }
+}

@@ -1,0 +1,16 @@
+use Rattle.std.proofs.Common.{Ok, subst}
+use Rattle.t1_code.specs.Parts.{Prints}
+use Rattle.t1_session.specs.AnswerTexts.{answer_text}
+use Rattle.t1_session.specs.Machine.{printed}
+use Rattle.t1_session.specs.State.{State}
+use Rattle.t1_session.proofs.Reporting.{broken_performed, printed_performed}
+use Rattle.t1_session.proofs.performer.Performer.perform.Goals as goal
+
+pub returns-in-Print : goal.returns-in-Print
+returns-in-Print g c =
+    rw c.in-Print.is (printed_performed g.W.Write.contents c.args.self.now c.args.out.now c.put_print.new.out c.in-Print.print c.put_print.result
+    (subst (λ (s : State). Prints g.W.Write.contents c.args.out.now c.put_print.new.out (Ok (answer_text (printed s c.in-Print.print))) c.put_print.result) c.self.view_is c.put_print.ensures))
+
+pub returns-in-Broken : goal.returns-in-Broken
+returns-in-Broken g c =
+    rw c.in-Broken.is (broken_performed g.W.Write.contents c.args.self.now c.args.out.now c.report-in-Broken.new.out c.in-Broken.rule c.report-in-Broken.result c.report-in-Broken.ensures)

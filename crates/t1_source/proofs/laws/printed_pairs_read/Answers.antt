@@ -1,5 +1,0 @@
-use Rattle.t1_source.proofs.KernLaws.{kern_again}
-use Rattle.t1_source.proofs.laws.printed_pairs_read.Goals as goal
-
-pub returns : goal.returns
-returns c = λ ps h. kern_again ps h

@@ -1,7 +1,0 @@
-use Rattle.std.proofs.Common.{◌≡◌}
-use Rattle.t1_source.specs.Sorted.{pairs_of_entries}
-use Rattle.t1_source.proofs.pairs.Sorted.into_pairs.Given as goal
-
--- the pairs so far
-abbrev pub invariant-loop-left : goal.invariant-loop-left
-invariant-loop-left l = l.pairs.items ≡ pairs_of_entries l.yielded
