@@ -1,7 +1,6 @@
 //! Lines of a text: a key and its values, with a space between each two words.
 ghost use Rattle.std.specs.Prelude.{◌∷◌, OnOk, OnErr};
 ghost use Rattle.t1_code.specs.Counted.{Passes, Stops, outlet};
-ghost use Rattle.t1_code.specs.Parts.{bytes_of};
 ghost use Rattle.t1_afm.specs.Afm.{line_text, rest_text};
 ghost use Rattle.t1_afm.specs.Lines.{word_text, words_of};
 
@@ -53,19 +52,4 @@ pub(crate) fn put_line<W: Write>(
 {
     put_plain(out, chunk, key)?;
     put_rest(out, chunk, words)
-}
-
-/// Puts slices, one after another.
-pub(crate) fn put_slices<W: Write>(
-    out: &mut Counted<W>,
-    chunk: &mut Chunk,
-    slices: &[&[u8]],
-) -> io::Result<()>
-    ensures ok { OnOk result (Passes W.contents (outlet out.old chunk.old) (outlet out.new chunk.new) (bytes_of slices.now)) }
-    ensures err { OnErr result (Stops W.contents (outlet out.old chunk.old) (outlet out.new chunk.new) (bytes_of slices.now)) }
-{
-    for slice in slices {
-        put_plain(out, chunk, slice)?;
-    }
-    Ok(())
 }

@@ -7,12 +7,12 @@ ghost use Rattle.t1_afm.specs.Afm.{line_text, rest_text, lines_text, value_line,
 ghost use Rattle.t1_afm.specs.Lines.{words_of, value_of};
 
 use crate::bbox::BBox;
-use crate::line::{Word, put_line, put_slices};
+use crate::line::{Word, put_line};
 use crate::line_end::LineEnd;
 use crate::metrics::{CharMetric, CompositeMetric, KernPair};
 use itoa::Buffer;
 use std::io::{self, Write};
-use t1_code::{Chunk, Counted};
+use t1_code::{Chunk, Counted, put_slices};
 
 /// What stands in the file in lines of its own.
 pub(crate) trait Part {

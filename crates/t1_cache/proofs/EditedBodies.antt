@@ -22,7 +22,7 @@ use Rattle.t1_parts.specs.Counts.{glyphs_needed, is_glyph_entry, raised, subrs_n
 use Rattle.t1_parts.specs.Entries.{is_glyph, is_subr}
 use Rattle.t1_source.specs.Editing.{keeps, number_up_to, body_words, good_name, good_body, with_items, closing_at, closing_among, through_last, is_subr_entry, among_glyphs_items, among_subrs_items, has_section, replaced_glyph, added_glyph, removed_glyph, replaced_subr, added_subr, removed_subr, edited}
 use Rattle.t1_source.specs.WellFormed.{IsWellFormed, Stand, Stands}
-use Rattle.t1_pairs.proofs.OutcomeLaws.{bind_ok}
+use Rattle.t1_frac.proofs.OutcomeLaws.{bind_ok}
 use Rattle.t1_source.proofs.RuleLaws.{kept_ok}
 use Rattle.t1_source.proofs.WellFormedItemsLaws.{given_some}
 use Rattle.t1_source.proofs.WellFormedEditedLaws.{source_given}

@@ -16,7 +16,7 @@ use Rattle.t1_parts.specs.Entries.{is_glyph}
 use Rattle.t1_parts.specs.Sections.{is_glyphs_line}
 use Rattle.t1_source.specs.Editing.{keeps, body_words, good_name, good_body, with_items, closing_at, closing_among, through_last, among_glyphs_items, replaced_glyph, added_glyph, removed_glyph, edited}
 use Rattle.t1_source.specs.WellFormed.{IsWellFormed}
-use Rattle.t1_pairs.proofs.OutcomeLaws.{bind_ok}
+use Rattle.t1_frac.proofs.OutcomeLaws.{bind_ok}
 use Rattle.t1_source.proofs.WellFormedItemsLaws.{given_some}
 use Rattle.t1_source.proofs.WellFormedEditedLaws.{source_given}
 use Rattle.t1_source.proofs.ItemPlaceLaws.{insert_there, last_of, position_first, removed_there, set_there, through_place}

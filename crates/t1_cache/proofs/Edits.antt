@@ -15,7 +15,7 @@ use Rattle.t1_parts.specs.Counts.{is_glyph_entry, raised}
 use Rattle.t1_parts.specs.Entries.{is_subr, is_glyph}
 use Rattle.t1_source.specs.Editing.{keeps, number_up_to, body_words, good_name, good_body, with_items, with_clear, closing_at, closing_among, through_last, is_subr_entry, among_subrs_items, among_glyphs_items, has_section, replaced_glyph, added_glyph, removed_glyph, replaced_subr, added_subr, removed_subr, array_parts, encoded_lines, encoded, unencoded, lead_edited, is_slot_of, kerned, unkerned, edited}
 use Rattle.t1_source.specs.Leads.{line_with_lead, lead_line, says_lead, is_section_line, line_at, lead_put, items_with_lead}
-use Rattle.t1_pairs.proofs.OutcomeLaws.{bind_ok}
+use Rattle.t1_frac.proofs.OutcomeLaws.{bind_ok}
 use Rattle.t1_source.proofs.WellFormedItemsLaws.{given_some}
 use Rattle.t1_source.proofs.WellFormedEditedLaws.{source_given, source_same}
 use Rattle.t1_source.proofs.ItemPlaceLaws.{position_first, set_there, removed_there}

@@ -15,7 +15,7 @@ use indexmap::IndexSet;
 use std::alloc::{AllocError, Global};
 use t1_afm::BBox;
 use t1_code::Body;
-use t1_run::Run;
+use t1_extent::KeptRun;
 
 /// Puts another body into the record of a Subr, where it has one. It takes no memory and can't fail.
 pub fn put_subr(records: &mut Records, number: u16, body: Body)
@@ -69,7 +69,7 @@ pub fn insert_glyph(
     records: &mut Records,
     name: Vec<u8>,
     body: Body,
-    run: Run,
+    run: KeptRun,
     bbox: Option<BBox>,
 ) -> Result<(), AllocError>
     requires { body_at (record_bodies records.old) (Glyph name.items) ≡ None }

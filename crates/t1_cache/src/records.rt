@@ -6,8 +6,9 @@ ghost use Rattle.t1_code.specs.declared.command.Command.{Command};
 use indexmap::{IndexMap, IndexSet};
 use t1_afm::BBox;
 use t1_code::Body;
+use t1_extent::KeptRun;
 use t1_frac::Bytes;
-use t1_run::{Bodies, Run};
+use t1_run::Bodies;
 
 /// Names of glyphs, each once.
 pub type Names = IndexSet<Vec<u8>>;
@@ -23,7 +24,7 @@ pub struct SubrRecord {
 #[derive(Drop)]
 pub struct GlyphRecord {
     pub body: Body,
-    pub run: Run,
+    pub run: KeptRun,
     pub bbox: Option<BBox>,
     pub users: Names,
 }
@@ -69,14 +70,14 @@ pub enum Named {
 #[derive(Drop)]
 pub struct Rerun {
     pub name: Vec<u8>,
-    pub run: Run,
+    pub run: KeptRun,
     pub bbox: Option<BBox>,
 }
 
 /// The new run of a glyph, and the box of its outline where it draws.
 #[derive(Drop)]
 pub struct NewRun {
-    pub run: Run,
+    pub run: KeptRun,
     pub bbox: Option<BBox>,
 }
 

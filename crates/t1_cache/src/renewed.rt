@@ -9,16 +9,16 @@ use crate::records::{GlyphRecord, NewRuns, Rerun};
 use indexmap::IndexMap;
 use std::mem;
 use t1_afm::BBox;
-use t1_run::Run;
+use t1_extent::KeptRun;
 
 /// Puts a new run and box into the record of a glyph, and gives the old run back; `None` where there is no such record. It
 /// takes no memory and can't fail.
 pub fn renew(
     glyphs: &mut IndexMap<Vec<u8>, GlyphRecord>,
     name: &[u8],
-    run: Run,
+    run: KeptRun,
     bbox: Option<BBox>,
-) -> Option<Run>
+) -> Option<KeptRun>
     ensures records { map kept_of glyphs.new.entries ≡ with_run name.now run bbox (map kept_of glyphs.old.entries) }
     ensures users { (p : List ℕ) → glyph_users glyphs.new.entries p ≡ glyph_users glyphs.old.entries p }
     ensures bodies { (p : List ℕ) → glyph_body glyphs.new.entries p ≡ glyph_body glyphs.old.entries p }

@@ -10,9 +10,10 @@ ghost use Rattle.t1_cache.specs.Users.{has, has_pair, key_eq, key_of};
 
 use crate::records::{Named, Records};
 use std::alloc::{AllocError, Global};
+use t1_extent::KeptRun;
 use t1_font::Runs;
 use t1_frac::Bytes;
-use t1_run::{Composite, Run};
+use t1_run::Composite;
 
 /// Adds a Subr or a glyph, with a glyph that uses it.
 fn push_use(
@@ -62,7 +63,7 @@ fn push_parts(
 fn push_uses(
     alloc: Global,
     pairs: &mut Vec<(Named, Vec<u8>)>,
-    run: &Run,
+    run: &KeptRun,
     name: &[u8],
 ) -> Result<(), AllocError>
     ensures { OnOk result ((k : Key) (u : List ℕ) → has_pair pairs.new.items k u ≡ (has_pair pairs.old.items k u || (asks run.now.drawing.composite run.now.drawing.entered k && bytes_eq u name.now))) }
@@ -93,7 +94,7 @@ pub fn leaves_of(
 }
 
 /// The run of a glyph, where it is kept and has no fault.
-fn run_of<'a>(runs: &'a Runs, name: &[u8]) -> Option<&'a Run>
+fn run_of<'a>(runs: &'a Runs, name: &[u8]) -> Option<&'a KeptRun>
     ensures { (k : Key) → is_user k (option_map (λ run. Ok run.now.drawing) result) ≡ is_user k (kept_of runs.now name.now) }
 {
     match runs.get(name) {

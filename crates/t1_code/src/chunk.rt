@@ -1,6 +1,7 @@
 //! Bytes on their way to a writer, which is handed a chunk of them at a time.
 ghost use Rattle.std.specs.Prelude.{◌≡◌, ◌<◌, ◌≤◌, ◌+◌, [], ◌++◌, length, take, OnOk, OnErr};
 ghost use Rattle.t1_code.specs.Counted.{WritesAll, WritesFront, Passes, Puts, Stops, outlet};
+ghost use Rattle.t1_code.specs.Parts.{bytes_of};
 
 use crate::counted::{Counted, MAX_PUT};
 use std::io::{self, Write};
@@ -120,4 +121,19 @@ pub fn put_plain<W: Write>(out: &mut Counted<W>, chunk: &mut Chunk, bytes: &[u8]
         return Ok(());
     }
     put_in_turns(out, chunk, bytes)
+}
+
+/// Passes slices on, one after another, as `put_plain` does.
+pub fn put_slices<W: Write>(
+    out: &mut Counted<W>,
+    chunk: &mut Chunk,
+    slices: &[&[u8]],
+) -> io::Result<()>
+    ensures ok { OnOk result (Passes W.contents (outlet out.old chunk.old) (outlet out.new chunk.new) (bytes_of slices.now)) }
+    ensures err { OnErr result (Stops W.contents (outlet out.old chunk.old) (outlet out.new chunk.new) (bytes_of slices.now)) }
+{
+    for slice in slices {
+        put_plain(out, chunk, slice)?;
+    }
+    Ok(())
 }

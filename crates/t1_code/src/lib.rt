@@ -25,7 +25,7 @@ mod words;
 pub use assembly::{assemble, assemble_onto, encrypt_words};
 pub use body::Body;
 pub use charstring::{charstring_of, encrypted_charstring};
-pub use chunk::{Chunk, put_plain};
+pub use chunk::{Chunk, put_plain, put_slices};
 pub use cipher::encrypt;
 pub use command::Command;
 pub use counted::{Counted, MAX_PUT};

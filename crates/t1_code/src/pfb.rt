@@ -1,5 +1,5 @@
 //! The PFB file, written part by part.
-ghost use Rattle.std.specs.Prelude.{◌≡◌, ◌≢◌, Err, ◌-◌, ◌^◌, ◌<◌, ◌≤◌, length, OnOk, OnErr};
+ghost use Rattle.std.specs.Prelude.{◌≡◌, ◌≢◌, Err, ◌-◌, ◌^◌, ◌<◌, ◌≤◌, length};
 ghost use Rattle.t1_code.specs.Cipher.{eexec};
 ghost use Rattle.t1_code.specs.Counted.{Puts, Writes, outlet};
 ghost use Rattle.t1_code.specs.Parts.{private_text, file_of, Prints};

@@ -6,7 +6,6 @@ pub mod Laws
 pub mod MeasuredGlyphs
 pub mod Metrics
 pub mod Names
-pub mod Outlines
 pub mod Runs
 pub mod Slots
 pub mod SourceChecks

@@ -1,7 +1,6 @@
 -- Runs kept by the names of their glyphs.
 use Rattle.std.specs.Prelude.{◌≡◌, ◌≤◌, ℕ, zero, suc, ◌+◌, ◌-◌, ◌^◌, min, if◌then◌else◌, List, Option, None, Some, option_map, Result, Ok, Err}
 use Rattle.std.specs.List.{list_any}
-use Rattle.std.specs.Borrow.{Bor}
 use Rattle.std.specs.Map.{lookup}
 use Rattle.std.specs.Str.{bytes_eq}
 use Rattle.t1_frac.specs.declared.fault.Code.{Code}
@@ -13,11 +12,6 @@ use Rattle.t1_run.specs.Run.{FontBodies, Drawing, NumberedRun, own}
 abbrev pub drawing_kept : Result NumberedRun Code → Result Drawing Code
 drawing_kept (Ok run) = Ok run.drawing
 drawing_kept (Err code) = Err code
-
--- the same, of a run that is lent
-abbrev pub drawing_lent : Result (Bor NumberedRun) Code → Result Drawing Code
-drawing_lent (Ok run) = Ok run.now.drawing
-drawing_lent (Err code) = Err code
 
 -- profile: a glyph's name, and its run with its number among the runs, or its first fault
 abbrev pub Kept : Type 0

@@ -1,19 +1,17 @@
 //! What is measured of glyphs.
-ghost use Rattle.std.specs.Prelude.{◌≡◌, All, map, Ok, Err, IfOk, MatchResult};
+ghost use Rattle.std.specs.Prelude.{◌≡◌, map, Ok, Err, MatchResult};
 ghost use Rattle.t1_frac.specs.Outcome.{Gives, told_at};
 ghost use Rattle.t1_frac.specs.declared.fault.Place.TheVariants as places;
-ghost use Rattle.t1_run.specs.Composite.{IsWithin};
-ghost use Rattle.t1_afm.specs.Box.{drawn_box as box_drawn, united};
+ghost use Rattle.t1_afm.specs.Box.{united};
 ghost use Rattle.t1_font.specs.Glyphs.{placed_parts_of, run_there};
 ghost use Rattle.t1_font.specs.MeasuredGlyphs.{glyph_metrics_at, glyph_metrics_among, glyph_metrics_by};
 
-use crate::kept_runs::KeptRuns;
 use crate::numbers::SubrNumbers;
-use crate::outline::outline_of;
 use std::alloc::Global;
-use t1_afm::{BBox, bounding_box, unite};
+use t1_afm::{BBox, unite};
+use t1_extent::{KeptRun, KeptRuns, box_of};
 use t1_frac::{Bytes, Code, Fault, Place, Refusal};
-use t1_run::{Point, Run, Segment, accent_move};
+use t1_run::{Point, accent_move};
 
 /// The parts of a composite, and how far its accent is moved.
 #[derive(Debug, Drop)]
@@ -36,19 +34,8 @@ pub struct GlyphMetrics {
     pub bbox: Option<BBox>,
 }
 
-/// The box around an outline, where it draws. Its points are within the limits.
-fn drawn_box(outline: &[Segment]) -> Option<BBox>
-    requires { All IsWithin outline.now }
-    ensures { result ≡ box_drawn outline.now }
-{
-    if outline.is_empty() {
-        return None;
-    }
-    Some(bounding_box(outline))
-}
-
 /// The parts of a composite, and how far its accent is moved.
-fn placed_parts(alloc: Global, run: &Run) -> Result<Option<PlacedParts>, Refusal>
+fn placed_parts(alloc: Global, run: &KeptRun) -> Result<Option<PlacedParts>, Refusal>
     ensures { Gives (λ parts. parts) result (told_at places.Nowhere (placed_parts_of run.now.drawing.bearing run.now.drawing.composite)) }
 {
     let Some(parts) = run.composite() else {
@@ -63,7 +50,7 @@ fn placed_parts(alloc: Global, run: &Run) -> Result<Option<PlacedParts>, Refusal
 }
 
 /// The run of a glyph, or its first fault.
-fn run_of<'a, R: KeptRuns>(runs: &'a R, name: &[u8]) -> Result<&'a Run, Code>
+fn run_of<'a, R: KeptRuns>(runs: &'a R, name: &[u8]) -> Result<&'a KeptRun, Code>
     ensures { MatchResult
         result
         (λ run. run_there (R.drawn runs.now name.now) ≡ Ok run.now.drawing)
@@ -79,7 +66,7 @@ fn run_of<'a, R: KeptRuns>(runs: &'a R, name: &[u8]) -> Result<&'a Run, Code>
 pub fn metrics_of_run(
     alloc: Global,
     name: &[u8],
-    run: &Run,
+    run: &KeptRun,
     bbox: Option<BBox>,
 ) -> Result<GlyphMetrics, Refusal>
     ensures { Gives
@@ -109,8 +96,8 @@ fn unplaced_metrics<R: KeptRuns>(
         (told_at places.Nowhere (glyph_metrics_at (R.drawn runs.now) name.now)) }
 {
     let run = run_of(runs, name)?;
-    let outline = outline_of(alloc, runs, name)?;
-    metrics_of_run(alloc, name, run, drawn_box(outline.as_slice()))
+    let bbox = box_of(alloc, runs, name)?;
+    metrics_of_run(alloc, name, run, bbox)
 }
 
 /// What is measured of a glyph, or its first fault, at the glyph.

@@ -4,18 +4,18 @@ ghost use Rattle.std.specs.Str.{bytes_eq};
 ghost use Rattle.t1_run.specs.Run.{font, own};
 ghost use Rattle.t1_font.specs.Runs.{drawing_kept, kept_of, run_kept, own_among, counted, CountsSome, IsAfter};
 
-use crate::kept_runs::KeptRuns;
 use indexmap::IndexMap;
 use std::alloc::{AllocError, Global};
 use std::marker::Model;
+use t1_extent::{KeptRun, KeptRuns};
 use t1_frac::{Code, Refusal};
-use t1_run::{Bodies, Meter, Run, run};
+use t1_run::{Bodies, Meter, run};
 
 /// The runs of some glyphs, each with its number, or its first fault. Contracts see the list of both, each with the
 /// glyph's name.
 #[derive(Drop)]
 pub struct Runs {
-    by_name: IndexMap<Vec<u8>, Result<Run, Code>>,
+    by_name: IndexMap<Vec<u8>, Result<KeptRun, Code>>,
 }
 
 impl Model for Runs {
@@ -38,14 +38,14 @@ impl Runs {
     }
 
     /// What is kept of the glyph of this name.
-    pub fn get(&self, name: &[u8]) -> Option<&Result<Run, Code>>
+    pub fn get(&self, name: &[u8]) -> Option<&Result<KeptRun, Code>>
         ensures { option_map (λ kept. drawing_kept kept.now) result ≡ kept_of self.now name.now }
     {
         self.by_name.get(name)
     }
 
     /// Takes out what is kept of the glyph of this name. It takes no memory.
-    pub fn take(&mut self, name: &[u8]) -> Option<Result<Run, Code>>
+    pub fn take(&mut self, name: &[u8]) -> Option<Result<KeptRun, Code>>
         ensures taken { result ≡ run_kept self.old name.now }
         ensures others { (g : List ℕ) → run_kept self.new g ≡ (if bytes_eq name.now g then None else run_kept self.old g) }
     {
@@ -57,7 +57,7 @@ impl Runs {
         &mut self,
         alloc: Global,
         name: &[u8],
-        kept: Result<Run, Code>,
+        kept: Result<KeptRun, Code>,
     ) -> Result<(), AllocError>
         ensures { OnOk result ((g : List ℕ) → run_kept self.new g ≡ (if bytes_eq g name.now then Some kept else run_kept self.old g)) }
     {
@@ -71,7 +71,7 @@ impl KeptRuns for Runs {
 
     ghost drawn = { kept_of };
 
-    fn run_of(&self, name: &[u8]) -> Option<Result<&Run, Code>> {
+    fn run_of(&self, name: &[u8]) -> Option<Result<&KeptRun, Code>> {
         match self.get(name) {
             None => None,
             Some(Ok(run)) => Some(Ok(run)),
@@ -87,14 +87,14 @@ fn kept_run<B: Bodies>(
     bodies: &B,
     name: &[u8],
     meter: &mut Meter,
-) -> Result<Result<Run, Code>, AllocError>
+) -> Result<Result<KeptRun, Code>, AllocError>
     requires { IsSome (B.glyphs bodies.now name.now) }
     ensures kept { IfOk result (λ kept. Some (drawing_kept kept) ≡ own (font (B.subrs bodies.now) (B.glyphs bodies.now)) name.now) }
     ensures after { IfOk result (λ kept. IsAfter meter.old (Some kept)) }
     ensures counted { meter.new ≡ counted meter.old 1 }
 {
     match run(alloc, bodies, name, meter) {
-        Ok(run) => Ok(Ok(run)),
+        Ok(run) => Ok(Ok(KeptRun::of(alloc, run)?)),
         Err(Refusal::Fault(fault)) => Ok(Err(fault.code)),
         Err(Refusal::Memory) => Err(AllocError),
     }

@@ -1,6 +1,5 @@
 pub mod KernLaws
 pub mod KernRows
-pub mod OutcomeLaws
 pub mod PairLaws
 pub mod PairsWellFormedLaws
 pub mod PutLaws

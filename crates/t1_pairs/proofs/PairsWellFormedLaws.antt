@@ -11,7 +11,7 @@ use Rattle.t1_pairs.specs.declared.pairs.Pair.{Pair}
 use Rattle.t1_text.specs.Tokens.{first_is}
 use Rattle.t1_text.specs.Names.{is_name, decimal_of, up_to}
 use Rattle.t1_pairs.specs.Kerning.{kerning_value, pair_of, kpx_of, is_left_out, line_pairs, pairs_from, pairs_with, put_pair, put_all_pairs, is_kerning_value, is_kerning_pair, precedes, are_ordered, are_pairs}
-use Rattle.t1_pairs.proofs.OutcomeLaws.{bind_ok, told_ok}
+use Rattle.t1_frac.proofs.OutcomeLaws.{bind_ok, told_ok}
 use Rattle.t1_pairs.proofs.PutLaws.{put_keeps, put_ordered}
 
 -- a value that was read is in range

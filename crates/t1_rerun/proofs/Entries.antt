@@ -17,7 +17,7 @@ use Rattle.t1_source.specs.declared.edit.Rule.TheVariants.{E4}
 use Rattle.t1_pairs.specs.declared.pairs.Pair.{Pair}
 use Rattle.t1_source.specs.Editing.{number_up_to, replaced_subr, added_subr, removed_subr, edited}
 use Rattle.t1_source.specs.WellFormed.{IsWellFormed}
-use Rattle.t1_pairs.proofs.OutcomeLaws.{bind_ok}
+use Rattle.t1_frac.proofs.OutcomeLaws.{bind_ok}
 use Rattle.t1_source.proofs.WellFormedEditedLaws.{source_given}
 use Rattle.t1_font.specs.Glyphs.{glyph_names}
 use Rattle.t1_cache.specs.Edited.{named, names_after, subr_key}

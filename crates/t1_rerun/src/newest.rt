@@ -2,9 +2,9 @@
 ghost use Rattle.t1_rerun.specs.Newest.{newest};
 
 use t1_cache::Records;
-use t1_font::{KeptRuns, Runs};
+use t1_extent::{KeptRun, KeptRuns};
+use t1_font::Runs;
 use t1_frac::Code;
-use t1_run::Run;
 
 /// Runs that were made again, and the runs of the records for all other glyphs.
 #[derive(Drop)]
@@ -18,7 +18,7 @@ impl<'a> KeptRuns for Newest<'a> {
 
     ghost drawn = { λ n. newest n.runs.now n.records.now };
 
-    fn run_of(&self, name: &[u8]) -> Option<Result<&Run, Code>> {
+    fn run_of(&self, name: &[u8]) -> Option<Result<&KeptRun, Code>> {
         if let Some(run) = self.runs.run_of(name) {
             return Some(run);
         }

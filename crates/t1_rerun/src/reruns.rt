@@ -7,11 +7,11 @@ ghost use Rattle.t1_rerun.specs.Renewals.{rerun_names, run_in, HasRun, IsRerun};
 
 use std::alloc::{AllocError, Global};
 use t1_cache::Rerun;
+use t1_extent::KeptRun;
 use t1_font::{GlyphMetrics, Runs};
-use t1_run::Run;
 
 /// Takes out the run of a glyph, where it is kept and has no fault.
-pub(crate) fn taken(runs: &mut Runs, name: &[u8]) -> Option<Run>
+pub(crate) fn taken(runs: &mut Runs, name: &[u8]) -> Option<KeptRun>
     ensures run { result ≡ run_in (run_kept runs.old name.now) }
     ensures others { (g : List ℕ) → run_kept runs.new g ≡ (if bytes_eq name.now g then None else run_kept runs.old g) }
 {

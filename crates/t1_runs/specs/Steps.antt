@@ -1,6 +1,6 @@
 -- What the steps of a script ask of a session.
-use Rattle.t1_session.specs.declared.command.Command.{Command}
-use Rattle.t1_session.specs.declared.command.Command.TheVariants as commands
+use Rattle.t1_commands.specs.declared.command.Command.{Command}
+use Rattle.t1_commands.specs.declared.command.Command.TheVariants as commands
 use Rattle.t1_runs.specs.declared.script.Step.{Step}
 use Rattle.t1_runs.specs.declared.script.Step.TheVariants as steps
 

@@ -6,12 +6,12 @@ use Rattle.t1_code.proofs.Writing.{writing, WritesAll-append, WritesFront-append
 use Rattle.t1_frac.specs.Words.{words}
 use Rattle.t1_session.specs.declared.error.ServeError.{ServeError}
 use Rattle.t1_session.specs.declared.error.ServeError.TheVariants as errors
-use Rattle.t1_session.specs.declared.command.Command.{Command}
+use Rattle.t1_commands.specs.declared.command.Command.{Command}
 use Rattle.t1_text.specs.Lines.{unified}
-use Rattle.t1_session.specs.Lines.{finished_lines}
-use Rattle.t1_session.specs.Commands.{Opening, commands_of, takes_body, alone, ends_body, body_command, open_command}
-use Rattle.t1_session.specs.AnswerTexts.{answer_text}
-use Rattle.t1_session.specs.Answers.{answers, answer_to}
+use Rattle.t1_commands.specs.Lines.{finished_lines}
+use Rattle.t1_commands.specs.Commands.{Opening, commands_of, takes_body, alone, ends_body, body_command, open_command}
+use Rattle.t1_commands.specs.AnswerTexts.{answer_text}
+use Rattle.t1_commands.specs.Answers.{answers, answer_to}
 use Rattle.t1_session.specs.Machine.{machine}
 use Rattle.t1_session.specs.State.{State}
 use Rattle.t1_session.specs.Conversation.{Conversation, commands_from, input_after, is_unbroken, ends_line, Performs, Goes, IsQuiet, AnswersCommand, LineGoes, EndsCommandLine, IsBodyLine, EndsLine, Answered, StopsForMemory, Feeds, Ends}

@@ -1,10 +1,8 @@
 pub mod Conversations
 pub mod Delivering
 pub mod FaultLaws
-pub mod Framed
 pub mod LineLaws
 pub mod Reporting
 pub mod RerunLaws
-pub mod Rows
 pub mod Sessions
 pub mod StateLaws

@@ -5,7 +5,7 @@ use Rattle.std.specs.List.{onto_first}
 use Rattle.std.proofs.lemmas.Bool.{eqb-true, and_parts}
 use Rattle.std.proofs.lemmas.List.Sums.{sum_by-cons}
 use Rattle.t1_text.specs.Lines.{unified, split_lines}
-use Rattle.t1_session.specs.Lines.{ended_lines, finished_lines}
+use Rattle.t1_commands.specs.Lines.{ended_lines, finished_lines}
 use Rattle.t1_session.specs.Conversation.{input_after, ends_line, is_unbroken}
 
 pub not_false : (q : Bool) → not q ≡ true → q ≡ false

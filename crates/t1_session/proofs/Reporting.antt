@@ -8,13 +8,13 @@ use Rattle.t1_code.specs.Parts.{Prints}
 use Rattle.t1_source.specs.declared.edit.Cause.{Cause}
 use Rattle.t1_source.specs.declared.edit.Cause.TheVariants as causes
 use Rattle.t1_source.specs.declared.edit.Rule.{Rule}
-use Rattle.t1_session.specs.declared.answer.Answer.{Answer}
-use Rattle.t1_session.specs.declared.answer.Answer.TheVariants.{Accepted, Broken, Faulty}
-use Rattle.t1_session.specs.declared.command.Command.{Command}
-use Rattle.t1_session.specs.declared.command.Command.TheVariants as commands
-use Rattle.t1_session.specs.declared.print.Print.{Print}
-use Rattle.t1_session.specs.AnswerTexts.{answer_text}
-use Rattle.t1_session.specs.Answering.{Reports, SendsText}
+use Rattle.t1_commands.specs.declared.answer.Answer.{Answer}
+use Rattle.t1_commands.specs.declared.answer.Answer.TheVariants.{Accepted, Broken, Faulty}
+use Rattle.t1_commands.specs.declared.command.Command.{Command}
+use Rattle.t1_commands.specs.declared.command.Command.TheVariants as commands
+use Rattle.t1_commands.specs.declared.print.Print.{Print}
+use Rattle.t1_commands.specs.AnswerTexts.{answer_text}
+use Rattle.t1_commands.specs.Answering.{Reports, SendsText}
 use Rattle.t1_session.specs.Conversation.{IsPerformed}
 use Rattle.t1_session.specs.Machine.{perform, printed}
 use Rattle.t1_session.specs.Outcomes.{Takes}

@@ -7,8 +7,8 @@ use Rattle.t1_code.specs.Counted.{Tally, WritesAll}
 use Rattle.t1_code.proofs.Writing.{WritesAll-append, WritesFront-append, WritesFront-longer}
 use Rattle.t1_session.specs.declared.error.ServeError.{ServeError}
 use Rattle.t1_session.specs.declared.error.ServeError.TheVariants as errors
-use Rattle.t1_session.specs.Commands.{input_commands}
-use Rattle.t1_session.specs.Answers.{answers, session_answers}
+use Rattle.t1_commands.specs.Commands.{input_commands}
+use Rattle.t1_commands.specs.Answers.{answers, session_answers}
 use Rattle.t1_session.specs.Machine.{machine}
 use Rattle.t1_session.specs.State.{State}
 use Rattle.t1_session.specs.Conversation.{Conversation, fresh, commands_from, Goes, IsQuiet, Feeds, Ends}

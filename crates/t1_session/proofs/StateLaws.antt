@@ -37,11 +37,11 @@ use Rattle.std.specs.List.{list_all}
 use Rattle.t1_source.specs.WellFormed.{is_counted}
 use Rattle.t1_font.proofs.Counted.{counted-source}
 use Rattle.t1_font.proofs.SourceMetrics.{by-source-metrics}
-use Rattle.t1_session.specs.declared.answer.Answer.TheVariants.{Accepted, Faulty, Data}
-use Rattle.t1_session.specs.declared.print.Print.TheVariants as prints
+use Rattle.t1_commands.specs.declared.answer.Answer.TheVariants.{Accepted, Faulty, Data}
+use Rattle.t1_commands.specs.declared.print.Print.TheVariants as prints
 use Rattle.std.specs.declared.vec.Vec.{Vec}
-use Rattle.t1_session.specs.AnswerTexts.{answer_text, data_of}
-use Rattle.t1_session.specs.declared.command.Command.TheVariants as commands
+use Rattle.t1_commands.specs.AnswerTexts.{answer_text, data_of}
+use Rattle.t1_commands.specs.declared.command.Command.TheVariants as commands
 use Rattle.t1_session.specs.Files.{assembled, assembled_pfa}
 use Rattle.t1_session.specs.FromScratch.{blocks_from_scratch, pfa_from_scratch, texts_of, from_scratch, pfb_from_scratch, metrics_from_scratch, uses_from_scratch}
 use Rattle.t1_session.specs.Machine.{IsFaultless, OpensFaultless, KeepsFaultless, abort_in, begin_in, commit_in, drafted, edit_in, file_answer, holding, judged, opened, perform, printed, scratch, source_metrics, taken}

@@ -8,11 +8,11 @@ use Rattle.t1_code.specs.declared.parts.OutError.TheVariants as out
 use Rattle.t1_text.specs.Lines.{unified, begins_with}
 use Rattle.t1_session.specs.declared.error.ServeError.{ServeError}
 use Rattle.t1_session.specs.declared.error.ServeError.TheVariants as errors
-use Rattle.t1_session.specs.declared.command.Command.{Command}
-use Rattle.t1_session.specs.Lines.{finished_lines}
-use Rattle.t1_session.specs.Commands.{Opening, commands_of, ends_body}
-use Rattle.t1_session.specs.AnswerTexts.{answer_text}
-use Rattle.t1_session.specs.Answers.{answers, answer_to}
+use Rattle.t1_commands.specs.declared.command.Command.{Command}
+use Rattle.t1_commands.specs.Lines.{finished_lines}
+use Rattle.t1_commands.specs.Commands.{Opening, commands_of, ends_body}
+use Rattle.t1_commands.specs.AnswerTexts.{answer_text}
+use Rattle.t1_commands.specs.Answers.{answers, answer_to}
 use Rattle.t1_session.specs.Machine.{machine, may_want_memory, after_want}
 use Rattle.t1_session.specs.State.{State}
 

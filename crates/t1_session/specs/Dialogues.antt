@@ -2,7 +2,7 @@
 use Rattle.t1_session.specs.declared.dialogue.Dialogue.{Dialogue}
 use Rattle.t1_session.specs.declared.dialogue.Opened.{Opened}
 use Rattle.std.specs.Prelude.{option_map}
-use Rattle.t1_session.specs.Commands.{Opening}
+use Rattle.t1_commands.specs.Commands.{Opening}
 use Rattle.t1_session.specs.Conversation.{Conversation}
 
 -- the command whose body is being read

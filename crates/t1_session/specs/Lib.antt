@@ -1,14 +1,8 @@
-pub mod AnswerTexts
-pub mod Answering
-pub mod Answers
-pub mod Blocks
-pub mod Commands
 pub mod Conversation
 pub mod Delivery
 pub mod Dialogues
 pub mod Files
 pub mod FromScratch
-pub mod Lines
 pub mod Machine
 pub mod Outcomes
 pub mod Reruns

@@ -17,14 +17,14 @@ use Rattle.t1_font.specs.Assembly.{source_file, source_pfa}
 use Rattle.t1_font.specs.FontMetrics.{metrics_of}
 use Rattle.t1_font.specs.SourceChecks.{measured_source, source_check, source_usage}
 use Rattle.t1_batch.specs.Batch.{Draft, EntryEdit, edited_entries}
-use Rattle.t1_session.specs.declared.print.Print.{Print}
-use Rattle.t1_session.specs.declared.print.Print.TheVariants as prints
-use Rattle.t1_session.specs.declared.answer.Answer.{Answer}
-use Rattle.t1_session.specs.declared.answer.Answer.TheVariants.{Accepted, Broken, Faulty, Data}
-use Rattle.t1_session.specs.declared.command.Command.{Command}
-use Rattle.t1_session.specs.declared.command.Command.TheVariants as commands
-use Rattle.t1_session.specs.Blocks.{block_size}
-use Rattle.t1_session.specs.Answers.{Performed, Machine}
+use Rattle.t1_commands.specs.declared.print.Print.{Print}
+use Rattle.t1_commands.specs.declared.print.Print.TheVariants as prints
+use Rattle.t1_commands.specs.declared.answer.Answer.{Answer}
+use Rattle.t1_commands.specs.declared.answer.Answer.TheVariants.{Accepted, Broken, Faulty, Data}
+use Rattle.t1_commands.specs.declared.command.Command.{Command}
+use Rattle.t1_commands.specs.declared.command.Command.TheVariants as commands
+use Rattle.t1_commands.specs.Blocks.{block_size}
+use Rattle.t1_commands.specs.Answers.{Performed, Machine}
 use Rattle.t1_session.specs.State.{State}
 
 -- the state with this source and these pairs, and no batch

@@ -4,9 +4,9 @@ use Rattle.t1_frac.specs.declared.fault.Refusal.{Refusal}
 use Rattle.t1_frac.specs.declared.fault.Refusal.TheVariants as refusals
 use Rattle.t1_source.specs.declared.edit.Cause.{Cause}
 use Rattle.t1_source.specs.declared.edit.Cause.TheVariants as causes
-use Rattle.t1_session.specs.declared.answer.Answer.TheVariants.{Accepted, Broken, Faulty}
-use Rattle.t1_session.specs.declared.command.Command.{Command}
-use Rattle.t1_session.specs.Answers.{Performed}
+use Rattle.t1_commands.specs.declared.answer.Answer.TheVariants.{Accepted, Broken, Faulty}
+use Rattle.t1_commands.specs.declared.command.Command.{Command}
+use Rattle.t1_commands.specs.Answers.{Performed}
 use Rattle.t1_session.specs.Machine.{perform, may_want_memory, after_want}
 use Rattle.t1_session.specs.State.{State}
 

@@ -10,8 +10,8 @@ use Rattle.t1_run.specs.Run.{Key}
 use Rattle.t1_font.specs.Runs.{counted}
 use Rattle.t1_cache.specs.Edited.{named, stale}
 use Rattle.t1_rerun.specs.Renewing.{IsRunWhereStale}
-use Rattle.t1_session.specs.declared.command.Command.{Command}
-use Rattle.t1_session.specs.declared.command.Command.TheVariants as commands
+use Rattle.t1_commands.specs.declared.command.Command.{Command}
+use Rattle.t1_commands.specs.declared.command.Command.TheVariants as commands
 use Rattle.t1_batch.specs.Batch.{Draft, keys}
 use Rattle.t1_session.specs.State.{SessionView, State}
 

@@ -5,8 +5,8 @@ use Rattle.t1_frac.specs.declared.fault.Fault.{Fault}
 use Rattle.t1_code.specs.Counted.{Tally, WritesAll, WritesFront, one_more}
 use Rattle.t1_session.specs.declared.error.ServeError.{ServeError}
 use Rattle.t1_session.specs.declared.error.ServeError.TheVariants as errors
-use Rattle.t1_session.specs.Answers.{session_answers}
-use Rattle.t1_session.specs.Commands.{input_commands}
+use Rattle.t1_commands.specs.Answers.{session_answers}
+use Rattle.t1_commands.specs.Commands.{input_commands}
 use Rattle.t1_session.specs.Machine.{machine}
 use Rattle.t1_session.specs.State.{State}
 

@@ -1,16 +1,15 @@
 //! Commands performed and answered.
 ghost use Rattle.std.specs.Prelude.{◌≡◌};
-ghost use Rattle.t1_session.specs.AnswerTexts.{answer_text};
-ghost use Rattle.t1_session.specs.Commands.{Makes};
+ghost use Rattle.t1_commands.specs.AnswerTexts.{answer_text};
+ghost use Rattle.t1_commands.specs.Commands.{Makes};
 ghost use Rattle.t1_session.specs.Conversation.{Sends, AnswersCommand, IsPerformed};
 
-use crate::answer::{Answer, put_answer};
-use crate::command::Command;
 use crate::error::ServeError;
 use crate::performer::Performer;
 use std::alloc::AllocError;
 use std::io::Write;
 use t1_code::{Counted, OutError};
+use t1_commands::{Answer, Command, put_answer};
 
 /// Writes an answer, and passes it on.
 fn send<W: Write>(writer: &mut Counted<W>, answer: &Answer) -> Result<(), ServeError>

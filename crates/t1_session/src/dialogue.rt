@@ -3,15 +3,13 @@ ghost use Rattle.std.specs.Prelude.{◌≡◌, true, ◌∷◌, [], None, Some};
 ghost use Rattle.t1_session.specs.Conversation.{is_unbroken, ends_line};
 
 use crate::answering::answer_command;
-use crate::command::{
-    body_command, ends_body, is_blank_line, line_command, open_command, takes_body,
-};
 use crate::error::ServeError;
 use crate::performer::Performer;
 use std::alloc::Global;
 use std::io::Write;
 use std::mem;
 use t1_code::Counted;
+use t1_commands::{body_command, ends_body, is_blank_line, line_command, open_command, takes_body};
 use t1_frac::Bytes;
 
 /// A command whose body is being read: the line that opened it, and its body so far.

@@ -2,18 +2,13 @@
 //! prints one.
 #![tactic(auto)]
 
-mod answer;
 mod answering;
 mod assembling;
-mod command;
-mod data;
 mod dialogue;
 mod error;
 pub mod laws;
 mod measuring;
-mod numbers;
 mod performer;
-mod print;
 mod serving;
 mod session;
 #[cfg(test)]
@@ -22,6 +17,5 @@ mod tests;
 pub use assembling::{assemble_blocks, assemble_pfa, assemble_source};
 pub use error::ServeError;
 pub use measuring::measure_source;
-pub use numbers::block_size_of_word;
 pub use serving::serve;
 pub use session::Session;

@@ -17,13 +17,12 @@ impl Model for Performer {
 }
 
 ghost use Rattle.std.specs.Prelude.{◌≡◌};
-ghost use Rattle.t1_session.specs.Answering.{Reports};
+ghost use Rattle.t1_commands.specs.Answering.{Reports};
 ghost use Rattle.t1_session.specs.Conversation.{IsPerformed};
 
-use crate::answer::{answer_of, put_answer};
-use crate::command::Command;
 use std::io::Write;
 use t1_code::{Counted, OutError};
+use t1_commands::{Command, answer_of, put_answer};
 use t1_source::Cause;
 
 /// Writes what is answered to a command that was performed, or refused; nothing where memory ran out.

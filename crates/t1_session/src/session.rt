@@ -48,24 +48,21 @@ ghost use Rattle.t1_font.specs.SourceChecks.{measured_source, source_check};
 ghost use Rattle.t1_cache.specs.Edited.{named};
 ghost use Rattle.t1_cache.specs.Kept.{KeepsAll};
 ghost use Rattle.t1_batch.specs.Batch.{entry_edit, keys, IsEditedBy};
-ghost use Rattle.t1_session.specs.declared.command.Command.TheVariants as commands;
-ghost use Rattle.t1_session.specs.declared.print.Print.TheVariants as prints;
+ghost use Rattle.t1_commands.specs.declared.command.Command.TheVariants as commands;
+ghost use Rattle.t1_commands.specs.declared.print.Print.TheVariants as prints;
 ghost use Rattle.t1_session.specs.FromScratch.{blocks_from_scratch, pfa_from_scratch, pfb_from_scratch, metrics_from_scratch, uses_from_scratch};
-ghost use Rattle.t1_session.specs.Blocks.{block_size};
-ghost use Rattle.t1_session.specs.declared.answer.Answer.TheVariants.{Data};
-ghost use Rattle.t1_session.specs.AnswerTexts.{answer_text};
+ghost use Rattle.t1_commands.specs.Blocks.{block_size};
+ghost use Rattle.t1_commands.specs.declared.answer.Answer.TheVariants.{Data};
+ghost use Rattle.t1_commands.specs.AnswerTexts.{answer_text};
 ghost use Rattle.t1_session.specs.Machine.{blocks_answer, file_answer, opened, judged, printed};
 ghost use Rattle.t1_session.specs.Outcomes.{Takes, TakesOrReturns, Took, refused_source};
 ghost use Rattle.t1_session.specs.Reruns.{edition, AreKept, Reruns, RerunsOrReturns};
 
-use crate::answer::{Answer, put_answer};
-use crate::data::{PfaData, PfbData};
-use crate::numbers::block_size;
-use crate::print::{Print, put_text};
 use std::alloc::AllocError;
 use std::io::Write;
 use t1_batch::EditedEntry;
 use t1_code::{Counted, OutError, Pfa, Pfb, WHOLE_PARTS};
+use t1_commands::{Answer, PfaData, PfbData, Print, block_size, put_answer};
 use t1_font::{MeasuredGlyphs, afm_of_source, usage_text, write_source_afm};
 use t1_frac::{Bytes, Refusal};
 use t1_held::{
@@ -426,5 +423,13 @@ fn put_data<W: Write>(text: Vec<u8>, out: &mut Counted<W>) -> Result<(), OutErro
     ensures { Prints W.contents out.old out.new (Ok (answer_text (Data text.items))) result }
 {
     put_answer(out, &Answer::Data(Bytes::new(text)))?;
+    Ok(())
+}
+
+/// Writes a text.
+fn put_text<W: Write>(text: &[u8], out: &mut Counted<W>) -> Result<(), OutError>
+    ensures { Prints W.contents out.old out.new (Ok text.now) result }
+{
+    out.put_all(text)?;
     Ok(())
 }

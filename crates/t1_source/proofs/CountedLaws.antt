@@ -28,7 +28,7 @@ use Rattle.t1_parts.specs.Reading.{unnumbered, whole_check, reads_lines, reads}
 use Rattle.t1_parts.specs.Printing.{text}
 use Rattle.t1_source.specs.WellFormed.{Stand, IsPrivate, is_counted}
 use Rattle.t1_parts.proofs.CountLaws.{glyphs_same, subrs_same}
-use Rattle.t1_pairs.proofs.OutcomeLaws.{bind_ok, told_ok}
+use Rattle.t1_frac.proofs.OutcomeLaws.{bind_ok, told_ok}
 use Rattle.t1_parts.proofs.SectionLaws.{count_parts, count_place_of}
 use Rattle.t1_source.proofs.WellFormedItemsLaws.{entry_given}
 use Rattle.t1_source.proofs.WellFormedSourceLaws.{source_well_formed}

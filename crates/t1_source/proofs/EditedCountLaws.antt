@@ -18,7 +18,7 @@ use Rattle.t1_source.specs.Editing.{keeps, number_up_to, body_words, good_name, 
 use Rattle.std.specs.List.{filter}
 use Rattle.t1_source.specs.Leads.{line_with_lead, lead_line, says_lead, is_section_line, line_at, lead_put, items_with_lead}
 use Rattle.t1_source.specs.WellFormed.{IsWellFormed, is_counted}
-use Rattle.t1_pairs.proofs.OutcomeLaws.{bind_ok}
+use Rattle.t1_frac.proofs.OutcomeLaws.{bind_ok}
 use Rattle.t1_source.proofs.WellFormedBodyLaws.{all_take, all_drop}
 use Rattle.t1_source.proofs.WellFormedEditedLaws.{source_given, source_same, edited_well_formed}
 use Rattle.t1_source.proofs.CountedLaws.{raised_counted}

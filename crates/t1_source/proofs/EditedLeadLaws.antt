@@ -13,7 +13,7 @@ use Rattle.t1_pairs.specs.declared.pairs.Pair.{Pair}
 use Rattle.t1_source.specs.Editing.{number_up_to, with_items, lead_edited, edited}
 use Rattle.t1_source.specs.Leads.{says_lead, items_with_lead}
 use Rattle.t1_source.specs.WellFormed.{IsWellFormed}
-use Rattle.t1_pairs.proofs.OutcomeLaws.{bind_ok}
+use Rattle.t1_frac.proofs.OutcomeLaws.{bind_ok}
 use Rattle.t1_source.proofs.WellFormedSourceLaws.{raised_said}
 use Rattle.t1_source.proofs.WellFormedEditedLaws.{source_given}
 use Rattle.t1_source.proofs.LeadEditLaws.{lead_placed, lead_small}

@@ -22,7 +22,7 @@ use Rattle.t1_source.specs.Changes.{IsInPlaceOf}
 use Rattle.t1_source.specs.Editing.{number_up_to, with_items, lead_edited}
 use Rattle.t1_source.specs.Leads.{line_with_lead, lead_line, says_lead, is_section_line, line_of, line_at, lead_put, items_with_lead}
 use Rattle.t1_source.specs.WellFormed.{is_inner, opens_entry, Stands, Stand, says_lead_well, IsPrivate, IsWellFormed}
-use Rattle.t1_pairs.proofs.OutcomeLaws.{bind_ok}
+use Rattle.t1_frac.proofs.OutcomeLaws.{bind_ok}
 use Rattle.t1_source.proofs.StandLaws.{Serves, serves_itself, serves_further, stand_serves, stand_front, stand_back, stand_both, none_both, or_left}
 use Rattle.t1_source.proofs.WellFormedEditLaws.{is_not_plain}
 use Rattle.t1_source.proofs.WellFormedEntryLaws.{items_well_formed}

@@ -22,7 +22,7 @@ use Rattle.t1_parts.specs.Encoding.{code_of_token, slot_of_tokens, opens_encodin
 use Rattle.t1_parts.specs.Parts.{is_eexec}
 use Rattle.t1_source.specs.Editing.{keeps, number_up_to, good_name, ArrayParts, array_parts, is_slot, is_slot_of, slot_line, encoded_lines, through_last, with_clear, encoded, unencoded}
 use Rattle.t1_source.specs.WellFormed.{IsClear, IsWellFormed}
-use Rattle.t1_pairs.proofs.OutcomeLaws.{bind_ok}
+use Rattle.t1_frac.proofs.OutcomeLaws.{bind_ok}
 use Rattle.t1_source.proofs.RuleLaws.{kept_ok}
 use Rattle.t1_text.proofs.NumberLaws.{decimal_spells, spelled}
 use Rattle.t1_parts.proofs.EntryLaws.{digits_regular, name_regular, run_before, token_before}

@@ -11,7 +11,7 @@ use Rattle.t1_parts.specs.SourceParts.{SourceParts}
 use Rattle.t1_source.specs.Editing.{beside_pairs, beside_source, edited, replaced_glyph, added_glyph, removed_glyph, replaced_subr, added_subr, removed_subr, encoded, unencoded, lead_edited, kerned, unkerned, good_name, kerning_number}
 use Rattle.t1_pairs.specs.Kerning.{is_pair, put_pair, are_pairs}
 use Rattle.t1_source.specs.WellFormed.{IsWellFormed}
-use Rattle.t1_pairs.proofs.OutcomeLaws.{bind_ok}
+use Rattle.t1_frac.proofs.OutcomeLaws.{bind_ok}
 use Rattle.t1_pairs.proofs.PairsWellFormedLaws.{put_pairs, removed_pairs}
 use Rattle.t1_source.proofs.RuleLaws.{named_pair}
 use Rattle.t1_source.proofs.WellFormedEntryLaws.{replaced_glyph_well_formed, added_glyph_well_formed, removed_glyph_well_formed, replaced_subr_well_formed, added_subr_well_formed, removed_subr_well_formed}

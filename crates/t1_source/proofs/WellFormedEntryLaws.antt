@@ -18,7 +18,7 @@ use Rattle.t1_parts.specs.Entries.{is_subr, is_glyph}
 use Rattle.t1_parts.specs.Counts.{is_glyph_entry, raised}
 use Rattle.t1_source.specs.Editing.{keeps, number_up_to, braced, body_words, good_name, good_body, with_items, closing_of, closing_at, closing_among, through_last, is_subr_entry, among_subrs_items, among_glyphs_items, has_section, replaced_glyph, added_glyph, removed_glyph, replaced_subr, added_subr, removed_subr}
 use Rattle.t1_source.specs.WellFormed.{Stands, IsPrivate, IsWellFormed}
-use Rattle.t1_pairs.proofs.OutcomeLaws.{bind_ok}
+use Rattle.t1_frac.proofs.OutcomeLaws.{bind_ok}
 use Rattle.t1_source.proofs.RuleLaws.{kept_ok}
 use Rattle.t1_source.proofs.PrintedLaws.{bool_apart}
 use Rattle.t1_source.proofs.StandLaws.{or_left}

@@ -17,7 +17,7 @@ use Rattle.t1_parts.specs.Entries.{NumberedItem, Taken, has, is_subr, is_glyph, 
 use Rattle.t1_parts.specs.Private.{line_item, among_glyphs, among_subrs, item_at, items_of}
 use Rattle.t1_parts.specs.Reading.{unnumbered}
 use Rattle.t1_source.specs.WellFormed.{is_inner, opens_entry, IsSectionLine, IsEntry, Stands, Stand}
-use Rattle.t1_pairs.proofs.OutcomeLaws.{bind_ok, told_ok}
+use Rattle.t1_frac.proofs.OutcomeLaws.{bind_ok, told_ok}
 use Rattle.t1_source.proofs.SectionLineLaws.{section_again}
 use Rattle.t1_source.proofs.PrintedLaws.{inner_other}
 use Rattle.t1_source.proofs.ItemsAgainLaws.{has_item}

@@ -23,7 +23,7 @@ use Rattle.t1_parts.specs.Reading.{unnumbered, whole_check, reads_lines, reads}
 use Rattle.t1_source.specs.WellFormed.{is_inner, says_lead_well, Stand, IsPrivate, IsWellFormed}
 use Rattle.t1_parts.proofs.TailLaws.{tail_again}
 use Rattle.t1_parts.proofs.CountLaws.{raised_again}
-use Rattle.t1_pairs.proofs.OutcomeLaws.{bind_ok}
+use Rattle.t1_frac.proofs.OutcomeLaws.{bind_ok}
 use Rattle.t1_source.proofs.PrintedLaws.{inner_from}
 use Rattle.t1_source.proofs.ItemsAgainLaws.{has_item}
 use Rattle.t1_source.proofs.SourceAgainLaws.{Ends, checked}

@@ -2,8 +2,8 @@
 use Rattle.std.specs.Prelude.{◌≡◌, ℕ, Bool, true, false, List, Option, Some, None, Result, Ok, Err}
 use Rattle.t1_frac.specs.declared.fault.Fault.{Fault}
 use Rattle.t1_code.specs.Pfb.{whole_file}
-use Rattle.t1_session.specs.Blocks.{block_size}
-use Rattle.t1_session.specs.Commands.{number_of}
+use Rattle.t1_commands.specs.Blocks.{block_size}
+use Rattle.t1_commands.specs.Commands.{number_of}
 use Rattle.t1_session.specs.Files.{assembled, assembled_pfa}
 use Rattle.t1edit.specs.declared.assembling.Form.{Form}
 use Rattle.t1edit.specs.declared.assembling.Form.TheVariants.{Pfb, Blocks, Pfa}

@@ -36,7 +36,8 @@ use crate::status::{Misuse, Stop};
 use std::alloc::Global;
 use std::io::Write;
 use t1_code::Counted;
-use t1_session::{ServeError, assemble_blocks, assemble_pfa, assemble_source, block_size_of_word};
+use t1_commands::block_size_of_word;
+use t1_session::{ServeError, assemble_blocks, assemble_pfa, assemble_source};
 
 /// The form that the options ask for, a block length being 1 to 2147483647.
 pub fn form_of(pfa: bool, block: Option<&str>) -> Result<Form, Stop>

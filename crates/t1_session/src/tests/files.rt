@@ -167,27 +167,3 @@ fn stops_at_a_write_of_prints(rt: HostRuntime) -> Result<(), Fail> {
     }
     Ok(())
 }
-
-#[test]
-fn knows_the_largest_block(rt: HostRuntime) -> Result<(), Fail> {
-    assert_eq!(rt; block_size_of_word(b"02147483647"), Some(2_147_483_647));
-    Ok(())
-}
-
-#[test]
-fn knows_no_larger_block(rt: HostRuntime) -> Result<(), Fail> {
-    assert_eq!(rt; block_size_of_word(b"2147483648"), None);
-    Ok(())
-}
-
-#[test]
-fn knows_no_block_without_bytes(rt: HostRuntime) -> Result<(), Fail> {
-    assert_eq!(rt; block_size_of_word(b"0"), None);
-    Ok(())
-}
-
-#[test]
-fn knows_no_block_with_a_sign(rt: HostRuntime) -> Result<(), Fail> {
-    assert_eq!(rt; block_size_of_word(b"+1"), None);
-    Ok(())
-}

@@ -1,6 +1,6 @@
 use Rattle.std.proofs.Common.{◌≡◌, ◌∙◌, sym, ap, true, false, refl, Some}
 use Rattle.t1_frac.specs.Words.{words}
-use Rattle.t1_session.specs.Commands.{Opening, ends_body, body_command, open_command}
+use Rattle.t1_commands.specs.Commands.{Opening, ends_body, body_command, open_command}
 use Rattle.t1_session.specs.Conversation.{Conversation}
 use Rattle.t1_session.specs.Dialogues.{opening_of, conversation_of}
 use Rattle.t1_session.proofs.Conversations.{Ends-answered, body_at_end, left_at_end}

@@ -1,6 +1,6 @@
 use Rattle.std.proofs.Common.{◌≡◌, ◌∙◌, sym, ap, refl, List, [], ◌∷◌, ℕ, true, false}
 use Rattle.t1_frac.specs.Words.{words}
-use Rattle.t1_session.specs.Commands.{takes_body, is_wordless, line_command, open_command}
+use Rattle.t1_commands.specs.Commands.{takes_body, is_wordless, line_command, open_command}
 use Rattle.t1_session.specs.Conversation.{Conversation, commands_from}
 use Rattle.t1_session.specs.Dialogues.{conversation_of}
 use Rattle.t1_session.proofs.Conversations.{Ends-answered, Ends-nothing, alone_at_end, opened_at_end}

@@ -1,6 +1,6 @@
 use Rattle.std.proofs.Common.{Ok, subst}
 use Rattle.t1_code.specs.Parts.{Prints}
-use Rattle.t1_session.specs.AnswerTexts.{answer_text}
+use Rattle.t1_commands.specs.AnswerTexts.{answer_text}
 use Rattle.t1_session.specs.Machine.{printed}
 use Rattle.t1_session.specs.State.{State}
 use Rattle.t1_session.proofs.Reporting.{broken_performed, printed_performed}

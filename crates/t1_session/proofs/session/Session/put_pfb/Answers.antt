@@ -2,7 +2,7 @@ use Rattle.std.proofs.Common.{ℕ, List, Ok, Result, subst}
 use Rattle.t1_frac.specs.declared.fault.Fault.{Fault}
 use Rattle.t1_code.specs.Parts.{Prints}
 use Rattle.t1_font.specs.Assembly.{source_file}
-use Rattle.t1_session.specs.AnswerTexts.{answer_text}
+use Rattle.t1_commands.specs.AnswerTexts.{answer_text}
 use Rattle.t1_session.specs.Machine.{file_answer}
 use Rattle.t1_session.specs.State.{SessionView}
 use Rattle.t1_session.proofs.StateLaws.{data_blocks, held_checked}

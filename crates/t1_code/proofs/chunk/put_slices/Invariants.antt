@@ -2,7 +2,7 @@ use Rattle.std.proofs.Common.{drop}
 use Rattle.t1_code.specs.Counted.{outlet}
 use Rattle.t1_code.specs.Parts.{bytes_of}
 use Rattle.t1_code.proofs.Writing.{passing, Written}
-use Rattle.t1_afm.proofs.line.put_slices.Given as goal
+use Rattle.t1_code.proofs.chunk.put_slices.Given as goal
 
 -- the slices so far were passed on, and the others are left
 abbrev pub invariant-loop-slice : goal.invariant-loop-slice

@@ -7,10 +7,10 @@ use Rattle.t1_code.specs.Words.{number_word}
 use Rattle.t1_source.specs.declared.edit.Edit.{Edit}
 use Rattle.t1_source.specs.declared.edit.Edit.TheVariants.{ReplaceGlyph, AddGlyph, RemoveGlyph, ReplaceSubr, AddSubr, RemoveSubr, Encode, Unencode, LenIv, Kern, Unkern}
 use Rattle.t1_source.specs.declared.edit.Rule.TheVariants.{E7, E8}
-use Rattle.t1_session.specs.Lines.{finished_lines}
-use Rattle.t1_session.specs.declared.print.Print.TheVariants as prints
-use Rattle.t1_session.specs.declared.command.Command.{Command}
-use Rattle.t1_session.specs.declared.command.Command.TheVariants as commands
+use Rattle.t1_commands.specs.Lines.{finished_lines}
+use Rattle.t1_commands.specs.declared.print.Print.TheVariants as prints
+use Rattle.t1_commands.specs.declared.command.Command.{Command}
+use Rattle.t1_commands.specs.declared.command.Command.TheVariants as commands
 
 -- a command whose body is being read: the line that opened it, and its body so far
 pub record Opening : Type 0 where

@@ -8,8 +8,8 @@ use Rattle.t1_frac.specs.declared.fault.Place.{Place}
 use Rattle.t1_frac.specs.declared.fault.Place.TheVariants.{Nowhere, Line, Subr, Glyph}
 use Rattle.t1_source.specs.declared.edit.Rule.{Rule}
 use Rattle.t1_source.specs.declared.edit.Rule.TheVariants.{E1, E2, E3, E4, E5, E6, E7, E8, E9, E10, E11, E12}
-use Rattle.t1_session.specs.declared.answer.Answer.{Answer}
-use Rattle.t1_session.specs.declared.answer.Answer.TheVariants.{Accepted, Broken, Faulty, OutOfMemory, Data}
+use Rattle.t1_commands.specs.declared.answer.Answer.{Answer}
+use Rattle.t1_commands.specs.declared.answer.Answer.TheVariants.{Accepted, Broken, Faulty, OutOfMemory, Data}
 
 -- profile, answers: the code of an edit rule
 abbrev pub rule_name : Rule → List ℕ

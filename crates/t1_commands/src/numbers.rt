@@ -1,7 +1,7 @@
 //! The numbers of a command.
 ghost use Rattle.std.specs.Prelude.{◌≡◌, ◌≤◌, ◌-◌, ◌^◌, IfSome};
-ghost use Rattle.t1_session.specs.Blocks.{block_size};
-ghost use Rattle.t1_session.specs.Commands.{number_of};
+ghost use Rattle.t1_commands.specs.Blocks.{block_size};
+ghost use Rattle.t1_commands.specs.Commands.{number_of};
 
 use t1_code::number_word;
 

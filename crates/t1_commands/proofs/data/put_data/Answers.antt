@@ -1,8 +1,8 @@
 use Rattle.std.proofs.lemmas.Result.{err_from_is_err_and}
 use Rattle.t1_code.specs.Counted.{outlet}
 use Rattle.t1_code.specs.Parts.{private_text}
-use Rattle.t1_session.proofs.Framed.{all_passes, end_fails, file_fails, head_fails}
-use Rattle.t1_session.proofs.data.put_data.Goals as goal
+use Rattle.t1_commands.proofs.Framed.{all_passes, end_fails, file_fails, head_fails}
+use Rattle.t1_commands.proofs.data.put_data.Goals as goal
 
 pub returns-in_err-put_head : goal.returns-in_err-put_head
 returns-in_err-put_head g c =

@@ -1,9 +1,4 @@
 //! What a session prints.
-ghost use Rattle.std.specs.Prelude.{Ok};
-ghost use Rattle.t1_code.specs.Parts.{Prints};
-
-use std::io::Write;
-use t1_code::{Counted, OutError};
 
 /// What a print shows.
 #[derive(Clone, Copy, Debug, PartialEq, Eq)]
@@ -22,12 +17,4 @@ pub enum Print {
     Afm,
     /// The usage table of the glyphs.
     Uses,
-}
-
-/// Writes a text.
-pub fn put_text<W: Write>(text: &[u8], out: &mut Counted<W>) -> Result<(), OutError>
-    ensures { Prints W.contents out.old out.new (Ok text.now) result }
-{
-    out.put_all(text)?;
-    Ok(())
 }

@@ -1,10 +1,10 @@
 -- What a session answers to its input, for any machine that performs the commands.
 use Rattle.std.specs.Prelude.{ℕ, Bool, false, ◌&&◌, if◌then◌else◌, List, [], ◌∷◌, ◌++◌}
-use Rattle.t1_session.specs.declared.command.Command.{Command}
-use Rattle.t1_session.specs.declared.answer.Answer.{Answer}
-use Rattle.t1_session.specs.declared.answer.Answer.TheVariants.{OutOfMemory}
-use Rattle.t1_session.specs.Commands.{input_commands}
-use Rattle.t1_session.specs.AnswerTexts.{answer_text}
+use Rattle.t1_commands.specs.declared.command.Command.{Command}
+use Rattle.t1_commands.specs.declared.answer.Answer.{Answer}
+use Rattle.t1_commands.specs.declared.answer.Answer.TheVariants.{OutOfMemory}
+use Rattle.t1_commands.specs.Commands.{input_commands}
+use Rattle.t1_commands.specs.AnswerTexts.{answer_text}
 
 -- what a command is answered, and the state after it
 pub record Performed (S : Type 0) : Type 0 where

@@ -1,14 +1,14 @@
 //! What commands are answered, and how it is written.
 ghost use Rattle.std.specs.Prelude.{◌≡◌, OnOk, OnErr, ◌++◌, decimal, length};
-ghost use Rattle.t1_code.specs.Counted.{WritesAll, WritesFront, Passes, Stops, outlet};
+ghost use Rattle.t1_code.specs.Counted.{WritesAll, WritesFront};
 ghost use Rattle.t1_code.specs.Parts.{bytes_of};
-ghost use Rattle.t1_session.specs.Answering.{Answers};
-ghost use Rattle.t1_session.specs.AnswerTexts.{rule_name, code_name, place_number, place_text, fault_text, data_text, answer_text};
+ghost use Rattle.t1_commands.specs.Answering.{Answers};
+ghost use Rattle.t1_commands.specs.AnswerTexts.{rule_name, code_name, place_number, place_text, fault_text, data_text, answer_text};
 
 use itoa::Buffer;
 use std::alloc::AllocError;
 use std::io::{self, Write};
-use t1_code::{Chunk, Counted, put_plain};
+use t1_code::{Chunk, Counted, put_slices};
 use t1_frac::{Bytes, Code, Fault, Place};
 use t1_source::{Cause, Rule};
 
@@ -103,28 +103,13 @@ fn code_name(code: Code) -> &'static [u8]
     }
 }
 
-/// Passes slices on, one after another.
-pub fn pass_slices<W: Write>(
-    writer: &mut Counted<W>,
-    chunk: &mut Chunk,
-    slices: &[&[u8]],
-) -> io::Result<()>
-    ensures ok { OnOk result (Passes W.contents (outlet writer.old chunk.old) (outlet writer.new chunk.new) (bytes_of slices.now)) }
-    ensures err { OnErr result (Stops W.contents (outlet writer.old chunk.old) (outlet writer.new chunk.new) (bytes_of slices.now)) }
-{
-    for slice in slices {
-        put_plain(writer, chunk, slice)?;
-    }
-    Ok(())
-}
-
 /// Writes slices, one after another, by way of a chunk: one call of the writer takes up to 4,096 bytes of them.
-fn put_slices<W: Write>(writer: &mut Counted<W>, slices: &[&[u8]]) -> io::Result<()>
+fn write_slices<W: Write>(writer: &mut Counted<W>, slices: &[&[u8]]) -> io::Result<()>
     ensures ok { OnOk result (WritesAll W.contents writer.old writer.new (bytes_of slices.now)) }
     ensures err { OnErr result (WritesFront W.contents writer.old writer.new (bytes_of slices.now)) }
 {
     let mut chunk = Chunk::new();
-    pass_slices(writer, &mut chunk, slices)?;
+    put_slices(writer, &mut chunk, slices)?;
     chunk.send(writer)
 }
 
@@ -173,7 +158,7 @@ fn put_fault<W: Write>(
     let mut buffer = Buffer::new();
     let number = buffer.format(place_number(&fault.place));
     let slices = place_slices(before, code, &fault.place, number, after);
-    put_slices(writer, &slices)
+    write_slices(writer, &slices)
 }
 
 /// What a print shows, in slices after its length.
@@ -191,7 +176,7 @@ fn put_data<W: Write>(writer: &mut Counted<W>, bytes: &[u8]) -> io::Result<()>
 {
     let mut buffer = Buffer::new();
     let digits = buffer.format(bytes.len());
-    put_slices(writer, &data_slices(bytes, digits))
+    write_slices(writer, &data_slices(bytes, digits))
 }
 
 /// Writes an answer. It takes no memory.
@@ -202,7 +187,7 @@ pub fn put_answer<W: Write>(writer: &mut Counted<W>, answer: &Answer) -> io::Res
 {
     match answer {
         Answer::Accepted => writer.put_all(b"ok\n"),
-        Answer::Broken(rule) => put_slices(writer, &[b"refused ", rule_name(*rule), b"\n"]),
+        Answer::Broken(rule) => write_slices(writer, &[b"refused ", rule_name(*rule), b"\n"]),
         Answer::Faulty(fault) => put_fault(writer, b"refused ", fault, b"\n"),
         Answer::OutOfMemory => writer.put_all(b"refused memory\n"),
         Answer::Data(bytes) => put_data(writer, bytes.as_slice()),

@@ -5,9 +5,9 @@ use Rattle.t1_code.specs.declared.parts.OutError.{OutError}
 use Rattle.t1_code.specs.declared.parts.OutError.TheVariants as out
 use Rattle.t1_source.specs.declared.edit.Cause.{Cause}
 use Rattle.t1_source.specs.declared.edit.Cause.TheVariants as causes
-use Rattle.t1_session.specs.declared.answer.Answer.{Answer}
-use Rattle.t1_session.specs.declared.answer.Answer.TheVariants.{Accepted, Broken, Faulty}
-use Rattle.t1_session.specs.AnswerTexts.{answer_text}
+use Rattle.t1_commands.specs.declared.answer.Answer.{Answer}
+use Rattle.t1_commands.specs.declared.answer.Answer.TheVariants.{Accepted, Broken, Faulty}
+use Rattle.t1_commands.specs.AnswerTexts.{answer_text}
 
 -- an answer, where memory didn't run out
 abbrev pub Says : {E : Type 0} → Answer → Result Answer E → Type 0

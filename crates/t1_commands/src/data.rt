@@ -2,13 +2,14 @@
 ghost use Rattle.std.specs.Prelude.{◌≡◌, ◌≤◌, ◌-◌, ◌^◌, Ok};
 ghost use Rattle.t1_code.specs.Counted.{Puts, outlet};
 ghost use Rattle.t1_code.specs.Parts.{PassesFile, length_of, private_text};
-ghost use Rattle.t1_session.specs.AnswerTexts.{data_of, data_head};
+ghost use Rattle.t1_commands.specs.AnswerTexts.{data_of, data_head};
 
-use crate::answer::pass_slices;
 use itoa::Buffer;
 use std::io::{self, Write};
 use std::marker::Model;
-use t1_code::{Chunk, Counted, FileForm, OutError, Parts, Pfa, Pfb, pfa_len, pfb_len, put_plain};
+use t1_code::{
+    Chunk, Counted, FileForm, OutError, Parts, Pfa, Pfb, pfa_len, pfb_len, put_plain, put_slices,
+};
 
 /// Passes on the line that says how many bytes follow.
 fn put_head<W: Write>(out: &mut Counted<W>, chunk: &mut Chunk, len: u64) -> io::Result<()>
@@ -16,7 +17,7 @@ fn put_head<W: Write>(out: &mut Counted<W>, chunk: &mut Chunk, len: u64) -> io::
 {
     let mut buffer = Buffer::new();
     let digits = buffer.format(len);
-    pass_slices(out, chunk, &[b"data ", digits.as_bytes(), b"\n"])
+    put_slices(out, chunk, &[b"data ", digits.as_bytes(), b"\n"])
 }
 
 /// Passes on a file of so many bytes, between the line that says how many they are and a line end.
@@ -65,7 +66,7 @@ impl PfbData {
 
 impl FileForm for PfbData {
     ghost use Rattle.t1_code.specs.Pfb.{pfb_of};
-    ghost use Rattle.t1_session.specs.AnswerTexts.{data_of};
+    ghost use Rattle.t1_commands.specs.AnswerTexts.{data_of};
 
     ghost file = { λ size clear private trailer. data_of (pfb_of size clear private trailer) };
 
@@ -86,7 +87,7 @@ pub struct PfaData;
 
 impl FileForm for PfaData {
     ghost use Rattle.t1_code.specs.Pfa.{pfa_of};
-    ghost use Rattle.t1_session.specs.AnswerTexts.{data_of};
+    ghost use Rattle.t1_commands.specs.AnswerTexts.{data_of};
 
     ghost file = { λ _ clear private trailer. data_of (pfa_of clear private trailer) };
 

@@ -8,13 +8,13 @@ use Rattle.t1_code.specs.Words.{is_number_word, number_word}
 use Rattle.t1_text.specs.Lines.{unified}
 use Rattle.t1_source.specs.declared.edit.Edit.TheVariants as edits
 use Rattle.t1_source.specs.declared.edit.Rule.TheVariants.{E7, E8}
-use Rattle.t1_session.specs.declared.print.Print.TheVariants as prints
-use Rattle.t1_session.specs.declared.command.Command.TheVariants as commands
-use Rattle.t1_session.specs.declared.answer.Answer.TheVariants.{Accepted, Broken, Faulty, OutOfMemory}
-use Rattle.t1_session.specs.Lines.{finished_lines}
-use Rattle.t1_session.specs.Commands.{commands_of, input_commands, line_command, removal, setting, whole_print, blocks_print, body_command, bodied_edit, open_command, takes_body, ends_body, number_of}
-use Rattle.t1_session.specs.AnswerTexts.{answer_text, fault_text}
-use Rattle.t1_session.specs.Answers.{Machine, session_answers}
+use Rattle.t1_commands.specs.declared.print.Print.TheVariants as prints
+use Rattle.t1_commands.specs.declared.command.Command.TheVariants as commands
+use Rattle.t1_commands.specs.declared.answer.Answer.TheVariants.{Accepted, Broken, Faulty, OutOfMemory}
+use Rattle.t1_commands.specs.Lines.{finished_lines}
+use Rattle.t1_commands.specs.Commands.{commands_of, input_commands, line_command, removal, setting, whole_print, blocks_print, body_command, bodied_edit, open_command, takes_body, ends_body, number_of}
+use Rattle.t1_commands.specs.AnswerTexts.{answer_text, fault_text}
+use Rattle.t1_commands.specs.Answers.{Machine, session_answers}
 
 -- CR LF ends one line; an unfinished line counts once the input has ended
 lines_at_end : finished_lines true (unified (codes "a" ++ 13 ∷ 10 ∷ 13 ∷ codes "b")) ≡ codes "a" ∷ [] ∷ codes "b" ∷ []

@@ -4,24 +4,24 @@ use Rattle.t1_code.specs.Counted.{outlet}
 use Rattle.t1_code.specs.Parts.{bytes_of}
 use Rattle.t1_code.proofs.Encrypting.{flat_map-drop}
 use Rattle.t1_code.proofs.Writing.{passing, Written-none, Written-step, Written-fails, Written-all, at_error}
-use Rattle.t1_session.proofs.answer.pass_slices.Goals as goal
+use Rattle.t1_code.proofs.chunk.put_slices.Goals as goal
 
 pub loop-slice-init : goal.loop-slice-init
-loop-slice-init g c = Written-none (passing g.W.Write.contents) (outlet c.args.writer.now c.args.chunk.now) (bytes_of c.args.slices.now)
+loop-slice-init g c = Written-none (passing g.W.Write.contents) (outlet c.args.out.now c.args.chunk.now) (bytes_of c.args.slices.now)
 
 pub loop-slice-preserved : goal.loop-slice-preserved
 loop-slice-preserved g c =
     let inside : c.loop-slice.slice-index < length c.args.slices.now = omega arith in
-    Written-step (passing g.W.Write.contents) (outlet c.args.writer.now c.args.chunk.now) (outlet c.loop-slice.writer c.loop-slice.chunk) (outlet c.put_plain.new.out c.put_plain.new.chunk) _ _ _
+    Written-step (passing g.W.Write.contents) (outlet c.args.out.now c.args.chunk.now) (outlet c.loop-slice.out c.loop-slice.chunk) (outlet c.put_plain.new.out c.put_plain.new.chunk) _ _ _
     (rw (flat_map-drop (λ slice. slice.now) c.args.slices.now c.loop-slice.slice-index _ (record { ref_ptr = (0, 0); now = [] }) inside refl) at c.loop-slice.invariant) c.in_ok-put_plain.ensures.ok
 
 pub returns-in_err-put_plain-clause-err : goal.returns-in_err-put_plain-clause-err
 returns-in_err-put_plain-clause-err g c =
     let inside : c.loop-slice.slice-index < length c.args.slices.now = omega arith in
-    at_error c.from_residual.result (Written-fails (passing g.W.Write.contents) (outlet c.args.writer.now c.args.chunk.now) (outlet c.loop-slice.writer c.loop-slice.chunk) (outlet c.put_plain.new.out c.put_plain.new.chunk) _ _ _
+    at_error c.from_residual.result (Written-fails (passing g.W.Write.contents) (outlet c.args.out.now c.args.chunk.now) (outlet c.loop-slice.out c.loop-slice.chunk) (outlet c.put_plain.new.out c.put_plain.new.chunk) _ _ _
     (rw (flat_map-drop (λ slice. slice.now) c.args.slices.now c.loop-slice.slice-index _ (record { ref_ptr = (0, 0); now = [] }) inside refl) at c.loop-slice.invariant) c.in_err-put_plain.ensures.err)
 
 pub returns-clause-ok : goal.returns-clause-ok
 returns-clause-ok g c =
-    Written-all (passing g.W.Write.contents) (outlet c.args.writer.now c.args.chunk.now) (outlet c.loop-slice.writer c.loop-slice.chunk) (bytes_of c.args.slices.now)
+    Written-all (passing g.W.Write.contents) (outlet c.args.out.now c.args.chunk.now) (outlet c.loop-slice.out c.loop-slice.chunk) (bytes_of c.args.slices.now)
     (rw (drop_all c.loop-slice.slice-index c.args.slices.now (omega arith)) at c.loop-slice.invariant)

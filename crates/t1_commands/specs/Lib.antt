@@ -1,0 +1,6 @@
+pub mod AnswerTexts
+pub mod Answering
+pub mod Answers
+pub mod Blocks
+pub mod Commands
+pub mod Lines

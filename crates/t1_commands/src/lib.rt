@@ -1,0 +1,22 @@
+//! The commands of a session, by the words of their lines, and what they are answered.
+//!
+//! [`line_command`] and [`body_command`] make the [`Command`] of a line, and of a line with its body. [`put_answer`] writes an
+//! [`Answer`]; [`PfbData`] and [`PfaData`] are the forms of a font file that is an answer, and not made in memory.
+#![tactic(auto)]
+
+mod answer;
+mod command;
+mod data;
+mod numbers;
+mod print;
+
+pub use answer::{Answer, answer_of, put_answer};
+pub use command::{
+    Command, body_command, ends_body, is_blank_line, line_command, open_command, takes_body,
+};
+pub use data::{PfaData, PfbData};
+pub use numbers::{block_size, block_size_of_word};
+pub use print::Print;
+
+#[cfg(test)]
+mod tests;
