@@ -4,6 +4,7 @@ use indexmap::{IndexMap, IndexSet};
 use std::alloc::Global;
 use std::test::Fail;
 use t1_code::{Body, compile};
+use t1_extent::KeptRun;
 use t1_frac::{Bytes, Words};
 use t1_run::{Bodies, Meter, Plain, run};
 
@@ -63,7 +64,7 @@ fn glyph_record(
     }
     Ok(GlyphRecord {
         body: body(alloc, words)?,
-        run: run(alloc, bodies, name.as_bytes(), meter)?,
+        run: KeptRun::of(alloc, run(alloc, bodies, name.as_bytes(), meter)?)?,
         bbox: None,
         users: names(alloc, users)?,
     })
@@ -150,6 +151,7 @@ fn renewed_serials(alloc: Global) -> Result<(u64, u64), Fail> {
         return Err(Fail::new("no such glyph"));
     }
     let again = run(alloc, &bodies, b"acute", &mut Meter::new())?;
+    let again = KeptRun::of(alloc, again)?;
     let Some(old) = renew(&mut records.glyphs, b"acute", again, None) else {
         return Err(Fail::new("no record"));
     };
@@ -173,7 +175,7 @@ fn rerun_of_acute(alloc: Global, bodies: &Plain, meter: &mut Meter) -> Result<Re
     }
     Ok(Rerun {
         name: Vec::from_slice(alloc, b"acute")?,
-        run: run(alloc, bodies, b"acute", meter)?,
+        run: KeptRun::of(alloc, run(alloc, bodies, b"acute", meter)?)?,
         bbox: None,
     })
 }

@@ -46,18 +46,34 @@ pub enum Stop {
 }
 
 impl From<Misuse> for Stop {
+    ghost use Rattle.std.specs.Prelude.{◌≡◌};
+    ghost use Rattle.t1edit.specs.declared.status.Stop.TheVariants.{Misused};
+
+    ghost from_gives = { λ misuse stop. stop ≡ Misused misuse };
+
     fn from(misuse: Misuse) -> Stop {
         Stop::Misused(misuse)
     }
 }
 
 impl From<ServeError> for Stop {
+    ghost use Rattle.std.specs.Prelude.{◌≡◌};
+    ghost use Rattle.t1edit.specs.declared.status.Stop.TheVariants.{Failed};
+
+    ghost from_gives = { λ error stop. stop ≡ Failed error };
+
     fn from(error: ServeError) -> Stop {
         Stop::Failed(error)
     }
 }
 
 impl From<Refusal> for Stop {
+    ghost use Rattle.std.specs.Prelude.{◌≡◌};
+    ghost use Rattle.t1_session.specs.Delivery.{told_by_refusal};
+    ghost use Rattle.t1edit.specs.declared.status.Stop.TheVariants.{Failed};
+
+    ghost from_gives = { λ refused stop. stop ≡ Failed (told_by_refusal refused) };
+
     fn from(refused: Refusal) -> Stop {
         Stop::Failed(ServeError::from(refused))
     }

@@ -13,6 +13,7 @@ use std::test::Fail;
 use t1_afm::BBox;
 use t1_cache::{Rerun, SubrRecord};
 use t1_code::compile;
+use t1_extent::KeptRun;
 use t1_frac::{Bytes, Words};
 use t1_run::{Bodies, Meter, run};
 
@@ -116,7 +117,7 @@ fn rerun(alloc: Global, records: &Records, name: &[u8]) -> Result<Vec<Rerun>, Fa
     let mut reruns = Vec::new(alloc);
     reruns.push(Rerun {
         name: Vec::from_slice(alloc, name)?,
-        run,
+        run: KeptRun::of(alloc, run)?,
         bbox: None,
     })?;
     Ok(reruns)
