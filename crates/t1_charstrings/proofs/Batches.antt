@@ -1,5 +1,5 @@
 -- What many edits at once make of the charstrings.
-use Rattle.std.proofs.Common.{◌≡◌, ℕ, ◌^◌, ◌-◌, ◌<◌, zero, suc, min, Bool, true, false, cond, ◌&&◌, List, [], ◌∷◌, ◌++◌, length, is_none, refl, sym, ap, ◌∙◌, Option, None, Some, Result, Ok, Err, IsOk, IsSome, OnOk, inl, inr, arith}
+use Rattle.std.proofs.Common.{◌≡◌, ℕ, ◌^◌, ◌-◌, ◌<◌, zero, suc, min, Bool, true, false, cond, ◌&&◌, List, [], ◌∷◌, ◌++◌, length, is_none, refl, sym, ap, subst, ◌∙◌, Option, None, Some, Result, Ok, Err, IsOk, IsSome, OnOk, inl, inr, arith}
 use Rattle.std.specs.Prelude.{◌||◌}
 use Rattle.std.specs.List.{list_any}
 use Rattle.std.specs.Map.{lookup}
@@ -14,13 +14,16 @@ use Rattle.t1_run.specs.Footprint.{Includes}
 use Rattle.t1_run.specs.Run.{Key}
 use Rattle.t1_font.specs.Bodies.{bodies}
 use Rattle.t1_font.proofs.Keeping.{lookup-taken}
-use Rattle.t1_charstrings.specs.declared.batch.ReadyBatch.{ReadyBatch}
+use Rattle.t1_charstrings.specs.declared.settling.EditedEntries.{EditedEntries}
+use Rattle.t1_charstrings.specs.declared.settling.ReadyCharstrings.TheVariants as ready
+use Rattle.t1_charstrings.specs.declared.settling.ReadyLines.{ReadyLines}
 use Rattle.t1_charstrings.specs.declared.entries.Charstrings.{Charstrings}
-use Rattle.t1_charstrings.specs.Batch.{is_gone, over, text_by, AreFresh, AreGone, IsBatchOf, SettlesBatch}
+use Rattle.t1_charstrings.specs.Batch.{is_gone, over, text_by, AreEdits, AreFresh, AreGone, IsBatchOf}
 use Rattle.t1_charstrings.specs.Changed.{AreUnchanged}
 use Rattle.t1_charstrings.specs.Entries.{Kept, body_at, encrypted, glyph_kept, key_eq, subr_kept}
 use Rattle.t1_charstrings.specs.Kept.{AreEncrypted, kept_at}
 use Rattle.t1_charstrings.specs.Lengths.{IsPrivateLen}
+use Rattle.t1_charstrings.specs.Ready.{HasRoom, IsReadyLines, SettlesTo}
 use Rattle.t1_charstrings.proofs.Gathered.{at-key}
 use Rattle.t1_charstrings.proofs.Putting.{bytes_tell}
 use Rattle.t1_charstrings.proofs.Sources.{at-same, key-itself}
@@ -41,9 +44,9 @@ module _ (keys : List Key) (s made : SourceParts) (c : Charstrings) (batch : IsB
   -- the charstrings of the entries that weren't edited stay
   old-stays : (k : Key) → list_any (key_eq k) keys ≡ false → kept_at c k ≡ option_map (encrypted (lead made) k) (body_at (bodies made.items) k)
   old-stays k off =
-      batch.kept.each k
-      ∙ ap (option_map (encrypted (lead s) k)) (at-same (bodies s.items) (bodies made.items) k (batch.same.same k apart))
-      ∙ ap (λ front. option_map (encrypted front k) (body_at (bodies made.items) k)) (sym batch.front)
+      batch.0.kept.each k
+      ∙ ap (option_map (encrypted (lead s) k)) (at-same (bodies s.items) (bodies made.items) k (batch.0.same.same k apart))
+      ∙ ap (λ front. option_map (encrypted front k) (body_at (bodies made.items) k)) (sym batch.1)
     where
       apart : Includes keys k → ⊥
       apart among = let never : true ≡ false = sym (told-among keys k among) ∙ off in cc
@@ -59,13 +62,13 @@ module _ (keys : List Key) (s made : SourceParts) (c : Charstrings) (batch : IsB
   settled-at k false gone body fresh old fresh_is gone_is stays =
       ap (λ f. option_or f (cond gone None old)) fresh_is ∙ ap (λ b. cond b None old) gone_is ∙ stays refl
 
-  pub batch_settled : (ready : ReadyBatch) (old new : Charstrings) → AreFresh keys made ready.fresh → AreGone keys made ready.gone.items → AreUnchanged c old
-      → SettlesBatch ready old new → AreEncrypted made new
-  batch_settled ready old new fresh gone same settles = record {
-    sound = batch.sound;
+  pub batch_settled : (entries : EditedEntries) (old new : Charstrings) → AreFresh (lead made) keys made entries.fresh → AreGone keys made entries.gone.items → AreUnchanged c old
+      → SettlesTo (ready.Edited entries) old new → AreEncrypted made new
+  batch_settled entries old new fresh gone same settles = record {
+    sound = batch.0.sound;
     each = λ k.
         settles k
-        ∙ settled-at k (list_any (key_eq k) keys) (is_gone ready.gone.items k) (body_at (bodies made.items) k) (kept_at ready.fresh k) (kept_at old k)
+        ∙ settled-at k (list_any (key_eq k) keys) (is_gone entries.gone.items k) (body_at (bodies made.items) k) (kept_at entries.fresh k) (kept_at old k)
         (fresh k) (gone k) (λ off. kept-same k ∙ old-stays k off);
   } where
     kept-same : (k : Key) → kept_at old k ≡ kept_at c k
@@ -78,20 +81,35 @@ module _ (keys : List Key) (s made : SourceParts) (c : Charstrings) (batch : IsB
   over-at k true body fresh old fresh_is stays = ap (λ f. option_or f old) fresh_is
   over-at k false body fresh old fresh_is stays = ap (λ f. option_or f old) fresh_is ∙ stays refl
 
-  over-serves : (fresh : Charstrings) → AreFresh keys made fresh → Serves (lead made) made.items (over fresh c)
+  pub over-serves : (fresh : Charstrings) → AreFresh (lead made) keys made fresh → Serves (lead made) made.items (over fresh c)
   over-serves fresh are k body there =
       over-at k (list_any (key_eq k) keys) body (kept_at fresh k) (kept_at c k)
       (are k ∙ ap (λ b. cond (list_any (key_eq k) keys) (option_map (encrypted (lead made) k) b) None) there)
       (λ off. old-stays k off ∙ ap (option_map (encrypted (lead made) k)) there)
 
-  pub batch_len_is : (fresh : Charstrings) (o : List ℕ) (is : List Item) (len : ℕ) → AreFresh keys made fresh → o ≡ operator made → is ≡ made.items
+  pub batch_len_is : (fresh : Charstrings) (o : List ℕ) (is : List Item) (len : ℕ) → AreFresh (lead made) keys made fresh → o ≡ operator made → is ≡ made.items
       → len ≡ min (length (text_by (over fresh c) o is)) (2 ^ 64 - 1) → IsPrivateLen made len
   batch_len_is fresh o is len are operator_is items_are len_is = (
     text_by (over fresh c) (operator made) made.items,
-    text_by_is made (over fresh c) batch.well batch.sound (over-serves fresh are),
+    text_by_is made (over fresh c) batch.0.well batch.0.sound (over-serves fresh are),
     len_is ∙ ap (λ name. min (length (text_by (over fresh c) name is)) (2 ^ 64 - 1)) operator_is
         ∙ ap (λ l. min (length (text_by (over fresh c) (operator made) l)) (2 ^ 64 - 1)) items_are,
   )
+
+-- the fresh charstrings of edits, where lenIV stays
+pub fresh_by : {s made : SourceParts} {c : Charstrings} {entries : EditedEntries} → (edits : AreEdits s made c entries) → lead made ≡ lead s
+    → AreFresh (lead made) edits.keys made entries.fresh
+fresh_by {made = made} {entries = entries} edits front = subst (λ n. AreFresh n edits.keys made entries.fresh) (sym front) edits.fresh
+
+-- what is ready of edits
+pub entries_ready : (s made : SourceParts) (c d : Charstrings) (entries : EditedEntries) (len : ℕ) (lines : ReadyLines) → AreEdits s made c entries → lead made ≡ lead s
+    → AreUnchanged c d → lines ≡ record { charstrings = ready.Edited entries; len = len } → HasRoom lines.charstrings d → IsPrivateLen made len → IsReadyLines made d lines
+entries_ready s made c d entries len lines edits front same is room known =
+    subst (IsReadyLines made d) (sym is) (record {
+      room = subst (λ (l : ReadyLines). HasRoom l.charstrings d) is room;
+      kept = λ new settles. batch_settled edits.keys s made c (edits.edit, front) entries d new (fresh_by edits front) edits.gone same settles;
+      len = known;
+    })
 
 bytes-turned : (a b : List ℕ) → bytes_eq a b ≡ bytes_eq b a
 bytes-turned a b = by (bytes_eq a b) refl (bytes_eq b a) refl where

@@ -1,7 +1,9 @@
--- What is ready of a source in which an entry is put in the place of another, or taken out.
-use Rattle.std.proofs.Common.{◌≡◌, ◌-◌, ◌+◌, ◌^◌, ◌<◌, ◌≤◌, min, ℕ, zero, suc, true, cond, not, List, [], ◌∷◌, length, filter, filter_map, refl, sym, ap, subst, ◌∙◌, None, Some, Result, Ok, Err, inl, inr, arith}
+-- The private text of a source in which an entry is put in the place of another, or taken out.
+use Rattle.std.proofs.Common.{◌≡◌, ◌-◌, ◌+◌, ◌^◌, ◌<◌, ◌≤◌, min, ℕ, zero, suc, Bool, true, false, cond, not, List, [], ◌∷◌, ◌++◌, length, filter, filter_map, refl, sym, ap, subst, ◌∙◌, Option, None, Some, Result, Ok, Err, inl, inr, arith}
 use Rattle.std.specs.Prelude.{nat_eq}
-use Rattle.std.specs.List.{list_all, remove, slice_set}
+use Rattle.std.specs.List.{list_all, list_any, remove, slice_set}
+use Rattle.std.specs.Map.{lookup}
+use Rattle.std.specs.Option.{option_map, option_or}
 use Rattle.std.specs.Result.{result_ok}
 use Rattle.std.specs.Str.{bytes_eq}
 use Rattle.std.specs.declared.alloc.Global.{Global}
@@ -23,7 +25,7 @@ use Rattle.t1_parts.specs.LenIV.{lead, first_lead, said_lead}
 use Rattle.t1_parts.specs.Operator.{operator}
 use Rattle.t1_parts.specs.SourceParts.{SourceParts}
 use Rattle.t1_source.specs.Changes.{IsInPlaceOf}
-use Rattle.t1_source.specs.Editing.{closing_of, with_items}
+use Rattle.t1_source.specs.Editing.{with_items}
 use Rattle.t1_source.specs.WellFormed.{IsWellFormed, is_counted}
 use Rattle.t1_source.proofs.ChangeLaws.{raised_put, raised_removed}
 use Rattle.t1_run.specs.Run.{Key, Subr, Glyph}
@@ -32,146 +34,139 @@ use Rattle.t1_font.specs.Bodies.{bodies, bodies_check, body_check, words_check}
 use Rattle.t1_font.proofs.Compiling.{told-ok}
 use Rattle.t1_font.proofs.Counted.{counted-source}
 use Rattle.t1_charstrings.specs.declared.entries.Charstrings.{Charstrings}
-use Rattle.t1_charstrings.specs.declared.settling.ReadyLine.{ReadyLine}
-use Rattle.t1_charstrings.specs.declared.settling.ReadyLine.TheVariants as ready
-use Rattle.t1_charstrings.specs.Changed.{AreUnchanged, Sets}
-use Rattle.t1_charstrings.specs.Entries.{body_at, encrypted, glyph_kept, key_eq, subr_kept}
+use Rattle.t1_charstrings.specs.Batch.{line_by, over, AreFresh, IsBatchOf, IsEditOf}
+use Rattle.t1_charstrings.specs.Changed.{Sets}
+use Rattle.t1_charstrings.specs.Entries.{Kept, body_at, encrypted, key_eq}
 use Rattle.t1_charstrings.specs.Kept.{AreEncrypted, kept_at}
 use Rattle.t1_charstrings.specs.Lengths.{IsPrivateLen}
 use Rattle.t1_charstrings.specs.Lines.{entry_line, kept_line, kept_text}
-use Rattle.t1_charstrings.specs.Ready.{EntersLine, HasRoom, IsReadyLines, LeavesLine, SettlesTo, old_len, ready_text}
+use Rattle.t1_charstrings.specs.Ready.{is_entry, old_len, replaced_len}
 use Rattle.t1_charstrings.specs.Sums.{AreEdited, has_key, item_at}
 use Rattle.t1_charstrings.proofs.Adding.{alone, text-both}
+use Rattle.t1_charstrings.proofs.Batches.{over-serves}
 use Rattle.t1_charstrings.proofs.Entering.{body_in, check-put, check-remove, counted-entry, counted-put, counted-remove, lead-put, lead-remove, other_kept, put-other, put-own, remove-other, remove-own, IsOther}
 use Rattle.t1_charstrings.proofs.Filed.{long_told}
 use Rattle.t1_charstrings.proofs.Gathered.{at-key}
 use Rattle.t1_charstrings.proofs.Putting.{bytes_tell, lookup-but, numbers_tell}
-use Rattle.t1_charstrings.proofs.Readying.{bodies_refused, unchanged}
+use Rattle.t1_charstrings.proofs.Sources.{key-same}
 use Rattle.t1_charstrings.proofs.Texts.{kept_text_is}
 use Rattle.t1_charstrings.proofs.Totals.{len-of, put_sum, remove_sum}
 
--- ---- what is ready for an entry, at its key
+-- ---- an entry whose body has no fault
 
-pub record IsEntered (front : ℕ) (item : Item) (line : ReadyLine) (c : Charstrings) : Type 0 where
+pub record IsEntered (item : Item) : Type 0 where
   pub key : Key
   pub body : List Command
   pub has : has_key key item ≡ true
   pub own : body_in key item ≡ Some body
   pub check : body_check item ≡ Ok tt
-  pub settled : (old new : Charstrings) → SettlesTo line old new → Sets key (Some (encrypted front key body)) old new
-  pub room : (d : Charstrings) → 0 < spare d.subrs → 0 < spare d.glyphs → HasRoom line d
-  pub new : Charstrings
-  pub sets : Sets key (Some (encrypted front key body)) c new
-  pub text : (o : List ℕ) → ready_text o (closing_of item) line ≡ kept_line new o item
 
-entered-subr : (front n : ℕ) (ws : List (List ℕ)) (closing : List ℕ) (body : List Command) (c : Charstrings) → told_at (places.Subr n) (commands ws) ≡ Ok body
-    → IsEntered front (items.Subr n ws closing) (ready.Subr n (encrypted front (Subr n) body)) c
+compiled : {A : Type 0} (r : Result A Fault) → ◌≡◌ {A = Result (Unit {0}) Fault} (r >>= λ _. Ok tt) (Ok tt) → (a : A) × (r ≡ Ok a)
+compiled (Ok a) h = (a, refl)
+compiled (Err fault) h = absurd (cc)
+
+pub entered : (item : Item) → is_entry item ≡ true → body_check item ≡ Ok tt → IsEntered item
 unfolding words_check
-entered-subr front n ws closing body c h =
-    let entry = encrypted front (Subr n) body in
-    let made : Charstrings = record c { subrs = hash_map ((n, entry) ∷ c.subrs.entries) (hasher_of c.subrs) (spare c.subrs) } in
+entered (items.Plain l) is check = absurd (cc)
+entered (items.Section before count after) is check = absurd (cc)
+entered (items.Subr n ws closing) is check =
+    let body = compiled (told_at (places.Subr n) (commands ws)) check in
     record {
       key = Subr n;
-      body = body;
+      body = body.0;
       has = numbers_tell.itself n;
-      own = ap (λ b. cond b (result_ok (commands ws)) None) (numbers_tell.itself n) ∙ told-ok (places.Subr n) (commands ws) body h;
-      check = ap (λ r. r >>= λ _. Ok tt) h;
-      settled = λ old new same. same;
-      room = λ d some more. some;
-      new = made;
-      sets = at-key (λ k. kept_at made k ≡ cond (key_eq k (Subr n)) (Some entry) (kept_at c k)) (λ m. refl) (λ g. refl);
-      text = λ o. ap (entry_line o closing) (sym (ap (λ b. cond b (Some entry) (subr_kept c.subrs.entries n)) (numbers_tell.itself n)));
+      own = ap (λ b. cond b (result_ok (commands ws)) None) (numbers_tell.itself n) ∙ told-ok (places.Subr n) (commands ws) body.0 body.1;
+      check = check;
     }
-
-entered-glyph : (front : ℕ) (name : Vec ℕ Global) (ws : List (List ℕ)) (closing : List ℕ) (body : List Command) (c : Charstrings) → told_at (places.Glyph name.items) (commands ws) ≡ Ok body
-    → IsEntered front (items.Glyph name.items ws closing) (ready.Glyph name (encrypted front (Glyph name.items) body)) c
-unfolding words_check
-entered-glyph front name ws closing body c h =
-    let g = name.items in
-    let entry = encrypted front (Glyph g) body in
-    let made : Charstrings = record c { glyphs = hash_map ((name, entry) ∷ c.glyphs.entries) (hasher_of c.glyphs) (spare c.glyphs) } in
+entered (items.Glyph g ws closing) is check =
+    let body = compiled (told_at (places.Glyph g) (commands ws)) check in
     record {
       key = Glyph g;
-      body = body;
+      body = body.0;
       has = bytes_tell.itself g;
-      own = ap (λ b. cond b (result_ok (commands ws)) None) (bytes_tell.itself g) ∙ told-ok (places.Glyph g) (commands ws) body h;
-      check = ap (λ r. r >>= λ _. Ok tt) h;
-      settled = λ old new same. same;
-      room = λ d some more. more;
-      new = made;
-      sets = at-key (λ k. kept_at made k ≡ cond (key_eq k (Glyph g)) (Some entry) (kept_at c k)) (λ m. refl) (λ f. refl);
-      text = λ o. ap (entry_line o closing) (sym (ap (λ b. cond b (Some entry) (glyph_kept c.glyphs.entries g)) (bytes_tell.itself g)));
+      own = ap (λ b. cond b (result_ok (commands ws)) None) (bytes_tell.itself g) ∙ told-ok (places.Glyph g) (commands ws) body.0 body.1;
+      check = check;
     }
 
-pub entered : (front : ℕ) (item : Item) (line : ReadyLine) (c : Charstrings) → EntersLine front item line → IsEntered front item line c
-entered front (items.Subr n ws closing) (ready.Subr number entry) c h =
-    subst (λ m. IsEntered front (items.Subr n ws closing) (ready.Subr m entry) c) (sym h.0)
-    (subst (λ e. IsEntered front (items.Subr n ws closing) (ready.Subr n e) c) (sym h.1.2) (entered-subr front n ws closing h.1.0 c h.1.1))
-entered front (items.Glyph g ws closing) (ready.Glyph name entry) c h =
-    let is : entry ≡ encrypted front (Glyph name.items) h.1.0 = h.1.2 ∙ ap (λ f. encrypted front (Glyph f) h.1.0) (sym h.0) in
-    subst (λ f. IsEntered front (items.Glyph f ws closing) (ready.Glyph name entry) c) h.0
-    (subst (λ e. IsEntered front (items.Glyph name.items ws closing) (ready.Glyph name e) c) (sym is) (entered-glyph front name ws closing h.1.0 c (ap (λ f. told_at (places.Glyph f) (commands ws)) h.0 ∙ h.1.1)))
-entered front (items.Plain l) line c h = absurd h
-entered front (items.Section before count after) line c h = absurd h
-entered front (items.Subr n ws closing) ready.Kept c h = absurd h
-entered front (items.Subr n ws closing) (ready.Glyph name entry) c h = absurd h
-entered front (items.Subr n ws closing) (ready.NoSubr number) c h = absurd h
-entered front (items.Subr n ws closing) (ready.NoGlyph name) c h = absurd h
-entered front (items.Subr n ws closing) (ready.All others) c h = absurd h
-entered front (items.Glyph g ws closing) ready.Kept c h = absurd h
-entered front (items.Glyph g ws closing) (ready.Subr number entry) c h = absurd h
-entered front (items.Glyph g ws closing) (ready.NoSubr number) c h = absurd h
-entered front (items.Glyph g ws closing) (ready.NoGlyph name) c h = absurd h
-entered front (items.Glyph g ws closing) (ready.All others) c h = absurd h
+-- ---- fresh charstrings over the old ones
 
-record IsGone (item : Item) (line : ReadyLine) (c : Charstrings) : Type 0 where
+lookup-both : {K X : Type 0} (test : K → Bool) (a b : List (K × X)) → lookup test (a ++ b) ≡ option_or (lookup test a) (lookup test b)
+lookup-both test [] b = refl
+lookup-both test (e ∷ a) b = by (test e.0) (lookup-both test a b) where
+  by : (t : Bool) → lookup test (a ++ b) ≡ option_or (lookup test a) (lookup test b)
+      → cond t (Some e.1) (lookup test (a ++ b)) ≡ option_or (cond t (Some e.1) (lookup test a)) (lookup test b)
+  by true rest = refl
+  by false rest = rest
+
+abbrev pub merged : Charstrings → Charstrings → Charstrings
+merged fresh c = record {
+  subrs = hash_map (fresh.subrs.entries ++ c.subrs.entries) (hasher_of c.subrs) (spare c.subrs);
+  glyphs = hash_map (fresh.glyphs.entries ++ c.glyphs.entries) (hasher_of c.glyphs) (spare c.glyphs);
+}
+
+merged-at : (fresh c : Charstrings) (k : Key) → kept_at (merged fresh c) k ≡ over fresh c k
+merged-at fresh c (Subr n) = lookup-both (nat_eq n) fresh.subrs.entries c.subrs.entries
+merged-at fresh c (Glyph g) = lookup-both (λ key. bytes_eq g key.items) fresh.glyphs.entries c.glyphs.entries
+
+pub merged-line : (fresh c : Charstrings) (o : List ℕ) (i : Item) → kept_line (merged fresh c) o i ≡ line_by (over fresh c) o i
+merged-line fresh c o (items.Plain l) = refl
+merged-line fresh c o (items.Section before count after) = refl
+merged-line fresh c o (items.Subr n ws closing) = ap (entry_line o closing) (merged-at fresh c (Subr n))
+merged-line fresh c o (items.Glyph g ws closing) = ap (entry_line o closing) (merged-at fresh c (Glyph g))
+
+module _ (keys : List Key) (s made : SourceParts) (c fresh : Charstrings) (batch : IsBatchOf keys s made c) (are : AreFresh (lead made) keys made fresh) where
+  -- fresh charstrings over the old ones change what is kept at the one key where the sources differ
+  pub over-sets : (key : Key) (body : List Command) → IsOther key (Some body) s made → Sets key (Some (encrypted (lead s) key body)) c (merged fresh c)
+  over-sets key body other k = merged-at fresh c k ∙ by (key_eq k key) refl where
+    stays : (there : Option (List Command)) → body_at (bodies made.items) k ≡ there → kept_at c k ≡ option_map (encrypted (lead made) k) there
+        → over fresh c k ≡ kept_at c k
+    stays (Some b) there old = over-serves keys s made c batch fresh are k b there ∙ sym old
+    stays None there old =
+        ap (λ f. option_or f (kept_at c k))
+        (are k ∙ ap (λ r. cond (list_any (key_eq k) keys) (option_map (encrypted (lead made) k) r) None) there ∙ nothing (list_any (key_eq k) keys))
+      where
+        nothing : (b : Bool) → ◌≡◌ {A = Option Kept} (cond b None None) None
+        nothing true = refl
+        nothing false = refl
+
+    by : (b : Bool) → key_eq k key ≡ b → over fresh c k ≡ cond b (Some (encrypted (lead s) key body)) (kept_at c k)
+    by true on =
+        let is : k ≡ key = key-same k key on in
+        over-serves keys s made c batch fresh are k body (ap (body_at (bodies made.items)) is ∙ other.own)
+        ∙ ap (λ n. Some (encrypted n k body)) other.front ∙ ap (λ j. Some (encrypted (lead s) j body)) is
+    by false off =
+        stays (body_at (bodies made.items) k) refl
+        (batch.0.kept.each k ∙ ap (option_map (encrypted (lead s) k)) (sym (other.others k off))
+        ∙ ap (λ n. option_map (encrypted n k) (body_at (bodies made.items) k)) (sym other.front))
+
+-- ---- an entry that is taken out
+
+record IsLeft (item : Item) (c : Charstrings) : Type 0 where
   pub key : Key
   pub has : has_key key item ≡ true
-  pub settled : (old new : Charstrings) → SettlesTo line old new → Sets key None old new
-  pub room : (d : Charstrings) → HasRoom line d
   pub new : Charstrings
   pub sets : Sets key None c new
 
-gone-subr : (n : ℕ) (ws : List (List ℕ)) (closing : List ℕ) (c : Charstrings) → IsGone (items.Subr n ws closing) (ready.NoSubr n) c
-gone-subr n ws closing c =
+left : (item : Item) (c : Charstrings) → is_entry item ≡ true → IsLeft item c
+left (items.Plain l) c is = absurd (cc)
+left (items.Section before count after) c is = absurd (cc)
+left (items.Subr n ws closing) c is =
     let made : Charstrings = record c { subrs = hash_map (filter (λ e. not (nat_eq n e.0)) c.subrs.entries) (hasher_of c.subrs) (spare c.subrs) } in
     record {
       key = Subr n;
       has = numbers_tell.itself n;
-      settled = λ old new same. same;
-      room = λ d. tt;
       new = made;
       sets = at-key (λ k. kept_at made k ≡ cond (key_eq k (Subr n)) None (kept_at c k)) (λ m. lookup-but nat_eq numbers_tell (λ k. k) n m c.subrs.entries) (λ g. refl);
     }
-
-gone-glyph : (name : Vec ℕ Global) (ws : List (List ℕ)) (closing : List ℕ) (c : Charstrings) → IsGone (items.Glyph name.items ws closing) (ready.NoGlyph name) c
-gone-glyph name ws closing c =
-    let made : Charstrings = record c { glyphs = hash_map (filter (λ e. not (bytes_eq name.items e.0.items)) c.glyphs.entries) (hasher_of c.glyphs) (spare c.glyphs) } in
+left (items.Glyph g ws closing) c is =
+    let made : Charstrings = record c { glyphs = hash_map (filter (λ e. not (bytes_eq g e.0.items)) c.glyphs.entries) (hasher_of c.glyphs) (spare c.glyphs) } in
     record {
-      key = Glyph name.items;
-      has = bytes_tell.itself name.items;
-      settled = λ old new same. same;
-      room = λ d. tt;
+      key = Glyph g;
+      has = bytes_tell.itself g;
       new = made;
-      sets = at-key (λ k. kept_at made k ≡ cond (key_eq k (Glyph name.items)) None (kept_at c k)) (λ m. refl)
-          (λ g. lookup-but bytes_eq bytes_tell (λ (k : Vec ℕ Global). k.items) name.items g c.glyphs.entries);
+      sets = at-key (λ k. kept_at made k ≡ cond (key_eq k (Glyph g)) None (kept_at c k)) (λ m. refl)
+          (λ f. lookup-but bytes_eq bytes_tell (λ (k : Vec ℕ Global). k.items) g f c.glyphs.entries);
     }
-
-gone : (item : Item) (line : ReadyLine) (c : Charstrings) → LeavesLine item line → IsGone item line c
-gone (items.Subr n ws closing) (ready.NoSubr number) c h = subst (λ m. IsGone (items.Subr n ws closing) (ready.NoSubr m) c) (sym h) (gone-subr n ws closing c)
-gone (items.Glyph g ws closing) (ready.NoGlyph name) c h = subst (λ f. IsGone (items.Glyph f ws closing) (ready.NoGlyph name) c) h (gone-glyph name ws closing c)
-gone (items.Plain l) line c h = absurd h
-gone (items.Section before count after) line c h = absurd h
-gone (items.Subr n ws closing) ready.Kept c h = absurd h
-gone (items.Subr n ws closing) (ready.Subr number entry) c h = absurd h
-gone (items.Subr n ws closing) (ready.Glyph name entry) c h = absurd h
-gone (items.Subr n ws closing) (ready.NoGlyph name) c h = absurd h
-gone (items.Subr n ws closing) (ready.All others) c h = absurd h
-gone (items.Glyph g ws closing) ready.Kept c h = absurd h
-gone (items.Glyph g ws closing) (ready.Subr number entry) c h = absurd h
-gone (items.Glyph g ws closing) (ready.Glyph name entry) c h = absurd h
-gone (items.Glyph g ws closing) (ready.NoSubr number) c h = absurd h
-gone (items.Glyph g ws closing) (ready.All others) c h = absurd h
 
 -- ---- lengths
 
@@ -236,87 +231,69 @@ place-has key (items.Glyph g ws c) (items.Subr n vs d) same on = absurd same
 
 -- ---- an entry in the place of another
 
-module _ (s : SourceParts) (c : Charstrings) (at : ℕ) (item : Item) (line : ReadyLine)
-    (well : IsWellFormed s) (within : at < length s.items) (kept : AreEncrypted s c) where
-  put-items : IsInPlaceOf (item_at s.items at) item → (with_items s (slice_set s.items at item)).items ≡ slice_set s.items at item
-  put-items place = raised_put s.items at item within place well.items.counts
+module _ (s : SourceParts) (c : Charstrings) (at : ℕ) (item : Item) (well : IsWellFormed s) (within : at < length s.items) (kept : AreEncrypted s c)
+    (place : IsInPlaceOf (item_at s.items at) item) where
+  put-items : (with_items s (slice_set s.items at item)).items ≡ slice_set s.items at item
+  put-items = raised_put s.items at item within place well.items.counts
 
-  -- the fault of its body is that of the file
-  pub put_refused : IsInPlaceOf (item_at s.items at) item → (refused : Refusal) → Refuses refused (body_check item)
-      → Refuses refused (file_check (with_items s (slice_set s.items at item)))
-  put_refused place refused h =
-      bodies_refused (with_items s (slice_set s.items at item)) refused
-      (subst (Refuses refused) (sym (ap bodies_check (put-items place) ∙ check-put s.items at item within kept.sound)) h)
+  put-entered : is_entry item ≡ true → bodies_check (with_items s (slice_set s.items at item)).items ≡ Ok tt → IsEntered item
+  put-entered is sound = entered item is (sym (check-put s.items at item within kept.sound) ∙ ap bodies_check (sym put-items) ∙ sound)
 
-  put-other-source : IsInPlaceOf (item_at s.items at) item → (e : IsEntered (lead s) item line c)
-      → IsOther e.key (Some e.body) s (with_items s (slice_set s.items at item))
-  put-other-source place e =
-      let is = put-items place in
+  put-other-source : (e : IsEntered item) → IsOther e.key (Some e.body) s (with_items s (slice_set s.items at item))
+  put-other-source e =
       let was = place-has e.key (item_at s.items at) item place e.has in
       record {
-        front = ap (λ is. first_lead (filter_map said_lead is)) is ∙ ap first_lead (lead-put e.key s.items at item within was e.has);
-        sound = ap bodies_check is ∙ check-put s.items at item within kept.sound ∙ e.check;
-        own = ap (λ is. body_at (bodies is) e.key) is ∙ put-own e.key s.items at item e.body within (alone s e.key at well was) e.own;
-        others = λ k off. ap (λ is. body_at (bodies is) k) is ∙ put-other k e.key s.items at item within was e.has off;
+        front = ap (λ is. first_lead (filter_map said_lead is)) put-items ∙ ap first_lead (lead-put e.key s.items at item within was e.has);
+        sound = ap bodies_check put-items ∙ check-put s.items at item within kept.sound ∙ e.check;
+        own = ap (λ is. body_at (bodies is) e.key) put-items ∙ put-own e.key s.items at item e.body within (alone s e.key at well was) e.own;
+        others = λ k off. ap (λ is. body_at (bodies is) k) put-items ∙ put-other k e.key s.items at item within was e.has off;
       }
 
-  put-len : IsInPlaceOf (item_at s.items at) item → IsWellFormed (with_items s (slice_set s.items at item)) → (e : IsEntered (lead s) item line c)
-      → (n len : ℕ) → IsPrivateLen s n → n < 2 ^ 64 - 1
-      → len ≡ min ((n - old_len c s at) + min (length (ready_text (operator s) (closing_of item) line)) (2 ^ 64 - 1)) (2 ^ 64 - 1)
-      → IsPrivateLen (with_items s (slice_set s.items at item)) len
-  put-len place well_made e n len known small len_is =
-      let made = with_items s (slice_set s.items at item) in
-      let other = put-other-source place e in
-      let was = place-has e.key (item_at s.items at) item place e.has in
-      let edited : AreEdited e.key (Some (encrypted (lead s) e.key e.body)) s made c e.new =
-      record { well = well; well_made = well_made; kept = kept; kept_made = other_kept e.key (Some e.body) s made other c e.new kept e.sets; sets = e.sets } in
-      let a = length (kept_line c (operator s) (item_at s.items at)) in
-      let b = length (kept_line e.new (operator s) item) in
-      let all = len-of s c n (kept_text_is s c well kept) known small in
-      let less = line-within c (operator s) s.items at within in
-      let text = ap (λ (t : List ℕ). length t) (e.text (operator s)) in
-      let sum : ((n - a) + b) + a ≡ n + b = omega (arith, all, less) in
-      let whole : len ≡ min ((n - a) + b) (2 ^ 64 - 1) = omega (arith, len_is, text, all, less, small) in
-      subst (IsPrivateLen made) (sym whole)
-      (put_sum e.key (Some (encrypted (lead s) e.key e.body)) s made c e.new edited at item within was e.has refl n ((n - a) + b) known small sum)
+  -- lenIV stays
+  pub put_front : is_entry item ≡ true → bodies_check (with_items s (slice_set s.items at item)).items ≡ Ok tt
+      → lead (with_items s (slice_set s.items at item)) ≡ lead s
+  put_front is sound = (put-other-source (put-entered is sound)).front
 
   -- the length of the private text with it
-  pub put_known : IsInPlaceOf (item_at s.items at) item → IsWellFormed (with_items s (slice_set s.items at item)) → EntersLine (lead s) item line
-      → (n len : ℕ) → IsPrivateLen s n → file_check s ≡ Ok tt
-      → len ≡ min ((n - old_len c s at) + min (length (ready_text (operator s) (closing_of item) line)) (2 ^ 64 - 1)) (2 ^ 64 - 1)
+  pub put_known : (keys : List Key) (fresh : Charstrings) → IsEditOf keys s (with_items s (slice_set s.items at item)) c
+      → AreFresh (lead (with_items s (slice_set s.items at item))) keys (with_items s (slice_set s.items at item)) fresh → is_entry item ≡ true
+      → (n len : ℕ) → IsPrivateLen s n → file_check s ≡ Ok tt → len ≡ replaced_len n fresh c s at item
       → IsPrivateLen (with_items s (slice_set s.items at item)) len
-  put_known place well_made enters n len known faultless len_is =
-      put-len place well_made (entered (lead s) item line c enters) n len known (len_small s n faultless known) len_is
+  put_known keys fresh edit are is n len known faultless len_is =
+      let made = with_items s (slice_set s.items at item) in
+      let e = put-entered is edit.sound in
+      let other = put-other-source e in
+      let was = place-has e.key (item_at s.items at) item place e.has in
+      let new = merged fresh c in
+      let entry = Some (encrypted (lead s) e.key e.body) in
+      let sets = over-sets keys s made c fresh (edit, other.front) are e.key e.body other in
+      let small = len_small s n faultless known in
+      let edited : AreEdited e.key entry s made c new =
+      record { well = well; well_made = edit.well; kept = kept; kept_made = other_kept e.key (Some e.body) s made other c new kept sets; sets = sets } in
+      let a = length (kept_line c (operator s) (item_at s.items at)) in
+      let b = length (kept_line new (operator s) item) in
+      let all = len-of s c n (kept_text_is s c well kept) known small in
+      let less = line-within c (operator s) s.items at within in
+      let text = ap (λ (t : List ℕ). length t) (merged-line fresh c (operator s) item) in
+      let sum : ((n - a) + b) + a ≡ n + b = omega (arith, all, less) in
+      let whole : len ≡ min ((n - a) + b) (2 ^ 64 - 1) = omega (arith, len_is, text, all, less, small) in
+      subst (IsPrivateLen made) (sym whole) (put_sum e.key entry s made c new edited at item within was e.has refl n ((n - a) + b) known small sum)
 
   -- no count is too long
-  pub put_counted : IsInPlaceOf (item_at s.items at) item → EntersLine (lead s) item line → file_check s ≡ Ok tt
+  pub put_counted : is_entry item ≡ true → bodies_check (with_items s (slice_set s.items at item)).items ≡ Ok tt → file_check s ≡ Ok tt
       → list_all is_counted (with_items s (slice_set s.items at item)).items ≡ true
-  put_counted place enters faultless =
-      let e = entered (lead s) item line c enters in
-      ap (list_all is_counted) (put-items place) ∙ counted-put s.items at item (counted-entry e.key item e.has) (counted-source s faultless)
-
-  -- it is ready
-  pub put_ready : IsInPlaceOf (item_at s.items at) item → EntersLine (lead s) item line → (d : Charstrings) (len : ℕ) → AreUnchanged c d
-      → 0 < spare d.subrs → 0 < spare d.glyphs → IsPrivateLen (with_items s (slice_set s.items at item)) len
-      → IsReadyLines (with_items s (slice_set s.items at item)) d (record { line = line; len = len })
-  put_ready place enters d len same subrs glyphs known =
-      let e = entered (lead s) item line c enters in
-      let other = put-other-source place e in
-      record {
-        room = e.room d subrs glyphs;
-        kept = λ new settled.
-            other_kept e.key (Some e.body) s (with_items s (slice_set s.items at item)) other d new (unchanged s c d same kept) (e.settled d new settled);
-        len = known;
-      }
+  put_counted is sound faultless =
+      let e = put-entered is sound in
+      ap (list_all is_counted) put-items ∙ counted-put s.items at item (counted-entry e.key item e.has) (counted-source s faultless)
 
 -- ---- an entry that is taken out
 
-module _ (s : SourceParts) (c : Charstrings) (at : ℕ) (line : ReadyLine)
-    (well : IsWellFormed s) (within : at < length s.items) (kept : AreEncrypted s c) (leaves : LeavesLine (item_at s.items at) line) where
+module _ (s : SourceParts) (c : Charstrings) (at : ℕ) (well : IsWellFormed s) (within : at < length s.items) (kept : AreEncrypted s c)
+    (is : is_entry (item_at s.items at) ≡ true) where
   left-items : (with_items s (remove s.items at)).items ≡ remove s.items at
   left-items = raised_removed s.items at well.items.counts
 
-  left-source : (e : IsGone (item_at s.items at) line c) → IsOther e.key None s (with_items s (remove s.items at))
+  left-source : (e : IsLeft (item_at s.items at) c) → IsOther e.key None s (with_items s (remove s.items at))
   left-source e =
       record {
         front = ap (λ is. first_lead (filter_map said_lead is)) left-items ∙ ap first_lead (lead-remove e.key s.items at within e.has);
@@ -325,10 +302,17 @@ module _ (s : SourceParts) (c : Charstrings) (at : ℕ) (line : ReadyLine)
         others = λ k off. ap (λ is. body_at (bodies is) k) left-items ∙ remove-other k e.key s.items at within e.has off;
       }
 
-  left-len : IsWellFormed (with_items s (remove s.items at)) → (e : IsGone (item_at s.items at) line c) → (n len : ℕ) → IsPrivateLen s n → n < 2 ^ 64 - 1
+  -- lenIV stays
+  pub left_front : lead (with_items s (remove s.items at)) ≡ lead s
+  left_front = (left-source (left (item_at s.items at) c is)).front
+
+  -- the length of the private text without it
+  pub left_known : IsWellFormed (with_items s (remove s.items at)) → (n len : ℕ) → IsPrivateLen s n → file_check s ≡ Ok tt
       → len ≡ n - old_len c s at → IsPrivateLen (with_items s (remove s.items at)) len
-  left-len well_made e n len known small len_is =
+  left_known well_made n len known faultless len_is =
       let made = with_items s (remove s.items at) in
+      let e = left (item_at s.items at) c is in
+      let small = len_small s n faultless known in
       let edited : AreEdited e.key None s made c e.new =
       record { well = well; well_made = well_made; kept = kept; kept_made = other_kept e.key None s made (left-source e) c e.new kept e.sets; sets = e.sets } in
       let a = length (kept_line c (operator s) (item_at s.items at)) in
@@ -338,22 +322,6 @@ module _ (s : SourceParts) (c : Charstrings) (at : ℕ) (line : ReadyLine)
       let whole : len ≡ min (n - a) (2 ^ 64 - 1) = omega (arith, len_is, all, less, small) in
       subst (IsPrivateLen made) (sym whole) (remove_sum e.key None s made c e.new edited at within e.has refl n (n - a) known small sum)
 
-  -- the length of the private text without it
-  pub left_known : IsWellFormed (with_items s (remove s.items at)) → (n len : ℕ) → IsPrivateLen s n → file_check s ≡ Ok tt
-      → len ≡ n - old_len c s at → IsPrivateLen (with_items s (remove s.items at)) len
-  left_known well_made n len known faultless len_is = left-len well_made (gone (item_at s.items at) line c leaves) n len known (len_small s n faultless known) len_is
-
   -- no count is too long
   pub left_counted : file_check s ≡ Ok tt → list_all is_counted (with_items s (remove s.items at)).items ≡ true
   left_counted faultless = ap (list_all is_counted) left-items ∙ counted-remove s.items at within (counted-source s faultless)
-
-  -- it is ready
-  pub left_ready : (len : ℕ) → IsPrivateLen (with_items s (remove s.items at)) len
-      → IsReadyLines (with_items s (remove s.items at)) c (record { line = line; len = len })
-  left_ready len known =
-      let e = gone (item_at s.items at) line c leaves in
-      record {
-        room = e.room c;
-        kept = λ new settled. other_kept e.key None s (with_items s (remove s.items at)) (left-source e) c new kept (e.settled c new settled);
-        len = known;
-      }

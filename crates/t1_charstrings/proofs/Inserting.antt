@@ -1,13 +1,11 @@
 -- A source into which an entry is put, whose key no other has.
-use Rattle.std.proofs.Common.{◌≡◌, ◌+◌, ◌-◌, ◌^◌, ◌<◌, ◌≤◌, min, max, ℕ, zero, suc, true, false, cond, List, [], ◌∷◌, ◌++◌, map, length, length-append, filter_map, refl, sym, ap, subst, ◌∙◌, Some, Ok, arith}
+use Rattle.std.proofs.Common.{◌≡◌, ◌+◌, ◌-◌, ◌^◌, ◌≤◌, min, max, ℕ, zero, suc, true, false, cond, List, [], ◌∷◌, ◌++◌, map, length, length-append, filter_map, refl, sym, ap, subst, ◌∙◌, Some, Ok, arith}
 use Rattle.std.specs.Prelude.{◌||◌, ◌&&◌, Err}
 use Rattle.std.specs.List.{insert, list_all, list_any}
 use Rattle.std.proofs.lemmas.List.Sums.{sum_by-cons}
-use Rattle.indexmap.specs.IndexMap.{spare}
 use Rattle.t1_frac.specs.declared.fault.Code.TheVariants.{F23}
 use Rattle.t1_frac.specs.declared.fault.Place.TheVariants.{Nowhere}
-use Rattle.t1_frac.specs.declared.fault.Refusal.{Refusal}
-use Rattle.t1_frac.specs.Outcome.{Refuses, fault_at}
+use Rattle.t1_frac.specs.Outcome.{fault_at}
 use Rattle.t1_parts.specs.declared.item.Item.{Item}
 use Rattle.t1_parts.specs.declared.item.Item.TheVariants as items
 use Rattle.t1_parts.specs.Counts.{glyphs_needed, is_glyph_entry, raised_item, subrs_needed}
@@ -18,21 +16,19 @@ use Rattle.t1_source.specs.Editing.{with_items}
 use Rattle.t1_source.specs.WellFormed.{IsWellFormed, is_counted}
 use Rattle.t1_run.specs.Run.{Key, Subr, Glyph}
 use Rattle.t1_font.specs.Assembly.{counts_check, file_check}
-use Rattle.t1_font.specs.Bodies.{bodies, bodies_check, body_check}
+use Rattle.t1_font.specs.Bodies.{bodies, bodies_check}
 use Rattle.t1_charstrings.specs.declared.entries.Charstrings.{Charstrings}
-use Rattle.t1_charstrings.specs.declared.settling.ReadyLine.{ReadyLine}
-use Rattle.t1_charstrings.specs.Changed.{AreUnchanged}
+use Rattle.t1_charstrings.specs.Batch.{AreFresh, IsEditOf}
 use Rattle.t1_charstrings.specs.Entries.{body_at, encrypted}
 use Rattle.t1_charstrings.specs.Kept.{AreEncrypted}
 use Rattle.t1_charstrings.specs.Lengths.{IsPrivateLen}
 use Rattle.t1_charstrings.specs.Lines.{kept_line, kept_text}
 use Rattle.t1_charstrings.specs.Raising.{is_raised_counted, raised_check, raised_text}
-use Rattle.t1_charstrings.specs.Ready.{EntersLine, IsReadyLines, inserted_len}
+use Rattle.t1_charstrings.specs.Ready.{inserted_len, is_entry}
 use Rattle.t1_charstrings.specs.Sums.{AreEdited, has_key, item_at, section_line, section_text}
 use Rattle.t1_charstrings.proofs.Adding.{alone, text-both, Alone}
-use Rattle.t1_charstrings.proofs.Entered.{entered, len_small, IsEntered}
+use Rattle.t1_charstrings.proofs.Entered.{entered, len_small, merged, merged-line, over-sets, IsEntered}
 use Rattle.t1_charstrings.proofs.Entering.{check-insert, insert-other, insert-own, lead-insert, other_kept, raised-bodies, raised-checks, raised-leads, IsOther}
-use Rattle.t1_charstrings.proofs.Readying.{bodies_refused, unchanged}
 use Rattle.t1_charstrings.proofs.Texts.{kept_text_is}
 use Rattle.t1_charstrings.proofs.Totals.{insert_sum, len-of}
 
@@ -156,22 +152,19 @@ module _ (s : SourceParts) (c : Charstrings) (at : ℕ) (item : Item) (well : Is
       ap (λ n. map (raised_item n (glyphs_needed (insert s.items at item))) (insert s.items at item)) (subrs-inserted s.items at item within ∙ sym subrs_is)
       ∙ ap (λ n. map (raised_item subrs n) (insert s.items at item)) (glyphs-inserted s.items at item within ∙ sym glyphs_is)
 
-  -- the fault of its body is that of the file
-  pub insert_refused : (refused : Refusal) → Refuses refused (body_check item) → Refuses refused (file_check (with_items s (insert s.items at item)))
-  insert_refused refused h =
-      bodies_refused (with_items s (insert s.items at item)) refused
-      (subst (Refuses refused)
-      (sym (ap bodies_check made-items ∙ raised-checks subrs glyphs (insert s.items at item) ∙ check-insert s.items at item within kept.sound)) h)
-
   none-has : IsWellFormed (with_items s (insert s.items at item)) → (key : Key) → has_key key item ≡ true → list_any (has_key key) s.items ≡ false
   none-has well_made key on =
       let there = ap (λ is. has_key key (item_at is at)) made-items ∙ at-inserted subrs glyphs key s.items at item within ∙ on in
       none-other subrs glyphs key s.items at item within
       (subst (Alone (has_key key) at) made-items (alone (with_items s (insert s.items at item)) key at well_made there))
 
-  insert-source : IsWellFormed (with_items s (insert s.items at item)) → (line : ReadyLine) (e : IsEntered (lead s) item line c)
-      → IsOther e.key (Some e.body) s (with_items s (insert s.items at item))
-  insert-source well_made line e =
+  insert-entered : is_entry item ≡ true → bodies_check (with_items s (insert s.items at item)).items ≡ Ok tt → IsEntered item
+  insert-entered is sound =
+      entered item is
+      (sym (check-insert s.items at item within kept.sound) ∙ sym (raised-checks subrs glyphs (insert s.items at item)) ∙ ap bodies_check (sym made-items) ∙ sound)
+
+  insert-source : IsWellFormed (with_items s (insert s.items at item)) → (e : IsEntered item) → IsOther e.key (Some e.body) s (with_items s (insert s.items at item))
+  insert-source well_made e =
       let more = insert s.items at item in
       record {
         front = ap (λ is. first_lead (filter_map said_lead is)) made-items
@@ -183,48 +176,45 @@ module _ (s : SourceParts) (c : Charstrings) (at : ℕ) (item : Item) (well : Is
             ∙ insert-other k e.key s.items at item within e.has off;
       }
 
+  -- lenIV stays
+  pub insert_front : is_entry item ≡ true → IsWellFormed (with_items s (insert s.items at item)) → bodies_check (with_items s (insert s.items at item)).items ≡ Ok tt
+      → lead (with_items s (insert s.items at item)) ≡ lead s
+  insert_front is well_made sound = (insert-source well_made (insert-entered is sound)).front
+
   -- the length of the private text with it
-  pub insert_known : IsWellFormed (with_items s (insert s.items at item)) → (line : ReadyLine) → EntersLine (lead s) item line
-      → (n len : ℕ) → IsPrivateLen s n → file_check s ≡ Ok tt
-      → len ≡ inserted_len n s item line subrs glyphs
+  pub insert_known : (keys : List Key) (fresh : Charstrings) → IsEditOf keys s (with_items s (insert s.items at item)) c
+      → AreFresh (lead (with_items s (insert s.items at item))) keys (with_items s (insert s.items at item)) fresh → is_entry item ≡ true
+      → (n len : ℕ) → IsPrivateLen s n → file_check s ≡ Ok tt → len ≡ inserted_len n fresh c s item subrs glyphs
       → IsPrivateLen (with_items s (insert s.items at item)) len
-  insert_known well_made line enters n len known faultless len_is =
-      let e = entered (lead s) item line c enters in
+  insert_known keys fresh edit are is n len known faultless len_is =
       let made = with_items s (insert s.items at item) in
+      let e = insert-entered is edit.sound in
+      let other = insert-source edit.well e in
+      let new = merged fresh c in
+      let entry = Some (encrypted (lead s) e.key e.body) in
+      let sets = over-sets keys s made c fresh (edit, other.front) are e.key e.body other in
       let small = len_small s n faultless known in
-      let edited : AreEdited e.key (Some (encrypted (lead s) e.key e.body)) s made c e.new =
-      record { well = well; well_made = well_made; kept = kept; kept_made = other_kept e.key (Some e.body) s made (insert-source well_made line e) c e.new kept e.sets; sets = e.sets } in
-      let b = length (kept_line e.new (operator s) item) in
+      let edited : AreEdited e.key entry s made c new =
+      record { well = well; well_made = edit.well; kept = kept; kept_made = other_kept e.key (Some e.body) s made other c new kept sets; sets = sets } in
+      let b = length (kept_line new (operator s) item) in
       let t = length (section_text s.items) in
       let r = length (section_text made.items) in
       let all = len-of s c n (kept_text_is s c well kept) known small in
       let less = sections-within c (operator s) s.items in
-      let text = ap (λ (t : List ℕ). length t) (e.text (operator s)) in
+      let text = ap (λ (t : List ℕ). length t) (merged-line fresh c (operator s) item) in
       let sections : r ≡ length (raised_text subrs glyphs s.items) =
       ap (λ is. length (section_text is)) made-items
       ∙ ap (λ (t : List ℕ). length t) (raised-sections subrs glyphs s.items at item within (no-raised-section subrs glyphs e.key item e.has)) in
       let sum : (((n - t) + b) + r) + t ≡ (n + b) + r = omega (arith, all, less) in
       let whole : len ≡ min (((n - t) + b) + r) (2 ^ 64 - 1) = omega (arith, len_is, text, sections, all, less, small) in
       subst (IsPrivateLen made) (sym whole)
-      (insert_sum e.key (Some (encrypted (lead s) e.key e.body)) s made c e.new edited at item within (none-has well_made e.key e.has) e.has refl
+      (insert_sum e.key entry s made c new edited at item within (none-has edit.well e.key e.has) e.has refl
       n (((n - t) + b) + r) known small sum)
 
   -- its counts are those that are raised
-  pub insert_counts : (line : ReadyLine) → EntersLine (lead s) item line → counts_check (with_items s (insert s.items at item)).items ≡ raised_check subrs glyphs s.items
-  insert_counts line enters =
-      let e = entered (lead s) item line c enters in
+  pub insert_counts : is_entry item ≡ true → bodies_check (with_items s (insert s.items at item)).items ≡ Ok tt
+      → counts_check (with_items s (insert s.items at item)).items ≡ raised_check subrs glyphs s.items
+  insert_counts is sound =
+      let e = insert-entered is sound in
       ap counts_check made-items
       ∙ ap (λ b. cond b (Ok tt) (Err (fault_at Nowhere F23))) (counted-inserted subrs glyphs s.items at item within (counted-raised subrs glyphs e.key item e.has))
-
-  -- it is ready
-  pub insert_ready : IsWellFormed (with_items s (insert s.items at item)) → (line : ReadyLine) → EntersLine (lead s) item line → (d : Charstrings) (len : ℕ)
-      → AreUnchanged c d → 0 < spare d.subrs → 0 < spare d.glyphs → IsPrivateLen (with_items s (insert s.items at item)) len
-      → IsReadyLines (with_items s (insert s.items at item)) d (record { line = line; len = len })
-  insert_ready well_made line enters d len same some more known =
-      let e = entered (lead s) item line c enters in
-      record {
-        room = e.room d some more;
-        kept = λ new settled.
-            other_kept e.key (Some e.body) s (with_items s (insert s.items at item)) (insert-source well_made line e) d new (unchanged s c d same kept) (e.settled d new settled);
-        len = known;
-      }

@@ -1,5 +1,5 @@
 -- What is ready of a source that was edited.
-use Rattle.std.proofs.Common.{◌≡◌, ℕ, List, ap, ◌∙◌}
+use Rattle.std.proofs.Common.{◌≡◌, ℕ, ap, ◌∙◌}
 use Rattle.std.specs.Option.{option_map}
 use Rattle.t1_parts.specs.LenIV.{lead}
 use Rattle.t1_parts.specs.SourceParts.{SourceParts}
@@ -10,9 +10,8 @@ use Rattle.t1_frac.specs.Outcome.{Refuses}
 use Rattle.t1_font.specs.Assembly.{file_check}
 use Rattle.t1_font.specs.Bodies.{bodies, bodies_check}
 use Rattle.t1_font.proofs.LengthLaws.{body_fault_told}
-use Rattle.t1_source.specs.Editing.{with_clear}
 use Rattle.t1_charstrings.specs.declared.entries.Charstrings.{Charstrings}
-use Rattle.t1_charstrings.specs.declared.settling.ReadyLine.TheVariants as ready
+use Rattle.t1_charstrings.specs.declared.settling.ReadyCharstrings.TheVariants as ready
 use Rattle.t1_charstrings.specs.Changed.{AreUnchanged}
 use Rattle.t1_charstrings.specs.Entries.{body_at, encrypted, glyph_kept, subr_kept}
 use Rattle.t1_charstrings.specs.Kept.{AreEncrypted, kept_at}
@@ -31,22 +30,8 @@ unchanged s old new same kept = record {
 
 -- all were encrypted anew
 pub all_ready : (s : SourceParts) (old c : Charstrings) (len : ℕ) → AreEncrypted s c → IsPrivateLen s len
-    → IsReadyLines s old (record { line = ready.All c; len = len })
+    → IsReadyLines s old (record { charstrings = ready.All c; len = len })
 all_ready s old c len kept known = record { room = tt; kept = λ new same. unchanged s c new same kept; len = known }
-
--- nothing changes
-pub kept_ready : (s : SourceParts) (c : Charstrings) (len : ℕ) → AreEncrypted s c → IsPrivateLen s len
-    → IsReadyLines s c (record { line = ready.Kept; len = len })
-kept_ready s c len kept known = record { room = tt; kept = λ new same. unchanged s c new same kept; len = known }
-
--- the clear part has other lines
-pub clear_ready : (s : SourceParts) (lines : List (List ℕ)) (c : Charstrings) (len : ℕ) → AreEncrypted s c → IsPrivateLen s len
-    → IsReadyLines (with_clear s lines) c (record { line = ready.Kept; len = len })
-clear_ready s lines c len kept known = record {
-  room = tt;
-  kept = λ new same. let now = unchanged s c new same kept in record { sound = now.sound; each = now.each };
-  len = known;
-}
 
 -- the fault of a body is that of the file
 pub bodies_refused : (s : SourceParts) (refused : Refusal) → Refuses refused (bodies_check s.items) → Refuses refused (file_check s)

@@ -1,9 +1,8 @@
 //! What is kept, changed at one Subr or one glyph.
-ghost use Rattle.std.specs.Prelude.{◌≡◌, ◌≤◌, ◌<◌, ◌+◌, Option, None, Some, IsOk, IsSome, OnErr, OnOk};
+ghost use Rattle.std.specs.Prelude.{◌≡◌, ◌≤◌, ◌<◌, ◌+◌, Some, IsOk, OnErr, OnOk};
 ghost use Rattle.indexmap.specs.IndexMap.{spare};
 ghost use Rattle.t1_run.specs.Run.{Subr, Glyph};
 ghost use Rattle.t1_charstrings.specs.Changed.{AreUnchanged, Sets};
-ghost use Rattle.t1_charstrings.specs.Kept.{kept_at};
 
 use crate::entries::{Charstrings, Entry};
 use std::alloc::AllocError;
@@ -20,26 +19,6 @@ pub fn make_room(
 {
     charstrings.subrs.reserve(subrs)?;
     charstrings.glyphs.reserve(glyphs)
-}
-
-/// Puts another charstring in the place of a Subr's. It takes no memory and can't fail.
-pub fn put_subr(charstrings: &mut Charstrings, number: u16, entry: Entry)
-    requires { IsSome (kept_at charstrings.old (Subr number)) }
-    ensures { Sets (Subr number) (Some entry) charstrings.old charstrings.new }
-{
-    if let Some(kept) = charstrings.subrs.get_mut(&number) {
-        *kept = entry;
-    }
-}
-
-/// Puts another charstring in the place of a glyph's. It takes no memory and can't fail.
-pub fn put_glyph(charstrings: &mut Charstrings, name: &[u8], entry: Entry)
-    requires { IsSome (kept_at charstrings.old (Glyph name.now)) }
-    ensures { Sets (Glyph name.now) (Some entry) charstrings.old charstrings.new }
-{
-    if let Some(kept) = charstrings.glyphs.get_mut(name) {
-        *kept = entry;
-    }
 }
 
 /// Puts the charstring of a Subr in. Where memory runs out all stays as it was; in room that was made it doesn't.
@@ -70,18 +49,4 @@ pub fn insert_glyph(
 {
     charstrings.glyphs.insert(name, entry)?;
     Ok(())
-}
-
-/// Takes the charstring of a Subr out. It takes no memory and can't fail.
-pub fn remove_subr(charstrings: &mut Charstrings, number: u16)
-    ensures { Sets (Subr number) None charstrings.old charstrings.new }
-{
-    charstrings.subrs.shift_remove(&number);
-}
-
-/// Takes the charstring of a glyph out. It takes no memory and can't fail.
-pub fn remove_glyph(charstrings: &mut Charstrings, name: &[u8])
-    ensures { Sets (Glyph name.now) None charstrings.old charstrings.new }
-{
-    charstrings.glyphs.shift_remove(name);
 }

@@ -1,5 +1,5 @@
 //! The charstrings of a source, encrypted.
-ghost use Rattle.std.specs.Prelude.{◌≡◌, ◌==◌, ℕ, List, Ok, None, IfOk, OnOk, if◌then◌else◌};
+ghost use Rattle.std.specs.Prelude.{◌≡◌, ◌==◌, ℕ, List, None, IfOk, OnOk, if◌then◌else◌};
 ghost use Rattle.std.specs.Option.{option_map, option_or};
 ghost use Rattle.std.specs.Result.{result_ok};
 ghost use Rattle.std.specs.Str.{bytes_eq};
@@ -131,16 +131,4 @@ pub fn charstrings_of(alloc: Global, source: &Source) -> Result<Charstrings, Ref
     ensures kept { IfOk result (λ kept. AreEncrypted source.now kept) }
 {
     encrypted_items(alloc, source.lead(), source.items())
-}
-
-/// The charstrings of a source whose bodies have no fault, encrypted for another lenIV.
-pub fn encrypted_anew(alloc: Global, source: &Source, lead: u8) -> Result<Charstrings, AllocError>
-    requires { bodies_check source.now.items ≡ Ok tt }
-    ensures { IfOk result (λ kept. Encrypt lead (bodies source.now.items) kept) }
-{
-    match encrypted_items(alloc, lead, source.items()) {
-        Ok(kept) => Ok(kept),
-        // The bodies have no fault.
-        Err(_) => Err(AllocError),
-    }
 }

@@ -1,52 +1,80 @@
-//! What an edit makes of the charstrings, made ready and put in its place.
-ghost use Rattle.std.specs.Prelude.{IsOk};
+//! What edits make of the charstrings, made ready and put in its place.
+ghost use Rattle.std.specs.Prelude.{◌≡◌, IfOk};
 ghost use Rattle.t1_parts.specs.SourceParts.{SourceParts};
+ghost use Rattle.t1_charstrings.specs.declared.settling.ReadyCharstrings.TheVariants as ready;
+ghost use Rattle.t1_charstrings.specs.Changed.{AreUnchanged};
 ghost use Rattle.t1_charstrings.specs.Kept.{AreEncrypted};
 ghost use Rattle.t1_charstrings.specs.Lengths.{IsPrivateLen};
 ghost use Rattle.t1_charstrings.specs.Ready.{HasRoom, IsReadyLines, SettlesTo};
 
-use crate::changed::{insert_glyph, insert_subr, remove_glyph, remove_subr};
-use crate::entries::{Charstrings, Entry};
+use crate::batch::{put_in, take_out};
+use crate::changed::make_room;
+use crate::entries::Charstrings;
+use std::alloc::AllocError;
 
-/// What an edit makes of the charstrings.
+/// An entry that edits remove.
 #[derive(Drop)]
-pub enum ReadyLine {
-    /// All charstrings stay.
-    Kept,
-    /// The charstring of a Subr that was replaced or added.
-    Subr(u16, Entry),
-    /// The charstring of a glyph that was replaced or added.
-    Glyph(Vec<u8>, Entry),
-    /// A Subr is removed.
-    NoSubr(u16),
-    /// A glyph is removed.
-    NoGlyph(Vec<u8>),
+pub enum Gone {
+    Subr(u16),
+    Glyph(Vec<u8>),
+}
+
+/// What edits make of the entries that they name.
+#[derive(Drop)]
+pub struct EditedEntries {
+    /// The charstrings of the entries that were replaced or added.
+    pub fresh: Charstrings,
+    /// The entries that are removed.
+    pub gone: Vec<Gone>,
+}
+
+/// What edits make of the charstrings.
+#[derive(Drop)]
+pub enum ReadyCharstrings {
+    /// The entries that the edits name change; the others stay.
+    Edited(EditedEntries),
     /// All charstrings, encrypted anew.
     All(Charstrings),
 }
 
-/// What an edit makes of the charstrings, and how long the private text is then.
+/// What edits make of the charstrings, and how long the private text is then.
 #[derive(Drop)]
 pub struct ReadyLines {
-    pub line: ReadyLine,
+    pub charstrings: ReadyCharstrings,
     pub len: usize,
 }
 
-/// Puts what is ready in its place.
-fn settle_line(charstrings: &mut Charstrings, line: ReadyLine)
-    ensures { HasRoom line charstrings.old → SettlesTo line charstrings.old charstrings.new }
+/// What is ready of edited entries, with room for their charstrings.
+pub(crate) fn ready_entries(
+    charstrings: &mut Charstrings,
+    entries: EditedEntries,
+    len: usize,
+) -> Result<ReadyLines, AllocError>
+    ensures same { AreUnchanged charstrings.old charstrings.new }
+    ensures ready { IfOk result (λ lines. lines ≡ record { charstrings = ready.Edited entries; len = len }) }
+    ensures room { IfOk result (λ lines. HasRoom lines.charstrings charstrings.new) }
 {
-    match line {
-        ReadyLine::Kept => {}
-        ReadyLine::Subr(number, entry) => {
-            let _put = insert_subr(charstrings, number, entry);
+    make_room(
+        charstrings,
+        entries.fresh.subrs.len(),
+        entries.fresh.glyphs.len(),
+    )?;
+    Ok(ReadyLines {
+        charstrings: ReadyCharstrings::Edited(entries),
+        len,
+    })
+}
+
+/// Puts the charstrings that are ready in their place.
+fn settle_charstrings(charstrings: &mut Charstrings, ready: ReadyCharstrings)
+    ensures { HasRoom ready charstrings.old → SettlesTo ready charstrings.old charstrings.new }
+{
+    match ready {
+        ReadyCharstrings::Edited(EditedEntries { fresh, gone }) => {
+            take_out(charstrings, &gone);
+            put_in(charstrings, fresh);
         }
-        ReadyLine::Glyph(name, entry) => {
-            let _put = insert_glyph(charstrings, name, entry);
-        }
-        ReadyLine::NoSubr(number) => remove_subr(charstrings, number),
-        ReadyLine::NoGlyph(name) => remove_glyph(charstrings, name.as_slice()),
-        ReadyLine::All(anew) => *charstrings = anew,
+        ReadyCharstrings::All(anew) => *charstrings = anew,
     }
 }
 
@@ -56,7 +84,10 @@ pub fn settle_lines(charstrings: &mut Charstrings, private_len: &mut usize, read
     ensures kept { (made : SourceParts) → IsReadyLines made charstrings.old ready → AreEncrypted made charstrings.new }
     ensures len { (made : SourceParts) → IsReadyLines made charstrings.old ready → IsPrivateLen made private_len.new }
 {
-    let ReadyLines { line, len } = ready;
-    settle_line(charstrings, line);
+    let ReadyLines {
+        charstrings: ready,
+        len,
+    } = ready;
+    settle_charstrings(charstrings, ready);
     *private_len = len;
 }

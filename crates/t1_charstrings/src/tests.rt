@@ -3,7 +3,6 @@ ghost use Rattle.std.specs.Prelude.{IfOk};
 ghost use Rattle.t1_source.specs.WellFormed.{IsWellFormed};
 
 mod batch;
-mod edits;
 
 use super::*;
 use std::alloc::Global;
@@ -116,72 +115,6 @@ fn writes_the_small_font_in_hexadecimal(rt: HostRuntime) -> Result<(), Fail> {
     let mut out = Counted::new(Vec::new(alloc));
     write_kept_file(alloc, &charstrings, &source, &Pfa, &mut out)?;
     assert_eq!(rt; out.into_inner().len(), 767);
-    Ok(())
-}
-
-#[test]
-fn encrypts_for_another_len_iv(rt: HostRuntime) -> Result<(), Fail> {
-    let alloc = rt.alloc();
-    let source = read(alloc, SMALL)?;
-    let charstrings = charstrings_of(alloc, &source)?;
-    assert_eq!(rt; keeps(&charstrings, "space", &SPACE), true);
-    let bare = encrypted_anew(alloc, &source, 0)?;
-    assert_eq!(rt; keeps(&bare, "space", &BARE_SPACE), true);
-    Ok(())
-}
-
-/// Puts another charstring in the place of a glyph's.
-fn put(charstrings: &mut Charstrings, name: &[u8], entry: Entry) -> Result<(), Fail> {
-    if charstrings.glyphs.get(name).is_none() {
-        return Err(Fail::new("no such glyph"));
-    }
-    put_glyph(charstrings, name, entry);
-    Ok(())
-}
-
-/// The small font's charstrings, with a glyph more and its own one changed in room that was made.
-fn changed(alloc: Global) -> Result<Charstrings, Fail> {
-    let mut charstrings = charstrings_of(alloc, &read(alloc, SMALL)?)?;
-    make_room(&mut charstrings, 1, 1)?;
-    let space = body(alloc, "0 250 hsbw endchar")?;
-    let more = encrypted_glyph(alloc, 0, b"more", &space)?;
-    insert_glyph(&mut charstrings, Vec::from_slice(alloc, b"more")?, more)?;
-    let subr = encrypted_subr(alloc, 4, 3, &space)?;
-    insert_subr(&mut charstrings, 3, subr)?;
-    put(
-        &mut charstrings,
-        b"space",
-        encrypted_glyph(alloc, 0, b"space", &space)?,
-    )?;
-    Ok(charstrings)
-}
-
-#[test]
-fn changes_entries(rt: HostRuntime) -> Result<(), Fail> {
-    let mut charstrings = changed(rt.alloc())?;
-    assert_eq!(rt; keeps(&charstrings, "more", &BARE_SPACE), true);
-    assert_eq!(rt; keeps(&charstrings, "space", &BARE_SPACE), true);
-    remove_glyph(&mut charstrings, b"more");
-    remove_subr(&mut charstrings, 3);
-    assert_eq!(rt; (charstrings.subrs.len(), charstrings.glyphs.len()), (0, 1));
-    Ok(())
-}
-
-#[test]
-fn puts_a_subr(rt: HostRuntime) -> Result<(), Fail> {
-    let alloc = rt.alloc();
-    let mut charstrings = charstrings_of(alloc, &read(alloc, SUBR)?)?;
-    if charstrings.subrs.get(&4).is_none() {
-        return Err(Fail::new("no Subr 4"));
-    }
-    let space = body(alloc, "0 250 hsbw endchar")?;
-    put_subr(&mut charstrings, 4, encrypted_subr(alloc, 4, 4, &space)?);
-    let kept = match charstrings.subrs.get(&4) {
-        None => false,
-        Some(entry) => entry.charstring() == SPACE.as_slice()
-            && entry.head() == b"dup 4".as_slice(),
-    };
-    assert_eq!(rt; kept, true);
     Ok(())
 }
 

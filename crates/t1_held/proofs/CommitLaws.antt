@@ -1,17 +1,18 @@
--- What the edits of a batch make of the charstrings that are held.
+-- What edits make of the charstrings that are held.
 use Rattle.std.proofs.Common.{◌≡◌, ◌<◌, ◌+◌, ℕ, suc, Bool, true, false, cond, ◌&&◌, ◌||◌, List, [], ◌∷◌, map, drop, drop-cons, get_or, length, add-one, Option, Some, None, Ok, refl, ap, sym, ◌∙◌}
 use Rattle.std.specs.Prelude.{is_none}
 use Rattle.std.specs.List.{AllByRecursion, list_any}
-use Rattle.std.specs.Option.{option_map, option_or}
+use Rattle.std.specs.Option.{option_map, option_or, option_to_list}
 use Rattle.t1_code.specs.declared.command.Command.{Command}
 use Rattle.t1_parts.specs.LenIV.{lead}
 use Rattle.t1_parts.specs.SourceParts.{SourceParts}
 use Rattle.t1_run.specs.Run.{FontBodies, Key, Subr, Glyph}
-use Rattle.t1_font.specs.Bodies.{bodies}
+use Rattle.t1_font.specs.Bodies.{bodies, bodies_check}
 use Rattle.t1_font.proofs.Compiling.{or-assoc, or-none}
-use Rattle.t1_charstrings.specs.declared.batch.Gone.{Gone}
+use Rattle.t1_charstrings.specs.declared.settling.Gone.{Gone}
 use Rattle.t1_charstrings.specs.declared.entries.Charstrings.{Charstrings}
-use Rattle.t1_charstrings.specs.Batch.{gone_key, is_gone, AreFresh, AreGone, IsBatchOf}
+use Rattle.t1_charstrings.specs.declared.settling.EditedEntries.{EditedEntries}
+use Rattle.t1_charstrings.specs.Batch.{gone_key, is_gone, AreEdits, AreFresh, AreGone}
 use Rattle.t1_charstrings.specs.Changed.{Sets}
 use Rattle.t1_charstrings.specs.Entries.{Kept, encrypted, body_at as kept_body_at, key_eq as same_key}
 use Rattle.t1_charstrings.specs.Kept.{kept_at}
@@ -24,7 +25,7 @@ use Rattle.t1_source.specs.WellFormed.{IsWellFormed}
 use Rattle.t1_font.specs.Assembly.{file_check}
 use Rattle.t1_font.specs.Glyphs.{glyph_names}
 use Rattle.t1_charstrings.specs.Kept.{AreEncrypted}
-use Rattle.t1_cache.specs.Edited.{stale}
+use Rattle.t1_cache.specs.Edited.{stale, IsEditedAt}
 use Rattle.t1_cache.specs.Renewed.{Kept as KeptGlyph}
 use Rattle.t1_cache.proofs.Distinct.{names_distinct}
 use Rattle.t1_rerun.specs.Changing.{AreChangesOf}
@@ -34,7 +35,8 @@ use Rattle.t1_batch.specs.Batch.{AreBatchChanges}
 use Rattle.t1_batch.specs.Members.{HaveSameKeys}
 use Rattle.t1_batch.proofs.Members.{same_stale, same_stale_glyphs}
 use Rattle.t1_held.specs.declared.held.Held.{Held}
-use Rattle.t1_held.specs.Commit.{commit_runs, fresh_in, fresh_one, gone_keys}
+use Rattle.t1_held.specs.Entries.{fresh_in, fresh_one, gone_keys}
+use Rattle.t1_held.specs.Ready.{commit_runs}
 use Rattle.t1_held.specs.Held.{IsHeld}
 
 -- ---- keys
@@ -118,10 +120,10 @@ module _ (front : ℕ) (made : SourceParts) (k : Key) where
         ap (λ r. option_or r (option_map (encrypted front k) c.body)) none ∙ sym (ap (option_map (encrypted front k)) body)
     by false off rest = sym (or-none (fresh_in front changes k)) ∙ rest
 
-pub fresh-are : (made : SourceParts) (changes : List EntryChange) (fresh : Charstrings) → AreDistinctKeys (changed_keys changes)
-    → AllByRecursion (HasBody made) changes → ((k : Key) → kept_at fresh k ≡ fresh_in (lead made) changes k) → AreFresh (changed_keys changes) made fresh
-fresh-are made changes fresh distinct has are k =
-    are k ∙ fresh-at (lead made) made k changes distinct has ∙ sym (ap (wanted-at (lead made) made k) (among k (changed_keys changes)))
+fresh-are : (front : ℕ) (made : SourceParts) (changes : List EntryChange) (fresh : Charstrings) → AreDistinctKeys (changed_keys changes)
+    → AllByRecursion (HasBody made) changes → ((k : Key) → kept_at fresh k ≡ fresh_in front changes k) → AreFresh front (changed_keys changes) made fresh
+fresh-are front made changes fresh distinct has are k =
+    are k ∙ fresh-at front made k changes distinct has ∙ sym (ap (wanted-at front made k) (among k (changed_keys changes)))
 
 -- ---- the entries that are gone
 
@@ -166,18 +168,28 @@ module _ (made : SourceParts) (k : Key) where
         by true false gone off rest = rest
         by false false gone off rest = rest
 
-pub gone-are : (made : SourceParts) (changes : List EntryChange) (gone : List Gone) → AreDistinctKeys (changed_keys changes)
+gone-are : (made : SourceParts) (changes : List EntryChange) (gone : List Gone) → AreDistinctKeys (changed_keys changes)
     → AllByRecursion (HasBody made) changes → map gone_key gone ≡ gone_keys changes → AreGone (changed_keys changes) made gone
 gone-are made changes gone distinct has are k =
     gone-among k gone ∙ ap (list_any (same_key k)) are ∙ among k (gone_keys changes) ∙ gone-at made k changes distinct has
     ∙ sym (ap (λ b. b && is_none (kept_body_at (bodies made.items) k)) (among k (changed_keys changes)) ∙ ap (λ r. list_any (key_eq k) (changed_keys changes) && is_none r) (same-body (bodies made.items) k))
 
--- ---- a batch
+-- ---- edits
 
-pub batch-is : (s made : SourceParts) (ks : List Key) (changes : List EntryChange) (c : Charstrings) → AreEncrypted s c → IsWellFormed made
-    → AreBatchChanges s made ks changes → lead made ≡ lead s → IsBatchOf (changed_keys changes) s made c
-batch-is s made ks changes c kept well are front =
-    record { kept = kept; well = well; sound = are.compiled; same = are.edited.bodies; front = front }
+pub edits_are : (s made : SourceParts) (changes : List EntryChange) (c : Charstrings) (entries : EditedEntries) → AreEncrypted s c → IsWellFormed made
+    → bodies_check made.items ≡ Ok tt → IsEditedAt (changed_keys changes) s made → AreDistinctKeys (changed_keys changes) → AllByRecursion (HasBody made) changes
+    → ((k : Key) → kept_at entries.fresh k ≡ fresh_in (lead s) changes k) → map gone_key entries.gone.items ≡ gone_keys changes → AreEdits s made c entries
+edits_are s made changes c entries kept well sound edited distinct has fresh gone = record {
+  keys = changed_keys changes;
+  edit = record { kept = kept; well = well; sound = sound; same = edited.bodies };
+  fresh = fresh-are (lead s) made changes entries.fresh distinct has fresh;
+  gone = gone-are made changes entries.gone.items distinct has gone;
+}
+
+-- one change alone
+pub one_key : (change : Option EntryChange) → AreDistinctKeys (changed_keys (option_to_list change))
+one_key None = tt
+one_key (Some c) = (refl, tt)
 
 pub run-where-stale : (count : ℕ) (ks ls : List Key) (s : SourceParts) (kept l : List KeptGlyph) → HaveSameKeys ks ls
     → AllByRecursion (IsRunWhereStale count ks s kept) l → AllByRecursion (IsRunWhereStale count ls s kept) l

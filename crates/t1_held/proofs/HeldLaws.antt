@@ -42,7 +42,8 @@ use Rattle.t1_rerun.specs.Right.{IsRight}
 use Rattle.t1_rerun.specs.Settled.{changed_keys, AreAsBefore}
 use Rattle.t1_rerun.proofs.Judged.{still-right}
 use Rattle.t1_held.specs.declared.held.Held.{Held}
-use Rattle.t1_held.specs.Held.{IsHeld, IsPreparedEdit}
+use Rattle.t1_held.specs.Held.{IsHeld}
+use Rattle.t1_held.specs.Ready.{IsPreparedEdit}
 use Rattle.t1_font.specs.Glyphs.{Glyph as Told}
 use Rattle.t1_font.specs.MeasuredGlyphs.{MeasuredFont, measured}
 use Rattle.t1_font.specs.SourceChecks.{measured_source}
@@ -106,11 +107,11 @@ module _ (s : SourceParts) (k : List Pair) (edit : Edit) (change : Change) (h : 
   abbrev made : SourceParts
   made = (changed change s k).0
 
-  well-made : IsWellFormed made
-  well-made = edited_well_formed s k edit made (changed change s k).1 e.well e.made
+  pub well_made : IsWellFormed made
+  well_made = edited_well_formed s k edit made (changed change s k).1 e.well e.made
 
   pub edit_made : IsMade edit s made
-  edit_made = record { pairs = k; made_pairs = (changed change s k).1; compiled = e.held.encrypted.sound; well = e.well; well_made = well-made; made = e.made }
+  edit_made = record { pairs = k; made_pairs = (changed change s k).1; compiled = e.held.encrypted.sound; well = e.well; well_made = well_made; made = e.made }
 
   pub change_of : (entry : Option EntryChange) → IsChanged edit s made entry → file_check made ≡ Ok tt
       → IsChangeOf entry s made h.records (glyph_names (changed change s []).0.items)
@@ -120,7 +121,7 @@ module _ (s : SourceParts) (k : List Pair) (edit : Edit) (change : Change) (h : 
     bodies = is.bodies;
     unmoved = is.unmoved;
     file = file;
-    distinct = names_distinct made well-made;
+    distinct = names_distinct made well_made;
     order = is.order;
     names = ap (λ (m : SourceParts). glyph_names m.items) (source-alone change s k);
   }

@@ -3,6 +3,8 @@ ghost use Rattle.std.specs.Prelude.{IfOk};
 ghost use Rattle.t1_source.specs.WellFormed.{IsWellFormed};
 ghost use Rattle.t1_held.specs.Held.{IsHeld};
 
+mod edits;
+
 use super::*;
 use std::alloc::Global;
 use std::test::Fail;
@@ -56,18 +58,18 @@ fn read(alloc: Global, text: &str) -> Result<Source, Fail>
     Ok(read_source(alloc, text.as_bytes())?)
 }
 
-/// The font after an edit, what is held of it then, and how many runs were counted.
-fn edited(alloc: Global, edit: &Edit) -> Result<(Source, Held, u64), Fail>
+/// A font after an edit, what is held of it then, and how many runs were counted.
+fn edited(alloc: Global, text: &str, edit: &Edit) -> Result<(Source, Held, u64), Fail>
     ensures { IfOk result (λ made. IsHeld made.0 made.1) }
 {
-    let mut source = read(alloc, THREE)?;
+    let mut source = read(alloc, text)?;
     let mut pairs = read_pairs(alloc, b"")?;
     let mut meter = Meter::new();
     let mut held = held_of(alloc, &source, &mut meter)?;
     let change = source.prepared(&pairs, edit)?;
     let ready = prepare_edit(alloc, &mut held, &source, &pairs, edit, &change, &mut meter)?;
     source.commit(&mut pairs, change)?;
-    settle_edit(&mut held, ready);
+    settle(&mut held, ready);
     Ok((source, held, meter.count()))
 }
 
@@ -78,7 +80,7 @@ fn subr_4(alloc: Global) -> Result<Edit, Fail> {
 
 /// How many runs are counted with an edit of Subr 4, and the font's box then.
 fn rises(alloc: Global) -> Result<(u64, BBox), Fail> {
-    let (_, held, runs) = edited(alloc, &subr_4(alloc)?)?;
+    let (_, held, runs) = edited(alloc, THREE, &subr_4(alloc)?)?;
     let glyphs = held_metrics(alloc, &held)?;
     Ok((runs, glyphs.font_box()))
 }
@@ -107,7 +109,7 @@ fn held_pfb(alloc: Global, held: &Held, source: &Source) -> Result<Vec<u8>, Fail
 
 /// Whether the file with what is held after an edit is that of the edited source from scratch.
 fn writes_as_from_scratch(alloc: Global, edit: &Edit) -> Result<bool, Fail> {
-    let (source, held, _) = edited(alloc, edit)?;
+    let (source, held, _) = edited(alloc, THREE, edit)?;
     let kept = held_pfb(alloc, &held, &source)?;
     let made = pfb_of_source(alloc, &source, WHOLE_PARTS)?;
     Ok(kept.as_slice() == made.as_slice())
@@ -130,7 +132,7 @@ fn writes_charstrings_by_another_len_iv(rt: HostRuntime) -> Result<(), Fail> {
 
 /// How long the PFA file is with what is held after an edit.
 fn hexadecimal_len(alloc: Global, edit: &Edit) -> Result<usize, Fail> {
-    let (source, held, _) = edited(alloc, edit)?;
+    let (source, held, _) = edited(alloc, THREE, edit)?;
     let mut out = Counted::new(Vec::new(alloc));
     write_held_file(alloc, &held, &source, &Pfa, &mut out)?;
     Ok(out.into_inner().len())
@@ -143,11 +145,16 @@ fn writes_in_hexadecimal(rt: HostRuntime) -> Result<(), Fail> {
     Ok(())
 }
 
-/// The font after a batch of two edits, what is held of it then, and how many runs were counted.
-fn committed(alloc: Global, first: &Edit, second: &Edit) -> Result<(Source, Held, u64), Fail>
+/// A font after a batch of two edits, what is held of it then, and how many runs were counted.
+fn committed(
+    alloc: Global,
+    text: &str,
+    first: &Edit,
+    second: &Edit,
+) -> Result<(Source, Held, u64), Fail>
     ensures { IfOk result (λ made. IsHeld made.0 made.1) }
 {
-    let source = read(alloc, THREE)?;
+    let source = read(alloc, text)?;
     let pairs = read_pairs(alloc, b"")?;
     let mut meter = Meter::new();
     let mut held = held_of(alloc, &source, &mut meter)?;
@@ -156,14 +163,14 @@ fn committed(alloc: Global, first: &Edit, second: &Edit) -> Result<(Source, Held
     batch.edit(alloc, second)?;
     let (made, _, entries) = batch.into_parts();
     let ready = prepare_commit(alloc, &mut held, &source, &made, entries, &mut meter)?;
-    settle_commit(&mut held, ready);
+    settle(&mut held, ready);
     Ok((made, held, meter.count()))
 }
 
 /// How many runs are counted with a batch that edits Subr 4 and lenIV, and whether the file with what is held then is that of
 /// the batch's source from scratch.
 fn commits(alloc: Global) -> Result<(u64, bool), Fail> {
-    let (source, held, runs) = committed(alloc, &subr_4(alloc)?, &Edit::LenIv(1))?;
+    let (source, held, runs) = committed(alloc, THREE, &subr_4(alloc)?, &Edit::LenIv(1))?;
     let kept = held_pfb(alloc, &held, &source)?;
     let made = pfb_of_source(alloc, &source, WHOLE_PARTS)?;
     Ok((runs, kept.as_slice() == made.as_slice()))
@@ -185,7 +192,7 @@ fn glyph_a(alloc: Global) -> Result<Edit, Fail> {
 /// The same of a batch that removes A and adds it again.
 fn adds_again(alloc: Global) -> Result<(u64, bool), Fail> {
     let removed = Edit::RemoveGlyph(Bytes::copied(alloc, b"A")?);
-    let (source, held, runs) = committed(alloc, &removed, &glyph_a(alloc)?)?;
+    let (source, held, runs) = committed(alloc, THREE, &removed, &glyph_a(alloc)?)?;
     let kept = held_pfb(alloc, &held, &source)?;
     let made = pfb_of_source(alloc, &source, WHOLE_PARTS)?;
     Ok((runs, kept.as_slice() == made.as_slice()))

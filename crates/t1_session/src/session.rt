@@ -65,10 +65,7 @@ use t1_code::{Counted, OutError, Pfa, Pfb, WHOLE_PARTS};
 use t1_commands::{Answer, PfaData, PfbData, Print, block_size, put_answer};
 use t1_font::{MeasuredGlyphs, afm_of_source, usage_text, write_source_afm};
 use t1_frac::{Bytes, Refusal};
-use t1_held::{
-    held_metrics, held_of, prepare_commit, prepare_edit, settle_commit, settle_edit,
-    write_held_file,
-};
+use t1_held::{held_metrics, held_of, prepare_commit, prepare_edit, settle, write_held_file};
 use t1_pairs::laws::text_of_pairs_read;
 use t1_source::laws::text_of_source_read;
 use t1_source::{Cause, Change, Edit, Rule};
@@ -227,7 +224,7 @@ impl Session {
             }
         };
         self.source.commit(&mut self.pairs, change)?;
-        settle_edit(&mut self.held, ready);
+        settle(&mut self.held, ready);
         Ok(())
     }
 
@@ -260,7 +257,7 @@ impl Session {
         };
         self.source = source;
         self.pairs = pairs;
-        settle_commit(&mut self.held, ready);
+        settle(&mut self.held, ready);
         Ok(())
     }
 

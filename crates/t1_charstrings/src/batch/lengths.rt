@@ -1,5 +1,6 @@
 //! How long the private text is with fresh charstrings.
 ghost use Rattle.std.specs.Prelude.{◌≡◌, ◌^◌, ◌-◌, List, length, min};
+ghost use Rattle.t1_parts.specs.LenIV.{lead};
 ghost use Rattle.t1_parts.specs.SourceParts.{SourceParts};
 ghost use Rattle.t1_run.specs.Run.{Key};
 ghost use Rattle.t1_charstrings.specs.Batch.{has_line, line_by, over, text_by, AreFresh, IsBatchOf};
@@ -21,7 +22,7 @@ fn has_line(charstrings: &Charstrings, item: &Item) -> bool
 }
 
 /// How long the line of an item is, up to 2^64 - 1: that of its fresh charstring, or else that of the old one.
-fn batch_line_len(
+pub(crate) fn batch_line_len(
     charstrings: &Charstrings,
     fresh: &Charstrings,
     operator: &[u8],
@@ -54,7 +55,7 @@ fn batch_items_len(
 /// How long the private text of an edited source is, up to 2^64 - 1, by the fresh charstrings of the entries that were edited
 /// and the old ones of the others. The items are gone through once, and nothing is copied.
 pub fn batch_len(charstrings: &Charstrings, fresh: &Charstrings, source: &Source) -> usize
-    ensures { (keys : List Key) (s : SourceParts) → IsBatchOf keys s source.now charstrings.now → AreFresh keys source.now fresh.now → IsPrivateLen source.now result }
+    ensures { (keys : List Key) (s : SourceParts) → IsBatchOf keys s source.now charstrings.now → AreFresh (lead source.now) keys source.now fresh.now → IsPrivateLen source.now result }
 {
     batch_items_len(charstrings, fresh, source.operator(), source.items())
 }

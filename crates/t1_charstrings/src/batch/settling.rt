@@ -8,9 +8,9 @@ ghost use Rattle.t1_charstrings.specs.Changed.{Sets};
 ghost use Rattle.t1_charstrings.specs.Entries.{glyph_kept, subr_kept};
 ghost use Rattle.t1_charstrings.specs.Kept.{kept_at};
 
-use crate::batch::Gone;
 use crate::changed::{insert_glyph, insert_subr};
 use crate::entries::{Charstrings, Entry};
+use crate::settling::Gone;
 use indexmap::IndexMap;
 
 /// Takes the charstring of an entry out.

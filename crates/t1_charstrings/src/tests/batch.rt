@@ -1,8 +1,6 @@
-//! Charstrings that are kept under a batch of edits.
+//! Fresh charstrings of a batch of edits.
 
 use super::*;
-use crate::files::{clear_text, trailer, write_parts};
-use crate::lines::{lines_of, pieces_of};
 
 /// The font with a Subr after three edits: A is replaced, B is added, and space is removed.
 const EDITED: &str = "\
@@ -52,59 +50,13 @@ fn fresh(alloc: Global) -> Result<Charstrings, Fail> {
     Ok(fresh)
 }
 
-/// The glyph that is removed.
-fn gone(alloc: Global) -> Result<Vec<Gone>, Fail> {
-    let mut gone = Vec::new(alloc);
-    gone.push(Gone::Glyph(Vec::from_slice(alloc, b"space")?))?;
-    Ok(gone)
-}
-
-/// The charstrings of the font with a Subr and the length of its private text, brought to those after the edits.
-fn settled(alloc: Global) -> Result<(Charstrings, usize), Fail> {
-    let made = read(alloc, EDITED)?;
-    let mut charstrings = charstrings_of(alloc, &read(alloc, SUBR)?)?;
-    let mut len = 0;
-    let ready = prepare_batch(&mut charstrings, &made, fresh(alloc)?, gone(alloc)?)?;
-    settle_batch(&mut charstrings, &mut len, ready);
-    Ok((charstrings, len))
-}
-
-/// The PFB file of a source, with charstrings of which nothing is known.
-fn pfb_with(alloc: Global, charstrings: &Charstrings, text: &str) -> Result<Vec<u8>, Fail> {
-    let source = read(alloc, text)?;
-    let lines = lines_of(alloc, charstrings, source.operator(), source.items())?;
-    let pieces = pieces_of(alloc, &lines)?;
-    let clear = clear_text(alloc, source.clear())?;
-    let trailer = trailer(alloc, source.tail())?;
-    let mut out = Counted::new(Vec::new(alloc));
-    let form = Pfb::in_blocks(WHOLE_PARTS);
-    write_parts(&form, &clear, &pieces, &trailer, &mut out)?;
-    Ok(out.into_inner())
-}
-
-#[test]
-fn settles_a_batch(rt: HostRuntime) -> Result<(), Fail> {
-    let alloc = rt.alloc();
-    let (charstrings, _len) = settled(alloc)?;
-    let whole = pfb_of_source(alloc, &read(alloc, EDITED)?, WHOLE_PARTS)?;
-    assert_eq!(rt;
-        pfb_with(alloc, &charstrings, EDITED)?.as_slice(),
-        whole.as_slice()
-    );
-    Ok(())
-}
-
 #[test]
 fn counts_fresh_lines(rt: HostRuntime) -> Result<(), Fail> {
+    let alloc = rt.alloc();
+    let charstrings = charstrings_of(alloc, &read(alloc, SUBR)?)?;
+    let len = batch_len(&charstrings, &fresh(alloc)?, &read(alloc, EDITED)?);
     // 97 bytes of five lines, 22 of the Subr's, and 19 and 21 of the glyphs'.
-    assert_eq!(rt; settled(rt.alloc())?.1, 159);
-    Ok(())
-}
-
-#[test]
-fn takes_out_what_is_gone(rt: HostRuntime) -> Result<(), Fail> {
-    let (charstrings, _len) = settled(rt.alloc())?;
-    assert_eq!(rt; (charstrings.subrs.len(), charstrings.glyphs.len()), (1, 2));
+    assert_eq!(rt; len, 159);
     Ok(())
 }
 

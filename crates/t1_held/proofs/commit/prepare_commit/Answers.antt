@@ -1,4 +1,4 @@
-use Rattle.std.proofs.Common.{◌≡◌, map, refl, subst, sym}
+use Rattle.std.proofs.Common.{◌≡◌, ◌∙◌, ap, map, refl, subst}
 use Rattle.std.proofs.lemmas.Result.{err_from_is_err_and}
 use Rattle.t1_font.specs.Assembly.{file_check}
 use Rattle.t1_font.specs.Runs.{counted}
@@ -6,9 +6,10 @@ use Rattle.t1_cache.specs.Edited.{stale}
 use Rattle.t1_rerun.proofs.Judged.{file-refused}
 use Rattle.t1_rerun.proofs.Preparing.{as-self}
 use Rattle.t1_rerun.proofs.Reaching.{counts-same}
-use Rattle.t1_batch.specs.Batch.{entry_edit, keys, AreBatchChanges}
-use Rattle.t1_held.proofs.CommitLaws.{changes_of, commit_runs_are}
+use Rattle.t1_batch.specs.Batch.{entry_edit, keys}
+use Rattle.t1_held.proofs.CommitLaws.{changes_of, commit_runs_are, edits_are}
 use Rattle.t1_held.proofs.HeldLaws.{counts_none, held_well, still_held}
+use Rattle.t1_held.specs.Entries.{fresh_in, gone_keys}
 use Rattle.t1_held.proofs.commit.prepare_commit.Goals as goal
 
 pub returns-in_err-changes-clause-checked : goal.returns-in_err-changes-clause-checked
@@ -28,18 +29,28 @@ returns-in_err-changes-clause-counted c =
     counts_none (stale s ks made) (file_check made) c.args.meter.now c.from_residual.result c.in_err-changes.field-0.0 (rw (p.1, p.2) refl)
     (c.in_err-changes.ensures s (held_well s c.args.held.now c.requires.held c.text_of_source_read.ensures) c.requires.held.encrypted.sound c.requires.edited)
 
-pub prepare_commit_lines-requires-clause-changes : goal.prepare_commit_lines-requires-clause-changes
-prepare_commit_lines-requires-clause-changes c =
+pub prepare_batch-requires : goal.prepare_batch-requires
+prepare_batch-requires c =
     let s = c.args.source.now in
     let made = c.args.made.now in
     let held = c.args.held.now in
-    let ks = keys (map entry_edit c.args.entries.items) in
+    let changes = c.in_ok-changes.changes.items in
     let are = c.in_ok-changes.ensures s (held_well s held c.requires.held c.text_of_source_read.ensures) c.requires.held.encrypted.sound c.requires.edited in
-    (ks, subst (AreBatchChanges s made ks) (sym c.deref.ensures.value) are)
+    let entries = c.in_ok-entries.ensures in
+    edits_are s made changes held.charstrings c.in_ok-entries.entries c.requires.held.encrypted c.requires.edited.well are.compiled are.edited are.keys are.bodies
+    (λ k. entries.fresh k ∙ ap (λ l. fresh_in c.lead.result l k) c.deref.ensures.value ∙ ap (λ n. fresh_in n changes k) c.lead.ensures)
+    (entries.gone ∙ ap gone_keys c.deref.ensures.value)
 
 pub returns-in_err-lines-clause-held : goal.returns-in_err-lines-clause-held
 returns-in_err-lines-clause-held c =
     still_held c.args.held.now _ (as-self c.args.held.now.records) c.in_err-lines.ensures.same refl
+
+pub returns-in_err-lines-clause-counted : goal.returns-in_err-lines-clause-counted
+returns-in_err-lines-clause-counted c =
+    let made = c.args.made.now in
+    let p = err_from_is_err_and c.from_residual-in_err-lines.result c.from_residual-in_err-lines.ensures.1 in
+    counts_none (stale c.args.source.now (keys (map entry_edit c.args.entries.items)) made) (file_check made) c.args.meter.now c.from_residual-in_err-lines.result
+    c.in_err-lines.field-0.0 (rw (p.1, p.2) refl) c.in_err-lines.ensures.judged
 
 pub prepare_changes-requires : goal.prepare_changes-requires
 prepare_changes-requires c =

@@ -1,7 +1,7 @@
 use Rattle.std.proofs.Common.{ap, map, sym}
 use Rattle.t1_cache.specs.Renewed.{kept_of}
 use Rattle.t1_batch.specs.Batch.{entry_edit, keys}
-use Rattle.t1_held.specs.declared.commit.ReadyCommit.{ReadyCommit}
+use Rattle.t1_held.specs.declared.held.ReadyHeld.{ReadyHeld}
 use Rattle.t1_session.proofs.RerunLaws.{edits_spend}
 use Rattle.t1_session.proofs.session.Session.accept.Goals as goal
 
@@ -9,6 +9,6 @@ pub returns-in-Err-clause-runs : goal.returns-in-Err-clause-runs
 returns-in-Err-clause-runs c =
     let s = c.self.inside in
     let is = c.self.view_is in
-    edits_spend ReadyCommit c.args.self.now _ s.source c.args.source (keys (map entry_edit c.args.entries.items)) s.meter
+    edits_spend ReadyHeld c.args.self.now _ s.source c.args.source (keys (map entry_edit c.args.entries.items)) s.meter
     (map kept_of s.held.records.glyphs.entries) c.in-Err.refusal
     (ap (λ v. v.state.source) (sym is)) (ap (λ v. v.kept) (sym is)) (ap (λ v. v.runs) (sym is)) c.in-Err.ensures.kept c.in-Err.ensures.counted

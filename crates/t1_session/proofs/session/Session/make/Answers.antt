@@ -4,7 +4,7 @@ use Rattle.t1_font.specs.Runs.{counted, Counts}
 use Rattle.t1_font.specs.SourceChecks.{source_check}
 use Rattle.t1_cache.specs.Renewed.{kept_of}
 use Rattle.t1_rerun.specs.Renewing.{renewing_runs}
-use Rattle.t1_held.specs.declared.held.ReadyEdit.{ReadyEdit}
+use Rattle.t1_held.specs.declared.held.ReadyHeld.{ReadyHeld}
 use Rattle.t1_source.specs.declared.edit.Cause.{Cause}
 use Rattle.t1_source.specs.Changes.{changed, Serves}
 use Rattle.t1_source.specs.Editing.{edited}
@@ -51,6 +51,6 @@ returns-in-Err-clause-runs c =
     let s = c.self.inside in
     let now = c.args.self.now in
     let is = c.self.view_is in
-    edit_spends ReadyEdit now _ s.source (changed c.args.change now.state.source now.state.pairs).0 c.args.edit.now s.meter (map kept_of s.held.records.glyphs.entries) c.in-Err.refusal
+    edit_spends ReadyHeld now _ s.source (changed c.args.change now.state.source now.state.pairs).0 c.args.edit.now s.meter (map kept_of s.held.records.glyphs.entries) c.in-Err.refusal
     (ap (λ v. v.state.source) (sym is)) (ap (λ v. v.kept) (sym is)) (ap (λ v. v.runs) (sym is)) c.in-Err.ensures.kept
-    (subst (λ (v : SessionView). Counts {T = ReadyEdit} (renewing_runs c.args.edit.now s.source (changed c.args.change v.state.source v.state.pairs).0) s.meter c.prepare_edit-prepared.new.meter (Err c.in-Err.refusal)) is c.in-Err.ensures.counted)
+    (subst (λ (v : SessionView). Counts {T = ReadyHeld} (renewing_runs c.args.edit.now s.source (changed c.args.change v.state.source v.state.pairs).0) s.meter c.prepare_edit-prepared.new.meter (Err c.in-Err.refusal)) is c.in-Err.ensures.counted)

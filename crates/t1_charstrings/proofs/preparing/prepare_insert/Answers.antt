@@ -1,0 +1,17 @@
+use Rattle.std.proofs.Common.{◌∙◌, refl, sym}
+use Rattle.std.specs.List.{insert}
+use Rattle.t1_source.specs.Editing.{with_items}
+use Rattle.t1_charstrings.proofs.Inserting.{insert_front}
+use Rattle.t1_charstrings.proofs.Batches.{entries_ready}
+use Rattle.t1_charstrings.proofs.preparing.prepare_insert.Goals as goal
+
+pub returns-clause-ready : goal.returns-clause-ready
+returns-clause-ready c =
+    let s = c.args.source.now in
+    let kept = c.args.charstrings.now in
+    let need = c.requires in
+    let edit = need.edits.edit in
+    let ready = c.in_ok-ready_entries.ensures in
+    let entry = sym c.is_entry.ensures ∙ c.if-not-is_entry.false in
+    let front = insert_front s kept c.args.at c.args.item.now need.well need.serves.fits edit.kept _ _ refl refl entry edit.well edit.sound in
+    entries_ready s (with_items s (insert s.items c.args.at c.args.item.now)) kept c.ready_entries.new.charstrings c.args.entries c.in_ok-len.len c.in_ok-ready_entries.field-0 need.edits front ready.same ready.ready ready.room c.in_ok-len.ensures.len

@@ -1,0 +1,21 @@
+-- The charstrings of the entries that edits name.
+use Rattle.std.specs.Prelude.{ℕ, List, [], ◌∷◌, filter, is_none, Option, None, if◌then◌else◌}
+use Rattle.std.specs.Option.{option_map, option_or}
+use Rattle.t1_run.specs.Run.{Key}
+use Rattle.t1_charstrings.specs.Entries.{Kept, encrypted}
+use Rattle.t1_cache.specs.Users.{key_eq, key_of}
+use Rattle.t1_rerun.specs.declared.settling.EntryChange.{EntryChange}
+use Rattle.t1_rerun.specs.Settled.{changed_keys}
+
+-- the encrypted charstring of a change, at its key
+abbrev pub fresh_one : ℕ → EntryChange → Key → Option Kept
+fresh_one lead c k = if key_eq k (key_of c.named) then option_map (encrypted lead k) c.body else None
+
+-- those of changes, of which a later one wins
+abbrev pub fresh_in : ℕ → List EntryChange → Key → Option Kept
+fresh_in lead [] k = None
+fresh_in lead (c ∷ changes) k = option_or (fresh_in lead changes k) (fresh_one lead c k)
+
+-- the keys of the changed entries that have no body any more
+abbrev pub gone_keys : List EntryChange → List Key
+gone_keys changes = changed_keys (filter (λ c. is_none c.body) changes)

@@ -1,0 +1,49 @@
+-- What is ready to be kept of an edited source.
+use Rattle.std.specs.Prelude.{◌≡◌, ℕ, List, Ok}
+use Rattle.std.specs.List.{list_any}
+use Rattle.t1_parts.specs.SourceParts.{SourceParts}
+use Rattle.t1_source.specs.declared.edit.Edit.{Edit}
+use Rattle.t1_source.specs.declared.editing.change.Change.{Change}
+use Rattle.t1_pairs.specs.declared.pairs.Pair.{Pair}
+use Rattle.t1_source.specs.Changes.{changed, Serves}
+use Rattle.t1_source.specs.Editing.{edited}
+use Rattle.t1_source.specs.WellFormed.{IsWellFormed}
+use Rattle.t1_run.specs.Run.{Key}
+use Rattle.t1_font.specs.Assembly.{file_check}
+use Rattle.t1_charstrings.specs.Ready.{IsReadyLines}
+use Rattle.t1_cache.specs.Edited.{stale}
+use Rattle.t1_cache.specs.Users.{key_eq}
+use Rattle.t1_rerun.specs.declared.settling.EntryChange.{EntryChange}
+use Rattle.t1_rerun.specs.Changing.{IsReadyFor}
+use Rattle.t1_rerun.specs.Opened.{runs_where}
+use Rattle.t1_rerun.specs.Settled.{changed_keys}
+use Rattle.t1_held.specs.declared.held.Held.{Held}
+use Rattle.t1_held.specs.declared.held.ReadyHeld.{ReadyHeld}
+use Rattle.t1_held.specs.Held.{IsHeld}
+
+-- an edit that keeps the edit rules, and the change of the source and its pairs that was prepared for it
+pub record IsPreparedEdit (s : SourceParts) (k : List Pair) (edit : Edit) (change : Change) (h : Held) : Type 0 where
+  pub held : IsHeld s h
+  pub well : IsWellFormed s
+  pub serves : Serves change s k
+  pub made : edited s k edit ≡ Ok (changed change s k)
+
+-- profile: each glyph that edits at these keys make stale is run once; none, where a body or the file has a fault
+abbrev pub commit_runs : List Key → SourceParts → SourceParts → ℕ
+commit_runs ks old new = runs_where (file_check new) (stale old ks new)
+
+-- the edited source has no fault, each glyph that edits at these keys make stale was run after this count, and all that is to be
+-- kept of the edited source is there
+pub record IsReadyHeld (count : ℕ) (ks : List Key) (s made : SourceParts) (h : Held) (ready : ReadyHeld) : Type 0 where
+  pub changes : List EntryChange
+  pub same : (k : Key) → list_any (key_eq k) (changed_keys changes) ≡ list_any (key_eq k) ks
+  pub records : IsReadyFor count changes s made h.records ready.records
+  pub lines : IsReadyLines made h.charstrings ready.lines
+
+-- there are such edits and such sources
+pub record MayBeSettled (h : Held) (ready : ReadyHeld) : Type 0 where
+  pub count : ℕ
+  pub keys : List Key
+  pub source : SourceParts
+  pub made : SourceParts
+  pub is : IsReadyHeld count keys source made h ready

@@ -1,0 +1,86 @@
+//! The charstrings of the entries that edits name.
+ghost use Rattle.std.specs.Prelude.{◌≡◌, IfOk, OnOk, map};
+ghost use Rattle.std.specs.Option.{option_or};
+ghost use Rattle.t1_run.specs.Run.{Key};
+ghost use Rattle.t1_charstrings.specs.Batch.{gone_key};
+ghost use Rattle.t1_charstrings.specs.Kept.{kept_at};
+ghost use Rattle.t1_cache.specs.Users.{key_of};
+ghost use Rattle.t1_held.specs.Entries.{fresh_in, fresh_one, gone_keys};
+
+use std::alloc::{AllocError, Global};
+use t1_cache::Named;
+use t1_charstrings::{
+    Charstrings, EditedEntries, Gone, no_charstrings, put_fresh_glyph, put_fresh_subr,
+};
+use t1_rerun::EntryChange;
+
+/// Encrypts the body of a change, where it has one.
+fn put_fresh(
+    alloc: Global,
+    lead: u8,
+    fresh: &mut Charstrings,
+    change: &EntryChange,
+) -> Result<(), AllocError>
+    ensures { OnOk result ((k : Key) → kept_at fresh.new k ≡ option_or (fresh_one lead change.now k) (kept_at fresh.old k)) }
+{
+    let Some(body) = &change.body else {
+        return Ok(());
+    };
+    match &change.named {
+        Named::Subr(number) => put_fresh_subr(alloc, lead, fresh, *number, body),
+        Named::Glyph(name) => put_fresh_glyph(alloc, lead, fresh, name.as_slice(), body),
+    }
+}
+
+/// The charstrings of the changed entries that have a body, encrypted after so many leading bytes.
+fn fresh_charstrings(
+    alloc: Global,
+    lead: u8,
+    changes: &[EntryChange],
+) -> Result<Charstrings, AllocError>
+    ensures { IfOk result (λ fresh. (k : Key) → kept_at fresh k ≡ fresh_in lead changes.now k) }
+{
+    let mut fresh = no_charstrings(alloc);
+    for change in changes {
+        put_fresh(alloc, lead, &mut fresh, change)?;
+    }
+    Ok(fresh)
+}
+
+/// An entry that is gone.
+fn gone_entry(alloc: Global, named: &Named) -> Result<Gone, AllocError>
+    ensures { IfOk result (λ gone. gone_key gone ≡ key_of named.now) }
+{
+    match named {
+        Named::Subr(number) => Ok(Gone::Subr(*number)),
+        Named::Glyph(name) => Ok(Gone::Glyph(Vec::from_slice(alloc, name.as_slice())?)),
+    }
+}
+
+/// The changed entries that have no body any more.
+fn gone_entries(alloc: Global, changes: &[EntryChange]) -> Result<Vec<Gone>, AllocError>
+    ensures { IfOk result (λ gone. map gone_key gone.items ≡ gone_keys changes.now) }
+{
+    let mut gone = Vec::new(alloc);
+    for change in changes {
+        if change.body.is_none() {
+            gone.push(gone_entry(alloc, &change.named)?)?;
+        }
+    }
+    Ok(gone)
+}
+
+/// What changes make of the charstrings: only those of the changed entries are encrypted, after so many leading bytes.
+pub(crate) fn edited_entries(
+    alloc: Global,
+    lead: u8,
+    changes: &[EntryChange],
+) -> Result<EditedEntries, AllocError>
+    ensures fresh { IfOk result (λ entries. (k : Key) → kept_at entries.fresh k ≡ fresh_in lead changes.now k) }
+    ensures gone { IfOk result (λ entries. map gone_key entries.gone.items ≡ gone_keys changes.now) }
+{
+    Ok(EditedEntries {
+        fresh: fresh_charstrings(alloc, lead, changes)?,
+        gone: gone_entries(alloc, changes)?,
+    })
+}
