@@ -25,7 +25,7 @@ impl Model for Chunk {
 }
 
 /// Puts more bytes in the place of those that stand from there on.
-fn put_at(bytes: &mut [u8], place: usize, more: &[u8])
+pub(crate) fn put_at(bytes: &mut [u8], place: usize, more: &[u8])
     requires { place + length more.now ≤ length bytes.old }
     ensures len { length bytes.new ≡ length bytes.old }
     ensures front { take (place + length more.now) bytes.new ≡ take place bytes.old ++ more.now }

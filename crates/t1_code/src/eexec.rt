@@ -1,12 +1,12 @@
 //! The private text on its way into a file: encrypted, in segments or in lines of digits.
-ghost use Rattle.std.specs.Prelude.{◌≡◌, ◌≤◌, length, OnOk};
+ghost use Rattle.std.specs.Prelude.{◌≡◌, ◌≤◌, length, take, IfSome, OnOk};
 ghost use Rattle.std.specs.List.{flat_map};
 ghost use Rattle.t1_code.specs.Cipher.{cipher as encrypted, eexec, key_after};
 ghost use Rattle.t1_code.specs.Counted.{Puts, outlet};
 ghost use Rattle.t1_code.specs.Eexec.{formed, form_after, EexecState, enciphered, state_after};
 ghost use Rattle.t1_code.specs.Parts.{piece_text, bytes_of};
 
-use crate::chunk::Chunk;
+use crate::chunk::{Chunk, put_at};
 use crate::cipher::Cipher;
 use crate::counted::{Counted, MAX_PUT};
 use crate::hexadecimal::HexLines;
@@ -78,6 +78,33 @@ fn encrypt_into<'a>(cipher: &mut Cipher, buffer: &'a mut [u8; MAX_PUT], plain: &
     place
 }
 
+/// Puts slices at a buffer's front, one after another: how long they are, where the buffer holds them.
+fn gather(buffer: &mut [u8; MAX_PUT], slices: &[&[u8]]) -> Option<usize>
+    ensures within { IfSome result (λ len. len ≤ 4096) }
+    ensures bytes { IfSome result (λ len. take len buffer.new ≡ bytes_of slices.now) }
+{
+    let mut len = 0;
+    for slice in slices {
+        if slice.len() > MAX_PUT - len {
+            return None;
+        }
+        put_at(buffer, len, slice);
+        len += slice.len();
+    }
+    Some(len)
+}
+
+/// Encrypts so many bytes at a buffer's front.
+fn encrypt_front<'a>(cipher: &mut Cipher, buffer: &'a mut [u8; MAX_PUT], len: usize) -> &'a [u8]
+    requires { len ≤ 4096 }
+    ensures bytes { result.now ≡ encrypted cipher.old.key (take len buffer.old) }
+    ensures key { cipher.new.key ≡ key_after cipher.old.key (encrypted cipher.old.key (take len buffer.old)) }
+{
+    let place = buffer.split_at_mut(len).0;
+    cipher.encrypt(place);
+    place
+}
+
 impl EexecWriter {
     pub(crate) fn new(form: Form) -> EexecWriter
         ensures key { result.key ≡ 55665 }
@@ -111,7 +138,7 @@ impl EexecWriter {
     }
 
     /// Passes slices on encrypted, one after another.
-    fn put_slices<W: Write>(
+    fn put_each<W: Write>(
         &mut self,
         out: &mut Counted<W>,
         chunk: &mut Chunk,
@@ -124,6 +151,23 @@ impl EexecWriter {
             self.put(out, chunk, slice)?;
         }
         Ok(())
+    }
+
+    /// Passes slices on encrypted, one after another: in one go, where the buffer holds them together.
+    fn put_slices<W: Write>(
+        &mut self,
+        out: &mut Counted<W>,
+        chunk: &mut Chunk,
+        slices: &[&[u8]],
+    ) -> io::Result<()>
+        ensures text { Puts W.contents (outlet out.old chunk.old) (outlet out.new chunk.new) (enciphered self.old (bytes_of slices.now)) result }
+        ensures state { OnOk result (self.new ≡ state_after self.old (bytes_of slices.now)) }
+    {
+        let Some(len) = gather(&mut self.buffer, slices) else {
+            return self.put_each(out, chunk, slices);
+        };
+        let encrypted = encrypt_front(&mut self.cipher, &mut self.buffer, len);
+        self.form.put(out, chunk, encrypted)
     }
 
     /// Passes pieces of the private text on encrypted.

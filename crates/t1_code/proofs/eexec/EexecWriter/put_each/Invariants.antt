@@ -3,7 +3,7 @@ use Rattle.t1_code.specs.Counted.{outlet}
 use Rattle.t1_code.specs.Parts.{bytes_of}
 use Rattle.t1_code.proofs.Carrying.{Carried}
 use Rattle.t1_code.proofs.Enciphering.{enciphering}
-use Rattle.t1_code.proofs.eexec.EexecWriter.put_slices.Given as goal
+use Rattle.t1_code.proofs.eexec.EexecWriter.put_each.Given as goal
 
 -- the slices that are left go out under the present key
 abbrev pub invariant-loop-slice : goal.invariant-loop-slice

@@ -3,7 +3,7 @@ use Rattle.std.proofs.lemmas.Result.{err_from_is_err_and}
 use Rattle.t1_code.specs.Counted.{outlet}
 use Rattle.t1_code.proofs.Carrying.{Carried-turn, Carried-turn-fails}
 use Rattle.t1_code.proofs.Enciphering.{enciphering}
-use Rattle.t1_code.proofs.eexec.EexecWriter.put_slices.Goals as goal
+use Rattle.t1_code.proofs.eexec.EexecWriter.put_each.Goals as goal
 
 pub returns-in_err-put-clause-text : goal.returns-in_err-put-clause-text
 returns-in_err-put-clause-text g c =
