@@ -10,20 +10,21 @@ import sys
 # A process that does nothing but start programs and wait for them. It is small, since Linux counts what the process which
 # starts a program has in memory among the program's own.
 STARTER = r"""
-import marshal, os, resource, select, sys
+import marshal, os, resource, sys, time
 
 def watched(words, environment, files, seconds):
     flags = os.O_RDONLY, os.O_WRONLY | os.O_CREAT | os.O_TRUNC, os.O_WRONLY | os.O_CREAT | os.O_TRUNC
     actions = [(os.POSIX_SPAWN_OPEN, at, files[at], flags[at], 0o600) for at in range(3)]
     pid = os.posix_spawnp(words[0], words, environment, file_actions=actions)
-    handle, poll = os.pidfd_open(pid), select.poll()
-    poll.register(handle, select.POLLIN)
-    ended = bool(poll.poll(seconds * 1000))
-    if not ended:
+    end, pause, found = time.monotonic() + seconds, 0.0005, 0
+    while not found and time.monotonic() < end:
+        time.sleep(pause)
+        found, status, used = os.wait4(pid, os.WNOHANG)
+        pause = min(pause * 1.2, 0.005)
+    if not found:
         os.kill(pid, 9)
-    _, status, used = os.wait4(pid, 0)
-    os.close(handle)
-    status = os.waitstatus_to_exitcode(status) if ended else "hang"
+        _, _, used = os.wait4(pid, 0)
+    status = os.waitstatus_to_exitcode(status) if found else "hang"
     return status, used.ru_utime + used.ru_stime, used.ru_maxrss * 1024, used.ru_minflt
 
 addresses = int(sys.argv[1])
