@@ -166,6 +166,41 @@ fn writes_a_byte_a_call(rt: HostRuntime) -> Result<(), Fail> {
     Ok(())
 }
 
+/// The file with this private text.
+fn file_of(alloc: Global, pieces: &[Piece]) -> Result<Vec<u8>, Fail> {
+    let parts = Parts {
+        clear: b"",
+        pieces,
+        trailer: b"",
+    };
+    let mut out = Counted::new(Vec::new(alloc));
+    write_pfb(&parts, WHOLE_PARTS, &mut out)?;
+    Ok(out.into_inner())
+}
+
+/// An entry's line that is longer than any buffer.
+const LONG: [Piece; 1] = [Piece::Entry {
+    head: b"/A",
+    operator: b"RD",
+    charstring: &[7; 5000],
+    closing: b"ND",
+}];
+
+/// The same line in pieces.
+const LONG_IN_PIECES: [Piece; 3] = [
+    Piece::Plain(b"/A 5000 RD "),
+    Piece::Plain(&[7; 5000]),
+    Piece::Plain(b" ND\n"),
+];
+
+#[test]
+fn writes_a_long_line(rt: HostRuntime) -> Result<(), Fail> {
+    let alloc = rt.alloc();
+    let whole = file_of(alloc, &LONG)?;
+    assert!(rt; whole.as_slice() == file_of(alloc, &LONG_IN_PIECES)?.as_slice());
+    Ok(())
+}
+
 #[test]
 fn writes_blocks(rt: HostRuntime) -> Result<(), Fail> {
     let alloc = rt.alloc();
