@@ -22,7 +22,7 @@ use Rattle.t1_charstrings.specs.Batch.{is_gone, over, text_by, AreEdits, AreFres
 use Rattle.t1_charstrings.specs.Changed.{AreUnchanged}
 use Rattle.t1_charstrings.specs.Entries.{Kept, body_at, encrypted, glyph_kept, key_eq, subr_kept}
 use Rattle.t1_charstrings.specs.Kept.{AreEncrypted, kept_at}
-use Rattle.t1_charstrings.specs.Lengths.{IsPrivateLen}
+use Rattle.t1_font.specs.Lengths.{IsPrivateLen}
 use Rattle.t1_charstrings.specs.Ready.{HasRoom, IsReadyLines, SettlesTo}
 use Rattle.t1_charstrings.proofs.Gathered.{at-key}
 use Rattle.t1_charstrings.proofs.Putting.{bytes_tell}

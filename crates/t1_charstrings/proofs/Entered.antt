@@ -33,19 +33,19 @@ use Rattle.t1_font.specs.Assembly.{counts_check, file_check, length_check}
 use Rattle.t1_font.specs.Bodies.{bodies, bodies_check, body_check, words_check}
 use Rattle.t1_font.proofs.Compiling.{told-ok}
 use Rattle.t1_font.proofs.Counted.{counted-source}
+use Rattle.t1_font.proofs.LengthLaws.{long_told}
 use Rattle.t1_charstrings.specs.declared.entries.Charstrings.{Charstrings}
 use Rattle.t1_charstrings.specs.Batch.{line_by, over, AreFresh, IsBatchOf, IsEditOf}
 use Rattle.t1_charstrings.specs.Changed.{Sets}
 use Rattle.t1_charstrings.specs.Entries.{Kept, body_at, encrypted, key_eq}
 use Rattle.t1_charstrings.specs.Kept.{AreEncrypted, kept_at}
-use Rattle.t1_charstrings.specs.Lengths.{IsPrivateLen}
+use Rattle.t1_font.specs.Lengths.{IsPrivateLen}
 use Rattle.t1_charstrings.specs.Lines.{entry_line, kept_line, kept_text}
 use Rattle.t1_charstrings.specs.Ready.{is_entry, old_len, replaced_len}
 use Rattle.t1_charstrings.specs.Sums.{AreEdited, has_key, item_at}
 use Rattle.t1_charstrings.proofs.Adding.{alone, text-both}
 use Rattle.t1_charstrings.proofs.Batches.{over-serves}
 use Rattle.t1_charstrings.proofs.Entering.{body_in, check-put, check-remove, counted-entry, counted-put, counted-remove, lead-put, lead-remove, other_kept, put-other, put-own, remove-other, remove-own, IsOther}
-use Rattle.t1_charstrings.proofs.Filed.{long_told}
 use Rattle.t1_charstrings.proofs.Gathered.{at-key}
 use Rattle.t1_charstrings.proofs.Putting.{bytes_tell, lookup-but, numbers_tell}
 use Rattle.t1_charstrings.proofs.Sources.{key-same}

@@ -1,22 +1,17 @@
 -- The files of a source, by the charstrings that are kept.
-use Rattle.std.proofs.Common.{◌≡◌, ℕ, ◌<◌, ◌≤◌, ◌-◌, ◌^◌, min, max, length, List, Result, Ok, Err, refl, sym, ap, ◌∙◌}
-use Rattle.t1_frac.specs.declared.fault.Code.TheVariants.{F23}
+use Rattle.std.proofs.Common.{◌≡◌, ℕ, ◌-◌, ◌^◌, min, length, List, Result, Ok, refl, sym, ap, ◌∙◌}
 use Rattle.t1_frac.specs.declared.fault.Fault.{Fault}
-use Rattle.t1_frac.specs.declared.fault.Place.TheVariants.{Nowhere}
-use Rattle.t1_frac.specs.Outcome.{fault_at}
 use Rattle.t1_parts.specs.declared.item.Item.{Item}
 use Rattle.t1_parts.specs.SourceParts.{SourceParts}
 use Rattle.t1_text.specs.Lines.{joined}
 use Rattle.t1_parts.specs.LenIV.{lead}
 use Rattle.t1_parts.specs.Operator.{operator}
 use Rattle.t1_source.specs.WellFormed.{IsWellFormed}
-use Rattle.t1_code.specs.Cipher.{eexec}
-use Rattle.t1_code.proofs.Framing.{long_part, no_long_part}
-use Rattle.t1_font.specs.Assembly.{length_check, private_text, trailer_text, source_file}
+use Rattle.t1_font.specs.Assembly.{private_text, trailer_text}
 use Rattle.t1_charstrings.specs.declared.entries.Charstrings.{Charstrings}
 use Rattle.t1_charstrings.specs.Files.{file_in}
 use Rattle.t1_charstrings.specs.Kept.{AreEncrypted}
-use Rattle.t1_charstrings.specs.Lengths.{IsPrivateLen}
+use Rattle.t1_font.specs.Lengths.{IsPrivateLen}
 use Rattle.t1_charstrings.specs.Lines.{kept_text}
 use Rattle.t1_charstrings.proofs.Texts.{kept_text_is}
 
@@ -38,14 +33,3 @@ pub kept_len : (s : SourceParts) (c : Charstrings) (o : List ℕ) (items : List 
     → o ≡ operator s → items ≡ s.items → len ≡ min (length (kept_text c o items)) (2 ^ 64 - 1) → IsPrivateLen s len
 kept_len s c o items len well kept operator_is items_are len_is =
     (kept_text c o items, private s c o items (kept_text c o items) well kept operator_is items_are refl, len_is)
-
--- a part of the file is too long, or none is
-pub long_told : (s : SourceParts) (text : List ℕ) → private_text (lead s) (operator s) s.items ≡ Ok text
-    → 2 ^ 31 - 1 < max (max (length (joined s.clear)) (length (eexec text))) (length (trailer_text s.tail)) → length_check s ≡ Err (fault_at Nowhere F23)
-unfolding length_check source_file
-long_told s text known h = rw (known, long_part (joined s.clear) text (trailer_text s.tail) h) refl
-
-pub short_told : (s : SourceParts) (text : List ℕ) → private_text (lead s) (operator s) s.items ≡ Ok text
-    → max (max (length (joined s.clear)) (length (eexec text))) (length (trailer_text s.tail)) ≤ 2 ^ 31 - 1 → length_check s ≡ Ok tt
-unfolding length_check source_file
-short_told s text known h = rw (known, no_long_part (joined s.clear) text (trailer_text s.tail) h) refl

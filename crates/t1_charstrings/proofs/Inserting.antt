@@ -21,7 +21,7 @@ use Rattle.t1_charstrings.specs.declared.entries.Charstrings.{Charstrings}
 use Rattle.t1_charstrings.specs.Batch.{AreFresh, IsEditOf}
 use Rattle.t1_charstrings.specs.Entries.{body_at, encrypted}
 use Rattle.t1_charstrings.specs.Kept.{AreEncrypted}
-use Rattle.t1_charstrings.specs.Lengths.{IsPrivateLen}
+use Rattle.t1_font.specs.Lengths.{IsPrivateLen}
 use Rattle.t1_charstrings.specs.Lines.{kept_line, kept_text}
 use Rattle.t1_charstrings.specs.Raising.{is_raised_counted, raised_check, raised_text}
 use Rattle.t1_charstrings.specs.Ready.{inserted_len, is_entry}

@@ -15,7 +15,7 @@ use Rattle.t1_charstrings.specs.declared.settling.ReadyCharstrings.TheVariants a
 use Rattle.t1_charstrings.specs.Changed.{AreUnchanged}
 use Rattle.t1_charstrings.specs.Entries.{body_at, encrypted, glyph_kept, subr_kept}
 use Rattle.t1_charstrings.specs.Kept.{AreEncrypted, kept_at}
-use Rattle.t1_charstrings.specs.Lengths.{IsPrivateLen}
+use Rattle.t1_font.specs.Lengths.{IsPrivateLen}
 use Rattle.t1_charstrings.specs.Ready.{IsReadyLines}
 use Rattle.t1_charstrings.proofs.Gathered.{at-key}
 

@@ -14,7 +14,7 @@ use Rattle.t1_source.proofs.ChangeLaws.{raised_put, raised_removed}
 use Rattle.t1_font.specs.Assembly.{private_text}
 use Rattle.t1_run.specs.Run.{Key, Subr, Glyph}
 use Rattle.t1_charstrings.specs.declared.entries.Charstrings.{Charstrings}
-use Rattle.t1_charstrings.specs.Lengths.{IsPrivateLen}
+use Rattle.t1_font.specs.Lengths.{IsPrivateLen}
 use Rattle.t1_charstrings.specs.Lines.{kept_text}
 use Rattle.t1_charstrings.specs.Sums.{has_key, item_at, section_line, section_text, InsertSumLaw, PutSumLaw, RemoveSumLaw}
 use Rattle.t1_charstrings.proofs.Adding.{inserted_len, put_len, raised_len, remove_len}

@@ -4,7 +4,6 @@ pub mod Entries
 pub mod Files
 pub mod Kept
 pub mod Laws
-pub mod Lengths
 pub mod Lines
 pub mod Raising
 pub mod Ready

@@ -14,7 +14,7 @@ use Rattle.t1_charstrings.specs.declared.settling.ReadyLines.{ReadyLines}
 use Rattle.t1_charstrings.specs.Batch.{is_gone, line_by, over}
 use Rattle.t1_charstrings.specs.Changed.{AreUnchanged}
 use Rattle.t1_charstrings.specs.Kept.{AreEncrypted, kept_at}
-use Rattle.t1_charstrings.specs.Lengths.{IsPrivateLen}
+use Rattle.t1_font.specs.Lengths.{IsPrivateLen}
 use Rattle.t1_charstrings.specs.Lines.{kept_line}
 use Rattle.t1_charstrings.specs.Raising.{raised_text}
 use Rattle.t1_charstrings.specs.Sums.{item_at, section_text}

@@ -12,7 +12,6 @@ mod settling;
 
 use crate::counting::check_counts;
 use crate::entries::Charstrings;
-use crate::lengths::check_parts;
 use crate::preparing::prepare_anew;
 use crate::settling::{EditedEntries, ReadyLines, ready_entries};
 pub use fresh::{no_charstrings, put_fresh_glyph, put_fresh_subr};
@@ -20,6 +19,7 @@ pub use lengths::batch_len;
 pub(crate) use lengths::batch_line_len;
 pub(crate) use settling::{put_in, take_out};
 use std::alloc::Global;
+use t1_font::check_parts;
 use t1_frac::Refusal;
 use t1_source::Source;
 

@@ -29,9 +29,6 @@ pub(crate) fn clear_text(alloc: Global, lines: &[Bytes]) -> Result<Vec<u8>, Allo
 /// The lines of zeros after the encrypted part.
 const ZEROS: [[u8; 64]; 8] = [[b'0'; 64]; 8];
 
-/// How long they are, with their ends.
-pub(crate) const ZEROS_LEN: usize = 8 * 65;
-
 /// The text after the encrypted part: eight lines of zeros, and the tail.
 pub(crate) fn trailer(alloc: Global, tail: &[Bytes]) -> Result<Vec<u8>, AllocError>
     ensures { IfOk result (λ text. text.items ≡ trailer_text tail.now) }

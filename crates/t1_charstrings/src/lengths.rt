@@ -1,35 +1,19 @@
 //! How long the private text is, and whether a part of the PFB file is too long.
 ghost use Rattle.std.specs.Prelude.{◌≡◌, ◌^◌, ◌-◌, ◌∷◌, ◌++◌, [], Some, decimal, min, length, option_copied};
 ghost use Rattle.t1_frac.specs.Outcome.{Gives};
-ghost use Rattle.t1_text.specs.Lines.{joined};
-ghost use Rattle.t1_parts.specs.SourceParts.{SourceParts};
 ghost use Rattle.t1_code.specs.Pfb.{closing_text};
 ghost use Rattle.t1_source.specs.WellFormed.{IsWellFormed};
 ghost use Rattle.t1_font.specs.Assembly.{length_check};
 ghost use Rattle.t1_charstrings.specs.Kept.{AreEncrypted};
-ghost use Rattle.t1_charstrings.specs.Lengths.{IsPrivateLen};
+ghost use Rattle.t1_font.specs.Lengths.{IsPrivateLen};
 ghost use Rattle.t1_charstrings.specs.Lines.{entry_line, kept_line, kept_text};
 ghost use Rattle.t1_charstrings.specs.Sums.{section_line, section_text};
 
 use crate::entries::{Charstrings, Entry};
-use crate::files::ZEROS_LEN;
 use itoa::Buffer;
-use t1_code::{EEXEC_LEAD, MAX_PART};
-use t1_frac::{Bytes, Code, Refusal};
+use t1_font::check_parts;
+use t1_frac::Refusal;
 use t1_source::{Item, Source};
-
-/// How long lines are with their ends, up to 2^64 - 1.
-fn lines_len(lines: &[Bytes]) -> usize
-    ensures { result ≡ min (length (joined lines.now)) (2 ^ 64 - 1) }
-{
-    let mut total: usize = 0;
-    for line in lines {
-        total = total
-            .saturating_add(line.as_slice().len())
-            .saturating_add(1);
-    }
-    total
-}
 
 /// How long a closing text is with the space before it.
 fn closing_len(closing: &[u8]) -> usize
@@ -138,20 +122,6 @@ pub fn sections_len(items: &[Item]) -> usize
         total = total.saturating_add(section_len(item));
     }
     total
-}
-
-/// F23 where a part of the PFB file is too long, for each source with these clear lines and this tail whose private text is
-/// so long.
-pub fn check_parts(clear: &[Bytes], private_len: usize, tail: &[Bytes]) -> Result<(), Refusal>
-    ensures { (s : SourceParts) → s.clear ≡ clear.now → s.tail ≡ tail.now → IsPrivateLen s private_len → Gives (λ x. x) result (length_check s) }
-{
-    let clear = lines_len(clear);
-    let private = private_len.saturating_add(EEXEC_LEAD);
-    let trailer = lines_len(tail).saturating_add(ZEROS_LEN);
-    if clear.max(private).max(trailer) > MAX_PART {
-        return Err(Refusal::from(Code::F23));
-    }
-    Ok(())
 }
 
 /// F23 where a part of the PFB file of a source is too long, whose private text is so long.

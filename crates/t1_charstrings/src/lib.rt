@@ -2,7 +2,7 @@
 //!
 //! [`charstrings_of`] encrypts the charstrings of a source, or gives the first fault of its bodies. [`write_kept_file`]
 //! writes its files with them: nothing is compiled or encrypted anew. [`private_len`] is the length of the private text, and
-//! [`check_parts`] judges by it whether a part of a file is too long; [`laws`] say what an edit makes of it.
+//! [`check_length`] judges by it whether a part of a file is too long; [`laws`] say what an edit makes of it.
 //!
 //! Edits go in two steps. [`put_fresh_subr`] and [`put_fresh_glyph`] fill the fresh charstrings of [`EditedEntries`]: those of
 //! the entries that were replaced or added; beside them stand the entries that are [`Gone`]. With these [`prepare_lines`], for
@@ -30,7 +30,7 @@ pub use changed::{insert_glyph, insert_subr, make_room};
 pub use encrypted::{charstrings_of, encrypted_glyph, encrypted_subr};
 pub use entries::{Charstrings, Entry};
 pub use files::write_kept_file;
-pub use lengths::{check_length, check_parts, entry_line_len, line_len, private_len, sections_len};
+pub use lengths::{check_length, entry_line_len, line_len, private_len, sections_len};
 pub use preparing::{prepare_anew, prepare_lines};
 pub use settling::{EditedEntries, Gone, ReadyCharstrings, ReadyLines, settle_lines};
 

@@ -7,15 +7,16 @@ ghost use Rattle.t1_source.specs.Editing.{with_items};
 ghost use Rattle.t1_source.specs.WellFormed.{IsWellFormed};
 ghost use Rattle.t1_font.specs.Assembly.{file_check};
 ghost use Rattle.t1_charstrings.specs.Batch.{AreEdits};
-ghost use Rattle.t1_charstrings.specs.Lengths.{IsPrivateLen};
+ghost use Rattle.t1_font.specs.Lengths.{IsPrivateLen};
 ghost use Rattle.t1_charstrings.specs.Ready.{inserted_len, is_entry, new_len, old_len, replaced_len};
 ghost use Rattle.t1_charstrings.specs.Sums.{item_at};
 
 use crate::batch::batch_line_len;
 use crate::entries::Charstrings;
-use crate::lengths::{check_parts, line_len, sections_len};
+use crate::lengths::{line_len, sections_len};
 use crate::raising::{Needed, check_raised, needed_with, raised_sections_len};
 use crate::settling::EditedEntries;
+use t1_font::check_parts;
 use t1_frac::Refusal;
 use t1_source::{Item, Source};
 

@@ -4,7 +4,7 @@ ghost use Rattle.t1_parts.specs.SourceParts.{SourceParts};
 ghost use Rattle.t1_charstrings.specs.declared.settling.ReadyCharstrings.TheVariants as ready;
 ghost use Rattle.t1_charstrings.specs.Changed.{AreUnchanged};
 ghost use Rattle.t1_charstrings.specs.Kept.{AreEncrypted};
-ghost use Rattle.t1_charstrings.specs.Lengths.{IsPrivateLen};
+ghost use Rattle.t1_font.specs.Lengths.{IsPrivateLen};
 ghost use Rattle.t1_charstrings.specs.Ready.{HasRoom, IsReadyLines, SettlesTo};
 
 use crate::batch::{put_in, take_out};

@@ -1,13 +1,17 @@
 -- How long the parts of a PFB file can be.
-use Rattle.std.proofs.Common.{◌≡◌, ℕ, ◌+◌, ◌*◌, ◌^◌, ◌<◌, ◌≤◌, List, [], ◌∷◌, ◌++◌, length, decimal, replicate, length-append, IfOk, Result, Ok, Err, refl, ap, sym, ◌∙◌, arith}
+use Rattle.std.proofs.Common.{◌≡◌, ℕ, ◌+◌, ◌*◌, ◌^◌, ◌<◌, ◌≤◌, ◌-◌, min, max, List, [], ◌∷◌, ◌++◌, length, decimal, replicate, length-append, IfOk, Result, Ok, Err, refl, ap, sym, ◌∙◌, arith}
 use Rattle.std.specs.Prelude.{IsOk}
 use Rattle.std.proofs.lemmas.Fmt.{length-decimal-le}
 use Rattle.std.proofs.lemmas.List.{length-replicate}
 use Rattle.t1_frac.specs.declared.fault.Code.{Code}
 use Rattle.t1_frac.specs.declared.fault.Fault.{Fault}
+use Rattle.t1_frac.specs.declared.fault.Refusal.{Refusal}
+use Rattle.t1_frac.specs.declared.fault.Refusal.TheVariants as refusals
 use Rattle.t1_frac.specs.declared.fault.Place.{Place}
+use Rattle.t1_frac.specs.declared.fault.Code.TheVariants.{F23}
 use Rattle.t1_frac.specs.declared.fault.Place.TheVariants as places
-use Rattle.t1_frac.specs.Outcome.{told_at, ◌>>=◌}
+use Rattle.t1_frac.specs.declared.fault.Place.TheVariants.{Nowhere}
+use Rattle.t1_frac.specs.Outcome.{fault_at, told_at, ◌>>=◌, Refuses}
 use Rattle.t1_parts.specs.declared.item.Item.{Item}
 use Rattle.t1_parts.specs.declared.item.Item.TheVariants.{Plain, Section, Subr, Glyph}
 use Rattle.t1_parts.specs.SourceParts.{SourceParts}
@@ -17,13 +21,15 @@ use Rattle.t1_parts.specs.Operator.{operator}
 use Rattle.t1_code.specs.declared.command.Command.{Command}
 use Rattle.t1_code.specs.Charstring.{charstring}
 use Rattle.t1_code.specs.Cipher.{encrypted_charstring}
+use Rattle.t1_code.specs.Cipher.{eexec}
 use Rattle.t1_code.specs.Pfb.{closing_text, entry_text, whole_file}
 use Rattle.t1_code.specs.Words.{commands}
 use Rattle.t1_code.proofs.Encrypting.{length-cipher, length-eexec}
-use Rattle.t1_code.proofs.Framing.{fits}
+use Rattle.t1_code.proofs.Framing.{fits, long_part, no_long_part}
 use Rattle.t1_code.proofs.Lengths.{compiled_short}
 use Rattle.t1_font.specs.Bodies.{bodies_check, body_check, words_check}
 use Rattle.t1_font.specs.Assembly.{entry_line, file_check, length_check, item_line, private_text, source_file, trailer_text}
+use Rattle.t1_font.specs.Lengths.{private_length}
 
 closing_short : (closing : List ℕ) → length (closing_text closing) ≤ length closing + 1
 closing_short [] = omega arith
@@ -140,3 +146,24 @@ checked_from (Err fault) h = absurd (cc)
 pub length_checked : (source : SourceParts) → IsOk (source_file whole_file source) → length_check source ≡ Ok tt
 unfolding length_check
 length_checked source h = checked_from (source_file whole_file source) h
+
+-- a part of the file is too long, or none is
+pub long_told : (s : SourceParts) (text : List ℕ) → private_text (lead s) (operator s) s.items ≡ Ok text
+    → 2 ^ 31 - 1 < max (max (length (joined s.clear)) (length (eexec text))) (length (trailer_text s.tail)) → length_check s ≡ Err (fault_at Nowhere F23)
+unfolding length_check source_file
+long_told s text known h = rw (known, long_part (joined s.clear) text (trailer_text s.tail) h) refl
+
+pub short_told : (s : SourceParts) (text : List ℕ) → private_text (lead s) (operator s) s.items ≡ Ok text
+    → max (max (length (joined s.clear)) (length (eexec text))) (length (trailer_text s.tail)) ≤ 2 ^ 31 - 1 → length_check s ≡ Ok tt
+unfolding length_check source_file
+short_told s text known h = rw (known, no_long_part (joined s.clear) text (trailer_text s.tail) h) refl
+
+unlength : (r : Result (List ℕ) Fault) (fault : Fault) → ◌≡◌ {A = Result ℕ Fault} (r >>= λ text. Ok (min (length text) (2 ^ 64 - 1))) (Err fault) → r ≡ Err fault
+unlength (Ok text) fault h = absurd (cc)
+unlength (Err other) fault h = cc
+
+-- a fault that the length of the private text meets is the file's
+pub length_faulty : (s : SourceParts) (refused : Refusal) → Refuses refused (private_length (lead s) (operator s) s.items) → Refuses refused (length_check s)
+unfolding length_check source_file
+length_faulty s refusals.Memory h = tt
+length_faulty s (refusals.Fault fault) h = rw (unlength (private_text (lead s) (operator s) s.items) fault h) refl

@@ -1,5 +1,5 @@
 -- The private text, one item's line after another.
-use Rattle.std.proofs.Common.{◌≡◌, ℕ, ◌+◌, ◌<◌, ◌++◌, get_or, drop, List, [], ◌∷◌, length, Result, Ok, Err, refl, sym, ap, ◌∙◌}
+use Rattle.std.proofs.Common.{◌≡◌, ℕ, ◌+◌, ◌-◌, ◌^◌, ◌<◌, ◌≤◌, ◌++◌, min, length-append, get_or, drop, List, [], ◌∷◌, length, Result, Ok, Err, refl, sym, ap, ◌∙◌, arith}
 use Rattle.std.specs.Prelude.{decimal}
 use Rattle.std.proofs.lemmas.List.{append_assoc, at_drop_more}
 use Rattle.t1_frac.specs.declared.fault.Refusal.{Refusal}
@@ -81,3 +81,46 @@ refused_item lead operator items i item text (refusals.Fault fault) whole inside
     let split = at_drop_more (λ rest. behind text (private_text lead operator rest)) items i item inside in
     let named = ap (λ x. behind text (private_text lead operator (x ∷ drop (i + 1) items))) is in
     sym so_far ∙ split ∙ sym named ∙ item_faulty text (item_line lead operator item) (private_text lead operator (drop (i + 1) items)) fault line
+
+-- ---- how long the lines are
+
+abbrev pub added : ℕ → Result (List ℕ) Fault → Result ℕ Fault
+added total rest = rest >>= λ text. Ok (min (total + length text) (2 ^ 64 - 1))
+
+line_more : (line rest : Result (List ℕ) Fault) (new : List ℕ) (total next : ℕ) → behind [] line ≡ Ok new → next ≡ min (total + length new) (2 ^ 64 - 1)
+    → added total (line >>= λ l. rest >>= λ ls. Ok (l ++ ls)) ≡ added next rest
+line_more (Ok line) (Ok rest) new total next e sum =
+    let same : line ≡ new = cc in
+    ap (λ n. Ok n) (omega (arith, length-append line rest, ap (λ (l : List ℕ). length l) same, sum))
+line_more (Ok line) (Err fault) new total next e sum = refl
+line_more (Err fault) rest new total next e sum = absurd (cc)
+
+line_faulty : (line rest : Result (List ℕ) Fault) (total : ℕ) (fault : Fault) → behind [] line ≡ Err fault
+    → added total (line >>= λ l. rest >>= λ ls. Ok (l ++ ls)) ≡ Err fault
+line_faulty (Ok line) rest total fault e = absurd (cc)
+line_faulty (Err other) rest total fault e = cc
+
+-- the lines from the place i on
+pub next_len : (lead : ℕ) (operator : List ℕ) (items : List Item) (i : ℕ) (item : Item) (new : List ℕ) (total next : ℕ) (whole : Result ℕ Fault)
+    → i < length items → item ≡ get_or items i item → behind [] (item_line lead operator item) ≡ Ok new → next ≡ min (total + length new) (2 ^ 64 - 1)
+    → added total (private_text lead operator (drop i items)) ≡ whole → added next (private_text lead operator (drop (i + 1) items)) ≡ whole
+next_len lead operator items i item new total next whole inside is line sum so_far =
+    let split = at_drop_more (λ rest. added total (private_text lead operator rest)) items i item inside in
+    let named = ap (λ x. added total (private_text lead operator (x ∷ drop (i + 1) items))) is in
+    sym (line_more (item_line lead operator item) (private_text lead operator (drop (i + 1) items)) new total next line sum) ∙ named ∙ sym split ∙ so_far
+
+pub refused_len : (lead : ℕ) (operator : List ℕ) (items : List Item) (i : ℕ) (item : Item) (total : ℕ) (refusal : Refusal) (whole : Result ℕ Fault)
+    → i < length items → item ≡ get_or items i item → Refuses refusal (behind [] (item_line lead operator item))
+    → added total (private_text lead operator (drop i items)) ≡ whole → Refuses refusal whole
+refused_len lead operator items i item total refusals.Memory whole inside is line so_far = tt
+refused_len lead operator items i item total (refusals.Fault fault) whole inside is line so_far =
+    let split = at_drop_more (λ rest. added total (private_text lead operator rest)) items i item inside in
+    let named = ap (λ x. added total (private_text lead operator (x ∷ drop (i + 1) items))) is in
+    sym so_far ∙ split ∙ sym named ∙ line_faulty (item_line lead operator item) (private_text lead operator (drop (i + 1) items)) total fault line
+
+pub whole_len : (lead : ℕ) (operator : List ℕ) (rest : List Item) (total : ℕ) → rest ≡ [] → total ≤ 2 ^ 64 - 1 → added total (private_text lead operator rest) ≡ Ok total
+whole_len lead operator rest total none within = ap (λ is. added total (private_text lead operator is)) none ∙ ap (λ n. Ok n) (omega (arith, within))
+
+pub none_added : (text : Result (List ℕ) Fault) → added 0 text ≡ (text >>= λ bytes. Ok (min (length bytes) (2 ^ 64 - 1)))
+none_added (Ok bytes) = ap (λ n. Ok n) (omega arith)
+none_added (Err fault) = refl

@@ -3,6 +3,7 @@ pub mod Bodies
 pub mod FontMetrics
 pub mod Glyphs
 pub mod Laws
+pub mod Lengths
 pub mod MeasuredGlyphs
 pub mod Metrics
 pub mod Names

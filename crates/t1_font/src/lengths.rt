@@ -1,18 +1,21 @@
-//! Whether a source's PFB file can have a part that is too long.
+//! How long the parts of a source's PFB file are, and whether one is too long.
 ghost use Rattle.std.specs.Prelude.{◌≡◌, ◌≤◌, ◌<◌, ◌+◌, ◌*◌, ◌^◌, ◌-◌, min, length, true, Ok, IfOk, IsOk};
 ghost use Rattle.std.specs.List.{list_all};
 ghost use Rattle.t1_frac.specs.Outcome.{Gives};
 ghost use Rattle.t1_text.specs.Lines.{joined};
+ghost use Rattle.t1_parts.specs.SourceParts.{SourceParts};
 ghost use Rattle.t1_font.specs.Bodies.{bodies as bodies_of, bodies_check, plain_bodies, SameBodies};
 ghost use Rattle.t1_code.specs.Pfb.{whole_file};
 ghost use Rattle.t1_font.specs.Assembly.{counts_check, file_check, length_check, item_line, private_text, source_file};
 ghost use Rattle.t1_source.specs.WellFormed.{is_counted};
+ghost use Rattle.t1_font.specs.Lengths.{IsPrivateLen};
 
-use crate::assembly::{ZEROS_LEN, pfb_of_source};
+use crate::assembly::ZEROS_LEN;
 use crate::bodies::compiled;
+use crate::private::private_text_len;
 use itoa::Buffer;
 use std::alloc::Global;
-use t1_code::{EEXEC_LEAD, MAX_PART, WHOLE_PARTS};
+use t1_code::{EEXEC_LEAD, MAX_PART};
 use t1_frac::{Bytes, Code, Refusal, Words};
 use t1_run::Plain;
 use t1_source::{Item, Source};
@@ -95,8 +98,22 @@ fn is_short(source: &Source) -> bool
     clear.max(private.saturating_add(EEXEC_LEAD)).max(trailer) <= MAX_PART
 }
 
-/// F23 where a part of the PFB file of a source is too long. Its bodies have no fault. The file is made only where the
-/// source is so long that its length doesn't answer.
+/// F23 where a part of the PFB file is too long, for each source with these clear lines and this tail whose private text is
+/// so long.
+pub fn check_parts(clear: &[Bytes], private_len: usize, tail: &[Bytes]) -> Result<(), Refusal>
+    ensures { (s : SourceParts) → s.clear ≡ clear.now → s.tail ≡ tail.now → IsPrivateLen s private_len → Gives (λ x. x) result (length_check s) }
+{
+    let clear = lines_len(clear);
+    let private = private_len.saturating_add(EEXEC_LEAD);
+    let trailer = lines_len(tail).saturating_add(ZEROS_LEN);
+    if clear.max(private).max(trailer) > MAX_PART {
+        return Err(Refusal::from(Code::F23));
+    }
+    Ok(())
+}
+
+/// F23 where a part of the PFB file of a source is too long. Its bodies have no fault. Lines are made only where the source is
+/// so long that the lengths of its texts don't answer, and none is kept.
 #[tactic(auto, using(crate::proofs::LengthLaws::length_checked), unfolding(crate::specs::Assembly::length_check))]
 fn check_length(alloc: Global, source: &Source) -> Result<(), Refusal>
     requires { bodies_check source.now.items ≡ Ok tt }
@@ -105,8 +122,8 @@ fn check_length(alloc: Global, source: &Source) -> Result<(), Refusal>
     if is_short(source) {
         return Ok(());
     }
-    let _file = pfb_of_source(alloc, source, WHOLE_PARTS)?;
-    Ok(())
+    let len = private_text_len(alloc, source.lead(), source.operator(), source.items())?;
+    check_parts(source.clear(), len, source.tail())
 }
 
 /// The least count of ten digits.

@@ -1,7 +1,7 @@
 //! A whole font: its bodies compiled, its glyphs run once each and measured, its PFB and AFM files written.
 //!
 //! [`compiled`] gives the bodies of a private part, or the first fault of one; [`checked_bodies`] also judges the length of
-//! the PFB file. [`measured`] runs and measures the glyphs, and [`metrics`] is what the AFM file of a source and its pairs
+//! the PFB file, as [`check_parts`] does by the length of the private text. [`measured`] runs and measures the glyphs, and [`metrics`] is what the AFM file of a source and its pairs
 //! says. [`write_source_pfb`] and [`write_source_afm`] write the files.
 #![tactic(auto)]
 
@@ -28,7 +28,7 @@ pub use bodies::{compiled, compiled_glyph, compiled_subr};
 pub use font_metrics::metrics;
 pub use glyph_metrics::{GlyphMetrics, PlacedParts, glyph_metrics_of, metrics_of_run};
 pub use glyphs::{MeasuredGlyphs, glyph_names, measured, measured_source};
-pub use lengths::checked_bodies;
+pub use lengths::{check_parts, checked_bodies};
 pub use numbers::SubrNumbers;
 pub use runs::{Runs, runs_of};
 pub use usage::usage_text;

@@ -29,7 +29,7 @@ use Rattle.t1_charstrings.specs.declared.entries.Charstrings.{Charstrings}
 use Rattle.t1_charstrings.specs.Changed.{AreUnchanged}
 use Rattle.t1_charstrings.specs.Entries.{glyph_kept, subr_kept}
 use Rattle.t1_charstrings.specs.Kept.{AreEncrypted, Encrypt}
-use Rattle.t1_charstrings.specs.Lengths.{IsPrivateLen}
+use Rattle.t1_font.specs.Lengths.{IsPrivateLen}
 use Rattle.t1_cache.specs.declared.records.Records.{Records}
 use Rattle.t1_cache.specs.Edited.{named, stale}
 use Rattle.t1_cache.proofs.Distinct.{names_distinct}

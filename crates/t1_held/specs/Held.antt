@@ -1,7 +1,7 @@
 -- What a session keeps of its source.
 use Rattle.t1_parts.specs.SourceParts.{SourceParts}
 use Rattle.t1_charstrings.specs.Kept.{AreEncrypted}
-use Rattle.t1_charstrings.specs.Lengths.{IsPrivateLen}
+use Rattle.t1_font.specs.Lengths.{IsPrivateLen}
 use Rattle.t1_rerun.specs.Right.{IsRight}
 use Rattle.t1_held.specs.declared.held.Held.{Held}
 

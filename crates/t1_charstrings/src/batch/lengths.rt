@@ -4,7 +4,7 @@ ghost use Rattle.t1_parts.specs.LenIV.{lead};
 ghost use Rattle.t1_parts.specs.SourceParts.{SourceParts};
 ghost use Rattle.t1_run.specs.Run.{Key};
 ghost use Rattle.t1_charstrings.specs.Batch.{has_line, line_by, over, text_by, AreFresh, IsBatchOf};
-ghost use Rattle.t1_charstrings.specs.Lengths.{IsPrivateLen};
+ghost use Rattle.t1_font.specs.Lengths.{IsPrivateLen};
 
 use crate::entries::Charstrings;
 use crate::lengths::line_len;

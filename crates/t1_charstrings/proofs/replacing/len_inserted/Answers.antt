@@ -5,7 +5,7 @@ use Rattle.t1_frac.specs.Outcome.{Refuses}
 use Rattle.t1_parts.specs.Counts.{glyphs_needed, subrs_needed}
 use Rattle.t1_source.specs.Editing.{with_items}
 use Rattle.t1_font.specs.Assembly.{counts_check}
-use Rattle.t1_charstrings.specs.Lengths.{IsPrivateLen}
+use Rattle.t1_font.specs.Lengths.{IsPrivateLen}
 use Rattle.t1_charstrings.specs.Raising.{raised_check}
 use Rattle.t1_charstrings.proofs.Batches.{fresh_by}
 use Rattle.t1_charstrings.proofs.Entered.{counts_refused, file_passed, length_refused}

@@ -2,7 +2,7 @@ use Rattle.std.proofs.Common.{sym}
 use Rattle.std.proofs.lemmas.Result.{err_from_is_err_and}
 use Rattle.std.specs.List.{slice_set}
 use Rattle.t1_source.specs.Editing.{with_items}
-use Rattle.t1_charstrings.specs.Lengths.{IsPrivateLen}
+use Rattle.t1_font.specs.Lengths.{IsPrivateLen}
 use Rattle.t1_charstrings.proofs.Batches.{fresh_by}
 use Rattle.t1_charstrings.proofs.Entered.{file_ok, length_refused, put_counted, put_front, put_known}
 use Rattle.t1_charstrings.proofs.replacing.len_put.Goals as goal

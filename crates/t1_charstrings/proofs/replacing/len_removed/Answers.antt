@@ -2,7 +2,7 @@ use Rattle.std.proofs.Common.{◌≡◌, ◌-◌, sym, arith}
 use Rattle.std.proofs.lemmas.Result.{err_from_is_err_and}
 use Rattle.std.specs.List.{remove}
 use Rattle.t1_source.specs.Editing.{with_items}
-use Rattle.t1_charstrings.specs.Lengths.{IsPrivateLen}
+use Rattle.t1_font.specs.Lengths.{IsPrivateLen}
 use Rattle.t1_charstrings.specs.Ready.{old_len}
 use Rattle.t1_charstrings.proofs.Entered.{file_ok, left_counted, left_known, length_refused}
 use Rattle.t1_charstrings.proofs.replacing.len_removed.Goals as goal

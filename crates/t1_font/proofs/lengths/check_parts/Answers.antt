@@ -1,8 +1,8 @@
 use Rattle.std.proofs.Common.{length, ap, arith}
 use Rattle.t1_text.specs.Lines.{joined}
 use Rattle.t1_code.proofs.Encrypting.{length-eexec}
-use Rattle.t1_charstrings.proofs.Filed.{long_told, short_told}
-use Rattle.t1_charstrings.proofs.lengths.check_parts.Goals as goal
+use Rattle.t1_font.proofs.LengthLaws.{long_told, short_told}
+use Rattle.t1_font.proofs.lengths.check_parts.Goals as goal
 
 pub returns-then-max-gt-MAX_PART : goal.returns-then-max-gt-MAX_PART
 returns-then-max-gt-MAX_PART c = λ s clear_is tail_is known.
