@@ -9,7 +9,7 @@ use Rattle.t1_afm.specs.declared.metrics.CharMetric.{CharMetric}
 use Rattle.t1_afm.specs.declared.metrics.KernPair.{KernPair}
 use Rattle.t1_afm.specs.declared.metrics.CompositeMetric.{CompositeMetric}
 
--- AFM 4.1: what a file tells of a font: the values about the whole font, whether the encoding is StandardEncoding, the
+-- AFM 4.1: what a file says of a font: the values about the whole font, whether the encoding is StandardEncoding, the
 -- font's box, and the glyphs, pairs and composites in the order of the file
 pub record FontMetrics : Type 0 where
   pub header : Header
@@ -23,7 +23,7 @@ pub record FontMetrics : Type 0 where
 abbrev pub Line : Type 0
 Line = List (List ℕ)
 
--- AFM 4.1, file format: the words that follow, each behind a space, and the line's end
+-- AFM 4.1, file format: the words that follow, each after a space, and the line's end
 abbrev pub rest_text : Line → List ℕ
 rest_text [] = 10 ∷ []
 rest_text (word ∷ words) = 32 ∷ word ++ rest_text words
@@ -33,6 +33,7 @@ abbrev pub line_text : Line → List ℕ
 line_text [] = 10 ∷ []
 line_text (word ∷ words) = word ++ rest_text words
 
+-- AFM 4.1, file format: the lines, one after another
 abbrev pub lines_text : List Line → List ℕ
 lines_text lines = flat_map line_text lines
 
@@ -41,6 +42,7 @@ abbrev pub value_line : List ℕ × Option (List ℕ) → List Line
 value_line (key, None) = []
 value_line (key, Some value) = (key ∷ value ∷ []) ∷ []
 
+-- profile: such lines, one after another
 abbrev pub value_lines : List (List ℕ × Option (List ℕ)) → List Line
 value_lines values = flat_map value_line values
 
@@ -55,7 +57,7 @@ values_before_box h =
     ∷ (codes "IsFixedPitch", h.is_fixed_pitch)
     ∷ []
 
--- AFM 4.1, Global Font Information: the values that stand behind the font's box
+-- AFM 4.1, Global Font Information: the values that stand after the font's box
 abbrev pub values_after_box : Header → List (List ℕ × Option (List ℕ))
 values_after_box h =
     (codes "UnderlinePosition", h.underline_position)
@@ -109,7 +111,7 @@ abbrev pub width_words : ℤ → ℤ → Line
 width_words wx (pos zero) = codes "WX" ∷ signed_decimal wx ∷ []
 width_words wx wy = codes "W" ∷ signed_decimal wx ∷ signed_decimal wy ∷ []
 
--- AFM 4.1, Individual Character Metrics: code, this width, name and box, each with a semicolon behind it
+-- AFM 4.1, Individual Character Metrics: code, this width, name and box, each with a semicolon after it
 abbrev pub entries : Line → CharMetric → Line
 entries width c =
     signed_decimal (code_number c.code) ∷ codes ";"

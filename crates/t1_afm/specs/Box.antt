@@ -8,10 +8,11 @@ use Rattle.t1_run.specs.declared.outline.Segment.{Segment}
 use Rattle.t1_afm.specs.declared.bbox.BBox.{BBox}
 use Rattle.t1_afm.specs.Points.{points}
 
--- profile: the least and the greatest of whole numbers, 0 where there are none
+-- profile: the least of whole numbers, 0 where there are none
 abbrev pub least : List ℤ → ℤ
 least xs = unwrap_or (reduce int_min xs) (pos 0)
 
+-- profile: the greatest of whole numbers, 0 where there are none
 abbrev pub greatest : List ℤ → ℤ
 greatest xs = unwrap_or (reduce int_max xs) (pos 0)
 
@@ -56,10 +57,10 @@ drawn_box (segment ∷ outline) = Some (outline_box (segment ∷ outline))
 abbrev pub united : List (Option BBox) → BBox
 united boxes = unwrap_or (fold unite None boxes) (record { left = pos 0; bottom = pos 0; right = pos 0; top = pos 0 })
 
--- the font's box is the box around the boxes of the outlines that draw
+-- profile: the font's box is the box around the boxes of the outlines that draw
 abbrev pub FontBoxOfBoxes : Type 0
 FontBoxOfBoxes = (outlines : List (List Segment)) → font_box outlines ≡ united (map drawn_box outlines)
 
--- the box of two outlines in one is the box around both, of those that draw
+-- profile: the box of two outlines in one is the box around both, of those that draw
 abbrev pub BoxOfBoth : Type 0
 BoxOfBoth = (a b : List Segment) → drawn_box (a ++ b) ≡ unite (drawn_box a) (drawn_box b)

@@ -6,10 +6,11 @@ use Rattle.t1_run.specs.declared.outline.Point.{Point}
 use Rattle.t1_run.specs.declared.outline.Segment.{Segment}
 use Rattle.t1_run.specs.declared.outline.Segment.TheVariants.{Line, Curve}
 
--- profile: n times a, and a over n
+-- profile: n times a
 abbrev pub times : ℕ → Fraction → Fraction
 times n a = record { num = pos n *ℤ a.num; den = a.den }
 
+-- profile: a over n
 abbrev pub over_whole : ℕ → Fraction → Fraction
 over_whole n a = record { num = a.num; den = n * a.den }
 
@@ -21,6 +22,7 @@ weighted u v w x a b c d = plus (plus (times u a) (times v b)) (plus (times w c)
 abbrev pub bernstein : ℕ → ℕ → Fraction → Fraction → Fraction → Fraction → Fraction
 bernstein j k a b c d = over_whole 262144 (weighted (j * j * j) (3 * j * j * k) (3 * j * k * k) (k * k * k) a b c d)
 
+-- profile: a cubic at k/64
 abbrev pub cubic_at : Fraction → Fraction → Fraction → Fraction → ℕ → Fraction
 cubic_at a b c d k = bernstein (64 - k) k a b c d
 
@@ -32,6 +34,7 @@ sixty_fourths = range_with_len 0 65
 abbrev pub cubic_values : Fraction → Fraction → Fraction → Fraction → List Fraction
 cubic_values a b c d = map (cubic_at a b c d) sixty_fourths
 
+-- profile: the point of a curve at k/64, each coordinate by its cubic
 abbrev pub curve_at : Point → Point → Point → Point → ℕ → Point
 curve_at a b c d k = record { x = cubic_at a.x b.x c.x d.x k; y = cubic_at a.y b.y c.y d.y k }
 

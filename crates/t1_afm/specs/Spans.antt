@@ -7,24 +7,26 @@ use Rattle.t1_afm.specs.declared.span.Span.{Span}
 use Rattle.t1_afm.specs.Points.{cubic_at}
 use Rattle.t1_afm.specs.Box.{least, greatest}
 
--- the least whole numbers' span around fractions of one axis
+-- profile: the least span of whole numbers around fractions of one axis
 abbrev pub span_of : List Fraction → Span
 span_of xs = record { low = least (map floor_of xs); high = greatest (map ceiling_of xs) }
 
--- the span around one fraction, and around two spans
+-- profile: the span around one fraction
 abbrev pub span_around_one : Fraction → Span
 span_around_one a = record { low = floor_of a; high = ceiling_of a }
 
+-- profile: the span around two spans
 abbrev pub span_around : Span → Span → Span
 span_around s t = record { low = int_min s.low t.low; high = int_max s.high t.high }
 
--- the box of a span along each axis
+-- profile: the box of a span along each axis
 abbrev pub spans_box : Span → Span → BBox
 spans_box x y = record { left = x.low; bottom = y.low; right = x.high; top = y.high }
 
--- the span of the four points, and that of the values at both ends
+-- profile: the span around the four points of a cubic, along one axis
 abbrev pub hull_of : Fraction → Fraction → Fraction → Fraction → Span
 hull_of a b c d = span_around (span_of (a ∷ b ∷ [])) (span_of (c ∷ d ∷ []))
 
+-- profile: the span around a cubic's values at both ends
 abbrev pub ends_of : Fraction → Fraction → Fraction → Fraction → Span
 ends_of a b c d = span_around (span_around_one (cubic_at a b c d 0)) (span_around_one (cubic_at a b c d 64))

@@ -1,7 +1,7 @@
 //! The AFM file, section by section.
-ghost use Rattle.std.specs.Prelude.{◌≡◌, ◌≢◌, [], ◌∷◌, ◌++◌, OnOk, OnErr, Ok, Err, length, flat_map, map, codes, decimal, option_map};
+ghost use Rattle.std.specs.Prelude.{◌≡◌, ◌≢◌, [], ◌∷◌, ◌++◌, Ok, Err, length, flat_map, map, codes, decimal, option_map};
 ghost use Rattle.std.specs.Fmt.{signed_decimal};
-ghost use Rattle.t1_code.specs.Counted.{WritesAll, WritesFront, Passes, Stops, outlet};
+ghost use Rattle.t1_code.specs.Counted.{Puts, Writes, outlet};
 ghost use Rattle.t1_code.specs.Parts.{Prints};
 ghost use Rattle.t1_afm.specs.Afm.{line_text, lines_text, value_lines, values_before_box as names, values_after_box as others, scheme as scheme_of, header_lines, heights as heights_of, char_named, char_line, section, kerning_lines, composite_lines, afm};
 ghost use Rattle.t1_afm.specs.Lines.{word_text, value_of, values_of};
@@ -82,8 +82,7 @@ fn heights(chars: &[CharMetric]) -> [Value<'static>; 4]
 }
 
 fn put_values<W: Write>(out: &mut Counted<W>, chunk: &mut Chunk, values: &[Value]) -> io::Result<()>
-    ensures ok { OnOk result (Passes W.contents (outlet out.old chunk.old) (outlet out.new chunk.new) (lines_text (value_lines (values_of values.now)))) }
-    ensures err { OnErr result (Stops W.contents (outlet out.old chunk.old) (outlet out.new chunk.new) (lines_text (value_lines (values_of values.now)))) }
+    ensures { Puts W.contents (outlet out.old chunk.old) (outlet out.new chunk.new) (lines_text (value_lines (values_of values.now))) result }
 {
     put_parts(out, chunk, values)
 }
@@ -105,8 +104,7 @@ fn put_header<W: Write>(
     chunk: &mut Chunk,
     metrics: &Metrics,
 ) -> io::Result<()>
-    ensures ok { OnOk result (Passes W.contents (outlet out.old chunk.old) (outlet out.new chunk.new) (lines_text (header_lines metrics.now.header metrics.now.standard metrics.now.font_box))) }
-    ensures err { OnErr result (Stops W.contents (outlet out.old chunk.old) (outlet out.new chunk.new) (lines_text (header_lines metrics.now.header metrics.now.standard metrics.now.font_box))) }
+    ensures { Puts W.contents (outlet out.old chunk.old) (outlet out.new chunk.new) (lines_text (header_lines metrics.now.header metrics.now.standard metrics.now.font_box)) result }
 {
     put_line(out, chunk, b"StartFontMetrics", &[Word::Text(b"4.1")])?;
     put_values(out, chunk, &values_before_box(&metrics.header))?;
@@ -128,8 +126,7 @@ fn put_section<W: Write, P: Part>(
     end: &[u8],
     parts: &[P],
 ) -> io::Result<()>
-    ensures ok { OnOk result (Passes W.contents (outlet out.old chunk.old) (outlet out.new chunk.new) (line_text (start.now ∷ decimal (length parts.now) ∷ []) ++ (flat_map P.text parts.now ++ line_text (end.now ∷ [])))) }
-    ensures err { OnErr result (Stops W.contents (outlet out.old chunk.old) (outlet out.new chunk.new) (line_text (start.now ∷ decimal (length parts.now) ∷ []) ++ (flat_map P.text parts.now ++ line_text (end.now ∷ [])))) }
+    ensures { Puts W.contents (outlet out.old chunk.old) (outlet out.new chunk.new) (line_text (start.now ∷ decimal (length parts.now) ∷ []) ++ (flat_map P.text parts.now ++ line_text (end.now ∷ []))) result }
 {
     put_line(out, chunk, start, &[Word::Count(parts.len())])?;
     put_parts(out, chunk, parts)?;
@@ -142,8 +139,7 @@ fn put_glyphs<W: Write>(
     chunk: &mut Chunk,
     chars: &[CharMetric],
 ) -> io::Result<()>
-    ensures ok { OnOk result (Passes W.contents (outlet out.old chunk.old) (outlet out.new chunk.new) (lines_text (value_lines (heights_of chars.now) ++ section (codes "StartCharMetrics") (codes "EndCharMetrics") (map char_line chars.now)))) }
-    ensures err { OnErr result (Stops W.contents (outlet out.old chunk.old) (outlet out.new chunk.new) (lines_text (value_lines (heights_of chars.now) ++ section (codes "StartCharMetrics") (codes "EndCharMetrics") (map char_line chars.now)))) }
+    ensures { Puts W.contents (outlet out.old chunk.old) (outlet out.new chunk.new) (lines_text (value_lines (heights_of chars.now) ++ section (codes "StartCharMetrics") (codes "EndCharMetrics") (map char_line chars.now))) result }
 {
     put_values(out, chunk, &heights(chars))?;
     put_section(out, chunk, b"StartCharMetrics", b"EndCharMetrics", chars)
@@ -155,8 +151,7 @@ fn put_kerning<W: Write>(
     chunk: &mut Chunk,
     pairs: &[KernPair],
 ) -> io::Result<()>
-    ensures ok { OnOk result (Passes W.contents (outlet out.old chunk.old) (outlet out.new chunk.new) (lines_text (kerning_lines pairs.now))) }
-    ensures err { OnErr result (Stops W.contents (outlet out.old chunk.old) (outlet out.new chunk.new) (lines_text (kerning_lines pairs.now))) }
+    ensures { Puts W.contents (outlet out.old chunk.old) (outlet out.new chunk.new) (lines_text (kerning_lines pairs.now)) result }
 {
     if pairs.is_empty() {
         return Ok(());
@@ -172,8 +167,7 @@ fn put_composites<W: Write>(
     chunk: &mut Chunk,
     composites: &[CompositeMetric],
 ) -> io::Result<()>
-    ensures ok { OnOk result (Passes W.contents (outlet out.old chunk.old) (outlet out.new chunk.new) (lines_text (composite_lines composites.now))) }
-    ensures err { OnErr result (Stops W.contents (outlet out.old chunk.old) (outlet out.new chunk.new) (lines_text (composite_lines composites.now))) }
+    ensures { Puts W.contents (outlet out.old chunk.old) (outlet out.new chunk.new) (lines_text (composite_lines composites.now)) result }
 {
     if composites.is_empty() {
         return Ok(());
@@ -182,8 +176,7 @@ fn put_composites<W: Write>(
 }
 
 fn put_file<W: Write>(out: &mut Counted<W>, chunk: &mut Chunk, metrics: &Metrics) -> io::Result<()>
-    ensures ok { OnOk result (Passes W.contents (outlet out.old chunk.old) (outlet out.new chunk.new) (afm metrics.now)) }
-    ensures err { OnErr result (Stops W.contents (outlet out.old chunk.old) (outlet out.new chunk.new) (afm metrics.now)) }
+    ensures { Puts W.contents (outlet out.old chunk.old) (outlet out.new chunk.new) (afm metrics.now) result }
 {
     put_header(out, chunk, metrics)?;
     put_glyphs(out, chunk, &metrics.chars)?;
@@ -194,8 +187,7 @@ fn put_file<W: Write>(out: &mut Counted<W>, chunk: &mut Chunk, metrics: &Metrics
 
 /// Writes the file by way of a chunk.
 fn send_file<W: Write>(out: &mut Counted<W>, metrics: &Metrics) -> io::Result<()>
-    ensures ok { OnOk result (WritesAll W.contents out.old out.new (afm metrics.now)) }
-    ensures err { OnErr result (WritesFront W.contents out.old out.new (afm metrics.now)) }
+    ensures { Writes W.contents out.old out.new (afm metrics.now) result }
 {
     let mut chunk = Chunk::new();
     put_file(out, &mut chunk, metrics)?;

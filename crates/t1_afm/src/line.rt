@@ -1,6 +1,6 @@
 //! Lines of a text: a key and its values, with a space between each two words.
-ghost use Rattle.std.specs.Prelude.{◌∷◌, OnOk, OnErr};
-ghost use Rattle.t1_code.specs.Counted.{Passes, Stops, outlet};
+ghost use Rattle.std.specs.Prelude.{◌∷◌};
+ghost use Rattle.t1_code.specs.Counted.{Puts, outlet};
 ghost use Rattle.t1_afm.specs.Afm.{line_text, rest_text};
 ghost use Rattle.t1_afm.specs.Lines.{word_text, words_of};
 
@@ -17,8 +17,7 @@ pub(crate) enum Word<'a> {
 }
 
 fn put_word<W: Write>(out: &mut Counted<W>, chunk: &mut Chunk, word: &Word) -> io::Result<()>
-    ensures ok { OnOk result (Passes W.contents (outlet out.old chunk.old) (outlet out.new chunk.new) (word_text word.now)) }
-    ensures err { OnErr result (Stops W.contents (outlet out.old chunk.old) (outlet out.new chunk.new) (word_text word.now)) }
+    ensures { Puts W.contents (outlet out.old chunk.old) (outlet out.new chunk.new) (word_text word.now) result }
 {
     let mut buffer = Buffer::new();
     match word {
@@ -30,8 +29,7 @@ fn put_word<W: Write>(out: &mut Counted<W>, chunk: &mut Chunk, word: &Word) -> i
 
 /// Puts the words that follow a line's key, and the line's end.
 fn put_rest<W: Write>(out: &mut Counted<W>, chunk: &mut Chunk, words: &[Word]) -> io::Result<()>
-    ensures ok { OnOk result (Passes W.contents (outlet out.old chunk.old) (outlet out.new chunk.new) (rest_text (words_of words.now))) }
-    ensures err { OnErr result (Stops W.contents (outlet out.old chunk.old) (outlet out.new chunk.new) (rest_text (words_of words.now))) }
+    ensures { Puts W.contents (outlet out.old chunk.old) (outlet out.new chunk.new) (rest_text (words_of words.now)) result }
 {
     for word in words {
         put_plain(out, chunk, b" ")?;
@@ -47,8 +45,7 @@ pub(crate) fn put_line<W: Write>(
     key: &[u8],
     words: &[Word],
 ) -> io::Result<()>
-    ensures ok { OnOk result (Passes W.contents (outlet out.old chunk.old) (outlet out.new chunk.new) (line_text (key.now ∷ words_of words.now))) }
-    ensures err { OnErr result (Stops W.contents (outlet out.old chunk.old) (outlet out.new chunk.new) (line_text (key.now ∷ words_of words.now))) }
+    ensures { Puts W.contents (outlet out.old chunk.old) (outlet out.new chunk.new) (line_text (key.now ∷ words_of words.now)) result }
 {
     put_plain(out, chunk, key)?;
     put_rest(out, chunk, words)

@@ -25,7 +25,7 @@ impl Model for LineEnd {
     ghost invariant = { λ end. end.start ≤ 128 };
 }
 
-/// Puts more bytes in front of those that stand from a place on, and tells where they start.
+/// Puts more bytes in front of those that stand from a place on, and answers where they start.
 fn put_before(bytes: &mut [u8], place: usize, more: &[u8]) -> usize
     requires inside { place ≤ length bytes.old }
     requires room { length more.now ≤ place }

@@ -1,8 +1,8 @@
 //! Parts of the file, each of which puts its own text. A line whose form is fixed is put as slices: its values, and the text
 //! between each two of them.
-ghost use Rattle.std.specs.Prelude.{◌≡◌, ℕ, List, [], ◌∷◌, ◌++◌, OnOk, OnErr, flat_map, codes};
+ghost use Rattle.std.specs.Prelude.{◌≡◌, ℕ, List, [], ◌∷◌, ◌++◌, flat_map, codes};
 ghost use Rattle.std.specs.Fmt.{signed_decimal};
-ghost use Rattle.t1_code.specs.Counted.{Passes, Stops, outlet};
+ghost use Rattle.t1_code.specs.Counted.{Puts, outlet};
 ghost use Rattle.t1_afm.specs.Afm.{line_text, rest_text, lines_text, value_line, char_line, pair_line, composite_line, sides, entries, code_number};
 ghost use Rattle.t1_afm.specs.Lines.{words_of, value_of};
 
@@ -21,8 +21,7 @@ pub(crate) trait Part {
     ghost text: { Self → List ℕ };
 
     fn put<W: Write>(&self, out: &mut Counted<W>, chunk: &mut Chunk) -> io::Result<()>
-        ensures ok { OnOk result (Passes W.contents (outlet out.old chunk.old) (outlet out.new chunk.new) (text self.now)) }
-        ensures err { OnErr result (Stops W.contents (outlet out.old chunk.old) (outlet out.new chunk.new) (text self.now)) };
+        ensures { Puts W.contents (outlet out.old chunk.old) (outlet out.new chunk.new) (text self.now) result };
 }
 
 /// Puts parts, one after another.
@@ -31,8 +30,7 @@ pub(crate) fn put_parts<W: Write, P: Part>(
     chunk: &mut Chunk,
     parts: &[P],
 ) -> io::Result<()>
-    ensures ok { OnOk result (Passes W.contents (outlet out.old chunk.old) (outlet out.new chunk.new) (flat_map P.text parts.now)) }
-    ensures err { OnErr result (Stops W.contents (outlet out.old chunk.old) (outlet out.new chunk.new) (flat_map P.text parts.now)) }
+    ensures { Puts W.contents (outlet out.old chunk.old) (outlet out.new chunk.new) (flat_map P.text parts.now) result }
 {
     for part in parts {
         part.put(out, chunk)?;
@@ -122,10 +120,8 @@ impl<'a> CharMetric<'a> {
     /// Puts the line with the width along x alone.
     #[tactic(auto, using(crate::proofs::Sheets::glyph_line))]
     fn put_across<W: Write>(&self, out: &mut Counted<W>, chunk: &mut Chunk) -> io::Result<()>
-        ensures ok { OnOk result (Passes W.contents (outlet out.old chunk.old) (outlet out.new chunk.new)
-            (line_text (codes "C" ∷ entries (codes "WX" ∷ signed_decimal self.now.wx ∷ []) self.now))) }
-        ensures err { OnErr result (Stops W.contents (outlet out.old chunk.old) (outlet out.new chunk.new)
-            (line_text (codes "C" ∷ entries (codes "WX" ∷ signed_decimal self.now.wx ∷ []) self.now))) }
+        ensures { Puts W.contents (outlet out.old chunk.old) (outlet out.new chunk.new)
+            (line_text (codes "C" ∷ entries (codes "WX" ∷ signed_decimal self.now.wx ∷ []) self.now)) result }
     {
         let front = width_front(code_number(self.code), self.wx);
         let end = box_end(&self.bbox);

@@ -1,7 +1,7 @@
 -- Changes that are gathered one after another.
-use Rattle.std.proofs.Common.{◌≡◌, ℕ, ◌+◌, ◌<◌, suc, List, [], ◌∷◌, ◌++◌, length, get_or, drop, drop-cons, add-one, refl, sym, ◌∙◌, ap, Option, Result, Ok, Err}
+use Rattle.std.proofs.Common.{◌≡◌, ℕ, ◌+◌, ◌<◌, suc, List, ◌∷◌, ◌++◌, length, get_or, drop, drop-cons, add-one, refl, sym, ◌∙◌, ap, Option, Result, Ok, Err}
 use Rattle.std.specs.Option.{option_to_list}
-use Rattle.std.proofs.lemmas.List.{append-nil, append_assoc}
+use Rattle.std.proofs.lemmas.List.{append_assoc}
 use Rattle.t1_frac.specs.declared.fault.Fault.{Fault}
 use Rattle.t1_frac.specs.declared.fault.Refusal.{Refusal}
 use Rattle.t1_frac.specs.declared.fault.Refusal.TheVariants as refusals
@@ -38,18 +38,9 @@ module _ (whole : Outcome) (m : Sought) (done : List EntryChange) (i : Item) (is
       ∙ front-twice done (option_to_list change) (items_put (behind_item i m) is)
       ∙ ap (λ l. in_front l (items_put (behind_item i m) is)) (sym gathered)
       ∙ ap (λ s. in_front new (items_put s is)) (sym (λ j. λ k. left k j))
-
   -- an item with one
-  pub item-refused : (refusal : Refusal) → Refuses refusal (item_put m i) → Refuses refusal whole
-  item-refused refusals.Memory h = tt
-  item-refused (refusals.Fault fault) h =
-      was ∙ ap (λ r. in_front done (r >>= λ c. in_front (option_to_list c) (items_put (behind_item i m) is))) h
 
--- no item is left
-pub items-gathered : (whole : Outcome) (m : Sought) (done : List EntryChange) (is : List Item) → is ≡ [] → whole ≡ in_front done (items_put m is) → whole ≡ Ok done
-items-gathered whole m done is none was = was ∙ ap (λ l. in_front done (items_put m l)) none ∙ ap Ok (append-nil done)
-
--- the marks behind an item
+-- the marks after an item
 pub behind-more : (i : Item) (is : List Item) (m n : Sought) → ((k : Key) → n k ≡ behind_item i m k) → (k : Key) → behind_items is n k ≡ behind_items (i ∷ is) m k
 behind-more i is m n left k = ap (λ s. behind_items is s k) (λ j. λ x. left x j)
 

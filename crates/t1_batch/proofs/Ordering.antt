@@ -20,10 +20,6 @@ InOrder gone xs ys = ys ≡ filter (λ g. list_any (bytes_eq g) ys && not (gone 
 
 -- ---- tests
 
-and-true : (b : Bool) → (b && true) ≡ b
-and-true true = refl
-and-true false = refl
-
 and-false : (b : Bool) → (b && false) ≡ false
 and-false true = refl
 and-false false = refl

@@ -1,4 +1,4 @@
--- What one pass over an edited source tells of the entries that edits name.
+-- What one pass over an edited source finds of the entries that edits name.
 use Rattle.std.proofs.Common.{◌≡◌, ℕ, Bool, true, false, cond, List, [], ◌∷◌, ◌++◌, map, Option, None, Some, Result, Ok, Err, is_some, refl, sym, ◌∙◌, ap, subst, inl, inr}
 use Rattle.std.specs.Prelude.{◌||◌, ◌&&◌, ◌⊎◌}
 use Rattle.std.specs.List.{list_any, AllByRecursion}
@@ -255,7 +255,7 @@ changed-append (c ∷ cs) ds = ap (λ l. key_of c.named ∷ l) (changed-append c
 
 -- ---- each entry once
 
--- what is behind has none of the entries that were met
+-- what comes after has none of the entries that were met
 abbrev Apart : List Item → Sought → List EntryChange → Type 0
 Apart is m back = (k : Key) → behind_items is m k ≡ None → list_any (key_eq k) (changed_keys back) ≡ false
 

@@ -22,14 +22,16 @@ use Rattle.t1_rerun.specs.Right.{has_glyph, IsInOrder}
 use Rattle.t1_rerun.specs.Settled.{changed_keys, last_glyphs, was_moved, AreDistinctKeys, HasBody}
 use Rattle.t1_batch.specs.declared.entries.EditedEntry.{EditedEntry}
 
--- an entry that an edit names, and whether the edit added it
+-- profile, batches: an entry that an edit names, and whether the edit added it
 pub record EntryEdit : Type 0 where
   pub key : Key
   pub added : Bool
 
+-- profile, batches: the same, of an entry that a batch has noted
 abbrev pub entry_edit : EditedEntry → EntryEdit
 entry_edit e = record { key = key_of e.named; added = e.added }
 
+-- profile, batches: whether an edit adds an entry
 abbrev pub adds : Edit → Bool
 adds (AddGlyph g body) = true
 adds (AddSubr n body) = true
@@ -45,25 +47,26 @@ pub record Draft : Type 0 where
   pub pairs : List Pair
   pub entries : List EntryEdit
 
+-- profile, batches: the keys of these entries
 abbrev pub keys : List EntryEdit → List Key
 keys entries = map (λ e. e.key) entries
 
--- some edit added the glyph
+-- profile, batches: some edit added the glyph
 abbrev pub was_added : List EntryEdit → List ℕ → Bool
 was_added entries g = list_any (λ e. e.added && is_key_of g e.key) entries
 
--- the entry is named, or its body has no fault
+-- profile, batches: the entry is named, or its body has no fault
 abbrev pub IsSoundBut : List Key → Item → Type 0
 IsSoundBut ks item = IsAmong ks item ⊎ (body_check item ≡ Ok tt)
 
--- edits that name these entries, one after another, made one source of the other
+-- profile, batches: edits that name these entries, one after another, made one source of the other
 pub record IsEditedBy (entries : List EntryEdit) (old new : SourceParts) : Type 0 where
   pub edited : IsEditedAt (keys entries) old new
   pub order : IsInOrder (was_added entries) old new
   pub sound : bodies_check old.items ≡ Ok tt → AllByRecursion (IsSoundBut (keys entries)) new.items
   pub well : IsWellFormed new
 
--- a batch on this source
+-- profile, batches: the draft of a batch on this source
 abbrev pub IsDraftOf : SourceParts → Draft → Type 0
 IsDraftOf s draft = IsEditedBy draft.entries s draft.source
 
@@ -76,8 +79,8 @@ Drafts old edit (Err (causes.Rule rule)) new = (edited old.source old.pairs edit
 Drafts old edit (Err (causes.Fault fault)) new = ⊥
 Drafts old edit (Err causes.Memory) new = new ≡ old
 
--- what edits at these keys changed: each entry once, with the body that it has after them, and the edited source, whose
--- bodies have no fault
+-- profile, batches: what edits at these keys changed: each entry once, with the body that it has after them, and the
+-- edited source, whose bodies have no fault
 pub record AreBatchChanges (old new : SourceParts) (ks : List Key) (changes : List EntryChange) : Type 0 where
   pub same : (k : Key) → list_any (key_eq k) (changed_keys changes) ≡ list_any (key_eq k) ks
   pub edited : IsEditedAt (changed_keys changes) old new

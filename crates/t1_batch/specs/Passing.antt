@@ -23,74 +23,83 @@ use Rattle.t1_batch.specs.declared.marks.Marks.{Marks}
 
 -- ---- the entries that are looked for
 
--- whether an entry is looked for, and then whether some edit added it
+-- profile: whether an entry is looked for, and then whether some edit added it
 abbrev pub Sought : Type 0
 Sought = Key → Option Bool
 
+-- profile: the mark of the Subr of this number
 abbrev pub subr_mark : List (ℕ × Bool) → ℕ → Option Bool
 subr_mark entries n = lookup (nat_eq n) entries
 
+-- profile: the mark of the glyph of this name
 abbrev pub glyph_mark : List (Vec ℕ Global × Bool) → List ℕ → Option Bool
 glyph_mark entries g = lookup (λ name. bytes_eq g name.items) entries
 
+-- profile: the mark of the entry of a key
 abbrev pub mark_at : Marks → Sought
 mark_at marks (Subr n) = subr_mark marks.subrs.entries n
 mark_at marks (Glyph g) = glyph_mark marks.glyphs.entries g
 
--- the mark of an entry that is named once more
+-- profile: the mark of an entry that is named once more
 abbrev pub marked : Bool → Option Bool → Option Bool
 marked added was = Some (unwrap_or was false || added)
 
--- an entry more
+-- profile: one entry more is looked for
 abbrev pub with_mark : Key → Bool → Sought → Sought
 with_mark key added m k = if key_eq k key then marked added (m k) else m k
 
+-- profile: these entries are looked for too
 abbrev pub all_marked : List EditedEntry → Sought → Sought
 all_marked [] m = m
 all_marked (e ∷ es) m = all_marked es (with_mark (key_of e.named) e.added m)
 
+-- profile: no entry is looked for
 abbrev pub none_sought : Sought
 none_sought k = None
 
--- an entry less
+-- profile: one entry is looked for no more
 abbrev pub without : Key → Sought → Sought
 without key m k = if key_eq key k then None else m k
 
 -- ---- the pass
 
--- an entry that is looked for, with the commands of its words, or their fault at its place
+-- profile: an entry that is looked for, with the commands of its words, or their fault at its place
 abbrev pub put_of : Option Bool → Named → Place → List (List ℕ) → Result (Option EntryChange) Fault
 put_of None named place words = Ok None
 put_of (Some moved) named place words = told_at place (commands words) >>= λ body. Ok (Some (changed named (Some body) moved))
 
+-- profile: the same, of an item
 abbrev pub item_put : Sought → Item → Result (Option EntryChange) Fault
 item_put m (items.Subr n words closing) = put_of (m (Subr n)) (named.Subr n) (places.Subr n) words
 item_put m (items.Glyph g words closing) = put_of (m (Glyph g)) (named.Glyph g) (places.Glyph g) words
 item_put m (items.Plain line) = Ok None
 item_put m (items.Section before n after) = Ok None
 
--- what is still looked for behind an item
+-- profile: what is still looked for after an item
 abbrev pub behind_item : Item → Sought → Sought
 behind_item (items.Subr n words closing) m = without (Subr n) m
 behind_item (items.Glyph g words closing) m = without (Glyph g) m
 behind_item (items.Plain line) m = m
 behind_item (items.Section before n after) m = m
 
+-- profile: what is still looked for after these items
 abbrev pub behind_items : List Item → Sought → Sought
 behind_items [] m = m
 behind_items (i ∷ is) m = behind_items is (behind_item i m)
 
--- the entries that are looked for, in the order of the items, or the first fault of one
+-- profile: the entries that are looked for, in the order of the items, or the first fault of one
 abbrev pub items_put : Sought → List Item → Result (List EntryChange) Fault
 items_put m [] = Ok []
 items_put m (i ∷ is) = item_put m i >>= λ change. items_put (behind_item i m) is >>= λ changes. Ok (option_to_list change ++ changes)
 
 -- ---- the entries that were not met were removed
 
+-- profile: an entry that is still looked for has no body any more
 abbrev pub removed_at : Option Bool → Named → Option EntryChange
 removed_at None named = None
 removed_at (Some added) named = Some (changed named None false)
 
+-- profile: those of the entries that are still looked for, each once
 abbrev pub all_removed : Sought → List EditedEntry → List EntryChange
 all_removed m [] = []
 all_removed m (e ∷ es) = option_to_list (removed_at (m (key_of e.named)) e.named) ++ all_removed (without (key_of e.named) m) es

@@ -184,7 +184,7 @@ fn tells_entries_in_the_order_of_the_source(rt: HostRuntime) -> Result<(), Fail>
     Ok(())
 }
 
-/// Whether the fault of Subr 4 is told where A got one before it. No edit tells a fault.
+/// Whether the fault of Subr 4 is reported where A got one before it. No edit reports a fault.
 fn has_fault_at_4(alloc: Global) -> Result<bool, Fail> {
     let edits = [
         put_glyph(alloc, "A", "0 nonsense")?,

@@ -68,15 +68,6 @@ module _ {Q K R X : Type 0} (eq : Q → Q → Bool) (t : Tells eq) (name : K →
     by true on = ap (λ r. option_map (λ y. x) (option_map read r)) (sym (put-at q on ∙ there))
     by false off = refl
 
-  pub put-nowhere : lookup (λ k. eq p (name k)) es ≡ None
-      → (q : Q) → option_map read (lookup (λ k. eq q (name k)) es)
-      ≡ cond (eq q p) (option_map (λ y. x) (option_map read (lookup (λ k. eq q (name k)) es))) (option_map read (lookup (λ k. eq q (name k)) es))
-  put-nowhere none q = by (eq q p) refl where
-    by : (b : Bool) → eq q p ≡ b → option_map read (lookup (λ k. eq q (name k)) es)
-        ≡ cond b (option_map (λ y. x) (option_map read (lookup (λ k. eq q (name k)) es))) (option_map read (lookup (λ k. eq q (name k)) es))
-    by true on = let e = put-at q on ∙ none in ap (option_map read) e ∙ sym (ap (λ r. option_map (λ y. x) (option_map read r)) e)
-    by false off = refl
-
 -- at a name that was taken out and put in again
 pub again-at : {X : Type 0} (b : Bool) (x : X) (y r : X) → cond b x (cond b y r) ≡ cond b x r
 again-at true x y r = refl
@@ -149,21 +140,6 @@ reads-removed eq t name read es p gone q =
     none : (b : Bool) → option_map read (cond b None (lookup (λ x. eq q (name x)) es)) ≡ cond b None (option_map read (lookup (λ x. eq q (name x)) es))
     none true = refl
     none false = refl
-
-pub and-true : (b : Bool) → (b && true) ≡ b
-and-true true = refl
-and-true false = refl
-
-pub users-removed : {Q K R : Type 0} (eq : Q → Q → Bool) → Tells eq → (name : K → Q) (users : R → UserSet) (es : List (K × R)) (p : Q)
-    → lookup (λ x. eq p (name x)) (remove_entry (λ x. eq p (name x)) es) ≡ None
-    → (q : Q) (u : List ℕ) → among (at eq name users (remove_entry (λ x. eq p (name x)) es) q) u ≡ (among (at eq name users es q) u && not (eq q p))
-users-removed eq t name users es p gone q u = ap (λ s. among s u) (reads-removed eq t name users es p gone q) ∙ by (eq q p) (at eq name users es q) where
-  by : (b : Bool) (s : Option UserSet) → among (cond b None s) u ≡ (among s u && not b)
-  by true s = none (among s u) where
-    none : (b : Bool) → false ≡ (b && false)
-    none true = refl
-    none false = refl
-  by false s = sym (and-true (among s u))
 
 pub kept-but : (p : List ℕ) (es : List (Vec ℕ Global × GlyphRecord)) → map kept_of (filter (λ e. not (bytes_eq p e.0.items)) es) ≡ filter (λ k. not (bytes_eq p k.name)) (map kept_of es)
 kept-but p [] = refl

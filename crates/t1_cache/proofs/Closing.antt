@@ -54,15 +54,6 @@ closing-more name seed uses ks new more at d n was h is behind names = record {
   itself : has name ks n ≡ true
   itself = list_any_at (λ x. bytes_eq n (name x)) ks at d h (ap (λ m. bytes_eq n m) (sym is) ∙ (bytes_eq-Decides n n).1 refl)
 
--- where the users of all names are there
-pub closing-last : {K : Type 0} (name : K → List ℕ) (seed : List ℕ → Bool) (uses : List ℕ → List ℕ → Bool) (ks : List K) (at : ℕ)
-    → IsClosing name seed uses ks at → length ks ≤ at → Closes seed uses (has name ks)
-closing-last name seed uses ks at was all = record {
-  seeds = was.seeds;
-  users = λ p u there. was.users p u (ap (λ l. has name l p) (take_all at ks all) ∙ there);
-  reached = was.reached;
-}
-
 -- all users of glyphs
 abbrev pub all_users : List (Vec ℕ Global × GlyphRecord) → List (Vec ℕ Global)
 all_users entries = flat_map (λ e. e.1.users.keys) entries

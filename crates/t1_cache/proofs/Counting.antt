@@ -15,13 +15,6 @@ itself g = (bytes_eq-Decides g g).1 refl
 same : (g h : List ℕ) → bytes_eq g h ≡ true → g ≡ h
 same g h e = (bytes_eq-Decides g h).0 e
 
-turned : (g h : List ℕ) → bytes_eq g h ≡ false → bytes_eq h g ≡ false
-turned g h e =
-    elim (cases_Bool (bytes_eq h g)) [
-      | inl on ↦ let on' : bytes_eq g h ≡ true = rw (same h g on) (itself g) in let never : true ≡ false = sym on' ∙ e in absurd (cc)
-      | inr off ↦ off
-    ]
-
 -- the names but one
 abbrev but : List ℕ → List (List ℕ) → List (List ℕ)
 but x names = filter (λ y. not (bytes_eq x y)) names

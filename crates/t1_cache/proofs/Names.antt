@@ -35,7 +35,7 @@ pub or-right : (a b : Bool) → b ≡ true → (a || b) ≡ true
 or-right true b h = refl
 or-right false b h = h
 
--- keys are put in behind the others
+-- keys are put in after the others
 pub inserted-behind : {K : Type 0} (eq : K → K → Bool) (ks : List K) (k : K) → (more : List K) × (insert_key eq ks k ≡ ks ++ more)
 inserted-behind eq ks k =
     elim (cases_Bool (list_any (eq k) ks)) [

@@ -10,7 +10,7 @@ use Rattle.std.proofs.lemmas.Slice.Eq.{bytes_eq-Decides}
 use Rattle.indexmap.specs.IndexMap.{insert_entry}
 use Rattle.t1_cache.specs.Users.{has, among, HasRoom, UserSet}
 
--- a test that tells whether two names are the same
+-- a test that says whether two names are the same
 pub record Tells {Q : Type 0} (eq : Q → Q → Bool) : Type 0 where
   pub same : (a b : Q) → eq a b ≡ true → a ≡ b
   pub itself : (a : Q) → eq a a ≡ true

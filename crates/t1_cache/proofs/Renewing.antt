@@ -37,7 +37,7 @@ given r x y e f = let h : Ok x ≡ Ok y = sym e ∙ f in cc
 some : {X : Type 0} (x y : X) → Some x ≡ Some y → x ≡ y
 some x y e = cc
 
--- ---- what the glyphs of a font tell
+-- ---- what is reported of the glyphs of a font
 
 pub record TellsOne (m : FontBodies) (g : List ℕ) (t : Told) : Type 0 where
   pub name : g ≡ t.name

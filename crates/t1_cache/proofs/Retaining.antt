@@ -59,10 +59,6 @@ no-items : {X : Type 0} (xs : List X) → length xs ≡ 0 → xs ≡ []
 no-items [] e = refl
 no-items (x ∷ xs) e = absurd (cc)
 
-pub none-among : (names : List (Vec ℕ Global)) → length names ≡ 0 → (k : Key) → false ≡ is_key_among names k
-none-among names e (Subr n) = refl
-none-among names e (Glyph g) = sym (ap (λ ks. has (λ name. name.items) ks g) (no-items names e))
-
 all-left : (ks : List Kept) → ks ≡ filter (λ k. true) ks
 all-left [] = refl
 all-left (k ∷ ks) = ap (λ l. k ∷ l) (all-left ks)

@@ -35,22 +35,11 @@ roomier-twice (Some a) None c h i = absurd h
 roomier-twice (Some a) (Some b) None h i = i
 roomier-twice (Some a) (Some b) (Some c) h i = let x = h.1 in let y = i.1 in (i.0 ∙ h.0, omega (arith, x, y))
 
--- they list the same users
-pub roomier-users : (a b : Option UserSet) → IsRoomier a b → (u : List ℕ) → among b u ≡ among a u
-roomier-users None None h u = refl
-roomier-users None (Some b) h u = absurd h
-roomier-users (Some a) None h u = absurd h
-roomier-users (Some a) (Some b) h u = ap (λ names. has (λ name. name.items) names u) h.0
-
 pub joins-still : (count : ℕ) (a b : Option UserSet) → IsRoomier a b → MayJoin count a → MayJoin count b
 joins-still count None None h may = tt
 joins-still count None (Some b) h may = absurd h
 joins-still count (Some a) None h may = absurd h
 joins-still count (Some a) (Some b) h may = let x = h.1 in omega (arith, x, may)
-
-pub none-joins : (s : Option UserSet) → MayJoin 0 s
-none-joins None = tt
-none-joins (Some s) = omega arith
 
 -- ---- room that is made at one record
 
@@ -65,12 +54,6 @@ roomier-put eq t name users es p was now h more q =
         let found : at eq name users es q ≡ Some (users was) = ap (at eq name users es) (t.same q p on) ∙ ap (option_map users) h in
         subst (λ s. IsRoomier s (Some (users now))) (sym found) more
     by false off = roomier-itself (at eq name users es q)
-
-pub joins-put : {Q K R : Type 0} (eq : Q → Q → Bool) → Tells eq → (name : K → Q) (users : R → UserSet) (es : List (K × R)) (p : Q) (was now : R) (count : ℕ)
-    → lookup (λ k. eq p (name k)) es ≡ Some was → count ≤ (users now).room
-    → MayJoin count (at eq name users (set_value (λ k. eq p (name k)) es now) p)
-joins-put eq t name users es p was now count h fits =
-    subst (MayJoin count) (sym (users-put eq t name users es p was now h p ∙ ap (λ b. cond b (Some (users now)) (at eq name users es p)) (t.itself p))) fits
 
 -- ---- counts
 

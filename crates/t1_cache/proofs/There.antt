@@ -129,7 +129,7 @@ ending-ends m body = words-end m (call_within m 10) (call_within-ends m 10) body
   none : AreThere m []
   none n e = let never : false ≡ true = e in absurd (cc)
 
--- ---- what a drawing tells
+-- ---- what a drawing says
 
 metric-there : (m : FontBodies) (metric : Option Metric) (composite : Option Composite) (s : State) (d : Drawing)
     → AreThere m s.entered → drawing_of metric composite s ≡ Ok d → AreThere m d.entered

@@ -11,11 +11,11 @@ use Rattle.t1_cache.specs.declared.records.GlyphRecord.{GlyphRecord}
 use Rattle.t1_cache.specs.declared.records.Records.{Records}
 use Rattle.t1_cache.specs.declared.records.SubrRecord.{SubrRecord}
 
--- the body in the record of a Subr
+-- profile: the body in the record of a Subr
 abbrev pub subr_body : List (ℕ × SubrRecord) → ℕ → Option (List Command)
 subr_body entries n = option_map (λ r. r.body) (lookup (nat_eq n) entries)
 
--- the body in the record of a glyph
+-- profile: the body in the record of a glyph
 abbrev pub glyph_body : List (Vec ℕ Global × GlyphRecord) → List ℕ → Option (List Command)
 glyph_body entries g = option_map (λ r. r.body) (lookup (λ key. bytes_eq g key.items) entries)
 

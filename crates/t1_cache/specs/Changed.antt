@@ -12,35 +12,35 @@ use Rattle.t1_cache.specs.Overlay.{body_at}
 use Rattle.t1_cache.specs.Renewed.{kept_of}
 use Rattle.t1_cache.specs.Users.{key_eq, rest_of, users_at, UserSet}
 
--- the records have this body, or none, at the key, and at each other key what they had
+-- profile: the records have this body, or none, at the key, and at each other key what they had
 abbrev pub SetsBody : Key → Option (List Command) → Records → Records → Type 0
 SetsBody key body old new = (k : Key) → body_at (record_bodies new) k ≡ (if key_eq k key then body else body_at (record_bodies old) k)
 
--- the record at the key, where there is one, has this body, and each other record has what it had
+-- profile: the record at the key, where there is one, has this body, and each other record has what it had
 abbrev pub PutsBody : Key → List Command → Records → Records → Type 0
 PutsBody key body old new =
     (k : Key) → body_at (record_bodies new) k ≡ (if key_eq k key then option_map (λ was. body) (body_at (record_bodies old) k) else body_at (record_bodies old) k)
 
--- the record at the key has these users, or there is none, and at each other key the users are what they were
+-- profile: the record at the key has these users, or there is none, and at each other key the users are what they were
 abbrev pub SetsUsers : Key → Option UserSet → Records → Records → Type 0
 SetsUsers key users old new = (k : Key) → users_at new k ≡ (if key_eq k key then users else users_at old k)
 
--- at most so many places of the room for records are used up
+-- profile: at most so many places of the room for records are used up
 abbrev pub UsesUp : ℕ → Records → Records → Type 0
 UsesUp count old new = (spare old.subrs ≤ spare new.subrs + count) × (spare old.glyphs ≤ spare new.glyphs + count)
 
--- the same records in the same order
+-- profile: the same records in the same order
 abbrev pub AreUnchanged : Records → Records → Type 0
 AreUnchanged old new = (new.subrs.entries ≡ old.subrs.entries) × (new.glyphs.entries ≡ old.glyphs.entries)
 
--- records that have the bodies of a font, and then what another font has at the one key where the two may differ, have
--- the bodies of that font
+-- profile: records that have the bodies of a font, and then what another font has at the one key where the two may
+-- differ, have the bodies of that font
 abbrev pub ChangedBodiesLaw : Type 0
 ChangedBodiesLaw =
     (key : Key) (m n : FontBodies) → SameBut (key ∷ []) m n → (old new : Records) → SameBodies (record_bodies old) m
     → SetsBody key (body_at n key) old new → SameBodies (record_bodies new) n
 
--- records that differ in their users alone have the same bodies, runs and boxes
+-- profile: records that differ in their users alone have the same bodies, runs and boxes
 abbrev pub RestLaw : Type 0
 RestLaw =
     (old new : Records) → rest_of new ≡ rest_of old

@@ -13,6 +13,7 @@ use Rattle.t1_run.specs.Touched.{SameBut, is_named, is_touched}
 use Rattle.t1_font.specs.Bodies.{bodies}
 use Rattle.t1_font.specs.Glyphs.{glyph_names}
 
+-- profile: the key of a Subr, which no negative number has
 abbrev pub subr_key : ℤ → List Key
 subr_key (pos n) = Subr n ∷ []
 subr_key (negsuc n) = []
@@ -31,7 +32,8 @@ named (LenIv n) = []
 named (Kern left right value) = []
 named (Unkern left right) = []
 
--- one source is another, edited at these keys: the other bodies are the same, and the other glyphs stand in the same order
+-- profile: one source is another, edited at these keys: the other bodies are the same, and the other glyphs stand in
+-- the same order
 pub record IsEditedAt (keys : List Key) (old new : SourceParts) : Type 0 where
   pub bodies : SameBut keys (bodies old.items) (bodies new.items)
   pub order : filter (λ g. not (is_named keys g)) (glyph_names old.items) ≡ filter (λ g. not (is_named keys g)) (glyph_names new.items)
@@ -42,7 +44,7 @@ pub record IsEditedAt (keys : List Key) (old new : SourceParts) : Type 0 where
 abbrev pub is_stale : SourceParts → List Key → List ℕ → Bool
 is_stale s keys g = is_touched (bodies s.items) keys g
 
--- those of the edited source, in its order
+-- profile: the stale glyphs of the edited source, in its order
 abbrev pub stale : SourceParts → List Key → SourceParts → List (List ℕ)
 stale old keys new = filter (is_stale old keys) (glyph_names new.items)
 

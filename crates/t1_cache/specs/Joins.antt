@@ -14,31 +14,31 @@ use Rattle.t1_cache.specs.Tables.{AreStale, AreTables}
 use Rattle.t1_cache.specs.Overlay.{body_at}
 use Rattle.t1_cache.specs.Users.{lists, has_pair, key_eq, Pairs}
 
--- each glyph that is there draws
+-- profile: each glyph that is there draws
 abbrev pub AllDraw : FontBodies → Type 0
 AllDraw m = (g : List ℕ) (body : List Command) → m.glyphs g ≡ Some body → (o : List Segment) × (outline m g ≡ Ok o)
 
--- of a source without a fault, each glyph that is there draws
+-- profile: of a source without a fault, each glyph that is there draws
 abbrev pub AllDrawLaw : Type 0
 AllDrawLaw = (s : SourceParts) (told : List Told) → source_glyphs s ≡ Ok told → AllDraw (bodies s.items)
 
--- of a font without a fault, a glyph that isn't stale has the same own run in the edited font, or none in both
+-- profile: of a font without a fault, a glyph that isn't stale has the same own run in the edited font, or none in both
 abbrev pub KeptRunLaw : Type 0
 KeptRunLaw =
     (keys : List Key) (m n : FontBodies) → SameBut keys m n → AllDraw m → (names : List ℕ → Bool) → AreStale m keys names
     → (g : List ℕ) → names g ≡ false → own n g ≡ own m g
 
--- of a font without a fault, the glyphs of the edited font that were found are those that the edits touch
+-- profile: of a font without a fault, the glyphs of the edited font that were found are those that the edits touch
 abbrev pub StaleFoundLaw : Type 0
 StaleFoundLaw =
     (keys : List Key) (m n : FontBodies) → SameBut keys m n → AllDraw m → (names : List ℕ → Bool) → AreStale m keys names
     → (g : List ℕ) (body : List Command) → n.glyphs g ≡ Some body → names g ≡ is_touched m keys g
 
--- each stale glyph leaves what its old run used
+-- profile: each stale glyph leaves what its old run used
 abbrev pub AreLeaves : FontBodies → (List ℕ → Bool) → Pairs → Type 0
 AreLeaves m names leaves = (k : Key) (g : List ℕ) → has_pair leaves k g ≡ (names g && is_user k (own m g))
 
--- tables that stale glyphs left by their old runs, and joined by their new ones, are those of the edited font
+-- profile: tables that stale glyphs left by their old runs, and joined by their new ones, are those of the edited font
 abbrev pub JoinsLaw : Type 0
 JoinsLaw =
     (keys : List Key) (m n : FontBodies) → SameBut keys m n → AllDraw m → (names : List ℕ → Bool) → AreStale m keys names
@@ -46,7 +46,7 @@ JoinsLaw =
     → ((k : Key) (g : List ℕ) → lists new k g ≡ ((lists old k g && not (has_pair leaves k g)) || has_pair joins k g))
     → AreTables n new
 
--- tables without users that all glyphs joined by their runs are those of the font
+-- profile: tables without users that all glyphs joined by their runs are those of the font
 abbrev pub FirstTablesLaw : Type 0
 FirstTablesLaw =
     (m : FontBodies) (names : List ℕ → Bool) → ((g : List ℕ) (body : List Command) → m.glyphs g ≡ Some body → names g ≡ true)
@@ -54,7 +54,7 @@ FirstTablesLaw =
     → ((k : Key) (g : List ℕ) → lists new k g ≡ ((lists old k g && not (has_pair leaves k g)) || has_pair joins k g))
     → AreTables m new
 
--- tables of a font stay so without the users of what the font doesn't have
+-- profile: tables of a font stay so without the users of what the font doesn't have
 abbrev pub LessTablesLaw : Type 0
 LessTablesLaw =
     (m : FontBodies) (key : Key) → body_at m key ≡ None → (old new : Records) → AreTables m old

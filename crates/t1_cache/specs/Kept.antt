@@ -10,29 +10,31 @@ use Rattle.t1_font.specs.SourceChecks.{source_glyphs}
 use Rattle.t1_cache.specs.declared.records.Records.{Records}
 use Rattle.t1_cache.specs.Renewed.{Kept, kept_of, recorded_run}
 
--- a record, its serial aside
+-- profile: a record, its serial aside
 pub record Shown : Type 0 where
   pub name : List ℕ
   pub drawing : Drawing
   pub box : Option BBox
 
+-- profile: what is kept, its serial aside
 abbrev pub shown : Kept → Shown
 shown k = record { name = k.name; drawing = k.run.drawing; box = k.box }
 
+-- profile: the same, of a glyph from scratch
 abbrev pub shown_from : Told → Shown
 shown_from g = record { name = g.name; drawing = g.drawing; box = drawn_box g.outline }
 
--- the source has no fault, and the records are those of its glyphs from scratch, in source order
+-- profile: the source has no fault, and the records are those of its glyphs from scratch, in source order
 pub record KeepsAll (s : SourceParts) (records : List Kept) : Type 0 where
   pub glyphs : List Told
   pub faultless : source_glyphs s ≡ Ok glyphs
   pub from_scratch : map shown records ≡ map shown_from glyphs
 
--- the records bear the names of the glyphs, in source order
+-- profile: the records bear the names of the glyphs, in source order
 abbrev pub KeptNamesLaw : Type 0
 KeptNamesLaw = (s : SourceParts) (records : List Kept) → KeepsAll s records → map (λ k. k.name) records ≡ glyph_names s.items
 
--- the records of a source have the own runs of its font
+-- profile: the records of a source have the own runs of its font
 abbrev pub RecordedLaw : Type 0
 RecordedLaw =
     (s : SourceParts) (records : Records) → KeepsAll s (map kept_of records.glyphs.entries) → (g : List ℕ) → recorded_run records g ≡ own (bodies s.items) g

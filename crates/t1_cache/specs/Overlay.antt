@@ -17,23 +17,24 @@ use Rattle.t1_cache.specs.Edited.{body_after, named}
 abbrev pub overlaid : (ℕ → Option (Option (List Command))) → (List ℕ → Option (Option (List Command))) → FontBodies → FontBodies
 overlaid subrs glyphs m = font (λ n. changed (subrs n) (m.subrs n)) (λ g. changed (glyphs g) (m.glyphs g))
 
--- what is changed at a key
+-- profile: what is changed at a key
 abbrev pub change_at : (ℕ → Option (Option (List Command))) → (List ℕ → Option (Option (List Command))) → Key → Option (Option (List Command))
 change_at subrs glyphs (Subr n) = subrs n
 change_at subrs glyphs (Glyph g) = glyphs g
 
+-- profile: the body of a font at a key
 abbrev pub body_at : FontBodies → Key → Option (List Command)
 body_at m (Subr n) = m.subrs n
 body_at m (Glyph g) = m.glyphs g
 
--- a font that differs from another at these keys alone is the other with what it has at each of them
+-- profile: a font that differs from another at these keys alone is the other with what it has at each of them
 abbrev pub OverlayLaw : Type 0
 OverlayLaw =
     (keys : List Key) (m n : FontBodies) → SameBut keys m n → (subrs : ℕ → Option (Option (List Command))) (glyphs : List ℕ → Option (Option (List Command)))
     → ((k : Key) (body : Option (List Command)) → change_at subrs glyphs k ≡ Some body → body ≡ body_at n k)
     → ((k : Key) → change_at subrs glyphs k ≡ None → Includes keys k → ⊥) → SameBodies (overlaid subrs glyphs m) n
 
--- the body at the key that an edit names is that of the edit
+-- profile: the body at the key that an edit names is that of the edit
 abbrev pub BodyLaw : Type 0
 BodyLaw =
     (s : SourceParts) (k : List Pair) (edit : Edit) (made : SourceParts) (ps : List Pair) → IsWellFormed s → edited s k edit ≡ Ok (made, ps)

@@ -12,19 +12,19 @@ use Rattle.t1_cache.specs.Bodies.{record_bodies}
 use Rattle.t1_cache.specs.Joins.{AreLeaves}
 use Rattle.t1_cache.specs.Users.{HasRoom, Pairs, UserSet, users_at, wanted}
 
--- so many users more may join with no allocation, where there is a record
+-- profile: so many users more may join with no allocation, where there is a record
 abbrev pub MayJoin : ℕ → Option UserSet → Type 0
 MayJoin count None = Unit {0}
 MayJoin count (Some users) = count ≤ users.room
 
--- the same users in the same order, with at least the room that there was
+-- profile: the same users in the same order, with at least the room that there was
 abbrev pub IsRoomier : Option UserSet → Option UserSet → Type 0
 IsRoomier None None = Unit {0}
 IsRoomier (Some old) (Some new) = (new.names ≡ old.names) × (old.room ≤ new.room)
 IsRoomier _ _ = ⊥
 
--- where the records have the bodies of a font, room for those that join by its runs is there for each key: what runs use
--- has a record
+-- profile: where the records have the bodies of a font, room for those that join by its runs is there for each key:
+-- what runs use has a record
 abbrev pub RoomLaw : Type 0
 RoomLaw =
     (m : FontBodies) (names : List ℕ → Bool) (joins : Pairs) → AreLeaves m names joins → (records : Records) → SameBodies (record_bodies records) m
@@ -32,15 +32,15 @@ RoomLaw =
 
 -- ---- how many joined so far
 
--- how many joined a Subr
+-- profile: how many joined a Subr
 abbrev pub subr_count : List (ℕ × ℕ) → ℕ → ℕ
 subr_count counts n = unwrap_or (lookup (nat_eq n) counts) 0
 
--- how many joined a glyph
+-- profile: how many joined a glyph
 abbrev pub glyph_count : List (Bor (List ℕ) × ℕ) → List ℕ → ℕ
 glyph_count counts g = unwrap_or (lookup (λ name. bytes_eq g name.now) counts) 0
 
--- how many joined either
+-- profile: how many joined a Subr or a glyph
 abbrev pub count_at : Counts → Key → ℕ
 count_at counts (Subr n) = subr_count counts.subrs.entries n
 count_at counts (Glyph g) = glyph_count counts.glyphs.entries g

@@ -10,11 +10,11 @@ use Rattle.t1_cache.specs.Users.{key_of, lists}
 abbrev pub AreTables : FontBodies → Records → Type 0
 AreTables m records = (k : Key) (g : List ℕ) → lists records k g ≡ is_user k (own m g)
 
--- by the records, a glyph that edits name, or that uses what they name
+-- profile: by the records, whether edits name the glyph, or it uses what they name
 abbrev pub is_seed : Records → List ℕ → Named → Bool
 is_seed records g named = is_key_of g (key_of named) || lists records (key_of named) g
 
--- the names are those that are stale: closed under the users of the font, and found through them
+-- profile: the names are those that are stale: closed under the users of the font, and found through them
 pub record AreStale (m : FontBodies) (keys : List Key) (names : List ℕ → Bool) : Type 0 where
   pub closed : IsClosed m keys names
   pub found : (g : List ℕ) → names g ≡ true → FoundAmong m keys g

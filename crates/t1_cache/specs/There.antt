@@ -11,15 +11,17 @@ use Rattle.t1_font.specs.Glyphs.{Glyph as Told, glyph_names}
 use Rattle.t1_font.specs.SourceChecks.{source_glyphs}
 use Rattle.t1_cache.specs.Overlay.{body_at}
 
--- each Subr that a run without a fault enters, and each part of its composite, has a body in the font
+-- profile: each Subr that a run without a fault enters, and each part of its composite, has a body in the font
 abbrev pub UsesThereLaw : Type 0
 UsesThereLaw = (m : FontBodies) (g : List ℕ) (k : Key) → is_user k (own m g) ≡ true → (body : List Command) × (body_at m k ≡ Some body)
 
--- the glyphs that have a body are entries of the source, and where it has no fault, each entry of a glyph has a body
+-- profile: the glyphs that have a body are entries of the source, and where it has no fault, each entry of a glyph has
+-- a body
 pub record NamesThere (s : SourceParts) : Type 0 where
   pub named : (g : List ℕ) (body : List Command) → (bodies s.items).glyphs g ≡ Some body → list_any (bytes_eq g) (glyph_names s.items) ≡ true
   pub there : (told : List Told) → source_glyphs s ≡ Ok told → (g : List ℕ) → list_any (bytes_eq g) (glyph_names s.items) ≡ true
       → (body : List Command) × ((bodies s.items).glyphs g ≡ Some body)
 
+-- profile: this is so for every source
 abbrev pub NamesThereLaw : Type 0
 NamesThereLaw = (s : SourceParts) → NamesThere s

@@ -121,7 +121,7 @@ plain-none (Glyph g) l = refl
 last-any : (test : Item → Bool) (a : List Item) (i : Item) (b : Bool) → list_any test a ≡ b → list_any test (a ++ i ∷ []) ≡ (b || (test i || false))
 last-any test a i b e = list_any-append test a (i ∷ []) ∙ ap (λ c. c || (test i || false)) e
 
--- behind an item of the key none has it
+-- after an item of the key none has it
 none-later : (key : Key) (earlier is : List Item) (last : List ℕ) → list_any (has_key key) earlier ≡ true → Stand earlier is
     → list_any (has_key key) (is ++ items.Plain last ∷ []) ≡ false
 none-later key earlier [] last there h = ap (λ b. b || false) (plain-none key last)

@@ -31,7 +31,7 @@ use Rattle.t1_charstrings.proofs.Texts.{text_by_is, Serves}
 
 -- ---- what is kept of a batch
 
--- a key that is among others is told to be
+-- a key that is among others is found to be
 pub told-among : (keys : List Key) (k : Key) → Includes keys k → list_any (key_eq k) keys ≡ true
 told-among [] k among = absurd among
 told-among (first ∷ keys) k (inl same) = ap (λ b. b || list_any (key_eq k) keys) (ap (key_eq k) same ∙ key-itself k)

@@ -8,7 +8,7 @@ use Rattle.std.proofs.lemmas.Bool.Decides.{nat_tests}
 use Rattle.std.proofs.lemmas.Slice.Eq.{bytes_eq-Decides}
 use Rattle.indexmap.specs.IndexMap.{insert_entry}
 
--- a test that tells whether two names are the same
+-- a test that says whether two names are the same
 pub record Tells {Q : Type 0} (eq : Q → Q → Bool) : Type 0 where
   pub same : (a b : Q) → eq a b ≡ true → a ≡ b
   pub itself : (a : Q) → eq a a ≡ true
@@ -32,22 +32,6 @@ apart eq t a b c on off =
 again : {Y : Type 0} (b : Bool) (x y r : Y) → cond b x r ≡ cond b x (cond b y r)
 again true x y r = refl
 again false x y r = refl
-
--- a value that is put at a name is found there, and nothing else changes
-pub put-at : {Q K X : Type 0} (eq : Q → Q → Bool) → Tells eq → (name : K → Q) (p n : Q) (w v : X) (es : List (K × X)) → lookup (λ k. eq n (name k)) es ≡ Some v
-    → lookup (λ k. eq p (name k)) (set_value (λ k. eq n (name k)) es w) ≡ cond (eq p n) (Some w) (lookup (λ k. eq p (name k)) es)
-put-at eq t name p n w v [] h = absurd (cc)
-put-at eq t name p n w v (e ∷ es) h =
-    elim (cases_Bool (eq n (name e.0))) [
-      | inl on ↦ rw (on, t.same n (name e.0) on) (again (eq p (name e.0)) (Some w) (Some e.1) (lookup (λ k. eq p (name k)) es))
-      | inr off ↦
-          let h' : lookup (λ k. eq n (name k)) es ≡ Some v = sym (ap (λ b. cond b (Some e.1) (lookup (λ k. eq n (name k)) es)) off) ∙ h in
-          rw off
-          (elim (cases_Bool (eq p (name e.0))) [
-            | inl here ↦ rw (here, apart eq t p (name e.0) n here off) refl
-            | inr there ↦ rw there (put-at eq t name p n w v es h')
-          ])
-    ]
 
 swap : {Y : Type 0} (a b : Bool) (x y r : Y) → (a ≡ true → b ≡ true → x ≡ y) → cond a x (cond b y r) ≡ cond b y (cond a x r)
 swap true true x y r h = h refl refl
@@ -75,26 +59,6 @@ inserted-at eq t name p k v (e ∷ es) = by (eq (name k) (name e.0)) refl (inser
       absurd (cc))
 
 -- ---- a value that is taken out
-
--- entries of which none has the key are all but those of it
-none-left : {K R : Type 0} (test : K → Bool) (xs : List (K × R)) → lookup test xs ≡ None → xs ≡ filter (λ e. not (test e.0)) xs
-none-left test [] gone = refl
-none-left test (x ∷ xs) gone = by (test x.0) refl gone (none-left test xs) where
-  by : (b : Bool) → test x.0 ≡ b → cond b (Some x.1) (lookup test xs) ≡ None → (lookup test xs ≡ None → xs ≡ filter (λ e. not (test e.0)) xs)
-      → x ∷ xs ≡ cond (not b) (x ∷ filter (λ e. not (test e.0)) xs) (filter (λ e. not (test e.0)) xs)
-  by true on gone rest = absurd (cc)
-  by false off gone rest = ap (λ l. x ∷ l) (rest gone)
-
--- where no other entry has the key, all but those of it are left
-all-but : {K R : Type 0} (test : K → Bool) (es : List (K × R)) → lookup test (remove_entry test es) ≡ None
-    → remove_entry test es ≡ filter (λ e. not (test e.0)) es
-all-but test [] gone = refl
-all-but test (e ∷ es) gone = by (test e.0) refl gone (all-but test es) where
-  by : (b : Bool) → test e.0 ≡ b → lookup test (cond b es (e ∷ remove_entry test es)) ≡ None
-      → (lookup test (remove_entry test es) ≡ None → remove_entry test es ≡ filter (λ e. not (test e.0)) es)
-      → cond b es (e ∷ remove_entry test es) ≡ cond (not b) (e ∷ filter (λ e. not (test e.0)) es) (filter (λ e. not (test e.0)) es)
-  by true on gone rest = none-left test es gone
-  by false off gone rest = ap (λ l. e ∷ l) (rest (sym (ap (λ b. cond b (Some e.1) (lookup test (remove_entry test es))) off) ∙ gone))
 
 pub lookup-but : {Q K R : Type 0} (eq : Q → Q → Bool) → Tells eq → (name : K → Q) (p q : Q) (es : List (K × R))
     → lookup (λ x. eq q (name x)) (filter (λ e. not (eq p (name e.0))) es) ≡ cond (eq q p) None (lookup (λ x. eq q (name x)) es)
@@ -124,10 +88,3 @@ lookup-but eq t name p q (e ∷ es) = by (eq p (name e.0)) refl (eq q (name e.0)
           absurd (cc)
       other false same = refl
   by false off false there rest = ap (λ b. cond b (Some e.1) (lookup (λ x. eq q (name x)) (filter (λ e. not (eq p (name e.0))) es))) there ∙ rest
-
--- nothing is found at the name that is taken out, and nothing else changes
-pub removed-at : {Q K R : Type 0} (eq : Q → Q → Bool) → Tells eq → (name : K → Q) (es : List (K × R)) (p : Q)
-    → lookup (λ x. eq p (name x)) (remove_entry (λ x. eq p (name x)) es) ≡ None
-    → (q : Q) → lookup (λ x. eq q (name x)) (remove_entry (λ x. eq p (name x)) es) ≡ cond (eq q p) None (lookup (λ x. eq q (name x)) es)
-removed-at eq t name es p gone q =
-    ap (lookup (λ x. eq q (name x))) (all-but (λ x. eq p (name x)) es gone) ∙ lookup-but eq t name p q es

@@ -18,7 +18,7 @@ use Rattle.t1_charstrings.specs.Entries.{Kept, body_at, encrypted, key_eq}
 use Rattle.t1_charstrings.specs.Kept.{AreEncrypted, kept_at}
 use Rattle.t1_charstrings.specs.Lines.{entry_line}
 
--- what fresh charstrings keep at a key, or else what the old ones do
+-- profile: what fresh charstrings keep at a key, or else what the old ones do
 abbrev pub over : Charstrings → Charstrings → Key → Option Kept
 over fresh old k = option_or (kept_at fresh k) (kept_at old k)
 
@@ -29,11 +29,11 @@ line_by at operator (items.Section before count after) = before ++ decimal count
 line_by at operator (items.Subr number words closing) = entry_line operator closing (at (Subr number))
 line_by at operator (items.Glyph name words closing) = entry_line operator closing (at (Glyph name))
 
--- the lines of the items, one after another
+-- profile: the lines of the items, one after another
 abbrev pub text_by : (Key → Option Kept) → List ℕ → List Item → List ℕ
 text_by at operator items = flat_map (line_by at operator) items
 
--- whether the charstring of an item's entry is kept
+-- profile: whether the charstring of an item's entry is kept
 abbrev pub has_line : Charstrings → Item → Bool
 has_line c (items.Subr number words closing) = is_some (kept_at c (Subr number))
 has_line c (items.Glyph name words closing) = is_some (kept_at c (Glyph name))
@@ -53,17 +53,17 @@ pub record IsEditOf (keys : List Key) (s made : SourceParts) (c : Charstrings) :
 abbrev pub IsBatchOf : List Key → SourceParts → SourceParts → Charstrings → Type 0
 IsBatchOf keys s made c = IsEditOf keys s made c × (lead made ≡ lead s)
 
--- profile: the bodies that a source has at these keys are kept, encrypted behind so many leading bytes, and nothing else
+-- profile: the bodies that a source has at these keys are kept, encrypted with so many leading bytes, and nothing else
 abbrev pub AreFresh : ℕ → List Key → SourceParts → Charstrings → Type 0
 AreFresh front keys made fresh =
     (k : Key) → kept_at fresh k ≡ (if list_any (key_eq k) keys then option_map (encrypted front k) (body_at (bodies made.items) k) else None)
 
--- the key of an entry that is gone
+-- profile: the key of an entry that is gone
 abbrev pub gone_key : Gone → Key
 gone_key (gone.Subr number) = Subr number
 gone_key (gone.Glyph name) = Glyph name.items
 
--- whether the entry of a key is among those that are gone
+-- profile: whether the entry of a key is among those that are gone
 abbrev pub is_gone : List Gone → Key → Bool
 is_gone gone k = list_any (λ g. key_eq k (gone_key g)) gone
 

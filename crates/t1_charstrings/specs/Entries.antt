@@ -19,24 +19,24 @@ abbrev pub head_of : Key → List ℕ
 head_of (Subr n) = codes "dup " ++ decimal n
 head_of (Glyph g) = 47 ∷ g
 
--- Type 1 Font Format, Chapter 7: a body, encrypted behind so many leading bytes
+-- Type 1 Font Format, Chapter 7: a body, encrypted with so many leading bytes
 abbrev pub encrypted : ℕ → Key → List Command → Kept
 encrypted lead key body = record { head = head_of key; charstring = encrypted_charstring lead (charstring body) }
 
--- what is kept under a number
+-- profile: what is kept under a number
 abbrev pub subr_kept : List (ℕ × Kept) → ℕ → Option Kept
 subr_kept entries n = lookup (nat_eq n) entries
 
--- what is kept under a name
+-- profile: what is kept under a name
 abbrev pub glyph_kept : List (Vec ℕ Global × Kept) → List ℕ → Option Kept
 glyph_kept entries g = lookup (λ key. bytes_eq g key.items) entries
 
--- the body of a font at a key
+-- profile: the body of a font at a key
 abbrev pub body_at : FontBodies → Key → Option (List Command)
 body_at m (Subr n) = m.subrs n
 body_at m (Glyph g) = m.glyphs g
 
--- whether two keys are the same
+-- profile: whether two keys are the same
 abbrev pub key_eq : Key → Key → Bool
 key_eq (Subr n) (Subr m) = nat_eq n m
 key_eq (Glyph g) (Glyph h) = bytes_eq g h

@@ -8,12 +8,12 @@ use Rattle.t1_font.specs.Bodies.{bodies, bodies_check}
 use Rattle.t1_charstrings.specs.declared.entries.Charstrings.{Charstrings}
 use Rattle.t1_charstrings.specs.Entries.{Kept, body_at, encrypted, glyph_kept, subr_kept}
 
--- what is kept at a key
+-- profile: what is kept at a key
 abbrev pub kept_at : Charstrings → Key → Option Kept
 kept_at c (Subr n) = subr_kept c.subrs.entries n
 kept_at c (Glyph g) = glyph_kept c.glyphs.entries g
 
--- profile: each body of the font is kept, encrypted behind so many leading bytes, and nothing else
+-- profile: each body of the font is kept, encrypted with so many leading bytes, and nothing else
 abbrev pub Encrypt : ℕ → FontBodies → Charstrings → Type 0
 Encrypt lead m c = (k : Key) → kept_at c k ≡ option_map (encrypted lead k) (body_at m k)
 

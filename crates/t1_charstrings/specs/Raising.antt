@@ -10,11 +10,11 @@ use Rattle.t1_parts.specs.Counts.{raised_item}
 use Rattle.t1_source.specs.WellFormed.{is_counted}
 use Rattle.t1_charstrings.specs.Sums.{section_line}
 
--- the section lines with their counts raised to what is needed
+-- profile: the section lines with their counts raised to what is needed
 abbrev pub raised_text : ℕ → ℕ → List Item → List ℕ
 raised_text subrs glyphs items = flat_map (λ item. section_line (raised_item subrs glyphs item)) items
 
--- whether a count that is raised has at most nine digits
+-- profile: whether a count that is raised has at most nine digits
 abbrev pub is_raised_counted : ℕ → ℕ → Item → Bool
 is_raised_counted subrs glyphs item = is_counted (raised_item subrs glyphs item)
 

@@ -10,7 +10,6 @@ mod fresh;
 mod lengths;
 mod settling;
 
-use crate::counting::check_counts;
 use crate::entries::Charstrings;
 use crate::preparing::prepare_anew;
 use crate::settling::{EditedEntries, ReadyLines, ready_entries};
@@ -19,7 +18,7 @@ pub use lengths::batch_len;
 pub(crate) use lengths::batch_line_len;
 pub(crate) use settling::{put_in, take_out};
 use std::alloc::Global;
-use t1_font::check_parts;
+use t1_font::{check_counts, check_parts};
 use t1_frac::Refusal;
 use t1_source::Source;
 

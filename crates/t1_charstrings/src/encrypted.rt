@@ -20,7 +20,7 @@ use t1_font::{compiled_glyph, compiled_subr};
 use t1_frac::{Refusal, Words};
 use t1_source::{Item, Source};
 
-/// A Subr, encrypted behind so many leading bytes.
+/// A Subr, encrypted with so many leading bytes.
 pub fn encrypted_subr(
     alloc: Global,
     lead: u8,
@@ -35,7 +35,7 @@ pub fn encrypted_subr(
     Ok(Entry::new(head, charstring))
 }
 
-/// A glyph, encrypted behind so many leading bytes.
+/// A glyph, encrypted with so many leading bytes.
 pub fn encrypted_glyph(
     alloc: Global,
     lead: u8,
@@ -112,7 +112,7 @@ fn add_item(
     }
 }
 
-/// The charstrings of the items, encrypted behind so many leading bytes, or the first fault of a body, at its entry.
+/// The charstrings of the items, encrypted with so many leading bytes, or the first fault of a body, at its entry.
 fn encrypted_items(alloc: Global, lead: u8, items: &[Item]) -> Result<Charstrings, Refusal>
     ensures checked { Gives (λ _. tt) result (bodies_check items.now) }
     ensures kept { IfOk result (λ kept. Encrypt lead (bodies items.now) kept) }

@@ -1,46 +1,17 @@
 //! The files of a source, with the charstrings that are kept.
-ghost use Rattle.std.specs.Prelude.{◌≡◌, IfOk};
 ghost use Rattle.std.specs.List.{flat_map};
-ghost use Rattle.t1_text.specs.Lines.{joined};
 ghost use Rattle.t1_code.specs.Parts.{piece_text, Prints};
 ghost use Rattle.t1_source.specs.WellFormed.{IsWellFormed};
-ghost use Rattle.t1_font.specs.Assembly.{trailer_text};
 ghost use Rattle.t1_charstrings.specs.Files.{file_in};
 ghost use Rattle.t1_charstrings.specs.Kept.{AreEncrypted};
 
 use crate::entries::Charstrings;
 use crate::lines::{lines_of, pieces_of};
-use std::alloc::{AllocError, Global};
+use std::alloc::Global;
 use std::io::Write;
 use t1_code::{Counted, FileForm, OutError, Parts, Piece, write_file};
-use t1_frac::Bytes;
-use t1_parts::push_lines;
+use t1_font::{clear_text, trailer};
 use t1_source::Source;
-
-/// The text of the clear part.
-pub(crate) fn clear_text(alloc: Global, lines: &[Bytes]) -> Result<Vec<u8>, AllocError>
-    ensures { IfOk result (λ text. text.items ≡ joined lines.now) }
-{
-    let mut text = Vec::new(alloc);
-    push_lines(&mut text, lines)?;
-    Ok(text)
-}
-
-/// The lines of zeros after the encrypted part.
-const ZEROS: [[u8; 64]; 8] = [[b'0'; 64]; 8];
-
-/// The text after the encrypted part: eight lines of zeros, and the tail.
-pub(crate) fn trailer(alloc: Global, tail: &[Bytes]) -> Result<Vec<u8>, AllocError>
-    ensures { IfOk result (λ text. text.items ≡ trailer_text tail.now) }
-{
-    let mut text = Vec::new(alloc);
-    for line in &ZEROS {
-        text.extend_from_slice(line)?;
-        text.push(b'\n')?;
-    }
-    push_lines(&mut text, tail)?;
-    Ok(text)
-}
 
 /// Writes the file of three parts in a form, or answers F23 with nothing written.
 pub(crate) fn write_parts<F: FileForm, W: Write>(

@@ -13,7 +13,6 @@
 
 mod batch;
 mod changed;
-mod counting;
 mod encrypted;
 mod entries;
 mod files;

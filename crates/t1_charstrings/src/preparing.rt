@@ -13,14 +13,13 @@ ghost use Rattle.t1_font.specs.Lengths.{IsPrivateLen};
 ghost use Rattle.t1_charstrings.specs.Ready.{is_entry, IsReadyLines};
 ghost use Rattle.t1_charstrings.specs.Sums.{item_at};
 
-use crate::counting::check_counts;
 use crate::encrypted::charstrings_of;
 use crate::entries::Charstrings;
 use crate::lengths::{check_length, private_len as len_of};
 use crate::replacing::{len_inserted, len_put, len_removed};
 use crate::settling::{EditedEntries, ReadyCharstrings, ReadyLines, ready_entries};
 use std::alloc::Global;
-use t1_font::check_parts;
+use t1_font::{check_counts, check_parts};
 use t1_frac::{Bytes, Refusal};
 use t1_pairs::Pairs;
 use t1_source::{Change, Item, Source};

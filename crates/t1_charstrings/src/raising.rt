@@ -8,42 +8,12 @@ ghost use Rattle.t1_source.specs.WellFormed.{is_counted};
 ghost use Rattle.t1_charstrings.specs.Raising.{is_raised_counted, raised_check, raised_text};
 ghost use Rattle.t1_charstrings.specs.Sums.{section_line};
 
-use crate::counting::TEN_DIGITS;
 use crate::lengths::section_line_len;
+use t1_font::TEN_DIGITS;
 use t1_frac::{Code, Refusal};
+use t1_parts::{glyphs_needed, subrs_needed};
 use t1_source::Item;
 use t1_text::last_is;
-
-/// The highest Subr number plus one.
-fn subrs_needed(items: &[Item]) -> u64
-    ensures { result ≡ subrs_needed items.now }
-{
-    let mut needed = 0;
-    let mut rest = items;
-    while let Some((item, after)) = rest.split_first() {
-        if let Item::Subr(number, _, _) = item {
-            needed = (u64::from(*number) + 1).max(needed);
-        }
-        rest = after;
-    }
-    needed
-}
-
-/// The number of glyphs.
-fn glyphs_needed(items: &[Item]) -> u64
-    ensures value { result ≡ glyphs_needed items.now }
-    ensures within { result ≤ length items.now }
-{
-    let mut needed = 0;
-    let mut rest = items;
-    while let Some((item, after)) = rest.split_first() {
-        if let Item::Glyph(_, _, _) = item {
-            needed += 1;
-        }
-        rest = after;
-    }
-    needed
-}
 
 /// What the items need for their Subrs and glyphs, with one more.
 #[derive(Drop)]

@@ -1,6 +1,6 @@
 -- One write after another.
 use Rattle.std.proofs.Common.{◌≡◌, ℕ, ◌≤◌, List, [], ◌++◌, Option, take, drop, refl, sym, ap, ◌∙◌, append_assoc, append-nil, subst, Result, Ok, Err}
-use Rattle.std.specs.Result.{MatchResult, OnErr, OnOk}
+use Rattle.std.specs.Result.{MatchResult, OnOk}
 use Rattle.std.proofs.lemmas.List.{take-append-drop, take-take}
 use Rattle.std.proofs.KnownBytes.{Appends-trans, Appends-nil}
 use Rattle.std.specs.Io.KnownBytes.{Appends}
@@ -70,15 +70,6 @@ module _ {W : Type 0} (contents : W → Option (List ℕ)) where
   pub passing : IsWriting (Passes contents) (Stops contents)
   passing = record { none = Passes-nil; join = Passes-append; fails = Stops-append; longer = Stops-longer }
 
-  -- at the end what waits goes out too, and its call's result is handed on
-  pub Passes-sent : {T E : Type 0} (r : Result T E) (old : Tally W) (b : Outlet W) (new : Tally W) (bytes : List ℕ) → Passes contents (outlet old []) b bytes → OnOk r (WritesAll contents b.tally new b.waiting) → OnOk r (WritesAll contents old new bytes)
-  Passes-sent (Ok x) old b new bytes p q = subst (WritesAll contents old new) (sym p.parts) (WritesAll-append old b.tally new p.sent b.waiting p.writes q)
-  Passes-sent (Err e) old b new bytes p q = tt
-
-  pub Passes-unsent : {T E : Type 0} (r : Result T E) (old : Tally W) (b : Outlet W) (new : Tally W) (bytes : List ℕ) → Passes contents (outlet old []) b bytes → OnErr r (WritesFront contents b.tally new b.waiting) → OnErr r (WritesFront contents old new bytes)
-  Passes-unsent (Ok x) old b new bytes p q = tt
-  Passes-unsent (Err e) old b new bytes p q = subst (WritesFront contents old new) (sym p.parts) (WritesFront-append old b.tally new p.sent b.waiting p.writes q)
-
 module _ {S : Type 0} {All Front : S → S → List ℕ → Type 0} (laws : IsWriting All Front) where
   -- a beginning of the bytes went out, and the rest is left
   abbrev pub Written : S → S → List ℕ → List ℕ → Type 0
@@ -106,17 +97,6 @@ module _ {S : Type 0} {All Front : S → S → List ℕ → Type 0} (laws : IsWr
   Written-all start new bytes p = subst (All start new) (sym (append-nil p.0) ∙ sym p.1) p.2
 
   -- the last part goes out, and its call's result is handed on
-  pub Written-ends : {T E : Type 0} (r : Result T E) (start old new : S) (bytes last : List ℕ) → Written start old bytes last → OnOk r (All old new last) → OnOk r (All start new bytes)
-  Written-ends (Ok x) start old new bytes last p q =
-      Written-all start new bytes (Written-step start old new bytes last [] (subst (Written start old bytes) (sym (append-nil last)) p) q)
-  Written-ends (Err e) start old new bytes last p q = tt
-
-  pub Written-ends_failing : {T E : Type 0} (r : Result T E) (start old new : S) (bytes last : List ℕ) → Written start old bytes last → OnErr r (Front old new last) → OnErr r (Front start new bytes)
-  Written-ends_failing (Ok x) start old new bytes last p q = tt
-  Written-ends_failing (Err e) start old new bytes last p q =
-      Written-fails start old new bytes last [] (subst (Written start old bytes) (sym (append-nil last)) p) q
-
-  -- the last part goes out, and its call's result is handed on
   pub Written-last : {T E : Type 0} (r : Result T E) (start old new : S) (bytes last : List ℕ) → Written start old bytes last
       → MatchResult r (λ done. All old new last) (λ error. Front old new last) → MatchResult r (λ done. All start new bytes) (λ error. Front start new bytes)
   Written-last (Ok x) start old new bytes last p q =
@@ -134,28 +114,18 @@ Written-more contents start old new bytes rest handed count p within appends fai
   WritesAll-append contents start old new p.0 (take count rest) p.2 (record { appends = rw take-take at appends; failures = failures; turns = turns }),
 )
 
--- a fact at an error
-pub at_error : {T E Q : Type 0} (r : Result T E) → Q → OnErr r Q
-at_error (Ok x) q = tt
-at_error (Err e) q = q
-
--- at the end what waits goes out too, and its call's result is handed on
-pub Puts-sent : {W T E : Type 0} (contents : W → Option (List ℕ)) (r : Result T E) (old : Tally W) (b : Outlet W) (new : Tally W) (bytes : List ℕ)
-    → Passes contents (outlet old []) b bytes → OnOk r (WritesAll contents b.tally new b.waiting) → OnErr r (WritesFront contents b.tally new b.waiting) → Writes contents old new bytes r
-Puts-sent contents (Ok x) old b new bytes p q f = subst (WritesAll contents old new) (sym p.parts) (WritesAll-append contents old b.tally new p.sent b.waiting p.writes q)
-Puts-sent contents (Err e) old b new bytes p q f = subst (WritesFront contents old new) (sym p.parts) (WritesFront-append contents old b.tally new p.sent b.waiting p.writes f)
-
--- two clauses of a call, as one
-pub Puts-either : {W T E : Type 0} (contents : W → Option (List ℕ)) (r : Result T E) (old new : Outlet W) (bytes : List ℕ) → OnOk r (Passes contents old new bytes) → OnErr r (Stops contents old new bytes) → Puts contents old new bytes r
-Puts-either contents (Ok x) old new bytes p q = p
-Puts-either contents (Err e) old new bytes p q = q
-
 module _ {W : Type 0} (contents : W → Option (List ℕ)) where
+  -- at the end what waits goes out too, and its call's result is handed on
+  pub Puts-sent : {T E : Type 0} (r : Result T E) (old : Tally W) (b : Outlet W) (new : Tally W) (bytes : List ℕ) → Passes contents (outlet old []) b bytes
+      → Writes contents b.tally new b.waiting r → Writes contents old new bytes r
+  Puts-sent (Ok x) old b new bytes p q = subst (WritesAll contents old new) (sym p.parts) (WritesAll-append contents old b.tally new p.sent b.waiting p.writes q)
+  Puts-sent (Err e) old b new bytes p q = subst (WritesFront contents old new) (sym p.parts) (WritesFront-append contents old b.tally new p.sent b.waiting p.writes q)
+
   -- what waited goes out, and nothing waits
-  pub Puts-emptied : {T E : Type 0} (r : Result T E) (old new : Tally W) (waiting left : List ℕ) → OnOk r (WritesAll contents old new waiting) → OnOk r (left ≡ []) → OnErr r (WritesFront contents old new waiting)
+  pub Puts-emptied : {T E : Type 0} (r : Result T E) (old new : Tally W) (waiting left : List ℕ) → Writes contents old new waiting r → OnOk r (left ≡ [])
       → Puts contents (outlet old waiting) (outlet new left) [] r
-  Puts-emptied (Ok x) old new waiting left p e q = record { sent = waiting; parts = ap (λ l. waiting ++ l) (sym e); writes = p }
-  Puts-emptied (Err x) old new waiting left p e q = rw append-nil q
+  Puts-emptied (Ok x) old new waiting left p e = record { sent = waiting; parts = ap (λ l. waiting ++ l) (sym e); writes = p }
+  Puts-emptied (Err x) old new waiting left p e = rw append-nil p
 
   -- bytes that the chunk takes wait there
   pub kept_passes : (tally : Tally W) (waiting kept bytes : List ℕ) → kept ≡ waiting ++ bytes → Passes contents (outlet tally waiting) (outlet tally kept) bytes

@@ -108,6 +108,6 @@ abbrev pub Fits32Bits : Command → Type 0
 Fits32Bits (Num n) = FitsSigned w32 n
 Fits32Bits command = Unit {0}
 
--- the same of all numbers among commands (Type 1 Font Format, Chapter 6)
+-- Type 1 Font Format, Chapter 6: the same of all numbers among commands
 abbrev pub AllFit : List Command → Type 0
 AllFit commands = AllByRecursion Fits32Bits commands

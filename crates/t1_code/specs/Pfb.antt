@@ -8,23 +8,27 @@ use Rattle.t1_frac.specs.declared.fault.Place.TheVariants.{Nowhere}
 use Rattle.t1_frac.specs.Outcome.{fault_at}
 use Rattle.t1_code.specs.Cipher.{eexec}
 
--- profile: the bytes between the words of a line, and at its end
+-- profile: the byte between the words of a line
 abbrev pub space : ℕ
 space = 32
 
+-- profile: the byte at the end of a line
 abbrev pub line_end : ℕ
 line_end = 10
 
--- Technical Note 5040, 3.3: the byte that each segment begins with, and the types of segments
+-- Technical Note 5040, 3.3: the byte that each segment begins with
 abbrev pub marker : ℕ
 marker = 128
 
+-- Technical Note 5040, 3.3: the type of a segment of text
 abbrev pub ascii_segment : ℕ
 ascii_segment = 1
 
+-- Technical Note 5040, 3.3: the type of a segment of binary data
 abbrev pub binary_segment : ℕ
 binary_segment = 2
 
+-- Technical Note 5040, 3.3: the type that stands at the end of the file
 abbrev pub end_of_file : ℕ
 end_of_file = 3
 

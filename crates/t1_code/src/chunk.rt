@@ -1,6 +1,6 @@
 //! Bytes on their way to a writer, which is handed a chunk of them at a time.
-ghost use Rattle.std.specs.Prelude.{◌≡◌, ◌<◌, ◌≤◌, ◌+◌, [], ◌++◌, length, take, OnOk, OnErr};
-ghost use Rattle.t1_code.specs.Counted.{WritesAll, WritesFront, Passes, Puts, Stops, outlet};
+ghost use Rattle.std.specs.Prelude.{◌≡◌, ◌<◌, ◌≤◌, ◌+◌, [], ◌++◌, length, take, OnOk};
+ghost use Rattle.t1_code.specs.Counted.{Puts, Writes, outlet};
 ghost use Rattle.t1_code.specs.Parts.{bytes_of};
 
 use crate::counted::{Counted, MAX_PUT};
@@ -74,9 +74,8 @@ impl Chunk {
 
     /// Hands all that waits to the writer.
     pub fn send<W: Write>(&mut self, out: &mut Counted<W>) -> io::Result<()>
-        ensures ok { OnOk result (WritesAll W.contents out.old out.new self.old) }
+        ensures text { Writes W.contents out.old out.new self.old result }
         ensures empty { OnOk result (self.new ≡ []) }
-        ensures err { OnErr result (WritesFront W.contents out.old out.new self.old) }
     {
         out.put_all(self.as_slice())?;
         self.clear();
@@ -97,8 +96,7 @@ impl Chunk {
 
 /// Passes bytes on as they are, a chunk of them at a time.
 fn put_in_turns<W: Write>(out: &mut Counted<W>, chunk: &mut Chunk, bytes: &[u8]) -> io::Result<()>
-    ensures ok { OnOk result (Passes W.contents (outlet out.old chunk.old) (outlet out.new chunk.new) bytes.now) }
-    ensures err { OnErr result (Stops W.contents (outlet out.old chunk.old) (outlet out.new chunk.new) bytes.now) }
+    ensures { Puts W.contents (outlet out.old chunk.old) (outlet out.new chunk.new) bytes.now result }
 {
     let mut rest = bytes;
     while !rest.is_empty() {
@@ -113,8 +111,7 @@ fn put_in_turns<W: Write>(out: &mut Counted<W>, chunk: &mut Chunk, bytes: &[u8])
 /// Passes bytes on as they are. Those that the chunk still takes only wait there.
 #[tactic(auto, using(crate::proofs::Writing::kept_passes))]
 pub fn put_plain<W: Write>(out: &mut Counted<W>, chunk: &mut Chunk, bytes: &[u8]) -> io::Result<()>
-    ensures ok { OnOk result (Passes W.contents (outlet out.old chunk.old) (outlet out.new chunk.new) bytes.now) }
-    ensures err { OnErr result (Stops W.contents (outlet out.old chunk.old) (outlet out.new chunk.new) bytes.now) }
+    ensures { Puts W.contents (outlet out.old chunk.old) (outlet out.new chunk.new) bytes.now result }
 {
     if bytes.len() <= chunk.room() {
         chunk.keep(bytes);
@@ -129,8 +126,7 @@ pub fn put_slices<W: Write>(
     chunk: &mut Chunk,
     slices: &[&[u8]],
 ) -> io::Result<()>
-    ensures ok { OnOk result (Passes W.contents (outlet out.old chunk.old) (outlet out.new chunk.new) (bytes_of slices.now)) }
-    ensures err { OnErr result (Stops W.contents (outlet out.old chunk.old) (outlet out.new chunk.new) (bytes_of slices.now)) }
+    ensures { Puts W.contents (outlet out.old chunk.old) (outlet out.new chunk.new) (bytes_of slices.now) result }
 {
     for slice in slices {
         put_plain(out, chunk, slice)?;

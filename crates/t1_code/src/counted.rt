@@ -1,8 +1,8 @@
 //! Readers and writers that count their calls.
-ghost use Rattle.std.specs.Prelude.{◌≡◌, ◌≤◌, ◌<◌, List, ℕ, [], length, IfOk, IsOk, IsErr, OnOk, OnErr, is_ok};
+ghost use Rattle.std.specs.Prelude.{◌≡◌, ◌≤◌, ◌<◌, List, ℕ, [], length, IfOk, IsOk, IsErr, is_ok};
 ghost use Rattle.std.specs.Io.{ReadsAtMost};
 ghost use Rattle.std.specs.Io.KnownBytes.{Keeps, ReadConsumes, WriteAppends};
-ghost use Rattle.t1_code.specs.Counted.{Tally, failures_after, turns_after, max_turns, one_more, WritesAll, WritesFront};
+ghost use Rattle.t1_code.specs.Counted.{Tally, failures_after, turns_after, max_turns, one_more, Writes};
 
 use std::io::{self, ErrorKind, Read, Write};
 use std::marker::Model;
@@ -118,8 +118,7 @@ impl<W: Write> Counted<W> {
 
     /// Writes all the bytes, at most 4,096 a call, or a beginning of them before a write that fails.
     pub fn put_all(&mut self, bytes: &[u8]) -> io::Result<()>
-        ensures ok { OnOk result (WritesAll W.contents self.old self.new bytes.now) }
-        ensures err { OnErr result (WritesFront W.contents self.old self.new bytes.now) }
+        ensures text { Writes W.contents self.old self.new bytes.now result }
         ensures none { bytes.now ≡ [] → IsOk result × (self.new ≡ self.old) }
     {
         let mut rest = bytes;

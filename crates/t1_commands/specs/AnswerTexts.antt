@@ -72,7 +72,7 @@ place_text (Line n) = codes " line " ++ decimal n
 place_text (Subr n) = codes " subr " ++ decimal n
 place_text (Glyph name) = codes " glyph " ++ name
 
--- the number that stands in a place
+-- profile, answers: the number that stands in a place
 abbrev pub place_number : Place → ℕ
 place_number Nowhere = 0
 place_number (Line n) = n

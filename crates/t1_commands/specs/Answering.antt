@@ -9,11 +9,12 @@ use Rattle.t1_commands.specs.declared.answer.Answer.{Answer}
 use Rattle.t1_commands.specs.declared.answer.Answer.TheVariants.{Accepted, Broken, Faulty}
 use Rattle.t1_commands.specs.AnswerTexts.{answer_text}
 
--- an answer, where memory didn't run out
+-- profile, answers: a call gave this answer, and memory didn't run out
 abbrev pub Says : {E : Type 0} → Answer → Result Answer E → Type 0
 Says wanted (Ok answer) = answer ≡ wanted
 Says wanted (Err e) = ⊥
 
+-- profile, answers: a call gave no answer, for want of memory
 abbrev pub WantsMemory : {E : Type 0} → Result Answer E → Type 0
 WantsMemory (Ok answer) = ⊥
 WantsMemory (Err e) = Unit {0}

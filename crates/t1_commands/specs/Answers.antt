@@ -6,12 +6,12 @@ use Rattle.t1_commands.specs.declared.answer.Answer.TheVariants.{OutOfMemory}
 use Rattle.t1_commands.specs.Commands.{input_commands}
 use Rattle.t1_commands.specs.AnswerTexts.{answer_text}
 
--- what a command is answered, and the state after it
+-- profile, answers: what a command is answered, and the state after it
 pub record Performed (S : Type 0) : Type 0 where
   pub answer : Answer
   pub next : S
 
--- how commands are performed, which of them may meet want of memory, and what those leave that did
+-- profile, answers: how commands are performed, which of them may meet want of memory, and what those leave that did
 pub record Machine (S : Type 0) : Type 0 where
   pub perform : S → Command → Performed S
   pub may_want_memory : S → Command → Bool
@@ -22,11 +22,12 @@ abbrev pub answer_to : {S : Type 0} → Machine S → S → Command → Bool →
 answer_to m s r mark =
     if mark && m.may_want_memory s r then record { answer = OutOfMemory; next = m.after_want s r } else m.perform s r
 
--- the first mark, where past the end of the list nothing is marked, and the others
+-- profile, answers: the first mark; past the end of the list nothing is marked
 abbrev pub first_mark : List Bool → Bool
 first_mark [] = false
 first_mark (mark ∷ marks) = mark
 
+-- profile, answers: the marks after the first
 abbrev pub other_marks : List Bool → List Bool
 other_marks [] = []
 other_marks (mark ∷ marks) = marks

@@ -12,7 +12,7 @@ use Rattle.t1_commands.specs.declared.print.Print.TheVariants as prints
 use Rattle.t1_commands.specs.declared.command.Command.{Command}
 use Rattle.t1_commands.specs.declared.command.Command.TheVariants as commands
 
--- a command whose body is being read: the line that opened it, and its body so far
+-- profile, session commands: a command whose body is being read: the line that opened it, and its body so far
 pub record Opening : Type 0 where
   pub heading : List ℕ
   pub body : List ℕ
@@ -21,15 +21,17 @@ pub record Opening : Type 0 where
 unfoldable pub number_of : List ℕ → ℤ
 number_of word = unwrap_or (number_word word) (pos (2 ^ 63 - 1))
 
--- the only word, the only two, the only three
+-- profile, session commands: the only word
 abbrev pub one_word : List (List ℕ) → Option (List ℕ)
 one_word (a ∷ []) = Some a
 one_word _ = None
 
+-- profile, session commands: the only two words
 abbrev pub two_words : List (List ℕ) → Option (List ℕ × List ℕ)
 two_words (a ∷ b ∷ []) = Some (a, b)
 two_words _ = None
 
+-- profile, session commands: the only three words
 abbrev pub three_words : List (List ℕ) → Option (List ℕ × List ℕ × List ℕ)
 three_words (a ∷ b ∷ c ∷ []) = Some (a, b, c)
 three_words _ = None
@@ -38,7 +40,7 @@ three_words _ = None
 abbrev pub unknown : Command
 unknown = commands.Broken E8
 
--- the edit of these words, where they are as many as it takes
+-- profile, session commands: the edit of these words, where they are as many as it takes
 abbrev pub edit_of : {X : Type 0} → (X → Edit) → Option X → Command
 edit_of f None = unknown
 edit_of f (Some x) = commands.Edit (f x)
@@ -72,6 +74,7 @@ unfoldable pub blocks_print : Option (List ℕ × List ℕ) → Command
 blocks_print None = unknown
 blocks_print (Some w) = if bytes_eq w.0 (codes "pfb") then commands.Print (prints.Blocks (number_of w.1)) else unknown
 
+-- profile, session commands: the print of one word, else that of two
 abbrev pub print_by : Option (List ℕ) → Option (List ℕ × List ℕ) → Command
 print_by (Some word) two = whole_print word
 print_by None two = blocks_print two
@@ -108,7 +111,7 @@ bodied_edit w body =
     then (if bytes_eq w.0 (codes "replace") then ReplaceGlyph w.2 body else AddGlyph w.2 body)
     else (if bytes_eq w.0 (codes "replace") then ReplaceSubr (number_of w.2) body else AddSubr (number_of w.2) body)
 
--- a command with its whole body
+-- profile, session commands: a command with its whole body
 unfoldable pub body_command : List (List ℕ) → List ℕ → Command
 body_command heading body = edit_of (λ w. bodied_edit w body) (three_words heading)
 
@@ -117,6 +120,7 @@ abbrev pub left_open : Option (List ℕ × List ℕ × List ℕ) → Command
 left_open None = unknown
 left_open (Some w) = commands.Broken E7
 
+-- profile, edit rules: what a command becomes whose body the input leaves open
 unfoldable pub open_command : List (List ℕ) → Command
 open_command heading = left_open (three_words heading)
 
@@ -131,6 +135,7 @@ abbrev pub is_dot : Option (List ℕ) → Bool
 is_dot None = false
 is_dot (Some word) = bytes_eq word (codes ".")
 
+-- profile, session commands: whether a line ends a body
 unfoldable pub ends_body : List ℕ → Bool
 ends_body line = is_dot (one_word (words line))
 
@@ -139,12 +144,12 @@ abbrev pub is_wordless : List (List ℕ) → Bool
 is_wordless [] = true
 is_wordless (word ∷ rest) = false
 
--- the command of a line that takes no body
+-- profile, session commands: the command of a line that takes no body
 abbrev pub alone : List (List ℕ) → List Command
 alone line = if is_wordless line then [] else line_command line ∷ []
 
--- the commands of the lines, where the body of an opened one comes first; once the input has ended, a body that it
--- leaves open makes a command too
+-- profile, session commands: the commands of the lines, where the body of an opened one comes first; once the input has
+-- ended, a body that it leaves open makes a command too
 abbrev pub commands_of : Bool → Option Opening → List (List ℕ) → List Command
 commands_of ended None [] = []
 commands_of ended (Some o) [] = if ended then open_command (words o.heading) ∷ [] else []
@@ -160,7 +165,7 @@ commands_of ended (Some o) (line ∷ lines) =
 abbrev pub input_commands : Bool → List ℕ → List Command
 input_commands ended input = commands_of ended None (finished_lines ended (unified input))
 
--- whether a command is an edit, whose names and body are kept while it is performed
+-- profile, session commands: whether a command is an edit, whose names and body are kept while it is performed
 abbrev pub is_edit : Command → Bool
 is_edit (commands.Edit edit) = true
 is_edit (commands.Print print) = false
@@ -169,7 +174,7 @@ is_edit commands.Commit = false
 is_edit commands.Abort = false
 is_edit (commands.Broken rule) = false
 
--- a call makes this command, or wants memory for an edit
+-- profile, session commands: a call makes this command, or wants memory for an edit
 abbrev pub Makes : {E : Type 0} → Result Command E → Command → Type 0
 Makes (Ok command) wanted = command ≡ wanted
 Makes (Err e) wanted = is_edit wanted ≡ true

@@ -2,7 +2,7 @@
 use Rattle.std.specs.Prelude.{ℕ, Bool, ◌==◌, if◌then◌else◌, List, take, count_by}
 use Rattle.t1_text.specs.Lines.{split_lines}
 
--- how many lines of a text have their end, an LF
+-- profile, session input: how many lines of a text have their end, an LF
 abbrev pub ended_lines : List ℕ → ℕ
 ended_lines text = count_by (λ c. c == 10) text
 

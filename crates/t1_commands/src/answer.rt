@@ -1,6 +1,6 @@
 //! What commands are answered, and how it is written.
-ghost use Rattle.std.specs.Prelude.{◌≡◌, OnOk, OnErr, ◌++◌, decimal, length};
-ghost use Rattle.t1_code.specs.Counted.{WritesAll, WritesFront};
+ghost use Rattle.std.specs.Prelude.{◌≡◌, ◌++◌, decimal, length};
+ghost use Rattle.t1_code.specs.Counted.{Writes};
 ghost use Rattle.t1_code.specs.Parts.{bytes_of};
 ghost use Rattle.t1_commands.specs.Answering.{Answers};
 ghost use Rattle.t1_commands.specs.AnswerTexts.{rule_name, code_name, place_number, place_text, fault_text, data_text, answer_text};
@@ -105,8 +105,7 @@ fn code_name(code: Code) -> &'static [u8]
 
 /// Writes slices, one after another, by way of a chunk: one call of the writer takes up to 4,096 bytes of them.
 fn write_slices<W: Write>(writer: &mut Counted<W>, slices: &[&[u8]]) -> io::Result<()>
-    ensures ok { OnOk result (WritesAll W.contents writer.old writer.new (bytes_of slices.now)) }
-    ensures err { OnErr result (WritesFront W.contents writer.old writer.new (bytes_of slices.now)) }
+    ensures { Writes W.contents writer.old writer.new (bytes_of slices.now) result }
 {
     let mut chunk = Chunk::new();
     put_slices(writer, &mut chunk, slices)?;
@@ -151,8 +150,7 @@ fn put_fault<W: Write>(
     fault: &Fault,
     after: &[u8],
 ) -> io::Result<()>
-    ensures ok { OnOk result (WritesAll W.contents writer.old writer.new (before.now ++ fault_text fault.now ++ after.now)) }
-    ensures err { OnErr result (WritesFront W.contents writer.old writer.new (before.now ++ fault_text fault.now ++ after.now)) }
+    ensures { Writes W.contents writer.old writer.new (before.now ++ fault_text fault.now ++ after.now) result }
 {
     let code = code_name(fault.code);
     let mut buffer = Buffer::new();
@@ -171,8 +169,7 @@ fn data_slices<'a>(bytes: &'a [u8], digits: &'a str) -> [&'a [u8]; 5]
 
 /// Writes what a print shows, after its length.
 fn put_data<W: Write>(writer: &mut Counted<W>, bytes: &[u8]) -> io::Result<()>
-    ensures ok { OnOk result (WritesAll W.contents writer.old writer.new (data_text bytes.now)) }
-    ensures err { OnErr result (WritesFront W.contents writer.old writer.new (data_text bytes.now)) }
+    ensures { Writes W.contents writer.old writer.new (data_text bytes.now) result }
 {
     let mut buffer = Buffer::new();
     let digits = buffer.format(bytes.len());
@@ -182,8 +179,7 @@ fn put_data<W: Write>(writer: &mut Counted<W>, bytes: &[u8]) -> io::Result<()>
 /// Writes an answer. It takes no memory.
 #[tactic(auto, unfolding(crate::specs::AnswerTexts::answer_text))]
 pub fn put_answer<W: Write>(writer: &mut Counted<W>, answer: &Answer) -> io::Result<()>
-    ensures ok { OnOk result (WritesAll W.contents writer.old writer.new (answer_text answer.now)) }
-    ensures err { OnErr result (WritesFront W.contents writer.old writer.new (answer_text answer.now)) }
+    ensures { Writes W.contents writer.old writer.new (answer_text answer.now) result }
 {
     match answer {
         Answer::Accepted => writer.put_all(b"ok\n"),

@@ -191,7 +191,7 @@ rides_on by outline current next start place to h hb r e f =
       point = subst (λ t. IfOk t IsPoint) f (point_within by place hn hq);
     }
 
--- what the start's moves tell of the outline's
+-- what the start's moves say of the outline's
 abbrev pub Displaced : List Segment → Point → Result Point Code → Result (List Segment) Code → Type 0
 Displaced outline start (Err e) r = r ≡ Err e
 Displaced outline start (Ok to) r =

@@ -274,11 +274,6 @@ reaching_inside d e h k =
     let y = four_sides e k in
     rw (lesser_inside d.left e.left x.0 y.0, greater_inside d.right e.right x.2 y.2, lesser_inside d.bottom e.bottom x.1 y.1, greater_inside d.top e.top x.3 y.3) refl
 
-pub unite_inside : (d e : Option Extremes) → limit_check d ≡ Ok tt → limit_check e ≡ Ok tt → limit_check (unite d e) ≡ Ok tt
-unite_inside None e h k = k
-unite_inside (Some d) None h k = h
-unite_inside (Some d) (Some e) h k = reaching_inside d e h k
-
 -- ---- distances
 
 -- the difference of two coordinates, in 64 bits

@@ -43,9 +43,6 @@ under_from_same a b e = record {
       omega (arith, x, y, ap up e, ap down e);
 }
 
-pub same_sym : (a b : Fraction) → IsSame a b → IsSame b a
-same_sym a b e = sym e
-
 pub canonical_same : (a b : Fraction) → IsCanonical a → IsCanonical b → IsUnder a b → IsUnder b a → a ≡ b
 canonical_same a b ha hb h k = sym ha.lowest ∙ same_lowest a b ha.above hb.above (same_from_under a b h k) ∙ hb.lowest
 

@@ -46,7 +46,7 @@ pub grain_small : (drawn : Drawn) → grain_of drawn ≤ 2 ^ 20
 grain_small (Whole extent) = omega arith
 grain_small (Mixed bbox) = omega arith
 
--- at most 2^20, whatever is told
+-- at most 2^20, in either case
 pub fine_corners : (drawn : Drawn) (e : Option Extent) → IfSome e (AreFine (grain_of drawn)) → IfSome e (AreFine (2 ^ 20))
 fine_corners drawn e h = some_finer (grain_of drawn) (2 ^ 20) e (grain_small drawn) h
 
@@ -195,7 +195,7 @@ moved_fraction by r extent drawn united bbox outline hb easy h er ok ed ec fc eb
       },
     )
 
--- where the outline isn't told exactly, the move is whole
+-- where the outline isn't kept exactly, the move is whole
 pub mixed_whole : (by : Point) (r : Reached) (bbox : Option BBox) → MovesReach by r → r.drawn ≡ Mixed bbox → IsWhole by
 mixed_whole by r bbox (inl w) e = w
 mixed_whole by r bbox (inr exact) e = absurd (subst IsExact e exact)
@@ -282,13 +282,6 @@ moved_rounded by r bbox to united outline hb easy w h er ok ec fc et =
 -- how far the front reaches is known, and the rest makes the whole
 abbrev pub Leads : Reached → Result (List Segment) Code → Result (List Segment) Code → Type 0
 Leads reached rest whole = (front : List Segment) × IsReach reached front × (whole ≡ (rest >>= λ ss. Ok (front ++ ss)))
-
-plain : (r : Result (List Segment) Code) → r ≡ (r >>= λ ss. Ok ([] ++ ss))
-plain (Ok ss) = refl
-plain (Err c) = refl
-
-pub leads_start : (reached : Reached) (r : Result (List Segment) Code) → IsReach reached [] → Leads reached r r
-leads_start reached r h = ([], h, plain r)
 
 appended : (xs : List Segment) (x : Segment) (r : Result (List Segment) Code)
     → ((r >>= λ ss. Ok (x ∷ ss)) >>= λ ss. Ok (xs ++ ss)) ≡ (r >>= λ ss. Ok ((xs ++ (x ∷ [])) ++ ss))

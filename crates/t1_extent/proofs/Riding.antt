@@ -26,7 +26,7 @@ pub nothing_through : (moves : List Point) (last : Point) → through moves last
 nothing_through [] last = refl
 nothing_through (by ∷ moves) last = nothing_through moves last
 
--- what the moves of its start tell of a figure's outline
+-- what the moves of its start say of a figure's outline
 pub riding : (figure : Figure) (moves : List Point) (last : Point) (outline : List Segment) (to : Result Point Code) → IsWholeFigure (Some figure) outline
     → All IsDistance moves → IsDistance last → IsOk (in_turn moves outline) → to ≡ point_through moves last figure.start
     → Displaced outline figure.start to (through moves last outline)

@@ -34,11 +34,6 @@ pub lonely : (run : Kept) (depth : ℕ) (name : List ℕ) (d : Drawing) → Some
 lonely run zero name d e f = ap (drawn (λ part. Err F46)) (sym e) ∙ ap (λ c. with_parts (λ part. Err F46) c d) (sym f)
 lonely run (suc depth) name d e f = ap (drawn (outline_within run depth)) (sym e) ∙ ap (λ c. with_parts (outline_within run depth) c d) (sym f)
 
-pub nested : (run : Kept) (depth : ℕ) (name : List ℕ) (d : Drawing) (c : Composite) → depth ≡ 0 → Some (Ok d) ≡ run name → Some c ≡ d.composite
-    → outline_within run depth name ≡ Err F46
-nested run zero name d c h e f = ap (drawn (λ part. Err F46)) (sym e) ∙ ap (λ c'. with_parts (λ part. Err F46) c' d) (sym f)
-nested run (suc depth) name d c h e f = absurd (omega (arith, h))
-
 pub composed : (run : Kept) (depth : ℕ) (name : List ℕ) (d : Drawing) (c : Composite) → (depth ≡ 0 → ⊥) → Some (Ok d) ≡ run name → Some c ≡ d.composite
     → outline_within run depth name
     ≡ (outline_within run (depth - 1) c.base >>= (λ base. outline_within run (depth - 1) c.accent >>= (λ accent. joined d base accent)))

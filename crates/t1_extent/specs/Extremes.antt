@@ -15,9 +15,11 @@ use Rattle.t1_afm.specs.declared.bbox.BBox.{BBox}
 abbrev pub is_less : Fraction → Fraction → Bool
 is_less a b = int_lt (a.num *ℤ pos b.den) (b.num *ℤ pos a.den)
 
+-- profile, fractions: the lesser of two; the first of equal ones
 abbrev pub lesser : Fraction → Fraction → Fraction
 lesser a b = if is_less b a then b else a
 
+-- profile, fractions: the greater of two; the first of equal ones
 abbrev pub greater : Fraction → Fraction → Fraction
 greater a b = if is_less a b then b else a
 
@@ -28,9 +30,11 @@ pub record Extremes : Type 0 where
   pub right : Fraction
   pub top : Fraction
 
+-- profile: the extremes of one point
 abbrev pub at_point : Point → Extremes
 at_point p = record { left = lowest p.x; bottom = lowest p.y; right = lowest p.x; top = lowest p.y }
 
+-- profile: the extremes of two together
 abbrev pub reaching : Extremes → Extremes → Extremes
 reaching d e = record {
   left = lesser d.left e.left;
@@ -54,6 +58,7 @@ abbrev pub corners_of : Segment → List Point
 corners_of (Line start end) = start ∷ end ∷ []
 corners_of (Curve start first second end) = start ∷ first ∷ second ∷ end ∷ []
 
+-- profile: these points of an outline, segment by segment
 abbrev pub corners : List Segment → List Point
 corners outline = flat_map corners_of outline
 
@@ -70,6 +75,7 @@ boxed (Some e) = rounded e
 
 -- ---- moves
 
+-- profile, fractions: a coordinate moved, in lowest terms
 abbrev pub shifted : Fraction → Fraction → Fraction
 shifted by a = lowest (plus a by)
 
@@ -105,26 +111,29 @@ moved_box by b = record { left = b.left +ℤ by.x.num; bottom = b.bottom +ℤ by
 
 -- ---- whole coordinates
 
+-- profile: both coordinates of a point are whole
 pub record IsWhole (p : Point) : Type 0 where
   pub x : p.x.den ≡ 1
   pub y : p.y.den ≡ 1
 
--- the move is whole, or all points are
+-- profile: the move is whole, or all points are
 abbrev pub MovesEasily : Point → List Segment → Type 0
 MovesEasily by outline = IsWhole by ⊎ AllByRecursion IsWhole (corners outline)
 
--- each coordinate of the segment is whole
+-- profile: each coordinate of the segment is whole
 abbrev pub IsWholeSegment : Segment → Type 0
 IsWholeSegment (Line start end) = IsWhole start × IsWhole end
 IsWholeSegment (Curve start first second end) = IsWhole start × IsWhole first × IsWhole second × IsWhole end
 
--- the same as tests
+-- profile: whether both coordinates of a point are whole
 abbrev pub is_whole : Point → Bool
 is_whole p = (p.x.den == 1) && (p.y.den == 1)
 
+-- profile: whether each coordinate of a segment is
 abbrev pub is_whole_segment : Segment → Bool
 is_whole_segment (Line start end) = is_whole start && is_whole end
 is_whole_segment (Curve start first second end) = is_whole start && is_whole first && is_whole second && is_whole end
 
+-- profile: whether each coordinate of an outline is
 abbrev pub is_whole_outline : List Segment → Bool
 is_whole_outline outline = list_all is_whole_segment outline

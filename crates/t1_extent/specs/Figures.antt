@@ -21,11 +21,11 @@ first_point (Curve start first second end ∷ outline) = Some start
 abbrev pub apart : Point → Point → Point
 apart from to = record { x = minus to.x from.x; y = minus to.y from.y }
 
--- the distance, as a pair of fractions
+-- profile: the distance, as a pair of fractions
 abbrev pub distance_of : Distance → Point
 distance_of d = record { x = raw d.x; y = raw d.y }
 
--- both denominators are those of a run
+-- profile: both denominators are those of a run
 pub record IsFineDistance (d : Distance) : Type 0 where
   pub x : d.x.den ≤ 2 ^ 20
   pub y : d.y.den ≤ 2 ^ 20
@@ -36,12 +36,12 @@ pub record IsFigure (figure : Figure) (outline : List Segment) : Type 0 where
   pub drawn : extremes (points outline) ≡ Some (extremes_of figure.drawn)
   pub corners : extremes (corners outline) ≡ Some (extremes_of figure.corners)
 
--- the same, where the outline draws
+-- profile: the same, where the outline draws
 abbrev pub IsFigureOf : Option Figure → List Segment → Type 0
 IsFigureOf None outline = outline ≡ []
 IsFigureOf (Some figure) outline = IsFigure figure outline
 
--- an outline within the limits whose coordinates are all whole, and its figure
+-- profile: an outline within the limits whose coordinates are all whole, and its figure
 pub record IsWholeFigure (figure : Option Figure) (outline : List Segment) : Type 0 where
   pub within : AreWithin outline
   pub whole : is_whole_outline outline ≡ true

@@ -27,7 +27,7 @@ abbrev pub IsTrace : Trace → List Segment → Type 0
 IsTrace (traces.Whole figure) outline = IsWholeFigure figure outline
 IsTrace (traces.Segments segments) outline = segments.now ≡ outline
 
--- profile: what is told of a run that is lent
+-- profile: what a run that is lent draws, or its fault
 abbrev pub drawing_lent : Result (Bor NumberedRun) Code → Result Drawing Code
 drawing_lent (Ok run) = Ok run.now.drawing
 drawing_lent (Err code) = Err code

@@ -1,4 +1,4 @@
--- How far outlines reach, and what a call tells of them.
+-- How far outlines reach, and what a call says of them.
 use Rattle.std.specs.Prelude.{◌≡◌, ℕ, ◌^◌, ◌≤◌, ◌⊎◌, ◌+ℤ◌, List, option_map, IfSome, Result, Ok, Err, true}
 use Rattle.std.specs.Int.RustNames.{unsigned_abs}
 use Rattle.t1_frac.specs.Outcome.{Refuses, told_at}
@@ -23,12 +23,12 @@ IsDrawnBy (Whole extent) outline =
     (is_whole_outline outline ≡ true) × (option_map extremes_of extent ≡ extremes (points outline)) × IfSome extent (AreFine (2 ^ 20))
 IsDrawnBy (Mixed bbox) outline = bbox ≡ drawn_box outline
 
--- they are told exactly
+-- profile: the drawn points' extremes are kept exactly
 abbrev pub IsExact : Drawn → Type 0
 IsExact (Whole extent) = Unit {0}
 IsExact (Mixed bbox) = ⊥
 
--- exact extremes of whole coordinates have the denominator 1
+-- profile: exact extremes of whole coordinates have the denominator 1
 abbrev pub grain_of : Drawn → ℕ
 grain_of (Whole extent) = 1
 grain_of (Mixed bbox) = 2 ^ 20
@@ -40,27 +40,27 @@ pub record IsReach (reached : Reached) (outline : List Segment) : Type 0 where
   pub corners : option_map extremes_of reached.corners ≡ extremes (corners outline)
   pub corners_fine : IfSome reached.corners (AreFine (grain_of reached.drawn))
 
--- the move is whole, or the outline is
+-- profile: the move is whole, or the outline's coordinates are
 abbrev pub MovesReach : Point → Reached → Type 0
 MovesReach by reached = IsWhole by ⊎ IsExact reached.drawn
 
--- the box's sides, moved, are small numbers
+-- profile: the box's sides, moved, are small numbers
 pub record IsNear (by : Point) (b : BBox) : Type 0 where
   pub left : unsigned_abs (b.left +ℤ by.x.num) ≤ 2 ^ 29
   pub bottom : unsigned_abs (b.bottom +ℤ by.y.num) ≤ 2 ^ 29
   pub right : unsigned_abs (b.right +ℤ by.x.num) ≤ 2 ^ 29
   pub top : unsigned_abs (b.top +ℤ by.y.num) ≤ 2 ^ 29
 
--- it is that of some outline
+-- profile: it is the reach of some outline
 abbrev pub IsReachOfSome : Reached → Type 0
 IsReachOfSome reached = (outline : List Segment) × IsReach reached outline
 
--- a call tells how far the outline reaches that a definition gives, or its fault, unless memory ran out
+-- profile: a call answers how far the outline reaches that a definition gives, or its fault, unless memory ran out
 abbrev pub Tells : Result Reached Refusal → Result (List Segment) Code → Type 0
 Tells (Ok reached) given = (outline : List Segment) × (given ≡ Ok outline) × IsReach reached outline
 Tells (Err refused) given = Refuses refused (told_at Nowhere given)
 
--- the same, of a call that takes no memory
+-- profile: the same, of a call that takes no memory
 abbrev pub TellsAtOnce : Result Reached Code → Result (List Segment) Code → Type 0
 TellsAtOnce (Ok reached) given = (outline : List Segment) × (given ≡ Ok outline) × IsReach reached outline
 TellsAtOnce (Err code) given = given ≡ Err code

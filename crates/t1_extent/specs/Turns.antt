@@ -30,12 +30,15 @@ point_through (by ∷ moves) last point = moved_point by point >>= point_through
 
 -- ---- of outlines that are given, or their faults
 
+-- profile: an outline that is given, moved by these in turn
 abbrev pub given_in_turn : List Point → Result (List Segment) Code → Result (List Segment) Code
 given_in_turn moves given = given >>= in_turn moves
 
+-- profile: the same, and then by a last move
 abbrev pub given_through : List Point → Point → Result (List Segment) Code → Result (List Segment) Code
 given_through moves last given = given >>= through moves last
 
+-- profile: an outline that is given, moved once
 abbrev pub given_moved : Point → Result (List Segment) Code → Result (List Segment) Code
 given_moved by given = given >>= moved_outline by
 

@@ -1,4 +1,4 @@
--- What is told of glyphs, one after another.
+-- What is reported of glyphs, one after another.
 use Rattle.std.proofs.Common.{◌≡◌, ℕ, List, [], ◌∷◌, ◌++◌, map, append_assoc, refl, sym, ap, ◌∙◌, subst}
 use Rattle.std.specs.Prelude.{Option, Result, Ok, Err}
 use Rattle.t1_frac.specs.declared.fault.Code.{Code}
@@ -41,7 +41,7 @@ behind-one : {X : Type 0} (front : List X) (x : X) (rest : Result (List X) Fault
 behind-one front x (Ok xs) = ap Ok (append_assoc front (x ∷ []) xs)
 behind-one front x (Err fault) = refl
 
--- a glyph that was told stands in front of the others
+-- a glyph that was reported stands in front of the others
 pub one-told : (runs : Runs) (front : List GlyphMetrics) (name : List ℕ) (names : List (List ℕ)) (s : GlyphMetrics)
     → told_at (places.Glyph name) (glyph_metrics_at runs name) ≡ Ok s → behind (front ++ s ∷ []) (glyph_metrics_among runs names) ≡ behind front (glyph_metrics_among runs (name ∷ names))
 one-told runs front name names s e =

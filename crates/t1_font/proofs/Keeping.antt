@@ -13,7 +13,7 @@ use Rattle.t1_run.specs.Run.{FontBodies, NumberedRun, own}
 use Rattle.t1_font.specs.Runs.{Kept, drawing_kept, kept_of, run_kept, own_among, counted, CountsSome, IsAfter}
 use Rattle.indexmap.specs.IndexMap.{insert_entry}
 
--- what is found, behind a borrow
+-- what is found, through a borrow
 pub copied-map : {X Y : Type 0} (view : X → Y) (r : Option (Bor X)) → option_map (λ x. view x.now) r ≡ option_map view (option_copied r)
 copied-map view None = refl
 copied-map view (Some x) = refl
@@ -21,14 +21,6 @@ copied-map view (Some x) = refl
 pub map-cond : {X Y : Type 0} (view : X → Y) (b : Bool) (x : X) (r : Option X) → option_map view (cond b (Some x) r) ≡ cond b (Some (view x)) (option_map view r)
 map-cond view true x r = refl
 map-cond view false x r = refl
-
--- a look-up among views is the view of what is found
-pub lookup-map : {K X L Y : Type 0} (name : K → L) (view : X → Y) (test : L → Bool) (es : List (K × X))
-    → lookup test (map (λ e. (name e.0, view e.1)) es) ≡ option_map view (lookup (λ k. test (name k)) es)
-lookup-map name view test [] = refl
-lookup-map name view test (e ∷ es) =
-    ap (cond (test (name e.0)) (Some (view e.1))) (lookup-map name view test es)
-    ∙ sym (map-cond view (test (name e.0)) e.1 (lookup (λ k. test (name k)) es))
 
 pub same_bytes : (a b : List ℕ) → bytes_eq a b ≡ true → a ≡ b
 same_bytes a b h = (bytes_eq-Decides a b).0 h

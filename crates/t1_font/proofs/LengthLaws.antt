@@ -78,7 +78,7 @@ more_within (Ok bytes) (Ok rest) whole seen most left total within h before room
 more_within (Ok bytes) (Err fault) whole seen most left total within h before room = absurd (cc)
 more_within (Err fault) more whole seen most left total within h before room = absurd (cc)
 
--- a line that is at most so long, and the text of the items behind it
+-- a line that is at most so long, and the text of the items after it
 pub text_within : (front : ℕ) (name : List ℕ) (item : Item) (items : List Item) (whole seen : List ℕ) (most left total : ℕ)
     → IfOk (item_line front name item) (λ line. length line ≤ most) → private_text front name (item ∷ items) ≡ Ok seen
     → length whole ≤ left + length seen → left + most ≤ total

@@ -141,7 +141,7 @@ metrics-are runs items names kept =
     ∙ ap (λ outline. glyphs_by (own (bodies items)) outline names >>= (λ gs. Ok (map glyph_metrics gs)))
     (same-function (outline_within (kept_of runs) 4) (outline (bodies items)) (kept-outline runs items kept))
 
--- ---- what is told of all
+-- ---- what is reported of all
 
 abbrev whole : List Drawn → Result MeasuredFont Fault
 whole gs = Ok (record { metrics = map glyph_metrics gs; font_box = font_box (map (λ g. g.outline) gs) })

@@ -12,10 +12,6 @@ pub or_false : (b : Bool) → (b || false) ≡ b
 or_false true = refl
 or_false false = refl
 
-or_true : (b : Bool) → (b || true) ≡ true
-or_true true = refl
-or_true false = refl
-
 -- a name that is put in is among the names
 pub name-inserted : {K : Type 0} (name : K → List ℕ) (g : List ℕ) (k : K) (ks : List K)
     → list_any (λ x. bytes_eq g (name x)) (insert_key (λ x y. bytes_eq (name x) (name y)) ks k) ≡ (list_any (λ x. bytes_eq g (name x)) ks || bytes_eq g (name k))

@@ -57,7 +57,7 @@ composite = record {
 abbrev run : List ℕ → Option (Result Drawing Code)
 run name = if bytes_eq name (codes "A") then Some (Err F38) else Some (Ok composite)
 
--- the composite that stands first tells the fault of its part
+-- the composite that stands first reports the fault of its part
 fault_of_a_part : glyphs_by run (outline_within run 4) (codes "Aacute" ∷ codes "A" ∷ []) ≡ Err (fault_at (places.Glyph (codes "Aacute")) F38)
 fault_of_a_part = refl
 

@@ -31,22 +31,22 @@ item_line lead operator (Section before count after) = Ok (before ++ decimal cou
 item_line lead operator (Subr number words closing) = entry_line lead operator (places.Subr number) (codes "dup " ++ decimal number) words closing
 item_line lead operator (Glyph name words closing) = entry_line lead operator (places.Glyph name) (47 ∷ name) words closing
 
--- the private text of the items, or the first fault of their bodies; in a source the Subrs stand before the glyphs
+-- profile: the private text of the items, or the first fault of their bodies; in a source the Subrs stand before the glyphs
 abbrev pub private_text : ℕ → List ℕ → List Item → Result (List ℕ) Fault
 private_text lead operator [] = Ok []
 private_text lead operator (item ∷ items) =
     item_line lead operator item >>= λ line. private_text lead operator items >>= λ rest. Ok (line ++ rest)
 
--- Type 1 Font Format, Chapter 2: 512 zeros in eight lines, and the lines behind them
+-- Type 1 Font Format, Chapter 2: 512 zeros in eight lines, and the lines after them
 abbrev pub trailer_text : List (List ℕ) → List ℕ
 trailer_text tail = joined (replicate 8 (replicate 64 48) ++ tail)
 
--- the PFB file of a source in blocks of this size, or the first fault of its bodies, or F23
+-- profile: the PFB file of a source in blocks of this size, or the first fault of its bodies, or F23
 unfoldable pub source_file : ℕ → SourceParts → Result (List ℕ) Fault
 source_file size source =
     private_text (lead source) (operator source) source.items >>= λ private. pfb_of size (joined source.clear) private (trailer_text source.tail)
 
--- the PFA file of a source, or the first fault of its bodies, or F23
+-- profile: the PFA file of a source, or the first fault of its bodies, or F23
 unfoldable pub source_pfa : SourceParts → Result (List ℕ) Fault
 source_pfa source =
     private_text (lead source) (operator source) source.items >>= λ private. pfa_of (joined source.clear) private (trailer_text source.tail)
@@ -63,7 +63,7 @@ counts_check items = if list_all is_counted items then Ok tt else Err (fault_at 
 unfoldable pub file_check : SourceParts → Result (Unit {0}) Fault
 file_check source = length_check source >>= λ checked. counts_check source.items
 
--- a text stands in front of what a definition gives
+-- profile: a text stands in front of what a definition gives
 abbrev pub behind : List ℕ → Result (List ℕ) Fault → Result (List ℕ) Fault
 behind front (Ok rest) = Ok (front ++ rest)
 behind front (Err fault) = Err fault

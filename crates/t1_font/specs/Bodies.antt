@@ -47,6 +47,7 @@ bodies items = font (subr_among items) (glyph_among items)
 unfoldable pub words_check : Place → List (List ℕ) → Result (Unit {0}) Fault
 words_check place words = told_at place (commands words) >>= λ _. Ok tt
 
+-- profile: the fault of an item's body, at its entry, where it has one
 abbrev pub body_check : Item → Result (Unit {0}) Fault
 body_check (Subr number words closing) = words_check (places.Subr number) words
 body_check (Glyph name words closing) = words_check (places.Glyph name) words
@@ -59,17 +60,18 @@ bodies_check (item ∷ items) = body_check item >>= λ _. bodies_check items
 
 -- ---- the maps of the code
 
--- the body that is kept for a number
+-- profile: the body that is kept for a number
 abbrev pub subr_kept : List (ℕ × List Command) → ℕ → Option (List Command)
 subr_kept entries n = lookup (nat_eq n) entries
 
--- the body that is kept for a name
+-- profile: the body that is kept for a name
 abbrev pub glyph_kept : {A : Type 0} → List (Vec ℕ A × List Command) → List ℕ → Option (List Command)
 glyph_kept entries g = lookup (λ key. bytes_eq g key.items) entries
 
+-- profile: the bodies that both maps keep
 abbrev pub plain_bodies : Plain → FontBodies
 plain_bodies plain = font (subr_kept plain.subrs.entries) (glyph_kept plain.glyphs.entries)
 
--- both fonts have the same body, or both none, at each key
+-- profile: both fonts have the same body, or both none, at each key
 abbrev pub SameBodies : FontBodies → FontBodies → Type 0
 SameBodies m n = (key : Key) → SameAt m n key

@@ -1,4 +1,4 @@
--- What an AFM file tells of a source.
+-- What an AFM file says of a source.
 use Rattle.std.specs.Prelude.{List, map, codes}
 use Rattle.t1_pairs.specs.declared.pairs.Pair.{Pair}
 use Rattle.t1_source.specs.Codes.{code_of}
@@ -25,7 +25,7 @@ header_values source = record {
   notice = header source (codes "Notice");
 }
 
--- AFM 4.1: what the file tells of a source, its pairs and its glyphs
+-- AFM 4.1: what the file says of a source, its pairs and its glyphs
 abbrev pub metrics_of : SourceParts → List Pair → MeasuredFont → FontMetrics
 metrics_of source pairs glyphs = record {
   header = header_values source;

@@ -14,11 +14,12 @@ use Rattle.t1_run.specs.Composite.{accent_move, outline}
 use Rattle.t1_run.specs.Run.{FontBodies, Drawing, own}
 use Rattle.t1_font.specs.declared.glyph_metrics.PlacedParts.{PlacedParts}
 
--- profile: the names of the glyphs, in the order of their entries
+-- profile: the name of an item, where it is a glyph
 abbrev pub name_in : Item → List (List ℕ)
 name_in (items.Glyph name words closing) = name ∷ []
 name_in _ = []
 
+-- profile: the names of the glyphs, in the order of their entries
 abbrev pub glyph_names : List Item → List (List ℕ)
 glyph_names items = flat_map name_in items
 
@@ -55,6 +56,6 @@ glyphs_by run outline (name ∷ names) =
     glyphs_by run outline names >>= (λ glyphs.
     Ok (glyph ∷ glyphs)))
 
--- the glyphs of these names, by the font's runs and outlines
+-- profile: the glyphs of these names, by the font's runs and outlines
 abbrev pub glyphs : FontBodies → List (List ℕ) → Result (List Glyph) Fault
 glyphs m names = glyphs_by (own m) (outline m) names

@@ -16,21 +16,21 @@ use Rattle.t1_font.specs.Assembly.{file_check}
 use Rattle.t1_font.specs.Bodies.{bodies_check}
 use Rattle.t1_font.specs.Glyphs.{glyphs}
 
--- the outlines of the glyphs, or the first fault of an outline, at its glyph
+-- profile: the outlines of the glyphs, or the first fault of an outline, at its glyph
 abbrev pub outlines : FontBodies → List (List ℕ) → Result (List (List Segment)) Fault
 outlines m [] = Ok []
 outlines m (name ∷ names) =
     told_at (places.Glyph name) (outline m name) >>= (λ segments. outlines m names >>= (λ rest. Ok (segments ∷ rest)))
 
--- the first fault of glyphs is that of their outlines, and without a fault the outlines are theirs
+-- profile: the first fault of glyphs is that of their outlines, and without a fault the outlines are theirs
 abbrev pub OutlinesLaw : Type 0
 OutlinesLaw = (m : FontBodies) (names : List (List ℕ)) → (glyphs m names >>= (λ gs. Ok (map (λ g. g.outline) gs))) ≡ outlines m names
 
--- the first fault of the bodies of a source is the first over its Subrs, then over its glyphs
+-- profile: the first fault of the bodies of a source is the first over its Subrs, then over its glyphs
 abbrev pub SubrsFirstLaw : Type 0
 SubrsFirstLaw = (s : SourceParts) → IsWellFormed s
     → bodies_check s.items ≡ (bodies_check (filter is_subr_entry s.items) >>= (λ checked. bodies_check (filter is_glyph_entry s.items)))
 
--- a source whose file has no fault is read from its text as it was
+-- profile: a source whose file has no fault is read from its text as it was
 abbrev pub ReadsBackLaw : Type 0
 ReadsBackLaw = (s : SourceParts) → IsWellFormed s → file_check s ≡ Ok tt → reads (text s) ≡ Ok s

@@ -1,4 +1,4 @@
--- What is told of a font's glyphs.
+-- What is reported of a font's glyphs.
 use Rattle.std.specs.Prelude.{ℕ, List, map, Option, Result, Ok}
 use Rattle.t1_frac.specs.declared.fault.Code.{Code}
 use Rattle.t1_frac.specs.declared.fault.Fault.{Fault}
@@ -12,7 +12,7 @@ use Rattle.t1_font.specs.declared.glyph_metrics.GlyphMetrics.{GlyphMetrics}
 use Rattle.t1_font.specs.Bodies.{bodies}
 use Rattle.t1_font.specs.Glyphs.{Glyph, glyph_of, placed_parts_of, glyphs_by, glyphs, glyph_names}
 
--- profile: what is told of a glyph: its name, width and parts, and its box where it draws
+-- profile: what is reported of a glyph: its name, width and parts, and its box where it draws
 abbrev pub glyph_metrics : Glyph → GlyphMetrics
 glyph_metrics g = record {
   name = g.name;
@@ -22,28 +22,28 @@ glyph_metrics g = record {
   bbox = drawn_box g.outline;
 }
 
--- what is told of a glyph, by what its run draws and its box
+-- profile: what is reported of a glyph, by what its run draws and its box
 abbrev pub glyph_metrics_by : List ℕ → Drawing → Option BBox → Result GlyphMetrics Code
 glyph_metrics_by name drawing box =
     placed_parts_of drawing.bearing drawing.composite >>= (λ parts.
     Ok (record { name = name; width = drawing.width; entered = drawing.entered; parts = parts; bbox = box }))
 
--- what is told of a glyph, by runs that are kept
+-- profile: what is reported of a glyph, by runs that are kept
 unfoldable pub glyph_metrics_at : (List ℕ → Option (Result Drawing Code)) → List ℕ → Result GlyphMetrics Code
 glyph_metrics_at run name =
     glyph_of name (run name) (outline_within run 4 name) >>= (λ glyph. Ok (glyph_metrics glyph))
 
--- what is told of these glyphs, by runs that are kept
+-- profile: what is reported of these glyphs, by runs that are kept
 unfoldable pub glyph_metrics_among : (List ℕ → Option (Result Drawing Code)) → List (List ℕ) → Result (List GlyphMetrics) Fault
 glyph_metrics_among run names =
     glyphs_by run (outline_within run 4) names >>= (λ glyphs. Ok (map glyph_metrics glyphs))
 
--- profile: what is told of the glyphs, in the order of their entries, and the font's box
+-- profile: what is reported of the glyphs, in the order of their entries, and the font's box
 pub record MeasuredFont : Type 0 where
   pub metrics : List GlyphMetrics
   pub font_box : BBox
 
--- the glyphs of a private part whose bodies have no fault, or their first fault
+-- profile: the glyphs of a private part whose bodies have no fault, or their first fault
 unfoldable pub measured : List Item → Result MeasuredFont Fault
 measured items =
     glyphs (bodies items) (glyph_names items) >>= (λ glyphs.

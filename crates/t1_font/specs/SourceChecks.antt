@@ -13,11 +13,11 @@ use Rattle.t1_font.specs.Assembly.{file_check}
 abbrev pub source_glyphs : SourceParts → Result (List Glyph) Fault
 source_glyphs source = file_check source >>= λ checked. glyphs (bodies source.items) (glyph_names source.items)
 
--- the first fault of a source, where it has one
+-- profile: the first fault of a source, where it has one
 abbrev pub source_check : SourceParts → Result (Unit {0}) Fault
 source_check source = source_glyphs source >>= λ glyphs. Ok tt
 
--- the usage table of a source, or its first fault
+-- profile: the usage table of a source, or its first fault
 abbrev pub source_usage : SourceParts → Result (List ℕ) Fault
 source_usage source = source_glyphs source >>= λ glyphs. Ok (usage_table (map glyph_metrics glyphs))
 
@@ -25,7 +25,7 @@ source_usage source = source_glyphs source >>= λ glyphs. Ok (usage_table (map g
 unfoldable pub measured_source : SourceParts → Result MeasuredFont Fault
 measured_source source = file_check source >>= λ checked. measured source.items
 
--- a source's first fault and its usage table, by its metrics
+-- profile: a source's first fault and its usage table, by its metrics
 pub record BySourceMetrics (s : SourceParts) : Type 0 where
   pub check : source_check s ≡ (measured_source s >>= λ metrics. Ok tt)
   pub usage : source_usage s ≡ (measured_source s >>= λ font. Ok (usage_table font.metrics))

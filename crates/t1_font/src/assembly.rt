@@ -15,8 +15,8 @@ use t1_frac::{Bytes, Refusal};
 use t1_parts::push_lines;
 use t1_source::Source;
 
-/// The text of the clear part.
-fn clear_text(alloc: Global, lines: &[Bytes]) -> Result<Vec<u8>, AllocError>
+/// The text of the clear part: its lines, each with its end.
+pub fn clear_text(alloc: Global, lines: &[Bytes]) -> Result<Vec<u8>, AllocError>
     ensures { IfOk result (λ text. text.items ≡ joined lines.now) }
 {
     let mut text = Vec::new(alloc);
@@ -30,8 +30,8 @@ const ZEROS: [[u8; 64]; 8] = [[b'0'; 64]; 8];
 /// How long they are, with their ends.
 pub(crate) const ZEROS_LEN: usize = 8 * 65;
 
-/// The text after the encrypted part: eight lines of zeros, and the tail.
-fn trailer(alloc: Global, tail: &[Bytes]) -> Result<Vec<u8>, AllocError>
+/// The text after the encrypted part: eight lines of zeros, and the lines of the tail.
+pub fn trailer(alloc: Global, tail: &[Bytes]) -> Result<Vec<u8>, AllocError>
     ensures { IfOk result (λ text. text.items ≡ trailer_text tail.now) }
 {
     let mut text = Vec::new(alloc);

@@ -127,7 +127,7 @@ fn check_length(alloc: Global, source: &Source) -> Result<(), Refusal>
 }
 
 /// The least count of ten digits.
-const TEN_DIGITS: u64 = 1_000_000_000;
+pub const TEN_DIGITS: u64 = 1_000_000_000;
 
 /// Whether the count of an item that is a section line has at most nine digits.
 fn is_counted(item: &Item) -> bool
@@ -146,8 +146,8 @@ fn are_counted(items: &[Item]) -> bool
     items.iter().all(|item| is_counted(item))
 }
 
-/// F23 where a count has more than nine digits.
-fn check_counts(items: &[Item]) -> Result<(), Refusal>
+/// F23 where the count of a section line has more than nine digits. It takes no memory.
+pub fn check_counts(items: &[Item]) -> Result<(), Refusal>
     ensures { Gives (λ x. x) result (counts_check items.now) }
 {
     if are_counted(items) {

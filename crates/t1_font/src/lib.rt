@@ -1,8 +1,9 @@
 //! A whole font: its bodies compiled, its glyphs run once each and measured, its PFB and AFM files written.
 //!
 //! [`compiled`] gives the bodies of a private part, or the first fault of one; [`checked_bodies`] also judges the length of
-//! the PFB file, as [`check_parts`] does by the length of the private text. [`measured`] runs and measures the glyphs, and [`metrics`] is what the AFM file of a source and its pairs
-//! says. [`write_source_pfb`] and [`write_source_afm`] write the files.
+//! the PFB file, as [`check_parts`] does by the length of the private text, and the counts ([`check_counts`]). [`measured`]
+//! runs and measures the glyphs, and [`metrics`] is what the AFM file of a source and its pairs says. [`write_source_pfb`] and
+//! [`write_source_afm`] write the files, whose plain parts are [`clear_text`] and [`trailer`].
 #![tactic(auto)]
 
 mod afm_file;
@@ -23,12 +24,14 @@ mod runs;
 mod usage;
 
 pub use afm_file::{afm_of_source, write_source_afm};
-pub use assembly::{pfa_of_source, pfb_of_source, write_source_pfa, write_source_pfb};
+pub use assembly::{
+    clear_text, pfa_of_source, pfb_of_source, trailer, write_source_pfa, write_source_pfb,
+};
 pub use bodies::{compiled, compiled_glyph, compiled_subr};
 pub use font_metrics::metrics;
 pub use glyph_metrics::{GlyphMetrics, PlacedParts, glyph_metrics_of, metrics_of_run};
 pub use glyphs::{MeasuredGlyphs, glyph_names, measured, measured_source};
-pub use lengths::{check_parts, checked_bodies};
+pub use lengths::{TEN_DIGITS, check_counts, check_parts, checked_bodies};
 pub use numbers::SubrNumbers;
 pub use runs::{Runs, runs_of};
 pub use usage::usage_text;

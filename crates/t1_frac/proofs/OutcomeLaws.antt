@@ -1,4 +1,4 @@
--- What stands behind an outcome that is no fault.
+-- What stands after an outcome that is no fault.
 use Rattle.std.proofs.Common.{◌≡◌, Result, Ok, Err, refl, ap}
 use Rattle.t1_frac.specs.declared.fault.Code.{Code}
 use Rattle.t1_frac.specs.declared.fault.Place.{Place}

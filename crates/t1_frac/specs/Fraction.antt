@@ -10,7 +10,7 @@ pub record Fraction : Type 0 where
   pub num : ℤ
   pub den : ℕ
 
--- Euclid's algorithm, in at most so many divisions
+-- profile, fractions: Euclid's algorithm, in at most so many divisions
 abbrev pub gcd_within : ℕ → ℕ → ℕ → ℕ
 gcd_within zero a b = a
 gcd_within (suc k) a zero = a
@@ -41,6 +41,7 @@ whole n = record { num = n; den = 1 }
 abbrev pub plus : Fraction → Fraction → Fraction
 plus a b = record { num = a.num *ℤ pos b.den +ℤ b.num *ℤ pos a.den; den = a.den * b.den }
 
+-- profile, fractions: the number with the other sign
 abbrev pub negated : Fraction → Fraction
 negated a = record { num = neg_ℤ a.num; den = a.den }
 
@@ -48,7 +49,7 @@ negated a = record { num = neg_ℤ a.num; den = a.den }
 abbrev pub minus : Fraction → Fraction → Fraction
 minus a b = plus a (negated b)
 
--- n with the sign of n / m
+-- profile, fractions: n with the sign of n / m
 abbrev pub signed_like : ℤ → ℤ → ℤ
 signed_like (pos m) n = n
 signed_like (negsuc m) n = neg_ℤ n

@@ -29,7 +29,7 @@ coordinate_difference a b = within F40 (2 ^ 20) (lowest (minus a b))
 unfoldable pub quotient : Fraction → Fraction → Result Fraction Code
 quotient a b = if unsigned_abs b.num == 0 then Err F38 else within F37 (2 ^ 31) (lowest (over a b))
 
--- within the limits of coordinates and denominators
+-- profile, limits: within the limits of coordinates and denominators
 pub record IsCoordinate (a : Fraction) : Type 0 where
   pub above : 0 < a.den
   pub fine : a.den ≤ 2 ^ 20

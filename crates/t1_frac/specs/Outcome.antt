@@ -15,23 +15,24 @@ fault_at place code = record { code = code; place = place }
 abbrev pub refusal : Code → Refusal
 refusal code = refusals.Fault (fault_at Nowhere code)
 
--- the outcome, with its fault told at this place
+-- profile, faults: the outcome, with its fault reported at this place
 abbrev pub told_at : {X : Type 0} → Place → Result X Code → Result X Fault
 told_at place (Ok x) = Ok x
 told_at place (Err code) = Err (fault_at place code)
 
 infixl 10 ◌>>=◌
--- the second step, where the first gave a value
+-- profile, faults: the second step, where the first gave a value; else the first one's fault
 abbrev pub ◌>>=◌ : {E A B : Type 0} → Result A E → (A → Result B E) → Result B E
 (Ok x) >>= f = f x
 (Err e) >>= f = Err e
 
--- a refusal is the fault that the definition gives, or want of memory
+-- profile, faults: a refusal is the fault that the definition gives, or want of memory
 abbrev pub Refuses : {Y : Type 0} → Refusal → Result Y Fault → Type 0
 Refuses refusals.Memory given = Unit {0}
 Refuses (refusals.Fault fault) given = given ≡ Err fault
 
--- a call answers what a definition gives: its value, as the view sees it, or its fault, unless memory ran out
+-- profile, faults: a call answers what a definition gives: its value, as the view sees it, or its fault, unless memory
+-- ran out
 abbrev pub Gives : {X Y : Type 0} → (X → Y) → Result X Refusal → Result Y Fault → Type 0
 Gives view (Ok x) given = given ≡ Ok (view x)
 Gives view (Err refused) given = Refuses refused given

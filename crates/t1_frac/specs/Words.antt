@@ -10,7 +10,7 @@ is_blank c = c == 0 || c == 9 || c == 12 || c == 32
 abbrev pub trimmed_front : List ℕ → List ℕ
 trimmed_front l = drop (prefix_len is_blank l) l
 
--- whether a word that has come this far goes on
+-- profile, words: whether a word that has come this far goes on
 abbrev pub word_goes_on : List ℕ → Bool
 word_goes_on [] = false
 word_goes_on (c ∷ rest) = not (is_blank c)

@@ -3,7 +3,6 @@ use Rattle.std.proofs.Common.{◌≡◌, ◌<◌, ◌+◌, ℕ, suc, Bool, true,
 use Rattle.std.specs.Prelude.{is_none}
 use Rattle.std.specs.List.{AllByRecursion, list_any}
 use Rattle.std.specs.Option.{option_map, option_or, option_to_list}
-use Rattle.t1_code.specs.declared.command.Command.{Command}
 use Rattle.t1_parts.specs.LenIV.{lead}
 use Rattle.t1_parts.specs.SourceParts.{SourceParts}
 use Rattle.t1_run.specs.Run.{FontBodies, Key, Subr, Glyph}
@@ -13,7 +12,6 @@ use Rattle.t1_charstrings.specs.declared.settling.Gone.{Gone}
 use Rattle.t1_charstrings.specs.declared.entries.Charstrings.{Charstrings}
 use Rattle.t1_charstrings.specs.declared.settling.EditedEntries.{EditedEntries}
 use Rattle.t1_charstrings.specs.Batch.{gone_key, is_gone, AreEdits, AreFresh, AreGone}
-use Rattle.t1_charstrings.specs.Changed.{Sets}
 use Rattle.t1_charstrings.specs.Entries.{Kept, encrypted, body_at as kept_body_at, key_eq as same_key}
 use Rattle.t1_charstrings.specs.Kept.{kept_at}
 use Rattle.t1_cache.specs.Overlay.{body_at}
@@ -60,26 +58,6 @@ change-first : (xs : List EntryChange) (i : ℕ) (x : EntryChange) → i < lengt
 change-first xs i x h e = rw (add-one, drop-cons xs i x) (ap (λ y. y ∷ drop (suc i) xs) (sym e))
 
 -- ---- the charstrings of changes, one after another
-
-pub none-one : (front : ℕ) (c : EntryChange) (k : Key) → c.body ≡ None → fresh_one front c k ≡ None
-none-one front c k none = by (key_eq k (key_of c.named)) where
-  by : (b : Bool) → cond b (option_map (encrypted front k) c.body) None ≡ None
-  by true = ap (option_map (encrypted front k)) none
-  by false = refl
-
-pub put-one : (front : ℕ) (c : EntryChange) (key : Key) (body : List Command) (old new : Charstrings) → key_of c.named ≡ key → c.body ≡ Some body
-    → Sets key (Some (encrypted front key body)) old new → (k : Key) → kept_at new k ≡ option_or (fresh_one front c k) (kept_at old k)
-put-one front c key body old new named has sets k = by (key_eq k (key_of c.named)) refl where
-  test : same_key k key ≡ key_eq k (key_of c.named)
-  test = key-test k key ∙ ap (key_eq k) (sym named)
-
-  by : (b : Bool) → key_eq k (key_of c.named) ≡ b → kept_at new k ≡ option_or (cond b (option_map (encrypted front k) c.body) None) (kept_at old k)
-  by true on =
-      let is : k ≡ key = key-same k (key_of c.named) on ∙ named in
-      sets k ∙ ap (λ b. cond b (Some (encrypted front key body)) (kept_at old k)) (test ∙ on)
-      ∙ ap (λ j. Some (encrypted front j body)) (sym is)
-      ∙ sym (ap (λ r. option_or (option_map (encrypted front k) r) (kept_at old k)) has)
-  by false off = sets k ∙ ap (λ b. cond b (Some (encrypted front key body)) (kept_at old k)) (test ∙ off)
 
 pub fresh-more : (front : ℕ) (changes : List EntryChange) (i : ℕ) (c : EntryChange) (old new : Charstrings) → i < length changes → c ≡ get_or changes i c
     → ((k : Key) → option_or (fresh_in front (drop i changes) k) (kept_at old k) ≡ fresh_in front changes k)

@@ -89,10 +89,6 @@ still_held old new records charstrings len s held = record {
 
 -- ---- an edit that was prepared
 
--- the file of the source has no fault
-pub held_file : (s : SourceParts) (h : Held) → IsHeld s h → file_check s ≡ Ok tt
-held_file s h held = file_checked s (right_checked s h.records held.right)
-
 -- a change makes the same source, whatever the pairs
 source-alone : (change : Change) (s : SourceParts) (k : List Pair) → (changed change s []).0 ≡ (changed change s k).0
 source-alone (changes.PutItem at item) s k = refl

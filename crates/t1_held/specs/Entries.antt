@@ -7,15 +7,15 @@ use Rattle.t1_cache.specs.Users.{key_eq, key_of}
 use Rattle.t1_rerun.specs.declared.settling.EntryChange.{EntryChange}
 use Rattle.t1_rerun.specs.Settled.{changed_keys}
 
--- the encrypted charstring of a change, at its key
+-- profile: the encrypted charstring of a change, at its key
 abbrev pub fresh_one : ℕ → EntryChange → Key → Option Kept
 fresh_one lead c k = if key_eq k (key_of c.named) then option_map (encrypted lead k) c.body else None
 
--- those of changes, of which a later one wins
+-- profile: the encrypted charstrings of changes, of which a later one wins
 abbrev pub fresh_in : ℕ → List EntryChange → Key → Option Kept
 fresh_in lead [] k = None
 fresh_in lead (c ∷ changes) k = option_or (fresh_in lead changes k) (fresh_one lead c k)
 
--- the keys of the changed entries that have no body any more
+-- profile: the keys of the changed entries that have no body any more
 abbrev pub gone_keys : List EntryChange → List Key
 gone_keys changes = changed_keys (filter (λ c. is_none c.body) changes)

@@ -21,7 +21,7 @@ use Rattle.t1_held.specs.declared.held.Held.{Held}
 use Rattle.t1_held.specs.declared.held.ReadyHeld.{ReadyHeld}
 use Rattle.t1_held.specs.Held.{IsHeld}
 
--- an edit that keeps the edit rules, and the change of the source and its pairs that was prepared for it
+-- profile: an edit that keeps the edit rules, and the change of the source and its pairs that was prepared for it
 pub record IsPreparedEdit (s : SourceParts) (k : List Pair) (edit : Edit) (change : Change) (h : Held) : Type 0 where
   pub held : IsHeld s h
   pub well : IsWellFormed s
@@ -32,15 +32,15 @@ pub record IsPreparedEdit (s : SourceParts) (k : List Pair) (edit : Edit) (chang
 abbrev pub commit_runs : List Key → SourceParts → SourceParts → ℕ
 commit_runs ks old new = runs_where (file_check new) (stale old ks new)
 
--- the edited source has no fault, each glyph that edits at these keys make stale was run after this count, and all that is to be
--- kept of the edited source is there
+-- profile: the edited source has no fault, each glyph that edits at these keys make stale was run after this count, and
+-- all that is to be kept of the edited source is there
 pub record IsReadyHeld (count : ℕ) (ks : List Key) (s made : SourceParts) (h : Held) (ready : ReadyHeld) : Type 0 where
   pub changes : List EntryChange
   pub same : (k : Key) → list_any (key_eq k) (changed_keys changes) ≡ list_any (key_eq k) ks
   pub records : IsReadyFor count changes s made h.records ready.records
   pub lines : IsReadyLines made h.charstrings ready.lines
 
--- there are such edits and such sources
+-- profile: there are such edits and such sources
 pub record MayBeSettled (h : Held) (ready : ReadyHeld) : Type 0 where
   pub count : ℕ
   pub keys : List Key

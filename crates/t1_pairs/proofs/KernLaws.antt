@@ -13,10 +13,6 @@ use Rattle.t1_text.proofs.TextLaws.{lines_joined}
 use Rattle.t1_text.proofs.NumberLaws.{Spells, decimal_spells, spelled}
 use Rattle.t1_pairs.proofs.PutLaws.{put_last}
 
-or_parts : (x y : Bool) → (x || y) ≡ false → (x ≡ false) × (y ≡ false)
-or_parts true y h = cc
-or_parts false y h = (refl, h)
-
 -- a byte that no blank, and one that ends no line
 abbrev pub is_dark : ℕ → Bool
 is_dark c = not (is_blank c)
@@ -44,7 +40,7 @@ high_line : (l : List ℕ) → are_high l ≡ true → is_line l ≡ true
 high_line [] h = refl
 high_line (c ∷ l) h = let parts = and_parts _ _ h in and_from _ _ (high_stays c parts.0) (high_line l parts.1)
 
--- a word of such bytes, and a blank behind it
+-- a word of such bytes, and a blank after it
 word_before : (c : ℕ) (w rest : List ℕ) → are_high (c ∷ w) ≡ true → words (c ∷ w ++ 32 ∷ rest) ≡ (c ∷ w) ∷ words rest
 word_before c [] rest h = let on = not-true _ (high_dark c (and_parts _ _ h).0) in rw on refl
 word_before c (d ∷ w) rest h =

@@ -37,10 +37,6 @@ none_step qs n l ls e = rw e (after_none qs (pairs_from (n + 1) ls))
 pub pairs_fault : (qs : List Pair) (n : ℕ) (l : List ℕ) (ls : List (List ℕ)) (f : Fault) → told_at (Line n) (line_pairs (words l)) ≡ Err f → pairs_with qs n (l ∷ ls) ≡ Err f
 pairs_fault qs n l ls f e = rw e refl
 
--- an entry of the map of pairs
-abbrev pub Entry : Type 0 → Type 0 → Type 0
-Entry A B = (Vec ℕ A × Vec ℕ B) × ℤ
-
 abbrev pub pair_of_entry : {A B : Type 0} → (Vec ℕ A × Vec ℕ B) × ℤ → Pair
 pair_of_entry e = record { left = e.0.0.items; right = e.0.1.items; value = e.1 }
 

@@ -32,11 +32,11 @@ less Less h = refl
 less Equal h = cc
 less Greater h = cc
 
--- a pair that stands before another has it behind it
+-- a pair that stands before another has it after it
 pub turned : (p q : Pair) → precedes q p ≡ true → pair_cmp p q ≡ Greater
 turned p q h = pair_total.antisymm p q ∙ ap ordering_reverse (less (pair_cmp q p) h)
 
--- a pair behind all others is put last
+-- a pair after all others is put last
 pub put_last : (p : Pair) (qs : List Pair) → list_all (λ q. precedes q p) qs ≡ true → put_pair p qs ≡ qs ++ p ∷ []
 put_last p [] h = refl
 put_last p (q ∷ qs) h =
@@ -62,7 +62,7 @@ put_keeps test p a b (q ∷ qs) h =
     let parts = and_parts _ _ h in
     keeps_step test p q qs (put_pair p qs) (pair_cmp p q) a (b q parts.0) parts.0 parts.1 (put_keeps test p a b qs parts.1)
 
--- what stands behind a pair stands behind one before it
+-- what stands after a pair stands after one before it
 all_behind : (p q : Pair) → pair_cmp p q ≡ Less → (rs : List Pair) → list_all (precedes q) rs ≡ true → list_all (precedes p) rs ≡ true
 all_behind p q h [] k = refl
 all_behind p q h (r ∷ rs) k =

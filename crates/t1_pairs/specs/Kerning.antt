@@ -23,7 +23,7 @@ kerning_value [] = None
 kerning_value (c ∷ ds) =
     if c == 45 then option_map (λ n. neg_ℤ (pos n)) (up_to 32000 (decimal_of ds)) else option_map pos (up_to 32000 (decimal_of (c ∷ ds)))
 
--- the pair of two names, where they are names
+-- profile, kerning files: the pair of two names, where they are names
 abbrev pub pair_of : List ℕ → List ℕ → Option ℤ → Option Pair
 pair_of left right None = None
 pair_of left right (Some v) = if is_name left && is_name right then Some (record { left = left; right = right; value = v }) else None
@@ -49,11 +49,11 @@ abbrev pub pairs_from : ℕ → List (List ℕ) → Result (List Pair) Fault
 pairs_from n [] = Ok []
 pairs_from n (l ∷ ls) = told_at (Line n) (line_pairs (words l)) >>= λ ps. pairs_from (n + 1) ls >>= λ more. Ok (ps ++ more)
 
--- the order of two pairs by the bytes of the left, then the right name
+-- profile, kerning files: the order of two pairs by the bytes of the left, then the right name
 abbrev pub pair_cmp : Pair → Pair → Ordering
 pair_cmp p q = ordering_then (slice_cmp nat_cmp p.left q.left) (slice_cmp nat_cmp p.right q.right)
 
--- the list with the pair in its place, where it replaces one of the same names
+-- profile, kerning files: the list with the pair in its place, where it replaces one of the same names
 abbrev pub put_pair : Pair → List Pair → List Pair
 put_pair p [] = p ∷ []
 put_pair p (q ∷ qs) = match_ordering (pair_cmp p q) (p ∷ q ∷ qs) (record { left = q.left; right = q.right; value = p.value } ∷ qs) (q ∷ put_pair p qs)
@@ -62,7 +62,7 @@ put_pair p (q ∷ qs) = match_ordering (pair_cmp p q) (p ∷ q ∷ qs) (record {
 abbrev pub put_all_pairs : List Pair → List Pair → List Pair
 put_all_pairs qs ps = fold (λ qs p. put_pair p qs) qs ps
 
--- these pairs, with those of the lines from number n on, or the first fault
+-- profile, kerning files: these pairs, with those of the lines from number n on, or the first fault
 abbrev pub pairs_with : List Pair → ℕ → List (List ℕ) → Result (List Pair) Fault
 pairs_with qs n ls = pairs_from n ls >>= λ ps. Ok (put_all_pairs qs ps)
 
@@ -86,15 +86,15 @@ is_kerning_value v = int_le (negsuc 31999) v && int_le v (pos 32000)
 abbrev pub is_kerning_pair : Pair → Bool
 is_kerning_pair p = is_name p.left && is_name p.right && is_kerning_value p.value
 
--- whether a pair has these names
+-- profile, kerning files: whether a pair has these names
 abbrev pub is_pair : List ℕ → List ℕ → Pair → Bool
 is_pair left right p = bytes_eq left p.left && bytes_eq right p.right
 
--- whether a pair stands before another in printed order
+-- profile, kerning files: whether a pair stands before another in printed order
 abbrev pub precedes : Pair → Pair → Bool
 precedes p q = is_lt (pair_cmp p q)
 
--- whether the pairs are in printed order, each once
+-- profile, kerning files: whether the pairs are in printed order, each once
 abbrev pub are_ordered : List Pair → Bool
 are_ordered [] = true
 are_ordered (p ∷ ps) = list_all (precedes p) ps && are_ordered ps

@@ -18,7 +18,7 @@ or_parts false y h = (refl, h)
 unblank : (c : ℕ) → is_word_byte c ≡ true → is_blank c ≡ false
 unblank c h = not-true _ (and_parts _ _ h).0
 
--- a word, and a blank behind it
+-- a word, and a blank after it
 word_before : (c : ℕ) (w rest : List ℕ) → list_all is_word_byte (c ∷ w) ≡ true → words (c ∷ w ++ 32 ∷ rest) ≡ (c ∷ w) ∷ words rest
 word_before c [] rest h = let on = unblank c (and_parts _ _ h).0 in rw on refl
 word_before c (d ∷ w) rest h =

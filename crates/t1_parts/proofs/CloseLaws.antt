@@ -26,7 +26,7 @@ front_more c z (d ∷ x) y e =
       | inr word ↦ let here : d ∷ x ≡ c ∷ z = rw word at e in rw word (ap (λ t. t ++ y) here)
     ]
 
--- a byte that is no blank stays, and what is behind it
+-- a byte that is no blank stays, and what is after it
 front_past : (d : ℕ) (x y : List ℕ) → is_blank d ≡ false → trimmed_front (x ++ d ∷ y) ≡ trimmed_front x ++ d ∷ y
 front_past d [] y h = rw h refl
 front_past d (c ∷ x) y h =

@@ -19,7 +19,7 @@ use Rattle.t1_parts.proofs.BodyLaws.{printed_body}
 abbrev pub are_regular : List ℕ → Bool
 are_regular l = list_all is_regular l
 
--- a token of such bytes, and a blank behind it
+-- a token of such bytes, and a blank after it
 pub run_before : (c : ℕ) (w rest : List ℕ) → are_regular (c ∷ w) ≡ true → tokens (c ∷ w ++ 32 ∷ rest) ≡ (c ∷ w) ∷ tokens rest
 run_before c [] rest h = regular_first c (32 ∷ rest) (and_parts _ _ h).0
 run_before c (d ∷ w) rest h =

@@ -5,7 +5,7 @@ use Rattle.t1_text.specs.Lines.{joined}
 use Rattle.t1_text.specs.Names.{is_number_word}
 use Rattle.t1_parts.specs.Printing.{body_line, word_groups}
 
--- the groups behind a word that ends none: the rest of its line, and the lines after it
+-- the groups after a word that ends none: the rest of its line, and the lines after it
 abbrev pub behind : List (List (List ℕ)) → List ℕ
 behind [] = 10 ∷ []
 behind ([] ∷ gs) = 10 ∷ joined (map body_line gs)

@@ -1,15 +1,17 @@
 -- Sets of keys beside a list of items that grows.
-use Rattle.std.proofs.Common.{◌≡◌, ℕ, Bool, true, false, ◌||◌, ◌==◌, List, [], ◌∷◌, ◌++◌, refl, sym, ◌∙◌, ap, arith}
+use Rattle.std.proofs.Common.{◌≡◌, ℕ, Bool, true, false, ◌||◌, ◌==◌, List, [], ◌∷◌, ◌++◌, refl, sym, ◌∙◌, ap, arith, inl, inr}
 use Rattle.std.specs.List.{list_any}
 use Rattle.std.specs.Ordering.{nat_cmp, is_eq, match_ordering}
 use Rattle.std.specs.BTreeSet.{insert_key}
 use Rattle.std.specs.Cmp.{nat_cmp_total, alike_right}
-use Rattle.std.specs.Cmp.Lexicographic.{slice_cmp, nat_list_cmp_total}
+use Rattle.std.specs.Str.{bytes_eq}
 use Rattle.std.specs.declared.cmp.Ordering.{Ordering}
 use Rattle.std.specs.declared.cmp.Ordering.TheVariants.{Less, Equal, Greater}
 use Rattle.std.specs.declared.vec.Vec.{Vec}
+use Rattle.std.proofs.lemmas.Bool.{cases_Bool}
 use Rattle.std.proofs.lemmas.List.Folds.{list_any-append}
-use Rattle.std.proofs.lemmas.Map.Text.{is_eq-slice_cmp}
+use Rattle.std.proofs.lemmas.Slice.Eq.{bytes_eq-Decides}
+use Rattle.indexmap.specs.IndexSet.{insert_key as put_in}
 use Rattle.t1_parts.specs.declared.item.Item.{Item}
 use Rattle.t1_parts.specs.declared.item.Item.TheVariants.{Subr, Glyph}
 use Rattle.t1_parts.specs.Entries.{NumberedItem, has, is_subr, is_glyph}
@@ -42,7 +44,7 @@ any_put t k x xs more Less alike e = comes_last (t k) (list_any t (x ∷ xs))
 any_put t k x xs more Equal alike e = rw (alike refl) (stays (t x) (list_any t xs))
 any_put t k x xs more Greater alike e = rw e (goes_in (t x) (list_any t xs) (t k))
 
--- a test that doesn't tell equal keys apart, on the keys and a further one
+-- a test that equal keys pass alike, on the keys and a further one
 pub any_insert : {K : Type 0} (cmp : K → K → Ordering) (t : K → Bool) (k : K) → ((x : K) → cmp k x ≡ Equal → t k ≡ t x) → (ks : List K)
     → list_any t (insert_key cmp ks k) ≡ (list_any t ks || t k)
 any_insert cmp t k alike [] = or_false (t k)
@@ -65,15 +67,32 @@ more_numbers ks new items n k ws closing item is keys h m =
     ∙ ap (λ b. has (is_subr m) items || b) (equal_numbers m k ∙ sym (ap (is_subr m) is))
     ∙ sym (has_more (is_subr m) items n item)
 
+-- a name that is put in is among the names
+name-inserted : {A : Type 0} (g : List ℕ) (k : Vec ℕ A) (ks : List (Vec ℕ A))
+    → list_any (λ x. bytes_eq g x.items) (put_in (λ x y. bytes_eq x.items y.items) ks k) ≡ (list_any (λ x. bytes_eq g x.items) ks || bytes_eq g k.items)
+name-inserted g k ks =
+    elim (cases_Bool (list_any (λ x. bytes_eq k.items x.items) ks)) [
+      | inl there ↦
+          rw there
+          (elim (cases_Bool (bytes_eq g k.items)) [
+            | inl same ↦ rw (same, (bytes_eq-Decides g k.items).0 same, there) refl
+            | inr other ↦ rw other (sym (or_false (list_any (λ x. bytes_eq g x.items) ks)))
+          ])
+      | inr absent ↦
+          rw absent (
+          list_any-append (λ x. bytes_eq g x.items) ks (k ∷ [])
+          ∙ ap (λ b. list_any (λ x. bytes_eq g x.items) ks || b) (or_false (bytes_eq g k.items)))
+    ]
+
 -- the names, with that of a further glyph
 pub more_names : {A : Type 0} (ks new : List (Vec ℕ A)) (items : List NumberedItem) (n : ℕ) (k : Vec ℕ A) (g : List ℕ) (ws : List (List ℕ)) (closing : List ℕ) (item : Item)
-    → k.items ≡ g → item ≡ Glyph g ws closing → new ≡ insert_key (λ x y. slice_cmp nat_cmp x.items y.items) ks k
+    → k.items ≡ g → item ≡ Glyph g ws closing → new ≡ put_in (λ x y. bytes_eq x.items y.items) ks k
     → HasNames ks items → HasNames new (items ++ (n, item) ∷ [])
 more_names ks new items n k g ws closing item named is keys h m =
-    ap (list_any (λ x. is_eq (slice_cmp nat_cmp m x.items))) keys
-    ∙ any_insert (λ x y. slice_cmp nat_cmp x.items y.items) (λ x. is_eq (slice_cmp nat_cmp m x.items)) k (λ x e. ap is_eq (alike_right nat_list_cmp_total k.items x.items m e)) ks
-    ∙ ap (λ b. b || is_eq (slice_cmp nat_cmp m k.items)) (h m)
-    ∙ ap (λ b. has (is_glyph m) items || b) (ap (λ l. is_eq (slice_cmp nat_cmp m l)) named ∙ is_eq-slice_cmp m g ∙ sym (ap (is_glyph m) is))
+    ap (list_any (λ x. bytes_eq m x.items)) keys
+    ∙ name-inserted m k ks
+    ∙ ap (λ b. b || bytes_eq m k.items) (h m)
+    ∙ ap (λ b. has (is_glyph m) items || b) (ap (bytes_eq m) named ∙ sym (ap (is_glyph m) is))
     ∙ sym (has_more (is_glyph m) items n item)
 
 -- an item that is of no kind
@@ -91,4 +110,4 @@ same_numbers ks new items n item none keys h m =
 
 pub same_names : {A : Type 0} (ks new : List (Vec ℕ A)) (items : List NumberedItem) (n : ℕ) (item : Item) → ((g : List ℕ) → is_glyph g item ≡ false) → new ≡ ks → HasNames ks items → HasNames new (items ++ (n, item) ∷ [])
 same_names ks new items n item none keys h g =
-    ap (list_any (λ x. is_eq (slice_cmp nat_cmp g x.items))) keys ∙ h g ∙ same_has (is_glyph g) items n item (none g)
+    ap (list_any (λ x. bytes_eq g x.items)) keys ∙ h g ∙ same_has (is_glyph g) items n item (none g)

@@ -74,7 +74,7 @@ no_count_between : (x y : Bool) → (x && false && y) ≡ false
 no_count_between true y = refl
 no_count_between false y = refl
 
--- what is found behind a token at which nothing stands in a row
+-- what is found after a token at which nothing stands in a row
 matched_later : (key word : List ℕ) (a n b : ℕ × List ℕ) (more : List (ℕ × List ℕ)) (m : ℕ × List ℕ) → is_count key ≡ false → in_row key word a.1 n.1 b.1 ≡ false
     → (front : List (ℕ × List ℕ)) (before after : ℕ × List ℕ) (back : List (ℕ × List ℕ)) → n ∷ b ∷ more ≡ front ++ (before ∷ m ∷ after ∷ back) → before.1 ≡ key
     → (x w : ℕ × List ℕ) (us : List (ℕ × List ℕ)) → count_between key word (front ++ (before ∷ x ∷ w ∷ us)) ≡ Some x → count_between key word (a ∷ (front ++ (before ∷ x ∷ w ∷ us))) ≡ Some x
@@ -156,10 +156,6 @@ not_text ds text h plain =
     apart : (b : Bool) → b ≡ true → b ≡ false → ⊥
     apart b x y = cc
 
-pub and_false : (x : Bool) → (x && false) ≡ false
-and_false true = refl
-and_false false = refl
-
 -- another count changes nothing of what else stands in a row
 pub among_other : (key word : List ℕ) (ts us : List (List ℕ)) (d e : List ℕ) → is_count key ≡ false → is_count word ≡ false → is_count d ≡ true → is_count e ≡ true
     → among key word (ts ++ d ∷ us) ≡ among key word (ts ++ e ∷ us)
@@ -184,7 +180,7 @@ pub record CountPlace (key word l : List ℕ) (m : ℕ × List ℕ) : Type 0 whe
   pub front : List (List ℕ)
   pub tokens : (es : List ℕ) → is_count es ≡ true → tokens (before ++ (es ++ after)) ≡ front ++ es ∷ tokens after
 
--- a count found by the tokens around it, wherever those behind it stand
+-- a count found by the tokens around it, wherever those after it stand
 found_with : (key word : List ℕ) (ps : List (ℕ × List ℕ)) (m n : ℕ × List ℕ) (r : Matched key word ps m) (us : List (ℕ × List ℕ)) → is_count n.1 ≡ true → bare (r.after ∷ r.back) ≡ bare us
     → count_between key word ((r.front ++ r.before ∷ []) ++ n ∷ us) ≡ Some n
 found_with key word ps m n r [] counted e = cc

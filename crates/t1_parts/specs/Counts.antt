@@ -10,6 +10,7 @@ subrs_needed [] = 0
 subrs_needed (Subr n ws closing ∷ items) = max (n + 1) (subrs_needed items)
 subrs_needed (_ ∷ items) = subrs_needed items
 
+-- profile, sections: whether an item is a glyph
 abbrev pub is_glyph_entry : Item → Bool
 is_glyph_entry (Glyph g ws closing) = true
 is_glyph_entry _ = false
@@ -18,7 +19,7 @@ is_glyph_entry _ = false
 abbrev pub glyphs_needed : List Item → ℕ
 glyphs_needed items = count_by is_glyph_entry items
 
--- a section line with its count raised to what is needed
+-- profile, sections: a section line with its count raised to what is needed
 abbrev pub raised_item : ℕ → ℕ → Item → Item
 raised_item subrs glyphs (Section before n after) =
     Section before (max n (if is_glyphs_line (Section before n after) then glyphs else subrs)) after

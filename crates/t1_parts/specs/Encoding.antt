@@ -9,7 +9,7 @@ use Rattle.t1_frac.specs.Outcome.{fault_at, ◌>>=◌}
 use Rattle.t1_text.specs.Tokens.{tokens, first_is, last_is}
 use Rattle.t1_text.specs.Names.{decimal_of, up_to, name_of_token}
 
--- octal digits, the highest first, as a number
+-- profile, encoding: octal digits, the highest first, as a number
 abbrev pub octal_of : List ℕ → Option ℕ
 octal_of [] = None
 octal_of (d ∷ ds) =
@@ -19,7 +19,7 @@ octal_of (d ∷ ds) =
 abbrev pub radix_of : List ℕ → Option ℕ
 radix_of t = if bytes_eq (take 2 t) (codes "8#") then octal_of (drop 2 t) else None
 
--- the first of two values that is there
+-- profile: the first of two values that is there
 abbrev pub or_else : {X : Type 0} → Option X → Option X → Option X
 or_else None o = o
 or_else (Some x) o = Some x
@@ -28,7 +28,7 @@ or_else (Some x) o = Some x
 abbrev pub code_of_token : List ℕ → Option ℕ
 code_of_token t = up_to 255 (or_else (decimal_of t) (radix_of t))
 
--- both values
+-- profile: both values, where both are there
 abbrev pub both : {X Y : Type 0} → Option X → Option Y → Option (X × Y)
 both (Some x) (Some y) = Some (x, y)
 both _ _ = None
@@ -61,7 +61,7 @@ ends_array l = last_is (codes "def") (tokens l)
 abbrev pub is_bad_slot : List (List ℕ) → Bool
 is_bad_slot ts = first_is (codes "dup") ts && is_none (slot_of_tokens ts)
 
--- the lines from the one that opens the encoding
+-- profile, encoding: the lines from the one that opens the encoding
 abbrev pub from_encoding : List (List ℕ) → List (List ℕ)
 from_encoding clear = drop (position_or_len opens_encoding clear) clear
 
@@ -88,12 +88,12 @@ later_check n in_array l =
     else if nat_le 1 in_array && is_bad_slot (tokens l) then Err (fault_at (Line n) F6)
     else Ok tt
 
--- the first fault of the lines after the opening one, of which the first in_array are the array's
+-- profile, encoding: the first fault of the lines after the opening one, of which the first in_array are the array's
 abbrev pub later_checks : ℕ → ℕ → List (List ℕ) → Result (Unit {0}) Fault
 later_checks n in_array [] = Ok tt
 later_checks n in_array (l ∷ more) = later_check n in_array l >>= λ fine. later_checks (n + 1) (in_array - 1) more
 
--- the first fault of the lines from the one that opens the encoding; a missing one has no place
+-- profile, encoding: the first fault of the lines from the one that opens the encoding; a missing one has no place
 abbrev pub encoding_check : ℕ → List (List ℕ) → Result (Unit {0}) Fault
 encoding_check n [] = Err (fault_at Nowhere F5)
 encoding_check n (opening ∷ later) =

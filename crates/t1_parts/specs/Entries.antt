@@ -14,6 +14,7 @@ use Rattle.t1_text.specs.Tokens.{uncommented}
 use Rattle.t1_text.specs.Delimiters.{is_brace, is_safe}
 use Rattle.t1_text.specs.Names.{decimal_of, up_to, name_of_token}
 
+-- profile, entries: a byte of a word: no blank, no brace and no `%`
 abbrev pub is_word_byte : ℕ → Bool
 is_word_byte c = not (is_blank c) && is_safe c
 
@@ -22,15 +23,15 @@ abbrev pub is_word : List ℕ → Bool
 is_word [] = false
 is_word (c ∷ rest) = list_all is_word_byte (c ∷ rest)
 
--- whether the line has a brace outside its comment
+-- profile, entries: whether a line has a brace outside its comment
 abbrev pub has_brace : List ℕ → Bool
 has_brace l = list_any is_brace (uncommented l)
 
--- whether the first brace of the line is `}`
+-- profile, entries: whether the first brace of a line is `}`
 abbrev pub closes : List ℕ → Bool
 closes l = slice_index l (position_or_len is_brace l) == 125
 
--- a body before whose end these words stand on so many lines
+-- profile, entries: a body with these words in front, on so many lines more
 abbrev pub with_front : List (List ℕ) → ℕ → Option EntryBody → Option EntryBody
 with_front ws n None = None
 with_front ws n (Some b) = Some (record { words = ws ++ b.words; closing = b.closing; more = n + b.more })
@@ -44,7 +45,7 @@ body_of (l ∷ ls) =
     (if closes l then Some (record { words = words (before_first is_brace l); closing = trimmed (after_first is_brace l); more = 0 }) else None)
     else with_front (words (uncommented l)) 1 (body_of ls)
 
--- the body that opens on the first of these lines
+-- profile, entries: the body that opens on the first of these lines
 abbrev pub opened_body : List ℕ → List (List ℕ) → Option EntryBody
 opened_body l ls = body_of (after_first (λ c. c == 123) l ∷ ls)
 
@@ -58,29 +59,29 @@ abbrev pub opens_glyph : List (List ℕ) → Option (List ℕ)
 opens_glyph (name ∷ brace ∷ more) = if begins_with 47 name && bytes_eq brace (codes "{") then Some name else None
 opens_glyph _ = None
 
--- whether an item is the Subr of this number
+-- profile, entries: whether an item is the Subr of this number
 abbrev pub is_subr : ℕ → Item → Bool
 is_subr n (Subr m ws closing) = n == m
 is_subr n _ = false
 
--- whether an item is the glyph of this name
+-- profile, entries: whether an item is the glyph of this name
 abbrev pub is_glyph : List ℕ → Item → Bool
 is_glyph g (Glyph h ws closing) = bytes_eq g h
 is_glyph g _ = false
 
--- an item, and how many lines it takes after its first
+-- profile, entries: an item, and how many lines it takes after its first
 abbrev pub Taken : Type 0
 Taken = Item × ℕ
 
--- an item and the number of its first line
+-- profile, entries: an item and the number of its first line
 abbrev pub NumberedItem : Type 0
 NumberedItem = ℕ × Item
 
--- whether one of the items passes the test
+-- profile, entries: whether one of the items passes the test
 abbrev pub has : (Item → Bool) → List NumberedItem → Bool
 has test items = list_any (λ i. test i.1) items
 
--- the entry with this body
+-- profile, entries: the entry with this body
 abbrev pub entry_of : (List (List ℕ) → List ℕ → Item) → EntryBody → Taken
 entry_of entry b = (entry b.words b.closing, b.more)
 

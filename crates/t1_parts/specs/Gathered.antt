@@ -2,14 +2,14 @@
 use Rattle.std.specs.Prelude.{◌≡◌, ℕ, List}
 use Rattle.std.specs.List.{list_any}
 use Rattle.std.specs.Ordering.{nat_cmp, is_eq}
-use Rattle.std.specs.Cmp.Lexicographic.{slice_cmp}
+use Rattle.std.specs.Str.{bytes_eq}
 use Rattle.std.specs.declared.vec.Vec.{Vec}
 use Rattle.t1_parts.specs.Entries.{NumberedItem, has, is_subr, is_glyph}
 
--- the numbers are those of the Subrs among the items
+-- profile: the numbers are those of the Subrs among the items
 abbrev pub HasNumbers : List ℕ → List NumberedItem → Type 0
 HasNumbers numbers items = (n : ℕ) → list_any (λ k. is_eq (nat_cmp n k)) numbers ≡ has (is_subr n) items
 
--- the names are those of the glyphs among the items
+-- profile: the names are those of the glyphs among the items
 abbrev pub HasNames : {A : Type 0} → List (Vec ℕ A) → List NumberedItem → Type 0
-HasNames names items = (g : List ℕ) → list_any (λ k. is_eq (slice_cmp nat_cmp g k.items)) names ≡ has (is_glyph g) items
+HasNames names items = (g : List ℕ) → list_any (λ k. bytes_eq g k.items) names ≡ has (is_glyph g) items

@@ -9,12 +9,12 @@ use Rattle.t1_text.specs.Tokens.{tokens, first_token, goes_on}
 use Rattle.t1_text.specs.Names.{name_of_token}
 use Rattle.t1_parts.specs.Encoding.{or_else}
 
--- the list, where it isn't empty
+-- profile, header keys: a value, where it isn't empty
 abbrev pub not_empty : List ℕ → Option (List ℕ)
 not_empty [] = None
 not_empty (c ∷ cs) = Some (c ∷ cs)
 
--- how many parentheses are open after a byte, which counts for nothing behind a backslash
+-- profile, header keys: how many parentheses are open past a byte, which counts for nothing after a backslash
 abbrev pub open_after : Bool → ℕ → ℕ → ℕ
 open_after escaped depth c = if escaped then depth else if c == 40 then depth + 1 else if c == 41 then depth - 1 else depth
 
@@ -67,5 +67,6 @@ header_among clear key =
     else if list_any (bytes_eq key) token_keys then option_and_then token_value (keyed key clear)
     else None
 
+-- profile, header keys: the value of a key in the clear part of a source
 abbrev pub header : SourceParts → List ℕ → Option (List ℕ)
 header s key = header_among s.clear key

@@ -11,12 +11,12 @@ use Rattle.t1_text.specs.Tokens.{tokens, after_token}
 use Rattle.t1_text.specs.Names.{decimal_of, up_to}
 use Rattle.t1_parts.specs.Entries.{NumberedItem}
 
--- a plain line of the private part
+-- profile, lenIV: a plain line of the private part
 abbrev pub plain_line : Item → Option (List ℕ)
 plain_line (Plain l) = Some l
 plain_line _ = None
 
--- what an item says of lenIV: the token after `/lenIV` on a plain line, or that there is none
+-- profile, lenIV: what an item says of lenIV: the token after `/lenIV` on a plain line, or that there is none
 abbrev pub said_lead : Item → Option (Option (List ℕ))
 said_lead i = option_and_then (λ l. after_token (codes "/lenIV") (tokens l)) (plain_line i)
 
@@ -24,7 +24,7 @@ said_lead i = option_and_then (λ l. after_token (codes "/lenIV") (tokens l)) (p
 abbrev pub lead_of_token : Option (List ℕ) → Option ℕ
 lead_of_token t = up_to 64 (option_and_then decimal_of t)
 
--- what an item says of lenIV, with its line
+-- profile, lenIV: what an item says of lenIV, with its line
 abbrev pub says_lead : NumberedItem → Option (ℕ × Option (List ℕ))
 says_lead i = option_map (λ t. (i.0, t)) (said_lead i.1)
 
@@ -33,10 +33,12 @@ abbrev pub lead_check : List (ℕ × Option (List ℕ)) → Result ℕ Fault
 lead_check [] = Ok 4
 lead_check (said ∷ more) = ok_or (lead_of_token said.1) (fault_at (Line said.0) F11)
 
+-- profile, lenIV: the first that is said decides; 4 where none is, or where it isn't a number from 0 to 64
 abbrev pub first_lead : List (Option (List ℕ)) → ℕ
 first_lead [] = 4
 first_lead (t ∷ ts) = unwrap_or (lead_of_token t) 4
 
+-- profile, lenIV: the number that these items say, 4 where none does
 abbrev pub lead_among : List Item → ℕ
 lead_among items = first_lead (filter_map said_lead items)
 

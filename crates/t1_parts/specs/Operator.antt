@@ -9,12 +9,12 @@ use Rattle.t1_text.specs.Names.{name_of_token}
 use Rattle.t1_parts.specs.Parts.{holds}
 use Rattle.t1_parts.specs.LenIV.{plain_line}
 
--- where a text first stands, or the length
+-- profile, reading operator: where a text first stands, or the length
 abbrev pub text_place : List ℕ → List ℕ → ℕ
 text_place text [] = 0
 text_place text (c ∷ rest) = if starts_with (λ x y. x == y) (c ∷ rest) text then 0 else 1 + text_place text rest
 
--- the name of a token `/NAME` that ends at this place or before it
+-- profile, reading operator: the name of a token `/NAME` that ends at this place or before it
 abbrev pub name_within : ℕ → ℕ × List ℕ → Option (List ℕ)
 name_within end t = if nat_le (t.0 + length t.1) end then name_of_token t.1 else None
 
@@ -22,11 +22,12 @@ name_within end t = if nat_le (t.0 + length t.1) end then name_of_token t.1 else
 abbrev pub operator_on : List ℕ → Option (List ℕ)
 operator_on l = last_or None (filter_map (name_within (text_place (codes "string currentfile") l)) (places_from 0 l))
 
--- whether an item is a plain line that holds `string currentfile`
+-- profile, reading operator: whether an item is a plain line that holds `string currentfile`
 abbrev pub reads_strings : Item → Bool
 reads_strings (Plain l) = holds (codes "string currentfile") l
 reads_strings _ = false
 
+-- profile, reading operator: the one on the first such line among the items, else RD
 abbrev pub operator_among : List Item → List ℕ
 operator_among items = unwrap_or (option_and_then operator_on (option_and_then plain_line (find reads_strings items))) (codes "RD")
 

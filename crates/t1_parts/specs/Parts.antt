@@ -7,7 +7,7 @@ use Rattle.t1_frac.specs.declared.fault.Place.TheVariants.{Nowhere}
 use Rattle.t1_frac.specs.Outcome.{fault_at, ◌>>=◌}
 use Rattle.t1_text.specs.Lines.{trimmed}
 
--- whether the trimmed line ends in this text
+-- profile, parts: whether the trimmed line ends in this text
 abbrev pub ends_in : List ℕ → List ℕ → Bool
 ends_in text l = ends_with (λ x y. x == y) (trimmed l) text
 
@@ -19,7 +19,7 @@ is_eexec l = ends_in (codes "currentfile eexec") l
 abbrev pub is_closefile : List ℕ → Bool
 is_closefile l = ends_in (codes "mark currentfile closefile") l
 
--- the three parts of some lines
+-- profile, parts: the three parts of some lines
 pub record Parts : Type 0 where
   pub clear : List (List ℕ)
   pub private : List (List ℕ)
@@ -36,7 +36,7 @@ parts_of ls = do
     tail = drop (closefile + 1) (drop (eexec + 1) ls);
   })
 
--- whether the bytes hold this text
+-- profile, parts: whether the bytes hold this text
 abbrev pub holds : List ℕ → List ℕ → Bool
 holds text [] = false
 holds text (c ∷ rest) = starts_with (λ x y. x == y) (c ∷ rest) text || holds text rest

@@ -12,7 +12,7 @@ abbrev pub word_groups : List (List ℕ) → List (List (List ℕ))
 word_groups [] = []
 word_groups (w ∷ ws) = if is_number_word w then onto_first w (word_groups ws) else (w ∷ []) ∷ word_groups ws
 
--- a tab, and the words with one space between
+-- profile, printing: a tab, and the words with one space between
 abbrev pub body_line : List (List ℕ) → List ℕ
 body_line ws = 9 ∷ join_with_byte 32 ws
 
@@ -21,7 +21,7 @@ abbrev pub last_line : List ℕ → List ℕ
 last_line [] = 9 ∷ 125 ∷ []
 last_line (c ∷ closing) = 9 ∷ 125 ∷ 32 ∷ c ∷ closing
 
--- profile, printing: an entry behind its head
+-- profile, printing: the head of an entry, and the lines after it
 abbrev pub entry_lines : List ℕ → List (List ℕ) → List ℕ → List (List ℕ)
 entry_lines head ws closing = head ∷ (map body_line (word_groups ws) ++ last_line closing ∷ [])
 
@@ -32,7 +32,7 @@ item_lines (Section before n after) = (before ++ decimal n ++ after) ∷ []
 item_lines (Subr n ws closing) = entry_lines (codes "dup " ++ decimal n ++ codes " {") ws closing
 item_lines (Glyph g ws closing) = entry_lines (47 ∷ g ++ codes " {") ws closing
 
--- the lines of a source
+-- profile, printing: the lines of a source
 abbrev pub text_lines : SourceParts → List (List ℕ)
 text_lines s = s.clear ++ flat_map item_lines s.items ++ s.tail
 

@@ -18,21 +18,21 @@ line_item earlier l (Some s) None = if has is_subrs_line earlier || has is_glyph
 line_item earlier l None (Some s) = if has is_glyphs_line earlier then Err F4 else Ok (s, 0)
 line_item earlier l (Some s) (Some t) = Err F4
 
--- the section or the plain line
+-- profile, sections: the section or the plain line
 abbrev pub line_at : List NumberedItem → List ℕ → Result Taken Code
 line_at earlier l = line_item earlier l (subrs_line l) (glyphs_line l)
 
--- the Subr entry that these lines open, or the line
+-- profile, entries: the Subr entry that these lines open, or the line
 abbrev pub among_subrs : List NumberedItem → List ℕ → List (List ℕ) → Option (List ℕ) → Result Taken Code
 among_subrs earlier l ls (Some t) = subr_entry earlier t (opened_body l ls)
 among_subrs earlier l ls None = line_at earlier l
 
--- the glyph entry that these lines open, or the line
+-- profile, entries: the glyph entry that these lines open, or the line
 abbrev pub among_glyphs : List NumberedItem → List ℕ → List (List ℕ) → Option (List ℕ) → Result Taken Code
 among_glyphs earlier l ls (Some t) = glyph_entry earlier t (opened_body l ls)
 among_glyphs earlier l ls None = line_at earlier l
 
--- profile, entries: the item at the front of these lines, behind the earlier items
+-- profile, entries: the item at the front of these lines, after the earlier items
 unfoldable pub item_at : List NumberedItem → List ℕ → List (List ℕ) → Result Taken Code
 item_at earlier l ls =
     if has is_glyphs_line earlier then among_glyphs earlier l ls (opens_glyph (tokens l))

@@ -16,7 +16,7 @@ use Rattle.t1_parts.specs.Parts.{parts_of, tail_of}
 use Rattle.t1_parts.specs.Counts.{raised}
 use Rattle.t1_parts.specs.LenIV.{says_lead, lead_check}
 
--- the items without their line numbers
+-- profile, sources: the items without their line numbers
 abbrev pub unnumbered : List NumberedItem → List Item
 unnumbered items = map (λ i. i.1) items
 

@@ -14,7 +14,7 @@ count_between key word (a ∷ n ∷ []) = None
 count_between key word (a ∷ n ∷ b ∷ more) =
     if bytes_eq a.1 key && is_count n.1 && bytes_eq b.1 word then Some n else count_between key word (n ∷ b ∷ more)
 
--- the section line whose count stands there
+-- profile, sections: the section line whose count stands there
 abbrev pub section_at : List ℕ → ℕ × List ℕ → Item
 section_at l n = Section (take n.0 l) (decimal_value n.1) (drop (n.0 + length n.1) l)
 
@@ -26,12 +26,12 @@ subrs_line l = option_map (section_at l) (count_between (codes "/Subrs") (codes 
 abbrev pub glyphs_line : List ℕ → Option Item
 glyphs_line l = option_map (section_at l) (count_between (codes "/CharStrings") (codes "dict") (places_from 0 l))
 
--- whether an item is the Subrs line
+-- profile, sections: whether an item is the Subrs line
 abbrev pub is_subrs_line : Item → Bool
 is_subrs_line (Section before n after) = last_is (codes "/Subrs") (tokens before)
 is_subrs_line _ = false
 
--- whether an item is the CharStrings line
+-- profile, sections: whether an item is the CharStrings line
 abbrev pub is_glyphs_line : Item → Bool
 is_glyphs_line (Section before n after) = last_is (codes "/CharStrings") (tokens before)
 is_glyphs_line _ = false

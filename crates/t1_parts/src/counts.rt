@@ -1,13 +1,13 @@
 //! The counts on section lines.
 
-ghost use Rattle.std.specs.Prelude.{◌≡◌};
+ghost use Rattle.std.specs.Prelude.{◌≡◌, ◌≤◌, length};
 ghost use Rattle.t1_parts.specs.Counts.{subrs_needed, glyphs_needed, raised, raised_item};
 
 use crate::item::Item;
 use t1_text::last_is;
 
-/// The highest Subr number plus one.
-fn subrs_needed(items: &[Item]) -> u64
+/// What the Subrs of these items ask of the section's count: the highest number plus one, 0 where there is none.
+pub fn subrs_needed(items: &[Item]) -> u64
     ensures { result ≡ subrs_needed items.now }
 {
     let mut needed = 0;
@@ -21,9 +21,10 @@ fn subrs_needed(items: &[Item]) -> u64
     needed
 }
 
-/// The number of glyphs.
-fn glyphs_needed(items: &[Item]) -> u64
-    ensures { result ≡ glyphs_needed items.now }
+/// What the glyphs of these items ask of the section's count: their number.
+pub fn glyphs_needed(items: &[Item]) -> u64
+    ensures value { result ≡ glyphs_needed items.now }
+    ensures within { result ≤ length items.now }
 {
     let mut needed = 0;
     let mut rest = items;

@@ -7,6 +7,7 @@ ghost use Rattle.t1_parts.specs.Reading.{unnumbered};
 
 use crate::item::Item;
 use crate::sections::{is_glyphs_line, is_subrs_line};
+use indexmap::IndexSet;
 use std::alloc::{AllocError, Global};
 use std::collections::BTreeSet;
 use std::marker::Model;
@@ -19,7 +20,7 @@ pub struct Gathered {
     has_subrs_line: bool,
     has_glyphs_line: bool,
     subrs: BTreeSet<u16>,
-    glyphs: BTreeSet<Vec<u8>>,
+    glyphs: IndexSet<Vec<u8>>,
 }
 
 impl Model for Gathered {
@@ -49,7 +50,7 @@ impl Gathered {
             has_subrs_line: false,
             has_glyphs_line: false,
             subrs: BTreeSet::new(alloc),
-            glyphs: BTreeSet::new(alloc),
+            glyphs: IndexSet::new(alloc),
         }
     }
 

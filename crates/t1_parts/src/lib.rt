@@ -17,7 +17,7 @@ mod private;
 mod sections;
 
 pub use body::{EntryBody, body_of, has_brace, opened_body, uncommented};
-pub use counts::raise;
+pub use counts::{glyphs_needed, raise, subrs_needed};
 pub use encoding::{array_len, array_of, check_clear, encoding_at, has_standard, slot_of};
 pub use entries::{glyph_entry, opens_glyph, opens_subr, subr_entry};
 pub use gathered::Gathered;

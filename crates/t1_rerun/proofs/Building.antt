@@ -63,18 +63,6 @@ pub record AreInserted (was : Records) (all left : Subrs) (now : Records) : Type
   pub users : (k : Key) (u : List ℕ) → lists now k u ≡ lists was k u
   pub kept : map kept_of now.glyphs.entries ≡ map kept_of was.glyphs.entries
 
-pub none-inserted : (was : Records) (all : Subrs) → ((n : ℕ) → body_at (record_bodies was) (Subr n) ≡ None) → AreInserted was all all was
-none-inserted was all none = record {
-  subrs = λ n. ap (option_or (subr_kept all n)) (none n) ∙ or-none (subr_kept all n);
-  apart = λ n h. none n;
-  glyphs = λ g. refl;
-  users = λ k u. refl;
-  kept = refl;
-} where
-  or-none : (r : Option Body) → option_or r None ≡ r
-  or-none None = refl
-  or-none (Some b) = refl
-
 module _ (was : Records) (all left rest : Subrs) (now : Records) (k : ℕ) (b : Body) (is : left ≡ rest ++ (k, b) ∷ []) (before : AreInserted was all left now) where
   was-left : (n : ℕ) → subr_kept left n ≡ option_or (subr_kept rest n) (cond (nat_eq n k) (Some b) None)
   was-left n = ap (λ l. subr_kept l n) is ∙ subr-last rest k b n
@@ -164,10 +152,6 @@ names-last (x ∷ ks) k = ap (λ l. x.name ∷ l) (names-last ks k)
 all-last : {X : Type 0} (P : X → Type 0) (xs : List X) (x : X) → AllByRecursion P xs → P x → AllByRecursion P (xs ++ x ∷ [])
 all-last P [] x h p = (p, tt)
 all-last P (y ∷ xs) x h p = (h.0, all-last P xs x h.1 p)
-
-take-all : {X : Type 0} (xs : List X) → take (length xs) xs ≡ xs
-take-all [] = refl
-take-all (x ∷ xs) = ap (λ l. x ∷ l) (take-all xs)
 
 -- the glyphs that were measured so far have their records, and for the others runs and bodies are left
 pub record AreBuilt (was : Records) (bodies left_bodies : Glyphs) (runs left_runs : List KeptRun) (ms : List GlyphMetrics) (at : ℕ) (now : Records) : Type 0 where

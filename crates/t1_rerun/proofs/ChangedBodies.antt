@@ -40,7 +40,7 @@ use Rattle.t1_rerun.proofs.Single.{one-last}
 
 -- ---- what changes do at a key
 
--- what is behind a borrow, put behind what there was
+-- what a borrow lends, put after what there was
 pub copied-last : {X : Type 0} (r : Option (Bor X)) (b : Bool) (x : Bor X) → option_copied (option_or r (cond b (Some x) None)) ≡ option_or (option_copied r) (cond b (Some x.now) None)
 copied-last (Some y) b x = refl
 copied-last None true x = refl
@@ -50,7 +50,7 @@ copied-last None false x = refl
 pub change-first : (xs : List EntryChange) (i : ℕ) (x : EntryChange) → i < length xs → x ≡ get_or xs i x → drop i xs ≡ x ∷ drop (i + 1) xs
 change-first xs i x h e = rw (add-one, drop-cons xs i x) (ap (λ y. y ∷ drop (suc i) xs) (sym e))
 
--- the first of the changes, or else one behind it
+-- the first of the changes, or else one after it
 pub changed-first : (c : EntryChange) (changes : List EntryChange) (k : Key) → body_changed (c ∷ changes) k ≡ option_or (body_changed (c ∷ []) k) (body_changed changes k)
 changed-first c changes k = by (key_eq k (key_of c.named)) where
   by : (b : Bool) → cond b (Some c.body) (body_changed changes k) ≡ option_or (cond b (Some c.body) None) (body_changed changes k)

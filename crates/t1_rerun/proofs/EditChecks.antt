@@ -284,7 +284,7 @@ put-keys key place words c e = by (commands words) e where
       (ap (option_map (λ x. x.key)) (sym same), ap (option_map (λ x. x.body)) (sym same))
   by (Err code) e = absurd (cc)
 
--- what is told of the entry: its key is that of the edit, and its body the one after it
+-- what is said of the entry: its key is that of the edit, and its body the one after it
 abbrev Tells : Edit → Option KeyChange → Type 0
 Tells edit c = (option_map (λ x. x.key) c ≡ entry_key edit) × (option_map (λ x. x.body) c ≡ option_map (λ k. body_after edit) (entry_key edit))
 

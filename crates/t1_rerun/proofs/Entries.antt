@@ -94,9 +94,6 @@ filter-append p (x ∷ xs) ys = one (p x) (filter-append p xs ys) where
   one true e = ap (λ l. x ∷ l) e
   one false e = e
 
-among : List (List ℕ) → List ℕ → Bool
-among xs g = list_any (bytes_eq g) xs
-
 -- the same glyphs
 same-order : (xs : List (List ℕ)) → xs ≡ filter (λ g. list_any (bytes_eq g) xs) xs ++ filter (λ g. not (list_any (bytes_eq g) xs)) xs
 same-order xs =

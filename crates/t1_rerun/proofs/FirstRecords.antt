@@ -63,7 +63,7 @@ pub all-weaken : {X : Type 0} (P Q : X → Type 0) → ((x : X) → P x → Q x)
 all-weaken P Q step [] h = tt
 all-weaken P Q step (x ∷ xs) h = (step x h.0, all-weaken P Q step xs h.1)
 
--- ---- what is told of a font's glyphs
+-- ---- what is reported of a font's glyphs
 
 outline-is : (m : FontBodies) (g : List ℕ) → outline_within (own m) 4 g ≡ outline m g
 unfolding outline

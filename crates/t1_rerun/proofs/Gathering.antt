@@ -45,7 +45,7 @@ Runs = List ℕ → Option (Result Drawing Code)
 abbrev Outlines : Type 0
 Outlines = List ℕ → Result (List Segment) Code
 
--- runs and outlines that agree on these names tell the same of them
+-- runs and outlines that agree on these names say the same of them
 glyphs-same : (run run' : Runs) (o o' : Outlines) (names : List (List ℕ)) → AllByRecursion (λ g. (run g ≡ run' g) × (o g ≡ o' g)) names
     → glyphs_by run o names ≡ glyphs_by run' o' names
 glyphs-same run run' o o' [] h = refl

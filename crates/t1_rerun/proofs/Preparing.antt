@@ -1,5 +1,5 @@
 -- Changes with all that they take.
-use Rattle.std.proofs.Common.{◌≡◌, ◌≤◌, ◌<◌, ◌+◌, arith, ℕ, Bool, true, false, cond, List, [], ◌∷◌, ◌++◌, length, map, refl, sym, ◌∙◌, ap, subst, Option, Some, None, ◌⊎◌, inl, inr}
+use Rattle.std.proofs.Common.{◌≡◌, ◌≤◌, ◌+◌, arith, ℕ, Bool, true, false, cond, List, [], ◌∷◌, ◌++◌, length, map, refl, sym, ◌∙◌, ap, subst, Option, Some, None, ◌⊎◌, inl, inr}
 use Rattle.std.specs.Prelude.{◌||◌, Result, Ok, Err, IfOk}
 use Rattle.std.specs.List.{list_any}
 use Rattle.std.specs.Option.{option_map, option_or}
@@ -86,10 +86,6 @@ run-moved rest r old new g put =
     by None false c = refl
     by (Some x) b c = refl
 
-pub run-all : (left : List Rerun) (o : Option (NumberedRun × Option BBox)) (g : List ℕ) → 0 ≡ length left → option_or (new_run left g) o ≡ o
-run-all [] o g none = refl
-run-all (r ∷ left) o g none = absurd (cc)
-
 pub run-taken : (name : List ℕ) (old new : List (Vec ℕ Global × NewRun)) (g : List ℕ)
     → lookup (λ k. bytes_eq g k.items) new ≡ cond (bytes_eq name g) None (lookup (λ k. bytes_eq g k.items) old)
     → new_run (reruns_by_name new) g ≡ cond (bytes_eq name g) None (new_run (reruns_by_name old) g)
@@ -115,7 +111,7 @@ step-by run run' count records c (steps.InsertSubr n r) same is = is
 step-by run run' count records c (steps.InsertGlyph name r) same is =
     (is.0, (is.1.0, (is.1.1.0, (is.1.1.1.0, sym (same name.items is.0) ∙ is.1.1.1.1))))
 
--- the keys behind others are others
+-- the keys after others are others
 pub apart-behind : (xs : List EntryChange) (c : EntryChange) (done : List EntryChange) → AreDistinctKeys (changed_keys (xs ++ c ∷ done))
     → list_any (key_eq (key_of c.named)) (changed_keys done) ≡ false
 apart-behind [] c done d = d.0
@@ -163,9 +159,6 @@ count-next left rest c made new s n e f h =
 
 pub fewer-steps : (left rest : List Step) (s : Step) (was now : ℕ) → left ≡ rest ++ s ∷ [] → was ≤ now + 1 → length left ≤ was → length rest ≤ now
 fewer-steps left rest s was now e used fits = let a = ap length e ∙ len-last rest s in omega (arith, a, used, fits)
-
-pub some-left : (left rest : List Step) (s : Step) (was : ℕ) → left ≡ rest ++ s ∷ [] → length left ≤ was → 0 < was
-some-left left rest s was e fits = let a = ap length e ∙ len-last rest s in omega (arith, a, fits)
 
 -- ---- outcomes
 

@@ -126,7 +126,7 @@ module _ (f : List ℕ → Option (List Command)) (keys : List (Bor (List ℕ)))
 
 -- ---- glyphs in another order
 
--- what is told of each glyph
+-- what is reported of each glyph
 abbrev IsTold : Runs → Outlines → List ℕ → Type 0
 IsTold run o g = (t : Told) × (told_at (places.Glyph g) (glyph_of g (run g) (o g)) ≡ Ok t)
 
@@ -206,7 +206,7 @@ names-again run xs ys ms ns told again same g =
     measured-names g ms ∙ ap (list_any (bytes_eq g)) (measured-all run xs ms told).1 ∙ same g
     ∙ ap (list_any (bytes_eq g)) (sym (measured-all run ys ns again).1) ∙ sym (measured-names g ns)
 
--- ---- judged in an order, or told in another
+-- ---- judged in an order, or reported in another
 
 refuses-alike : (X : Type 0) (refused : Refusal) (fault : Fault) → Refuses {Y = Unit {0}} refused (Err fault) → Refuses {Y = X} refused (Err fault)
 refuses-alike X refusals.Memory fault h = tt
@@ -228,7 +228,7 @@ judged-refused (refusals.Fault fault) (Err first) (Ok ys) ok h =
     absurd (cc)
 judged-refused (refusals.Fault fault) (Err first) (Err other) ok h = h
 
--- a fault of one order, or the first of the other, is what both tell
+-- a fault of one order, or the first of the other, is what both report
 pub first-told : {X Y : Type 0} (r : Result X Fault) (s : Result Y Fault) (refusal refused : Refusal) → Refuses refusal r → FirstIn refusal s refused → Refuses refused (judged_in r s)
 first-told {X} {Y} r s refusals.Memory refused h first = subst (λ x. Refuses x (judged_in r s)) (sym first) tt
 first-told {X} {Y} r (Ok there) (refusals.Fault fault) refused h first =

@@ -1,5 +1,5 @@
 -- Records that are renewed where they are stale are those of the edited source.
-use Rattle.std.proofs.Common.{◌≡◌, ℕ, Bool, true, false, cond, List, [], ◌∷◌, ◌++◌, map, filter, not, refl, sym, ◌∙◌, ap, subst, Option, Some, None, inl, inr}
+use Rattle.std.proofs.Common.{◌≡◌, ℕ, Bool, true, false, cond, List, [], ◌∷◌, map, not, refl, sym, ◌∙◌, ap, subst, Option, Some, None, inl, inr}
 use Rattle.std.specs.Prelude.{◌||◌, ◌&&◌, Result, Ok, Err, is_some}
 use Rattle.std.specs.List.{AllByRecursion, list_any}
 use Rattle.std.specs.Str.{bytes_eq}
@@ -24,32 +24,21 @@ use Rattle.t1_cache.specs.Bodies.{record_bodies}
 use Rattle.t1_cache.specs.Edited.{is_stale, stale, IsEditedAt}
 use Rattle.t1_cache.specs.Kept.{KeepsAll, shown, shown_from}
 use Rattle.t1_cache.specs.Laws.{check}
-use Rattle.t1_cache.specs.Overlay.{body_at}
 use Rattle.t1_cache.specs.Renewal.{IsFromScratch, IsOneOf, IsRenewed}
 use Rattle.t1_cache.specs.Renewed.{Kept, kept_of, rerun_of, with_rerun, with_reruns}
-use Rattle.t1_cache.specs.Users.{has_pair, lists, wanted}
+use Rattle.t1_cache.specs.Users.{has_pair, lists}
 use Rattle.t1_cache.proofs.Drawing.{all_draw}
 use Rattle.t1_cache.proofs.Joining.{run_kept}
 use Rattle.t1_cache.proofs.Judging.{fine-told, IsFine}
 use Rattle.t1_cache.proofs.Putting.{bytes_tell}
 use Rattle.t1_cache.proofs.Renewing.{glyphs-of, renewed}
-use Rattle.t1_cache.proofs.There.{uses_there}
 use Rattle.t1_rerun.specs.declared.renewal.Renewal.{Renewal}
 use Rattle.t1_rerun.specs.Renewals.{rerun_kept, rerun_names, IsRenewal}
 use Rattle.t1_rerun.specs.Right.{has_glyph, IsRight}
 use Rattle.t1_rerun.specs.Settled.{is_moved, IsRenewedBy}
-use Rattle.t1_rerun.proofs.Meeting.{all-among, among-off, among-passing, glyph-among, none-own}
-use Rattle.t1_rerun.proofs.Steps.{and-right, some-wanted}
+use Rattle.t1_rerun.proofs.Meeting.{among-off, among-passing, glyph-among, none-own}
 
 -- ---- lists and tests
-
-or-left : (a b : Bool) → a ≡ true → (a || b) ≡ true
-or-left true b h = refl
-or-left false b h = absurd (cc)
-
-or-right : (a b : Bool) → b ≡ true → (a || b) ≡ true
-or-right true b h = refl
-or-right false b h = h
 
 all-weaken : {X : Type 0} (P Q : X → Type 0) → ((x : X) → P x → Q x) → (xs : List X) → AllByRecursion P xs → AllByRecursion Q xs
 all-weaken P Q step [] h = tt
@@ -62,10 +51,6 @@ all-at P g (x ∷ xs) all h =
       | inl same ↦ subst P (sym (bytes_tell.same g x same)) all.0
       | inr other ↦ all-at P g xs all.1 (ap (λ b. b || list_any (bytes_eq g) xs) (sym other) ∙ h)
     ]
-
--- what holds of each name that is among them holds of all
-all-names : (P : List ℕ → Type 0) (xs : List (List ℕ)) → ((x : List ℕ) → list_any (bytes_eq x) xs ≡ true → P x) → AllByRecursion P xs
-all-names P xs each = all-weaken (λ x. list_any (bytes_eq x) xs ≡ true) P each xs (all-among xs xs (λ x h. h))
 
 -- ---- which glyphs a source has
 
@@ -136,10 +121,6 @@ module _ (keys : List Key) (old : SourceParts) (reruns left : List Rerun) (kept 
           fresh = λ off. let never : true ≡ false = sym on ∙ off in absurd (cc);
         }
 
-  pub renewed-all : (xs : List Kept) → AllByRecursion (IsReady keys old reruns left kept) xs → AllByRecursion (IsRenewedBy keys old reruns kept) (with_reruns left xs)
-  renewed-all [] all = tt
-  renewed-all (k ∷ xs) all = (renewed-one k all.0, renewed-all xs all.1)
-
 -- ---- the names of what is kept
 
 heads-names : (ks : List Kept) → map (λ s. s.name) (map shown ks) ≡ map (λ k. k.name) ks
@@ -184,29 +165,6 @@ one-of P [] k all i = absurd i
 one-of P (x ∷ kept) k all (inl e) = subst P e all.0
 one-of P (x ∷ kept) k all (inr i) = one-of P kept k all.1 i
 
-all-own : (xs ys : List Kept) → ((k : Kept) → IsOneOf ys k → IsOneOf xs k) → AllByRecursion (IsOneOf xs) ys
-all-own xs [] h = tt
-all-own xs (y ∷ ys) h = (h y (inl refl), all-own xs ys (λ k i. h k (inr i)))
-
-all-passed : (P : Kept → Type 0) (p : Kept → Bool) (xs : List Kept) → AllByRecursion P xs → AllByRecursion P (filter p xs)
-all-passed P p [] all = tt
-all-passed P p (x ∷ xs) all = by (p x) (all-passed P p xs all.1) where
-  by : (b : Bool) → AllByRecursion P (filter p xs) → AllByRecursion P (cond b (x ∷ filter p xs) (filter p xs))
-  by true rest = (all.0, rest)
-  by false rest = rest
-
-all-of-names : (P : List ℕ → Type 0) (xs : List Kept) → AllByRecursion P (map (λ k. k.name) xs) → AllByRecursion (λ k. P k.name) xs
-all-of-names P [] all = tt
-all-of-names P (x ∷ xs) all = (all.0, all-of-names P xs all.1)
-
-all-both : (P Q R : Kept → Type 0) → ((k : Kept) → P k → Q k → R k) → (xs : List Kept) → AllByRecursion P xs → AllByRecursion Q xs → AllByRecursion R xs
-all-both P Q R step [] ps qs = tt
-all-both P Q R step (x ∷ xs) ps qs = (step x ps.0 qs.0, all-both P Q R step xs ps.1 qs.1)
-
-all-more : (P : Kept → Type 0) (xs : List Kept) (x : Kept) → AllByRecursion P xs → P x → AllByRecursion P (xs ++ x ∷ [])
-all-more P [] x all last = (last, tt)
-all-more P (y ∷ xs) x all last = (all.0, all-more P xs x all.1 last)
-
 pub told-of : (s : SourceParts) → source_check s ≡ Ok tt → (told : List Told) × (source_glyphs s ≡ Ok told)
 told-of s e = by (source_glyphs s) refl e where
   by : (r : Result (List Told) Fault) → source_glyphs s ≡ r → ◌≡◌ {A = Result (Unit {0}) Fault} (check r) (Ok tt) → (told : List Told) × (source_glyphs s ≡ Ok told)
@@ -233,12 +191,6 @@ module _ (keys : List Key) (old new : SourceParts) (before : Records) (renewal :
   abbrev reruns : List Rerun
   reruns = renewal.reruns.items
 
-  old-has : (g : List ℕ) → has_glyph old g ≡ is_some (m.glyphs g)
-  old-has = has-body old right.kept.glyphs right.kept.faultless
-
-  new-has : (g : List ℕ) → has_glyph new g ≡ is_some (n.glyphs g)
-  new-has = has-body new (told-of new fine).0 (told-of new fine).1
-
   pub kept-names : map (λ k. k.name) kept ≡ glyph_names old.items
   kept-names = names-kept old kept right.kept
 
@@ -258,16 +210,6 @@ module _ (keys : List Key) (old new : SourceParts) (before : Records) (renewal :
       ]
 
   -- what joins has a body in the edited source
-  pub joins-there : (k : Key) → body_at n k ≡ None → wanted renewal.joins.items k ≡ 0
-  joins-there k gone =
-      elim (some-wanted renewal.joins.items k) [
-        | inl none ↦ none
-        | inr there ↦
-            let used = and-right (is.found there.0) (is_user k (own n there.0)) (sym (is.joins k there.0) ∙ there.1) in
-            let body = uses_there n there.0 k used in
-            let never : None ≡ Some body.0 = sym gone ∙ body.1 in
-            absurd (cc)
-      ]
 
   -- ---- records
 
@@ -285,11 +227,6 @@ module _ (keys : List Key) (old new : SourceParts) (before : Records) (renewal :
     made = λ off on. let never : true ≡ false = sym on ∙ sym (rerun-stale k.name there) ∙ sym same ∙ off in absurd (cc);
     fresh = λ off. one;
   }
-
-  there-all : (xs : List Kept) → map (λ k. k.name) xs ≡ glyph_names new.items → AllByRecursion (λ k. has_glyph new k.name ≡ true) xs
-  there-all xs order =
-      all-of-names (λ g. has_glyph new g ≡ true) xs
-      (subst (AllByRecursion (λ g. has_glyph new g ≡ true)) (sym order) (all-names (λ g. has_glyph new g ≡ true) (glyph_names new.items) (λ g h. h)))
 
   pub keeps-all : (records : List Kept) → map (λ k. k.name) records ≡ glyph_names new.items → AllByRecursion (IsRenewedBy keys old reruns kept) records
       → KeepsAll new records

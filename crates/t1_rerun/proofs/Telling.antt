@@ -1,5 +1,5 @@
--- What is told of records, one after another.
-use Rattle.std.proofs.Common.{◌≡◌, ◌+◌, ℕ, zero, suc, List, [], ◌∷◌, ◌++◌, append-nil, append_assoc, map, drop, refl, sym, ◌∙◌, ap, subst, arith, Option, Some, None}
+-- What is reported of records, one after another.
+use Rattle.std.proofs.Common.{◌≡◌, ◌+◌, ℕ, zero, suc, List, [], ◌∷◌, ◌++◌, append_assoc, map, drop, refl, sym, ◌∙◌, ap, subst, arith, Option, Some, None}
 use Rattle.std.specs.Prelude.{Result, Ok, Err, slice_get}
 use Rattle.std.specs.declared.alloc.Global.{Global}
 use Rattle.std.specs.declared.vec.Vec.{Vec}
@@ -36,16 +36,9 @@ Entries = List (Vec ℕ Global × GlyphRecord)
 abbrev pub fronted : List GlyphMetrics → Result (List GlyphMetrics) Code → Result (List GlyphMetrics) Code
 fronted front r = r >>= λ ms. Ok (front ++ ms)
 
--- what was told, in front of what is told of the records that are left
+-- what was reported, in front of what is reported of the records that are left
 abbrev pub IsTelling : Entries → ℕ → List GlyphMetrics → Type 0
 IsTelling entries at front = fronted front (kept_metrics (map kept_of (drop at entries))) ≡ kept_metrics (map kept_of entries)
-
-all-in : (r : Result (List GlyphMetrics) Code) → fronted [] r ≡ r
-all-in (Ok ms) = refl
-all-in (Err code) = refl
-
-pub telling-first : (entries : Entries) → IsTelling entries 0 []
-telling-first entries = all-in (kept_metrics (map kept_of entries))
 
 entry-first : (entries : Entries) (at : ℕ) (e : Vec ℕ Global × GlyphRecord) → slice_get entries at ≡ Some e → drop at entries ≡ e ∷ drop (at + 1) entries
 entry-first [] at e h = absurd (cc)
@@ -69,17 +62,6 @@ telling-more entries at front e m here told before =
     ∙ sym (ap (λ r. fronted front (r >>= λ m. kept_metrics (map kept_of (drop (at + 1) entries)) >>= λ ms. Ok (m ∷ ms))) (told-one (glyph_metrics_by e.0.items e.1.run.drawing e.1.bbox) m told))
     ∙ sym (ap (λ l. fronted front (kept_metrics (map kept_of l))) (entry-first entries at e here))
     ∙ before
-
-none-left : (entries : Entries) (at : ℕ) → slice_get entries at ≡ None → drop at entries ≡ []
-none-left [] zero h = refl
-none-left [] (suc at) h = refl
-none-left (x ∷ entries) zero h = absurd (cc)
-none-left (x ∷ entries) (suc at) h = none-left entries at h
-
-pub telling-last : (entries : Entries) (at : ℕ) (front : List GlyphMetrics) → slice_get entries at ≡ None → IsTelling entries at front
-    → told_at Nowhere (kept_metrics (map kept_of entries)) ≡ Ok front
-telling-last entries at front none before =
-    ap (told_at Nowhere) (sym before ∙ ap (λ l. fronted front (kept_metrics (map kept_of l))) (none-left entries at none) ∙ ap Ok (append-nil front))
 
 pub telling-refused : (entries : Entries) (at : ℕ) (front : List GlyphMetrics) (e : Vec ℕ Global × GlyphRecord) (refused : Refusal) → slice_get entries at ≡ Some e
     → Refuses refused (told_at Nowhere (glyph_metrics_by e.0.items e.1.run.drawing e.1.bbox)) → IsTelling entries at front
@@ -141,7 +123,7 @@ boxes-are : (ts : List Told) → map (λ s. s.bbox) (map glyph_metrics ts) ≡ m
 boxes-are [] = refl
 boxes-are (t ∷ ts) = ap (λ boxes. drawn_box t.outline ∷ boxes) (boxes-are ts)
 
--- what is told of a font by what is told of its glyphs
+-- what is reported of a font by what is reported of its glyphs
 abbrev pub font_of : List GlyphMetrics → Result MeasuredFont Fault
 font_of ms = Ok (record { metrics = ms; font_box = united (map (λ m. m.bbox) ms) })
 

@@ -22,7 +22,7 @@ use Rattle.t1_rerun.specs.declared.settling.EntryChange.{EntryChange}
 use Rattle.t1_rerun.specs.Right.{IsInOrder}
 use Rattle.t1_rerun.specs.Settled.{changed_keys, was_moved, HasBody}
 
--- the number of a Subr, where it has 16 bits
+-- profile: the number of a Subr, where it has 16 bits
 abbrev pub number_within : ℤ → Option ℕ
 number_within (pos n) = if nat_le n 65535 then Some n else None
 number_within (negsuc n) = None
@@ -33,6 +33,7 @@ pub record KeyChange : Type 0 where
   pub body : Option (List Command)
   pub moved : Bool
 
+-- profile: a change, with the key of its entry
 abbrev pub key_change : EntryChange → KeyChange
 key_change change = record { key = key_of change.named; body = change.body; moved = change.moved }
 
@@ -40,10 +41,12 @@ key_change change = record { key = key_of change.named; body = change.body; move
 abbrev pub put_key : Key → Place → List (List ℕ) → Result (Option KeyChange) Fault
 put_key key place words = told_at place (commands words) >>= λ body. Ok (Some (record { key = key; body = Some body; moved = false }))
 
+-- profile: the same, of a Subr by its number; none has a number past 16 bits
 abbrev pub put_number : Option ℕ → List (List ℕ) → Result (Option KeyChange) Fault
 put_number None words = Ok None
 put_number (Some n) words = put_key (Subr n) (places.Subr n) words
 
+-- profile: a Subr is removed, where its number has 16 bits
 abbrev pub removed_number : Option ℕ → Option KeyChange
 removed_number None = None
 removed_number (Some n) = Some (record { key = Subr n; body = None; moved = false })
@@ -58,7 +61,7 @@ edit_change (AddSubr n body) = put_number (number_within n) (body_words body)
 edit_change (RemoveSubr n) = Ok (removed_number (number_within n))
 edit_change _ = Ok None
 
--- a source whose bodies have no fault, and what an edit makes of it
+-- profile: a source whose bodies have no fault, and what an edit makes of it
 pub record IsMade (edit : Edit) (old new : SourceParts) : Type 0 where
   pub pairs : List Pair
   pub made_pairs : List Pair
@@ -67,7 +70,7 @@ pub record IsMade (edit : Edit) (old new : SourceParts) : Type 0 where
   pub well_made : IsWellFormed new
   pub made : edited old pairs edit ≡ Ok (new, made_pairs)
 
--- the edited source differs at the entry of the change alone, where it has this body, and its bodies have no fault
+-- profile: the edited source differs at the entry of the change alone, where it has this body, and its bodies have no fault
 pub record IsChanged (edit : Edit) (old new : SourceParts) (change : Option EntryChange) : Type 0 where
   pub keys : changed_keys (option_to_list change) ≡ named edit
   pub edited : IsEditedAt (changed_keys (option_to_list change)) old new

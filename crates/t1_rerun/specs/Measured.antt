@@ -1,4 +1,4 @@
--- What is told of glyphs whose runs and boxes are kept.
+-- What is reported of glyphs whose runs and boxes are kept.
 use Rattle.std.specs.Prelude.{List, [], ◌∷◌, Result, Ok}
 use Rattle.t1_frac.specs.declared.fault.Code.{Code}
 use Rattle.t1_frac.specs.Outcome.{◌>>=◌}
@@ -6,7 +6,7 @@ use Rattle.t1_font.specs.declared.glyph_metrics.GlyphMetrics.{GlyphMetrics}
 use Rattle.t1_font.specs.MeasuredGlyphs.{glyph_metrics_by}
 use Rattle.t1_cache.specs.Renewed.{Kept}
 
--- profile: what is told of each glyph by its record
+-- profile: what is reported of each glyph by its record
 abbrev pub kept_metrics : List Kept → Result (List GlyphMetrics) Code
 kept_metrics [] = Ok []
 kept_metrics (k ∷ kept) =

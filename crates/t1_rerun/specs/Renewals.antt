@@ -20,38 +20,39 @@ use Rattle.t1_cache.specs.Renewal.{IsFromScratch}
 use Rattle.t1_cache.specs.Tables.{AreStale}
 use Rattle.t1_rerun.specs.declared.renewal.Renewal.{Renewal}
 
--- a glyph's new run and box
+-- profile: a glyph's new run and box
 abbrev pub rerun_kept : Rerun → Kept
 rerun_kept r = record { name = r.name.items; run = r.run; box = r.bbox }
 
+-- profile: the names of the glyphs that were run again
 abbrev pub rerun_names : List Rerun → List (List ℕ)
 rerun_names rs = map (λ r. r.name.items) rs
 
--- a run's number is after this count
+-- profile: a run's number is after this count
 abbrev pub IsLater : ℕ → Rerun → Type 0
 IsLater count r = counted count 1 ≤ r.run.serial
 
--- the box of the glyph of this name, among what was measured
+-- profile: the box of the glyph of this name, among what was measured
 abbrev pub HasBox : List GlyphMetrics → List ℕ → Option BBox → Type 0
 HasBox [] g box = ⊥
 HasBox (m ∷ ms) g box = ((m.name ≡ g) × (m.bbox ≡ box)) ⊎ HasBox ms g box
 
--- a run that is kept, where it has no fault
+-- profile: a run that is kept, where it has no fault
 abbrev pub run_in : Option (Result NumberedRun Code) → Option NumberedRun
 run_in None = None
 run_in (Some (Err code)) = None
 run_in (Some (Ok run)) = Some run
 
--- the run of the glyph is kept, and has no fault
+-- profile: the run of the glyph is kept, and has no fault
 abbrev pub HasRun : List KeptRun → GlyphMetrics → Type 0
 HasRun runs m = (run : NumberedRun) × (run_kept runs m.name ≡ Some (Ok run))
 
--- a rerun is a run that was kept, with the box that was measured
+-- profile: a rerun is a run that was kept, with the box that was measured
 pub record IsRerun (runs : List KeptRun) (metrics : List GlyphMetrics) (r : Rerun) : Type 0 where
   pub run : run_kept runs r.name.items ≡ Some (Ok r.run)
   pub box : HasBox metrics r.name.items r.bbox
 
--- by runs that are kept a glyph draws, and its box is the one that was measured
+-- profile: by runs that are kept a glyph draws, and its box is the one that was measured
 pub record IsMeasured (run : List ℕ → Option (Result Drawing Code)) (m : GlyphMetrics) : Type 0 where
   pub drawing : Drawing
   pub segments : List Segment

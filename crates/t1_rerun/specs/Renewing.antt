@@ -6,20 +6,16 @@ use Rattle.t1_source.specs.declared.edit.Edit.TheVariants.{ReplaceGlyph, AddGlyp
 use Rattle.t1_pairs.specs.declared.pairs.Pair.{Pair}
 use Rattle.t1_source.specs.Editing.{edited}
 use Rattle.t1_source.specs.WellFormed.{IsWellFormed}
-use Rattle.t1_run.specs.Run.{FontBodies, Key, Subr, Glyph}
+use Rattle.t1_run.specs.Run.{Key, Subr, Glyph}
 use Rattle.t1_font.specs.Assembly.{file_check}
-use Rattle.t1_cache.specs.declared.records.Named.{Named}
 use Rattle.t1_cache.specs.declared.records.Records.{Records}
 use Rattle.t1_cache.specs.Edited.{named, is_stale, stale}
-use Rattle.t1_cache.specs.Overlay.{body_at}
 use Rattle.t1_cache.specs.Renewal.{IsOneOf}
 use Rattle.t1_cache.specs.Renewed.{Kept}
-use Rattle.t1_cache.specs.Users.{key_of}
-use Rattle.t1_rerun.specs.declared.settling.EntryChange.{EntryChange}
 use Rattle.t1_rerun.specs.Opened.{runs_where, IsRunAfter}
 use Rattle.t1_rerun.specs.Right.{IsRight}
 
--- the records are right for a source of which an edit made this one
+-- profile: the records are right for a source of which an edit made this one
 pub record IsEdited (records : Records) (edit : Edit) (new : SourceParts) : Type 0 where
   pub old : SourceParts
   pub pairs : List Pair
@@ -29,12 +25,12 @@ pub record IsEdited (records : Records) (edit : Edit) (new : SourceParts) : Type
   pub well_made : IsWellFormed new
   pub made : edited old pairs edit ≡ Ok (new, made_pairs)
 
--- the key of a Subr whose number has 16 bits
+-- profile: the key of a Subr whose number has 16 bits
 abbrev pub number_key : ℤ → Option Key
 number_key (pos n) = if nat_le n 65535 then Some (Subr n) else None
 number_key (negsuc n) = None
 
--- the key of the entry that an edit names
+-- profile: the key of the entry that an edit names
 abbrev pub entry_key : Edit → Option Key
 entry_key (ReplaceGlyph g body) = Some (Glyph g)
 entry_key (AddGlyph g body) = Some (Glyph g)
@@ -43,11 +39,6 @@ entry_key (ReplaceSubr n body) = number_key n
 entry_key (AddSubr n body) = number_key n
 entry_key (RemoveSubr n) = number_key n
 entry_key _ = None
-
--- the entry that is named, with its body in a font
-abbrev pub IsChangeIn : FontBodies → Option Named → Option EntryChange → Type 0
-IsChangeIn m None change = change ≡ None
-IsChangeIn m (Some named) change = change ≡ Some (record { named = named; body = body_at m (key_of named); moved = false })
 
 -- profile: each glyph that an edit of a source makes stale is run once; none, where a body or the file has a fault
 abbrev pub renewing_runs : Edit → SourceParts → SourceParts → ℕ

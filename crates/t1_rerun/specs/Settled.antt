@@ -28,35 +28,36 @@ use Rattle.t1_rerun.specs.Renewals.{rerun_kept, IsRenewal}
 use Rattle.t1_rerun.specs.Right.{has_glyph, IsInOrder, IsRight}
 use Rattle.t1_rerun.specs.Steps.{new_run, some_inserts, AreStepsOf, AreTakenOut}
 
--- the keys of the entries that edits name
+-- profile: the keys of the entries that edits name
 abbrev pub changed_keys : List EntryChange → List Key
 changed_keys changes = map (λ c. key_of c.named) changes
 
+-- profile: each key stands there once
 abbrev pub AreDistinctKeys : List Key → Type 0
 AreDistinctKeys [] = Unit {0}
 AreDistinctKeys (k ∷ ks) = (list_any (key_eq k) ks ≡ false) × AreDistinctKeys ks
 
--- the edited source has this body, or none, at the entry that edits name
+-- profile: the edited source has this body, or none, at the entry that edits name
 abbrev pub HasBody : SourceParts → EntryChange → Type 0
 HasBody new c = body_at (bodies new.items) (key_of c.named) ≡ c.body
 
--- the glyph was removed and added again
+-- profile: the glyph was removed and added again
 abbrev pub was_moved : List EntryChange → List ℕ → Bool
 was_moved changes g = list_any (λ c. c.moved && is_key_of g (key_of c.named)) changes
 
--- the glyph of a change, where it has a body and was moved, or wasn't there
+-- profile: the glyph of a change, where it has a body and was moved, or wasn't there
 abbrev pub last_glyph : SourceParts → Bool → Option (List Command) → Named → List (List ℕ)
 last_glyph old moved None named = []
 last_glyph old moved (Some body) (named.Subr n) = []
 last_glyph old moved (Some body) (named.Glyph g) = if moved || not (has_glyph old g) then g ∷ [] else []
 
--- the glyphs that stand after the others, in the order of the changes
+-- profile: the glyphs that stand after the others, in the order of the changes
 abbrev pub last_glyphs : SourceParts → List EntryChange → List (List ℕ)
 last_glyphs old [] = []
 last_glyphs old (c ∷ changes) = last_glyph old c.moved c.body c.named ++ last_glyphs old changes
 
--- a source whose records are right was edited, the edited one was judged to have no fault, and this is what is new of it; each
--- entry that was edited is named once, with what it became
+-- profile: a source whose records are right was edited, the edited one was judged to have no fault, and this is what is
+-- new of it; each entry that was edited is named once, with what it became
 pub record IsJudged (changes : List EntryChange) (old new : SourceParts) (records : Records) (renewal : Renewal) : Type 0 where
   pub right : IsRight old records
   pub edited : IsEditedAt (changed_keys changes) old new
@@ -68,16 +69,16 @@ pub record IsJudged (changes : List EntryChange) (old new : SourceParts) (record
   pub last : filter (λ g. was_moved changes g || not (has_glyph old g)) (glyph_names new.items) ≡ last_glyphs old changes
   pub renewed : IsRenewal (changed_keys changes) old new renewal
 
--- there are such sources
+-- profile: there are such sources
 abbrev pub MayBeJudged : List EntryChange → Records → Renewal → Type 0
 MayBeJudged changes records renewal = (old : SourceParts) × ((new : SourceParts) × IsJudged changes old new records renewal)
 
--- a stale glyph has the run and box of a rerun, and each other glyph what was kept of it
+-- profile: a stale glyph has the run and box of a rerun, and each other glyph what was kept of it
 pub record IsRenewedBy (keys : List Key) (old : SourceParts) (reruns : List Rerun) (kept : List Kept) (k : Kept) : Type 0 where
   pub stale : is_stale old keys k.name ≡ true → IsOneOf (map rerun_kept reruns) k
   pub fresh : is_stale old keys k.name ≡ false → IsOneOf kept k
 
--- the same bodies, runs, boxes and users; there may be more room among the users
+-- profile: the same bodies, runs, boxes and users; there may be more room among the users
 pub record AreAsBefore (old new : Records) : Type 0 where
   pub bodies : SameBodies (record_bodies new) (record_bodies old)
   pub kept : map kept_of new.glyphs.entries ≡ map kept_of old.glyphs.entries
@@ -85,8 +86,8 @@ pub record AreAsBefore (old new : Records) : Type 0 where
 
 -- ---- the two steps
 
--- all that the changes take is there: a step for each change, the new runs that no step has, the names of glyphs whose records
--- are taken out, and the room in the records
+-- profile: all that the changes take is there: a step for each change, the new runs that no step has, the names of
+-- glyphs whose records are taken out, and the room in the records
 pub record IsReady (changes : List EntryChange) (renewal : Renewal) (records : Records) (ready : Ready) : Type 0 where
   pub steps : AreStepsOf (new_run renewal.reruns.items) (wanted renewal.joins.items) records changes ready.steps.items
   pub runs : (g : List ℕ) → new_run (reruns_by_name ready.runs.entries) g ≡ (if some_inserts ready.steps.items g then None else new_run renewal.reruns.items g)
@@ -97,13 +98,13 @@ pub record IsReady (changes : List EntryChange) (renewal : Renewal) (records : R
   pub glyphs : length ready.steps.items ≤ spare records.glyphs
   pub users : (k : Key) → MayJoin (wanted renewal.joins.items k) (users_at records k)
 
--- there are a judged edit and its changes
+-- profile: there are a judged edit and its changes
 pub record MayBeSettled (records : Records) (ready : Ready) : Type 0 where
   pub changes : List EntryChange
   pub renewal : Renewal
   pub prepared : IsReady changes renewal records ready
   pub judged : MayBeJudged changes records renewal
 
--- by the records a glyph is a user and doesn't leave, or it joins
+-- profile: by the records a glyph is a user and doesn't leave, or it joins
 abbrev pub is_moved : Renewal → Records → Key → List ℕ → Bool
 is_moved renewal records k u = (lists records k u && not (has_pair renewal.leaves.items k u)) || has_pair renewal.joins.items k u

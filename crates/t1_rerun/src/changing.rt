@@ -113,25 +113,3 @@ pub fn settle_ready(records: &mut Records, ready: Ready)
 {
     settle(records, ready);
 }
-
-/// Brings the records of a source to those of the source that is edited at the entry of a change, or answers the first fault
-/// of one of its glyphs, in their order, which is asked for only then. Each glyph that the change makes stale is run once;
-/// the others keep their runs. A refusal leaves the records right for the source before.
-pub fn renew_change<O: GlyphOrder>(
-    alloc: Global,
-    records: &mut Records,
-    change: Option<EntryChange>,
-    order: &O,
-    meter: &mut Meter,
-) -> Result<(), Refusal>
-    requires { MayBeRenewed change records.old (O.ordered order.now) }
-    ensures checked { (old new : SourceParts) → IsChangeOf change old new records.old (O.ordered order.now) → Gives (λ _. tt) result (source_check new) }
-    ensures right { (old new : SourceParts) → IsChangeOf change old new records.old (O.ordered order.now) → OnOk result (IsRight new records.new) }
-    ensures renews { (old new : SourceParts) → IsChangeOf change old new records.old (O.ordered order.now) → OnOk result (AllByRecursion (IsRunWhereStale meter.old (changed_keys (option_to_list change)) old (map kept_of records.old.glyphs.entries)) (map kept_of records.new.glyphs.entries)) }
-    ensures counted { (old new : SourceParts) → IsChangeOf change old new records.old (O.ordered order.now) → Counts (length (stale old (changed_keys (option_to_list change)) new)) meter.old meter.new result }
-    ensures refused { OnErr result ((s : SourceParts) → IsRight s records.old → IsRight s records.new) }
-{
-    let ready = prepare_change(alloc, records, change, order, meter)?;
-    settle_ready(records, ready);
-    Ok(())
-}

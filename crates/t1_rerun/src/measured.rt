@@ -13,7 +13,7 @@ use t1_cache::Records;
 use t1_font::{GlyphMetrics, MeasuredGlyphs, metrics_of_run};
 use t1_frac::Refusal;
 
-/// What is told of each glyph that has a record, in their order.
+/// What is reported of each glyph that has a record, in their order.
 fn kept_glyphs(alloc: Global, records: &Records) -> Result<Vec<GlyphMetrics>, Refusal>
     ensures { Gives (λ metrics. metrics.items) result (told_at Nowhere (kept_metrics (map kept_of records.now.glyphs.entries))) }
 {

@@ -117,23 +117,5 @@ pub(crate) fn changes_of(
     Ok(changes)
 }
 
-/// Both steps for one edit, which names one entry or none. Where memory runs out the records are as before, but for room.
-pub fn settle_one(
-    alloc: Global,
-    records: &mut Records,
-    change: Option<EntryChange>,
-    renewal: Renewal,
-) -> Result<(), AllocError>
-    requires { MayBeJudged (option_to_list change) records.old renewal }
-    ensures right { (old new : SourceParts) → IsJudged (option_to_list change) old new records.old renewal → OnOk result (IsRight new records.new) }
-    ensures renews { (old new : SourceParts) → IsJudged (option_to_list change) old new records.old renewal → OnOk result (AllByRecursion (IsRenewedBy (changed_keys (option_to_list change)) old renewal.reruns.items (map kept_of records.old.glyphs.entries)) (map kept_of records.new.glyphs.entries)) }
-    ensures refused { OnErr result (AreAsBefore records.old records.new) }
-{
-    let changes = changes_of(alloc, change)?;
-    let ready = make_ready(alloc, records, changes, renewal)?;
-    settle(records, ready);
-    Ok(())
-}
-
 #[cfg(test)]
 mod tests;

@@ -169,7 +169,7 @@ fn compiles_the_body_of_an_edit(rt: HostRuntime) -> Result<(), Fail> {
     Ok(())
 }
 
-/// Whether the body of an edit of Subr 4 has a fault, told at the Subr.
+/// Whether the body of an edit of Subr 4 has a fault, reported at the Subr.
 fn has_fault_at_4(alloc: Global, body: &[u8]) -> Result<bool, Fail> {
     let edit = subr_4(alloc, body)?;
     match change_of_edit(alloc, &edit) {
@@ -224,23 +224,7 @@ fn renewed(alloc: Global, edit: &Edit) -> Result<(Records, u64), Fail> {
 }
 
 /// Brings records to those of a source that an edit made, by the entry that it changes.
-fn renew_entry(
-    alloc: Global,
-    records: &mut Records,
-    edit: &Edit,
-    made: &Source,
-    meter: &mut Meter,
-) -> Result<(), Fail>
-    requires { IsEdited records.old edit.now made.now }
-{
-    checked_bodies(alloc, made)?;
-    let change = change_of_edit(alloc, edit)?;
-    renew_change(alloc, records, change, made, meter)?;
-    Ok(())
-}
-
-/// The same in two steps.
-fn renew_entry_in_steps(
+fn renew(
     alloc: Global,
     records: &mut Records,
     edit: &Edit,
@@ -273,36 +257,6 @@ fn rises(alloc: Global) -> Result<bool, Fail> {
 #[test]
 fn renews_stale_glyphs(rt: HostRuntime) -> Result<(), Fail> {
     let rises = rises(rt.alloc())?;
-    assert!(rt; rises);
-    Ok(())
-}
-
-/// The same by the entry that the edit changes, at once or in two steps.
-fn rises_by_entry(alloc: Global, in_steps: bool) -> Result<bool, Fail> {
-    let edit = subr_4(alloc, b"100 278 rlineto return")?;
-    let source = three_source(alloc)?;
-    let pairs = read_pairs(alloc, b"")?;
-    let mut meter = Meter::new();
-    let mut records = opened_records(alloc, &source, &mut meter)?;
-    let (made, _) = source.edited(&pairs, &edit)?;
-    if in_steps {
-        renew_entry_in_steps(alloc, &mut records, &edit, &made, &mut meter)?;
-    } else {
-        renew_entry(alloc, &mut records, &edit, &made, &mut meter)?;
-    }
-    Ok(are_raised(&records) && meter.count() == 5)
-}
-
-#[test]
-fn renews_by_the_entry_that_an_edit_changes(rt: HostRuntime) -> Result<(), Fail> {
-    let rises = rises_by_entry(rt.alloc(), false)?;
-    assert!(rt; rises);
-    Ok(())
-}
-
-#[test]
-fn renews_in_two_steps(rt: HostRuntime) -> Result<(), Fail> {
-    let rises = rises_by_entry(rt.alloc(), true)?;
     assert!(rt; rises);
     Ok(())
 }

@@ -208,7 +208,7 @@ ending-ends : (m : FontBodies) (body : List Command) → Ends m (ending m body)
 unfolding ending
 ending-ends m body = words-end m (call_within m 10) (call_within-ends m 10) body initial [] (record { keys = none-asked; steps = omega arith })
 
--- ---- what a drawing tells
+-- ---- what a drawing says
 
 record Told (m : FontBodies) (d : Drawing) (asked : List Key) : Type 0 where
   keys : Asks d.composite d.entered asked

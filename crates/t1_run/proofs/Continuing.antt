@@ -44,20 +44,6 @@ pub Continues-start : (m : FontBodies) (body : List Command) → Continues m bod
 unfolding ending
 Continues-start m body = record { levels = 10; asked = []; room = refl; same = refl }
 
-pub Continues-next : {m : FontBodies} {body cs : List Command} {waiting : List (List Command)} {s s' : State} {c : Command}
-    → Continues m body (c ∷ cs) waiting s → step c s ≡ Next s' → Continues m body cs waiting s'
-Continues-next {m = m} {cs = cs} {waiting = waiting} {s' = s'} h e = record {
-  levels = h.levels;
-  asked = h.asked;
-  room = h.room;
-  same = sym (ap (λ t. resume m h.levels waiting (act m (call_within m h.levels) (runs m h.levels cs) t h.asked)) e) ∙ h.same;
-}
-
--- the body of a Subr is over
-pub Continues-finish : {m : FontBodies} {body rest : List Command} {waiting : List (List Command)} {s : State}
-    → Continues m body [] (rest ∷ waiting) s → Continues m body rest waiting s
-Continues-finish h = record { levels = suc h.levels; asked = h.asked; room = omega (arith, h.room); same = h.same }
-
 pub Continues-back : {m : FontBodies} {body cs rest : List Command} {waiting : List (List Command)} {s s' : State} {c : Command}
     → Continues m body (c ∷ cs) (rest ∷ waiting) s → step c s ≡ Back s' → Continues m body rest waiting s'
 Continues-back {m = m} {cs = cs} {rest = rest} {waiting = waiting} {s' = s'} h e = record {
@@ -106,15 +92,6 @@ outcome-fault {m = m} {cs = cs} {waiting = waiting} {fault = fault} h e =
     ap outcome_of (sym h.same
     ∙ ap (λ t. resume m h.levels waiting (act m (call_within m h.levels) (runs m h.levels cs) t h.asked)) e
     ∙ resume-failed m h.levels waiting fault h.asked)
-
-pub outcome-finish : {m : FontBodies} {body : List Command} {s : State}
-    → Continues m body [] [] s → outcome_of (ending m body) ≡ Err F35
-outcome-finish h = ap outcome_of (sym h.same)
-
-pub outcome-back : {m : FontBodies} {body cs : List Command} {s s' : State} {c : Command}
-    → Continues m body (c ∷ cs) [] s → step c s ≡ Back s' → outcome_of (ending m body) ≡ Err F34
-outcome-back {m = m} {cs = cs} h e =
-    ap outcome_of (sym h.same ∙ ap (λ t. act m (call_within m h.levels) (runs m h.levels cs) t h.asked) e)
 
 -- a call, where so many levels are left, of a Subr that the maps lack
 missing_at : (m : FontBodies) (body cs : List Command) (waiting : List (List Command)) (s s' : State) (c : Command) (n : ℕ)
@@ -199,7 +176,7 @@ pub refused-parts : {m : FontBodies} {body cs : List Command} {waiting : List (L
     → Refuses refusal (told_at Nowhere (outcome_of (ending m body)))
 refused-parts {m = m} {a = a} refusal h e refused = refused_at h e (composite_of m.glyphs a) refl refusal refused
 
--- what is told at no place is what was found
+-- what is reported at no place is what was found
 pub found-parts : (r : Result Composite Code) (parts : Composite) → told_at Nowhere r ≡ Ok parts → r ≡ Ok parts
 found-parts (Ok x) parts e = cc
 found-parts (Err fault) parts e = absurd (cc)

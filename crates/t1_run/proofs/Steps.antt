@@ -1,4 +1,4 @@
--- A word keeps the Subrs entered and the count of steps, but for its own step, and tells F47 by that count alone.
+-- A word keeps the Subrs entered and the count of steps, but for its own step, and answers F47 by that count alone.
 use Rattle.std.proofs.Common.{◌≡◌, ℕ, ◌+◌, ◌<◌, ◌≤◌, Bool, true, false, List, [], ◌∷◌, length, take, refl, subst, inl, inr, ◌^◌, arith, Option, Some, None, ℤ, pos, negsuc}
 use Rattle.std.specs.Prelude.{Result, Ok, Err, nat_le, nat_lt, not, ◌&&◌, ◌==◌, if◌then◌else◌, ◌↔◌}
 use Rattle.std.specs.List.{list_any}

@@ -114,10 +114,6 @@ each-within : (r : Result (List Segment) Code) → IfOk r AllDrawn → IfOk r (A
 each-within (Ok segments) h = all-within segments h
 each-within (Err fault) h = tt
 
--- each point of a glyph's outline is within the limits
-pub outline-within_limits : (m : FontBodies) (g : List ℕ) → IfOk (outline m g) (All IsWithin)
-outline-within_limits m g = each-within (outline m g) (outline-drawn m g)
-
 -- ---- the laws
 
 own-drawn : (m : FontBodies) (g : List ℕ) (d : Drawing) → own m g ≡ Some (Ok d) → DrawingWithin d

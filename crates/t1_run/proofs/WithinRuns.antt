@@ -103,7 +103,7 @@ pub ending-within : (m : FontBodies) (body : List Command) → EndWithin (ending
 unfolding ending
 ending-within m body = words-within m (call_within m 10) (calls-within m 10) body initial [] initial-within
 
--- ---- what a run tells
+-- ---- what a run answers
 
 pub record DrawingWithin (d : Drawing) : Type 0 where
   pub width : IsPlaced d.width

@@ -18,6 +18,7 @@ accent_move bearing c =
     coordinate_difference right c.asb >>= (λ x.
     Ok (record { x = x; y = c.ady })))
 
+-- profile: a point moved
 abbrev pub moved_point : Point → Point → Result Point Code
 moved_point by p = moved p by.x by.y
 
@@ -46,11 +47,12 @@ joined_by c d base accent =
     moved_outline by accent >>= (λ accent'.
     Ok (d.segments ++ base ++ accent')))
 
--- a glyph without parts draws its own segments alone
+-- profile: a glyph without parts draws its own segments alone
 abbrev pub joined_with : Option Composite → Drawing → List Segment → List Segment → Result (List Segment) Code
 joined_with None d base accent = Ok d.segments
 joined_with (Some c) d base accent = joined_by c d base accent
 
+-- profile: the same, by the parts that the glyph's run found
 unfoldable pub joined : Drawing → List Segment → List Segment → Result (List Segment) Code
 joined d base accent = joined_with d.composite d base accent
 
@@ -76,10 +78,12 @@ outline m glyph = outline_within (own m) 4 glyph
 
 -- ---- what an outline depends on
 
+-- profile: what the outlines of both parts depend on
 abbrev pub asked_by_parts : (List ℕ → List Key) → Option Composite → List Key
 asked_by_parts part None = []
 asked_by_parts part (Some c) = part c.base ++ part c.accent
 
+-- profile: the same, where the glyph's own run has no fault
 abbrev pub asked_after : (List ℕ → List Key) → Option (Result Drawing Code) → List Key
 asked_after part None = []
 asked_after part (Some (Err fault)) = []
@@ -96,11 +100,12 @@ outline_foot m glyph = foot_within m 4 glyph
 
 -- ---- points within the limits
 
+-- profile, limits: both coordinates of a point are within the limits
 pub record IsPoint (p : Point) : Type 0 where
   pub x : IsCoordinate p.x
   pub y : IsCoordinate p.y
 
--- each point of the segment is within the limits of coordinates and denominators
+-- profile, limits: each point of the segment is within the limits of coordinates and denominators
 abbrev pub IsWithin : Segment → Type 0
 IsWithin (Line start end) = IsPoint start × IsPoint end
 IsWithin (Curve start first second end) = IsPoint start × IsPoint first × IsPoint second × IsPoint end

@@ -19,7 +19,7 @@ use Rattle.t1_run.specs.Run.{Drawing, NumberedRun}
 use Rattle.t1_run.specs.declared.othersubrs.Effect.{Effect}
 use Rattle.t1_run.specs.declared.othersubrs.Effect.TheVariants.{EndFlex, StartFlex, RecordPoint, Leave, Discard}
 
--- the state that the fields hold
+-- profile: the state that the fields hold
 abbrev pub state_of : StateFields → State
 state_of s = record {
   stack = s.operands;
@@ -32,7 +32,7 @@ state_of s = record {
   entered = s.entered;
 }
 
--- the step that an answer tells, with the state after it
+-- profile: the step that an answer stands for, with the state after it
 abbrev pub told : Control → State → Step
 told controls.Next s = Next s
 told (controls.Call n) s = Call n s
@@ -40,22 +40,22 @@ told controls.Back s = Back s
 told controls.End s = End s
 told (controls.Compose a) s = Compose a s
 
--- a step is refused by its fault, or for want of memory
+-- profile: a step is refused by its fault, or for want of memory
 abbrev pub RefusesStep : Refusal → Step → Type 0
 RefusesStep refusals.Memory step = Unit {0}
 RefusesStep (refusals.Fault fault) step = (fault ≡ fault_at Nowhere fault.code) × (step ≡ Fault fault.code)
 
--- a call makes this step: its answer and the state that it leaves tell it, or it refuses as the step does
+-- profile: a call makes this step: its answer and the state that it leaves stand for it, or it refuses as the step does
 abbrev pub Tells : Step → Result Control Refusal → StateFields → Type 0
 Tells step (Ok control) now = step ≡ told control (state_of now)
 Tells step (Err refused) now = RefusesStep refused step
 
--- a call answers what the own body of a glyph of the maps draws, or its fault at no place, unless memory ran out
+-- profile: a call answers what the own body of a glyph of the maps draws, or its fault at no place, unless memory ran out
 abbrev pub GivesOwn : Result NumberedRun Refusal → Option (Result Drawing Code) → Type 0
 GivesOwn result None = ⊥
 GivesOwn result (Some outcome) = Gives (λ run. run.drawing) result (told_at Nowhere outcome)
 
--- the othersubr's effect, as the code names it
+-- profile: the othersubr's effect, as the code names it
 abbrev pub effect_of : Effect → State → Step
 effect_of (EndFlex height x y) s = end_flex s.flex (height ∷ x ∷ y ∷ []) s
 effect_of StartFlex s = start_flex s.flex s
@@ -63,11 +63,11 @@ effect_of RecordPoint s = add_flex s.flex s
 effect_of (Leave value) s = Next (record s { results = value ∷ [] })
 effect_of Discard s = Next (record s { results = [] })
 
--- the first so many rests of bodies, the last one first
+-- profile: the first so many rests of bodies, the last one first
 abbrev pub waiting : ℕ → List (Bor (List Command)) → List (List Command)
 waiting n rests = reverse (map (λ r. r.now) (take n rests))
 
--- the outline grew by the moved segments
+-- profile: the outline grew by the moved segments
 abbrev pub AppendsMoved : Result (List Segment) Code → List Segment → List Segment → Type 0
 AppendsMoved (Ok moved) old new = new ≡ old ++ moved
 AppendsMoved (Err fault) old new = ⊥

@@ -8,11 +8,11 @@ use Rattle.t1_frac.specs.declared.fault.Code.TheVariants.{F37, F48}
 use Rattle.t1_code.specs.declared.command.Command.{Command}
 use Rattle.t1_code.specs.declared.command.Command.TheVariants.{Num, HStem, VStem, VMoveTo, RLineTo, HLineTo, VLineTo, RRCurveTo, ClosePath, CallSubr, Return, DotSection, VStem3, HStem3, Seac, Sbw, Div, CallOtherSubr, Pop, SetCurrentPoint, Hsbw, EndChar, RMoveTo, HMoveTo, VHCurveTo, HVCurveTo}
 
--- the n topmost values, the lowest first
+-- profile: the n topmost values, the lowest first
 abbrev pub topmost : ℕ → List Fraction → List Fraction
 topmost n stack = drop (length stack - n) stack
 
--- the values below the n topmost
+-- profile: the values below the n topmost
 abbrev pub below : ℕ → List Fraction → List Fraction
 below n stack = take (length stack - n) stack
 
@@ -58,7 +58,7 @@ operand_fault wanted_whole a =
 abbrev pub size_fault : List Fraction → Option Code
 size_fault values = if list_any (exceeds 32000) values then Some F37 else None
 
--- the first fault, else the second
+-- profile: the first fault, else the second
 abbrev pub fault_or : Option Code → Option Code → Option Code
 fault_or (Some fault) next = Some fault
 fault_or None next = next

@@ -38,6 +38,7 @@ abbrev pub draw_flex : Option (List Segment) → List Fraction → State → Ste
 draw_flex (Some curves) (height ∷ x ∷ y ∷ []) s = Next (record s { flex = None; segments = s.segments ++ curves; results = x ∷ y ∷ [] })
 draw_flex _ _ s = Fault F41
 
+-- Type 1 Font Format, chapter 8 (flex): a flex that was started ends with its curves
 abbrev pub end_flex : Option Flex → List Fraction → State → Step
 end_flex None arguments s = Fault F41
 end_flex (Some f) arguments s = draw_flex (flex_curves f.before f.recorded) arguments s
@@ -57,6 +58,7 @@ other_with number n s =
     (unless_fault (size_fault (take n (topmost (2 + n) s.stack)))
     (other_effect number (take n (topmost (2 + n) s.stack)) (with_stack (below (2 + n) s.stack) s)))
 
+-- profile: F42 where the number or the count is below 0
 abbrev pub other_at : ℤ → ℤ → State → Step
 other_at (pos number) (pos n) s = other_with number n s
 other_at _ _ s = Fault F42

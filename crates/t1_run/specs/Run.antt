@@ -20,6 +20,7 @@ pub record FontBodies : Type 0 where
   pub subrs : ℕ → Option (List Command)
   pub glyphs : List ℕ → Option (List Command)
 
+-- profile: the font of these two maps
 abbrev pub font : (ℕ → Option (List Command)) → (List ℕ → Option (List Command)) → FontBodies
 font subrs glyphs = record { subrs = subrs; glyphs = glyphs }
 
@@ -36,11 +37,11 @@ pub data Ending : Type 0 where
   Ended : Option Composite → State → List Key → Ending
   Failed : Code → List Key → Ending
 
--- what a list of commands does from a state
+-- profile: what a list of commands does from a state
 abbrev pub Runner : Type 0
 Runner = State → List Key → Ending
 
--- what a call of a Subr does from a state
+-- profile: what a call of a Subr does from a state
 abbrev pub Caller : Type 0
 Caller = ℕ → Runner
 
@@ -51,6 +52,7 @@ abbrev pub entered_with : ℕ → List ℕ → List ℕ
 entered_with n [] = n ∷ []
 entered_with n (m ∷ ms) = if nat_lt n m then n ∷ m ∷ ms else (if n == m then m ∷ ms else m ∷ entered_with n ms)
 
+-- profile: a Subr that is entered is noted
 abbrev pub entering : ℕ → State → State
 entering n s = record s { entered = entered_with n s.entered }
 
@@ -75,10 +77,12 @@ abbrev pub asking_accent : Option (List Command) → List ℕ → List Key → L
 asking_accent None accent asked = asked
 asking_accent (Some _) accent asked = Glyph accent ∷ asked
 
+-- profile: the same, from the names of both
 abbrev pub asking_parts : Option (List ℕ) → Option (List ℕ) → (List ℕ → Option (List Command)) → List Key → List Key
 asking_parts (Some base) (Some accent) glyphs asked = asking_accent (glyphs base) accent (Glyph base ∷ asked)
 asking_parts _ _ glyphs asked = asked
 
+-- profile: the run ends with its composite, or by the composite's fault
 abbrev pub composed : Result Composite Code → Runner
 composed (Ok composite) s asked = Ended (Some composite) s asked
 composed (Err fault) s asked = Failed fault asked
@@ -92,7 +96,7 @@ go_on next (Returned s asked) = next s asked
 go_on next (Ended composite s asked) = Ended composite s asked
 go_on next (Failed fault asked) = Failed fault asked
 
--- what a word's step does to the run
+-- profile: what a word's step does to the run
 abbrev pub act : FontBodies → Caller → Runner → Step → List Key → Ending
 act m caller next (Next s) asked = next s asked
 act m caller next (Call n s) asked = go_on next (caller n s (Subr n ∷ asked))
@@ -116,6 +120,7 @@ abbrev pub call_within : FontBodies → ℕ → Caller
 call_within m zero n s asked = called (λ body s' asked'. Failed F33 asked') (m.subrs n) n s asked
 call_within m (suc levels) n s asked = called (words m (call_within m levels)) (m.subrs n) n s asked
 
+-- profile, limits: what a list of commands does, where so many Subrs may be active at once
 abbrev pub runs : FontBodies → ℕ → List Command → Runner
 runs m levels = words m (call_within m levels)
 
@@ -123,8 +128,10 @@ runs m levels = words m (call_within m levels)
 unfoldable pub ending : FontBodies → List Command → Ending
 ending m body = runs m 10 body initial []
 
--- ---- what a run tells
+-- ---- what a run answers
 
+-- profile: what a run answers: width, side bearing and segments, the parts of a composite, the Subrs entered, and the
+-- steps made
 pub record Drawing : Type 0 where
   pub width : Point
   pub bearing : Point
@@ -133,12 +140,12 @@ pub record Drawing : Type 0 where
   pub entered : List ℕ
   pub steps : ℕ
 
--- what a run tells, with its number among the runs
+-- profile: what a run answers, with its number among the runs
 pub record NumberedRun : Type 0 where
   pub drawing : Drawing
   pub serial : ℕ
 
--- endchar and seac ask for the side bearing, so it is set where a run ends by them
+-- profile: endchar and seac ask for the side bearing, so it is set where a run ends by them
 abbrev pub drawing_of : Option Metric → Option Composite → State → Result Drawing Code
 drawing_of None composite s = Err F36
 drawing_of (Some metric) composite s =
@@ -158,15 +165,18 @@ outcome_of (Returned s asked) = Err F34
 outcome_of (Ended composite s asked) = drawing_of s.metric composite s
 outcome_of (Failed fault asked) = Err fault
 
+-- profile: the keys that were asked by the end of a run, the newest first
 abbrev pub asked_by : Ending → List Key
 asked_by (Finished s asked) = asked
 asked_by (Returned s asked) = asked
 asked_by (Ended composite s asked) = asked
 asked_by (Failed fault asked) = asked
 
+-- profile: what a body draws, or its first fault, where there is a body
 abbrev pub own_of : FontBodies → Option (List Command) → Option (Result Drawing Code)
 own_of m body = option_map (λ cs. outcome_of (ending m cs)) body
 
+-- profile: what the run of a body asks of the maps, where there is a body
 abbrev pub asked_of : FontBodies → Option (List Command) → List Key
 asked_of m None = []
 asked_of m (Some body) = asked_by (ending m body)

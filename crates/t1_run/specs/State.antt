@@ -25,6 +25,7 @@ pub record State : Type 0 where
   -- the Subrs entered, ascending and each once
   pub entered : List ℕ
 
+-- profile: the point whose coordinates are both 0
 abbrev pub origin : Point
 origin = record { x = whole (pos 0); y = whole (pos 0) }
 

@@ -20,50 +20,58 @@ pub data Step : Type 0 where
   Compose : Accent → State → Step
   Fault : Code → Step
 
--- the fault where the test holds, else what comes next
+-- profile: the fault where the test holds, else what comes next
 abbrev pub refuse : Bool → Code → Step → Step
 refuse test fault next = if test then Fault fault else next
 
--- the step that comes next, where there is no fault before it
+-- profile: the step that comes next, where there is no fault before it
 abbrev pub unless_fault : Option Code → Step → Step
 unless_fault None next = next
 unless_fault (Some fault) next = Fault fault
 
--- the step with the value, or the fault in its place
+-- profile: the step with the value, or the fault in its place
 abbrev pub attempt : {A : Type 0} → Result A Code → (A → Step) → Step
 attempt (Ok value) next = next value
 attempt (Err fault) next = Fault fault
 
 -- ---- so many operands, the lowest first
 
+-- profile: the only operand, or F30
 abbrev pub with_one : List Fraction → (Fraction → Step) → Step
 with_one (a ∷ []) next = next a
 with_one _ next = Fault F30
 
+-- profile: the only two operands, or F30
 abbrev pub with_two : List Fraction → (Fraction → Fraction → Step) → Step
 with_two (a ∷ b ∷ []) next = next a b
 with_two _ next = Fault F30
 
+-- profile: the only four operands, or F30
 abbrev pub with_four : List Fraction → (Fraction → Fraction → Fraction → Fraction → Step) → Step
 with_four (a ∷ b ∷ c ∷ d ∷ []) next = next a b c d
 with_four _ next = Fault F30
 
+-- profile: the only five operands, or F30
 abbrev pub with_five : List Fraction → (Fraction → Fraction → Fraction → Fraction → Fraction → Step) → Step
 with_five (a ∷ b ∷ c ∷ d ∷ e ∷ []) next = next a b c d e
 with_five _ next = Fault F30
 
+-- profile: the only six operands, or F30
 abbrev pub with_six : List Fraction → (Fraction → Fraction → Fraction → Fraction → Fraction → Fraction → Step) → Step
 with_six (a ∷ b ∷ c ∷ d ∷ e ∷ f ∷ []) next = next a b c d e f
 with_six _ next = Fault F30
 
 -- ---- changes of the state
 
+-- profile: the state with these values on its stack
 abbrev pub with_stack : List Fraction → State → State
 with_stack values s = record s { stack = values }
 
+-- profile: the state with an empty stack
 abbrev pub cleared : State → State
 cleared s = record s { stack = [] }
 
+-- profile: the state with this current point
 abbrev pub at_point : Point → State → State
 at_point p s = record s { current = p }
 
@@ -73,6 +81,7 @@ push a s = refuse (nat_le 24 (length s.stack)) F31 (Next (with_stack (s.stack ++
 
 -- ---- points and segments
 
+-- profile: the number 0
 abbrev pub zero_fraction : Fraction
 zero_fraction = whole (pos 0)
 

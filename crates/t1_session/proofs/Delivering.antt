@@ -34,9 +34,6 @@ unfolding metrics_file
 metrics_parts source kerning s ps glyphs read paired checked told = rw (read, paired, checked, told) refl
 
 module _ {W : Type 0} (contents : W → Option (List ℕ)) (old new : Tally W) (text given : Result (List ℕ) Fault) (same : given ≡ text) where
-  pub delivers_whole : Prints {T = Unit {0}} contents old new text (Ok tt) → Delivers {T = Unit {0}} contents old new given (Ok tt)
-  delivers_whole p = (p.0, same ∙ p.1, p.2)
-
   pub delivers_failure : (e : OutError) → Prints {T = Unit {0}} contents old new text (Err e) → Delivers {T = Unit {0}} contents old new given (Err (told_by_writing e))
   delivers_failure out.Write p = (p.0, same ∙ p.1, p.2)
   delivers_failure (out.Fault fault) p = (same ∙ p.0, p.1)

@@ -67,10 +67,6 @@ finished_lines-unbroken xs h = rw (ended-unbroken xs h) refl
 pub finished_lines-last : (xs : List ℕ) → is_unbroken xs ≡ true → finished_lines true xs ≡ last_line xs
 finished_lines-last xs h = split-unbroken xs h
 
-pub last_line_of : (line : List ℕ) → (length line == 0) ≡ false → last_line line ≡ line ∷ []
-last_line_of [] h = cc
-last_line_of (b ∷ bs) h = refl
-
 -- a line without its end stays so as a byte that ends no line comes to it
 pub is_unbroken-push : (xs : List ℕ) (b : ℕ) → is_unbroken xs ≡ true → (b == 10) ≡ false → is_unbroken (xs ++ b ∷ []) ≡ true
 is_unbroken-push [] b h n = rw n refl

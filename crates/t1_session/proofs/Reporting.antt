@@ -28,14 +28,6 @@ module _ {W : Type 0} (contents : W → Option (List ℕ)) (old new : State) (be
   sent command (Err (out.Fault fault)) answer is next h = h
   sent command (Err out.Memory) answer is next h = absurd h
 
-  pub reported : {T E : Type 0} (command : Command) (performed : Result T Cause) (r : Result E OutError) → Takes old command performed new
-      → Reports contents before after performed r → IsPerformed contents old new before after command r
-  reported command (Ok done) r t h = sent command r Accepted t.0 t.1 h
-  reported command (Err (causes.Rule rule)) r t h = sent command r (Broken rule) t.0 (t.2 ∙ sym t.1) h
-  reported command (Err (causes.Fault fault)) r t h = sent command r (Faulty fault) t.0 t.1 h
-  reported {E = E} command (Err causes.Memory) r t h =
-      subst (λ (x : Result E OutError). IsPerformed contents old new before after command x) (sym h.1) (h.0, t.0, t.1)
-
 same-text : (text whole : List ℕ) → ◌≡◌ {A = Result (List ℕ) Fault} (Ok text) (Ok whole) → whole ≡ text
 same-text text whole h = cc
 

@@ -27,7 +27,7 @@ use Rattle.t1_held.specs.Ready.{IsPreparedEdit}
 use Rattle.t1_held.proofs.HeldLaws.{checked_well}
 use Rattle.t1_session.specs.Reruns.{Renews, Spends}
 use Rattle.t1_session.specs.State.{SessionView}
-use Rattle.t1_session.proofs.StateLaws.{file_checked, right_checked}
+use Rattle.t1_session.proofs.StateLaws.{right_checked}
 
 -- an edit of a session's source was prepared
 abbrev pub edit_prepared : (s : SourceParts) (k : List Pair) (held : Held) (edit : Edit) (change : Change) → IsHeld s held
@@ -36,27 +36,9 @@ abbrev pub edit_prepared : (s : SourceParts) (k : List Pair) (held : Held) (edit
 edit_prepared s k held edit change is again serves e =
     record { held = is; well = checked_well s (right_checked s held.records is.right) again; serves = serves; made = e }
 
--- as many runs as stale glyphs, where the file has no fault
-runs-all : (keys : List Key) (old new : SourceParts) → source_check new ≡ Ok tt → runs_where (file_check new) (stale old keys new) ≡ length (stale old keys new)
-runs-all keys old new e = ap (λ r. runs_where r (stale old keys new)) (file_checked new e)
-
 runs-most : (check : Result (Unit {0}) Fault) (names : List (List ℕ)) → runs_where check names ≤ length names
 runs-most (Ok checked) names = omega arith
 runs-most (Err fault) names = omega arith
-
-pub edits_renew : (v new : SessionView) (old made : SourceParts) (keys : List Key) (count : ℕ) (kept : List Kept)
-    → v.state.source ≡ old → v.kept ≡ kept → v.runs ≡ count → source_check made ≡ Ok tt
-    → new.runs ≡ counted count (runs_where (file_check made) (stale old keys made))
-    → AllByRecursion (IsRunWhereStale count keys old kept) new.kept
-    → Renews (record { keys = keys; source = made }) v new
-edits_renew v new old made keys count kept source was were checked runs each = record {
-  runs = runs ∙ ap (counted count) (runs-all keys old made checked)
-      ∙ ap (λ n. counted n (length (stale old keys made))) (sym were)
-      ∙ ap (λ s. counted v.runs (length (stale s keys made))) (sym source);
-  each = subst (λ l. AllByRecursion (IsRunWhereStale v.runs keys v.state.source l) new.kept) (sym was)
-      (subst (λ s. AllByRecursion (IsRunWhereStale v.runs keys s kept) new.kept) (sym source)
-      (subst (λ n. AllByRecursion (IsRunWhereStale n keys old kept) new.kept) (sym were) each));
-}
 
 pub edits_spend : (T : Type 0) (v new : SessionView) (old made : SourceParts) (keys : List Key) (count : ℕ) (kept : List Kept) (refusal : Refusal)
     → v.state.source ≡ old → v.kept ≡ kept → v.runs ≡ count → new.kept ≡ kept
@@ -85,13 +67,6 @@ edits_unmade v new old made keys count kept source was were same checked runs =
     edits_spend (Unit {0}) v new old made keys count kept refusals.Memory source was were same (runs_where (file_check made) (stale old keys made), omega arith, runs)
 
 -- one edit
-
-pub edit_renews : (v new : SessionView) (old made : SourceParts) (edit : Edit) (count : ℕ) (kept : List Kept)
-    → v.state.source ≡ old → v.kept ≡ kept → v.runs ≡ count → source_check made ≡ Ok tt
-    → new.runs ≡ counted count (renewing_runs edit old made)
-    → AllByRecursion (IsRunWhereStale count (named edit) old kept) new.kept
-    → Renews (record { keys = named edit; source = made }) v new
-edit_renews v new old made edit = edits_renew v new old made (named edit)
 
 pub edit_spends : (T : Type 0) (v new : SessionView) (old made : SourceParts) (edit : Edit) (count : ℕ) (kept : List Kept) (refusal : Refusal)
     → v.state.source ≡ old → v.kept ≡ kept → v.runs ≡ count → new.kept ≡ kept

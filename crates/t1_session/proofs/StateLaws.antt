@@ -68,23 +68,6 @@ metrics_are s k font e = ap (λ (r : Result MeasuredFont Fault). r >>= λ (found
 pub holding_alone : (s : SourceParts) (k : List Pair) (batch : Option Draft) → batch ≡ None → ◌≡◌ {A = State} (record { source = s; pairs = k; batch = batch }) (holding s k)
 holding_alone s k batch none = ap (λ (b : Option Draft). record { source = s; pairs = k; batch = b }) none
 
-pub accepted : (old new : State) (s : SourceParts) (k : List Pair) (font : MeasuredFont) → measured_source s ≡ Ok font → new ≡ holding s k
-    → ((judged old (s, k) (source_check s)).answer ≡ Accepted) × (new ≡ (judged old (s, k) (source_check s)).next)
-accepted old new s k font known is = rw (check_passed s font known) (refl, is)
-
-pub refused : (old : State) (s : SourceParts) (k : List Pair) (fault : Fault) → measured_source s ≡ Err fault → old.batch ≡ None
-    → ((judged old (s, k) (source_check s)).answer ≡ Faulty fault) × (old ≡ (judged old (s, k) (source_check s)).next)
-refused old s k fault known none = rw (check_refused s fault known) (refl, holding_alone old.source old.pairs old.batch none)
-
-pub refused_took : (refusal : Refusal) (old : State) (s : SourceParts) (k : List Pair) → Refuses refusal (measured_source s) → old.batch ≡ None
-    → Took {T = Unit {0}} old (judged old (s, k) (source_check s)) true old (Err (refused_source refusal)) old
-refused_took refusals.Memory old s k h none = (refl, refl)
-refused_took (refusals.Fault fault) old s k h none = refused old s k fault h none
-
-pub open_refused : (refusal : Refusal) (s : SourceParts) (k : List Pair) → Refuses refusal (measured_source s) → Refuses refusal (opened s k)
-open_refused refusals.Memory s k h = tt
-open_refused (refusals.Fault fault) s k h = ap (λ (r : Result (Unit {0}) Fault). r >>= λ checked. Ok (holding s k)) (check_refused s fault h)
-
 -- ---- its file
 
 first-ok : {A B : Type 0} (a : Result A Fault) (f : A → Result B Fault) (b : B) → (a >>= f) ≡ Ok b → (x : A) × (a ≡ Ok x)
@@ -183,11 +166,6 @@ counts_short s font e = let checked = file-checked s font e in counted-source s 
 
 -- ---- by right records
 
-pub file_checked : (s : SourceParts) → source_check s ≡ Ok tt → file_check s ≡ Ok tt
-file_checked s e =
-    let font = checked-metrics s e in
-    (file-checked s font.0 font.1).1
-
 pub right_checked : (s : SourceParts) (records : Records) → IsRight s records → source_check s ≡ Ok tt
 right_checked s records right = ap (λ (r : Result (List Told) Fault). r >>= λ glyphs. Ok (tt {0})) right.kept.faultless
 
@@ -208,11 +186,6 @@ pub afm_shown : {A E : Type 0} (given : Result (Vec ℕ A) E) (s : State) (file 
     → IfOk given (λ found. printed s prints.Afm ≡ Data found.items)
 afm_shown (Ok found) s file is known = ap file_answer known ∙ ap (λ (l : List ℕ). Data l) (sym is)
 afm_shown (Err e) s file is known = tt
-
-pub uses_shown : {A E : Type 0} (given : Result (Vec ℕ A) E) (s : State) (table : List ℕ) → IfOk given (λ found. found.items ≡ table) → source_usage s.source ≡ Ok table
-    → IfOk given (λ found. printed s prints.Uses ≡ Data found.items)
-uses_shown (Ok found) s table is known = ap file_answer known ∙ ap (λ (l : List ℕ). Data l) (sym is)
-uses_shown (Err e) s table is known = tt
 
 -- ---- its texts from scratch
 

@@ -16,50 +16,51 @@ use Rattle.t1_commands.specs.Answers.{answers, answer_to}
 use Rattle.t1_session.specs.Machine.{machine, may_want_memory, after_want}
 use Rattle.t1_session.specs.State.{State}
 
--- a session in the midst of its input: its state, the command whose body is being read, the unfinished line, and
--- whether the byte before was a CR
+-- profile: a session in the midst of its input: its state, the command whose body is being read, the unfinished line,
+-- and whether the byte before was a CR
 pub record Conversation : Type 0 where
   pub state : State
   pub opening : Option Opening
   pub line : List ℕ
   pub after_return : Bool
 
--- a session before its first byte
+-- profile: a session before its first byte
 abbrev pub fresh : State → Conversation
 fresh s = record { state = s; opening = None; line = []; after_return = false }
 
--- an LF directly after a CR belongs to it
+-- profile: an LF directly after a CR belongs to it
 abbrev pub input_after : Bool → List ℕ → List ℕ
 input_after after_return input = if after_return && begins_with 10 input then drop 1 input else input
 
--- a CR ends its line at once, and so does an LF that belongs to no CR
+-- profile: a CR ends its line at once, and so does an LF that belongs to no CR
 abbrev pub ends_line : Bool → ℕ → Bool
 ends_line after_return b = b == 13 || (b == 10 && not after_return)
 
--- no line of the text has its end
+-- profile: no line of the text has its end
 abbrev pub is_unbroken : List ℕ → Bool
 is_unbroken text = list_all (λ c. not (c == 10)) text
 
--- the commands that the rest of the input finishes
+-- profile: the commands that the rest of the input finishes
 unfoldable pub commands_from : Conversation → List ℕ → Bool → List Command
 commands_from c rest ended = commands_of ended c.opening (finished_lines ended (c.line ++ unified (input_after c.after_return rest)))
 
--- these commands bring a session from one state to another with this text, whatever commands come after
+-- profile: these commands bring a session from one state to another with this text, whatever commands come after
 pub record Performs (old new : State) (made : List Command) (text : List ℕ) : Type 0 where
   pub marks : List Bool
   pub on : (rest : List Command) (more : List Bool) → answers machine old (made ++ rest) (marks ++ more) ≡ text ++ answers machine new rest more
 
--- this input brings a conversation from one point to another, by these commands with this text, whatever comes after
+-- profile: this input brings a conversation from one point to another, by these commands with this text, whatever comes
+-- after
 pub record Goes (old new : Conversation) (input text : List ℕ) : Type 0 where
   pub made : List Command
   pub spells : (rest : List ℕ) (ended : Bool) → commands_from old (input ++ rest) ended ≡ made ++ commands_from new rest ended
   pub performs : Performs old.state new.state made text
 
--- without further input no command is finished
+-- profile: without further input no command is finished
 abbrev pub IsQuiet : Conversation → Type 0
 IsQuiet c = commands_from c [] false ≡ []
 
--- the text went out, or a failed write cut it short
+-- profile: the text went out, or a failed write cut it short
 abbrev pub Sends : {W T : Type 0} → (W → Option (List ℕ)) → Tally W → Tally W → List ℕ → Result T ServeError → Type 0
 Sends contents old new text (Ok done) = WritesAll contents old new text
 Sends contents old new text (Err errors.Write) = WritesFront contents old new text
@@ -67,8 +68,8 @@ Sends contents old new text (Err errors.Memory) = ⊥
 Sends contents old new text (Err errors.Read) = ⊥
 Sends contents old new text (Err (errors.Load fault)) = ⊥
 
--- a command was performed, and its answer went out, or a failed write cut it short; or it met want of memory, and nothing
--- was written
+-- profile: a command was performed, and its answer went out, or a failed write cut it short; or it met want of memory,
+-- and nothing was written
 abbrev pub IsPerformed : {W T : Type 0} → (W → Option (List ℕ)) → State → State → Tally W → Tally W → Command → Result T OutError → Type 0
 IsPerformed contents old new before after command (Ok done) =
     WritesAll contents before after (answer_text (machine.perform old command).answer) × (new ≡ (machine.perform old command).next)
@@ -78,13 +79,13 @@ IsPerformed contents old new before after command (Err (out.Fault fault)) = ⊥
 IsPerformed contents old new before after command (Err out.Memory) =
     (after ≡ before) × (may_want_memory old command ≡ true) × (new ≡ after_want old command)
 
--- the answer to one command, marked or not
+-- profile: the answer to one command, marked or not
 pub record AnswersCommand {W T : Type 0} (contents : W → Option (List ℕ)) (old new : State) (before after : Tally W) (command : Command) (result : Result T ServeError) : Type 0 where
   pub mark : Bool
   pub sends : Sends contents before after (answer_text (answer_to machine old command mark).answer) result
   pub next : new ≡ (answer_to machine old command mark).next
 
--- the end of a line brings a conversation from one point to another, whatever lines come after
+-- profile: the end of a line brings a conversation from one point to another, whatever lines come after
 pub record LineGoes (old new : Conversation) (text : List ℕ) : Type 0 where
   pub made : List Command
   pub spells : (lines : List (List ℕ)) (ended : Bool) → commands_of ended old.opening (old.line ∷ lines) ≡ made ++ commands_of ended new.opening lines
@@ -92,20 +93,20 @@ pub record LineGoes (old new : Conversation) (text : List ℕ) : Type 0 where
   pub no_line : new.line ≡ []
   pub same : new.after_return ≡ old.after_return
 
--- a line was answered whole
+-- profile: a line was answered whole
 pub record LineAnswered {W : Type 0} (contents : W → Option (List ℕ)) (old new : Conversation) (before after : Tally W) : Type 0 where
   pub text : List ℕ
   pub goes : LineGoes old new text
   pub written : WritesAll contents before after text
 
--- the answer to a line went out in part
+-- profile: the answer to a line went out in part
 pub record LineStops {W : Type 0} (contents : W → Option (List ℕ)) (old : Conversation) (before after : Tally W) : Type 0 where
   pub text : List ℕ
   pub reached : Conversation
   pub goes : LineGoes old reached text
   pub written : WritesFront contents before after text
 
--- the end of a line that isn't one of a body; it doesn't end a session for want of memory
+-- profile: the end of a line that isn't one of a body is answered; it doesn't end a session for want of memory
 abbrev pub EndsCommandLine : {W T : Type 0} → (W → Option (List ℕ)) → Conversation → Conversation → Tally W → Tally W → Result T ServeError → Type 0
 EndsCommandLine contents old new before after (Ok done) = LineAnswered contents old new before after
 EndsCommandLine contents old new before after (Err errors.Write) = LineStops contents old before after
@@ -113,13 +114,13 @@ EndsCommandLine contents old new before after (Err errors.Memory) = ⊥
 EndsCommandLine contents old new before after (Err errors.Read) = ⊥
 EndsCommandLine contents old new before after (Err (errors.Load fault)) = ⊥
 
--- the line goes into a body
+-- profile: the line goes into a body
 pub record IsBodyLine (opening : Option Opening) (line : List ℕ) : Type 0 where
   pub opened : Opening
   pub is : opening ≡ Some opened
   pub goes_on : ends_body line ≡ false
 
--- the end of a line; memory may be wanted where it goes into a body
+-- profile: the end of a line is answered; memory may be wanted where it goes into a body
 abbrev pub EndsLine : {W T : Type 0} → (W → Option (List ℕ)) → Conversation → Conversation → Tally W → Tally W → Result T ServeError → Type 0
 EndsLine contents old new before after (Ok done) = LineAnswered contents old new before after
 EndsLine contents old new before after (Err errors.Write) = LineStops contents old before after
@@ -127,13 +128,13 @@ EndsLine contents old new before after (Err errors.Memory) = (after ≡ before) 
 EndsLine contents old new before after (Err errors.Read) = ⊥
 EndsLine contents old new before after (Err (errors.Load fault)) = ⊥
 
--- a piece of input was answered whole
+-- profile: a piece of input was answered whole
 pub record Answered {W : Type 0} (contents : W → Option (List ℕ)) (old new : Conversation) (before after : Tally W) (piece : List ℕ) : Type 0 where
   pub text : List ℕ
   pub goes : Goes old new piece text
   pub written : WritesAll contents before after text
 
--- memory was wanted for a byte of the piece, which finishes no command; those before it were answered
+-- profile: memory was wanted for a byte of the piece, which finishes no command; those before it were answered
 pub record StopsForMemory {W : Type 0} (contents : W → Option (List ℕ)) (old : Conversation) (before after : Tally W) (piece : List ℕ) : Type 0 where
   pub front : List ℕ
   pub byte : ℕ
@@ -144,7 +145,7 @@ pub record StopsForMemory {W : Type 0} (contents : W → Option (List ℕ)) (old
   pub quiet : IsQuiet reached
   pub finishes_none : commands_from reached (byte ∷ []) false ≡ []
 
--- a write failed: the answers to a beginning of the piece went out in part
+-- profile: a write failed: the answers to a beginning of the piece went out in part
 pub record StopsForWrite {W : Type 0} (contents : W → Option (List ℕ)) (old : Conversation) (before after : Tally W) (piece : List ℕ) : Type 0 where
   pub front : List ℕ
   pub rest : List ℕ
@@ -154,7 +155,7 @@ pub record StopsForWrite {W : Type 0} (contents : W → Option (List ℕ)) (old 
   pub goes : Goes old reached front text
   pub written : WritesFront contents before after text
 
--- a piece of input
+-- profile: what a call leaves that takes a piece of input
 abbrev pub Feeds : {W T : Type 0} → (W → Option (List ℕ)) → Conversation → Conversation → Tally W → Tally W → List ℕ → Result T ServeError → Type 0
 Feeds contents old new before after piece (Ok done) = Answered contents old new before after piece
 Feeds contents old new before after piece (Err errors.Memory) = StopsForMemory contents old before after piece
@@ -162,7 +163,7 @@ Feeds contents old new before after piece (Err errors.Write) = StopsForWrite con
 Feeds contents old new before after piece (Err errors.Read) = ⊥
 Feeds contents old new before after piece (Err (errors.Load fault)) = ⊥
 
--- the end of the input; it doesn't end a session for want of memory
+-- profile: the end of the input is answered; it doesn't end a session for want of memory
 pub record Ends {W T : Type 0} (contents : W → Option (List ℕ)) (old : Conversation) (before after : Tally W) (result : Result T ServeError) : Type 0 where
   pub marks : List Bool
   pub sends : Sends contents before after (answers machine old.state (commands_from old [] true) marks) result

@@ -14,12 +14,14 @@ abbrev pub told_by_refusal : Refusal → ServeError
 told_by_refusal (refusals.Fault fault) = errors.Load fault
 told_by_refusal refusals.Memory = errors.Memory
 
+-- profile: a fault of what is written is reported in Load too
 abbrev pub told_by_writing : OutError → ServeError
 told_by_writing (out.Fault fault) = errors.Load fault
 told_by_writing out.Write = errors.Write
 told_by_writing out.Memory = errors.Memory
 
--- A call that writes what a definition gives: the whole text at Ok; a beginning of it and one failed call at Write; nothing at Load, whose fault is the definition's, and nothing where memory ran out. It reads nothing.
+-- profile: a call that writes what a definition gives: the whole text at Ok; a beginning of it and one failed call at
+-- Write; nothing at Load, whose fault is the definition's, and nothing where memory ran out. It reads nothing.
 abbrev pub Delivers : {W T : Type 0} → (W → Option (List ℕ)) → Tally W → Tally W → Result (List ℕ) Fault → Result T ServeError → Type 0
 Delivers contents old new given (Ok done) = (whole : List ℕ) × (given ≡ Ok whole) × WritesAll contents old new whole
 Delivers contents old new given (Err errors.Write) = (whole : List ℕ) × (given ≡ Ok whole) × WritesFront contents old new whole

@@ -17,7 +17,7 @@ use Rattle.t1_font.specs.SourceChecks.{source_check}
 unfoldable pub assembled : ℕ → List ℕ → Result (List ℕ) Fault
 assembled size bytes = reads bytes >>= λ source. source_file size source
 
--- the same, of the PFA file
+-- profile, order of faults: the same, of the PFA file
 unfoldable pub assembled_pfa : List ℕ → Result (List ℕ) Fault
 assembled_pfa bytes = reads bytes >>= λ source. source_pfa source
 
@@ -31,7 +31,8 @@ metrics_file source kerning = do
   glyphs ← measured s.items
   Ok (afm (metrics_of s ps glyphs))
 
--- the AFM file of a source and its pairs, which were read, is refused by the source's first fault and by nothing else
+-- profile: the AFM file of a source and its pairs, which were read, is refused by the source's first fault and by
+-- nothing else
 abbrev pub MetricsTellFirstFault : Type 0
 MetricsTellFirstFault = (source kerning : List ℕ) (s : SourceParts) (ps : List Pair) → reads source ≡ Ok s → pairs kerning ≡ Ok ps
     → (metrics_file source kerning >>= λ file. Ok tt) ≡ source_check s

@@ -14,7 +14,7 @@ use Rattle.t1_font.specs.Usage.{usage_table}
 use Rattle.t1_session.specs.Files.{assembled, assembled_pfa}
 use Rattle.t1_session.specs.State.{State}
 
--- the PFB file, the AFM file and the usage table of a font
+-- profile: the PFB file, the AFM file and the usage table of a font
 pub record Texts : Type 0 where
   pub pfb : List ℕ
   pub metrics : List ℕ
@@ -30,22 +30,26 @@ texts_of source kerning = do
   file ← source_file whole_file s
   Ok (record { pfb = file; metrics = afm (metrics_of s k font); uses = usage_table font.metrics })
 
--- the texts, from scratch, of the source and the pairs that a session prints
+-- profile: the texts, from scratch, of the source and the pairs that a session prints
 abbrev pub from_scratch : State → Result Texts Fault
 from_scratch s = texts_of (text s.source) (kern s.pairs)
 
+-- profile: the PFB file of these texts
 abbrev pub pfb_from_scratch : State → Result (List ℕ) Fault
 pfb_from_scratch s = from_scratch s >>= λ texts. Ok texts.pfb
 
+-- profile: the AFM file of these texts
 abbrev pub metrics_from_scratch : State → Result (List ℕ) Fault
 metrics_from_scratch s = from_scratch s >>= λ texts. Ok texts.metrics
 
+-- profile: the usage table of these texts
 abbrev pub uses_from_scratch : State → Result (List ℕ) Fault
 uses_from_scratch s = from_scratch s >>= λ texts. Ok texts.uses
 
--- the PFB file in blocks of this size, and the PFA file, of reading and assembling the source that a session prints
+-- profile: the PFB file in blocks of this size, of reading and assembling the source that a session prints
 abbrev pub blocks_from_scratch : ℕ → State → Result (List ℕ) Fault
 blocks_from_scratch size s = assembled size (text s.source)
 
+-- profile: the PFA file, of the same
 abbrev pub pfa_from_scratch : State → Result (List ℕ) Fault
 pfa_from_scratch s = assembled_pfa (text s.source)

@@ -27,11 +27,11 @@ use Rattle.t1_commands.specs.Blocks.{block_size}
 use Rattle.t1_commands.specs.Answers.{Performed, Machine}
 use Rattle.t1_session.specs.State.{State}
 
--- the state with this source and these pairs, and no batch
+-- profile: the state with this source and these pairs, and no batch
 abbrev pub holding : SourceParts → List Pair → State
 holding source pairs = record { source = source; pairs = pairs; batch = None }
 
--- a command that changes nothing
+-- profile: a command that changes nothing
 abbrev pub stays : State → Answer → Performed State
 stays s answer = record { answer = answer; next = s }
 
@@ -50,6 +50,7 @@ taken s (Err rule) = stays s (Broken rule)
 
 -- ---- batches
 
+-- profile, batches: an open batch with this source, these pairs and these entries
 abbrev pub drafting : SourceParts → List Pair → List EntryEdit → Option Draft
 drafting source pairs entries = Some (record { source = source; pairs = pairs; entries = entries })
 
@@ -59,6 +60,7 @@ abbrev pub drafted : State → List EntryEdit → Result (SourceParts × List Pa
 drafted s entries (Ok made) = record { answer = Accepted; next = record s { batch = drafting made.0 made.1 entries } }
 drafted s entries (Err rule) = stays s (Broken rule)
 
+-- profile, batches: an edit goes into the batch that is open; where none is, it is judged at once
 abbrev pub edit_in : Option Draft → State → Edit → Performed State
 edit_in None s edit = taken s (edited s.source s.pairs edit)
 edit_in (Some d) s edit = drafted s (d.entries ++ edited_entries edit) (edited d.source d.pairs edit)
@@ -73,17 +75,18 @@ abbrev pub commit_in : Option Draft → State → Performed State
 commit_in None s = stays s (Broken E12)
 commit_in (Some d) s = judged s (d.source, d.pairs) (source_check d.source)
 
+-- profile, batches: the edits of a batch are dropped; E12 where none is open
 abbrev pub abort_in : Option Draft → State → Performed State
 abort_in None s = stays s (Broken E12)
 abort_in (Some d) s = record { answer = Accepted; next = holding s.source s.pairs }
 
 -- ---- prints
 
--- the AFM file of a source and its pairs, or the source's first fault
+-- profile: the AFM file of a source and its pairs, or the source's first fault
 abbrev pub source_metrics : SourceParts → List Pair → Result (List ℕ) Fault
 source_metrics source pairs = measured_source source >>= λ font. Ok (afm (metrics_of source pairs font))
 
--- what a print of a file is answered; the source of a session has no fault
+-- profile: what a print of a file is answered; the source of a session has no fault
 abbrev pub file_answer : Result (List ℕ) Fault → Answer
 file_answer (Ok file) = Data file
 file_answer (Err fault) = Faulty fault
@@ -128,16 +131,17 @@ abbrev pub after_want : State → Command → State
 after_want s commands.Commit = holding s.source s.pairs
 after_want s _ = s
 
+-- profile: the machine of a session
 abbrev pub machine : Machine State
 machine = record { perform = perform; may_want_memory = may_want_memory; after_want = after_want }
 
 -- ---- opening
 
--- the state that a session of a source and its pairs opens with, or the source's first fault
+-- profile: the state that a session of a source and its pairs opens with, or the source's first fault
 abbrev pub opened : SourceParts → List Pair → Result State Fault
 opened source pairs = source_check source >>= λ checked. Ok (holding source pairs)
 
--- the state that a session opens with, or the first fault of reading the source, of the pairs, of the source
+-- profile: the state that a session opens with, or the first fault of reading the source, of the pairs, of the source
 unfoldable pub scratch : List ℕ → List ℕ → Result State Fault
 scratch source pair_lines = do
   parts ← reads source
@@ -146,14 +150,14 @@ scratch source pair_lines = do
 
 -- ---- a session has no fault
 
--- the source of a state has no fault
+-- profile: the source of a state has no fault
 abbrev pub IsFaultless : State → Type 0
 IsFaultless s = source_check s.source ≡ Ok tt
 
--- a session opens without a fault
+-- profile: a session opens without a fault
 abbrev pub OpensFaultless : Type 0
 OpensFaultless = (source pair_lines : List ℕ) (s : State) → scratch source pair_lines ≡ Ok s → IsFaultless s
 
--- and stays so through every command
+-- profile: a state without a fault stays so through every command
 abbrev pub KeepsFaultless : Type 0
 KeepsFaultless = (s : State) (command : Command) → IsFaultless s → IsFaultless (perform s command).next

@@ -10,7 +10,7 @@ use Rattle.t1_commands.specs.Answers.{Performed}
 use Rattle.t1_session.specs.Machine.{perform, may_want_memory, after_want}
 use Rattle.t1_session.specs.State.{State}
 
--- an edit whose source is refused is refused for the same reason
+-- profile: an edit whose source is refused is refused for the same reason
 abbrev pub refused_source : Refusal → Cause
 refused_source (refusals.Fault fault) = causes.Fault fault
 refused_source refusals.Memory = causes.Memory
@@ -27,7 +27,7 @@ Took old p may_want want (Err causes.Memory) new = (may_want ≡ true) × (new �
 abbrev pub Takes : {T : Type 0} → State → Command → Result T Cause → State → Type 0
 Takes old c result new = Took old (perform old c) (may_want_memory old c) (after_want old c) result new
 
--- the same, of a call that hands what it took back with each refusal
+-- profile: the same, of a call that hands what it took back with each refusal
 abbrev pub TakesOrReturns : {T E : Type 0} → State → Command → E → Result T (Cause × E) → State → Type 0
 TakesOrReturns {T} old c given (Ok done) new = Takes {T = T} old c (Ok done) new
 TakesOrReturns {T} old c given (Err refused) new = Takes {T = T} old c (Err refused.0) new × (refused.1 ≡ given)

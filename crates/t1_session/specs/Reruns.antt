@@ -15,11 +15,12 @@ use Rattle.t1_commands.specs.declared.command.Command.TheVariants as commands
 use Rattle.t1_batch.specs.Batch.{Draft, keys}
 use Rattle.t1_session.specs.State.{SessionView, State}
 
--- the keys at which a source was edited, and the edited source
+-- profile: the keys at which a source was edited, and the edited source
 pub record Edition : Type 0 where
   pub keys : List Key
   pub source : SourceParts
 
+-- profile, edits, batches: what a command edits, by the batch that is open, where one is
 abbrev pub edition_in : Option Draft → State → Command → Option Edition
 edition_in None s (commands.Edit edit) = option_map (λ made. record { keys = named edit; source = made.0 }) (result_ok (edited s.source s.pairs edit))
 edition_in (Some d) s commands.Commit = Some (record { keys = keys d.entries; source = d.source })
@@ -43,6 +44,7 @@ pub record Spends (runs : ℕ) (old new : SessionView) : Type 0 where
   pub at_most : made ≤ runs
   pub count : new.runs ≡ counted old.runs made
 
+-- profile: all that was kept stays, and no run was made
 abbrev pub AreKept : SessionView → SessionView → Type 0
 AreKept old new = (new.kept ≡ old.kept) × (new.runs ≡ old.runs)
 
@@ -52,7 +54,7 @@ Reruns None old result new = AreKept old new
 Reruns (Some e) old (Ok done) new = Renews e old new
 Reruns (Some e) old (Err cause) new = Spends (length (stale old.state.source e.keys e.source)) old new
 
--- the same, of a call that hands what it took back with each refusal
+-- profile: the same, of a call that hands what it took back with each refusal
 abbrev pub RerunsOrReturns : {T E : Type 0} → Option Edition → SessionView → Result T (Cause × E) → SessionView → Type 0
 RerunsOrReturns {T} e old (Ok done) new = Reruns {T = T} e old (Ok done) new
 RerunsOrReturns {T} e old (Err refused) new = Reruns {T = T} e old (Err refused.0) new

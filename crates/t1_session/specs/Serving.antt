@@ -10,27 +10,28 @@ use Rattle.t1_commands.specs.Commands.{input_commands}
 use Rattle.t1_session.specs.Machine.{machine}
 use Rattle.t1_session.specs.State.{State}
 
--- a reader and a writer, and what contracts know of the bytes that they have
+-- profile: a reader and a writer, and what contracts know of the bytes that they have
 pub record Streams (R W : Type 0) : Type 0 where
   pub reader : Tally R
   pub writer : Tally W
 
+-- profile: these two, as streams
 abbrev pub streams : {R W : Type 0} → Tally R → Tally W → Streams R W
 streams reader writer = record { reader = reader; writer = writer }
 
 module _ {R : Type 0} (remaining : R → Option (List ℕ)) where
-  -- this input was read, and no read failed
+  -- profile: this input was read, and no read failed
   pub record Reads (old new : Tally R) (input : List ℕ) : Type 0 where
     pub consumes : Consumes (remaining old.inner) (remaining new.inner) input
     pub failures : new.failures ≡ old.failures
 
-  -- this input was read, and then a read failed
+  -- profile: this input was read, and then a read failed
   pub record ReadsAndFails (old new : Tally R) (input : List ℕ) : Type 0 where
     pub consumes : Consumes (remaining old.inner) (remaining new.inner) input
     pub failures : new.failures ≡ one_more old.failures
 
 module _ {R W : Type 0} (remaining : R → Option (List ℕ)) (contents : W → Option (List ℕ)) where
-  -- Ok: the input was read to its end, and the answer to it written
+  -- profile: at Ok, the input was read to its end, and the answer to it written
   pub record Finishes (state : State) (old new : Streams R W) : Type 0 where
     pub input : List ℕ
     pub marks : List Bool
@@ -38,15 +39,15 @@ module _ {R W : Type 0} (remaining : R → Option (List ℕ)) (contents : W → 
     pub at_end : IsAtEnd (remaining new.reader.inner)
     pub writes : WritesAll contents old.writer new.writer (session_answers machine state input true marks)
 
-  -- Read: the answer to what was read, as input that goes on, was written
+  -- profile: at Read, the answer to what was read, as input that goes on, was written
   pub record StopsAtRead (state : State) (old new : Streams R W) : Type 0 where
     pub input : List ℕ
     pub marks : List Bool
     pub reads : ReadsAndFails remaining old.reader new.reader input
     pub writes : WritesAll contents old.writer new.writer (session_answers machine state input false marks)
 
-  -- Memory: the answer to a beginning of what was read, as input that goes on, was written; the next byte, for which there
-  -- was no memory, finishes no command
+  -- profile: at Memory, the answer to a beginning of what was read, as input that goes on, was written; the next byte,
+  -- for which there was no memory, finishes no command
   pub record StopsForMemory (state : State) (old new : Streams R W) : Type 0 where
     pub front : List ℕ
     pub byte : ℕ
@@ -56,14 +57,14 @@ module _ {R W : Type 0} (remaining : R → Option (List ℕ)) (contents : W → 
     pub finishes_none : input_commands false (front ++ byte ∷ []) ≡ input_commands false front
     pub writes : WritesAll contents old.writer new.writer (session_answers machine state front false marks)
 
-  -- Write: a beginning of the answer to what was read, as whole input, was written
+  -- profile: at Write, a beginning of the answer to what was read, as whole input, was written
   pub record StopsAtWrite (state : State) (old new : Streams R W) : Type 0 where
     pub input : List ℕ
     pub marks : List Bool
     pub reads : Reads remaining old.reader new.reader input
     pub writes : WritesFront contents old.writer new.writer (session_answers machine state input true marks)
 
-  -- a session from the state that it opened with
+  -- profile: a session from the state that it opened with
   abbrev pub Converses : {T : Type 0} → State → Streams R W → Streams R W → Result T ServeError → Type 0
   Converses state old new (Ok done) = Finishes state old new
   Converses state old new (Err errors.Read) = StopsAtRead state old new
@@ -71,7 +72,7 @@ module _ {R W : Type 0} (remaining : R → Option (List ℕ)) (contents : W → 
   Converses state old new (Err errors.Write) = StopsAtWrite state old new
   Converses state old new (Err (errors.Load fault)) = ⊥
 
-  -- want of memory before the session was open: nothing was read or written
+  -- profile: want of memory before the session was open: nothing was read or written
   abbrev pub NeverOpens : {T : Type 0} → Streams R W → Streams R W → Result T ServeError → Type 0
   NeverOpens old new (Ok done) = ⊥
   NeverOpens old new (Err errors.Read) = ⊥
@@ -79,7 +80,7 @@ module _ {R W : Type 0} (remaining : R → Option (List ℕ)) (contents : W → 
   NeverOpens old new (Err errors.Write) = ⊥
   NeverOpens old new (Err (errors.Load fault)) = ⊥
 
-  -- the refusal of what no session can be opened on: its fault, or want of memory
+  -- profile: the refusal of what no session can be opened on: its fault, or want of memory
   abbrev pub Refuses : {T : Type 0} → Fault → Result T ServeError → Type 0
   Refuses fault (Ok done) = ⊥
   Refuses fault (Err errors.Read) = ⊥
@@ -87,8 +88,8 @@ module _ {R W : Type 0} (remaining : R → Option (List ℕ)) (contents : W → 
   Refuses fault (Err errors.Write) = ⊥
   Refuses fault (Err (errors.Load reported)) = reported ≡ fault
 
-  -- a whole session: from the state that it opens with, unless memory ran out before; or nothing is read or written, and the
-  -- refusal is reported
+  -- profile: a whole session: from the state that it opens with, unless memory ran out before; or nothing is read or
+  -- written, and the refusal is reported
   abbrev pub Serves : {T : Type 0} → Result State Fault → Streams R W → Streams R W → Result T ServeError → Type 0
   Serves (Ok state) old new result = Converses state old new result ⊎ NeverOpens old new result
   Serves (Err fault) old new result = (new ≡ old) × Refuses fault result

@@ -5,19 +5,20 @@ use Rattle.t1_pairs.specs.declared.pairs.Pair.{Pair}
 use Rattle.t1_cache.specs.Renewed.{Kept}
 use Rattle.t1_batch.specs.Batch.{Draft, IsDraftOf}
 
--- a source, its kerning pairs, and the batch that is open, or none
+-- profile: a source, its kerning pairs, and the batch that is open, or none
 pub record State : Type 0 where
   pub source : SourceParts
   pub pairs : List Pair
   pub batch : Option Draft
 
--- what contracts see of a session: what it holds, what is kept of its glyphs, in source order, and the count of runs
+-- profile: what contracts see of a session: what it holds, what is kept of its glyphs, in source order, and the count
+-- of runs
 pub record SessionView : Type 0 where
   pub state : State
   pub kept : List Kept
   pub runs : ℕ
 
--- the source of the batch that is open is what its edits made of this one
+-- profile: the source of the batch that is open is what its edits made of this one
 abbrev pub IsOpenOn : SourceParts → Option Draft → Type 0
 IsOpenOn s None = Unit {0}
 IsOpenOn s (Some draft) = IsDraftOf s draft

@@ -369,6 +369,21 @@ fn measures(rt: HostRuntime) -> Result<(), Fail> {
 }
 
 #[test]
+fn stops_at_a_write_of_metrics(rt: HostRuntime) -> Result<(), Fail> {
+    let alloc = rt.alloc();
+    let font = font(alloc)?;
+    let expected = Vec::from_slice(alloc, METRICS)?;
+    for room in 0..expected.len() {
+        let mut writer = Counted::new(Short::new(alloc, usize::MAX, room, true));
+        let result = measure_source(alloc, &font, b"", &mut writer);
+        assert!(rt; matches!(result, Err(ServeError::Write)));
+        let taken = writer.into_inner().taken;
+        assert_eq!(rt; taken.as_slice(), expected.split_at(room).0);
+    }
+    Ok(())
+}
+
+#[test]
 fn measures_no_faulty_pairs(rt: HostRuntime) -> Result<(), Fail> {
     let alloc = rt.alloc();
     let mut out = Counted::new(Vec::new(alloc));

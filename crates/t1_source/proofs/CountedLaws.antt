@@ -37,7 +37,7 @@ use Rattle.t1_source.proofs.SourceAgainLaws.{source_again}
 power_more : (k : ℕ) → 10 ^ suc k ≡ 10 * 10 ^ k
 power_more k = omega arith
 
--- the value of digits behind a number
+-- the value of digits after a number
 value_from : (n : ℕ) (ds : List ℕ) → list_all is_digit ds ≡ true → fold (λ m d. 10 * m + (d - 48)) n ds < (n + 1) * 10 ^ length ds
 value_from n [] h = omega arith
 value_from n (d ∷ ds) h =

@@ -111,7 +111,7 @@ pub unencode_missing : edited (array_form (codes "dup 8#101/space put" ∷ [])) 
 unfolding digits edited replaced_glyph added_glyph removed_glyph replaced_subr added_subr removed_subr encoded unencoded kerned unkerned array_parts through_last among_subrs_items among_glyphs_items is_slot is_slot_of
 unencode_missing = refl
 
--- the first broken rule is told: a name before a number, the right name before the value, a number before a body,
+-- the first broken rule is answered: a name before a number, the right name before the value, a number before a body,
 -- a body before a section, and a standard encoding before a missing slot
 pub kern_named : edited space_form [] (Kern (codes "(") (codes "V") (pos 99999)) ≡ Err E3
 unfolding digits edited replaced_glyph added_glyph removed_glyph replaced_subr added_subr removed_subr encoded unencoded kerned unkerned array_parts through_last among_subrs_items among_glyphs_items is_slot is_slot_of

@@ -149,7 +149,7 @@ any_turned test (x ∷ xs) h =
     let parts = or_parts (test x) (list_any test xs) h in
     ap (list_any test) (reverse-append (x ∷ []) xs) ∙ list_any-append test (reverse xs) (x ∷ []) ∙ (let a = any_turned test xs parts.1 in rw (a, parts.0) refl)
 
--- the first element that passes a test stands behind others
+-- the first element that passes a test stands after others
 pub place_after : {X : Type 0} (test : X → Bool) (xs : List X) (x : X) (ys : List X) → list_any test xs ≡ false → test x ≡ true → position_or_len test (xs ++ x ∷ ys) ≡ length xs
 place_after test [] x ys none on = rw on refl
 place_after test (z ∷ xs) x ys none on =

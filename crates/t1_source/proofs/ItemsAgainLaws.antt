@@ -155,7 +155,7 @@ pub record Reads (earlier : List NumberedItem) (n : ℕ) (items : List Item) : T
   pub same : unnumbered all ≡ unnumbered earlier ++ items
   pub inner : list_all is_inner (flat_map item_lines items) ≡ true
 
--- items that stand behind others, printed and read
+-- items that stand after others, printed and read
 pub items_again : (earlier : List NumberedItem) (n : ℕ) (items : List Item) → Stand (unnumbered earlier) items → list_all is_counted items ≡ true → Reads earlier n items
 items_again earlier n [] h small = record { all = earlier; read = refl; same = sym (append-nil (unnumbered earlier)); inner = refl }
 items_again earlier n (i ∷ items) h small =
@@ -173,7 +173,7 @@ items_again earlier n (i ∷ items) h small =
           ∙ and_from (list_all is_inner (item_lines i)) (list_all is_inner (flat_map item_lines items)) (ap (list_all is_inner) a.lines ∙ a.inner) r.inner;
     }
 
--- the closefile line behind the lines of items
+-- the closefile line after the lines of items
 pub private_again : (n : ℕ) (ls : List (List ℕ)) (last : List ℕ) (items : List NumberedItem) → items_of [] 0 n ls ≡ Ok items
     → private_items n (ls ++ last ∷ []) ≡ Ok (items ++ (n + length ls, Plain last) ∷ [])
 unfolding private_items

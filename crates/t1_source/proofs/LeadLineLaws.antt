@@ -48,7 +48,7 @@ not_text ds text h plain =
 
 -- ---- where the token stands
 
--- a token behind the first key
+-- a token after the first key
 pub record Found (ps : List (ℕ × List ℕ)) (t : List ℕ) : Type 0 where
   pub front : List (ℕ × List ℕ)
   pub at : ℕ × List ℕ
@@ -140,7 +140,7 @@ lead_place l t h e =
 
 -- ---- what another number leaves as it was
 
--- the token behind the key is the number
+-- the token after the key is the number
 after_lead : (ts us : List (List ℕ)) (d : List ℕ) → list_any (λ u. bytes_eq u key) ts ≡ false → after_token key (ts ++ (key ∷ d ∷ us)) ≡ Some (Some d)
 after_lead [] us d none = refl
 after_lead (t ∷ ts) us d none =

@@ -15,7 +15,7 @@ use Rattle.t1_source.proofs.WellFormedEditLaws.{is_not_plain}
 still : (e : List Item) (i : Item) → list_any is_glyphs_line e ≡ true → list_any is_glyphs_line (e ++ i ∷ []) ≡ true
 still e i on = list_any-append is_glyphs_line e (i ∷ []) ∙ or_left (list_any is_glyphs_line e) (is_glyphs_line i || false) on
 
--- behind the CharStrings line
+-- after the CharStrings line
 no_subr : (e items : List Item) → Stand e items → list_any is_glyphs_line e ≡ true → list_any is_subr_entry items ≡ false
 no_subr e [] h on = refl
 no_subr e (Plain l ∷ items) h on = no_subr (e ++ Plain l ∷ []) items h.1 (still e (Plain l) on)
@@ -26,7 +26,7 @@ no_subr e (Glyph g ws closing ∷ items) h on = no_subr (e ++ Glyph g ws closing
 no_subr_last : (items : List Item) (last : List ℕ) → list_any is_subr_entry items ≡ false → list_any is_subr_entry (items ++ Plain last ∷ []) ≡ false
 no_subr_last items last h = list_any-append is_subr_entry items (Plain last ∷ []) ∙ (rw h refl)
 
--- no Subr stands behind a glyph
+-- no Subr stands after a glyph
 pub subrs_first : (items a : List Item) (g : List ℕ) (ws : List (List ℕ)) (closing : List ℕ) (b : List Item) → IsPrivate items → items ≡ a ++ Glyph g ws closing ∷ b → list_any is_subr_entry b ≡ false
 subrs_first items a g ws closing b p whole =
     let x = Glyph g ws closing in

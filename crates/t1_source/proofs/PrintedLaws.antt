@@ -69,7 +69,7 @@ none_like test d (c ∷ t) h on =
       | inr other ↦ rw other (none_like test d t parts.1 on)
     ]
 
--- behind digits
+-- after digits
 pub digits_past : (ds y : List ℕ) → 1 ≤ length ds → list_all is_digit ds ≡ true → (x : List ℕ) → is_closefile (x ++ (ds ++ y)) ≡ true → is_closefile y ≡ true
 digits_past ds y some h x on =
     let r = last_digit ds some h in

@@ -87,7 +87,7 @@ opens_other (x ∷ y ∷ []) us d e hd he =
     ap (λ o. is_some (if bytes_eq x (codes "dup") && o then Some y else None)) (not_text d (codes "{") hd refl ∙ sym (not_text e (codes "{") he refl))
 opens_other (x ∷ y ∷ z ∷ ts) us d e hd he = refl
 
--- behind no CharStrings line
+-- after no CharStrings line
 opens_entry_other : (earlier : List Item) (l m : List ℕ) (ts us : List (List ℕ)) (d e : List ℕ) → list_any is_glyphs_line earlier ≡ false → is_count d ≡ true → is_count e ≡ true
     → tokens l ≡ ts ++ d ∷ us → tokens m ≡ ts ++ e ∷ us → opens_entry earlier l ≡ false → opens_entry earlier m ≡ false
 opens_entry_other earlier l m ts us d e no_glyphs hd he tl tm off =

@@ -12,7 +12,7 @@ take_again zero xs = refl
 take_again (suc n) [] = refl
 take_again (suc n) (x ∷ xs) = ap (λ t. x ∷ t) (take_again n xs)
 
--- the lines of an array are the first ones behind the line that opens it
+-- the lines of an array are the first ones after the line that opens it
 array_take : (opening : List ℕ) (later : List (List ℕ)) → take (length (array_lines (opening ∷ later))) later ≡ array_lines (opening ∷ later)
 array_take opening later =
     elim (cases_Bool (is_standard (tokens opening))) [

@@ -1,4 +1,4 @@
--- Items that stand behind others, and behind others in their place.
+-- Items that stand after others, and after others in their place.
 use Rattle.std.proofs.Common.{◌≡◌, ℕ, Bool, true, false, ◌&&◌, ◌||◌, ◌==◌, if◌then◌else◌, is_some, List, [], ◌∷◌, ◌++◌, map, refl, sym, ◌∙◌, ap, inl, inr, append_assoc}
 use Rattle.std.specs.List.{list_any}
 use Rattle.std.proofs.lemmas.Bool.{or_parts, eq-eqb}
@@ -15,7 +15,7 @@ use Rattle.t1_parts.specs.Counts.{raised_item}
 use Rattle.t1_source.specs.WellFormed.{opens_entry, Stands, Stand}
 
 -- the second items have the section lines of the first, and no number or name that is new and that one of the
--- items behind them has
+-- items after them has
 pub record Serves (e f items : List Item) : Type 0 where
   pub subrs : list_any is_subrs_line e ≡ list_any is_subrs_line f
   pub glyphs : list_any is_glyphs_line e ≡ list_any is_glyphs_line f
@@ -75,7 +75,7 @@ own_number n items ws closing = or_left (n == n) (list_any (is_subr n) items) (e
 own_name : (g : List ℕ) (items : List Item) (ws : List (List ℕ)) (closing : List ℕ) → list_any (is_glyph g) (Glyph g ws closing ∷ items) ≡ true
 own_name g items ws closing = or_left (bytes_eq g g) (list_any (is_glyph g) items) ((bytes_eq-Decides g g).1 refl)
 
--- an item stands behind the second items too
+-- an item stands after the second items too
 pub stands_serves : (e f items : List Item) (i : Item) → Serves e f (i ∷ items) → Stands e i → Stands f i
 stands_serves e f items (Plain l) s h = (h.0, sym (opens_same e f l s.subrs s.glyphs) ∙ h.1, h.2, h.3)
 stands_serves e f items (Section before n after) s h =
@@ -99,7 +99,7 @@ stand_serves e f [] s h = tt
 stand_serves e f (i ∷ items) s h =
     (stands_serves e f items i s h.0, stand_serves (e ++ i ∷ []) (f ++ i ∷ []) items (serves_further e f items i i refl refl (λ n. refl) (λ g. refl) s) h.1)
 
--- items before and behind others
+-- items before and after others
 pub stand_front : (e a b : List Item) → Stand e (a ++ b) → Stand e a
 stand_front e [] b h = tt
 stand_front e (i ∷ a) b h = (h.0, stand_front (e ++ i ∷ []) a b h.1)

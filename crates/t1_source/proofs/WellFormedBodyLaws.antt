@@ -160,7 +160,7 @@ closing_well_formed l x r split h =
     let past : is_closefile r ≡ false = contra (is_closefile l) (is_closefile r) (λ on. ap is_closefile (split ∙ sym (append_assoc x (125 ∷ []) r)) ∙ closes_more (x ++ 125 ∷ []) r on) parts.1 in
     closing_open (trimmed r) (trimmed_all (λ c. not (is_line_end c)) r line) (ap (λ t. ends_with (λ a b. a == b) t closing_bytes) (trimmed_again r) ∙ past)
 
--- a body behind a line
+-- a body after a line
 fronted : (ws : List (List ℕ)) (n : ℕ) (o : Option EntryBody) (b : EntryBody) → with_front ws n o ≡ Some b → (c : EntryBody) × (o ≡ Some c) × (b.words ≡ ws ++ c.words) × (b.closing ≡ c.closing)
 fronted ws n None b e = cc
 fronted ws n (Some c) b e =

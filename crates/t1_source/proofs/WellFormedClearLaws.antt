@@ -86,7 +86,7 @@ outside_fine : (n : ℕ) (l : List ℕ) → opens_encoding l ≡ false → later
 unfolding later_check
 outside_fine n l off = rw off refl
 
--- the lines behind the one that opens the encoding
+-- the lines after the one that opens the encoding
 checks_parts : (n : ℕ) (ls rest : List (List ℕ)) → later_checks n (length ls) (ls ++ rest) ≡ Ok tt → (list_all is_fine ls ≡ true) × (list_any opens_encoding rest ≡ false)
 checks_parts n [] [] e = (refl, refl)
 checks_parts n [] (l ∷ rest) e =
@@ -206,7 +206,7 @@ none_first test before x after h =
 and_off : (a b : Bool) → a ≡ true → (a && b) ≡ false → b ≡ false
 and_off a b on h = let rest : b ≡ false = rw on at h in rest
 
--- what comes behind the line that opens an array
+-- what comes after the line that opens an array
 array_there : (n : ℕ) (opening : List ℕ) (later : List (List ℕ)) → is_standard (tokens opening) ≡ false → encoding_check n (opening ∷ later) ≡ Ok tt
     → (is_array (tokens opening) ≡ true) × First ends_array later (position_or_len ends_array later)
 array_there n opening later other e =

@@ -127,7 +127,7 @@ taken_out items a x b p whole sx =
     (sym (any_middle is_glyphs_line a x b sx.glyphs) ∙ ap (list_any is_glyphs_line) (sym whole) ∙ p.section)
     (said_well (a ++ b) items (sym (said_middle said_lead a x b sx.lead) ∙ ap (filter_map said_lead) (sym whole)) p.lead)
 
--- an entry put in behind one that isn't a plain line
+-- an entry put in after one that isn't a plain line
 pub put_in : (items a : List Item) (x : Item) (b : List Item) (y : Item) → IsPrivate items → items ≡ a ++ x ∷ b → is_not_plain x ≡ true → IsSilent y
     → ((n : ℕ) → list_any (is_subr n) items ≡ true → is_subr n y ≡ false) → ((g : List ℕ) → list_any (is_glyph g) items ≡ true → is_glyph g y ≡ false) → (Stands a x → Stands (a ++ x ∷ []) y)
     → IsPrivate (raised ((a ++ x ∷ []) ++ y ∷ b))

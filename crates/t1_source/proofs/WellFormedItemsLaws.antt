@@ -1,4 +1,4 @@
--- Items that were read stand behind those before them.
+-- Items that were read stand after those before them.
 use Rattle.std.proofs.Common.{◌≡◌, ℕ, zero, suc, true, false, ◌&&◌, ◌||◌, ◌==◌, ◌+◌, ◌≤◌, nat_le, if◌then◌else◌, Option, None, Some, option_map, Result, Ok, Err, ok_or, List, [], ◌∷◌, ◌++◌, length, take, drop, codes, refl, sym, ◌∙◌, ap, inl, inr}
 use Rattle.std.specs.List.{list_all, list_any}
 use Rattle.std.proofs.lemmas.Bool.{and_parts, cases_Bool, leb-true, or_parts}
@@ -143,7 +143,7 @@ line_stands earlier l None (Some s) x inner off eo ep e =
     ]
 line_stands earlier l (Some s) (Some t) x inner off eo ep e = cc
 
--- behind the CharStrings line
+-- after the CharStrings line
 glyphs_case : (earlier : List NumberedItem) (l : List ℕ) (ls : List (List ℕ)) (x : Taken) (o : Option (List ℕ)) → is_inner l ≡ true → list_all is_inner ls ≡ true → has is_glyphs_line earlier ≡ true → opens_glyph (tokens l) ≡ o
     → among_glyphs earlier l ls o ≡ Ok x → Stands (unnumbered earlier) x.0
 glyphs_case earlier l ls x None h k section opens e =
@@ -160,7 +160,7 @@ subrs_case earlier l ls x None h k no_glyphs section opens e =
     line_stands earlier l (subrs_line l) (glyphs_line l) x h (rw (no, on, opens) refl) refl refl e
 subrs_case earlier l ls x (Some t) h k no_glyphs section opens e = subr_stands earlier t (opened_body l ls) x no_glyphs section (λ b d. opened_entry l ls b h k d) e
 
--- an item that was read stands behind the earlier ones
+-- an item that was read stands after the earlier ones
 pub item_stands : (earlier : List NumberedItem) (l : List ℕ) (ls : List (List ℕ)) (x : Taken) → is_inner l ≡ true → list_all is_inner ls ≡ true → item_at earlier l ls ≡ Ok x → Stands (unnumbered earlier) x.0
 unfolding item_at
 item_stands earlier l ls x h k e =

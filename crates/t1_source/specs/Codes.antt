@@ -9,7 +9,7 @@ use Rattle.t1_text.specs.Tokens.{is_token}
 use Rattle.t1_parts.specs.Encoding.{slots}
 use Rattle.t1_parts.specs.Reading.{standard}
 
--- the name of a slot of this code
+-- profile, encoding: the name of a slot of this code
 abbrev pub named_by : ℕ → ℕ × List ℕ → Option (List ℕ)
 named_by code slot = if slot.0 == code then Some slot.1 else None
 
@@ -17,7 +17,7 @@ named_by code slot = if slot.0 == code then Some slot.1 else None
 abbrev pub slot_name : List (ℕ × List ℕ) → ℕ → Option (List ℕ)
 slot_name slots code = last_or None (filter_map (named_by code) slots)
 
--- the lowest code that has the name
+-- profile, encoding: the lowest code that has the name
 unfoldable pub lowest_code : (ℕ → Option (List ℕ)) → List ℕ → Option ℕ
 lowest_code names g = find (λ code. is_token g (names code)) (range_with_len 0 256)
 
@@ -28,7 +28,7 @@ code_of s g =
     else if standard s then lowest_code standard_name g
     else lowest_code (slot_name (slots s.clear)) g
 
--- the name at a place of a table
+-- profile: the name at a place of a table
 abbrev pub name_at : List (Option (Bor (List ℕ))) → ℕ → Option (List ℕ)
 name_at names code = option_map (λ name. name.now) (get_or names code None)
 

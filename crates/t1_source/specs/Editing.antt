@@ -23,7 +23,7 @@ use Rattle.t1_parts.specs.Counts.{is_glyph_entry, raised}
 use Rattle.t1_pairs.specs.Kerning.{is_kerning_value, is_pair, put_pair}
 use Rattle.t1_source.specs.Leads.{items_with_lead}
 
--- a rule that is broken where the test fails
+-- profile, edits: a rule that is broken where the test fails
 abbrev pub keeps : Rule → Bool → Result (Unit {0}) Rule
 keeps rule true = Ok tt
 keeps rule false = Err rule
@@ -41,29 +41,30 @@ braced body = list_any has_brace (lines body)
 abbrev pub body_words : List ℕ → List (List ℕ)
 body_words body = flat_map (λ l. words (uncommented l)) (lines body)
 
--- profile, edits: a name, E3, and a body without braces, E6
+-- profile, edits: a name, or E3
 abbrev pub good_name : List ℕ → Result (Unit {0}) Rule
 good_name g = keeps E3 (is_name g)
 
+-- profile, edits: a body without braces, or E6
 abbrev pub good_body : List ℕ → Result (Unit {0}) Rule
 good_body body = keeps E6 (not (braced body))
 
--- the source with these items, and their counts raised
+-- profile, edits: the source with these items, and their counts raised
 abbrev pub with_items : SourceParts → List Item → SourceParts
 with_items s items = record { clear = s.clear; items = raised items; tail = s.tail }
 
--- the source with these clear lines
+-- profile, edits: the source with these clear lines
 abbrev pub with_clear : SourceParts → List (List ℕ) → SourceParts
 with_clear s clear = record { clear = clear; items = s.items; tail = s.tail }
 
--- the closing text of an entry
+-- profile, edits: the closing text of an entry
 abbrev pub closing_of : Item → List ℕ
 closing_of (Plain l) = []
 closing_of (Section before n after) = []
 closing_of (Subr n ws closing) = closing
 closing_of (Glyph g ws closing) = closing
 
--- the closing text of the item at a place
+-- profile, edits: the closing text of the item at a place
 abbrev pub closing_at : ℕ → List Item → List ℕ
 closing_at at items = closing_of (slice_index_or items at (Plain []))
 
@@ -71,18 +72,20 @@ closing_at at items = closing_of (slice_index_or items at (Plain []))
 abbrev pub closing_among : (Item → Bool) → List ℕ → List Item → List ℕ
 closing_among test otherwise items = unwrap_or (option_map closing_of (find test items)) otherwise
 
--- how many items stand through the last that passes the test; 0 where none does
+-- profile, edits: how many items stand through the last that passes the test; 0 where none does
 unfoldable pub through_last : {X : Type 0} → (X → Bool) → List X → ℕ
 through_last test xs = length xs - position_or_len test (reverse xs)
 
+-- profile, edits: whether an item is a Subr
 abbrev pub is_subr_entry : Item → Bool
 is_subr_entry (Subr n ws closing) = true
 is_subr_entry _ = false
 
--- profile, edits: a new entry goes directly after the last entry of its section, or after the section line
+-- profile, edits: a new Subr goes directly after the last Subr, or after the section line
 unfoldable pub among_subrs_items : Item → Bool
 among_subrs_items i = is_subr_entry i || is_subrs_line i
 
+-- profile, edits: a new glyph goes directly after the last glyph, or after the section line
 unfoldable pub among_glyphs_items : Item → Bool
 among_glyphs_items i = is_glyph_entry i || is_glyphs_line i
 
@@ -139,7 +142,7 @@ removed_subr s number = do
   at ← ok_or (position (is_subr n) s.items) E1
   Ok (with_items s (remove s.items at))
 
--- the clear lines before those of an array, those of the array, and those after them
+-- profile, edits: the clear lines before those of an array, those of the array, and those after them
 pub record ArrayParts : Type 0 where
   pub front : List (List ℕ)
   pub lines : List (List ℕ)
@@ -156,14 +159,16 @@ array_parts clear = do
     back = drop (length (array_lines (drop at clear))) (drop (at + 1) clear);
   })
 
--- whether a line is a slot, and whether it is one of the code
+-- profile, encoding: whether a line is a slot whose code passes the test
 abbrev pub slot_test : (ℕ → Bool) → Option (ℕ × List ℕ) → Bool
 slot_test test None = false
 slot_test test (Some slot) = test slot.0
 
+-- profile, encoding: whether a line is a slot
 unfoldable pub is_slot : List ℕ → Bool
 is_slot l = slot_test (λ code. true) (slot_of_tokens (tokens l))
 
+-- profile, encoding: whether a line is a slot of this code
 unfoldable pub is_slot_of : ℕ → List ℕ → Bool
 is_slot_of code l = slot_test (λ other. other == code) (slot_of_tokens (tokens l))
 
@@ -220,10 +225,11 @@ unkerned k left right = do
   at ← ok_or (position (is_pair left right) k) E10
   Ok (remove k at)
 
--- an edit of the source alone, and one of the pairs alone
+-- profile, edits: an edit of the source alone
 abbrev pub beside_pairs : List Pair → Result SourceParts Rule → Result (SourceParts × List Pair) Rule
 beside_pairs k given = given >>= λ s. Ok (s, k)
 
+-- profile, edits: an edit of the pairs alone
 abbrev pub beside_source : SourceParts → Result (List Pair) Rule → Result (SourceParts × List Pair) Rule
 beside_source s given = given >>= λ k. Ok (s, k)
 
@@ -241,13 +247,14 @@ edited s k (LenIv n) = beside_pairs k (lead_edited s n)
 edited s k (Kern left right v) = beside_source s (kerned k left right v)
 edited s k (Unkern left right) = beside_source s (unkerned k left right)
 
--- a cause is the rule that the definition tells, or want of memory
+-- profile, edits: a cause is the rule that the definition gives, or want of memory
 abbrev pub Tells : {Y : Type 0} → Cause → Result Y Rule → Type 0
 Tells causes.Memory given = Unit {0}
 Tells (causes.Rule rule) given = given ≡ Err rule
 Tells (causes.Fault fault) given = ⊥
 
--- an edit answers what a definition gives: its value, as the view sees it, or its rule, unless memory ran out
+-- profile, edits: an edit answers what a definition gives: its value, as the view sees it, or its rule, unless memory
+-- ran out
 abbrev pub Edits : {X Y : Type 0} → (X → Y) → Result X Cause → Result Y Rule → Type 0
 Edits view (Ok x) given = given ≡ Ok (view x)
 Edits view (Err cause) given = Tells cause given

@@ -8,17 +8,17 @@ use Rattle.t1_text.specs.Tokens.{places_from}
 use Rattle.t1_parts.specs.LenIV.{said_lead}
 use Rattle.t1_parts.specs.Sections.{is_subrs_line, is_glyphs_line}
 
--- the first token with its place
+-- profile, tokens: the first token with its place
 abbrev pub first_place : List (ℕ × List ℕ) → Option (ℕ × List ℕ)
 first_place [] = None
 first_place (t ∷ ts) = Some t
 
--- the token after the first token of this text, with its place
+-- profile, tokens: the token after the first token of this text, with its place
 abbrev pub place_after : List ℕ → List (ℕ × List ℕ) → Option (ℕ × List ℕ)
 place_after key [] = None
 place_after key (t ∷ ts) = if bytes_eq t.1 key then first_place ts else place_after key ts
 
--- a line with this text in the place of one of its tokens
+-- profile, edits: a line with this text in the place of one of its tokens
 abbrev pub with_token : List ℕ → List ℕ → Option (ℕ × List ℕ) → List ℕ
 with_token l text None = l
 with_token l text (Some t) = take t.0 l ++ (text ++ drop (t.0 + length t.1) l)
@@ -31,26 +31,27 @@ line_with_lead n l = with_token l (decimal n) (place_after (codes "/lenIV") (pla
 abbrev pub lead_line : ℕ → List ℕ
 lead_line n = codes "/lenIV " ++ (decimal n ++ codes " def")
 
--- whether an item is a plain line with a token `/lenIV`
+-- profile, lenIV: whether an item is a plain line with a token `/lenIV`
 abbrev pub says_lead : Item → Bool
 says_lead i = is_some (said_lead i)
 
--- whether an item is a section line
+-- profile, sections: whether an item is a section line
 abbrev pub is_section_line : Item → Bool
 is_section_line i = is_subrs_line i || is_glyphs_line i
 
--- the bytes of a plain line
+-- profile, private part: the bytes of a plain line
 abbrev pub line_of : Item → List ℕ
 line_of (Plain l) = l
 line_of (Section before n after) = []
 line_of (Subr n ws closing) = []
 line_of (Glyph g ws closing) = []
 
--- the line at a place
+-- profile, private part: the bytes of the plain line at a place
 abbrev pub line_at : ℕ → List Item → List ℕ
 line_at at items = line_of (slice_index_or items at (Plain []))
 
--- the items with lenIV put into the plain line at a place, or into a new line directly before the first section line
+-- profile, edits: the items with lenIV put into the plain line at a place, or into a new line directly before the first
+-- section line
 abbrev pub lead_put : ℕ → List Item → Option ℕ → List Item
 lead_put n items (Some at) = slice_set items at (Plain (line_with_lead n (line_at at items)))
 lead_put n items None = insert items (position_or_len is_section_line items) (Plain (lead_line n))

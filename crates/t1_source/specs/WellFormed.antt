@@ -19,13 +19,13 @@ use Rattle.t1_parts.specs.Printing.{last_line}
 abbrev pub is_inner : List ℕ → Bool
 is_inner l = is_line l && not (is_closefile l)
 
--- profile, entries: whether a line opens an entry behind these items
+-- profile, entries: whether a line opens an entry after these items
 abbrev pub opens_entry : List Item → List ℕ → Bool
 opens_entry earlier l =
     if list_any is_glyphs_line earlier then is_some (opens_glyph (tokens l))
     else list_any is_subrs_line earlier && is_some (opens_subr (tokens l))
 
--- profile, sections: the line is this section line alone, behind none of its kind or of a later kind
+-- profile, sections: the line is this section line alone, after none of its kind or of a later kind
 abbrev pub IsSectionLine : List Item → Item → List ℕ → Type 0
 IsSectionLine earlier section l =
     (list_any is_glyphs_line earlier ≡ false)
@@ -36,8 +36,8 @@ abbrev pub IsEntry : List (List ℕ) → List ℕ → Type 0
 IsEntry ws closing =
     (list_all is_word ws ≡ true) × (list_all is_line ws ≡ true) × (trimmed closing ≡ closing) × (is_inner (last_line closing) ≡ true)
 
--- profile, private part: what may stand behind these items. A section line counts as one by whatever count it has,
--- and so by the count 0
+-- profile, private part: what may stand after these items. A section line counts as one by whatever count it has, and
+-- so by the count 0
 abbrev pub Stands : List Item → Item → Type 0
 Stands earlier (Plain l) =
     (is_inner l ≡ true) × (opens_entry earlier l ≡ false) × (subrs_line l ≡ None) × (glyphs_line l ≡ None)
@@ -57,7 +57,7 @@ Stands earlier (Glyph g ws closing) =
     × (is_name g ≡ true)
     × IsEntry ws closing
 
--- each item stands behind these and behind those before it
+-- profile, private part: each item stands after these and after those before it
 abbrev pub Stand : List Item → List Item → Type 0
 Stand earlier [] = Unit {0}
 Stand earlier (i ∷ items) = Stands earlier i × Stand (earlier ++ i ∷ []) items
@@ -89,7 +89,7 @@ pub record IsWellFormed (s : SourceParts) : Type 0 where
   pub lines : list_all is_line s.tail ≡ true
   pub tail : tail_of s.tail ≡ s.tail
 
--- whether the count of a section line has at most nine digits
+-- profile, sections: whether the count of a section line has at most nine digits
 abbrev pub is_counted : Item → Bool
 is_counted (Section before n after) = nat_lt n (10 ^ 9)
 is_counted (Plain l) = true

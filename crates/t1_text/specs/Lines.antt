@@ -7,7 +7,7 @@ use Rattle.t1_frac.specs.Words.{trimmed_front}
 abbrev pub is_line_end : ℕ → Bool
 is_line_end c = c == 10 || c == 13
 
--- whether the list begins with this byte
+-- profile: whether the list begins with this byte
 abbrev pub begins_with : ℕ → List ℕ → Bool
 begins_with b [] = false
 begins_with b (c ∷ rest) = b == c
@@ -18,7 +18,7 @@ unified [] = []
 unified (c ∷ rest) =
     if c == 13 then (if begins_with 10 rest then unified rest else 10 ∷ unified rest) else c ∷ unified rest
 
--- the lines of a text whose line ends are LF; a last line without an end counts where it isn't empty
+-- profile, lines: the lines of a text whose line ends are LF; a last line without an end counts where it isn't empty
 abbrev pub split_lines : List ℕ → List (List ℕ)
 split_lines [] = []
 split_lines (c ∷ rest) = if c == 10 then [] ∷ split_lines rest else onto_first c (split_lines rest)
@@ -27,7 +27,7 @@ split_lines (c ∷ rest) = if c == 10 then [] ∷ split_lines rest else onto_fir
 abbrev pub lines : List ℕ → List (List ℕ)
 lines bytes = split_lines (unified bytes)
 
--- the bytes after a line end, of which CR LF is one
+-- profile, lines: the bytes after a line end, of which CR LF is one
 abbrev pub after_end : List ℕ → List ℕ
 after_end [] = []
 after_end (c ∷ rest) = if c == 13 && begins_with 10 rest then drop 1 rest else rest
@@ -40,6 +40,6 @@ joined ls = flat_map (λ l. l ++ 10 ∷ []) ls
 abbrev pub trimmed : List ℕ → List ℕ
 trimmed l = reverse (trimmed_front (reverse (trimmed_front l)))
 
--- whether a line has no line end in it
+-- profile, lines: whether a line has no line end in it
 abbrev pub is_line : List ℕ → Bool
 is_line l = list_all (λ c. not (is_line_end c)) l

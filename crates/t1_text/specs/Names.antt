@@ -16,6 +16,7 @@ abbrev pub name_of_token : List ℕ → Option (List ℕ)
 name_of_token [] = None
 name_of_token (c ∷ name) = if c == 47 && is_name name then Some name else None
 
+-- profile, numbers: a decimal digit
 abbrev pub is_digit : ℕ → Bool
 is_digit c = nat_le 48 c && nat_le c 57
 
@@ -28,7 +29,7 @@ abbrev pub decimal_of : List ℕ → Option ℕ
 decimal_of [] = None
 decimal_of (d ∷ ds) = if list_all is_digit (d ∷ ds) then Some (decimal_value (d ∷ ds)) else None
 
--- the number, where it is at most the limit
+-- profile, numbers: the number, where it is at most the limit
 abbrev pub up_to : ℕ → Option ℕ → Option ℕ
 up_to limit None = None
 up_to limit (Some n) = if nat_le n limit then Some n else None

@@ -12,12 +12,12 @@ is_bracket c = c == 40 || c == 41 || c == 60 || c == 62 || c == 91 || c == 93 ||
 abbrev pub is_regular : ℕ → Bool
 is_regular c = not (is_blank c || is_bracket c || c == 47 || c == 37)
 
--- whether a token that has come this far goes on
+-- profile, tokens: whether a token that has come this far goes on
 abbrev pub goes_on : List ℕ → Bool
 goes_on [] = false
 goes_on (c ∷ rest) = is_regular c
 
--- a byte of a token before the tokens that follow it
+-- profile, tokens: a byte of a token before the tokens that follow it
 abbrev pub joins : ℕ → List ℕ → List (List ℕ) → List (List ℕ)
 joins c rest tokens = if goes_on rest then onto_first c tokens else (c ∷ []) ∷ tokens
 
@@ -31,40 +31,40 @@ tokens (c ∷ rest) =
     else if is_bracket c then (c ∷ []) ∷ tokens rest
     else joins c rest (tokens rest)
 
--- how many bytes the token takes that begins the list
+-- profile, tokens: how many bytes the token takes that begins the list
 abbrev pub token_len : List ℕ → ℕ
 token_len [] = 0
 token_len (c ∷ rest) = if is_bracket c then 1 else 1 + prefix_len is_regular rest
 
--- the first token
+-- profile, tokens: the first token
 abbrev pub first_token : List (List ℕ) → Option (List ℕ)
 first_token [] = None
 first_token (t ∷ ts) = Some t
 
--- whether there is a token, and it is this one
+-- profile, tokens: whether there is a token, and it is this one
 abbrev pub is_token : List ℕ → Option (List ℕ) → Bool
 is_token t None = false
 is_token t (Some u) = bytes_eq t u
 
--- whether the first token is this one
+-- profile, tokens: whether the first token is this one
 abbrev pub first_is : List ℕ → List (List ℕ) → Bool
 first_is t us = is_token t (first_token us)
 
--- whether the last token is this one
+-- profile, tokens: whether the last token is this one
 abbrev pub last_is : List ℕ → List (List ℕ) → Bool
 last_is t us = is_token t (last_or None us)
 
--- the token after the first token of this text; nothing where the text is no token
+-- profile, tokens: the token after the first token of this text; nothing where the text is no token
 abbrev pub after_token : List ℕ → List (List ℕ) → Option (Option (List ℕ))
 after_token t [] = None
 after_token t (u ∷ us) = if bytes_eq u t then Some (first_token us) else after_token t us
 
--- a byte before the first token, which then begins at this place
+-- profile, tokens: a byte before the first token, which then begins at this place
 abbrev pub onto_place : ℕ → ℕ → List (ℕ × List ℕ) → List (ℕ × List ℕ)
 onto_place i c [] = (i, c ∷ []) ∷ []
 onto_place i c (t ∷ ts) = (i, c ∷ t.1) ∷ ts
 
--- a byte of a token at a place, before the tokens that follow it
+-- profile, tokens: a byte of a token at a place, before the tokens that follow it
 abbrev pub joins_at : ℕ → ℕ → List ℕ → List (ℕ × List ℕ) → List (ℕ × List ℕ)
 joins_at i c rest ts = if goes_on rest then onto_place i c ts else (i, c ∷ []) ∷ ts
 

@@ -11,7 +11,7 @@ use Rattle.t1edit.specs.declared.status.Misuse.TheVariants.{BlockLength}
 use Rattle.t1edit.specs.declared.status.Stop.{Stop}
 use Rattle.t1edit.specs.declared.status.Stop.TheVariants.{Misused}
 
--- the PFB file in blocks of this size, where there can be such
+-- profile: the PFB file in blocks of this size, where there can be such
 abbrev pub blocks_form : Option ℕ → Result Form Stop
 blocks_form (Some size) = Ok (Blocks size)
 blocks_form None = Err (Misused BlockLength)
@@ -22,6 +22,7 @@ form true block = Ok Pfa
 form false None = Ok Pfb
 form false (Some word) = blocks_form (block_size (number_of word))
 
+-- profile: a call answers with that form
 abbrev pub FormIs : Bool → Option (List ℕ) → Result Form Stop → Type 0
 FormIs pfa block result = result ≡ form pfa block
 

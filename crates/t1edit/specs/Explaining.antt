@@ -6,13 +6,15 @@ use Rattle.t1edit.specs.declared.status.Misuse.TheVariants as misuses
 use Rattle.t1edit.specs.declared.status.Stop.{Stop}
 use Rattle.t1edit.specs.declared.status.Stop.TheVariants as stops
 
--- A call that writes an explanation, if there is one: the whole text at Ok; a beginning of it and one failed call where
--- a write failed; nothing where the code is unknown, which is so where there is no explanation, or where memory ran out.
+-- profile: a call that writes an explanation, if there is one: the whole text at Ok; a beginning of it and one failed
+-- call where a write failed; nothing where the code is unknown, which is so where there is no explanation, or where
+-- memory ran out
 abbrev pub Explains : {W T : Type 0} → (W → Option (List ℕ)) → Tally W → Tally W → Option (List ℕ) → Result T Stop → Type 0
 Explains contents old new given (Ok done) = (whole : List ℕ) × (given ≡ Some whole) × WritesAll contents old new whole
 Explains contents old new given (Err (stops.Failed errors.Write)) = (whole : List ℕ) × (given ≡ Some whole) × WritesFront contents old new whole
 Explains contents old new given (Err (stops.Misused misuses.UnknownCode)) = (given ≡ None) × (new ≡ old)
 Explains contents old new given (Err (stops.Failed errors.Memory)) = new ≡ old
+Explains contents old new given (Err stops.Rejected) = ⊥
 Explains contents old new given (Err (stops.Misused misuses.InputTwice)) = ⊥
 Explains contents old new given (Err (stops.Misused misuses.InputOfSession)) = ⊥
 Explains contents old new given (Err (stops.Misused misuses.NoText)) = ⊥

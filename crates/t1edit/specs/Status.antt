@@ -3,7 +3,7 @@ use Rattle.std.specs.Prelude.{ℕ, Result, Ok, Err}
 use Rattle.t1_session.specs.declared.error.ServeError.{ServeError}
 use Rattle.t1_session.specs.declared.error.ServeError.TheVariants.{Load, Read, Write, Memory}
 use Rattle.t1edit.specs.declared.status.Stop.{Stop}
-use Rattle.t1edit.specs.declared.status.Stop.TheVariants.{Misused, Failed}
+use Rattle.t1edit.specs.declared.status.Stop.TheVariants.{Rejected, Misused, Failed}
 
 -- profile: 1 for a source or pairs that are refused, 3 where reading or writing failed, 4 for want of memory
 abbrev pub status_of : ServeError → ℕ
@@ -14,6 +14,7 @@ status_of Memory = 4
 
 -- profile: 2 for a command line that can't be carried out
 abbrev pub status_of_stop : Stop → ℕ
+status_of_stop Rejected = 2
 status_of_stop (Misused misuse) = 2
 status_of_stop (Failed error) = status_of error
 

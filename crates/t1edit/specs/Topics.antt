@@ -9,6 +9,7 @@ abbrev pub topic_in : List Topic → List ℕ → Option Topic
 topic_in [] code = None
 topic_in (topic ∷ topics) code = if bytes_eq topic.code.now code then Some topic else topic_in topics code
 
+-- profile: the first of two values that is there
 abbrev pub or_else : {X : Type 0} → Option X → Option X → Option X
 or_else None other = other
 or_else (Some x) other = Some x
@@ -18,29 +19,30 @@ abbrev pub topic_of : List Section → List ℕ → Option Topic
 topic_of [] code = None
 topic_of (section ∷ sections) code = or_else (topic_in section.topics.now code) (topic_of sections code)
 
--- the line of a topic in a list: its code and its meaning in a few words
+-- profile: the line of a topic in a list: its code and its meaning in a few words
 unfoldable pub line_text : Topic → List ℕ
 line_text topic = topic.code.now ++ (codes ": " ++ (topic.meaning.now ++ codes "\n"))
 
--- the lines of topics, indented
+-- profile: the lines of topics, indented
 abbrev pub lines_text : List Topic → List ℕ
 lines_text [] = []
 lines_text (topic ∷ topics) = (codes "  " ++ line_text topic) ++ lines_text topics
 
--- the lines of a section's topics, below its title
+-- profile: the lines of a section's topics, below its title
 unfoldable pub section_text : Section → List ℕ
 section_text section = section.title.now ++ (codes ":\n" ++ lines_text section.topics.now)
 
--- the lists of sections, with an empty line between each two
+-- profile: the lists of sections, each after an empty line
 abbrev pub other_sections_text : List Section → List ℕ
 other_sections_text [] = []
 other_sections_text (section ∷ sections) = (codes "\n" ++ section_text section) ++ other_sections_text sections
 
+-- profile: the list of all sections, with an empty line between each two
 abbrev pub list_text : List Section → List ℕ
 list_text [] = []
 list_text (section ∷ sections) = section_text section ++ other_sections_text sections
 
--- all that is said of a topic
+-- profile: all that is said of a topic
 unfoldable pub whole_text : Topic → List ℕ
 whole_text topic = line_text topic ++ (codes "\n" ++ topic.text.now)
 

@@ -9,12 +9,12 @@ const SESSION: &str = "\
 Commands, a line each:
   replace glyph NAME, replace subr N   another body; the lines of the body follow
   add glyph NAME, add subr N           a new entry; the lines of the body follow
-  remove glyph NAME, remove subr N     an entry less
+  remove glyph NAME, remove subr N     takes an entry out
   encode CODE NAME                     a name for a code of the encoding array
   unencode CODE                        no name for a code of the encoding array
   set leniv N                          the number of bytes in front of each charstring
   kern LEFT RIGHT N                    the value of a kerning pair
-  unkern LEFT RIGHT                    a kerning pair less
+  unkern LEFT RIGHT                    takes a kerning pair out
   print source                         the source as it stands
   print kern                           the kerning pairs
   print pfb                            the assembled font
@@ -33,6 +33,8 @@ Answers, a line each:
                    the edited font would have this fault, and nothing changed
   refused memory   there wasn't memory enough, and nothing changed
   data LENGTH      a print: so many bytes follow, and a line end
+
+A commit that is refused closes its batch, and drops its edits.
 
 Example:
   $ printf 'add glyph B\\n0 500 hsbw 9 hlineto endchar\\n.\\nremove glyph nosuch\\nprint kern\\n' |

@@ -21,7 +21,7 @@ use explaining::explain;
 use help::help_texts;
 use input::{is_standard_input, read_input};
 use output::Output;
-use status::{Misuse, Stop, USAGE, ending, run_ending};
+use status::{Misuse, Stop, run_ending};
 use std::process::ExitCode;
 use std::{env, io};
 use t1_code::Counted;
@@ -95,73 +95,71 @@ fn session(rt: &HostRuntime, matches: &ArgMatches<'_>) -> Result<(), Stop> {
     Ok(serve(rt.alloc(), &source, &pairs, &mut input, &mut out)?)
 }
 
-/// The status of a run, with a line on standard error where it stopped.
-fn ended(rt: &HostRuntime, outcome: &Result<(), Stop>) -> ExitCode {
-    ExitCode::from(run_ending(outcome, &mut rt.stderr()))
-}
-
-/// The status of an error, with its line on standard error.
-fn failed(rt: &HostRuntime, error: &ServeError) -> ExitCode {
-    ExitCode::from(ending(error, &mut rt.stderr()))
-}
-
-/// The status of a command line that clap doesn't take for a command, with clap's text: a help, the version, or what is
+/// What came of a command line that clap doesn't take for a command, with clap's text: a help, the version, or what is
 /// wrong.
-fn refused(rt: &HostRuntime, error: &Error) -> ExitCode {
+fn shown(rt: &HostRuntime, error: &Error) -> Result<(), Stop> {
     if error.kind() == ErrorKind::OutOfMemory {
-        return failed(rt, &ServeError::Memory);
+        return Err(Stop::Failed(ServeError::Memory));
     }
     let printed = error.print(rt);
     if error.use_stderr() {
-        ExitCode::from(USAGE)
+        Err(Stop::Rejected)
     } else if printed.is_err() {
-        failed(rt, &ServeError::Write)
+        Err(Stop::Failed(ServeError::Write))
     } else {
-        ExitCode::SUCCESS
+        Ok(())
     }
 }
 
+/// Writes the explanation of a code, or of all codes.
+fn explain_code(rt: &HostRuntime, matches: &ArgMatches<'_>) -> Result<(), Stop> {
+    let mut out = Counted::new(rt.stdout());
+    explain(
+        rt.alloc(),
+        &all_sections(),
+        matches.get_str("CODE"),
+        &mut out,
+    )
+}
+
 /// Runs the command that the words spell.
-fn run(rt: &HostRuntime, words: &[String]) -> ExitCode {
+fn run(rt: &HostRuntime, words: &[String]) -> Result<(), Stop> {
     let Ok(helps) = help_texts(rt.alloc()) else {
-        return failed(rt, &ServeError::Memory);
+        return Err(Stop::Failed(ServeError::Memory));
     };
     let Ok(command) = command(rt.alloc(), &helps) else {
-        return failed(rt, &ServeError::Memory);
+        return Err(Stop::Failed(ServeError::Memory));
     };
     let matches = match command.try_get_matches_from(words) {
         Ok(matches) => matches,
-        Err(error) => return refused(rt, &error),
+        Err(error) => return shown(rt, &error),
     };
-    let outcome = match matches.subcommand() {
+    match matches.subcommand() {
         Some(("assemble", matches)) => assemble(rt, matches),
         Some(("measure", matches)) => measure(rt, matches),
         Some(("check", matches)) => check(rt, matches),
         Some(("session", matches)) => session(rt, matches),
-        Some(("explain", matches)) => {
-            let mut out = Counted::new(rt.stdout());
-            explain(
-                rt.alloc(),
-                &all_sections(),
-                matches.get_str("CODE"),
-                &mut out,
-            )
-        }
+        Some(("explain", matches)) => explain_code(rt, matches),
         _ => Ok(()),
+    }
+}
+
+/// Runs the command that the arguments spell.
+fn run_arguments(rt: &HostRuntime) -> Result<(), Stop> {
+    let args = match env::args(rt) {
+        Ok(args) => args,
+        Err(error) if error.kind() == io::ErrorKind::OutOfMemory => {
+            return Err(Stop::Failed(ServeError::Memory));
+        }
+        Err(_) => return Err(Stop::Misused(Misuse::NoText)),
     };
-    ended(rt, &outcome)
+    let Ok(words) = args.collect::<Vec<String>>(rt.alloc()) else {
+        return Err(Stop::Failed(ServeError::Memory));
+    };
+    run(rt, &words)
 }
 
 fn main(rt: HostRuntime) -> ExitCode {
-    let args = match env::args(&rt) {
-        Ok(args) => args,
-        Err(error) if error.kind() == io::ErrorKind::OutOfMemory => {
-            return failed(&rt, &ServeError::Memory);
-        }
-        Err(_) => return ended(&rt, &Err(Stop::Misused(Misuse::NoText))),
-    };
-    let Ok(words) = args.collect::<Vec<String>>(rt.alloc()) else {
-        return failed(&rt, &ServeError::Memory);
-    };
-    run(&rt, &words)
+    let outcome = run_arguments(&rt);
+    ExitCode::from(run_ending(&outcome, &mut rt.stderr()))
 }

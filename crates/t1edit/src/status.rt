@@ -7,7 +7,7 @@ use t1_frac::{Fault, Place, Refusal};
 use t1_session::ServeError;
 
 /// The status of a command line that isn't accepted.
-pub const USAGE: u8 = 2;
+const USAGE: u8 = 2;
 
 /// What is wrong with a command line that has the words of one.
 #[derive(Clone, Copy, Debug, PartialEq, Eq)]
@@ -41,6 +41,8 @@ impl Misuse {
 /// Why a run ends before its work is done.
 #[derive(Debug, Drop)]
 pub enum Stop {
+    /// The command line isn't one of the program's, and what is wrong with it was written.
+    Rejected,
     Misused(Misuse),
     Failed(ServeError),
 }
@@ -113,6 +115,7 @@ fn stopped<W: Write>(stop: &Stop, writer: &mut W) -> u8
     ensures { result ≡ status_of_stop stop.now }
 {
     match stop {
+        Stop::Rejected => USAGE,
         Stop::Misused(misuse) => {
             let _written = writer.write_all(misuse.line());
             USAGE

@@ -544,7 +544,8 @@ const STATUSES: Section = Section {
             code: "4",
             meaning: "memory ran out",
             text: "Standard error has 't1edit: out of memory'. A session may go on after 'refused memory', which\n\
-                answers a command for which there wasn't memory enough and which changed nothing.\n\
+                answers a command for which there wasn't memory enough: nothing is changed then, but that a\n\
+                commit has closed its batch.\n\
                 \n\
                 What to do: give the program more memory, or split the font.\n",
         },

@@ -22,7 +22,7 @@ pub fn no_charstrings(alloc: Global) -> Charstrings
     }
 }
 
-/// Keeps a Subr, encrypted behind so many leading bytes, in the place of what was kept of it. Where memory runs out all stays
+/// Keeps a Subr, encrypted with so many leading bytes, in the place of what was kept of it. Where memory runs out all stays
 /// as it was.
 pub fn put_fresh_subr(
     alloc: Global,
@@ -38,7 +38,7 @@ pub fn put_fresh_subr(
     insert_subr(fresh, number, entry)
 }
 
-/// Keeps a glyph, encrypted behind so many leading bytes, in the place of what was kept of it. Where memory runs out all stays
+/// Keeps a glyph, encrypted with so many leading bytes, in the place of what was kept of it. Where memory runs out all stays
 /// as it was.
 pub fn put_fresh_glyph(
     alloc: Global,

@@ -40,7 +40,7 @@ const SUBR: &str = "\
     end\n\
     mark currentfile closefile\n";
 
-/// The charstring of space behind four bytes, and behind none.
+/// The charstring of space with four leading bytes, and with none.
 const SPACE: [u8; 9] = [0x10, 0xBF, 0x31, 0x70, 0x79, 0xC7, 0x57, 0xBF, 0x91];
 
 const BARE_SPACE: [u8; 5] = [0x9B, 0x23, 0xB0, 0xBB, 0x08];

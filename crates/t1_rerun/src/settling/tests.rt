@@ -136,7 +136,7 @@ fn change_a(alloc: Global, moved: bool) -> Result<Records, Fail> {
     Ok(records)
 }
 
-/// Whether the glyph of this name stands there, behind so many others.
+/// Whether the glyph of this name stands there, after so many others.
 fn stands(records: &Records, at: usize, name: &str) -> bool {
     match records.glyphs.get_index(at) {
         None => false,
@@ -160,7 +160,7 @@ fn moves_a_glyph_that_was_added_again_behind_the_others(rt: HostRuntime) -> Resu
     Ok(())
 }
 
-/// A glyph with a body, behind the others where it moved.
+/// A glyph with a body, after the others where it moved.
 fn glyph_change(alloc: Global, name: &[u8], words: &str, moved: bool) -> Result<EntryChange, Fail>
     ensures { IfOk result (λ change. key_of change.named ≡ Glyph name.now) }
 {

@@ -35,6 +35,13 @@ fn blocks(alloc: Global, size: usize) -> Result<Vec<u8>, Fail> {
     Ok(out.into_inner())
 }
 
+/// The PFB file of the font, a segment a part.
+fn whole(alloc: Global) -> Result<Vec<u8>, Fail> {
+    let mut out = Counted::new(Vec::new(alloc));
+    assemble_source(alloc, &font(alloc)?, &mut out)?;
+    Ok(out.into_inner())
+}
+
 /// A session of the font after an edit of its lenIV.
 fn with_lead(alloc: Global, lead: i64) -> Result<Session, Fail> {
     let source = read_source(alloc, &font(alloc)?)?;
@@ -66,6 +73,21 @@ fn assembles_a_pfa(rt: HostRuntime) -> Result<(), Fail> {
     let mut out = Counted::new(Vec::new(alloc));
     assemble_pfa(alloc, &font(alloc)?, &mut out)?;
     assert_eq!(rt; out.into_inner().as_slice(), pfa(alloc)?.as_slice());
+    Ok(())
+}
+
+#[test]
+fn stops_at_a_write_of_a_source(rt: HostRuntime) -> Result<(), Fail> {
+    let alloc = rt.alloc();
+    let font = font(alloc)?;
+    let expected = whole(alloc)?;
+    for room in 0..expected.len() {
+        let mut writer = Counted::new(Short::new(alloc, usize::MAX, room, true));
+        let result = assemble_source(alloc, &font, &mut writer);
+        assert!(rt; matches!(result, Err(ServeError::Write)));
+        let taken = writer.into_inner().taken;
+        assert_eq!(rt; taken.as_slice(), expected.split_at(room).0);
+    }
     Ok(())
 }
 

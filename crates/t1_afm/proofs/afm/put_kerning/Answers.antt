@@ -1,45 +1,35 @@
 use Rattle.std.proofs.Common.{sym, ◌∙◌}
 use Rattle.std.specs.Prelude.{codes}
+use Rattle.std.proofs.lemmas.Result.{err_from_is_err_and}
 use Rattle.t1_afm.specs.Afm.{pair_line}
 use Rattle.t1_afm.proofs.Sections.{section_text, kerning_start, kerning_end, kerning_is}
 use Rattle.t1_code.specs.Counted.{outlet}
-use Rattle.t1_code.proofs.Writing.{passing, Written-from, Written-step, Written-fails, at_error, Written-ends, Written-ends_failing}
+use Rattle.t1_code.proofs.Writing.{passing, Written-from, Written-step, Written-fails, Written-last}
 use Rattle.t1_afm.proofs.afm.put_kerning.Goals as goal
 
-pub returns-in_err-put_line-clause-err : goal.returns-in_err-put_line-clause-err
-returns-in_err-put_line-clause-err g c =
+pub returns-in_err-put_line : goal.returns-in_err-put_line
+returns-in_err-put_line g c =
     let a = outlet c.args.out.now c.args.chunk.now in
     let some = sym c.is_empty.ensures ∙ c.if-is_empty.false in
     let w0 = Written-from (passing g.W.Write.contents) a _ _ (kerning_is c.args.pairs.now some) in
-    at_error c.from_residual.result (Written-fails (passing g.W.Write.contents) a a (outlet c.put_line.new.out c.put_line.new.chunk) _ kerning_start _ w0 c.in_err-put_line.ensures.err)
+    rw (err_from_is_err_and c.from_residual.result c.from_residual.ensures.1).1 (Written-fails (passing g.W.Write.contents) a a (outlet c.put_line.new.out c.put_line.new.chunk) _ kerning_start _ w0 c.in_err-put_line.ensures)
 
-pub returns-in_err-put_section-clause-err : goal.returns-in_err-put_section-clause-err
-returns-in_err-put_section-clause-err g c =
+pub returns-in_err-put_section : goal.returns-in_err-put_section
+returns-in_err-put_section g c =
     let a = outlet c.args.out.now c.args.chunk.now in
     let some = sym c.is_empty.ensures ∙ c.if-is_empty.false in
     let w0 = Written-from (passing g.W.Write.contents) a _ _ (kerning_is c.args.pairs.now some) in
     let b0 = outlet c.put_line.new.out c.put_line.new.chunk in
-    let w1 = Written-step (passing g.W.Write.contents) a a b0 _ kerning_start _ w0 c.in_ok-put_line.ensures.ok in
-    at_error c.from_residual-in_err-put_section.result (Written-fails (passing g.W.Write.contents) a b0 (outlet c.put_section.new.out c.put_section.new.chunk) _ (section_text pair_line (codes "StartKernPairs") (codes "EndKernPairs") c.args.pairs.now) _ w1 c.in_err-put_section.ensures.err)
+    let w1 = Written-step (passing g.W.Write.contents) a a b0 _ kerning_start _ w0 c.in_ok-put_line.ensures in
+    rw (err_from_is_err_and c.from_residual-in_err-put_section.result c.from_residual-in_err-put_section.ensures.1).1 (Written-fails (passing g.W.Write.contents) a b0 (outlet c.put_section.new.out c.put_section.new.chunk) _ (section_text pair_line (codes "StartKernPairs") (codes "EndKernPairs") c.args.pairs.now) _ w1 c.in_err-put_section.ensures)
 
-pub returns-clause-ok : goal.returns-clause-ok
-returns-clause-ok g c =
+pub returns : goal.returns
+returns g c =
     let a = outlet c.args.out.now c.args.chunk.now in
     let some = sym c.is_empty.ensures ∙ c.if-is_empty.false in
     let w0 = Written-from (passing g.W.Write.contents) a _ _ (kerning_is c.args.pairs.now some) in
     let b0 = outlet c.put_line.new.out c.put_line.new.chunk in
-    let w1 = Written-step (passing g.W.Write.contents) a a b0 _ kerning_start _ w0 c.in_ok-put_line.ensures.ok in
+    let w1 = Written-step (passing g.W.Write.contents) a a b0 _ kerning_start _ w0 c.in_ok-put_line.ensures in
     let b1 = outlet c.put_section.new.out c.put_section.new.chunk in
-    let w2 = Written-step (passing g.W.Write.contents) a b0 b1 _ (section_text pair_line (codes "StartKernPairs") (codes "EndKernPairs") c.args.pairs.now) _ w1 c.in_ok-put_section.ensures.ok in
-    Written-ends (passing g.W.Write.contents) c.put_line-2.result a b1 (outlet c.put_line-2.new.out c.put_line-2.new.chunk) _ kerning_end w2 c.put_line-2.ensures.ok
-
-pub returns-clause-err : goal.returns-clause-err
-returns-clause-err g c =
-    let a = outlet c.args.out.now c.args.chunk.now in
-    let some = sym c.is_empty.ensures ∙ c.if-is_empty.false in
-    let w0 = Written-from (passing g.W.Write.contents) a _ _ (kerning_is c.args.pairs.now some) in
-    let b0 = outlet c.put_line.new.out c.put_line.new.chunk in
-    let w1 = Written-step (passing g.W.Write.contents) a a b0 _ kerning_start _ w0 c.in_ok-put_line.ensures.ok in
-    let b1 = outlet c.put_section.new.out c.put_section.new.chunk in
-    let w2 = Written-step (passing g.W.Write.contents) a b0 b1 _ (section_text pair_line (codes "StartKernPairs") (codes "EndKernPairs") c.args.pairs.now) _ w1 c.in_ok-put_section.ensures.ok in
-    Written-ends_failing (passing g.W.Write.contents) c.put_line-2.result a b1 (outlet c.put_line-2.new.out c.put_line-2.new.chunk) _ kerning_end w2 c.put_line-2.ensures.err
+    let w2 = Written-step (passing g.W.Write.contents) a b0 b1 _ (section_text pair_line (codes "StartKernPairs") (codes "EndKernPairs") c.args.pairs.now) _ w1 c.in_ok-put_section.ensures in
+    Written-last (passing g.W.Write.contents) c.put_line-2.result a b1 (outlet c.put_line-2.new.out c.put_line-2.new.chunk) _ kerning_end w2 c.put_line-2.ensures

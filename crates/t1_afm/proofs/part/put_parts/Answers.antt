@@ -1,20 +1,21 @@
 use Rattle.std.proofs.Common.{◌<◌, length, arith}
+use Rattle.std.proofs.lemmas.Result.{err_from_is_err_and}
 use Rattle.t1_code.specs.Counted.{outlet}
-use Rattle.t1_code.proofs.Writing.{passing, Written-step, Written-fails, at_error}
+use Rattle.t1_code.proofs.Writing.{passing, Written-step, Written-fails}
 use Rattle.t1_afm.proofs.Sheets.{parts_are}
 use Rattle.t1_afm.proofs.part.put_parts.Goals as goal
 
-pub returns-in_err-put-clause-err : goal.returns-in_err-put-clause-err
-returns-in_err-put-clause-err g c =
+pub returns-in_err-put : goal.returns-in_err-put
+returns-in_err-put g c =
     let i = c.loop-part.part-index in
     let inside : i < length c.args.parts.now = omega arith in
-    at_error c.from_residual.result
+    rw (err_from_is_err_and c.from_residual.result c.from_residual.ensures.1).1
     (Written-fails (passing g.W.Write.contents) _ _ (outlet c.put.new.out c.put.new.chunk) _ (g.P.Part.text c.part-item.result) _
-    (rw (parts_are g.P.Part.text c.args.parts.now i c.part-item.result inside c.part-item.is) at c.loop-part.invariant) c.in_err-put.ensures.err)
+    (rw (parts_are g.P.Part.text c.args.parts.now i c.part-item.result inside c.part-item.is) at c.loop-part.invariant) c.in_err-put.ensures)
 
 pub loop-part-preserved : goal.loop-part-preserved
 loop-part-preserved g c =
     let i = c.loop-part.part-index in
     let inside : i < length c.args.parts.now = omega arith in
     Written-step (passing g.W.Write.contents) _ _ (outlet c.put.new.out c.put.new.chunk) _ (g.P.Part.text c.part-item.result) _
-    (rw (parts_are g.P.Part.text c.args.parts.now i c.part-item.result inside c.part-item.is) at c.loop-part.invariant) c.in_ok-put.ensures.ok
+    (rw (parts_are g.P.Part.text c.args.parts.now i c.part-item.result inside c.part-item.is) at c.loop-part.invariant) c.in_ok-put.ensures

@@ -1,7 +1,8 @@
 use Rattle.std.proofs.Common.{◌≡◌, ◌++◌, [], sym}
 use Rattle.std.proofs.lemmas.List.{take-append-drop}
+use Rattle.std.proofs.lemmas.Result.{err_from_is_err_and}
 use Rattle.t1_code.specs.Counted.{outlet}
-use Rattle.t1_code.proofs.Writing.{passing, Written-fails, Written-kept, at_error}
+use Rattle.t1_code.proofs.Writing.{passing, Written-fails, Written-kept}
 use Rattle.t1_code.proofs.chunk.put_in_turns.Goals as goal
 
 pub loop-rest-preserved : goal.loop-rest-preserved
@@ -12,7 +13,7 @@ loop-rest-preserved g c =
     Written-kept g.W.Write.contents (outlet c.args.out.now c.args.chunk.now) (outlet c.loop-rest.out c.loop-rest.chunk) c.make_room.new.out c.make_room.new.self c.keep.new.self
     c.args.bytes.now c.loop-rest.rest.now front after c.loop-rest.invariant parts c.in_ok-make_room.ensures.text c.keep.ensures
 
-pub returns-in_err-make_room-clause-err : goal.returns-in_err-make_room-clause-err
-returns-in_err-make_room-clause-err g c =
-    at_error c.from_residual.result (Written-fails (passing g.W.Write.contents) (outlet c.args.out.now c.args.chunk.now) (outlet c.loop-rest.out c.loop-rest.chunk) (outlet c.make_room.new.out c.make_room.new.self)
+pub returns-in_err-make_room : goal.returns-in_err-make_room
+returns-in_err-make_room g c =
+    rw (err_from_is_err_and c.from_residual.result c.from_residual.ensures.1).1 (Written-fails (passing g.W.Write.contents) (outlet c.args.out.now c.args.chunk.now) (outlet c.loop-rest.out c.loop-rest.chunk) (outlet c.make_room.new.out c.make_room.new.self)
     c.args.bytes.now [] c.loop-rest.rest.now c.loop-rest.invariant c.in_err-make_room.ensures.text)

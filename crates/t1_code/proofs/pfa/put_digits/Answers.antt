@@ -4,7 +4,7 @@ use Rattle.t1_code.specs.Counted.{outlet}
 use Rattle.t1_code.specs.Cipher.{eexec}
 use Rattle.t1_code.specs.Parts.{piece_text}
 use Rattle.t1_code.proofs.Digits.{lines_are}
-use Rattle.t1_code.proofs.Writing.{passing, Written-from, Written-step, Written-fails, Written-last, Puts-either}
+use Rattle.t1_code.proofs.Writing.{passing, Written-from, Written-step, Written-fails, Written-last}
 use Rattle.t1_code.proofs.pfa.put_digits.Goals as goal
 
 pub returns-in_err-put_private : goal.returns-in_err-put_private
@@ -20,5 +20,4 @@ returns g c =
     let b = outlet c.put_private.new.out c.put_private.new.chunk in
     let start = Written-from (passing g.W.Write.contents) a _ _ (lines_are (eexec (flat_map piece_text c.args.pieces.now))) in
     let lined = Written-step (passing g.W.Write.contents) a a b _ _ _ start (rw c.new.ensures at c.in_ok-put_private.ensures) in
-    Written-last (passing g.W.Write.contents) c.put_plain.result a b (outlet c.put_plain.new.out c.put_plain.new.chunk) _ _ lined
-    (Puts-either g.W.Write.contents c.put_plain.result _ _ _ c.put_plain.ensures.ok c.put_plain.ensures.err)
+    Written-last (passing g.W.Write.contents) c.put_plain.result a b (outlet c.put_plain.new.out c.put_plain.new.chunk) _ _ lined c.put_plain.ensures

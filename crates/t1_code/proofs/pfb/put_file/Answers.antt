@@ -2,7 +2,7 @@ use Rattle.std.proofs.lemmas.Result.{err_from_is_err_and}
 use Rattle.t1_code.specs.Counted.{outlet}
 use Rattle.t1_code.specs.Parts.{private_text}
 use Rattle.t1_code.proofs.Framing.{file_parts}
-use Rattle.t1_code.proofs.Writing.{passing, Written-from, Written-step, Written-fails, Written-last, Puts-either}
+use Rattle.t1_code.proofs.Writing.{passing, Written-from, Written-step, Written-fails, Written-last}
 use Rattle.t1_code.proofs.pfb.put_file.Goals as goal
 
 pub returns-in_err-put_part : goal.returns-in_err-put_part
@@ -62,5 +62,4 @@ returns g c =
     let cut = Written-step (passing g.W.Write.contents) a d e _ _ _ headed (rw (c.in_ok-segmenter.ensures.state, c.requires.whole) at c.in_ok-put_private.ensures) in
     let f = outlet c.put_part-2.new.out c.put_part-2.new.chunk in
     let trailed = Written-step (passing g.W.Write.contents) a e f _ _ _ cut c.in_ok-put_part-2.ensures in
-    Written-last (passing g.W.Write.contents) c.put_plain.result a f (outlet c.put_plain.new.out c.put_plain.new.chunk) _ _ trailed
-    (Puts-either g.W.Write.contents c.put_plain.result _ _ _ c.put_plain.ensures.ok c.put_plain.ensures.err)
+    Written-last (passing g.W.Write.contents) c.put_plain.result a f (outlet c.put_plain.new.out c.put_plain.new.chunk) _ _ trailed c.put_plain.ensures

@@ -25,11 +25,11 @@ returns-in_err-put_plain g c =
     let file = g.F.FileForm.file c.args.form.now parts.clear.now (private_text parts) parts.trailer.now in
     let p = err_from_is_err_and c.from_residual-in_err-put_plain.result c.from_residual-in_err-put_plain.ensures.1 in
     rw (p.1, p.2) (end_fails g.W.Write.contents (outlet c.args.out.now c.args.chunk.now) (outlet c.put_head.new.out c.put_head.new.chunk) file c.args.len c.requires
-    (outlet c.put.new.out c.put.new.chunk) (outlet c.put_plain.new.out c.put_plain.new.chunk) c.in_ok-put.field-0 c.in_ok-put_head.ensures c.in_ok-put.ensures c.in_err-put_plain.ensures.err)
+    (outlet c.put.new.out c.put.new.chunk) (outlet c.put_plain.new.out c.put_plain.new.chunk) c.in_ok-put.field-0 c.in_ok-put_head.ensures c.in_ok-put.ensures c.in_err-put_plain.ensures)
 
 pub returns : goal.returns
 returns g c =
     let parts = c.args.parts.now in
     let file = g.F.FileForm.file c.args.form.now parts.clear.now (private_text parts) parts.trailer.now in
     all_passes g.W.Write.contents (outlet c.args.out.now c.args.chunk.now) (outlet c.put_head.new.out c.put_head.new.chunk) file c.args.len c.requires
-    (outlet c.put.new.out c.put.new.chunk) (outlet c.put_plain.new.out c.put_plain.new.chunk) c.in_ok-put.field-0 tt c.in_ok-put_head.ensures c.in_ok-put.ensures c.in_ok-put_plain.ensures.ok
+    (outlet c.put.new.out c.put.new.chunk) (outlet c.put_plain.new.out c.put_plain.new.chunk) c.in_ok-put.field-0 tt c.in_ok-put_head.ensures c.in_ok-put.ensures c.in_ok-put_plain.ensures

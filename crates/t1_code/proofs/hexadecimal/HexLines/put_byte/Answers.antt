@@ -1,7 +1,7 @@
 use Rattle.std.proofs.lemmas.Result.{err_from_is_err_and}
 use Rattle.t1_code.specs.Counted.{outlet}
 use Rattle.t1_code.proofs.Digits.{byte_in_line}
-use Rattle.t1_code.proofs.Writing.{passing, Written-from, Written-step, Written-fails, Written-last, Puts-either}
+use Rattle.t1_code.proofs.Writing.{passing, Written-from, Written-step, Written-fails, Written-last}
 use Rattle.t1_code.proofs.hexadecimal.HexLines.put_byte.Goals as goal
 
 pub returns-in_err-end_full-clause-text : goal.returns-in_err-end_full-clause-text
@@ -17,5 +17,4 @@ returns-clause-text g c =
     let b = outlet c.end_full.new.out c.end_full.new.chunk in
     let start = Written-from (passing g.W.Write.contents) a _ _ (byte_in_line c.args.self.now.room c.args.byte).0 in
     let ended = Written-step (passing g.W.Write.contents) a a b _ _ _ start c.in_ok-end_full.ensures.text in
-    Written-last (passing g.W.Write.contents) c.put_plain.result a b (outlet c.put_plain.new.out c.put_plain.new.chunk) _ _ ended
-    (Puts-either g.W.Write.contents c.put_plain.result _ _ _ (rw c.digits.ensures at c.put_plain.ensures.ok) (rw c.digits.ensures at c.put_plain.ensures.err))
+    Written-last (passing g.W.Write.contents) c.put_plain.result a b (outlet c.put_plain.new.out c.put_plain.new.chunk) _ _ ended (rw c.digits.ensures at c.put_plain.ensures)

@@ -28,7 +28,7 @@ returns-in_err-put_plain-clause-text g c =
     let some : 0 < length front = omega (arith, opens, left, room, c.min.ensures, c.split_at.ensures.front_len) in
     let short : length front ≤ (opened s).room = omega (arith, room, c.min.ensures, c.split_at.ensures.front_len) in
     rw p.1 (front_fails g.W.Write.contents (outlet c.args.out.now c.args.chunk.now) c.args.self.now c.args.bytes.now (outlet c.loop-rest.out c.loop-rest.chunk) (outlet c.open.new.out c.open.new.chunk)
-    (outlet c.put_plain.new.out c.put_plain.new.chunk) s c.loop-rest.rest.now front after c.loop-rest.invariant parts some short c.in_ok-open.ensures.text c.in_err-put_plain.ensures.err)
+    (outlet c.put_plain.new.out c.put_plain.new.chunk) s c.loop-rest.rest.now front after c.loop-rest.invariant parts some short c.in_ok-open.ensures.text c.in_err-put_plain.ensures)
 
 pub loop-rest-preserved : goal.loop-rest-preserved
 loop-rest-preserved g c =
@@ -46,5 +46,5 @@ loop-rest-preserved g c =
     let left_is : c.self.inside.left ≡ (opened s).left = ap (λ v. v.left) is_open in
     let kind : c.self.inside.kind ≡ (opened s).kind = ap (λ v. v.kind) is_open in
     front_passes g.W.Write.contents (outlet c.args.out.now c.args.chunk.now) c.args.self.now c.args.bytes.now (outlet c.loop-rest.out c.loop-rest.chunk) (outlet c.open.new.out c.open.new.chunk)
-    (outlet c.put_plain.new.out c.put_plain.new.chunk) s _ c.loop-rest.rest.now front after c.loop-rest.invariant parts some short c.in_ok-open.ensures.text c.in_ok-put_plain.ensures.ok
+    (outlet c.put_plain.new.out c.put_plain.new.chunk) s _ c.loop-rest.rest.now front after c.loop-rest.invariant parts some short c.in_ok-open.ensures.text c.in_ok-put_plain.ensures
     (rw (c.saturating_sub-self-inside.ensures, kind, size, room, left_is) refl)

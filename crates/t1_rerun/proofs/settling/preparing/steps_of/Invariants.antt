@@ -5,7 +5,7 @@ use Rattle.t1_rerun.specs.declared.settling.EntryChange.{EntryChange}
 use Rattle.t1_rerun.specs.Steps.{new_run, some_inserts, AreStepsOf}
 use Rattle.t1_rerun.proofs.settling.preparing.steps_of.Given as goal
 
--- the changes behind those that are left have their steps, and the runs of these are taken out
+-- the changes after those that are left have their steps, and the runs of these are taken out
 abbrev pub invariant-loop-change : goal.invariant-loop-change
 invariant-loop-change l = record {
   done : List EntryChange;

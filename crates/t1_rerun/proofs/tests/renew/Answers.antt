@@ -2,7 +2,7 @@ use Rattle.std.specs.Option.{option_to_list}
 use Rattle.t1_rerun.specs.Changing.{MayBeRenewed}
 use Rattle.t1_font.specs.Glyphs.{glyph_names}
 use Rattle.t1_rerun.proofs.ChangedBodies.{entry-changed}
-use Rattle.t1_rerun.proofs.tests.renew_entry_in_steps.Goals as goal
+use Rattle.t1_rerun.proofs.tests.renew.Goals as goal
 
 pub prepare_change-requires : goal.prepare_change-requires
 prepare_change-requires c =
