@@ -3,5 +3,4 @@ pub mod Checking
 pub mod Explaining
 pub mod Reading
 pub mod Status
-pub mod Topics
 pub mod Writing

@@ -1,13 +1,13 @@
 //! What a code, a rule or an exit status means.
 ghost use Rattle.std.specs.Prelude.{option_map};
 ghost use Rattle.t1edit.specs.Explaining.{Explains};
-ghost use Rattle.t1edit.specs.Topics.{explanation as explanation_of};
+ghost use Rattle.t1_command_line.specs.Topics.{explanation as explanation_of};
 
 use crate::status::{Misuse, Stop};
-use crate::topic::{Section, explanation};
 use std::alloc::Global;
 use std::io::Write;
 use t1_code::Counted;
+use t1_command_line::{Section, explanation};
 use t1_session::ServeError;
 
 /// Writes what the sections say of a code; of all codes, in a few words, where none is given.

@@ -3,30 +3,24 @@
 
 mod assembling;
 mod checking;
-mod command_line;
 mod explaining;
-mod help;
 mod input;
 mod output;
 mod status;
-mod table;
-mod topic;
 
 use assembling::{assemble_as, form_of};
 use checking::check_source;
 use clap::error::ErrorKind;
 use clap::{ArgMatches, Error};
-use command_line::command;
 use explaining::explain;
-use help::help_texts;
 use input::{is_standard_input, read_input};
 use output::Output;
 use status::{Misuse, Stop, run_ending};
 use std::process::ExitCode;
 use std::{env, io};
 use t1_code::Counted;
+use t1_command_line::{all_sections, command, help_texts};
 use t1_session::{ServeError, measure_source, serve};
-use table::all_sections;
 
 /// The paths that the command line gives: of the source, and of the kerning file where it names one.
 fn paths<'a>(matches: &ArgMatches<'a>) -> (&'a str, Option<&'a str>) {

@@ -1,6 +1,6 @@
 use Rattle.std.proofs.Common.{◌≡◌, drop}
-use Rattle.t1edit.specs.Topics.{topic_of}
-use Rattle.t1edit.proofs.topic.find_in.Given as goal
+use Rattle.t1_command_line.specs.Topics.{topic_of}
+use Rattle.t1_command_line.proofs.topic.find_in.Given as goal
 
 -- no section so far has the code
 abbrev pub invariant-loop-section : goal.invariant-loop-section

@@ -1,6 +1,6 @@
 //! The meaning of a code: how it is found, and how it is printed.
 ghost use Rattle.std.specs.Prelude.{◌≡◌, ◌++◌, option_map, string_bytes, IfOk, OnOk};
-ghost use Rattle.t1edit.specs.Topics.{topic_in, topic_of, line_text, section_text, other_sections_text, list_text, lines_text, whole_text as text_of, explanation as explanation_of};
+ghost use Rattle.t1_command_line.specs.Topics.{topic_in, topic_of, line_text, section_text, other_sections_text, list_text, lines_text, whole_text as text_of, explanation as explanation_of};
 
 use std::alloc::{AllocError, Global};
 

@@ -1,6 +1,6 @@
 use Rattle.std.proofs.Common.{◌≡◌, drop}
-use Rattle.t1edit.specs.Topics.{topic_in}
-use Rattle.t1edit.proofs.topic.find.Given as goal
+use Rattle.t1_command_line.specs.Topics.{topic_in}
+use Rattle.t1_command_line.proofs.topic.find.Given as goal
 
 -- no topic so far has the code
 abbrev pub invariant-loop-topic : goal.invariant-loop-topic

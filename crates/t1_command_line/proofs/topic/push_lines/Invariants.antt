@@ -1,6 +1,6 @@
 use Rattle.std.proofs.Common.{◌≡◌, ◌++◌, string_bytes, drop}
-use Rattle.t1edit.specs.Topics.{lines_text}
-use Rattle.t1edit.proofs.topic.push_lines.Given as goal
+use Rattle.t1_command_line.specs.Topics.{lines_text}
+use Rattle.t1_command_line.proofs.topic.push_lines.Given as goal
 
 -- the text with the lines that are left is the whole
 abbrev pub invariant-loop-topic : goal.invariant-loop-topic

@@ -1,8 +1,8 @@
 -- What is said of a code, a rule or a status: how it is found, and what is printed.
 use Rattle.std.specs.Prelude.{ℕ, List, [], ◌∷◌, ◌++◌, Option, Some, None, option_map, codes, if◌then◌else◌}
 use Rattle.std.specs.Str.{bytes_eq}
-use Rattle.t1edit.specs.declared.topic.Topic.{Topic}
-use Rattle.t1edit.specs.declared.topic.Section.{Section}
+use Rattle.t1_command_line.specs.declared.topic.Topic.{Topic}
+use Rattle.t1_command_line.specs.declared.topic.Section.{Section}
 
 -- profile: the first topic with this code
 abbrev pub topic_in : List Topic → List ℕ → Option Topic

@@ -1,0 +1,15 @@
+//! What the program says of itself: its command line, its helps, and what each code, rule and exit status means.
+//!
+//! [`command`] is the command line, whose helps are those of [`help_texts`]. [`all_sections`] is the one table of all codes;
+//! [`explanation`] is what it says of one, or its list.
+#![tactic(auto)]
+
+mod command_line;
+mod help;
+mod table;
+mod topic;
+
+pub use command_line::command;
+pub use help::{Helps, help_texts};
+pub use table::all_sections;
+pub use topic::{Section, Topic, explanation};
