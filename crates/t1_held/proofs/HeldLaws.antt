@@ -23,7 +23,7 @@ use Rattle.t1_source.proofs.WellFormedSourceLaws.{source_well_formed}
 use Rattle.t1_run.specs.Run.{Subr, Glyph}
 use Rattle.t1_font.specs.Assembly.{file_check}
 use Rattle.t1_font.specs.Glyphs.{glyph_names}
-use Rattle.t1_font.specs.Runs.{Counts}
+use Rattle.t1_font.specs.Runs.{counted, Counts}
 use Rattle.t1_font.specs.SourceChecks.{source_check}
 use Rattle.t1_charstrings.specs.declared.entries.Charstrings.{Charstrings}
 use Rattle.t1_charstrings.specs.Changed.{AreUnchanged}
@@ -136,6 +136,11 @@ counts_none names (Err first) old r (refusals.Fault fault) is h = rw is refl
 counts_none names (Ok checked) old r (refusals.Fault fault) is h = absurd (cc)
 
 -- ---- what is held of a source from scratch
+
+-- all glyphs were run, and then memory ran out
+pub counts_all : {T : Type 0} (runs old new : ℕ) (r : Result T Refusal) (e : Refusal) → r ≡ Err e → new ≡ counted old runs → Counts runs old new r
+counts_all runs old new r refusals.Memory is h = rw is (runs, omega arith, h)
+counts_all runs old new r (refusals.Fault fault) is h = rw is h
 
 pub bodies_refused : (s : SourceParts) (refusal : Refusal) → Refuses refusal (bodies_check s.items) → Refuses refusal (file_check s)
 bodies_refused s refusals.Memory h = h

@@ -38,15 +38,16 @@ pub struct ReadyHeld {
     pub lines: ReadyLines,
 }
 
-/// What is kept of a source, or the source's first fault. Each glyph is run once, and the meter counts it.
+/// What is kept of a source, or the source's first fault. Each glyph is run once, and the meter counts it. Nothing is encrypted
+/// of a source with a fault.
 pub fn held_of(alloc: Global, source: &Source, meter: &mut Meter) -> Result<Held, Refusal>
     ensures checked { Gives (λ _. tt) result (source_check source.now) }
     ensures held { IfOk result (IsHeld source.now) }
     ensures counted { Counts (opening_runs source.now) meter.old meter.new result }
 {
     text_of_source_read(source);
-    let charstrings = charstrings_of(alloc, source)?;
     let records = opened_records(alloc, source, meter)?;
+    let charstrings = charstrings_of(alloc, source)?;
     let len = private_len(&charstrings, source);
     Ok(Held {
         records,
