@@ -142,9 +142,9 @@ fn place_slices<'a>(
     }
 }
 
-/// Writes a fault by its code and place, between two texts.
+/// Writes a fault by its code and its place, where it has one, between two texts: `F20 subr 7`. It takes no memory.
 #[tactic(auto, unfolding(crate::specs::AnswerTexts::fault_text))]
-fn put_fault<W: Write>(
+pub fn put_fault<W: Write>(
     writer: &mut Counted<W>,
     before: &[u8],
     fault: &Fault,

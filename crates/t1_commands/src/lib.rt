@@ -1,7 +1,7 @@
 //! The commands of a session, by the words of their lines, and what they are answered.
 //!
 //! [`line_command`] and [`body_command`] make the [`Command`] of a line, and of a line with its body. [`put_answer`] writes an
-//! [`Answer`]; [`PfbData`] and [`PfaData`] are the forms of a font file that is an answer, and not made in memory.
+//! [`Answer`], [`put_fault`] a fault as answers have it; [`PfbData`] and [`PfaData`] are the forms of a font file that is an answer, and not made in memory.
 #![tactic(auto)]
 
 mod answer;
@@ -10,7 +10,7 @@ mod data;
 mod numbers;
 mod print;
 
-pub use answer::{Answer, answer_of, put_answer};
+pub use answer::{Answer, answer_of, put_answer, put_fault};
 pub use command::{
     Command, body_command, ends_body, is_blank_line, line_command, open_command, takes_body,
 };

@@ -3,33 +3,46 @@ ghost use Rattle.std.specs.Prelude.{◌≡◌, IfOk, map};
 ghost use Rattle.std.specs.Option.{option_to_list};
 ghost use Rattle.t1_frac.specs.Outcome.{Gives};
 ghost use Rattle.t1_parts.specs.SourceParts.{SourceParts};
+ghost use Rattle.t1_parts.specs.LenIV.{lead};
 ghost use Rattle.t1_source.specs.Changes.{changed};
+ghost use Rattle.t1_run.specs.Run.{Key};
 ghost use Rattle.t1_font.specs.Runs.{Counts};
 ghost use Rattle.t1_font.specs.SourceChecks.{source_check};
+ghost use Rattle.t1_charstrings.specs.Batch.{gone_key};
+ghost use Rattle.t1_charstrings.specs.Kept.{kept_at};
 ghost use Rattle.t1_cache.specs.Edited.{named};
 ghost use Rattle.t1_cache.specs.Renewed.{kept_of};
 ghost use Rattle.t1_rerun.specs.Renewing.{renewing_runs};
+ghost use Rattle.t1_held.specs.Entries.{fresh_in, gone_keys};
 ghost use Rattle.t1_held.specs.Held.{IsHeld};
 ghost use Rattle.t1_held.specs.Ready.{IsPreparedEdit, IsReadyHeld};
 
 use crate::entries::edited_entries;
 use crate::held::{Held, ReadyHeld};
-use std::alloc::Global;
+use std::alloc::{AllocError, Global};
 use std::slice;
-use t1_charstrings::prepare_lines;
+use t1_charstrings::{EditedEntries, no_charstrings, prepare_lines};
 use t1_frac::Refusal;
 use t1_pairs::Pairs;
 use t1_rerun::{EntryChange, Prepared, change_of_edit, prepare_change};
 use t1_run::Meter;
 use t1_source::{Change, Edit, Source};
 
-/// The change as a slice.
-fn changes(change: &Option<EntryChange>) -> &[EntryChange]
-    ensures { result.now ≡ option_to_list change.now }
+/// What a change makes of the charstrings. Where there is none, nothing of the source is asked for.
+fn entries_of(
+    alloc: Global,
+    source: &Source,
+    change: &Option<EntryChange>,
+) -> Result<EditedEntries, AllocError>
+    ensures fresh { IfOk result (λ entries. (k : Key) → kept_at entries.fresh k ≡ fresh_in (lead source.now) (option_to_list change.now) k) }
+    ensures gone { IfOk result (λ entries. map gone_key entries.gone.items ≡ gone_keys (option_to_list change.now)) }
 {
     match change {
-        None => &[],
-        Some(change) => slice::from_ref(change),
+        None => Ok(EditedEntries {
+            fresh: no_charstrings(alloc),
+            gone: Vec::new(alloc),
+        }),
+        Some(change) => edited_entries(alloc, source.lead(), slice::from_ref(change)),
     }
 }
 
@@ -52,7 +65,7 @@ pub fn prepare_edit(
     ensures counted { Counts (renewing_runs edit.now source.now (changed change.now source.now pairs.now).0) meter.old meter.new result }
 {
     let entry = change_of_edit(alloc, edit)?;
-    let entries = edited_entries(alloc, source.lead(), changes(&entry))?;
+    let entries = entries_of(alloc, source, &entry)?;
     let lines = prepare_lines(
         alloc,
         &mut held.charstrings,

@@ -1,7 +1,11 @@
--- The exit statuses of the program.
-use Rattle.std.specs.Prelude.{ℕ, Result, Ok, Err}
+-- The exit statuses of the program, and its lines on standard error.
+use Rattle.std.specs.Prelude.{◌≡◌, ◌⊎◌, ◌++◌, ℕ, List, Option, Result, Ok, Err, codes}
+use Rattle.t1_code.specs.Counted.{Tally, WritesAll, WritesFront}
+use Rattle.t1_commands.specs.AnswerTexts.{fault_text}
 use Rattle.t1_session.specs.declared.error.ServeError.{ServeError}
 use Rattle.t1_session.specs.declared.error.ServeError.TheVariants.{Load, Read, Write, Memory}
+use Rattle.t1edit.specs.declared.status.Misuse.{Misuse}
+use Rattle.t1edit.specs.declared.status.Misuse.TheVariants.{InputTwice, InputOfSession, UnknownCode, NoText, BlockLength}
 use Rattle.t1edit.specs.declared.status.Stop.{Stop}
 use Rattle.t1edit.specs.declared.status.Stop.TheVariants.{Rejected, Misused, Failed}
 
@@ -13,12 +17,46 @@ status_of Write = 3
 status_of Memory = 4
 
 -- profile: 2 for a command line that can't be carried out
+abbrev pub status_of_misuse : ℕ
+status_of_misuse = 2
+
+-- profile: the status of a run that stopped
 abbrev pub status_of_stop : Stop → ℕ
-status_of_stop Rejected = 2
-status_of_stop (Misused misuse) = 2
+status_of_stop Rejected = status_of_misuse
+status_of_stop (Misused misuse) = status_of_misuse
 status_of_stop (Failed error) = status_of error
 
 -- profile: 0 where all was done
 abbrev pub status_of_run : {T : Type 0} → Result T Stop → ℕ
 status_of_run (Ok done) = 0
 status_of_run (Err stop) = status_of_stop stop
+
+-- profile: the line that reports an error
+abbrev pub error_line : ServeError → List ℕ
+error_line (Load fault) = codes "t1edit: " ++ fault_text fault ++ codes "\n"
+error_line Read = codes "t1edit: read failed\n"
+error_line Write = codes "t1edit: write failed\n"
+error_line Memory = codes "t1edit: out of memory\n"
+
+-- profile: the line that reports a misuse
+abbrev pub misuse_line : Misuse → List ℕ
+misuse_line InputTwice = codes "t1edit: only one of SOURCE and FILE can be standard input\n"
+misuse_line InputOfSession = codes "t1edit: a session has its commands from standard input, so neither SOURCE nor FILE can be -\n"
+misuse_line UnknownCode = codes "t1edit: no such code; 't1edit explain' lists all of them\n"
+misuse_line NoText = codes "t1edit: an argument is no UTF-8 text\n"
+misuse_line BlockLength = codes "t1edit: a block has 1 to 2147483647 bytes\n"
+
+-- profile: a line went out, or a beginning of it before a write that failed
+abbrev pub IsWritten : {W : Type 0} → (W → Option (List ℕ)) → Tally W → Tally W → List ℕ → Type 0
+IsWritten contents old new line = WritesAll contents old new line ⊎ WritesFront contents old new line
+
+-- profile: the line of a run that stopped is written, and none where the command line was rejected, since its text stands there
+abbrev pub Reports : {W : Type 0} → (W → Option (List ℕ)) → Tally W → Tally W → Stop → Type 0
+Reports contents old new Rejected = new ≡ old
+Reports contents old new (Misused misuse) = IsWritten contents old new (misuse_line misuse)
+Reports contents old new (Failed error) = IsWritten contents old new (error_line error)
+
+-- profile: a run that did all reports nothing
+abbrev pub ReportsRun : {W T : Type 0} → (W → Option (List ℕ)) → Tally W → Tally W → Result T Stop → Type 0
+ReportsRun contents old new (Ok done) = new ≡ old
+ReportsRun contents old new (Err stop) = Reports contents old new stop

@@ -155,5 +155,5 @@ fn run_arguments(rt: &HostRuntime) -> Result<(), Stop> {
 
 fn main(rt: HostRuntime) -> ExitCode {
     let outcome = run_arguments(&rt);
-    ExitCode::from(run_ending(&outcome, &mut rt.stderr()))
+    ExitCode::from(run_ending(&outcome, &mut Counted::new(rt.stderr())))
 }

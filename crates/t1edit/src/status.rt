@@ -1,9 +1,12 @@
 //! How the program ends.
 ghost use Rattle.std.specs.Prelude.{◌≡◌};
-ghost use Rattle.t1edit.specs.Status.{status_of, status_of_stop, status_of_run};
+ghost use Rattle.t1_code.specs.Counted.{Writes};
+ghost use Rattle.t1edit.specs.Status.{error_line, misuse_line, status_of, status_of_misuse, status_of_stop, status_of_run, IsWritten, Reports, ReportsRun};
 
 use std::io::{self, Write};
-use t1_frac::{Fault, Place, Refusal};
+use t1_code::Counted;
+use t1_commands::put_fault;
+use t1_frac::Refusal;
 use t1_session::ServeError;
 
 /// The status of a command line that isn't accepted.
@@ -25,7 +28,10 @@ pub enum Misuse {
 }
 
 impl Misuse {
-    fn line(self) -> &'static [u8] {
+    /// The line that reports it.
+    fn line(self) -> &'static [u8]
+        ensures { result.now ≡ misuse_line self }
+    {
         match self {
             Misuse::InputTwice => b"t1edit: only one of SOURCE and FILE can be standard input\n",
             Misuse::InputOfSession => {
@@ -81,52 +87,65 @@ impl From<Refusal> for Stop {
     }
 }
 
-/// Writes the line that reports a fault.
-fn report<W: Write>(fault: &Fault, writer: &mut W) -> io::Result<()> {
-    let code = fault.code;
-    write!(writer, "t1edit: {code:?}")?;
-    match &fault.place {
-        Place::Nowhere => {}
-        Place::Line(number) => write!(writer, " line {number}")?,
-        Place::Subr(number) => write!(writer, " subr {number}")?,
-        Place::Glyph(name) => {
-            writer.write_all(b" glyph ")?;
-            writer.write_all(name.as_slice())?;
-        }
+/// Writes the line that reports an error.
+fn report<W: Write>(error: &ServeError, writer: &mut Counted<W>) -> io::Result<()>
+    ensures { Writes W.contents writer.old writer.new (error_line error.now) result }
+{
+    match error {
+        ServeError::Load(fault) => put_fault(writer, b"t1edit: ", fault, b"\n"),
+        ServeError::Read => writer.put_all(b"t1edit: read failed\n"),
+        ServeError::Write => writer.put_all(b"t1edit: write failed\n"),
+        ServeError::Memory => writer.put_all(b"t1edit: out of memory\n"),
     }
-    writer.write_all(b"\n")
+}
+
+/// The exit status of an error.
+fn status_of(error: &ServeError) -> u8
+    ensures { result ≡ status_of error.now }
+{
+    match error {
+        ServeError::Load(_) => 1,
+        ServeError::Read | ServeError::Write => 3,
+        ServeError::Memory => 4,
+    }
 }
 
 /// The exit status of an error, whose line is written; a write that fails changes no status.
-pub fn ending<W: Write>(error: &ServeError, writer: &mut W) -> u8
-    ensures { result ≡ status_of error.now }
+#[tactic(auto, using(crate::proofs::Lines::is_written))]
+fn ending<W: Write>(error: &ServeError, writer: &mut Counted<W>) -> u8
+    ensures status { result ≡ status_of error.now }
+    ensures line { IsWritten W.contents writer.old writer.new (error_line error.now) }
 {
-    let (_written, status) = match error {
-        ServeError::Load(fault) => (report(fault, writer), 1),
-        ServeError::Read => (writer.write_all(b"t1edit: read failed\n"), 3),
-        ServeError::Write => (writer.write_all(b"t1edit: write failed\n"), 3),
-        ServeError::Memory => (writer.write_all(b"t1edit: out of memory\n"), 4),
-    };
-    status
+    let _written = report(error, writer);
+    status_of(error)
+}
+
+/// The exit status of a misuse, whose line is written; a write that fails changes no status.
+#[tactic(auto, using(crate::proofs::Lines::is_written))]
+fn misused<W: Write>(misuse: Misuse, writer: &mut Counted<W>) -> u8
+    ensures status { result ≡ status_of_misuse }
+    ensures line { IsWritten W.contents writer.old writer.new (misuse_line misuse) }
+{
+    let _written = writer.put_all(misuse.line());
+    USAGE
 }
 
 /// The exit status of a run that stopped, whose line is written.
-fn stopped<W: Write>(stop: &Stop, writer: &mut W) -> u8
-    ensures { result ≡ status_of_stop stop.now }
+fn stopped<W: Write>(stop: &Stop, writer: &mut Counted<W>) -> u8
+    ensures status { result ≡ status_of_stop stop.now }
+    ensures line { Reports W.contents writer.old writer.new stop.now }
 {
     match stop {
         Stop::Rejected => USAGE,
-        Stop::Misused(misuse) => {
-            let _written = writer.write_all(misuse.line());
-            USAGE
-        }
+        Stop::Misused(misuse) => misused(*misuse, writer),
         Stop::Failed(error) => ending(error, writer),
     }
 }
 
 /// The exit status of a run, whose line is written where it stopped.
-pub fn run_ending<W: Write>(outcome: &Result<(), Stop>, writer: &mut W) -> u8
-    ensures { result ≡ status_of_run outcome.now }
+pub fn run_ending<W: Write>(outcome: &Result<(), Stop>, writer: &mut Counted<W>) -> u8
+    ensures status { result ≡ status_of_run outcome.now }
+    ensures line { ReportsRun W.contents writer.old writer.new outcome.now }
 {
     match outcome {
         Ok(()) => 0,

@@ -10,7 +10,6 @@ use Rattle.t1_cache.specs.Users.{key_eq}
 use Rattle.t1_rerun.proofs.Judged.{file-refused}
 use Rattle.t1_rerun.proofs.Preparing.{as-self}
 use Rattle.t1_rerun.proofs.Reaching.{counts-same}
-use Rattle.t1_held.specs.Entries.{fresh_in, gone_keys}
 use Rattle.t1_held.proofs.CommitLaws.{edits_are, one_key}
 use Rattle.t1_held.proofs.HeldLaws.{change_of, counts_none, edit_made, runs_made, still_held, well_made}
 use Rattle.t1_held.proofs.edit.prepare_edit.Goals as goal
@@ -46,8 +45,7 @@ prepare_lines-requires-clause-edits c =
     let entries = c.in_ok-entries.ensures in
     edits_are s made (option_to_list entry) held.charstrings c.in_ok-entries.entries c.requires.held.encrypted (well_made s k edit change held c.requires) is.compiled is.edited
     (one_key entry) is.bodies
-    (λ k. entries.fresh k ∙ ap (λ l. fresh_in c.lead.result l k) c.changes.ensures ∙ ap (λ n. fresh_in n (option_to_list entry) k) c.lead.ensures)
-    (entries.gone ∙ ap gone_keys c.changes.ensures)
+    entries.fresh entries.gone
 
 pub returns-in_err-lines-clause-held : goal.returns-in_err-lines-clause-held
 returns-in_err-lines-clause-held c =
