@@ -1,6 +1,6 @@
 -- Lines on standard error.
-use Rattle.std.proofs.Common.{ℕ, List}
-use Rattle.std.specs.Prelude.{Option, Result, Ok, Err, inl, inr}
+use Rattle.std.proofs.Common.{ℕ, List, inl, inr}
+use Rattle.std.specs.Prelude.{Option, Result, Ok, Err}
 use Rattle.t1_code.specs.Counted.{Tally, Writes}
 use Rattle.t1edit.specs.Status.{IsWritten}
 
