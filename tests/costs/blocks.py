@@ -29,13 +29,13 @@ class Counter:
         self.library = compiled("counter", room, "-shared", "-fPIC", "-fno-builtin")
         self.file = os.path.join(room, "counts")
 
-    def of(self, watch, words):
-        """What a run of a program counts; None where it can't be counted."""
+    def of(self, watch, words, given=os.devnull):
+        """What a run of a program on this input counts; None where it can't be counted."""
         if not self.library:
             return None
         with open(self.file, "wb"):
             pass
-        watch.run(words, LD_PRELOAD=self.library, COUNTER_FILE=self.file)
+        watch.run(words, given, LD_PRELOAD=self.library, COUNTER_FILE=self.file)
         with open(self.file, "rb") as file:
             text = file.read()
         if len(text) != 32:
