@@ -3,7 +3,8 @@
 use super::runs::{demo, glyph_edit, subr_edit, uses};
 use super::*;
 use t1_frac::Bytes;
-use t1_source::{Cause, Edit};
+use t1_pairs::read_pairs;
+use t1_source::{Cause, Edit, Rule, read_source};
 
 /// Another glyph.
 fn new_glyph(alloc: Global, name: &[u8], body: &[u8]) -> Result<Edit, Fail> {
@@ -91,5 +92,102 @@ fn nested(alloc: Global) -> Result<[u64; 3], Fail> {
 fn an_edit_runs_composites_on_composites(rt: HostRuntime) -> Result<(), Fail> {
     let counts = nested(rt.alloc())?;
     assert!(rt; counts == [7, 8, 11]);
+    Ok(())
+}
+
+/// The rule that a call broke, where it broke one, and whether a batch is open after it.
+fn turn(session: &Session, answer: &Result<(), Cause>) -> (Option<Rule>, bool) {
+    match answer {
+        Err(Cause::Rule(rule)) => (Some(*rule), session.in_batch()),
+        _ => (None, session.in_batch()),
+    }
+}
+
+/// A batch closed, opened twice, and closed twice.
+fn turns(alloc: Global) -> Result<[(Option<Rule>, bool); 5], Fail> {
+    let mut session = demo(alloc)?;
+    let answer = session.commit();
+    let committed = turn(&session, &answer);
+    let answer = session.begin();
+    let begun = turn(&session, &answer);
+    let answer = session.begin();
+    let begun_again = turn(&session, &answer);
+    let answer = session.abort();
+    let aborted = turn(&session, &answer);
+    let answer = session.abort();
+    let aborted_again = turn(&session, &answer);
+    Ok([committed, begun, begun_again, aborted, aborted_again])
+}
+
+#[test]
+fn a_batch_is_open_until_it_is_closed(rt: HostRuntime) -> Result<(), Fail> {
+    let turns = turns(rt.alloc())?;
+    let expected = [
+        (Some(Rule::E12), false),
+        (None, true),
+        (Some(Rule::E11), true),
+        (None, false),
+        (Some(Rule::E12), false),
+    ];
+    assert!(rt; turns == expected);
+    Ok(())
+}
+
+/// A composite on space, one on that, and so on: the bases are the codes of space, a, b and c.
+const FOUR_DEEP: [(&[u8], &[u8]); 4] = [
+    (b"a", b"0 100 hsbw 0 0 0 32 32 seac"),
+    (b"b", b"0 100 hsbw 0 0 0 97 32 seac"),
+    (b"c", b"0 100 hsbw 0 0 0 98 32 seac"),
+    (b"d", b"0 100 hsbw 0 0 0 99 32 seac"),
+];
+
+/// A session with these glyphs and space.
+fn four_deep(alloc: Global) -> Result<Session, Fail> {
+    let source = read_source(alloc, font(alloc)?.as_slice())?;
+    let mut session = Session::open(alloc, source, read_pairs(alloc, b"")?)?;
+    for (name, body) in &FOUR_DEEP {
+        session.apply(new_glyph(alloc, name, body)?)?;
+    }
+    Ok(session)
+}
+
+/// How many runs an edit of space makes under four composites.
+fn runs_four_deep(alloc: Global) -> Result<u64, Fail> {
+    let mut session = four_deep(alloc)?;
+    let before = session.runs();
+    session.apply(glyph_edit(alloc, b"space", b"0 250 hsbw 10 hlineto endchar")?)?;
+    Ok(session.runs().saturating_sub(before))
+}
+
+#[test]
+fn an_edit_runs_composites_four_levels_up(rt: HostRuntime) -> Result<(), Fail> {
+    let count = runs_four_deep(rt.alloc())?;
+    assert_eq!(rt; count, 5);
+    Ok(())
+}
+
+/// Whether a glyph was refused since composites would stand too deep.
+fn is_too_deep(answer: &Result<(), Cause>, name: &[u8]) -> bool {
+    let Err(Cause::Fault(fault)) = answer else {
+        return false;
+    };
+    match &fault.place {
+        Place::Glyph(glyph) => fault.code == Code::F46 && glyph.as_slice() == name,
+        _ => false,
+    }
+}
+
+/// Whether a fifth level is refused, above the four and below them.
+fn refuses_a_fifth(alloc: Global) -> Result<[bool; 2], Fail> {
+    let mut session = four_deep(alloc)?;
+    let above = session.apply(new_glyph(alloc, b"e", b"0 100 hsbw 0 0 0 100 32 seac")?);
+    let below = session.apply(glyph_edit(alloc, b"space", b"0 250 hsbw 0 0 0 97 97 seac")?);
+    Ok([is_too_deep(&above, b"e"), is_too_deep(&below, b"space")])
+}
+
+#[test]
+fn composites_stand_four_deep_at_most(rt: HostRuntime) -> Result<(), Fail> {
+    let refused = refuses_a_fifth(rt.alloc())?;
+    assert!(rt; refused == [true, true]);
     Ok(())
 }
