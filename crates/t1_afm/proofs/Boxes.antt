@@ -1,6 +1,6 @@
 -- Boxes of lists of points, one list after another.
 use Rattle.std.proofs.Common.{◌≡◌, ℕ, suc, ◌+◌, ◌<◌, length, get_or, drop, drop-cons, add-one, List, [], ◌∷◌, ◌++◌, map, refl, ap, ◌∙◌, sym, subst, append-nil, arith, Option, Some, None, ℤ, pos}
-use Rattle.std.specs.Prelude.{fold, unwrap_or, Result, Ok, Err, IsOk, IfOk}
+use Rattle.std.specs.Prelude.{fold, unwrap_or, Result, Ok, Err}
 use Rattle.std.specs.Int.{int_min, int_max}
 use Rattle.std.proofs.lemmas.Int.{int_min_is, int_max_is}
 use Rattle.std.specs.List.{range_with_len}
@@ -14,7 +14,7 @@ use Rattle.t1_frac.specs.Outcome.{◌>>=◌}
 use Rattle.t1_run.specs.Composite.{moved_segment, moved_outline}
 use Rattle.t1_afm.specs.declared.bbox.BBox.{BBox}
 use Rattle.t1_afm.specs.Points.{points, points_of, cubic_at, cubic_values, curve_at, sixty_fourths}
-use Rattle.t1_afm.specs.Box.{box, around, unite, outline_box}
+use Rattle.t1_afm.specs.Box.{box, around, unite}
 use Rattle.t1_afm.specs.Spans.{span_of, spans_box}
 
 map-map_x : (f : Fraction → ℤ) (a b c d : Point) (ks : List ℕ) → map (λ (p : Point). f p.x) (map (curve_at a b c d) ks) ≡ map f (map (cubic_at a.x b.x c.x d.x) ks)
@@ -107,10 +107,6 @@ Rest (Ok rest) e (Ok whole) = unite e (extent (points rest)) ≡ extent (points 
 Rest (Ok rest) e (Err fault) = ⊥
 Rest (Err fault) e whole = ⊥
 
-pub Rest-start : (r : Result (List Segment) Code) → IsOk r → Rest r None r
-Rest-start (Ok rest) h = refl
-Rest-start (Err fault) h = absurd (grind (arith, h))
-
 step_at : (r : Result (List Segment) Code) (s : Segment) (e : Option BBox) (whole : Result (List Segment) Code)
     → Rest (r >>= (λ ss. Ok (s ∷ ss))) e whole → Rest r (unite e (Some (box (points_of s)))) whole
 step_at (Ok ss) s e (Ok whole) h =
@@ -125,18 +121,9 @@ pub Rest-step : (by : Point) (s s' : Segment) (ss : List Segment) (e : Option BB
 Rest-step by s s' ss e whole is h =
     step_at (moved_outline by ss) s' e whole (subst (λ r. Rest (r >>= (λ t. moved_outline by ss >>= (λ ts. Ok (t ∷ ts)))) e whole) is h)
 
-pub Rest-fault : (by : Point) (s : Segment) (ss : List Segment) (e : Option BBox) (whole : Result (List Segment) Code) (fault : Code) → moved_segment by s ≡ Err fault
-    → Rest (moved_outline by (s ∷ ss)) e whole → ⊥
-Rest-fault by s ss e whole fault is h = subst (λ r. Rest (r >>= (λ t. moved_outline by ss >>= (λ ts. Ok (t ∷ ts)))) e whole) is h
-
 pub box_of_extent : (ps : List Point) → unwrap_or (extent ps) (record { left = pos 0; bottom = pos 0; right = pos 0; top = pos 0 }) ≡ box ps
 box_of_extent [] = refl
 box_of_extent (p ∷ ps) = refl
-
-pub Rest-end : (e : Option BBox) (whole : Result (List Segment) Code) → Rest (Ok []) e whole
-    → IfOk whole (λ outline. unwrap_or e (record { left = pos 0; bottom = pos 0; right = pos 0; top = pos 0 }) ≡ outline_box outline)
-Rest-end e (Ok whole) h = ap (λ x. unwrap_or x (record { left = pos 0; bottom = pos 0; right = pos 0; top = pos 0 })) (sym (unite_none e) ∙ h) ∙ box_of_extent (points whole)
-Rest-end e (Err fault) h = absurd h
 
 -- the rest begins with its item
 pub outline_is : (xs : List Segment) (i : ℕ) (x : Segment) → i < length xs → x ≡ get_or xs i x → drop i xs ≡ x ∷ drop (i + 1) xs

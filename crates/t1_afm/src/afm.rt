@@ -4,7 +4,7 @@ ghost use Rattle.std.specs.Fmt.{signed_decimal};
 ghost use Rattle.t1_code.specs.Counted.{Puts, Writes, outlet};
 ghost use Rattle.t1_code.specs.Parts.{Prints};
 ghost use Rattle.t1_afm.specs.Afm.{line_text, lines_text, value_lines, values_before_box as names, values_after_box as others, scheme as scheme_of, header_lines, heights as heights_of, char_named, char_line, section, kerning_lines, composite_lines, afm};
-ghost use Rattle.t1_afm.specs.Lines.{word_text, value_of, values_of};
+ghost use Rattle.t1_afm.specs.Lines.{value_of, values_of};
 
 use crate::bbox::BBox;
 use crate::line::{Word, put_line};

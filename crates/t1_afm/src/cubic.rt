@@ -3,7 +3,7 @@
 ghost use Rattle.std.specs.Prelude.{◌≡◌, ◌≤◌, ◌^◌};
 ghost use Rattle.std.specs.Int.RustNames.{unsigned_abs};
 ghost use Rattle.t1_frac.specs.Limits.{IsCoordinate};
-ghost use Rattle.t1_afm.specs.Points.{cubic_at as cubic_value, cubic_values};
+ghost use Rattle.t1_afm.specs.Points.{cubic_at, cubic_values};
 ghost use Rattle.t1_afm.specs.Spans.{span_of, span_around_one, ends_of, hull_of};
 ghost use Rattle.t1_afm.specs.Bounds.{IsInRange, fraction_of};
 
@@ -12,119 +12,113 @@ use crate::span::{Span, is_whole, line_span};
 use crate::whole::whole_span;
 use t1_frac::Frac;
 
-/// The value at k/64.
-fn cubic_terms(a: &Frac, b: &Frac, c: &Frac, d: &Frac, k: u32) -> Ratio
-    requires place { k ≤ 64 }
-    requires a { IsCoordinate a.now }
-    requires b { IsCoordinate b.now }
-    requires c { IsCoordinate c.now }
-    requires d { IsCoordinate d.now }
-    ensures value { fraction_of result ≡ cubic_value a.now b.now c.now d.now k }
-    ensures num { unsigned_abs result.num ≤ 2 ^ 120 }
-    ensures den { result.den ≤ 2 ^ 98 }
-{
-    let j = 64 - k;
-    let front = pair(j * j * j, a, 3 * j * j * k, b);
-    let back = pair(3 * j * k * k, c, k * k * k, d);
-    sum(&front, &back)
+/// A cubic along one axis, by the coordinates of its four points.
+#[derive(Debug, Drop)]
+pub(crate) struct Cubic {
+    pub(crate) start: Frac,
+    pub(crate) first: Frac,
+    pub(crate) second: Frac,
+    pub(crate) end: Frac,
+    ghost start_within: { IsCoordinate start },
+    ghost first_within: { IsCoordinate first },
+    ghost second_within: { IsCoordinate second },
+    ghost end_within: { IsCoordinate end },
 }
 
-/// The value at k/64, which is within the range of coordinates.
-fn cubic_at(a: &Frac, b: &Frac, c: &Frac, d: &Frac, k: u32) -> Ratio
-    requires place { k ≤ 64 }
-    requires a { IsCoordinate a.now }
-    requires b { IsCoordinate b.now }
-    requires c { IsCoordinate c.now }
-    requires d { IsCoordinate d.now }
-    ensures value { fraction_of result ≡ cubic_value a.now b.now c.now d.now k }
-    ensures range { IsInRange (fraction_of result) }
-    ensures num { unsigned_abs result.num ≤ 2 ^ 120 }
-    ensures den { result.den ≤ 2 ^ 98 }
-{
-    cubic_terms(a, b, c, d, k)
-}
-
-/// The span around the value at k/64.
-fn span_at(a: &Frac, b: &Frac, c: &Frac, d: &Frac, k: u32) -> Span
-    requires place { k ≤ 64 }
-    requires a { IsCoordinate a.now }
-    requires b { IsCoordinate b.now }
-    requires c { IsCoordinate c.now }
-    requires d { IsCoordinate d.now }
-    ensures { result ≡ span_around_one (cubic_value a.now b.now c.now d.now k) }
-{
-    let value = cubic_at(a, b, c, d, k);
-    Span {
-        low: value.floor(),
-        high: value.ceil(),
+impl Cubic {
+    /// The value at k/64.
+    fn terms_at(&self, k: u32) -> Ratio
+        requires { k ≤ 64 }
+        ensures value { fraction_of result ≡ cubic_at self.now.start self.now.first self.now.second self.now.end k }
+        ensures num { unsigned_abs result.num ≤ 2 ^ 120 }
+        ensures den { result.den ≤ 2 ^ 98 }
+    {
+        let j = 64 - k;
+        let front = pair(j * j * j, &self.start, 3 * j * j * k, &self.first);
+        let back = pair(3 * j * k * k, &self.second, k * k * k, &self.end);
+        sum(&front, &back)
     }
-}
 
-/// The span around the 65 values of a cubic, value by value.
-fn sampled_span(a: &Frac, b: &Frac, c: &Frac, d: &Frac) -> Span
-    requires a { IsCoordinate a.now }
-    requires b { IsCoordinate b.now }
-    requires c { IsCoordinate c.now }
-    requires d { IsCoordinate d.now }
-    ensures { result ≡ span_of (cubic_values a.now b.now c.now d.now) }
-{
-    let mut span = span_at(a, b, c, d, 0);
-    for k in 1..65 {
-        let next = span_at(a, b, c, d, k);
-        span = span.around(&next);
+    /// The value at k/64, which is within the range of coordinates.
+    fn value_at(&self, k: u32) -> Ratio
+        requires { k ≤ 64 }
+        ensures value { fraction_of result ≡ cubic_at self.now.start self.now.first self.now.second self.now.end k }
+        ensures range { IsInRange (fraction_of result) }
+        ensures num { unsigned_abs result.num ≤ 2 ^ 120 }
+        ensures den { result.den ≤ 2 ^ 98 }
+    {
+        self.terms_at(k)
     }
-    span
-}
 
-/// The span around the values at both ends.
-fn ends_span(a: &Frac, b: &Frac, c: &Frac, d: &Frac) -> Span
-    requires a { IsCoordinate a.now }
-    requires b { IsCoordinate b.now }
-    requires c { IsCoordinate c.now }
-    requires d { IsCoordinate d.now }
-    ensures { result ≡ ends_of a.now b.now c.now d.now }
-{
-    span_at(a, b, c, d, 0).around(&span_at(a, b, c, d, 64))
-}
-
-/// The span around the four points.
-fn hull_span(a: &Frac, b: &Frac, c: &Frac, d: &Frac) -> Span
-    requires a { IsCoordinate a.now }
-    requires b { IsCoordinate b.now }
-    requires c { IsCoordinate c.now }
-    requires d { IsCoordinate d.now }
-    ensures { result ≡ hull_of a.now b.now c.now d.now }
-{
-    line_span(a, b).around(&line_span(c, d))
-}
-
-/// The span around the 65 values of a cubic. Where its four points reach no further than its ends, neither do the
-/// values between.
-fn fraction_span(a: &Frac, b: &Frac, c: &Frac, d: &Frac) -> Span
-    requires a { IsCoordinate a.now }
-    requires b { IsCoordinate b.now }
-    requires c { IsCoordinate c.now }
-    requires d { IsCoordinate d.now }
-    ensures { result ≡ span_of (cubic_values a.now b.now c.now d.now) }
-{
-    let ends = ends_span(a, b, c, d);
-    let hull = hull_span(a, b, c, d);
-    if ends.low <= hull.low && hull.high <= ends.high {
-        return ends;
+    /// The span around the value at k/64.
+    fn span_at(&self, k: u32) -> Span
+        requires { k ≤ 64 }
+        ensures { result ≡ span_around_one (cubic_at self.now.start self.now.first self.now.second self.now.end k) }
+    {
+        let value = self.value_at(k);
+        Span {
+            low: value.floor(),
+            high: value.ceil(),
+        }
     }
-    sampled_span(a, b, c, d)
-}
 
-/// The span around the 65 values of a cubic.
-pub(crate) fn cubic_span(a: &Frac, b: &Frac, c: &Frac, d: &Frac) -> Span
-    requires a { IsCoordinate a.now }
-    requires b { IsCoordinate b.now }
-    requires c { IsCoordinate c.now }
-    requires d { IsCoordinate d.now }
-    ensures { result ≡ span_of (cubic_values a.now b.now c.now d.now) }
-{
-    if is_whole(a) && is_whole(b) && is_whole(c) && is_whole(d) {
-        return whole_span(a.num(), b.num(), c.num(), d.num());
+    /// The span around the 65 values, value by value.
+    fn sampled_span(&self) -> Span
+        ensures { result ≡ span_of (cubic_values self.now.start self.now.first self.now.second self.now.end) }
+    {
+        let mut span = self.span_at(0);
+        for k in 1..65 {
+            let next = self.span_at(k);
+            span = span.around(&next);
+        }
+        span
     }
-    fraction_span(a, b, c, d)
+
+    /// The span around the values at both ends.
+    fn ends_span(&self) -> Span
+        ensures { result ≡ ends_of self.now.start self.now.first self.now.second self.now.end }
+    {
+        self.span_at(0).around(&self.span_at(64))
+    }
+
+    /// The span around the four points.
+    fn hull_span(&self) -> Span
+        ensures { result ≡ hull_of self.now.start self.now.first self.now.second self.now.end }
+    {
+        let front = line_span(&self.start, &self.first);
+        let back = line_span(&self.second, &self.end);
+        front.around(&back)
+    }
+
+    /// The span around the 65 values. Where the four points reach no further than the ends, neither do the values
+    /// between.
+    fn fraction_span(&self) -> Span
+        ensures { result ≡ span_of (cubic_values self.now.start self.now.first self.now.second self.now.end) }
+    {
+        let ends = self.ends_span();
+        let hull = self.hull_span();
+        if ends.low <= hull.low && hull.high <= ends.high {
+            return ends;
+        }
+        self.sampled_span()
+    }
+
+    /// The span around the 65 values.
+    pub(crate) fn span(&self) -> Span
+        ensures { result ≡ span_of (cubic_values self.now.start self.now.first self.now.second self.now.end) }
+    {
+        if is_whole(&self.start)
+            && is_whole(&self.first)
+            && is_whole(&self.second)
+            && is_whole(&self.end)
+        {
+            return whole_span(
+                self.start.num(),
+                self.first.num(),
+                self.second.num(),
+                self.end.num(),
+            );
+        }
+        self.fraction_span()
+    }
 }

@@ -6,7 +6,7 @@ ghost use Rattle.t1_afm.specs.Points.{points_of};
 ghost use Rattle.t1_afm.specs.Box.{box as box_of, outline_box};
 
 use crate::bbox::{BBox, spanned, unite};
-use crate::cubic::cubic_span;
+use crate::cubic::Cubic;
 use crate::span::line_span;
 use t1_run::{Point, Segment, moved_segment};
 
@@ -18,10 +18,21 @@ fn segment_box(segment: &Segment) -> BBox
 {
     match segment {
         Segment::Line(a, b) => spanned(line_span(&a.x, &b.x), line_span(&a.y, &b.y)),
-        Segment::Curve(a, b, c, d) => spanned(
-            cubic_span(&a.x, &b.x, &c.x, &d.x),
-            cubic_span(&a.y, &b.y, &c.y, &d.y),
-        ),
+        Segment::Curve(a, b, c, d) => {
+            let x = Cubic {
+                start: a.x,
+                first: b.x,
+                second: c.x,
+                end: d.x,
+            };
+            let y = Cubic {
+                start: a.y,
+                first: b.y,
+                second: c.y,
+                end: d.y,
+            };
+            spanned(x.span(), y.span())
+        }
     }
 }
 

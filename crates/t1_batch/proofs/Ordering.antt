@@ -10,7 +10,7 @@ use Rattle.t1_source.specs.declared.edit.Edit.{Edit}
 use Rattle.t1_source.specs.declared.edit.Edit.TheVariants.{ReplaceGlyph, AddGlyph, RemoveGlyph, ReplaceSubr, AddSubr, RemoveSubr, Encode, Unencode, LenIv, Kern, Unkern}
 use Rattle.t1_cache.specs.Edited.{names_after}
 use Rattle.t1_cache.specs.Laws.{AreDistinct}
-use Rattle.t1_cache.proofs.Putting.{bytes_tell}
+use Rattle.t1_font.proofs.Lookups.{bytes_tell}
 use Rattle.t1_rerun.proofs.Changes.{filter-as}
 use Rattle.t1_batch.specs.Batch.{edited_entries, was_added}
 

@@ -9,7 +9,7 @@ use Rattle.std.proofs.lemmas.List.Sums.{sum_by-append}
 use Rattle.t1_run.specs.Run.{Key, Subr, Glyph}
 use Rattle.t1_cache.specs.declared.records.Named.{Named}
 use Rattle.t1_cache.specs.Users.{key_eq, key_of, Pairs, UserSet, HasRoom, wanted, has_pair}
-use Rattle.t1_cache.proofs.Putting.{bytes_tell, numbers_tell}
+use Rattle.t1_font.proofs.Lookups.{bytes_tell, numbers_tell}
 
 -- what holds of each Subr and of each glyph
 pub at-key : (P : Key → Type 0) → ((n : ℕ) → P (Subr n)) → ((g : List ℕ) → P (Glyph g)) → (k : Key) → P k

@@ -1,6 +1,6 @@
 -- Records changed at one key.
 use Rattle.std.proofs.Common.{◌≡◌, ℕ, Bool, true, false, cond, not, List, [], ◌∷◌, ◌++◌, filter, map, refl, sym, ap, subst, ◌∙◌, Option, Some, None, inl, inr, arith}
-use Rattle.std.specs.Prelude.{◌&&◌, nat_eq}
+use Rattle.std.specs.Prelude.{nat_eq}
 use Rattle.std.specs.List.{find}
 use Rattle.std.specs.Map.{lookup, remove_entry}
 use Rattle.std.specs.Option.{option_map}
@@ -18,7 +18,9 @@ use Rattle.t1_cache.specs.Overlay.{body_at}
 use Rattle.t1_cache.specs.Renewed.{Kept, kept_of}
 use Rattle.t1_cache.specs.Users.{among, glyph_rest, has, key_eq, subr_rest, GlyphRest, HasRoom, SubrRest, UserSet}
 use Rattle.t1_cache.proofs.Adding.{key-itself, key-same}
-use Rattle.t1_cache.proofs.Putting.{Tells, at, inserted-at, map-cond}
+use Rattle.t1_font.proofs.Keeping.{map-cond}
+use Rattle.t1_font.proofs.Lookups.{Tells, inserted-at, lookup-but}
+use Rattle.t1_cache.proofs.Putting.{at}
 
 -- ---- a record that is put in
 
@@ -98,35 +100,6 @@ all-but test (e ∷ es) gone = by (test e.0) refl gone (all-but test es) where
       → cond b es (e ∷ remove_entry test es) ≡ cond (not b) (e ∷ filter (λ e. not (test e.0)) es) (filter (λ e. not (test e.0)) es)
   by true on gone rest = none-left test es gone
   by false off gone rest = ap (λ l. e ∷ l) (rest (sym (ap (λ b. cond b (Some e.1) (lookup test (remove_entry test es))) off) ∙ gone))
-
-lookup-but : {Q K R : Type 0} (eq : Q → Q → Bool) → Tells eq → (name : K → Q) (p q : Q) (es : List (K × R))
-    → lookup (λ x. eq q (name x)) (filter (λ e. not (eq p (name e.0))) es) ≡ cond (eq q p) None (lookup (λ x. eq q (name x)) es)
-lookup-but {R} eq t name p q [] = none (eq q p) where
-  none : (b : Bool) → None ≡ cond {A = Option R} b None None
-  none true = refl
-  none false = refl
-lookup-but eq t name p q (e ∷ es) = by (eq p (name e.0)) refl (eq q (name e.0)) refl (lookup-but eq t name p q es) where
-  by : (b : Bool) → eq p (name e.0) ≡ b → (c : Bool) → eq q (name e.0) ≡ c
-      → lookup (λ x. eq q (name x)) (filter (λ e. not (eq p (name e.0))) es) ≡ cond (eq q p) None (lookup (λ x. eq q (name x)) es)
-      → lookup (λ x. eq q (name x)) (cond (not b) (e ∷ filter (λ e. not (eq p (name e.0))) es) (filter (λ e. not (eq p (name e.0))) es))
-      ≡ cond (eq q p) None (cond c (Some e.1) (lookup (λ x. eq q (name x)) es))
-  by true on true here rest =
-      let same : eq q p ≡ true = ap (eq q) (t.same p (name e.0) on) ∙ here in
-      rest ∙ ap (λ b. cond b None (lookup (λ x. eq q (name x)) es)) same
-      ∙ ap (λ b. cond b None (Some e.1)) (sym same)
-  by true on false off rest = rest
-  by false off true here rest =
-      let apart : eq q p ≡ false = other (eq q p) refl in
-      ap (λ b. cond b (Some e.1) (lookup (λ x. eq q (name x)) (filter (λ e. not (eq p (name e.0))) es))) here
-      ∙ ap (λ b. cond b None (Some e.1)) (sym apart)
-    where
-      other : (b : Bool) → eq q p ≡ b → b ≡ false
-      other true same =
-          let both : eq p (name e.0) ≡ true = ap (λ n. eq n (name e.0)) (sym (t.same q p same)) ∙ here in
-          let never : false ≡ true = sym off ∙ both in
-          absurd (cc)
-      other false same = refl
-  by false off false there rest = ap (λ b. cond b (Some e.1) (lookup (λ x. eq q (name x)) (filter (λ e. not (eq p (name e.0))) es))) there ∙ rest
 
 -- what is read of the records is nothing at the name that is taken out
 pub reads-removed : {Q K R X : Type 0} (eq : Q → Q → Bool) → Tells eq → (name : K → Q) (read : R → X) (es : List (K × R)) (p : Q)

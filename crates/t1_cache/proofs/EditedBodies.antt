@@ -1,5 +1,5 @@
 -- The body at the key that an edit names.
-use Rattle.std.proofs.Common.{◌≡◌, ℕ, Bool, true, false, cond, not, ℤ, ok_or, Result, Ok, Option, Some, None, List, [], ◌∷◌, ◌++◌, take, drop, codes, refl, sym, subst, ◌∙◌, ap, inl, inr, arith}
+use Rattle.std.proofs.Common.{◌≡◌, ℕ, Bool, true, false, cond, ℤ, Ok, Option, Some, None, List, [], ◌∷◌, ◌++◌, take, drop, codes, refl, sym, subst, ◌∙◌, ap, inl, inr, arith}
 use Rattle.std.specs.Prelude.{◌||◌, ◌==◌}
 use Rattle.std.specs.List.{list_any, position, insert, remove, slice_set}
 use Rattle.std.specs.Option.{option_or}
@@ -9,22 +9,16 @@ use Rattle.std.proofs.lemmas.Bool.Decides.{nat_tests}
 use Rattle.std.proofs.lemmas.List.{take-append-drop}
 use Rattle.std.proofs.lemmas.List.Folds.{list_any-append}
 use Rattle.std.proofs.lemmas.Slice.Eq.{bytes_eq-Decides}
-use Rattle.t1_frac.specs.Outcome.{◌>>=◌}
 use Rattle.t1_code.specs.Words.{commands}
 use Rattle.t1_code.specs.declared.command.Command.{Command}
 use Rattle.t1_source.specs.declared.edit.Edit.TheVariants.{ReplaceGlyph, AddGlyph, RemoveGlyph, ReplaceSubr, AddSubr, RemoveSubr, Encode, Unencode, LenIv, Kern, Unkern}
-use Rattle.t1_source.specs.declared.edit.Rule.{Rule}
-use Rattle.t1_source.specs.declared.edit.Rule.TheVariants.{E1, E2}
 use Rattle.t1_parts.specs.declared.item.Item.{Item}
 use Rattle.t1_parts.specs.declared.item.Item.TheVariants as items
 use Rattle.t1_parts.specs.SourceParts.{SourceParts}
 use Rattle.t1_parts.specs.Counts.{glyphs_needed, is_glyph_entry, raised, subrs_needed}
 use Rattle.t1_parts.specs.Entries.{is_glyph, is_subr}
-use Rattle.t1_source.specs.Editing.{keeps, number_up_to, body_words, good_name, good_body, with_items, closing_at, closing_among, through_last, is_subr_entry, among_glyphs_items, among_subrs_items, has_section, replaced_glyph, added_glyph, removed_glyph, replaced_subr, added_subr, removed_subr, edited}
+use Rattle.t1_source.specs.Editing.{number_up_to, body_words, closing_at, closing_among, is_subr_entry, replaced_glyph, added_glyph, removed_glyph, replaced_subr, added_subr, removed_subr, edited}
 use Rattle.t1_source.specs.WellFormed.{IsWellFormed, Stand, Stands}
-use Rattle.t1_frac.proofs.OutcomeLaws.{bind_ok}
-use Rattle.t1_source.proofs.RuleLaws.{kept_ok}
-use Rattle.t1_source.proofs.WellFormedItemsLaws.{given_some}
 use Rattle.t1_source.proofs.WellFormedEditedLaws.{source_given}
 use Rattle.t1_source.proofs.ItemPlaceLaws.{before_last, position_first, removed_there, set_there}
 use Rattle.t1_source.proofs.StandLaws.{stand_back}
@@ -33,9 +27,10 @@ use Rattle.t1_run.specs.Footprint.{Includes}
 use Rattle.t1_font.specs.Bodies.{bodies, glyph_among, glyph_in, subr_among, subr_in}
 use Rattle.t1_cache.specs.Edited.{subr_key}
 use Rattle.t1_cache.specs.Overlay.{body_at, BodyLaw}
-use Rattle.t1_cache.proofs.Edits.{key-of, made-items}
+use Rattle.t1_cache.proofs.Accepted.{glyph_at, last_glyph, last_subr, new_glyph, new_subr, subr_at, added_glyph-made, added_subr-made, removed_glyph-made, removed_subr-made, replaced_glyph-made, replaced_subr-made}
+use Rattle.t1_cache.proofs.Edits.{key-of}
 use Rattle.t1_cache.proofs.Middles.{glyph-raised, subr-raised}
-use Rattle.t1_cache.proofs.Putting.{bytes_tell}
+use Rattle.t1_font.proofs.Lookups.{bytes_tell}
 
 -- ---- the first body of some items
 
@@ -189,101 +184,71 @@ in-body test f needs is at y none =
     (sym (list_any-append test (take at is) (drop at is)) ∙ ap (list_any test) (take-append-drop at is) ∙ none) in
     first-here test f needs (take at is) y (drop at is) parts.0 parts.1
 
-not-there : (b : Bool) → not b ≡ true → b ≡ false
-not-there true h = absurd (cc)
-not-there false h = refl
-
 one-key : (P : Key → Type 0) (k : Key) → P k → (key : Key) → Includes (k ∷ []) key → P key
 one-key P k h key (inl e) = subst P e h
 one-key P k h key (inr i) = absurd i
 
 glyph-replaced : (s : SourceParts) (g body : List ℕ) (made : SourceParts) → IsWellFormed s → replaced_glyph s g body ≡ Ok made
     → (bodies made.items).glyphs g ≡ result_ok (commands (body_words body))
-unfolding replaced_glyph
 glyph-replaced s g body made well e =
-    let y : ℕ → Item = λ at. items.Glyph g (body_words body) (closing_at at s.items) in
-    let placing : Result SourceParts Rule = ok_or (position (is_glyph g) s.items) E1 >>= λ at. Ok (with_items s (slice_set s.items at (y at))) in
-    let named = bind_ok (good_name g) (λ named. good_body body >>= λ closed. placing) made e in
-    let closed = bind_ok (good_body body) (λ closed. placing) made named.2 in
-    let placed = bind_ok (ok_or (position (is_glyph g) s.items) E1) (λ at. Ok (with_items s (slice_set s.items at (y at)))) made closed.2 in
-    glyph-made g made (slice_set s.items placed.0 (y placed.0)) (made-items s made _ placed.2)
-    ∙ put-body (is_glyph g) (λ i. glyph_in i g) (glyph-needs g) (glyph-once g) (λ l. refl) s well placed.0 (y placed.0) (given_some (position (is_glyph g) s.items) E1 placed.0 placed.1)
-    ∙ glyph-own g (body_words body) (closing_at placed.0 s.items)
+    let put = replaced_glyph-made s g body made e in
+    let y : ℕ → Item = glyph_at s g body in
+    glyph-made g made (slice_set s.items put.at (y put.at)) put.are
+    ∙ put-body (is_glyph g) (λ i. glyph_in i g) (glyph-needs g) (glyph-once g) (λ l. refl) s well put.at (y put.at) put.there
+    ∙ glyph-own g (body_words body) (closing_at put.at s.items)
 
 glyph-added : (s : SourceParts) (g body : List ℕ) (made : SourceParts) → added_glyph s g body ≡ Ok made → (bodies made.items).glyphs g ≡ result_ok (commands (body_words body))
-unfolding added_glyph
 glyph-added s g body made e =
-    let y : Item = items.Glyph g (body_words body) (closing_among is_glyph_entry (codes "noaccess def") s.items) in
-    let at = through_last among_glyphs_items s.items in
-    let done : Result SourceParts Rule = Ok (with_items s (insert s.items at y)) in
-    let named = bind_ok (good_name g) (λ named. good_body body >>= λ closed. keeps E2 (not (list_any (is_glyph g) s.items)) >>= λ fresh. done) made e in
-    let closed = bind_ok (good_body body) (λ closed. keeps E2 (not (list_any (is_glyph g) s.items)) >>= λ fresh. done) made named.2 in
-    let fresh = bind_ok (keeps E2 (not (list_any (is_glyph g) s.items))) (λ fresh. done) made closed.2 in
-    glyph-made g made (insert s.items at y) (made-items s made _ fresh.2)
-    ∙ in-body (is_glyph g) (λ i. glyph_in i g) (glyph-needs g) s.items at y (not-there (list_any (is_glyph g) s.items) (kept_ok E2 (not (list_any (is_glyph g) s.items)) fresh.1))
+    let new = added_glyph-made s g body made e in
+    let y : Item = new_glyph s g body in
+    glyph-made g made (insert s.items (last_glyph s) y) new.are
+    ∙ in-body (is_glyph g) (λ i. glyph_in i g) (glyph-needs g) s.items (last_glyph s) y new.fresh
     ∙ glyph-own g (body_words body) (closing_among is_glyph_entry (codes "noaccess def") s.items)
 
 glyph-removed : (s : SourceParts) (g : List ℕ) (made : SourceParts) → IsWellFormed s → removed_glyph s g ≡ Ok made → (bodies made.items).glyphs g ≡ None
-unfolding removed_glyph
 glyph-removed s g made well e =
-    let named = bind_ok (good_name g) (λ named. ok_or (position (is_glyph g) s.items) E1 >>= λ at. Ok (with_items s (remove s.items at))) made e in
-    let placed = bind_ok (ok_or (position (is_glyph g) s.items) E1) (λ at. Ok (with_items s (remove s.items at))) made named.2 in
-    glyph-made g made (remove s.items placed.0) (made-items s made _ placed.2)
-    ∙ out-body (is_glyph g) (λ i. glyph_in i g) (glyph-needs g) (glyph-once g) (λ l. refl) s well placed.0 (given_some (position (is_glyph g) s.items) E1 placed.0 placed.1)
+    let out = removed_glyph-made s g made e in
+    glyph-made g made (remove s.items out.at) out.are
+    ∙ out-body (is_glyph g) (λ i. glyph_in i g) (glyph-needs g) (glyph-once g) (λ l. refl) s well out.at out.there
 
 -- the Subr of a number that is in range
-subr-at : (v : ℤ) (n : ℕ) (made : SourceParts) (body : Option (List Command)) → number_up_to 32000 v ≡ Ok n → (bodies made.items).subrs n ≡ body
+subr-body-at : (v : ℤ) (n : ℕ) (made : SourceParts) (body : Option (List Command)) → number_up_to 32000 v ≡ Ok n → (bodies made.items).subrs n ≡ body
     → (key : Key) → Includes (subr_key v) key → body_at (bodies made.items) key ≡ body
-subr-at v n made body number is key among =
+subr-body-at v n made body number is key among =
     one-key (λ k. body_at (bodies made.items) k ≡ body) (Subr n) is key (subst (λ keys. Includes keys key) (sym (key-of v n number)) among)
 
 subr-replaced : (s : SourceParts) (v : ℤ) (body : List ℕ) (made : SourceParts) → IsWellFormed s → replaced_subr s v body ≡ Ok made
     → (key : Key) → Includes (subr_key v) key → body_at (bodies made.items) key ≡ result_ok (commands (body_words body))
-unfolding replaced_subr
 subr-replaced s v body made well e =
-    let y : ℕ → ℕ → Item = λ n at. items.Subr n (body_words body) (closing_at at s.items) in
-    let placing : ℕ → Result SourceParts Rule = λ n. ok_or (position (is_subr n) s.items) E1 >>= λ at. Ok (with_items s (slice_set s.items at (y n at))) in
-    let number = bind_ok (number_up_to 32000 v) (λ n. good_body body >>= λ closed. has_section s >>= λ section. placing n) made e in
-    let n = number.0 in
-    let closed = bind_ok (good_body body) (λ closed. has_section s >>= λ section. placing n) made number.2 in
-    let section = bind_ok (has_section s) (λ section. placing n) made closed.2 in
-    let placed = bind_ok (ok_or (position (is_subr n) s.items) E1) (λ at. Ok (with_items s (slice_set s.items at (y n at)))) made section.2 in
-    subr-at v n made (result_ok (commands (body_words body))) number.1
-    (subr-made n made (slice_set s.items placed.0 (y n placed.0)) (made-items s made _ placed.2)
-    ∙ put-body (is_subr n) (λ i. subr_in i n) (subr-needs n) (subr-once n) (λ l. refl) s well placed.0 (y n placed.0) (given_some (position (is_subr n) s.items) E1 placed.0 placed.1)
-    ∙ subr-own n (body_words body) (closing_at placed.0 s.items))
+    let its = replaced_subr-made s v body made e in
+    let n = its.n in
+    let put = its.made in
+    let y : ℕ → Item = subr_at s body n in
+    subr-body-at v n made (result_ok (commands (body_words body))) its.within
+    (subr-made n made (slice_set s.items put.at (y put.at)) put.are
+    ∙ put-body (is_subr n) (λ i. subr_in i n) (subr-needs n) (subr-once n) (λ l. refl) s well put.at (y put.at) put.there
+    ∙ subr-own n (body_words body) (closing_at put.at s.items))
 
 subr-added : (s : SourceParts) (v : ℤ) (body : List ℕ) (made : SourceParts) → added_subr s v body ≡ Ok made
     → (key : Key) → Includes (subr_key v) key → body_at (bodies made.items) key ≡ result_ok (commands (body_words body))
-unfolding added_subr
 subr-added s v body made e =
-    let closing = closing_among is_subr_entry (codes "noaccess put") s.items in
-    let y : ℕ → Item = λ n. items.Subr n (body_words body) closing in
-    let at = through_last among_subrs_items s.items in
-    let done : ℕ → Result SourceParts Rule = λ n. Ok (with_items s (insert s.items at (y n))) in
-    let fresh : ℕ → Result SourceParts Rule = λ n. keeps E2 (not (list_any (is_subr n) s.items)) >>= λ fresh. done n in
-    let number = bind_ok (number_up_to 32000 v) (λ n. good_body body >>= λ closed. has_section s >>= λ section. fresh n) made e in
-    let n = number.0 in
-    let closed = bind_ok (good_body body) (λ closed. has_section s >>= λ section. fresh n) made number.2 in
-    let section = bind_ok (has_section s) (λ section. fresh n) made closed.2 in
-    let last = bind_ok (keeps E2 (not (list_any (is_subr n) s.items))) (λ fresh. done n) made section.2 in
-    subr-at v n made (result_ok (commands (body_words body))) number.1
-    (subr-made n made (insert s.items at (y n)) (made-items s made _ last.2)
-    ∙ in-body (is_subr n) (λ i. subr_in i n) (subr-needs n) s.items at (y n) (not-there (list_any (is_subr n) s.items) (kept_ok E2 (not (list_any (is_subr n) s.items)) last.1))
-    ∙ subr-own n (body_words body) closing)
+    let its = added_subr-made s v body made e in
+    let n = its.n in
+    let y : Item = new_subr s body n in
+    subr-body-at v n made (result_ok (commands (body_words body))) its.within
+    (subr-made n made (insert s.items (last_subr s) y) its.made.are
+    ∙ in-body (is_subr n) (λ i. subr_in i n) (subr-needs n) s.items (last_subr s) y its.made.fresh
+    ∙ subr-own n (body_words body) (closing_among is_subr_entry (codes "noaccess put") s.items))
 
 subr-removed : (s : SourceParts) (v : ℤ) (made : SourceParts) → IsWellFormed s → removed_subr s v ≡ Ok made
     → (key : Key) → Includes (subr_key v) key → body_at (bodies made.items) key ≡ None
-unfolding removed_subr
 subr-removed s v made well e =
-    let placing : ℕ → Result SourceParts Rule = λ n. ok_or (position (is_subr n) s.items) E1 >>= λ at. Ok (with_items s (remove s.items at)) in
-    let number = bind_ok (number_up_to 32000 v) (λ n. has_section s >>= λ section. placing n) made e in
-    let n = number.0 in
-    let section = bind_ok (has_section s) (λ section. placing n) made number.2 in
-    let placed = bind_ok (ok_or (position (is_subr n) s.items) E1) (λ at. Ok (with_items s (remove s.items at))) made section.2 in
-    subr-at v n made None number.1
-    (subr-made n made (remove s.items placed.0) (made-items s made _ placed.2)
-    ∙ out-body (is_subr n) (λ i. subr_in i n) (subr-needs n) (subr-once n) (λ l. refl) s well placed.0 (given_some (position (is_subr n) s.items) E1 placed.0 placed.1))
+    let its = removed_subr-made s v made e in
+    let n = its.n in
+    let out = its.made in
+    subr-body-at v n made None its.within
+    (subr-made n made (remove s.items out.at) out.are
+    ∙ out-body (is_subr n) (λ i. subr_in i n) (subr-needs n) (subr-once n) (λ l. refl) s well out.at out.there)
 
 -- ---- all edits
 

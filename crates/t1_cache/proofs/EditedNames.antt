@@ -1,23 +1,18 @@
 -- The names of the glyphs after each edit.
-use Rattle.std.proofs.Common.{◌≡◌, ℕ, Bool, true, false, cond, not, ℤ, pos, negsuc, ok_or, Result, Ok, List, [], ◌∷◌, ◌++◌, length, filter, codes, append_assoc, refl, sym, subst, ◌∙◌, ap}
+use Rattle.std.proofs.Common.{◌≡◌, ℕ, Bool, true, false, cond, not, ℤ, pos, negsuc, Ok, List, [], ◌∷◌, ◌++◌, length, filter, append_assoc, refl, sym, subst, ◌∙◌, ap}
 use Rattle.std.specs.Prelude.{◌||◌}
-use Rattle.std.specs.List.{list_any, position, insert, remove, slice_set}
+use Rattle.std.specs.List.{list_any, insert, remove, slice_set}
 use Rattle.std.specs.Str.{bytes_eq}
 use Rattle.std.proofs.lemmas.Slice.Eq.{bytes_eq-Decides}
-use Rattle.t1_frac.specs.Outcome.{◌>>=◌}
 use Rattle.t1_source.specs.declared.edit.Edit.TheVariants.{ReplaceGlyph, AddGlyph, RemoveGlyph, ReplaceSubr, AddSubr, RemoveSubr, Encode, Unencode, LenIv, Kern, Unkern}
-use Rattle.t1_source.specs.declared.edit.Rule.{Rule}
-use Rattle.t1_source.specs.declared.edit.Rule.TheVariants.{E1, E2}
 use Rattle.t1_parts.specs.declared.item.Item.{Item}
 use Rattle.t1_parts.specs.declared.item.Item.TheVariants as items
 use Rattle.t1_parts.specs.SourceParts.{SourceParts}
 use Rattle.t1_parts.specs.Counts.{glyphs_needed, is_glyph_entry, raised, subrs_needed}
 use Rattle.t1_parts.specs.Entries.{is_glyph}
 use Rattle.t1_parts.specs.Sections.{is_glyphs_line}
-use Rattle.t1_source.specs.Editing.{keeps, body_words, good_name, good_body, with_items, closing_at, closing_among, through_last, among_glyphs_items, replaced_glyph, added_glyph, removed_glyph, edited}
+use Rattle.t1_source.specs.Editing.{through_last, among_glyphs_items, replaced_glyph, added_glyph, removed_glyph, edited}
 use Rattle.t1_source.specs.WellFormed.{IsWellFormed}
-use Rattle.t1_frac.proofs.OutcomeLaws.{bind_ok}
-use Rattle.t1_source.proofs.WellFormedItemsLaws.{given_some}
 use Rattle.t1_source.proofs.WellFormedEditedLaws.{source_given}
 use Rattle.t1_source.proofs.ItemPlaceLaws.{insert_there, last_of, position_first, removed_there, set_there, through_place}
 use Rattle.t1_run.specs.Run.{Key}
@@ -25,8 +20,9 @@ use Rattle.t1_run.specs.Touched.{is_named}
 use Rattle.t1_font.specs.Glyphs.{glyph_names}
 use Rattle.t1_cache.specs.Edited.{IsEditedAt, subr_key}
 use Rattle.t1_cache.specs.Laws.{AreDistinct, NamesLaw}
+use Rattle.t1_cache.proofs.Accepted.{glyph_at, last_glyph, new_glyph, added_glyph-made, removed_glyph-made, replaced_glyph-made}
 use Rattle.t1_cache.proofs.Distinct.{names_distinct}
-use Rattle.t1_cache.proofs.Edits.{edits_named, made-items}
+use Rattle.t1_cache.proofs.Edits.{edits_named}
 use Rattle.t1_cache.proofs.Middles.{names-raised}
 
 names-append : (a b : List Item) → glyph_names (a ++ b) ≡ glyph_names a ++ glyph_names b
@@ -66,19 +62,15 @@ no-subr (negsuc n) g = refl
 -- ---- edits of a glyph
 
 names-replaced : (s : SourceParts) (g body : List ℕ) (made : SourceParts) → replaced_glyph s g body ≡ Ok made → glyph_names made.items ≡ glyph_names s.items
-unfolding replaced_glyph
 names-replaced s g body made e =
-    let y : ℕ → Item = λ at. items.Glyph g (body_words body) (closing_at at s.items) in
-    let placing : Result SourceParts Rule = ok_or (position (is_glyph g) s.items) E1 >>= λ at. Ok (with_items s (slice_set s.items at (y at))) in
-    let first = bind_ok (good_name g) (λ named. good_body body >>= λ closed. placing) made e in
-    let second = bind_ok (good_body body) (λ closed. placing) made first.2 in
-    let placed = bind_ok (ok_or (position (is_glyph g) s.items) E1) (λ at. Ok (with_items s (slice_set s.items at (y at)))) made second.2 in
-    let f = position_first (is_glyph g) s.items placed.0 (given_some (position (is_glyph g) s.items) E1 placed.0 placed.1) in
+    let put = replaced_glyph-made s g body made e in
+    let y : Item = glyph_at s g body put.at in
+    let f = position_first (is_glyph g) s.items put.at put.there in
     let a = f.found.before in
     let x = f.found.here in
     let b = f.found.after in
-    names-of s made (a ++ y placed.0 ∷ b) (made-items s made _ placed.2 ∙ ap raised (ap (λ t. slice_set t placed.0 (y placed.0)) f.found.whole ∙ set_there a x b placed.0 (y placed.0) f.place))
-    ∙ names-append a (y placed.0 ∷ b)
+    names-of s made (a ++ y ∷ b) (put.are ∙ ap raised (ap (λ t. slice_set t put.at y) f.found.whole ∙ set_there a x b put.at y f.place))
+    ∙ names-append a (y ∷ b)
     ∙ ap (λ l. glyph_names a ++ l) (sym (name-here g x b f.found.passes))
     ∙ sym (names-append a (x ∷ b))
     ∙ ap glyph_names (sym f.found.whole)
@@ -114,14 +106,9 @@ names-nil [] = refl
 names-nil (g ∷ names) = ap (λ l. g ∷ l) (names-nil names)
 
 names-added : (s : SourceParts) (g body : List ℕ) (made : SourceParts) → IsWellFormed s → added_glyph s g body ≡ Ok made → glyph_names made.items ≡ glyph_names s.items ++ g ∷ []
-unfolding added_glyph
 names-added s g body made well e =
-    let y : Item = items.Glyph g (body_words body) (closing_among is_glyph_entry (codes "noaccess def") s.items) in
-    let at = through_last among_glyphs_items s.items in
-    let done : Result SourceParts Rule = Ok (with_items s (insert s.items at y)) in
-    let first = bind_ok (good_name g) (λ named. good_body body >>= λ closed. keeps E2 (not (list_any (is_glyph g) s.items)) >>= λ fresh. done) made e in
-    let second = bind_ok (good_body body) (λ closed. keeps E2 (not (list_any (is_glyph g) s.items)) >>= λ fresh. done) made first.2 in
-    let third = bind_ok (keeps E2 (not (list_any (is_glyph g) s.items))) (λ fresh. done) made second.2 in
+    let y : Item = new_glyph s g body in
+    let at = last_glyph s in
     let r = last_of among_glyphs_items s.items (among-lines s.items well.items.section) in
     let a = r.found.before in
     let x = r.found.here in
@@ -130,7 +117,7 @@ names-added s g body made well e =
     let split : s.items ≡ front ++ b = r.found.whole ∙ sym (append_assoc a (x ∷ []) b) in
     let there : at ≡ length front = ap (through_last among_glyphs_items) r.found.whole ∙ through_place among_glyphs_items a x b r.found.passes r.none in
     let none : glyph_names b ≡ [] = none-after b r.none in
-    names-of s made (front ++ y ∷ b) (made-items s made _ third.2 ∙ ap raised (ap (λ t. insert t at y) split ∙ insert_there front b at y there))
+    names-of s made (front ++ y ∷ b) ((added_glyph-made s g body made e).are ∙ ap raised (ap (λ t. insert t at y) split ∙ insert_there front b at y there))
     ∙ names-append front (y ∷ b)
     ∙ ap (λ l. glyph_names front ++ g ∷ l) none
     ∙ ap (λ l. l ++ g ∷ []) (sym (names-nil (glyph_names front)) ∙ ap (λ l. glyph_names front ++ l) (sym none) ∙ sym (names-append front b) ∙ ap glyph_names (sym split))
@@ -172,17 +159,15 @@ but-there g (x ∷ xs) ys d =
 
 names-removed : (s : SourceParts) (g : List ℕ) (made : SourceParts) → IsWellFormed s → removed_glyph s g ≡ Ok made
     → glyph_names made.items ≡ filter (λ name. not (bytes_eq g name)) (glyph_names s.items)
-unfolding removed_glyph
 names-removed s g made well e =
-    let first = bind_ok (good_name g) (λ named. ok_or (position (is_glyph g) s.items) E1 >>= λ at. Ok (with_items s (remove s.items at))) made e in
-    let placed = bind_ok (ok_or (position (is_glyph g) s.items) E1) (λ at. Ok (with_items s (remove s.items at))) made first.2 in
-    let f = position_first (is_glyph g) s.items placed.0 (given_some (position (is_glyph g) s.items) E1 placed.0 placed.1) in
+    let out = removed_glyph-made s g made e in
+    let f = position_first (is_glyph g) s.items out.at out.there in
     let a = f.found.before in
     let x = f.found.here in
     let b = f.found.after in
     let all : glyph_names s.items ≡ glyph_names a ++ g ∷ glyph_names b =
     ap glyph_names f.found.whole ∙ names-append a (x ∷ b) ∙ ap (λ l. glyph_names a ++ l) (name-here g x b f.found.passes) in
-    names-of s made (a ++ b) (made-items s made _ placed.2 ∙ ap raised (ap (λ t. remove t placed.0) f.found.whole ∙ removed_there a x b placed.0 f.place))
+    names-of s made (a ++ b) (out.are ∙ ap raised (ap (λ t. remove t out.at) f.found.whole ∙ removed_there a x b out.at f.place))
     ∙ names-append a b
     ∙ sym (ap (filter (λ name. not (bytes_eq g name))) all ∙ but-there g (glyph_names a) (glyph_names b) (subst AreDistinct all (names_distinct s well)))
 

@@ -4,6 +4,7 @@ use Rattle.std.specs.Prelude.{Result, Ok, Err, ◌||◌}
 use Rattle.std.specs.List.{AllByRecursion, list_any}
 use Rattle.std.specs.Str.{bytes_eq}
 use Rattle.t1_source.specs.declared.edit.Edit.TheVariants.{ReplaceGlyph, AddGlyph, RemoveGlyph, ReplaceSubr, AddSubr, RemoveSubr, Encode, Unencode, LenIv, Kern, Unkern}
+use Rattle.std.proofs.lemmas.Bool.{or_parts}
 use Rattle.std.proofs.lemmas.List.Folds.{list_any-append}
 use Rattle.t1_frac.specs.declared.fault.Code.{Code}
 use Rattle.t1_parts.specs.SourceParts.{SourceParts}
@@ -11,7 +12,6 @@ use Rattle.t1_run.specs.declared.outline.Composite.{Composite}
 use Rattle.t1_run.specs.Footprint.{uses}
 use Rattle.t1_run.specs.Run.{FontBodies, Key, Glyph, Drawing, own}
 use Rattle.t1_run.specs.Touched.{is_key_of, is_touched, meets_part, meets_parts, meets_run, touched_within}
-use Rattle.t1_run.proofs.Untouched.{or-false}
 use Rattle.t1_font.specs.Bodies.{bodies}
 use Rattle.t1_cache.specs.Edited.{is_stale, subr_key}
 use Rattle.t1_cache.specs.Kept.{KeepsAll}
@@ -19,7 +19,7 @@ use Rattle.t1_cache.specs.Renewal.{AreInPlace, IsOneOf, KeptAfterLaw, KeptTurnLa
 use Rattle.t1_cache.specs.Renewed.{Kept}
 use Rattle.t1_cache.proofs.EditedNames.{names_edited}
 use Rattle.t1_cache.proofs.Judging.{unnamed}
-use Rattle.t1_cache.proofs.Putting.{bytes_tell}
+use Rattle.t1_font.proofs.Lookups.{bytes_tell}
 use Rattle.t1_cache.proofs.Renewing.{names_kept}
 
 -- ---- lists of records
@@ -62,7 +62,7 @@ fewer-run ks ls g (Some (Ok d)) h = some (uses g d) ks ls h
 fewer-part : (p q : List ℕ → Bool) → ((g : List ℕ) → p g ≡ false → q g ≡ false) → (c : Option Composite) → meets_part p c ≡ false → meets_part q c ≡ false
 fewer-part p q less None h = h
 fewer-part p q less (Some c) h =
-    let h' = or-false (p c.base) (p c.accent) h in
+    let h' = or_parts (p c.base) (p c.accent) h in
     ap (λ b. b || q c.accent) (less c.base h'.0) ∙ less c.accent h'.1
 
 fewer-parts : (p q : List ℕ → Bool) → ((g : List ℕ) → p g ≡ false → q g ≡ false) → (r : Option (Result Drawing Code)) → meets_parts p r ≡ false → meets_parts q r ≡ false
@@ -73,7 +73,7 @@ fewer-parts p q less (Some (Ok d)) h = fewer-part p q less d.composite h
 fewer-within : (m : FontBodies) (ks ls : List Key) (depth : ℕ) (g : List ℕ) → touched_within depth m (ks ++ ls) g ≡ false → touched_within depth m ks g ≡ false
 fewer-within m ks ls zero g h = fewer-run ks ls g (own m g) h
 fewer-within m ks ls (suc depth) g h =
-    let h' = or-false (meets_run (ks ++ ls) g (own m g)) (meets_parts (touched_within depth m (ks ++ ls)) (own m g)) h in
+    let h' = or_parts (meets_run (ks ++ ls) g (own m g)) (meets_parts (touched_within depth m (ks ++ ls)) (own m g)) h in
     ap (λ b. b || meets_parts (touched_within depth m ks) (own m g)) (fewer-run ks ls g (own m g) h'.0)
     ∙ fewer-parts (touched_within depth m (ks ++ ls)) (touched_within depth m ks) (fewer-within m ks ls depth) (own m g) h'.1
 

@@ -3,11 +3,13 @@ use Rattle.std.proofs.Common.{◌≡◌, ℕ, Bool, true, false, cond, not, List
 use Rattle.std.specs.Prelude.{Result, Ok, Err}
 use Rattle.std.specs.List.{AllByRecursion, list_any}
 use Rattle.std.specs.Str.{bytes_eq}
+use Rattle.std.proofs.lemmas.Bool.{or_parts}
 use Rattle.t1_frac.specs.Outcome.{told_at, ◌>>=◌}
 use Rattle.t1_frac.specs.declared.fault.Code.{Code}
 use Rattle.t1_frac.specs.declared.fault.Fault.{Fault}
 use Rattle.t1_frac.specs.declared.fault.Place.{Place}
 use Rattle.t1_frac.specs.declared.fault.Place.TheVariants as places
+use Rattle.t1_frac.proofs.OutcomeLaws.{bind_ok}
 use Rattle.t1_run.specs.declared.outline.Segment.{Segment}
 use Rattle.t1_run.specs.Composite.{outline}
 use Rattle.t1_run.specs.Footprint.{uses, is_part}
@@ -15,7 +17,7 @@ use Rattle.t1_run.specs.Run.{FontBodies, Key, Subr, Glyph, Drawing, own}
 use Rattle.t1_font.specs.Bodies.{bodies}
 use Rattle.t1_font.specs.Glyphs.{Glyph as Told, run_there, placed_parts_of, glyph_of, glyphs_by, glyph_names}
 use Rattle.t1_run.specs.Touched.{is_named, meets_run, meets_parts, touched_within, is_touched}
-use Rattle.t1_run.proofs.Untouched.{or-false, bound, untouched_kept}
+use Rattle.t1_run.proofs.Untouched.{untouched_kept}
 use Rattle.t1_cache.specs.Edited.{is_stale}
 use Rattle.t1_cache.specs.Laws.{check, FirstFaultLaw}
 
@@ -87,10 +89,10 @@ fine-told run outline (g ∷ names) gs e =
 
 named-run : (keys : List Key) (g : List ℕ) (d : Drawing) → list_any (uses g d) keys ≡ false → is_named keys g ≡ false
 named-run [] g d h = refl
-named-run (Subr n ∷ keys) g d h = named-run keys g d (or-false (uses g d (Subr n)) (list_any (uses g d) keys) h).1
+named-run (Subr n ∷ keys) g d h = named-run keys g d (or_parts (uses g d (Subr n)) (list_any (uses g d) keys) h).1
 named-run (Glyph x ∷ keys) g d h =
-    let h' = or-false (uses g d (Glyph x)) (list_any (uses g d) keys) h in
-    rw ((or-false (bytes_eq g x) (is_part x d.composite) h'.0).0) (named-run keys g d h'.1)
+    let h' = or_parts (uses g d (Glyph x)) (list_any (uses g d) keys) h in
+    rw ((or_parts (bytes_eq g x) (is_part x d.composite) h'.0).0) (named-run keys g d h'.1)
 
 named-meets : (keys : List Key) (g : List ℕ) (r : Option (Result Drawing Code)) → meets_run keys g r ≡ false → is_named keys g ≡ false
 named-meets keys g None h = h
@@ -100,13 +102,13 @@ named-meets keys g (Some (Ok d)) h = named-run keys g d h
 pub unnamed : (m : FontBodies) (keys : List Key) (g : List ℕ) → is_touched m keys g ≡ false → is_named keys g ≡ false
 unfolding is_touched
 unnamed m keys g h =
-    named-meets keys g (own m g) (or-false (meets_run keys g (own m g)) (meets_parts (touched_within 3 m keys) (own m g)) h).0
+    named-meets keys g (own m g) (or_parts (meets_run keys g (own m g)) (meets_parts (touched_within 3 m keys) (own m g)) h).0
 
 pub drew : (g : List ℕ) (run : Option (Result Drawing Code)) (o : Result (List Segment) Code) (told : Told) → glyph_of g run o ≡ Ok told
     → (segments : List Segment) × (o ≡ Ok segments)
 drew g run o told e =
-    let first = bound (run_there run) (λ d. o >>= (λ s. placed_parts_of d.bearing d.composite >>= (λ a. Ok (record { name = g; drawing = d; outline = s; parts = a })))) told e in
-    let second = bound o (λ s. placed_parts_of first.0.bearing first.0.composite >>= (λ a. Ok (record { name = g; drawing = first.0; outline = s; parts = a }))) told first.2 in
+    let first = bind_ok (run_there run) (λ d. o >>= (λ s. placed_parts_of d.bearing d.composite >>= (λ a. Ok (record { name = g; drawing = d; outline = s; parts = a })))) told e in
+    let second = bind_ok o (λ s. placed_parts_of first.0.bearing first.0.composite >>= (λ a. Ok (record { name = g; drawing = first.0; outline = s; parts = a }))) told first.2 in
     (second.0, second.1)
 
 pub not-false : (t : Bool) → t ≡ false → not t ≡ true

@@ -43,27 +43,6 @@ inserted-behind eq ks k =
       | inr absent ↦ (k ∷ [], rw absent refl)
     ]
 
-or_false : (b : Bool) → (b || false) ≡ b
-or_false true = refl
-or_false false = refl
-
--- a name that is put in is among the names
-pub name-inserted : {K : Type 0} (name : K → List ℕ) (g : List ℕ) (k : K) (ks : List K)
-    → list_any (λ x. bytes_eq g (name x)) (insert_key (λ x y. bytes_eq (name x) (name y)) ks k) ≡ (list_any (λ x. bytes_eq g (name x)) ks || bytes_eq g (name k))
-name-inserted name g k ks =
-    elim (cases_Bool (list_any (λ x. bytes_eq (name k) (name x)) ks)) [
-      | inl there ↦
-          rw there
-          (elim (cases_Bool (bytes_eq g (name k))) [
-            | inl same ↦ rw (same, (bytes_eq-Decides g (name k)).0 same, there) refl
-            | inr other ↦ rw other (sym (or_false (list_any (λ x. bytes_eq g (name x)) ks)))
-          ])
-      | inr absent ↦
-          rw absent (
-          list_any-append (λ x. bytes_eq g (name x)) ks (k ∷ [])
-          ∙ ap (λ b. list_any (λ x. bytes_eq g (name x)) ks || b) (or_false (bytes_eq g (name k))))
-    ]
-
 -- one more of the names
 pub one-more : {K : Type 0} (name : K → List ℕ) (g : List ℕ) (xs : List K) (i : ℕ) (x : K) → i < length xs → x ≡ get_or xs i x
     → has name (take (i + 1) xs) g ≡ (has name (take i xs) g || bytes_eq g (name x))

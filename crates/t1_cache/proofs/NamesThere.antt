@@ -13,7 +13,7 @@ use Rattle.t1_cache.proofs.Joining.{none-run}
 use Rattle.t1_cache.proofs.Judging.{IsFine, fine-told}
 use Rattle.t1_cache.proofs.Names.{or-right}
 use Rattle.t1_cache.proofs.Newest.{found}
-use Rattle.t1_cache.proofs.Putting.{bytes_tell}
+use Rattle.t1_font.proofs.Lookups.{bytes_tell}
 use Rattle.t1_cache.proofs.Renewing.{glyphs-of}
 
 -- what holds of each of these names holds of one among them

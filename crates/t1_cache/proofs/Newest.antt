@@ -5,7 +5,7 @@ use Rattle.std.specs.List.{AllByRecursion}
 use Rattle.std.specs.Option.{option_or}
 use Rattle.std.specs.Result.{result_ok}
 use Rattle.std.specs.Str.{bytes_eq}
-use Rattle.std.proofs.lemmas.Bool.{cases_Bool}
+use Rattle.std.proofs.lemmas.Bool.{cases_Bool, or_parts}
 use Rattle.std.proofs.lemmas.Slice.Eq.{bytes_eq-Decides}
 use Rattle.t1_frac.specs.Outcome.{◌>>=◌}
 use Rattle.t1_frac.specs.declared.fault.Code.{Code}
@@ -23,7 +23,7 @@ use Rattle.t1_run.proofs.Asked.{parts_there}
 use Rattle.t1_font.specs.Bodies.{bodies, glyph_among}
 use Rattle.t1_font.specs.Glyphs.{glyph_names}
 use Rattle.t1_run.specs.Touched.{is_key_of, is_named}
-use Rattle.t1_run.proofs.Untouched.{or-false, untouched_kept}
+use Rattle.t1_run.proofs.Untouched.{untouched_kept}
 use Rattle.t1_cache.specs.Edited.{is_stale}
 use Rattle.t1_cache.specs.Laws.{NewestLaw}
 use Rattle.t1_cache.proofs.Judging.{IsFine, fine-told, unnamed, drew}
@@ -70,11 +70,11 @@ found P g b (items.Glyph name ws c ∷ is) h e =
 pub not-key : (keys : List Key) (g : List ℕ) → is_named keys g ≡ false → Includes keys (Glyph g) → ⊥
 not-key [] g h i = i
 not-key (k ∷ keys) g h (inl e) =
-    let h' = (or-false (is_key_of g k) (is_named keys g) h).0 in
+    let h' = (or_parts (is_key_of g k) (is_named keys g) h).0 in
     let here : is_key_of g k ≡ true = ap (is_key_of g) e ∙ (bytes_eq-Decides g g).1 refl in
     let never : true ≡ false = sym here ∙ h' in
     absurd (cc)
-not-key (k ∷ keys) g h (inr i) = not-key keys g (or-false (is_key_of g k) (is_named keys g) h).1 i
+not-key (k ∷ keys) g h (inr i) = not-key keys g (or_parts (is_key_of g k) (is_named keys g) h).1 i
 
 pub newest_drawn : NewestLaw
 unfolding outline

@@ -5,7 +5,7 @@ use Rattle.std.specs.Str.{bytes_eq}
 use Rattle.std.specs.declared.alloc.Global.{Global}
 use Rattle.std.specs.declared.vec.Vec.{Vec}
 use Rattle.std.proofs.lemmas.Bool.{cases_Bool}
-use Rattle.t1_run.specs.Run.{NumberedRun}
+use Rattle.t1_extent.specs.Kept.{TracedRun}
 use Rattle.t1_afm.specs.declared.bbox.BBox.{BBox}
 use Rattle.t1_cache.specs.declared.records.GlyphRecord.{GlyphRecord}
 use Rattle.t1_cache.specs.Renewed.{kept_of, record_of, with_run}
@@ -21,7 +21,7 @@ with-put (e ∷ es) name now =
     over-cond (bytes_eq name e.0.items) ((e.0, now) ∷ es) (e ∷ set_value (λ k. bytes_eq name k.items) es now)
     ∙ ap (λ l. cond (bytes_eq name e.0.items) (kept_of (e.0, now) ∷ map kept_of es) (kept_of e ∷ l)) (with-put es name now)
 
-pub with-none : (es : List (Vec ℕ Global × GlyphRecord)) (name : List ℕ) (run : NumberedRun) (box : Option BBox) → None ≡ record_of es name
+pub with-none : (es : List (Vec ℕ Global × GlyphRecord)) (name : List ℕ) (run : TracedRun) (box : Option BBox) → None ≡ record_of es name
     → map kept_of es ≡ with_run name run box (map kept_of es)
 with-none [] name run box h = refl
 with-none (e ∷ es) name run box h =

@@ -1,28 +1,13 @@
 -- Records whose users are changed in place.
 use Rattle.std.proofs.Common.{◌≡◌, ◌≤◌, ℕ, Bool, true, false, cond, not, ◌+◌, subst, arith, List, [], ◌∷◌, map, refl, sym, ap, ◌∙◌, Option, Some, inl, inr}
-use Rattle.std.specs.Prelude.{◌||◌, ◌&&◌, nat_eq}
+use Rattle.std.specs.Prelude.{◌||◌, ◌&&◌}
 use Rattle.std.specs.Map.{lookup, set_value}
 use Rattle.std.specs.Option.{option_map}
 use Rattle.std.specs.Str.{bytes_eq}
-use Rattle.std.proofs.lemmas.Bool.{cases_Bool, eqb-true}
-use Rattle.std.proofs.lemmas.Bool.Decides.{nat_tests}
-use Rattle.std.proofs.lemmas.Slice.Eq.{bytes_eq-Decides}
-use Rattle.indexmap.specs.IndexMap.{insert_entry}
+use Rattle.std.proofs.lemmas.Bool.{cases_Bool}
+use Rattle.t1_font.proofs.Keeping.{map-cond}
+use Rattle.t1_font.proofs.Lookups.{Tells, again}
 use Rattle.t1_cache.specs.Users.{has, among, HasRoom, UserSet}
-
--- a test that says whether two names are the same
-pub record Tells {Q : Type 0} (eq : Q → Q → Bool) : Type 0 where
-  pub same : (a b : Q) → eq a b ≡ true → a ≡ b
-  pub itself : (a : Q) → eq a a ≡ true
-
-pub bytes_tell : Tells bytes_eq
-bytes_tell = record { same = λ a b e. (bytes_eq-Decides a b).0 e; itself = λ a. (bytes_eq-Decides a a).1 refl }
-
-nat-itself : (a : ℕ) → nat_eq a a ≡ true
-nat-itself a = grind (arith, nat_tests)
-
-pub numbers_tell : Tells nat_eq
-numbers_tell = record { same = eqb-true; itself = nat-itself }
 
 apart : {Q : Type 0} (eq : Q → Q → Bool) → Tells eq → (a b c : Q) → eq a b ≡ true → eq c b ≡ false → eq a c ≡ false
 apart eq t a b c on off =
@@ -30,10 +15,6 @@ apart eq t a b c on off =
       | inl e ↦ let both : eq c b ≡ true = ap (λ x. eq x b) (sym (t.same a c e)) ∙ on in let never : true ≡ false = sym both ∙ off in absurd (cc)
       | inr e ↦ e
     ]
-
-again : {Y : Type 0} (b : Bool) (x y r : Y) → cond b x r ≡ cond b x (cond b y r)
-again true x y r = refl
-again false x y r = refl
 
 -- a value that is put at a name is found there, and nothing else changes
 put-at : {Q K X : Type 0} (eq : Q → Q → Bool) → Tells eq → (name : K → Q) (p n : Q) (w v : X) (es : List (K × X)) → lookup (λ k. eq n (name k)) es ≡ Some v
@@ -70,11 +51,6 @@ rest-put rest (e ∷ es) test was now h stays = by (test e.0) refl (λ h'. rest-
 abbrev pub at : {Q K R : Type 0} → (Q → Q → Bool) → (K → Q) → (R → UserSet) → List (K × R) → Q → Option UserSet
 at eq name users es q = option_map users (lookup (λ k. eq q (name k)) es)
 
-pub map-cond : {X Y : Type 0} (f : X → Y) (b : Bool) (x : X) (r : Option X) → option_map f (cond b (Some x) r) ≡ cond b (Some (f x)) (option_map f r)
-map-cond f true x r = refl
-map-cond f false x r = refl
-
--- what is read of the records is that of the one that is put, at its name
 pub reads-put : {Q K R X : Type 0} (eq : Q → Q → Bool) → Tells eq → (name : K → Q) (read : R → X) (es : List (K × R)) (p : Q) (was now : R)
     → lookup (λ k. eq p (name k)) es ≡ Some was
     → (q : Q) → option_map read (lookup (λ k. eq q (name k)) (set_value (λ k. eq p (name k)) es now)) ≡ cond (eq q p) (Some (read now)) (option_map read (lookup (λ k. eq q (name k)) es))
@@ -171,30 +147,3 @@ room-stays eq t name users es p was now h keeps q count had =
           subst (λ b. HasRoom count (cond b (Some (users now)) (at eq name users es q))) (sym on) (omega (arith, had', keeps))
       | inr off ↦ subst (λ b. HasRoom count (cond b (Some (users now)) (at eq name users es q))) (sym off) had
     ])
-
--- ---- values that are put in
-
-swap : {Y : Type 0} (a b : Bool) (x y r : Y) → (a ≡ true → b ≡ true → x ≡ y) → cond a x (cond b y r) ≡ cond b y (cond a x r)
-swap true true x y r h = h refl refl
-swap true false x y r h = refl
-swap false true x y r h = refl
-swap false false x y r h = refl
-
--- a value that is put in at a name is found there, and nothing else changes
-pub inserted-at : {Q K X : Type 0} (eq : Q → Q → Bool) → Tells eq → (name : K → Q) (p : Q) (k : K) (v : X) (es : List (K × X))
-    → lookup (λ x. eq p (name x)) (insert_entry (λ x y. eq (name x) (name y)) es k v) ≡ cond (eq p (name k)) (Some v) (lookup (λ x. eq p (name x)) es)
-inserted-at eq t name p k v [] = refl
-inserted-at eq t name p k v (e ∷ es) = by (eq (name k) (name e.0)) refl (inserted-at eq t name p k v es) where
-  by : (b : Bool) → eq (name k) (name e.0) ≡ b
-      → lookup (λ x. eq p (name x)) (insert_entry (λ x y. eq (name x) (name y)) es k v) ≡ cond (eq p (name k)) (Some v) (lookup (λ x. eq p (name x)) es)
-      → lookup (λ x. eq p (name x)) (cond b ((e.0, v) ∷ es) (e ∷ insert_entry (λ x y. eq (name x) (name y)) es k v))
-      ≡ cond (eq p (name k)) (Some v) (cond (eq p (name e.0)) (Some e.1) (lookup (λ x. eq p (name x)) es))
-  by true on rest =
-      again (eq p (name e.0)) (Some v) (Some e.1) (lookup (λ x. eq p (name x)) es)
-      ∙ ap (λ n. cond (eq p n) (Some v) (cond (eq p (name e.0)) (Some e.1) (lookup (λ x. eq p (name x)) es))) (sym (t.same (name k) (name e.0) on))
-  by false off rest =
-      ap (cond (eq p (name e.0)) (Some e.1)) rest
-      ∙ swap (eq p (name e.0)) (eq p (name k)) (Some e.1) (Some v) (lookup (λ x. eq p (name x)) es) (λ there here.
-      let both : eq (name k) (name e.0) ≡ true = ap (λ n. eq n (name e.0)) (sym (t.same p (name k) here)) ∙ there in
-      let never : false ≡ true = sym off ∙ both in
-      absurd (cc))

@@ -16,7 +16,7 @@ use Rattle.t1_cache.specs.Renewal.{IsFromScratch}
 use Rattle.t1_cache.specs.Renewed.{kept_of, record_of}
 use Rattle.t1_cache.proofs.Joining.{none-run}
 use Rattle.t1_cache.proofs.NamesThere.{names_there}
-use Rattle.t1_cache.proofs.Putting.{bytes_tell}
+use Rattle.t1_font.proofs.Lookups.{bytes_tell}
 use Rattle.t1_cache.proofs.Renewing.{glyphs-of, names_kept, scratch-all}
 
 recorded : (m : FontBodies) (g : List ℕ) (entries : List (Vec ℕ Global × GlyphRecord)) → AllByRecursion (IsFromScratch m) (map kept_of entries)

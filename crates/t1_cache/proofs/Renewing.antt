@@ -87,6 +87,7 @@ scratch-one m g t k one e =
     record {
       segments = t.outline;
       run = ap (own m) at ∙ one.run ∙ ap (λ s. Some (Ok s.drawing)) (sym e);
+      trace = ap (λ s. s.keeps_trace) e;
       draws = ap (outline m) at ∙ one.draws;
       box = ap (λ s. s.box) e;
     }
@@ -111,7 +112,7 @@ shown-one m g t k one at is =
     let drawing : k.run.drawing ≡ t.drawing = given (Ok k.run.drawing) k.run.drawing t.drawing refl (some (Ok k.run.drawing) (Ok t.drawing) (sym is.run ∙ ap (own m) at ∙ one.run)) in
     let draws : is.segments ≡ t.outline = given (outline m k.name) is.segments t.outline is.draws (ap (outline m) at ∙ one.draws) in
     let box : k.box ≡ drawn_box t.outline = is.box ∙ ap drawn_box draws in
-    (λ j. record { name = name j; drawing = drawing j; box = box j })
+    (λ j. record { name = name j; drawing = drawing j; keeps_trace = is.trace j; box = box j })
 
 pub shown-all : (m : FontBodies) (names : List (List ℕ)) (told : List Told) (records : List Kept) → glyphs m names ≡ Ok told → map (λ k. k.name) records ≡ names
     → AllByRecursion (IsFromScratch m) records → map shown records ≡ map shown_from told
@@ -180,7 +181,7 @@ renewed keys old new edit told e kept records was order all =
     fresh : (k : Kept) → IsFromScratch m k → is_stale old keys k.name ≡ false → IsFromScratch n k
     fresh k is off =
         let same = untouched_kept keys m n edit.bodies k.name is.segments is.draws off in
-        record { segments = is.segments; run = same.0 ∙ is.run; draws = same.1 ∙ is.draws; box = is.box }
+        record { segments = is.segments; run = same.0 ∙ is.run; trace = is.trace; draws = same.1 ∙ is.draws; box = is.box }
 
     before : AllByRecursion (IsFromScratch m) kept
     before = scratch-all m (glyph_names old.items) was.glyphs kept (glyphs-of old was.glyphs was.faultless) was.from_scratch

@@ -17,7 +17,7 @@ use Rattle.t1_cache.specs.Renewal.{IsFromScratch, IsOneOf, IsRenewed, RerunsLaw,
 use Rattle.t1_cache.specs.Renewed.{Kept, kept_of, names_of, rerun_by_name, rerun_of, reruns_by_name, with_run, with_rerun, with_reruns}
 use Rattle.t1_cache.specs.Users.{has}
 use Rattle.t1_cache.proofs.Names.{bytes_equiv, or-right}
-use Rattle.t1_cache.proofs.Putting.{bytes_tell}
+use Rattle.t1_font.proofs.Lookups.{bytes_tell}
 use Rattle.t1_cache.proofs.Renewing.{renewed}
 
 kept-names : (entries : List (Vec ℕ Global × GlyphRecord)) → map (λ k. k.name) (map kept_of entries) ≡ names_of entries

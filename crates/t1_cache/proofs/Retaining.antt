@@ -3,11 +3,10 @@ use Rattle.std.proofs.Common.{Vec, Global, ◌≡◌, ℕ, Bool, true, false, co
 use Rattle.std.specs.Map.{lookup}
 use Rattle.std.specs.Option.{option_map}
 use Rattle.std.specs.Str.{bytes_eq}
-use Rattle.t1_run.specs.Run.{Key, Subr, Glyph}
 use Rattle.t1_cache.specs.declared.records.GlyphRecord.{GlyphRecord}
 use Rattle.t1_cache.specs.Renewed.{Kept, kept_of}
-use Rattle.t1_cache.specs.Users.{has, is_key_among}
-use Rattle.t1_cache.proofs.Putting.{bytes_tell}
+use Rattle.t1_cache.specs.Users.{has}
+use Rattle.t1_font.proofs.Lookups.{bytes_tell}
 
 -- ---- what is left
 

@@ -1,5 +1,5 @@
 -- Room that is made for users that join.
-use Rattle.std.proofs.Common.{◌≡◌, ◌≤◌, ◌<◌, ◌+◌, ◌⊎◌, ℕ, Bool, true, false, cond, List, [], ◌∷◌, length, take, get_or, refl, sym, ap, subst, ◌∙◌, Option, Some, None, inl, inr, arith}
+use Rattle.std.proofs.Common.{◌≡◌, ◌<◌, ◌+◌, ◌⊎◌, ℕ, Bool, true, false, cond, List, [], ◌∷◌, length, take, get_or, refl, sym, ap, subst, ◌∙◌, Option, Some, None, inl, inr, arith}
 use Rattle.std.specs.Prelude.{◌||◌, ◌&&◌}
 use Rattle.std.specs.Map.{lookup, set_value}
 use Rattle.std.specs.Option.{option_map, unwrap_or}
@@ -16,9 +16,10 @@ use Rattle.t1_cache.specs.declared.records.Records.{Records}
 use Rattle.t1_cache.specs.Bodies.{record_bodies}
 use Rattle.t1_cache.specs.Overlay.{body_at}
 use Rattle.t1_cache.specs.Room.{IsRoomier, MayJoin, RoomLaw}
-use Rattle.t1_cache.specs.Users.{among, has, has_pair, key_eq, key_of, HasRoom, Pairs, UserSet, users_at, wanted}
+use Rattle.t1_cache.specs.Users.{has_pair, key_eq, key_of, HasRoom, Pairs, UserSet, users_at, wanted}
 use Rattle.t1_cache.proofs.Adding.{key-same}
-use Rattle.t1_cache.proofs.Putting.{Tells, at, bytes_tell, inserted-at, users-put}
+use Rattle.t1_font.proofs.Lookups.{Tells, bytes_tell, inserted-at}
+use Rattle.t1_cache.proofs.Putting.{at, users-put}
 use Rattle.t1_cache.proofs.There.{uses_there}
 
 -- ---- roomier sets

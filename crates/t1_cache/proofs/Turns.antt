@@ -7,12 +7,12 @@ use Rattle.t1_font.specs.Glyphs.{glyph_names}
 use Rattle.t1_run.specs.Touched.{is_key_of, is_named}
 use Rattle.t1_cache.specs.Laws.{TurnLaw}
 
-in-first : (ks ls : List Key) (k : Key) → Includes ks k → Includes (ks ++ ls) k
+pub in-first : (ks ls : List Key) (k : Key) → Includes ks k → Includes (ks ++ ls) k
 in-first [] ls k i = absurd i
 in-first (x ∷ ks) ls k (inl e) = inl e
 in-first (x ∷ ks) ls k (inr i) = inr (in-first ks ls k i)
 
-in-second : (ks ls : List Key) (k : Key) → Includes ls k → Includes (ks ++ ls) k
+pub in-second : (ks ls : List Key) (k : Key) → Includes ls k → Includes (ks ++ ls) k
 in-second [] ls k i = i
 in-second (x ∷ ks) ls k i = inr (in-second ks ls k i)
 

@@ -1,9 +1,11 @@
 -- What is kept of a source's glyphs.
-use Rattle.std.specs.Prelude.{◌≡◌, ℕ, List, map, Option, Ok}
+use Rattle.std.specs.Prelude.{◌≡◌, ℕ, Bool, true, List, map, Option, Ok}
+use Rattle.std.specs.List.{list_all}
 use Rattle.t1_parts.specs.SourceParts.{SourceParts}
 use Rattle.t1_run.specs.Run.{Drawing, own}
 use Rattle.t1_afm.specs.declared.bbox.BBox.{BBox}
 use Rattle.t1_afm.specs.Box.{drawn_box}
+use Rattle.t1_extent.specs.Kept.{traces}
 use Rattle.t1_font.specs.Bodies.{bodies}
 use Rattle.t1_font.specs.Glyphs.{Glyph as Told, glyph_names}
 use Rattle.t1_font.specs.SourceChecks.{source_glyphs}
@@ -14,21 +16,26 @@ use Rattle.t1_cache.specs.Renewed.{Kept, kept_of, recorded_run}
 pub record Shown : Type 0 where
   pub name : List ℕ
   pub drawing : Drawing
+  pub keeps_trace : Bool
   pub box : Option BBox
 
 -- profile: what is kept, its serial aside
 abbrev pub shown : Kept → Shown
-shown k = record { name = k.name; drawing = k.run.drawing; box = k.box }
+shown k = record { name = k.name; drawing = k.run.drawing; keeps_trace = traces k.name k.run; box = k.box }
 
--- profile: the same, of a glyph from scratch
+-- profile: the same, of a glyph from scratch, whose trace is kept unless it can't be a part
 abbrev pub shown_from : Told → Shown
-shown_from g = record { name = g.name; drawing = g.drawing; box = drawn_box g.outline }
+shown_from g = record { name = g.name; drawing = g.drawing; keeps_trace = true; box = drawn_box g.outline }
 
 -- profile: the source has no fault, and the records are those of its glyphs from scratch, in source order
 pub record KeepsAll (s : SourceParts) (records : List Kept) : Type 0 where
   pub glyphs : List Told
   pub faultless : source_glyphs s ≡ Ok glyphs
   pub from_scratch : map shown records ≡ map shown_from glyphs
+
+-- profile: the run of each record keeps its trace, unless its glyph can't be a part
+abbrev pub keep_traces : Records → Bool
+keep_traces records = list_all (λ (k : Kept). traces k.name k.run) (map kept_of records.glyphs.entries)
 
 -- profile: the records bear the names of the glyphs, in source order
 abbrev pub KeptNamesLaw : Type 0

@@ -4,7 +4,8 @@ use Rattle.std.specs.List.{AllByRecursion, list_any}
 use Rattle.std.specs.Str.{bytes_eq}
 use Rattle.t1_parts.specs.SourceParts.{SourceParts}
 use Rattle.t1_run.specs.declared.outline.Segment.{Segment}
-use Rattle.t1_run.specs.Run.{FontBodies, Key, NumberedRun, own}
+use Rattle.t1_run.specs.Run.{FontBodies, Key, own}
+use Rattle.t1_extent.specs.Kept.{TracedRun, traces}
 use Rattle.t1_source.specs.declared.edit.Edit.{Edit}
 use Rattle.t1_source.specs.declared.edit.Edit.TheVariants.{AddGlyph, RemoveGlyph}
 use Rattle.t1_pairs.specs.declared.pairs.Pair.{Pair}
@@ -22,10 +23,11 @@ use Rattle.t1_cache.specs.declared.records.Rerun.{Rerun}
 use Rattle.t1_cache.specs.Renewed.{Kept, with_reruns}
 use Rattle.t1_cache.specs.Users.{has}
 
--- profile: a record has the own run of its glyph, and the box of its outline
+-- profile: a record has the own run of its glyph, with its trace unless it can't be a part, and the box of its outline
 pub record IsFromScratch (m : FontBodies) (k : Kept) : Type 0 where
   pub segments : List Segment
   pub run : own m k.name ≡ Some (Ok k.run.drawing)
+  pub trace : traces k.name k.run ≡ true
   pub draws : outline m k.name ≡ Ok segments
   pub box : k.box ≡ drawn_box segments
 
@@ -63,7 +65,7 @@ RerunsLaw =
     → KeepsAll new (with_reruns reruns before)
 
 -- profile: the records after an edit, before any glyph is run again: a new glyph has some run and box, and is the last one
-abbrev pub kept_after : Edit → NumberedRun → Option BBox → List Kept → List Kept
+abbrev pub kept_after : Edit → TracedRun → Option BBox → List Kept → List Kept
 kept_after (AddGlyph g body) run box kept = kept ++ record { name = g; run = run; box = box } ∷ []
 kept_after (RemoveGlyph g) run box kept = filter (λ k. not (bytes_eq g k.name)) kept
 kept_after _ run box kept = kept
@@ -77,11 +79,11 @@ pub record AreInPlace (keys : List Key) (old new : SourceParts) (kept before : L
 abbrev pub KeptAfterLaw : Type 0
 KeptAfterLaw =
     (s : SourceParts) (k : List Pair) (edit : Edit) (made : SourceParts) (ps : List Pair) → IsWellFormed s → edited s k edit ≡ Ok (made, ps)
-    → (kept : List Kept) → KeepsAll s kept → (run : NumberedRun) (box : Option BBox) → AreInPlace (named edit) s made kept (kept_after edit run box kept)
+    → (kept : List Kept) → KeepsAll s kept → (run : TracedRun) (box : Option BBox) → AreInPlace (named edit) s made kept (kept_after edit run box kept)
 
 -- profile: after one edit more they are in place at the keys of all edits
 abbrev pub KeptTurnLaw : Type 0
 KeptTurnLaw =
     (keys : List Key) (old s : SourceParts) (k : List Pair) (edit : Edit) (made : SourceParts) (ps : List Pair) → IsWellFormed s → edited s k edit ≡ Ok (made, ps)
-    → (kept before : List Kept) → AreInPlace keys old s kept before → (run : NumberedRun) (box : Option BBox)
+    → (kept before : List Kept) → AreInPlace keys old s kept before → (run : TracedRun) (box : Option BBox)
     → AreInPlace (keys ++ named edit) old made kept (kept_after edit run box before)

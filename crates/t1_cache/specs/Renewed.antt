@@ -7,7 +7,8 @@ use Rattle.std.specs.Str.{bytes_eq}
 use Rattle.std.specs.declared.alloc.Global.{Global}
 use Rattle.std.specs.declared.vec.Vec.{Vec}
 use Rattle.t1_frac.specs.declared.fault.Code.{Code}
-use Rattle.t1_run.specs.Run.{NumberedRun, Drawing}
+use Rattle.t1_run.specs.Run.{Drawing}
+use Rattle.t1_extent.specs.Kept.{TracedRun}
 use Rattle.t1_afm.specs.declared.bbox.BBox.{BBox}
 use Rattle.t1_cache.specs.declared.records.GlyphRecord.{GlyphRecord}
 use Rattle.t1_cache.specs.declared.records.NewRun.{NewRun}
@@ -17,11 +18,11 @@ use Rattle.t1_cache.specs.declared.records.Rerun.{Rerun}
 -- profile: a glyph's own run, and the box of its outline where it draws
 pub record Kept : Type 0 where
   pub name : List ℕ
-  pub run : NumberedRun
+  pub run : TracedRun
   pub box : Option BBox
 
 -- profile: the record of a glyph, its body and users aside
-abbrev pub kept : List ℕ → NumberedRun → Option BBox → Kept
+abbrev pub kept : List ℕ → TracedRun → Option BBox → Kept
 kept name run box = record { name = name; run = run; box = box }
 
 -- profile: the same, of an entry of the table
@@ -41,7 +42,7 @@ abbrev pub recorded_run : Records → List ℕ → Option (Result Drawing Code)
 recorded_run records g = option_map (λ r. Ok r.run.drawing) (record_of records.glyphs.entries g)
 
 -- profile: the record of this name has another run and box, in its place
-abbrev pub with_run : List ℕ → NumberedRun → Option BBox → List Kept → List Kept
+abbrev pub with_run : List ℕ → TracedRun → Option BBox → List Kept → List Kept
 with_run name run box [] = []
 with_run name run box (k ∷ kept) = if bytes_eq name k.name then record { name = k.name; run = run; box = box } ∷ kept else k ∷ with_run name run box kept
 

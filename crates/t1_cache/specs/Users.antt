@@ -8,7 +8,8 @@ use Rattle.std.specs.declared.alloc.Global.{Global}
 use Rattle.std.specs.declared.vec.Vec.{Vec}
 use Rattle.indexmap.specs.IndexSet.{IndexSet, spare}
 use Rattle.t1_code.specs.declared.command.Command.{Command}
-use Rattle.t1_run.specs.Run.{Key, Subr, Glyph, NumberedRun}
+use Rattle.t1_run.specs.Run.{Key, Subr, Glyph}
+use Rattle.t1_extent.specs.Kept.{TracedRun}
 use Rattle.t1_afm.specs.declared.bbox.BBox.{BBox}
 use Rattle.t1_cache.specs.declared.records.GlyphRecord.{GlyphRecord}
 use Rattle.t1_cache.specs.declared.records.SubrRecord.{SubrRecord}
@@ -67,7 +68,7 @@ pub record SubrRest : Type 0 where
 pub record GlyphRest : Type 0 where
   pub name : List ℕ
   pub body : List Command
-  pub run : NumberedRun
+  pub run : TracedRun
   pub bbox : Option BBox
 
 -- profile: all records, their users aside

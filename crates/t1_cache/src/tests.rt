@@ -64,7 +64,11 @@ fn glyph_record(
     }
     Ok(GlyphRecord {
         body: body(alloc, words)?,
-        run: KeptRun::of(alloc, run(alloc, bodies, name.as_bytes(), meter)?)?,
+        run: KeptRun::of(
+            alloc,
+            name.as_bytes(),
+            run(alloc, bodies, name.as_bytes(), meter)?,
+        )?,
         bbox: None,
         users: names(alloc, users)?,
     })
@@ -151,7 +155,7 @@ fn renewed_serials(alloc: Global) -> Result<(u64, u64), Fail> {
         return Err(Fail::new("no such glyph"));
     }
     let again = run(alloc, &bodies, b"acute", &mut Meter::new())?;
-    let again = KeptRun::of(alloc, again)?;
+    let again = KeptRun::of(alloc, b"acute", again)?;
     let Some(old) = renew(&mut records.glyphs, b"acute", again, None) else {
         return Err(Fail::new("no record"));
     };
@@ -175,7 +179,7 @@ fn rerun_of_acute(alloc: Global, bodies: &Plain, meter: &mut Meter) -> Result<Re
     }
     Ok(Rerun {
         name: Vec::from_slice(alloc, b"acute")?,
-        run: KeptRun::of(alloc, run(alloc, bodies, b"acute", meter)?)?,
+        run: KeptRun::of(alloc, b"acute", run(alloc, bodies, b"acute", meter)?)?,
         bbox: None,
     })
 }

@@ -32,7 +32,7 @@ abbrev pub body_in : Key → Item → Option (List Command)
 body_in (Subr n) i = subr_in i n
 body_in (Glyph g) i = glyph_in i g
 
-first-body : (k : Key) (i : Item) (is : List Item) → body_at (bodies (i ∷ is)) k ≡ option_or (body_in k i) (body_at (bodies is) k)
+pub first-body : (k : Key) (i : Item) (is : List Item) → body_at (bodies (i ∷ is)) k ≡ option_or (body_in k i) (body_at (bodies is) k)
 first-body (Subr n) i is = refl
 first-body (Glyph g) i is = refl
 

@@ -121,7 +121,7 @@ counted-raised subrs glyphs key (items.Plain l) on = refl
 counted-raised subrs glyphs key (items.Subr n ws closing) on = refl
 counted-raised subrs glyphs key (items.Glyph g ws closing) on = refl
 
-counted-all : (subrs glyphs : ℕ) (is : List Item) → list_all is_counted (map (raised_item subrs glyphs) is) ≡ list_all (is_raised_counted subrs glyphs) is
+pub counted-all : (subrs glyphs : ℕ) (is : List Item) → list_all is_counted (map (raised_item subrs glyphs) is) ≡ list_all (is_raised_counted subrs glyphs) is
 counted-all subrs glyphs [] = refl
 counted-all subrs glyphs (i ∷ is) = ap (λ b. is_counted (raised_item subrs glyphs i) && b) (counted-all subrs glyphs is)
 

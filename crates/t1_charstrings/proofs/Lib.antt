@@ -5,6 +5,7 @@ pub mod Entering
 pub mod Filed
 pub mod Gathered
 pub mod Inserting
+pub mod MadeItems
 pub mod Putting
 pub mod Readying
 pub mod Sources

@@ -72,7 +72,7 @@ find-inserted test is zero x within off = ap (λ b. cond b (Some x) (find test i
 find-inserted test [] (suc at) x within off = absurd (omega (arith, within))
 find-inserted test (i ∷ is) (suc at) x within off = ap (cond (test i) (Some i)) (find-inserted test is at x (omega (arith, within)) off)
 
-find-raised : (subrs glyphs : ℕ) (is : List Item) → find reads_strings (map (raised_item subrs glyphs) is) ≡ find reads_strings is
+pub find-raised : (subrs glyphs : ℕ) (is : List Item) → find reads_strings (map (raised_item subrs glyphs) is) ≡ find reads_strings is
 find-raised subrs glyphs [] = refl
 find-raised subrs glyphs (items.Plain l ∷ is) =
     ap (cond (reads_strings (items.Plain l)) (Some (items.Plain l))) (find-raised subrs glyphs is)
@@ -81,7 +81,7 @@ find-raised subrs glyphs (items.Subr n ws closing ∷ is) = find-raised subrs gl
 find-raised subrs glyphs (items.Glyph g ws closing ∷ is) = find-raised subrs glyphs is
 
 -- the operator of the first item that reads strings
-abbrev named : Option Item → List ℕ
+abbrev pub named : Option Item → List ℕ
 named found = unwrap_or (option_and_then operator_on (option_and_then plain_line found)) (codes "RD")
 
 -- ---- section lines

@@ -5,6 +5,7 @@ pub mod Files
 pub mod Kept
 pub mod Laws
 pub mod Lines
+pub mod Made
 pub mod Raising
 pub mod Ready
 pub mod Sums

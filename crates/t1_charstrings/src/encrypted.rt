@@ -6,11 +6,12 @@ ghost use Rattle.std.specs.Str.{bytes_eq};
 ghost use Rattle.t1_frac.specs.Outcome.{Gives};
 ghost use Rattle.t1_frac.specs.declared.fault.Place.TheVariants as places;
 ghost use Rattle.t1_code.specs.Words.{commands};
-ghost use Rattle.t1_run.specs.Run.{Subr, Glyph};
+ghost use Rattle.t1_run.specs.Run.{Key, Subr, Glyph};
 ghost use Rattle.t1_font.specs.Bodies.{bodies, bodies_check, body_check, glyph_in, subr_in, words_check};
-ghost use Rattle.t1_charstrings.specs.Entries.{encrypted, glyph_kept, subr_kept};
-ghost use Rattle.t1_charstrings.specs.Kept.{AreEncrypted, Encrypt};
+ghost use Rattle.t1_charstrings.specs.Entries.{body_at, encrypted, glyph_kept, subr_kept};
+ghost use Rattle.t1_charstrings.specs.Kept.{kept_at, AreEncrypted};
 
+use crate::batch::no_charstrings;
 use crate::entries::{Charstrings, Entry};
 use indexmap::IndexMap;
 use itoa::Buffer;
@@ -112,17 +113,27 @@ fn add_item(
     }
 }
 
-/// The charstrings of the items, encrypted with so many leading bytes, or the first fault of a body, at its entry.
-fn encrypted_items(alloc: Global, lead: u8, items: &[Item]) -> Result<Charstrings, Refusal>
-    ensures checked { Gives (λ _. tt) result (bodies_check items.now) }
-    ensures kept { IfOk result (λ kept. Encrypt lead (bodies items.now) kept) }
+/// Adds the charstrings of the items, encrypted with so many leading bytes, where there are none of their keys; or answers the
+/// first fault of a body, at its entry.
+pub(crate) fn add_items(
+    alloc: Global,
+    lead: u8,
+    charstrings: &mut Charstrings,
+    items: &[Item],
+) -> Result<(), Refusal>
+    ensures checked { Gives (λ x. x) result (bodies_check items.now) }
+    ensures kept { OnOk result ((k : Key) → kept_at charstrings.new k ≡ option_or (kept_at charstrings.old k) (option_map (encrypted lead k) (body_at (bodies items.now) k))) }
 {
-    let mut subrs = IndexMap::new(alloc);
-    let mut glyphs = IndexMap::new(alloc);
     for item in items {
-        add_item(alloc, lead, &mut subrs, &mut glyphs, item)?;
+        add_item(
+            alloc,
+            lead,
+            &mut charstrings.subrs,
+            &mut charstrings.glyphs,
+            item,
+        )?;
     }
-    Ok(Charstrings { subrs, glyphs })
+    Ok(())
 }
 
 /// The charstrings of a source, encrypted by its lenIV, or the first fault of a body, at its entry.
@@ -130,5 +141,7 @@ pub fn charstrings_of(alloc: Global, source: &Source) -> Result<Charstrings, Ref
     ensures checked { Gives (λ _. tt) result (bodies_check source.now.items) }
     ensures kept { IfOk result (λ kept. AreEncrypted source.now kept) }
 {
-    encrypted_items(alloc, source.lead(), source.items())
+    let mut charstrings = no_charstrings(alloc);
+    add_items(alloc, source.lead(), &mut charstrings, source.items())?;
+    Ok(charstrings)
 }

@@ -5,12 +5,13 @@
 //! [`check_length`] judges by it whether a part of a file is too long; [`laws`] say what an edit makes of it.
 //!
 //! Edits go in two steps. [`put_fresh_subr`] and [`put_fresh_glyph`] fill the fresh charstrings of [`EditedEntries`]: those of
-//! the entries that were replaced or added; beside them stand the entries that are [`Gone`]. With these [`prepare_lines`], for
-//! one edit, or [`prepare_batch`], for many, makes ready what changes of the charstrings and of the length of the private text,
-//! or gives the first fault of the edited source; [`settle_lines`] puts it in its place, which can't fail. Where lenIV was
-//! edited all charstrings are encrypted anew, by [`prepare_anew`].
+//! the entries that were replaced or added; beside them stand the entries that are [`Gone`]. With these [`prepare_lines`] makes
+//! ready what changes of the charstrings and of the length of the private text, or gives the first fault of the edited source,
+//! which is known by a prepared change or as the one that a batch [`Made`]; [`settle_lines`] puts it in its place, which can't
+//! fail. Where lenIV was edited all charstrings are encrypted anew; nothing of a source is copied.
 #![tactic(auto)]
 
+mod anew;
 mod batch;
 mod changed;
 mod encrypted;
@@ -19,18 +20,21 @@ mod files;
 pub mod laws;
 mod lengths;
 mod lines;
+mod made;
+mod made_items;
 mod preparing;
 mod raising;
 mod replacing;
 mod settling;
 
-pub use batch::{batch_len, no_charstrings, prepare_batch, put_fresh_glyph, put_fresh_subr};
+pub use batch::{batch_len, no_charstrings, put_fresh_glyph, put_fresh_subr};
 pub use changed::{insert_glyph, insert_subr, make_room};
 pub use encrypted::{charstrings_of, encrypted_glyph, encrypted_subr};
 pub use entries::{Charstrings, Entry};
 pub use files::write_kept_file;
 pub use lengths::{check_length, entry_line_len, line_len, private_len, sections_len};
-pub use preparing::{prepare_anew, prepare_lines};
+pub use made::Made;
+pub use preparing::prepare_lines;
 pub use settling::{EditedEntries, Gone, ReadyCharstrings, ReadyLines, settle_lines};
 
 #[cfg(test)]

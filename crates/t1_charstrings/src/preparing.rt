@@ -1,282 +1,109 @@
-//! What one edit makes of the charstrings, before anything is changed.
-ghost use Rattle.std.specs.Prelude.{◌≡◌, ◌<◌, Ok, IfOk, length};
-ghost use Rattle.std.specs.List.{insert, remove, slice_set};
+//! What edits make of the charstrings, before anything is changed.
+ghost use Rattle.std.specs.Prelude.{◌≡◌, Ok, IfOk, false, true};
 ghost use Rattle.t1_frac.specs.Outcome.{Gives};
-ghost use Rattle.t1_source.specs.declared.editing.change.Change.TheVariants as changes;
-ghost use Rattle.t1_source.specs.Changes.{changed, Serves};
-ghost use Rattle.t1_source.specs.Editing.{with_clear, with_items};
-ghost use Rattle.t1_source.specs.WellFormed.{IsWellFormed};
-ghost use Rattle.t1_font.specs.Assembly.{counts_check, file_check};
+ghost use Rattle.t1_source.specs.Changes.{changed};
+ghost use Rattle.t1_source.specs.Editing.{with_clear};
+ghost use Rattle.t1_font.specs.Assembly.{file_check};
+ghost use Rattle.t1_font.specs.Lengths.{IsPrivateLen};
 ghost use Rattle.t1_charstrings.specs.Batch.{AreEdits};
 ghost use Rattle.t1_charstrings.specs.Changed.{AreUnchanged};
-ghost use Rattle.t1_font.specs.Lengths.{IsPrivateLen};
-ghost use Rattle.t1_charstrings.specs.Ready.{is_entry, IsReadyLines};
-ghost use Rattle.t1_charstrings.specs.Sums.{item_at};
+ghost use Rattle.t1_charstrings.specs.Made.{is_entry_changed, made_after, made_of, may_set_lead, source_of, IsFor, IsPrepared, IsPreparedFor};
+ghost use Rattle.t1_charstrings.specs.Ready.{IsReadyLines};
 
-use crate::encrypted::charstrings_of;
+use crate::anew::prepare_anew;
+use crate::batch::len_of_batch;
 use crate::entries::Charstrings;
-use crate::lengths::{check_length, private_len as len_of};
+use crate::made::Made;
 use crate::replacing::{len_inserted, len_put, len_removed};
-use crate::settling::{EditedEntries, ReadyCharstrings, ReadyLines, ready_entries};
+use crate::settling::{EditedEntries, ReadyLines, ready_entries};
 use std::alloc::Global;
-use t1_font::{check_counts, check_parts};
+use t1_font::check_parts;
 use t1_frac::{Bytes, Refusal};
-use t1_pairs::Pairs;
-use t1_source::{Change, Item, Source};
+use t1_source::{Change, Source};
 
-/// The charstrings of a source, all encrypted anew, and the length of its private text; or the first fault of the source.
-/// Settled, they take the place of any that were kept.
+/// How long the private text is where the clear part gets other lines: as before. F23 where these are too long.
 #[tactic(auto, unfolding(t1_font::specs::Assembly::file_check))]
-pub fn prepare_anew(alloc: Global, source: &Source) -> Result<ReadyLines, Refusal>
-    requires well { IsWellFormed source.now }
-    ensures judged { Gives (λ _. tt) result (file_check source.now) }
-    ensures ready { (c : Charstrings) → IfOk result (IsReadyLines source.now c) }
-{
-    let charstrings = charstrings_of(alloc, source)?;
-    let len = len_of(&charstrings, source);
-    check_length(source, len)?;
-    check_counts(source.items())?;
-    Ok(ReadyLines {
-        charstrings: ReadyCharstrings::All(charstrings),
-        len,
-    })
-}
-
-/// The charstrings of an edited source, all encrypted anew, as where lenIV is edited; or the first fault of the edited source.
-fn ready_anew(
-    alloc: Global,
-    source: &Source,
-    pairs: &Pairs,
-    change: Change,
-) -> Result<ReadyLines, Refusal>
-    requires serves { Serves change source.now pairs.now }
-    ensures judged { Gives (λ _. tt) result (file_check (changed change source.now pairs.now).0) }
-    ensures ready { (c : Charstrings) → IfOk result (IsReadyLines (changed change source.now pairs.now).0 c) }
-{
-    let mut made = source.copied()?;
-    let mut pairs = pairs.copied()?;
-    made.commit(&mut pairs, change)?;
-    prepare_anew(alloc, &made)
-}
-
-/// The same, where an item comes in the place of another.
-fn put_anew(
-    alloc: Global,
-    source: &Source,
-    pairs: &Pairs,
-    at: usize,
-    item: &Item,
-) -> Result<ReadyLines, Refusal>
-    requires serves { Serves (changes.PutItem at item.now) source.now pairs.now }
-    ensures judged { Gives (λ _. tt) result (file_check (with_items source.now (slice_set source.now.items at item.now))) }
-    ensures ready { (c : Charstrings) → IfOk result (IsReadyLines (with_items source.now (slice_set source.now.items at item.now)) c) }
-{
-    let item = item.copied(alloc)?;
-    ready_anew(alloc, source, pairs, Change::PutItem(at, item))
-}
-
-/// The same, where an item is put in.
-fn insert_anew(
-    alloc: Global,
-    source: &Source,
-    pairs: &Pairs,
-    at: usize,
-    item: &Item,
-) -> Result<ReadyLines, Refusal>
-    requires serves { Serves (changes.InsertItem at item.now) source.now pairs.now }
-    ensures judged { Gives (λ _. tt) result (file_check (with_items source.now (insert source.now.items at item.now))) }
-    ensures ready { (c : Charstrings) → IfOk result (IsReadyLines (with_items source.now (insert source.now.items at item.now)) c) }
-{
-    let item = item.copied(alloc)?;
-    ready_anew(alloc, source, pairs, Change::InsertItem(at, item))
-}
-
-/// Whether an item is a Subr or a glyph.
-fn is_entry(item: &Item) -> bool
-    ensures { result ≡ is_entry item.now }
-{
-    matches!(item, Item::Subr(_, _, _) | Item::Glyph(_, _, _))
-}
-
-/// Whether the item at a place is a Subr or a glyph.
-fn is_entry_at(source: &Source, at: usize) -> bool
-    requires { at < length source.now.items }
-    ensures { result ≡ is_entry (item_at source.now.items at) }
-{
-    is_entry(&source.items()[at])
-}
-
-/// What is ready where an item comes in the place of another, or the first fault of the edited source.
-fn prepare_put(
-    alloc: Global,
-    charstrings: &mut Charstrings,
-    private_len: usize,
-    source: &Source,
-    pairs: &Pairs,
-    at: usize,
-    item: &Item,
-    entries: EditedEntries,
-) -> Result<ReadyLines, Refusal>
-    requires serves { Serves (changes.PutItem at item.now) source.now pairs.now }
-    requires well { IsWellFormed source.now }
+fn len_clear(private_len: usize, source: &Source, clear: &[Bytes]) -> Result<usize, Refusal>
     requires file { file_check source.now ≡ Ok tt }
     requires len { IsPrivateLen source.now private_len }
-    requires edits { AreEdits source.now (with_items source.now (slice_set source.now.items at item.now)) charstrings.old entries }
-    ensures same { AreUnchanged charstrings.old charstrings.new }
-    ensures judged { Gives (λ _. tt) result (file_check (with_items source.now (slice_set source.now.items at item.now))) }
-    ensures ready { IfOk result (IsReadyLines (with_items source.now (slice_set source.now.items at item.now)) charstrings.new) }
-{
-    if !is_entry(item) {
-        return put_anew(alloc, source, pairs, at, item);
-    }
-    let len = len_put(charstrings, private_len, source, at, item, &entries)?;
-    Ok(ready_entries(charstrings, entries, len)?)
-}
-
-/// What is ready where an item is put in, or the first fault of the edited source.
-fn prepare_insert(
-    alloc: Global,
-    charstrings: &mut Charstrings,
-    private_len: usize,
-    source: &Source,
-    pairs: &Pairs,
-    at: usize,
-    item: &Item,
-    entries: EditedEntries,
-) -> Result<ReadyLines, Refusal>
-    requires serves { Serves (changes.InsertItem at item.now) source.now pairs.now }
-    requires well { IsWellFormed source.now }
-    requires file { file_check source.now ≡ Ok tt }
-    requires len { IsPrivateLen source.now private_len }
-    requires edits { AreEdits source.now (with_items source.now (insert source.now.items at item.now)) charstrings.old entries }
-    ensures same { AreUnchanged charstrings.old charstrings.new }
-    ensures judged { Gives (λ _. tt) result (file_check (with_items source.now (insert source.now.items at item.now))) }
-    ensures ready { IfOk result (IsReadyLines (with_items source.now (insert source.now.items at item.now)) charstrings.new) }
-{
-    if !is_entry(item) {
-        return insert_anew(alloc, source, pairs, at, item);
-    }
-    let len = len_inserted(charstrings, private_len, source, at, item, &entries)?;
-    Ok(ready_entries(charstrings, entries, len)?)
-}
-
-/// What is ready where an item is taken out, or the first fault of the edited source.
-fn prepare_remove(
-    alloc: Global,
-    charstrings: &mut Charstrings,
-    private_len: usize,
-    source: &Source,
-    pairs: &Pairs,
-    at: usize,
-    entries: EditedEntries,
-) -> Result<ReadyLines, Refusal>
-    requires serves { Serves (changes.RemoveItem at) source.now pairs.now }
-    requires well { IsWellFormed source.now }
-    requires file { file_check source.now ≡ Ok tt }
-    requires len { IsPrivateLen source.now private_len }
-    requires edits { AreEdits source.now (with_items source.now (remove source.now.items at)) charstrings.old entries }
-    ensures same { AreUnchanged charstrings.old charstrings.new }
-    ensures judged { Gives (λ _. tt) result (file_check (with_items source.now (remove source.now.items at))) }
-    ensures ready { IfOk result (IsReadyLines (with_items source.now (remove source.now.items at)) charstrings.new) }
-{
-    if !is_entry_at(source, at) {
-        return ready_anew(alloc, source, pairs, Change::RemoveItem(at));
-    }
-    let len = len_removed(charstrings, private_len, source, at, &entries)?;
-    Ok(ready_entries(charstrings, entries, len)?)
-}
-
-/// What is ready where the clear part gets other lines; F23 where it is too long.
-#[tactic(auto, unfolding(t1_font::specs::Assembly::file_check))]
-fn prepare_clear(
-    charstrings: &mut Charstrings,
-    private_len: usize,
-    source: &Source,
-    clear: &[Bytes],
-    entries: EditedEntries,
-) -> Result<ReadyLines, Refusal>
-    requires file { file_check source.now ≡ Ok tt }
-    requires len { IsPrivateLen source.now private_len }
-    requires edits { AreEdits source.now (with_clear source.now clear.now) charstrings.old entries }
-    ensures same { AreUnchanged charstrings.old charstrings.new }
     ensures judged { Gives (λ _. tt) result (file_check (with_clear source.now clear.now)) }
-    ensures ready { IfOk result (IsReadyLines (with_clear source.now clear.now) charstrings.new) }
+    ensures len { IfOk result (IsPrivateLen (with_clear source.now clear.now)) }
 {
     check_parts(clear, private_len, source.tail())?;
-    Ok(ready_entries(charstrings, entries, private_len)?)
+    Ok(private_len)
 }
 
-/// What is ready where the source stays.
-fn prepare_same(
-    charstrings: &mut Charstrings,
+/// How long the private text is after a change that sets no lenIV, or the first fault of the edited source. The length goes by
+/// that of the source before the edit, so that it costs no look at the other lines.
+fn len_changed(
+    charstrings: &Charstrings,
     private_len: usize,
     source: &Source,
-    entries: EditedEntries,
-) -> Result<ReadyLines, Refusal>
-    requires file { file_check source.now ≡ Ok tt }
-    requires len { IsPrivateLen source.now private_len }
-    requires edits { AreEdits source.now source.now charstrings.old entries }
-    ensures same { AreUnchanged charstrings.old charstrings.new }
-    ensures judged { Gives (λ _. tt) result (file_check source.now) }
-    ensures ready { IfOk result (IsReadyLines source.now charstrings.new) }
+    change: &Change,
+    entries: &EditedEntries,
+) -> Result<usize, Refusal>
+    requires prepared { IsPreparedFor change.now source.now private_len }
+    requires entry { is_entry_changed change.now source.now ≡ true }
+    requires edits { AreEdits source.now (made_after change.now source.now) charstrings.now entries.now }
+    ensures judged { Gives (λ _. tt) result (file_check (made_after change.now source.now)) }
+    ensures len { IfOk result (IsPrivateLen (made_after change.now source.now)) }
 {
-    Ok(ready_entries(charstrings, entries, private_len)?)
+    match change {
+        Change::PutItem(at, item) => {
+            len_put(charstrings, private_len, source, *at, item, entries)
+        }
+        Change::InsertItem(at, item) => {
+            len_inserted(charstrings, private_len, source, *at, item, entries)
+        }
+        Change::RemoveItem(at) => len_removed(charstrings, private_len, source, *at, entries),
+        Change::PutClear(lines) => len_clear(private_len, source, lines),
+        Change::PutPair(_, _) => Ok(private_len),
+        Change::InsertPair(_, _) => Ok(private_len),
+        Change::RemovePair(_) => Ok(private_len),
+    }
 }
 
-/// What one edit makes of the charstrings and of the length of the private text, or the first fault of the edited source.
-/// Nothing is changed: there may be more room among the charstrings. The length goes by that of the source before the edit,
-/// so that it costs no look at the other lines.
+/// How long the private text is after edits that leave lenIV as it is, or the first fault of the source that they make.
+fn len_after(
+    charstrings: &Charstrings,
+    private_len: usize,
+    made: &Made,
+    entries: &EditedEntries,
+) -> Result<usize, Refusal>
+    requires prepared { IsPrepared made.now private_len }
+    requires lead { may_set_lead made.now ≡ false }
+    requires edits { AreEdits (source_of made.now) (made_of made.now) charstrings.now entries.now }
+    ensures judged { Gives (λ _. tt) result (file_check (made_of made.now)) }
+    ensures len { IfOk result (IsPrivateLen (made_of made.now)) }
+{
+    match made {
+        Made::Edit { source, change } => {
+            len_changed(charstrings, private_len, source, change, entries)
+        }
+        Made::Batch { source, made } => len_of_batch(charstrings, source, made, entries),
+    }
+}
+
+/// What edits make of the charstrings and of the length of the private text, or the first fault of the source that they make.
+/// Nothing is changed: there may be more room among the charstrings. The length after one edit goes by that of the source
+/// before it, so that it costs no look at the other lines; after a batch the items are gone through once. Where lenIV was
+/// edited all charstrings are encrypted anew.
 pub fn prepare_lines(
     alloc: Global,
     charstrings: &mut Charstrings,
     private_len: usize,
-    source: &Source,
-    pairs: &Pairs,
-    change: &Change,
+    made: &Made,
     entries: EditedEntries,
 ) -> Result<ReadyLines, Refusal>
-    requires serves { Serves change.now source.now pairs.now }
-    requires well { IsWellFormed source.now }
-    requires file { file_check source.now ≡ Ok tt }
-    requires len { IsPrivateLen source.now private_len }
-    requires edits { AreEdits source.now (changed change.now source.now pairs.now).0 charstrings.old entries }
+    requires prepared { IsPrepared made.now private_len }
+    requires edits { AreEdits (source_of made.now) (made_of made.now) charstrings.old entries }
     ensures same { AreUnchanged charstrings.old charstrings.new }
-    ensures judged { Gives (λ _. tt) result (file_check (changed change.now source.now pairs.now).0) }
-    ensures ready { IfOk result (IsReadyLines (changed change.now source.now pairs.now).0 charstrings.new) }
+    ensures judged { Gives (λ _. tt) result (file_check (made_of made.now)) }
+    ensures ready { IfOk result (IsReadyLines (made_of made.now) charstrings.new) }
 {
-    match change {
-        Change::PutItem(at, item) => {
-            prepare_put(
-                alloc,
-                charstrings,
-                private_len,
-                source,
-                pairs,
-                *at,
-                item,
-                entries,
-            )
-        }
-        Change::InsertItem(at, item) => {
-            prepare_insert(
-                alloc,
-                charstrings,
-                private_len,
-                source,
-                pairs,
-                *at,
-                item,
-                entries,
-            )
-        }
-        Change::RemoveItem(at) => {
-            prepare_remove(alloc, charstrings, private_len, source, pairs, *at, entries)
-        }
-        Change::PutClear(lines) => {
-            prepare_clear(charstrings, private_len, source, lines, entries)
-        }
-        Change::PutPair(_, _) => prepare_same(charstrings, private_len, source, entries),
-        Change::InsertPair(_, _) => prepare_same(charstrings, private_len, source, entries),
-        Change::RemovePair(_) => prepare_same(charstrings, private_len, source, entries),
+    if made.may_set_lead() {
+        return prepare_anew(alloc, made);
     }
+    let len = len_after(charstrings, private_len, made, &entries)?;
+    Ok(ready_entries(charstrings, entries, len)?)
 }

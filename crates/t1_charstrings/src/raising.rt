@@ -1,25 +1,27 @@
 //! The counts of section lines, as they are raised where an entry is put in.
-ghost use Rattle.std.specs.Prelude.{◌≡◌, ◌≤◌, ◌^◌, ◌-◌, ◌∷◌, codes, if◌then◌else◌, length, max, min};
+ghost use Rattle.std.specs.Prelude.{◌≡◌, ◌≤◌, ◌^◌, ◌-◌, ◌∷◌, codes, if◌then◌else◌, length, map, max, min};
 ghost use Rattle.std.specs.List.{list_all};
 ghost use Rattle.t1_frac.specs.Outcome.{Gives};
 ghost use Rattle.t1_text.specs.Tokens.{last_is, tokens};
 ghost use Rattle.t1_parts.specs.Counts.{glyphs_needed, raised_item, subrs_needed};
 ghost use Rattle.t1_source.specs.WellFormed.{is_counted};
+ghost use Rattle.t1_charstrings.specs.Lines.{kept_line, kept_text};
 ghost use Rattle.t1_charstrings.specs.Raising.{is_raised_counted, raised_check, raised_text};
 ghost use Rattle.t1_charstrings.specs.Sums.{section_line};
 
-use crate::lengths::section_line_len;
+use crate::entries::Charstrings;
+use crate::lengths::{line_len, section_line_len};
 use t1_font::TEN_DIGITS;
 use t1_frac::{Code, Refusal};
 use t1_parts::{glyphs_needed, subrs_needed};
 use t1_source::Item;
 use t1_text::last_is;
 
-/// What the items need for their Subrs and glyphs, with one more.
+/// What items need for their Subrs and glyphs.
 #[derive(Drop)]
 pub(crate) struct Needed {
-    subrs: u64,
-    glyphs: u64,
+    pub(crate) subrs: u64,
+    pub(crate) glyphs: u64,
 }
 
 /// The highest Subr number plus one, with an item more.
@@ -88,6 +90,39 @@ pub(crate) fn raised_sections_len(items: &[Item], needed: &Needed) -> usize
     let mut total: usize = 0;
     for item in items {
         total = total.saturating_add(raised_len(item, needed));
+    }
+    total
+}
+
+/// How long the line of an item is with a raised count, up to 2^64 - 1.
+fn raised_line_len(
+    charstrings: &Charstrings,
+    operator: &[u8],
+    item: &Item,
+    needed: &Needed,
+) -> usize
+    ensures { result ≡ min (length (kept_line charstrings.now operator.now (raised_item needed.now.subrs needed.now.glyphs item.now))) (2 ^ 64 - 1) }
+{
+    match item {
+        Item::Section(_, _, _) => raised_len(item, needed),
+        Item::Plain(_) => line_len(charstrings, operator, item),
+        Item::Subr(_, _, _) => line_len(charstrings, operator, item),
+        Item::Glyph(_, _, _) => line_len(charstrings, operator, item),
+    }
+}
+
+/// How long the lines of the items are with raised counts, up to 2^64 - 1.
+pub(crate) fn raised_items_len(
+    charstrings: &Charstrings,
+    operator: &[u8],
+    items: &[Item],
+    needed: &Needed,
+) -> usize
+    ensures { result ≡ min (length (kept_text charstrings.now operator.now (map (raised_item needed.now.subrs needed.now.glyphs) items.now))) (2 ^ 64 - 1) }
+{
+    let mut total: usize = 0;
+    for item in items {
+        total = total.saturating_add(raised_line_len(charstrings, operator, item, needed));
     }
     total
 }

@@ -8,31 +8,11 @@ use Rattle.std.proofs.lemmas.List.Sums.{prefix_len-le-length}
 use Rattle.std.proofs.Math.Numerals.{one-add}
 use Rattle.t1_frac.proofs.WordLaws.{front_stays, no_word_at, word_at}
 use Rattle.t1_frac.specs.Words.{is_blank, trimmed_front, word_goes_on, words}
-use Rattle.t1_code.specs.Words.{digits_of_word, first_word, is_number_word, number_written, signed, decimal_value, in_32_bits, number_command, number_of_word, operator_named, or_unknown, command_of_word, command_then, commands_of_words}
+use Rattle.t1_code.specs.Words.{first_word, in_32_bits, number_command, number_of_word, operator_named, or_unknown, command_of_word, command_then, commands_of_words}
+use Rattle.t1_frac.specs.Numbers.{digits_of_word, is_number_word, number_written, signed, decimal_value}
 use Rattle.t1_code.specs.declared.command.Command.{Command}
 use Rattle.t1_frac.specs.declared.fault.Code.{Code}
 use Rattle.t1_frac.specs.declared.fault.Code.TheVariants.{F21}
-
-abbrev count : List ℕ → ℕ
-count text = prefix_len is_ascii_digit text
-
-pub digits_to_the_end : (text : List ℕ) → length text ≤ prefix_len is_ascii_digit text → list_all is_ascii_digit text ≡ true
-digits_to_the_end [] h = refl
-digits_to_the_end (c ∷ text) h = elim (cases_Bool (is_ascii_digit c)) [
-  | inl e ↦ (let g = rw e at h in rw e (digits_to_the_end text (omega (arith, g))))
-  | inr e ↦ (let g = rw e at h in absurd (omega (arith, g)))
-]
-
-pub digits_end_early : (text : List ℕ) → prefix_len is_ascii_digit text < length text → list_all is_ascii_digit text ≡ false
-digits_end_early [] h = absurd (omega arith)
-digits_end_early (c ∷ text) h = elim (cases_Bool (is_ascii_digit c)) [
-  | inl e ↦ (let g = rw e at h in rw e (digits_end_early text (omega (arith, g))))
-  | inr e ↦ rw e refl
-]
-
--- all bytes are digits
-pub whole_number : (text : List ℕ) (n : ℕ) → n ≡ prefix_len is_ascii_digit text → length text ≤ n → (list_all is_ascii_digit text ≡ true) × (take n text ≡ text)
-whole_number text n e h = (digits_to_the_end text (omega arith), take_all n text h)
 
 and_false : (b : Bool) → (b && false) ≡ false
 and_false true = refl

@@ -1,24 +1,15 @@
 -- The words of a charstring: numbers and commands.
-use Rattle.std.specs.Prelude.{map, fold, ℕ, ◌+◌, ◌-◌, ◌*◌, ◌^◌, ℤ, pos, negsuc, neg_ℤ, Bool, ◌&&◌, nat_lt, if◌then◌else◌, List, [], ◌∷◌, drop, take, length, codes, Option, None, Some, Result, Ok, Err}
+use Rattle.std.specs.Prelude.{map, ℕ, ◌^◌, ℤ, pos, negsuc, Bool, nat_lt, if◌then◌else◌, List, [], ◌∷◌, take, length, codes, Option, None, Some, Result, Ok, Err}
 use Rattle.std.specs.Map.{lookup}
 use Rattle.std.specs.Borrow.{Bor}
 use Rattle.std.specs.Str.{bytes_eq}
-use Rattle.std.specs.Char.{is_ascii_digit}
-use Rattle.std.specs.List.{list_all, position_or_len}
-use Rattle.std.specs.Str.Parse.{starts_with_minus}
+use Rattle.std.specs.List.{position_or_len}
+use Rattle.t1_frac.specs.Numbers.{is_number_word, number_written}
 use Rattle.t1_frac.specs.Words.{is_blank}
 use Rattle.t1_frac.specs.declared.fault.Code.{Code}
 use Rattle.t1_frac.specs.declared.fault.Code.TheVariants.{F20, F21, F22}
 use Rattle.t1_code.specs.declared.command.Command.{Command}
 use Rattle.t1_code.specs.declared.command.Command.TheVariants.{Num, HStem, VStem, VMoveTo, RLineTo, HLineTo, VLineTo, RRCurveTo, ClosePath, CallSubr, Return, DotSection, VStem3, HStem3, Seac, Sbw, Div, CallOtherSubr, Pop, SetCurrentPoint, Hsbw, EndChar, RMoveTo, HMoveTo, VHCurveTo, HVCurveTo}
-
--- profile: a number word is an optional minus and one digit or more
-abbrev pub digits_of_word : List ℕ → List ℕ
-digits_of_word word = if starts_with_minus word then drop 1 word else word
-
--- profile: whether a word is a number word
-unfoldable pub is_number_word : List ℕ → Bool
-is_number_word word = nat_lt 0 (length (digits_of_word word)) && list_all is_ascii_digit (digits_of_word word)
 
 -- Type 1 Font Format, Chapter 6 (charstring number encoding): a number is from -2^31 to 2^31 - 1
 abbrev pub fits_32_bits : ℤ → Bool
@@ -29,38 +20,13 @@ fits_32_bits (negsuc n) = nat_lt n (2 ^ 31)
 abbrev pub in_32_bits : ℤ → Result ℤ Code
 in_32_bits n = if fits_32_bits n then Ok n else Err F21
 
--- profile: the value of decimal digits, the highest first
-abbrev pub decimal_value : List ℕ → ℕ
-decimal_value digits = fold (λ value digit. 10 * value + (digit - 48)) 0 digits
-
--- profile: the number of this size, less than nothing after a minus
-abbrev pub signed : Bool → ℕ → ℤ
-signed minus size = if minus then neg_ℤ (pos size) else pos size
-
--- profile: the number that a number word writes
-abbrev pub number_written : List ℕ → ℤ
-number_written word = signed (starts_with_minus word) (decimal_value (digits_of_word word))
-
 -- profile, words: the bytes in front of the first blank
 abbrev pub first_word : List ℕ → List ℕ
 first_word text = take (position_or_len is_blank text) text
 
--- profile: the same, where it fits
+-- profile: the number that a number word writes, where it fits 32 bits
 unfoldable pub number_of_word : List ℕ → Result ℤ Code
 number_of_word word = in_32_bits (number_written word)
-
--- profile: a number that fits 64 bits, or 2^63 - 1 for one that doesn't
-abbrev pub fits_64_bits : ℤ → Bool
-fits_64_bits (pos n) = nat_lt n (2 ^ 63)
-fits_64_bits (negsuc n) = nat_lt n (2 ^ 63)
-
--- profile: the number, capped so
-abbrev pub capped : ℤ → ℤ
-capped n = if fits_64_bits n then n else pos (2 ^ 63 - 1)
-
--- profile: the number of a number word, as far as it fits 64 bits
-unfoldable pub number_word : List ℕ → Option ℤ
-number_word word = if is_number_word word then Some (capped (number_written word)) else None
 
 -- Type 1 Font Format, Chapter 6 (charstring command encoding): each command and the word that names it, by their codes
 unfoldable pub operator_words : List (List ℕ × Command)

@@ -1,6 +1,6 @@
 //! The names of StandardEncoding.
 ghost use Rattle.std.specs.Prelude.{◌≡◌, option_map};
-ghost use Rattle.t1_code.specs.Encoding.{standard_name as name_of, named_in};
+ghost use Rattle.t1_code.specs.Encoding.{standard_name as name_of, named_in, is_standard_name as is_named, has_name};
 
 /// Each code of StandardEncoding that has a name, and the name.
 const NAMES: [(u8, &str); 149] = [
@@ -173,4 +173,24 @@ fn find(names: &[(u8, &'static str)], code: u8) -> Option<&'static str>
         }
     }
     None
+}
+
+/// Whether StandardEncoding gives the name to a code.
+#[tactic(auto, unfolding(crate::specs::Encoding::is_standard_name, crate::specs::Encoding::standard_names))]
+pub fn is_standard_name(name: &[u8]) -> bool
+    ensures { result ≡ is_named name.now }
+{
+    is_among(&NAMES, name)
+}
+
+/// Whether a table has the name.
+fn is_among(names: &[(u8, &'static str)], name: &[u8]) -> bool
+    ensures { result ≡ has_name names.now name.now }
+{
+    for (_, known) in names {
+        if known.as_bytes() == name {
+            return true;
+        }
+    }
+    false
 }

@@ -43,12 +43,9 @@ fn names_codes(rt: HostRuntime) -> Result<(), Fail> {
 }
 
 #[test]
-fn reads_number_words(rt: HostRuntime) -> Result<(), Fail> {
-    assert_eq!(rt; number_word(b"-0012"), Some(-12));
-    assert_eq!(rt; number_word(b"9223372036854775808"), Some(i64::MAX));
-    assert_eq!(rt; number_word(b"-"), None);
-    assert_eq!(rt; number_word(b"1.5"), None);
-    Ok(())
+fn knows_standard_names(rt: HostRuntime) {
+    assert!(rt; is_standard_name(b"germandbls"));
+    assert!(rt; !is_standard_name(b"Aacute"));
 }
 
 /// A writer over memory that takes one byte a call, and fails a call that hands it more than 4,096.

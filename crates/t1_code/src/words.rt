@@ -3,13 +3,15 @@ ghost use Rattle.std.specs.Prelude.{◌≡◌, ◌<◌, ◌≤◌, [], ◌∷◌
 ghost use Rattle.t1_frac.specs.Outcome.{Gives, told_at};
 ghost use Rattle.t1_frac.specs.Words.{word_goes_on, words};
 ghost use Rattle.t1_frac.specs.declared.fault.Place.TheVariants.{Nowhere};
-ghost use Rattle.t1_code.specs.Words.{signed, number_command, in_32_bits, first_word, is_number_word, or_unknown, operator_named, command_of_word, command_then, commands_of_words, commands};
+ghost use Rattle.t1_code.specs.Words.{number_command, in_32_bits, first_word, or_unknown, operator_named, command_of_word, command_then, commands_of_words, commands};
+ghost use Rattle.t1_frac.specs.Numbers.{signed, is_number_word};
 
 use crate::body::Body;
 use crate::command::Command;
-use crate::number::{digits, leading_number};
 use std::alloc::Global;
-use t1_frac::{Code, Refusal, Words, is_blank, next_word, skip_blanks};
+use t1_frac::{
+    Code, Refusal, Words, digits_of_word, is_blank, leading_number, next_word, skip_blanks,
+};
 
 /// The most words of a body.
 const MAX_WORDS: usize = 65_535;
@@ -47,7 +49,7 @@ fn first_number(text: &[u8]) -> Option<(Result<Command, Code>, &[u8])>
         (is_number_word (first_word text.now) ≡ false)
         (λ found. (found.0 ≡ command_of_word (first_word text.now)) × (words text.now ≡ first_word text.now ∷ words found.1.now)) }
 {
-    let digits = digits(text);
+    let digits = digits_of_word(text);
     let (size, count) = leading_number(digits);
     let after = digits.split_at(count).1;
     if count == 0 {

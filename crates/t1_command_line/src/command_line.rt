@@ -1,4 +1,9 @@
 //! What the command line looks like.
+ghost use Rattle.std.specs.Prelude.{◌≡◌, false, IfOk};
+ghost use Rattle.clap.specs.Words.{app_of, rule_of};
+ghost use Rattle.t1_command_line.specs.CommandLine.{alone, program};
+ghost use Rattle.t1_command_line.specs.CommandLine.{source as source_rule, kern as kern_rule, output as output_rule, block as block_rule, pfa as pfa_rule, code as code_rule};
+ghost use Rattle.t1_command_line.specs.CommandLine.{assemble as assemble_shape, measure as measure_shape, check as check_shape, session as session_shape, explain as explain_shape};
 
 use crate::help::Helps;
 use clap::{Arg, ArgAction, Command};
@@ -7,7 +12,10 @@ use std::alloc::{AllocError, Global};
 const VERSION: &str = "0.1.0";
 
 /// The argument that names the source.
-fn source<'a>(alloc: Global) -> Arg<'a> {
+fn source<'a>(alloc: Global) -> Arg<'a>
+    ensures rule { rule_of result ≡ source_rule }
+    ensures local { result.global ≡ false }
+{
     Arg::new(alloc, "SOURCE")
         .help("The readable source of a Type 1 font, as t1disasm writes it; - for standard input")
         .required(true)
@@ -15,7 +23,10 @@ fn source<'a>(alloc: Global) -> Arg<'a> {
 }
 
 /// The argument that names the source of a session.
-fn source_file<'a>(alloc: Global) -> Arg<'a> {
+fn source_file<'a>(alloc: Global) -> Arg<'a>
+    ensures rule { rule_of result ≡ source_rule }
+    ensures local { result.global ≡ false }
+{
     Arg::new(alloc, "SOURCE")
         .help("The readable source of a Type 1 font, as t1disasm writes it")
         .required(true)
@@ -23,7 +34,10 @@ fn source_file<'a>(alloc: Global) -> Arg<'a> {
 }
 
 /// The option that names a kerning file.
-fn kern<'a>(alloc: Global, help: &'a str) -> Arg<'a> {
+fn kern<'a>(alloc: Global, help: &'a str) -> Arg<'a>
+    ensures rule { rule_of result ≡ kern_rule }
+    ensures local { result.global ≡ false }
+{
     Arg::new(alloc, "kern")
         .long("kern")
         .value_name("FILE")
@@ -39,7 +53,10 @@ const KERN: &str =
 const KERN_FILE: &str = "A file with the kerning pairs, of which the KPX lines count";
 
 /// The option that names a file for the output.
-fn output<'a>(alloc: Global) -> Arg<'a> {
+fn output<'a>(alloc: Global) -> Arg<'a>
+    ensures rule { rule_of result ≡ output_rule }
+    ensures local { result.global ≡ false }
+{
     Arg::new(alloc, "output")
         .short('o')
         .long("output")
@@ -49,7 +66,10 @@ fn output<'a>(alloc: Global) -> Arg<'a> {
 }
 
 /// The option that cuts a PFB file into blocks.
-fn block<'a>(alloc: Global) -> Result<Arg<'a>, AllocError> {
+fn block<'a>(alloc: Global) -> Result<Arg<'a>, AllocError>
+    ensures rule { IfOk result (λ arg. rule_of arg ≡ block_rule) }
+    ensures local { IfOk result (λ arg. arg.global ≡ false) }
+{
     Arg::new(alloc, "block")
         .short('l')
         .long("block")
@@ -60,7 +80,10 @@ fn block<'a>(alloc: Global) -> Result<Arg<'a>, AllocError> {
 }
 
 /// The option that asks for a PFA file.
-fn pfa<'a>(alloc: Global) -> Arg<'a> {
+fn pfa<'a>(alloc: Global) -> Arg<'a>
+    ensures rule { rule_of result ≡ pfa_rule }
+    ensures local { result.global ≡ false }
+{
     Arg::new(alloc, "pfa")
         .short('a')
         .long("pfa")
@@ -69,13 +92,18 @@ fn pfa<'a>(alloc: Global) -> Arg<'a> {
 }
 
 /// The argument that names what is to be explained.
-fn code<'a>(alloc: Global) -> Arg<'a> {
+fn code<'a>(alloc: Global) -> Arg<'a>
+    ensures rule { rule_of result ≡ code_rule }
+    ensures local { result.global ≡ false }
+{
     Arg::new(alloc, "CODE")
         .help("A code as F37, a rule as E4, or an exit status as 3; without it, all are listed")
         .action(ArgAction::Set)
 }
 
-fn assemble<'a>(alloc: Global, helps: &'a Helps) -> Result<Command<'a>, AllocError> {
+fn assemble<'a>(alloc: Global, helps: &'a Helps) -> Result<Command<'a>, AllocError>
+    ensures { IfOk result (λ command. app_of command ≡ alone assemble_shape) }
+{
     Command::new(alloc, "assemble")
         .about("Writes the PFB or the PFA file of a source")
         .after_long_help(helps.assemble.as_str())
@@ -85,7 +113,9 @@ fn assemble<'a>(alloc: Global, helps: &'a Helps) -> Result<Command<'a>, AllocErr
         .arg(source(alloc))
 }
 
-fn measure<'a>(alloc: Global, helps: &'a Helps) -> Result<Command<'a>, AllocError> {
+fn measure<'a>(alloc: Global, helps: &'a Helps) -> Result<Command<'a>, AllocError>
+    ensures { IfOk result (λ command. app_of command ≡ alone measure_shape) }
+{
     Command::new(alloc, "measure")
         .about("Runs every glyph and writes the AFM file of a source")
         .after_long_help(helps.measure.as_str())
@@ -94,7 +124,9 @@ fn measure<'a>(alloc: Global, helps: &'a Helps) -> Result<Command<'a>, AllocErro
         .arg(source(alloc))
 }
 
-fn check<'a>(alloc: Global, helps: &'a Helps) -> Result<Command<'a>, AllocError> {
+fn check<'a>(alloc: Global, helps: &'a Helps) -> Result<Command<'a>, AllocError>
+    ensures { IfOk result (λ command. app_of command ≡ alone check_shape) }
+{
     Command::new(alloc, "check")
         .about("Judges a source as measure does, and writes nothing")
         .after_long_help(helps.measure.as_str())
@@ -102,7 +134,9 @@ fn check<'a>(alloc: Global, helps: &'a Helps) -> Result<Command<'a>, AllocError>
         .arg(source(alloc))
 }
 
-fn session<'a>(alloc: Global, helps: &'a Helps) -> Result<Command<'a>, AllocError> {
+fn session<'a>(alloc: Global, helps: &'a Helps) -> Result<Command<'a>, AllocError>
+    ensures { IfOk result (λ command. app_of command ≡ alone session_shape) }
+{
     Command::new(alloc, "session")
         .about("Edits and prints a source by commands from standard input")
         .after_long_help(helps.session.as_str())
@@ -110,15 +144,19 @@ fn session<'a>(alloc: Global, helps: &'a Helps) -> Result<Command<'a>, AllocErro
         .arg(source_file(alloc))
 }
 
-fn explain<'a>(alloc: Global, helps: &'a Helps) -> Result<Command<'a>, AllocError> {
+fn explain<'a>(alloc: Global, helps: &'a Helps) -> Result<Command<'a>, AllocError>
+    ensures { IfOk result (λ command. app_of command ≡ alone explain_shape) }
+{
     Command::new(alloc, "explain")
         .about("Says what a code, a rule or an exit status means, and what to do")
         .after_long_help(helps.program.as_str())
         .arg(code(alloc))
 }
 
-/// The commands of the program.
-pub fn command<'a>(alloc: Global, helps: &'a Helps) -> Result<Command<'a>, AllocError> {
+/// The command line of the program: its commands, and the arguments that each takes.
+pub fn command<'a>(alloc: Global, helps: &'a Helps) -> Result<Command<'a>, AllocError>
+    ensures { IfOk result (λ command. app_of command ≡ program) }
+{
     Command::new(alloc, "t1edit")
         .version(VERSION)
         .about("An assembler for Adobe Type 1 fonts")

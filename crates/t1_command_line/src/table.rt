@@ -1,5 +1,9 @@
 //! Every code, rule and status that the program answers, with its meaning: the one table of their texts.
 
+ghost use Rattle.std.specs.Prelude.{◌≡◌, map};
+ghost use Rattle.t1_command_line.specs.Codes.{outline_of, of_program, of_assembling, of_measuring};
+ghost use Rattle.t1_command_line.specs.Codes.{reading as reading_outline, kerning as kerning_outline, bodies as bodies_outline, runs as runs_outline, rules as rules_outline, statuses as statuses_outline};
+
 use crate::topic::{Section, Topic};
 
 const READING: Section = Section {
@@ -554,41 +558,59 @@ const STATUSES: Section = Section {
 
 // Each section is handed out by a function of its own, since the prover looks through a whole constant wherever it stands.
 
-fn reading() -> Section {
+fn reading() -> Section
+    ensures { outline_of result ≡ reading_outline }
+{
     READING
 }
 
-fn kerning() -> Section {
+fn kerning() -> Section
+    ensures { outline_of result ≡ kerning_outline }
+{
     KERNING
 }
 
-fn bodies() -> Section {
+fn bodies() -> Section
+    ensures { outline_of result ≡ bodies_outline }
+{
     BODIES
 }
 
-fn runs() -> Section {
+fn runs() -> Section
+    ensures { outline_of result ≡ runs_outline }
+{
     RUNS
 }
 
-fn rules() -> Section {
+fn rules() -> Section
+    ensures { outline_of result ≡ rules_outline }
+{
     RULES
 }
 
-fn statuses() -> Section {
+fn statuses() -> Section
+    ensures { outline_of result ≡ statuses_outline }
+{
     STATUSES
 }
 
-/// All of them, in the order in which they are listed.
-pub fn all_sections() -> [Section; 6] {
+/// All of them, each code once, in the order in which they are listed.
+pub fn all_sections() -> [Section; 6]
+    ensures { map outline_of result ≡ of_program }
+{
     [reading(), kerning(), bodies(), runs(), rules(), statuses()]
 }
 
 /// What assembling can answer.
-pub fn of_assembling() -> [Section; 3] {
+pub fn of_assembling() -> [Section; 3]
+    ensures { map outline_of result ≡ of_assembling }
+{
     [reading(), bodies(), statuses()]
 }
 
 /// What measuring and checking can answer.
-pub fn of_measuring() -> [Section; 5] {
+pub fn of_measuring() -> [Section; 5]
+    ensures { map outline_of result ≡ of_measuring }
+{
     [reading(), kerning(), bodies(), runs(), statuses()]
 }

@@ -4,7 +4,7 @@ use Rattle.std.specs.Prelude.{codes}
 use Rattle.t1_frac.specs.declared.fault.Code.TheVariants.{F20, F23}
 use Rattle.t1_frac.specs.declared.fault.Place.TheVariants.{Nowhere, Glyph}
 use Rattle.t1_frac.specs.Outcome.{fault_at}
-use Rattle.t1_code.specs.Words.{is_number_word, number_word}
+use Rattle.t1_frac.specs.Numbers.{is_number_word, number_word}
 use Rattle.t1_text.specs.Lines.{unified}
 use Rattle.t1_source.specs.declared.edit.Edit.TheVariants as edits
 use Rattle.t1_source.specs.declared.edit.Rule.TheVariants.{E7, E8}

@@ -3,7 +3,7 @@ ghost use Rattle.std.specs.Prelude.{◌≡◌, ◌≤◌, ◌-◌, ◌^◌, IfSo
 ghost use Rattle.t1_commands.specs.Blocks.{block_size};
 ghost use Rattle.t1_commands.specs.Commands.{number_of};
 
-use t1_code::number_word;
+use t1_frac::number_word;
 
 /// The number of a word; the largest one, which no range has, for a word that is none or doesn't fit.
 #[tactic(auto, unfolding(crate::specs::Commands::number_of))]

@@ -1,6 +1,6 @@
 -- Fractions that aren't in lowest terms, compared and rounded.
 use Rattle.std.proofs.Common.{◌≡◌, ℕ, ◌+◌, ◌*◌, ◌<◌, ◌≤◌, ◌^◌, ◌⊎◌, inl, inr, ℤ, pos, negsuc, neg_ℤ, ◌+ℤ◌, ◌-ℤ◌, ◌*ℤ◌, Bool, true, false, arith, refl, sym, ◌∙◌, ap, mul-pos}
-use Rattle.std.specs.Prelude.{◌||◌, if◌then◌else◌, MatchResult, IfOk, Result, Ok, Err, Option, Some, None}
+use Rattle.std.specs.Prelude.{◌||◌, if◌then◌else◌, MatchResult, IfOk, Result, Ok, Err, Some}
 use Rattle.std.specs.Int.{int_div_euclid}
 use Rattle.std.specs.Int.RustNames.{unsigned_abs, int_lt}
 use Rattle.std.proofs.Math.Nat.{div-le_self, mul-le-mul, mul-le-mul_right, mul-lt-mul_of_pos_right}
@@ -19,7 +19,7 @@ use Rattle.t1_run.specs.declared.outline.Point.{Point}
 use Rattle.t1_extent.specs.Exacts.{raw, value_of}
 use Rattle.t1_frac.proofs.Exact.{lowest_same}
 use Rattle.t1_frac.proofs.Rounded.{round_alike}
-use Rattle.t1_extent.specs.Extremes.{Extremes, is_less, lesser, greater, reaching, unite, shifted, shift_checked, limit_check, move_check}
+use Rattle.t1_extent.specs.Extremes.{Extremes, is_less, lesser, greater, reaching, shifted, shift_checked, limit_check, move_check}
 use Rattle.t1_extent.proofs.Canonical.{lowest_above}
 use Rattle.t1_extent.proofs.Order.{IsUnder, under_trans, under_from_same, less_false}
 use Rattle.t1_extent.proofs.Checking.{is_below, is_above, check, below_under, above_under, exceeds_is}

@@ -8,6 +8,7 @@ pub mod Checking
 pub mod Summaries
 pub mod Exacts
 pub mod Sums
+pub mod Siding
 pub mod Slices
 pub mod Curves
 pub mod Ends

@@ -43,6 +43,15 @@ impl Exact {
         }
     }
 
+    /// A whole number of 39 bits.
+    pub(crate) fn over_one(n: i64) -> Exact
+        requires { unsigned_abs n ≤ 2 ^ 38 }
+        ensures value { raw result ≡ whole_of n }
+        ensures fine { result.den ≡ 1 }
+    {
+        Exact { num: n, den: 1 }
+    }
+
     /// A coordinate.
     pub fn of(a: &Frac) -> Exact
         requires { IsCoordinate a.now }

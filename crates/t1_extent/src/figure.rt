@@ -5,7 +5,7 @@ ghost use Rattle.t1_run.specs.Composite.{IsPoint};
 ghost use Rattle.t1_extent.specs.Exacts.{AreFine};
 ghost use Rattle.t1_extent.specs.Extremes.{IsWhole};
 
-use crate::corners::corners_extent;
+use crate::corners::whole_corners;
 use crate::distance::Distance;
 use crate::drawn::drawn_extent;
 use crate::extent::Extent;
@@ -59,7 +59,7 @@ impl Figure {
     {
         let start = Figure::first_point(segments)?;
         let drawn = drawn_extent(segments)?;
-        let corners = corners_extent(segments)?;
+        let corners = whole_corners(segments)?;
         Some(Figure {
             start,
             drawn,

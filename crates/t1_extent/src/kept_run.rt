@@ -1,10 +1,12 @@
 //! What is kept of a glyph's run: of its segments no more than moves by fractions need.
 
-ghost use Rattle.std.specs.Prelude.{◌≡◌, All, IfOk, option_map};
+ghost use Rattle.std.specs.Prelude.{◌≡◌, ◌||◌, true, All, IfOk, IfSome, option_map};
 ghost use Rattle.std.specs.Option.{option_copied};
-ghost use Rattle.t1_run.specs.Composite.{IsWithin};
+ghost use Rattle.t1_code.specs.Encoding.{is_standard_name as is_standard};
+ghost use Rattle.t1_run.specs.Composite.{HasStandardParts, IsWithin};
 ghost use Rattle.t1_afm.specs.Box.{drawn_box};
-ghost use Rattle.t1_extent.specs.Kept.{IsShape, IsTrace, segments_kept};
+ghost use Rattle.t1_extent.specs.Extremes.{is_whole_outline as is_whole};
+ghost use Rattle.t1_extent.specs.Kept.{IsShape, IsTrace, has_trace, kept_as, segments_kept, traces};
 ghost use Rattle.t1_extent.specs.Reached.{IsReach};
 
 use crate::corners::corners_extent;
@@ -14,6 +16,7 @@ use crate::wholes::is_whole_outline;
 use std::alloc::{AllocError, Global};
 use std::marker::Model;
 use t1_afm::{BBox, bounding_box};
+use t1_code::is_standard_name;
 use t1_frac::Bytes;
 use t1_run::{Composite, Point, Run, Segment};
 use t1_shadow::Shadow;
@@ -31,6 +34,8 @@ pub enum Shape {
     /// Its figure where it draws; all its coordinates are whole.
     Whole(Option<Figure>),
     Mixed(Mixed),
+    /// How far it reaches; some of its coordinates have fractions, and its segments aren't kept.
+    Reach(Reached),
 }
 
 /// What moves of an outline need of it.
@@ -55,16 +60,22 @@ fn mixed_reach(segments: &[Segment]) -> Reached
 }
 
 impl Shape {
-    /// What is kept of an outline.
-    fn of(alloc: Global, segments: &[Segment]) -> Result<Shape, AllocError>
+    /// What is kept of what a glyph of this name draws. Only under a name of StandardEncoding can it be a part of a
+    /// composite, and only a part is moved.
+    fn of(alloc: Global, name: &[u8], segments: &[Segment]) -> Result<Shape, AllocError>
         requires { All IsWithin segments.now }
-        ensures { IfOk result (λ shape. IsShape shape segments.now) }
+        ensures shape { IfOk result (λ shape. IsShape shape segments.now) }
+        ensures trace { IfOk result (λ shape. has_trace shape ≡ (is_whole segments.now || is_standard name.now)) }
     {
         if is_whole_outline(segments) {
             return Ok(Shape::Whole(Figure::of(segments)));
         }
+        let reached = mixed_reach(segments);
+        if !is_standard_name(name) {
+            return Ok(Shape::Reach(reached));
+        }
         Ok(Shape::Mixed(Mixed {
-            reached: mixed_reach(segments),
+            reached,
             segments: Vec::from_slice(alloc, segments)?,
         }))
     }
@@ -97,7 +108,7 @@ fn copied_composite(
 }
 
 /// A run of which memory holds what can be asked of it. Contracts see the whole run; its segments are in memory only where
-/// some of their coordinates have fractions.
+/// some of their coordinates have fractions and its glyph may be a part of a composite.
 #[derive(Drop)]
 pub struct KeptRun {
     width: Point,
@@ -111,14 +122,17 @@ pub struct KeptRun {
 }
 
 impl Model for KeptRun {
-    ghost use Rattle.std.specs.Prelude.{◌≡◌, All};
-    ghost use Rattle.t1_run.specs.Composite.{IsWithin};
-    ghost use Rattle.t1_run.specs.Run.{NumberedRun};
-    ghost use Rattle.t1_extent.specs.Kept.{IsShape};
+    ghost use Rattle.std.specs.Prelude.{◌≡◌, All, IfSome};
+    ghost use Rattle.t1_run.specs.Composite.{HasStandardParts, IsWithin};
+    ghost use Rattle.t1_extent.specs.Kept.{IsShape, TracedRun, has_trace};
 
-    ghost Value = { NumberedRun };
+    ghost Value = { TracedRun };
 
-    ghost view = { λ r. r.run.value };
+    ghost view = { λ r. record {
+      drawing = r.run.value.drawing;
+      serial = r.run.value.serial;
+      is_traced = has_trace r.shape;
+    } };
 
     ghost invariant = { λ r. (r.width ≡ r.run.value.drawing.width)
         × (r.bearing ≡ r.run.value.drawing.bearing)
@@ -127,15 +141,17 @@ impl Model for KeptRun {
         × (r.steps ≡ r.run.value.drawing.steps)
         × (r.serial ≡ r.run.value.serial)
         × All IsWithin r.run.value.drawing.segments
+        × IfSome r.run.value.drawing.composite HasStandardParts
         × IsShape r.shape r.run.value.drawing.segments };
 }
 
 impl KeptRun {
-    /// What is kept of a run, which is dropped.
-    pub fn of(alloc: Global, run: Run) -> Result<KeptRun, AllocError>
-        ensures { IfOk result (λ kept. kept ≡ run) }
+    /// What is kept of the run of a glyph of this name. The run is dropped.
+    pub fn of(alloc: Global, name: &[u8], run: Run) -> Result<KeptRun, AllocError>
+        ensures kept { IfOk result (λ kept. kept ≡ kept_as name.now run) }
+        ensures traced { IfOk result (λ kept. traces name.now kept ≡ true) }
     {
-        let shape = Shape::of(alloc, run.segments())?;
+        let shape = Shape::of(alloc, name, run.segments())?;
         let composite = copied_composite(alloc, run.composite())?;
         let entered = Vec::from_slice(alloc, run.entered())?;
         Ok(KeptRun {
@@ -166,7 +182,8 @@ impl KeptRun {
 
     /// The parts of a glyph that ended by seac.
     pub fn composite(&self) -> Option<&Composite>
-        ensures { option_copied result ≡ self.now.drawing.composite }
+        ensures parts { option_copied result ≡ self.now.drawing.composite }
+        ensures names { IfSome self.now.drawing.composite HasStandardParts }
     {
         self.composite.as_ref()
     }
@@ -192,24 +209,27 @@ impl KeptRun {
         self.serial
     }
 
-    /// What the glyph itself draws, without its parts, where some of its coordinates have fractions.
+    /// What the glyph itself draws, without its parts, where some of its coordinates have fractions and its trace is kept.
     pub fn segments(&self) -> Option<&[Segment]>
-        ensures { option_map (λ segments. segments.now) result ≡ segments_kept self.now.drawing.segments }
+        ensures { option_map (λ segments. segments.now) result ≡ segments_kept self.now.is_traced self.now.drawing.segments }
     {
         match &self.shape {
             Shape::Whole(_) => None,
             Shape::Mixed(mixed) => Some(mixed.segments.as_slice()),
+            Shape::Reach(_) => None,
         }
     }
 
     /// What moves of what the glyph itself draws need of it.
     pub fn trace(&self) -> Trace<'_>
+        requires { self.now.is_traced ≡ true }
         ensures trace { IsTrace result self.now.drawing.segments }
         ensures within { All IsWithin self.now.drawing.segments }
     {
         match &self.shape {
             Shape::Whole(figure) => Trace::Whole(*figure),
             Shape::Mixed(mixed) => Trace::Segments(mixed.segments.as_slice()),
+            Shape::Reach(_) => unreachable!(),
         }
     }
 
@@ -220,6 +240,7 @@ impl KeptRun {
         match &self.shape {
             Shape::Whole(figure) => Figure::reach(*figure),
             Shape::Mixed(mixed) => mixed.reached,
+            Shape::Reach(reached) => *reached,
         }
     }
 

@@ -15,11 +15,12 @@ mod moves;
 mod outline_reach;
 mod reach;
 mod reached;
+mod sides;
 mod turns;
 mod wholes;
 
 pub use boxes::moved_box;
-pub use corners::{corners_extent, unite};
+pub use corners::{corners_extent, unite, whole_corners};
 pub use distance::Distance;
 pub use drawn::drawn_extent;
 pub use exact::Exact;
@@ -30,6 +31,7 @@ pub use kept_runs::KeptRuns;
 pub use outline_reach::{box_of, reach_of};
 pub use reach::{Reach, cubic_reach};
 pub use reached::{Drawn, Reached};
+pub use sides::Sides;
 pub use wholes::{is_whole, is_whole_outline};
 
 #[cfg(test)]

@@ -1,8 +1,9 @@
 //! How far the outlines of glyphs reach whose runs are kept.
 
-ghost use Rattle.std.specs.Prelude.{◌≡◌, All, Ok, IsOk};
+ghost use Rattle.std.specs.Prelude.{◌≡◌, true, All, Ok, IsOk};
 ghost use Rattle.t1_frac.specs.Outcome.{Gives, told_at};
 ghost use Rattle.t1_frac.specs.declared.fault.Place.TheVariants.{Nowhere};
+ghost use Rattle.t1_code.specs.Encoding.{is_standard_name};
 ghost use Rattle.t1_run.specs.Composite.{outline_within};
 ghost use Rattle.t1_extent.specs.Extremes.{is_whole as is_whole_of};
 ghost use Rattle.t1_extent.specs.Laws.{IsDistance};
@@ -24,6 +25,7 @@ use t1_run::Point;
 fn own_through(run: &KeptRun, moves: &[Point], last: &Point) -> Result<Reached, Code>
     requires moves { All IsDistance moves.now }
     requires last { IsDistance last.now }
+    requires traced { run.now.is_traced ≡ true }
     requires passed { IsOk (in_turn moves.now run.now.drawing.segments) }
     ensures { TellsAtOnce result (through moves.now last.now run.now.drawing.segments) }
 {
@@ -33,7 +35,7 @@ fn own_through(run: &KeptRun, moves: &[Point], last: &Point) -> Result<Reached, 
     }
 }
 
-/// How far the outline of a glyph reaches, in which composites nest so deep, moved by the moves in turn and then by the
+/// How far the outline of a part reaches, in which composites nest so deep, moved by the moves in turn and then by the
 /// last. Without the last it isn't refused. No segments are joined.
 fn moved_reach<R: KeptRuns>(
     alloc: Global,
@@ -45,6 +47,7 @@ fn moved_reach<R: KeptRuns>(
 ) -> Result<Reached, Refusal>
     requires moves { All IsDistance moves.now }
     requires last { IsDistance last.now }
+    requires part { is_standard_name name.now ≡ true }
     requires passed { IsOk (given_in_turn moves.now (outline_within (R.drawn runs.now) depth name.now)) }
     ensures { Tells result (given_through moves.now last.now (outline_within (R.drawn runs.now) depth name.now)) }
 {
@@ -83,6 +86,7 @@ fn accent_reach<R: KeptRuns>(
     accent: &Reached,
     by: &Move,
 ) -> Result<Reached, Refusal>
+    requires part { is_standard_name name.now ≡ true }
     requires accent { Tells (Ok accent.now) (outline_within (R.drawn runs.now) depth name.now) }
     requires distance { IsDistance by.now.by }
     requires whole { by.now.is_whole ≡ is_whole_of by.now.by }

@@ -1,9 +1,10 @@
 //! Worked rows.
 
-ghost use Rattle.std.specs.Prelude.{◌≡◌, IfSome, Some, Ok};
+ghost use Rattle.std.specs.Prelude.{◌≡◌, true, IfSome, Some, Ok};
 ghost use Rattle.t1_run.specs.Composite.{IsPoint, IsWithin};
 ghost use Rattle.t1_extent.specs.Extremes.{IsWhole, IsWholeSegment, limit_check};
 ghost use Rattle.t1_extent.specs.Exacts.{extremes_of};
+ghost use Rattle.t1_extent.specs.Kept.{traces};
 
 use super::*;
 use indexmap::IndexMap;
@@ -155,24 +156,34 @@ fn whole_outlines_are_known(rt: HostRuntime) {
     assert!(rt; is_whole_accent() == Some(false));
 }
 
+/// What is kept of the run of a glyph, under its name.
+#[derive(Drop)]
+struct Glyph {
+    name: Vec<u8>,
+    run: KeptRun,
+    ghost traced: { traces name.items run ≡ true },
+}
+
 /// What is kept of the runs of glyphs.
 #[derive(Drop)]
 struct Font {
-    runs: IndexMap<Vec<u8>, KeptRun>,
+    glyphs: Vec<Glyph>,
 }
 
 impl KeptRuns for Font {
     ghost use Rattle.std.specs.Prelude.{option_map, Ok};
-    ghost use Rattle.std.specs.Map.{lookup};
+    ghost use Rattle.std.specs.List.{find};
     ghost use Rattle.std.specs.Str.{bytes_eq};
 
-    ghost drawn = { λ font name. option_map (λ run. Ok run.drawing) (lookup (λ key. bytes_eq name key.items) font.runs.entries) };
+    ghost drawn = { λ font name. option_map (λ glyph. Ok glyph.run.drawing) (find (λ glyph. bytes_eq glyph.name.items name) font.glyphs.items) };
 
     fn run_of(&self, name: &[u8]) -> Option<Result<&KeptRun, Code>> {
-        match self.runs.get(name) {
-            None => None,
-            Some(run) => Some(Ok(run)),
+        for glyph in &self.glyphs {
+            if glyph.name.as_slice() == name {
+                return Some(Ok(&glyph.run));
+            }
         }
+        None
     }
 }
 
@@ -186,12 +197,14 @@ fn add_body(alloc: Global, bodies: &mut Plain, name: &str, words: &str) -> Resul
 }
 
 /// What is kept of a glyph's run.
-fn kept_of(alloc: Global, bodies: &Plain, name: &[u8]) -> Result<KeptRun, Fail> {
+fn kept_of(alloc: Global, bodies: &Plain, name: &[u8]) -> Result<Glyph, Fail> {
     if bodies.glyph(name).is_none() {
         return Err(Fail::new("no such glyph"));
     }
     let run = run(alloc, bodies, name, &mut Meter::new())?;
-    Ok(KeptRun::of(alloc, run)?)
+    let run = KeptRun::of(alloc, name, run)?;
+    let name = Vec::from_slice(alloc, name)?;
+    Ok(Glyph { name, run })
 }
 
 /// What is kept of the runs of these glyphs, each a name and a body.
@@ -203,15 +216,11 @@ fn kept_font(alloc: Global, glyphs: &[[&str; 2]]) -> Result<Font, Fail> {
     for glyph in glyphs {
         add_body(alloc, &mut bodies, glyph[0], glyph[1])?;
     }
-    let mut runs = IndexMap::new(alloc);
+    let mut kept = Vec::new(alloc);
     for glyph in glyphs {
-        let name = glyph[0].as_bytes();
-        runs.insert(
-            Vec::from_slice(alloc, name)?,
-            kept_of(alloc, &bodies, name)?,
-        )?;
+        kept.push(kept_of(alloc, &bodies, glyph[0].as_bytes())?)?;
     }
-    Ok(Font { runs })
+    Ok(Font { glyphs: kept })
 }
 
 /// The box of one of these glyphs, or its fault.
@@ -346,28 +355,33 @@ fn a_composite_of_itself_is_too_deep(rt: HostRuntime) -> Result<(), Fail> {
     Ok(())
 }
 
-/// How many segments are kept of a glyph's run.
-fn segments_kept(alloc: Global, words: &str) -> Result<Option<usize>, Fail> {
-    let font = kept_font(alloc, &[["A", words]])?;
-    match font.run_of(b"A") {
+/// How many segments are kept of the run of a glyph of this name.
+fn segments_kept(alloc: Global, name: &str, words: &str) -> Result<Option<usize>, Fail> {
+    let font = kept_font(alloc, &[[name, words]])?;
+    match font.run_of(name.as_bytes()) {
         Some(Ok(run)) => Ok(run.segments().map(|segments| segments.len())),
-        _ => Err(Fail::new("no A")),
+        _ => Err(Fail::new("no such glyph")),
     }
 }
 
 #[test]
 fn whole_segments_are_dropped(rt: HostRuntime) -> Result<(), Fail> {
-    let kept = segments_kept(rt.alloc(), "0 250 hsbw 10 20 rlineto 5 hlineto endchar")?;
-    assert!(rt; kept == None);
+    let words = "0 250 hsbw 10 20 rlineto 5 hlineto endchar";
+    assert!(rt; segments_kept(rt.alloc(), "A", words)? == None);
+    Ok(())
+}
+
+/// A glyph named A may be a part of a composite: StandardEncoding has its name.
+#[test]
+fn segments_of_parts_with_fractions_are_kept(rt: HostRuntime) -> Result<(), Fail> {
+    let words = "0 250 hsbw 10 1 3 div rlineto 5 hlineto endchar";
+    assert!(rt; segments_kept(rt.alloc(), "A", words)? == Some(2));
     Ok(())
 }
 
 #[test]
-fn segments_with_fractions_are_kept(rt: HostRuntime) -> Result<(), Fail> {
-    let kept = segments_kept(
-        rt.alloc(),
-        "0 250 hsbw 10 1 3 div rlineto 5 hlineto endchar",
-    )?;
-    assert!(rt; kept == Some(2));
+fn segments_of_other_glyphs_are_dropped(rt: HostRuntime) -> Result<(), Fail> {
+    let words = "0 250 hsbw 10 1 3 div rlineto 5 hlineto endchar";
+    assert!(rt; segments_kept(rt.alloc(), "Aacute", words)? == None);
     Ok(())
 }

@@ -9,9 +9,9 @@ use Rattle.std.specs.Str.{bytes_eq}
 use Rattle.std.proofs.lemmas.Bool.{cases_Bool}
 use Rattle.std.proofs.lemmas.Slice.Eq.{bytes_eq-Decides}
 use Rattle.t1_frac.specs.declared.fault.Code.{Code}
-use Rattle.t1_run.specs.Run.{FontBodies, NumberedRun, own}
-use Rattle.t1_font.specs.Runs.{Kept, drawing_kept, kept_of, run_kept, own_among, counted, CountsSome, IsAfter}
-use Rattle.indexmap.specs.IndexMap.{insert_entry}
+use Rattle.t1_run.specs.Run.{FontBodies, own}
+use Rattle.t1_extent.specs.Kept.{TracedRun}
+use Rattle.t1_font.specs.Runs.{Kept, drawing_kept, kept_of, run_kept, own_among, counted, AreTraced, CountsSome, IsAfter, IsTracedAs}
 
 -- what is found, through a borrow
 pub copied-map : {X Y : Type 0} (view : X → Y) (r : Option (Bor X)) → option_map (λ x. view x.now) r ≡ option_map view (option_copied r)
@@ -28,38 +28,11 @@ same_bytes a b h = (bytes_eq-Decides a b).0 h
 pub bytes_self : (a : List ℕ) → bytes_eq a a ≡ true
 bytes_self a = (bytes_eq-Decides a a).1 refl
 
-cond-again : {X : Type 0} (b : Bool) (x y r : X) → cond b x r ≡ cond b x (cond b y r)
-cond-again true x y r = refl
-cond-again false x y r = refl
-
-cond-swap : {X : Type 0} (a b : Bool) (x y r : X) → (a ≡ true → b ≡ true → ⊥) → cond a x (cond b y r) ≡ cond b y (cond a x r)
-cond-swap true true x y r h = absurd (h refl refl)
-cond-swap true false x y r h = refl
-cond-swap false b x y r h = refl
-
 -- a look-up among names is that among the keys that have them
 pub lookup-names : {K X L : Type 0} (name : K → L) (test : L → Bool) (es : List (K × X))
     → lookup test (map (λ e. (name e.0, e.1)) es) ≡ lookup (λ k. test (name k)) es
 lookup-names name test [] = refl
 lookup-names name test (e ∷ es) = ap (cond (test (name e.0)) (Some e.1)) (lookup-names name test es)
-
--- a name that is put in has its new value, and each other name what it had
-pub lookup-inserted : {K X : Type 0} (name : K → List ℕ) (g : List ℕ) (k : K) (v : X) (es : List (K × X))
-    → lookup (λ x. bytes_eq g (name x)) (insert_entry (λ x y. bytes_eq (name x) (name y)) es k v)
-    ≡ cond (bytes_eq g (name k)) (Some v) (lookup (λ x. bytes_eq g (name x)) es)
-lookup-inserted name g k v [] = refl
-lookup-inserted name g k v (e ∷ es) =
-    let rest = lookup (λ x. bytes_eq g (name x)) es in
-    elim (cases_Bool (bytes_eq (name k) (name e.0))) [
-      | inl same ↦ rw (same, same_bytes (name k) (name e.0) same) (cond-again (bytes_eq g (name e.0)) (Some v) (Some e.1) rest)
-      | inr other ↦
-          rw other (
-          ap (cond (bytes_eq g (name e.0)) (Some e.1)) (lookup-inserted name g k v es)
-          ∙ cond-swap (bytes_eq g (name e.0)) (bytes_eq g (name k)) (Some e.1) (Some v) rest (λ p q.
-          let both : bytes_eq (name k) (name e.0) ≡ true = rw (← same_bytes g (name k) q, ← same_bytes g (name e.0) p) (bytes_self g) in
-          let never : false ≡ true = sym other ∙ both in
-          absurd (cc)))
-    ]
 
 -- ---- a name that is taken out
 
@@ -101,7 +74,7 @@ or-cond true false all one r h = refl
 or-cond false true all one r h = sym (h refl)
 or-cond false false all one r h = refl
 
-pub one-more : (m : FontBodies) (rest : List (List ℕ)) (old new : List Kept) (names : List (List ℕ)) (name : List ℕ) (kept : Result NumberedRun Code)
+pub one-more : (m : FontBodies) (rest : List (List ℕ)) (old new : List Kept) (names : List (List ℕ)) (name : List ℕ) (kept : Result TracedRun Code)
     → Some (drawing_kept kept) ≡ own m name → ((q : List ℕ) → run_kept new q ≡ cond (bytes_eq q name) (Some kept) (run_kept old q))
     → RunsInFront m (name ∷ rest) old names → RunsInFront m rest new names
 one-more m rest old new names name kept is put h q =
@@ -115,14 +88,33 @@ one-more m rest old new names name kept is put h q =
 pub name-first : (names : List (Bor (List ℕ))) (i : ℕ) (d : Bor (List ℕ)) → i < length names → drop i names ≡ get_or names i d ∷ drop (i + 1) names
 name-first names i d h = rw (add-one, drop-cons names i d) refl
 
+-- ---- runs whose traces are kept
+
+traced-cond : (g : List ℕ) (b : Bool) (x r : Option (Result TracedRun Code)) → (b ≡ true → IsTracedAs g x) → IsTracedAs g r → IsTracedAs g (cond b x r)
+traced-cond g true x r h k = h refl
+traced-cond g false x r h k = k
+
+-- a run that is put in keeps its trace, as those do that were there
+pub one-traced : (old new : List Kept) (name : List ℕ) (kept : Result TracedRun Code)
+    → ((q : List ℕ) → run_kept new q ≡ cond (bytes_eq q name) (Some kept) (run_kept old q)) → IsTracedAs name (Some kept) → AreTraced old → AreTraced new
+one-traced old new name kept put h others q =
+    subst (IsTracedAs q) (sym (put q))
+    (traced-cond q (bytes_eq q name) (Some kept) (run_kept old q) (λ same. subst (λ g. IsTracedAs g (Some kept)) (sym (same_bytes q name same)) h) (others q))
+
+-- those that are left where one was taken out keep theirs
+pub rest-traced : (old new : List Kept) (name : List ℕ) → ((q : List ℕ) → run_kept new q ≡ cond (bytes_eq name q) None (run_kept old q))
+    → AreTraced old → AreTraced new
+rest-traced old new name taken others q =
+    subst (IsTracedAs q) (sym (taken q)) (traced-cond q (bytes_eq name q) None (run_kept old q) (λ same. tt) (others q))
+
 -- ---- the numbers of runs
 
-after-cond : (count : ℕ) (b : Bool) (x r : Option (Result NumberedRun Code)) → IsAfter count x → IsAfter count r → IsAfter count (cond b x r)
+after-cond : (count : ℕ) (b : Bool) (x r : Option (Result TracedRun Code)) → IsAfter count x → IsAfter count r → IsAfter count (cond b x r)
 after-cond count true x r h k = h
 after-cond count false x r h k = k
 
 -- a run that is put in is later than the count, as those are that were there
-pub one-after : (count : ℕ) (old new : List Kept) (name : List ℕ) (kept : Result NumberedRun Code)
+pub one-after : (count : ℕ) (old new : List Kept) (name : List ℕ) (kept : Result TracedRun Code)
     → ((q : List ℕ) → run_kept new q ≡ cond (bytes_eq q name) (Some kept) (run_kept old q))
     → IsAfter count (Some kept) → ((q : List ℕ) → IsAfter count (run_kept old q)) → (q : List ℕ) → IsAfter count (run_kept new q)
 one-after count old new name kept put h others q =
@@ -133,7 +125,7 @@ counted-up count zero = omega arith
 counted-up count (suc n) = omega (arith, counted-up count n)
 
 -- what is after a later count is after an earlier one
-pub after-earlier : (count n : ℕ) (kept : Result NumberedRun Code) → IsAfter (counted count n) (Some kept) → IsAfter count (Some kept)
+pub after-earlier : (count n : ℕ) (kept : Result TracedRun Code) → IsAfter (counted count n) (Some kept) → IsAfter count (Some kept)
 after-earlier count n (Err code) h = tt
 after-earlier count n (Ok run) h = omega (arith, counted-up count n, h)
 

@@ -5,6 +5,7 @@ pub mod Filing
 pub mod Gathering
 pub mod Keeping
 pub mod LengthLaws
+pub mod Lookups
 pub mod Measuring
 pub mod Naming
 pub mod Ordering

@@ -20,7 +20,7 @@ use Rattle.t1_parts.specs.declared.item.Item.TheVariants.{Plain, Section, Subr, 
 use Rattle.t1_code.specs.declared.command.Command.{Command}
 use Rattle.t1_code.specs.Words.{commands}
 use Rattle.t1_run.specs.Composite.{outline, outline_within}
-use Rattle.t1_run.specs.Run.{FontBodies, Drawing, own, own_of, foot}
+use Rattle.t1_run.specs.Run.{FontBodies, own, own_of}
 use Rattle.t1_run.proofs.Agreeing.{own_same}
 use Rattle.t1_afm.specs.declared.bbox.BBox.{BBox}
 use Rattle.t1_afm.specs.Box.{drawn_box, font_box, united}

@@ -10,7 +10,8 @@ use Rattle.t1_frac.specs.Outcome.{fault_at}
 use Rattle.t1_parts.specs.declared.item.Item.{Item}
 use Rattle.t1_parts.specs.declared.item.Item.TheVariants.{Plain, Subr, Glyph}
 use Rattle.t1_code.specs.declared.command.Command.TheVariants.{Return}
-use Rattle.t1_code.specs.Words.{operator_named, operator_words, is_number_word, number_of_word, command_of_word, commands}
+use Rattle.t1_code.specs.Words.{operator_named, operator_words, number_of_word, command_of_word, commands}
+use Rattle.t1_frac.specs.Numbers.{is_number_word}
 use Rattle.t1_run.specs.Composite.{outline_within}
 use Rattle.t1_run.specs.Run.{Drawing}
 use Rattle.t1_run.specs.State.{origin}

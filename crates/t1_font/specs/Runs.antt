@@ -1,29 +1,40 @@
 -- Runs kept by the names of their glyphs.
-use Rattle.std.specs.Prelude.{◌≡◌, ◌≤◌, ℕ, zero, suc, ◌+◌, ◌-◌, ◌^◌, min, if◌then◌else◌, List, Option, None, Some, option_map, Result, Ok, Err}
+use Rattle.std.specs.Prelude.{◌≡◌, true, ◌≤◌, ℕ, zero, suc, ◌+◌, ◌-◌, ◌^◌, min, if◌then◌else◌, List, Option, None, Some, option_map, Result, Ok, Err}
 use Rattle.std.specs.List.{list_any}
 use Rattle.std.specs.Map.{lookup}
 use Rattle.std.specs.Str.{bytes_eq}
 use Rattle.t1_frac.specs.declared.fault.Code.{Code}
 use Rattle.t1_frac.specs.declared.fault.Refusal.{Refusal}
 use Rattle.t1_frac.specs.declared.fault.Refusal.TheVariants as refusals
-use Rattle.t1_run.specs.Run.{FontBodies, Drawing, NumberedRun, own}
+use Rattle.t1_run.specs.Run.{FontBodies, Drawing, own}
+use Rattle.t1_extent.specs.Kept.{TracedRun, traces}
 
 -- profile: what is kept of a run: what it draws, or its first fault
-abbrev pub drawing_kept : Result NumberedRun Code → Result Drawing Code
+abbrev pub drawing_kept : Result TracedRun Code → Result Drawing Code
 drawing_kept (Ok run) = Ok run.drawing
 drawing_kept (Err code) = Err code
 
 -- profile: a glyph's name, and its run with its number among the runs, or its first fault
 abbrev pub Kept : Type 0
-Kept = List ℕ × Result NumberedRun Code
+Kept = List ℕ × Result TracedRun Code
 
 -- profile: the run of the glyph of this name
-abbrev pub run_kept : List Kept → List ℕ → Option (Result NumberedRun Code)
+abbrev pub run_kept : List Kept → List ℕ → Option (Result TracedRun Code)
 run_kept runs name = lookup (bytes_eq name) runs
 
 -- profile: what is kept of the glyph of this name: what it draws, or its first fault
 abbrev pub kept_of : List Kept → List ℕ → Option (Result Drawing Code)
 kept_of runs name = option_map drawing_kept (run_kept runs name)
+
+-- profile: the run of the glyph of this name keeps its trace, unless the glyph can't be a part
+abbrev pub IsTracedAs : List ℕ → Option (Result TracedRun Code) → Type 0
+IsTracedAs name None = Unit {0}
+IsTracedAs name (Some (Err code)) = Unit {0}
+IsTracedAs name (Some (Ok run)) = traces name run ≡ true
+
+-- profile: so does each run
+abbrev pub AreTraced : List Kept → Type 0
+AreTraced runs = (g : List ℕ) → IsTracedAs g (run_kept runs g)
 
 -- profile: what the own bodies of these glyphs draw, or their first faults
 abbrev pub own_among : FontBodies → List (List ℕ) → List ℕ → Option (Result Drawing Code)
@@ -45,7 +56,7 @@ Counts runs old new (Err (refusals.Fault fault)) = new ≡ counted old runs
 Counts runs old new (Err refusals.Memory) = CountsSome runs old new
 
 -- profile: a run's number is after this count, or the last number that there is
-abbrev pub IsAfter : ℕ → Option (Result NumberedRun Code) → Type 0
+abbrev pub IsAfter : ℕ → Option (Result TracedRun Code) → Type 0
 IsAfter count None = Unit {0}
 IsAfter count (Some (Err code)) = Unit {0}
 IsAfter count (Some (Ok run)) = counted count 1 ≤ run.serial

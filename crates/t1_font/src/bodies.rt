@@ -11,7 +11,7 @@ ghost use Rattle.t1_font.specs.Bodies.{bodies, bodies_check, body_check, words_c
 use indexmap::IndexMap;
 use std::alloc::Global;
 use t1_code::{Body, compile};
-use t1_frac::{Bytes, Fault, Place, Refusal, Words};
+use t1_frac::{Bytes, Place, Refusal, Words};
 use t1_run::Plain;
 use t1_source::Item;
 
@@ -20,10 +20,7 @@ pub fn compiled_subr(alloc: Global, number: u16, words: &Words) -> Result<Body, 
     ensures { Gives (λ body. body) result (told_at (places.Subr number) (commands words.now)) }
 {
     match compile(alloc, words) {
-        Err(Refusal::Fault(fault)) => Err(Refusal::Fault(Fault {
-            code: fault.code,
-            place: Place::Subr(number),
-        })),
+        Err(refusal) => Err(refusal.at(Place::Subr(number))),
         compiled => compiled,
     }
 }
@@ -33,10 +30,7 @@ pub fn compiled_glyph(alloc: Global, name: &[u8], words: &Words) -> Result<Body,
     ensures { Gives (λ body. body) result (told_at (places.Glyph name.now) (commands words.now)) }
 {
     match compile(alloc, words) {
-        Err(Refusal::Fault(fault)) => Err(Refusal::Fault(Fault {
-            code: fault.code,
-            place: Place::Glyph(Bytes::copied(alloc, name)?),
-        })),
+        Err(refusal) => Err(refusal.at(Place::Glyph(Bytes::copied(alloc, name)?))),
         compiled => compiled,
     }
 }

@@ -10,7 +10,7 @@ use crate::numbers::SubrNumbers;
 use std::alloc::Global;
 use t1_afm::{BBox, unite};
 use t1_extent::{KeptRun, KeptRuns, box_of};
-use t1_frac::{Bytes, Code, Fault, Place, Refusal};
+use t1_frac::{Bytes, Code, Place, Refusal};
 use t1_run::{Point, accent_move};
 
 /// The parts of a composite, and how far its accent is moved.
@@ -112,10 +112,7 @@ fn placed_metrics<R: KeptRuns>(
         (told_at (places.Glyph name.now) (glyph_metrics_at (R.drawn runs.now) name.now)) }
 {
     match unplaced_metrics(alloc, runs, name) {
-        Err(Refusal::Fault(fault)) => Err(Refusal::Fault(Fault {
-            code: fault.code,
-            place: Place::Glyph(Bytes::copied(alloc, name)?),
-        })),
+        Err(refusal) => Err(refusal.at(Place::Glyph(Bytes::copied(alloc, name)?))),
         glyph => glyph,
     }
 }

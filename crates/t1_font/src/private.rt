@@ -10,7 +10,7 @@ ghost use Rattle.t1_font.specs.Lengths.{private_length};
 use itoa::Buffer;
 use std::alloc::{AllocError, Global};
 use t1_code::encrypt_words;
-use t1_frac::{Bytes, Fault, Place, Refusal, Words};
+use t1_frac::{Bytes, Place, Refusal, Words};
 use t1_source::Item;
 
 /// Adds a plain line with its end.
@@ -106,10 +106,7 @@ fn encrypt_subr(code: &mut Vec<u8>, lead: u8, number: u16, words: &Words) -> Res
     ensures { Gives (λ _. code.new.items) result (told_at (places.Subr number) (encrypted_words lead words.now)) }
 {
     match encrypt_words(code, lead, words) {
-        Err(Refusal::Fault(fault)) => Err(Refusal::Fault(Fault {
-            code: fault.code,
-            place: Place::Subr(number),
-        })),
+        Err(refusal) => Err(refusal.at(Place::Subr(number))),
         encrypted => encrypted,
     }
 }
@@ -125,10 +122,7 @@ fn encrypt_glyph(
     ensures { Gives (λ _. code.new.items) result (told_at (places.Glyph name.now) (encrypted_words lead words.now)) }
 {
     match encrypt_words(code, lead, words) {
-        Err(Refusal::Fault(fault)) => Err(Refusal::Fault(Fault {
-            code: fault.code,
-            place: Place::Glyph(Bytes::copied(alloc, name)?),
-        })),
+        Err(refusal) => Err(refusal.at(Place::Glyph(Bytes::copied(alloc, name)?))),
         encrypted => encrypted,
     }
 }

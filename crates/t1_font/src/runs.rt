@@ -1,8 +1,9 @@
 //! Runs, kept by the names of their glyphs.
 ghost use Rattle.std.specs.Prelude.{◌≡◌, length, map, ℕ, List, [], None, Some, All, IsSome, IfOk, OnOk, OnErr, option_map, if◌then◌else◌};
+ghost use Rattle.std.specs.Option.{option_copied};
 ghost use Rattle.std.specs.Str.{bytes_eq};
 ghost use Rattle.t1_run.specs.Run.{font, own};
-ghost use Rattle.t1_font.specs.Runs.{drawing_kept, kept_of, run_kept, own_among, counted, CountsSome, IsAfter};
+ghost use Rattle.t1_font.specs.Runs.{drawing_kept, kept_of, run_kept, own_among, counted, AreTraced, CountsSome, IsAfter, IsTracedAs};
 
 use indexmap::IndexMap;
 use std::alloc::{AllocError, Global};
@@ -12,7 +13,7 @@ use t1_frac::{Code, Refusal};
 use t1_run::{Bodies, Meter, run};
 
 /// The runs of some glyphs, each with its number, or its first fault. Contracts see the list of both, each with the
-/// glyph's name.
+/// glyph's name. The trace of a run is kept where its glyph may be a part of a composite.
 #[derive(Drop)]
 pub struct Runs {
     by_name: IndexMap<Vec<u8>, Result<KeptRun, Code>>,
@@ -20,11 +21,13 @@ pub struct Runs {
 
 impl Model for Runs {
     ghost use Rattle.std.specs.Prelude.{List, map};
-    ghost use Rattle.t1_font.specs.Runs.{Kept};
+    ghost use Rattle.t1_font.specs.Runs.{AreTraced, Kept};
 
     ghost Value = { List Kept };
 
     ghost view = { λ r. map (λ e. (e.0.items, e.1)) r.by_name.entries };
+
+    ghost invariant = { λ r. AreTraced (map (λ e. (e.0.items, e.1)) r.by_name.entries) };
 }
 
 impl Runs {
@@ -39,7 +42,8 @@ impl Runs {
 
     /// What is kept of the glyph of this name.
     pub fn get(&self, name: &[u8]) -> Option<&Result<KeptRun, Code>>
-        ensures { option_map (λ kept. drawing_kept kept.now) result ≡ kept_of self.now name.now }
+        ensures drawn { option_map (λ kept. drawing_kept kept.now) result ≡ kept_of self.now name.now }
+        ensures traced { IsTracedAs name.now (option_copied result) }
     {
         self.by_name.get(name)
     }
@@ -59,6 +63,7 @@ impl Runs {
         name: &[u8],
         kept: Result<KeptRun, Code>,
     ) -> Result<(), AllocError>
+        requires { IsTracedAs name.now (Some kept) }
         ensures { OnOk result ((g : List ℕ) → run_kept self.new g ≡ (if bytes_eq g name.now then Some kept else run_kept self.old g)) }
     {
         self.by_name.insert(Vec::from_slice(alloc, name)?, kept)?;
@@ -90,11 +95,12 @@ fn kept_run<B: Bodies>(
 ) -> Result<Result<KeptRun, Code>, AllocError>
     requires { IsSome (B.glyphs bodies.now name.now) }
     ensures kept { IfOk result (λ kept. Some (drawing_kept kept) ≡ own (font (B.subrs bodies.now) (B.glyphs bodies.now)) name.now) }
+    ensures traced { IfOk result (λ kept. IsTracedAs name.now (Some kept)) }
     ensures after { IfOk result (λ kept. IsAfter meter.old (Some kept)) }
     ensures counted { meter.new ≡ counted meter.old 1 }
 {
     match run(alloc, bodies, name, meter) {
-        Ok(run) => Ok(Ok(KeptRun::of(alloc, run)?)),
+        Ok(run) => Ok(Ok(KeptRun::of(alloc, name, run)?)),
         Err(Refusal::Fault(fault)) => Ok(Err(fault.code)),
         Err(Refusal::Memory) => Err(AllocError),
     }
@@ -110,6 +116,7 @@ pub fn runs_of<B: Bodies>(
 ) -> Result<Runs, AllocError>
     requires { All (λ name. IsSome (B.glyphs bodies.now name.now)) names.now }
     ensures kept { IfOk result (λ runs. (g : List ℕ) → kept_of runs g ≡ own_among (font (B.subrs bodies.now) (B.glyphs bodies.now)) (map (λ name. name.now) names.now) g) }
+    ensures traced { IfOk result AreTraced }
     ensures after { IfOk result (λ runs. (g : List ℕ) → IsAfter meter.old (run_kept runs g)) }
     ensures counted { OnOk result (meter.new ≡ counted meter.old (length names.now)) }
     ensures want { OnErr result (CountsSome (length names.now) meter.old meter.new) }

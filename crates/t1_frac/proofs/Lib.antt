@@ -2,6 +2,7 @@ pub mod AppendLaws
 pub mod Coordinates
 pub mod Divisors
 pub mod Exact
+pub mod NumberLaws
 pub mod OutcomeLaws
 pub mod Rounded
 pub mod Rows

@@ -1,5 +1,6 @@
 pub mod Fraction
 pub mod Limits
+pub mod Numbers
 pub mod Outcome
 pub mod Rounding
 pub mod Words

@@ -15,6 +15,11 @@ fault_at place code = record { code = code; place = place }
 abbrev pub refusal : Code → Refusal
 refusal code = refusals.Fault (fault_at Nowhere code)
 
+-- profile, faults: the refusal, with its fault reported at this place
+abbrev pub placed : Place → Refusal → Refusal
+placed place (refusals.Fault fault) = refusals.Fault (fault_at place fault.code)
+placed place refusals.Memory = refusals.Memory
+
 -- profile, faults: the outcome, with its fault reported at this place
 abbrev pub told_at : {X : Type 0} → Place → Result X Code → Result X Fault
 told_at place (Ok x) = Ok x

@@ -103,6 +103,35 @@ pub enum Refusal {
     Memory,
 }
 
+impl Refusal {
+    ghost use Rattle.std.specs.Prelude.{◌≡◌};
+    ghost use Rattle.t1_frac.specs.Outcome.{placed};
+
+    /// The same refusal, its fault at this place.
+    pub fn at(self, place: Place) -> Refusal
+        ensures { result ≡ placed place self }
+    {
+        match self {
+            Refusal::Fault(fault) => Refusal::Fault(Fault {
+                code: fault.code,
+                place,
+            }),
+            Refusal::Memory => Refusal::Memory,
+        }
+    }
+}
+
+impl From<Fault> for Refusal {
+    ghost use Rattle.std.specs.Prelude.{◌≡◌};
+    ghost use Rattle.t1_frac.specs.declared.fault.Refusal.TheVariants as refusals;
+
+    ghost from_gives = { λ fault refused. refused ≡ refusals.Fault fault };
+
+    fn from(fault: Fault) -> Refusal {
+        Refusal::Fault(fault)
+    }
+}
+
 impl From<Code> for Refusal {
     ghost use Rattle.std.specs.Prelude.{◌≡◌};
     ghost use Rattle.t1_frac.specs.Outcome.{refusal};

@@ -1,4 +1,5 @@
-//! What all layers of the assembler share: exact fractions, bytes and words as contracts see them, faults and places.
+//! What all layers of the assembler share: exact fractions, number words, bytes and words as contracts see
+//! them, faults and places.
 #![tactic(auto)]
 
 mod bytes;
@@ -6,11 +7,15 @@ mod fault;
 mod frac;
 mod gcd;
 pub mod laws;
+mod number;
 mod words;
 
 pub use bytes::Bytes;
 pub use fault::{Code, Fault, Place, Refusal};
 pub use frac::Frac;
+pub use number::{
+    are_digits, digits_of_word, is_number_word, leading_number, magnitude, number_word,
+};
 pub use words::{Words, is_blank, next_word, skip_blanks};
 
 #[cfg(test)]

@@ -49,3 +49,12 @@ fn whole_numbers_are_known(rt: HostRuntime) {
     assert!(rt; is_whole(-12, 4) == Some(true));
     assert!(rt; is_whole(3, 2) == Some(false));
 }
+
+#[test]
+fn reads_number_words(rt: HostRuntime) -> Result<(), Fail> {
+    assert_eq!(rt; number_word(b"-0012"), Some(-12));
+    assert_eq!(rt; number_word(b"9223372036854775808"), Some(i64::MAX));
+    assert_eq!(rt; number_word(b"-"), None);
+    assert_eq!(rt; number_word(b"1.5"), None);
+    Ok(())
+}

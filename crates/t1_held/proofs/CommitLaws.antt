@@ -1,6 +1,6 @@
 -- What edits make of the charstrings that are held.
-use Rattle.std.proofs.Common.{◌≡◌, ◌<◌, ◌+◌, ℕ, suc, Bool, true, false, cond, ◌&&◌, ◌||◌, List, [], ◌∷◌, map, drop, drop-cons, get_or, length, add-one, Option, Some, None, Ok, refl, ap, sym, ◌∙◌}
-use Rattle.std.specs.Prelude.{is_none}
+use Rattle.std.proofs.Common.{◌≡◌, ◌<◌, ◌+◌, ℕ, suc, Bool, true, false, cond, ◌&&◌, ◌||◌, List, [], ◌∷◌, map, drop, drop-cons, get_or, length, add-one, Option, Some, None, Result, Ok, Err, refl, ap, sym, ◌∙◌}
+use Rattle.std.specs.Prelude.{is_none, MatchResult}
 use Rattle.std.specs.List.{AllByRecursion, list_any}
 use Rattle.std.specs.Option.{option_map, option_or, option_to_list}
 use Rattle.t1_parts.specs.LenIV.{lead}
@@ -20,13 +20,16 @@ use Rattle.t1_cache.proofs.Adding.{key-same}
 use Rattle.t1_rerun.specs.declared.settling.EntryChange.{EntryChange}
 use Rattle.t1_rerun.specs.Settled.{changed_keys, AreDistinctKeys, HasBody}
 use Rattle.t1_source.specs.WellFormed.{IsWellFormed}
+use Rattle.t1_source.specs.declared.editing.change.Change.{Change}
+use Rattle.t1_source.specs.declared.editing.change.Change.TheVariants as changes
+use Rattle.t1_source.specs.Changes.{changed}
+use Rattle.t1_pairs.specs.declared.pairs.Pair.{Pair}
 use Rattle.t1_font.specs.Assembly.{file_check}
 use Rattle.t1_font.specs.Glyphs.{glyph_names}
 use Rattle.t1_charstrings.specs.Kept.{AreEncrypted}
 use Rattle.t1_cache.specs.Edited.{stale, IsEditedAt}
 use Rattle.t1_cache.specs.Renewed.{Kept as KeptGlyph}
 use Rattle.t1_cache.proofs.Distinct.{names_distinct}
-use Rattle.t1_rerun.specs.Changing.{AreChangesOf}
 use Rattle.t1_rerun.specs.Opened.{runs_where}
 use Rattle.t1_rerun.specs.Renewing.{IsRunWhereStale}
 use Rattle.t1_batch.specs.Batch.{AreBatchChanges}
@@ -34,6 +37,10 @@ use Rattle.t1_batch.specs.Members.{HaveSameKeys}
 use Rattle.t1_batch.proofs.Members.{same_stale, same_stale_glyphs}
 use Rattle.t1_held.specs.declared.held.Held.{Held}
 use Rattle.t1_held.specs.Entries.{fresh_in, fresh_one, gone_keys}
+use Rattle.t1_held.specs.declared.edits.Edits.{Edits}
+use Rattle.t1_held.specs.declared.edits.Edits.TheVariants as edits
+use Rattle.t1_charstrings.specs.Made.{made_of as made_in, source_of as source_in}
+use Rattle.t1_held.specs.Edits.{made_by, made_of, source_of, AreChanges, AreRight}
 use Rattle.t1_held.specs.Ready.{commit_runs}
 use Rattle.t1_held.specs.Held.{IsHeld}
 
@@ -179,10 +186,16 @@ run-where-stale count ks ls s kept (k ∷ l) same all = (one, run-where-stale co
     fresh = λ is. all.0.fresh (same_stale ks ls same s k.name ∙ is);
   }
 
-module _ (s made : SourceParts) (ks : List Key) (changes : List EntryChange) (h : Held) (held : IsHeld s h) (well : IsWellFormed made)
-    (are : AreBatchChanges s made ks changes) (file : file_check made ≡ Ok tt) where
-  pub changes_of : AreChangesOf changes s made h.records (glyph_names made.items)
-  changes_of = record {
+-- what a batch changes
+pub batch_changes_are : (s made : SourceParts) (ks : List Key) (changes : List EntryChange) (h : Held) → IsHeld s h → IsWellFormed made
+    → AreBatchChanges s made ks changes → AreChanges s made ks h changes
+batch_changes_are s made ks changes h held well are = record {
+  same = are.same;
+  edited = are.edited;
+  keys = are.keys;
+  bodies = are.bodies;
+  compiled = are.compiled;
+  prepared = λ file. record {
     right = held.right;
     edited = are.edited;
     keys = are.keys;
@@ -192,9 +205,40 @@ module _ (s made : SourceParts) (ks : List Key) (changes : List EntryChange) (h 
     order = are.order;
     last = are.last;
     names = refl;
-  }
+  };
+}
 
-  -- as many runs as stale glyphs
-  pub commit_runs_are : length (stale s (changed_keys changes) made) ≡ commit_runs ks s made
-  commit_runs_are =
-      ap length (same_stale_glyphs (changed_keys changes) ks are.same s made) ∙ sym (ap (λ r. runs_where r (stale s ks made)) file)
+-- as many runs as stale glyphs
+pub runs_are : (s made : SourceParts) (ks : List Key) (h : Held) (changes : List EntryChange) → AreChanges s made ks h changes → file_check made ≡ Ok tt
+    → length (stale s (changed_keys changes) made) ≡ commit_runs ks s made
+runs_are s made ks h changes are file =
+    ap length (same_stale_glyphs (changed_keys changes) ks are.same s made) ∙ sym (ap (λ r. runs_where r (stale s ks made)) file)
+
+-- what is said of the value of a result
+pub mapped : {X E : Type 0} (P Q : X → Type 0) (R : E → Type 0) (r : Result X E) → ((x : X) → P x → Q x) → MatchResult r P R → MatchResult r Q R
+mapped P Q R (Ok x) more h = more x h
+mapped P Q R (Err e) more h = h
+
+-- ---- how the edited source is known
+
+-- a change makes the same source, whatever the pairs
+source_alone : (change : Change) (s : SourceParts) (k : List Pair) → (changed change s []).0 ≡ (changed change s k).0
+source_alone (changes.PutItem at item) s k = refl
+source_alone (changes.InsertItem at item) s k = refl
+source_alone (changes.RemoveItem at) s k = refl
+source_alone (changes.PutClear lines) s k = refl
+source_alone (changes.PutPair at pair) s k = refl
+source_alone (changes.InsertPair at pair) s k = refl
+source_alone (changes.RemovePair at) s k = refl
+
+pub source_by : (e : Edits) → source_in (made_by e) ≡ source_of e
+source_by (edits.One source pairs edit change) = refl
+source_by (edits.Batch source made entries) = refl
+
+pub made_is : (e : Edits) → made_in (made_by e) ≡ made_of e
+made_is (edits.One source pairs edit change) = source_alone change.now source.now pairs.now
+made_is (edits.Batch source made entries) = refl
+
+pub right_held : (e : Edits) (h : Held) → AreRight e h → IsHeld (source_of e) h
+right_held (edits.One source pairs edit change) h right = right.held
+right_held (edits.Batch source made entries) h right = right.0

@@ -1,6 +1,6 @@
 -- What is held of a source, and of an edited one.
-use Rattle.std.proofs.Common.{◌≡◌, ℕ, true, length, List, [], Option, Result, Ok, Err, refl, ap, sym, ◌∙◌, subst, arith}
-use Rattle.std.specs.List.{list_all}
+use Rattle.std.proofs.Common.{◌≡◌, ℕ, true, List, [], Option, Result, Ok, Err, refl, ap, sym, ◌∙◌, subst, arith}
+use Rattle.std.specs.List.{list_all, list_any, AllByRecursion}
 use Rattle.std.specs.Option.{option_to_list}
 use Rattle.t1_frac.specs.declared.fault.Fault.{Fault}
 use Rattle.t1_frac.specs.declared.fault.Refusal.{Refusal}
@@ -14,7 +14,6 @@ use Rattle.t1_parts.specs.Printing.{text}
 use Rattle.t1_parts.specs.Reading.{reads}
 use Rattle.t1_source.specs.declared.edit.Edit.{Edit}
 use Rattle.t1_source.specs.declared.editing.change.Change.{Change}
-use Rattle.t1_source.specs.declared.editing.change.Change.TheVariants as changes
 use Rattle.t1_pairs.specs.declared.pairs.Pair.{Pair}
 use Rattle.t1_source.specs.Changes.{changed}
 use Rattle.t1_source.specs.WellFormed.{is_counted, IsWellFormed}
@@ -31,19 +30,24 @@ use Rattle.t1_charstrings.specs.Entries.{glyph_kept, subr_kept}
 use Rattle.t1_charstrings.specs.Kept.{AreEncrypted, Encrypt}
 use Rattle.t1_font.specs.Lengths.{IsPrivateLen}
 use Rattle.t1_cache.specs.declared.records.Records.{Records}
-use Rattle.t1_cache.specs.Edited.{named, stale}
+use Rattle.t1_charstrings.specs.Made.{IsPrepared}
+use Rattle.t1_cache.specs.Edited.{named, IsEditedAt}
+use Rattle.t1_cache.specs.Users.{key_eq}
 use Rattle.t1_cache.proofs.Distinct.{names_distinct}
 use Rattle.t1_rerun.specs.declared.settling.EntryChange.{EntryChange}
 use Rattle.t1_rerun.specs.Changing.{IsChangeOf}
 use Rattle.t1_rerun.specs.EntryChanges.{IsChanged, IsMade}
 use Rattle.t1_rerun.specs.Opened.{runs_where}
-use Rattle.t1_rerun.specs.Renewing.{renewing_runs}
 use Rattle.t1_rerun.specs.Right.{IsRight}
-use Rattle.t1_rerun.specs.Settled.{changed_keys, AreAsBefore}
+use Rattle.t1_rerun.specs.Settled.{changed_keys, AreAsBefore, AreDistinctKeys, HasBody}
+use Rattle.t1_rerun.proofs.ChangedBodies.{as-list}
 use Rattle.t1_rerun.proofs.Judged.{still-right}
+use Rattle.t1_held.proofs.CommitLaws.{one_key}
 use Rattle.t1_held.specs.declared.held.Held.{Held}
 use Rattle.t1_held.specs.Held.{IsHeld}
-use Rattle.t1_held.specs.Ready.{IsPreparedEdit}
+use Rattle.t1_held.specs.declared.edits.Edits.{Edits}
+use Rattle.t1_held.specs.declared.edits.Edits.TheVariants as edits
+use Rattle.t1_held.specs.Edits.{made_by, made_of, AreChanges, AreRight, IsPreparedEdit}
 use Rattle.t1_font.specs.Glyphs.{Glyph as Told}
 use Rattle.t1_font.specs.MeasuredGlyphs.{MeasuredFont, measured}
 use Rattle.t1_font.specs.SourceChecks.{measured_source}
@@ -89,16 +93,6 @@ still_held old new records charstrings len s held = record {
 
 -- ---- an edit that was prepared
 
--- a change makes the same source, whatever the pairs
-source-alone : (change : Change) (s : SourceParts) (k : List Pair) → (changed change s []).0 ≡ (changed change s k).0
-source-alone (changes.PutItem at item) s k = refl
-source-alone (changes.InsertItem at item) s k = refl
-source-alone (changes.RemoveItem at) s k = refl
-source-alone (changes.PutClear lines) s k = refl
-source-alone (changes.PutPair at pair) s k = refl
-source-alone (changes.InsertPair at pair) s k = refl
-source-alone (changes.RemovePair at) s k = refl
-
 module _ (s : SourceParts) (k : List Pair) (edit : Edit) (change : Change) (h : Held) (e : IsPreparedEdit s k edit change h) where
   abbrev made : SourceParts
   made = (changed change s k).0
@@ -107,10 +101,16 @@ module _ (s : SourceParts) (k : List Pair) (edit : Edit) (change : Change) (h : 
   well_made = edited_well_formed s k edit made (changed change s k).1 e.well e.made
 
   pub edit_made : IsMade edit s made
-  edit_made = record { pairs = k; made_pairs = (changed change s k).1; compiled = e.held.encrypted.sound; well = e.well; well_made = well_made; made = e.made }
+  edit_made = record {
+    pairs = k;
+    made_pairs = (changed change s k).1;
+    compiled = e.held.encrypted.sound;
+    well = e.well;
+    well_made = well_made;
+    made = e.made;
+  }
 
-  pub change_of : (entry : Option EntryChange) → IsChanged edit s made entry → file_check made ≡ Ok tt
-      → IsChangeOf entry s made h.records (glyph_names (changed change s []).0.items)
+  change_of : (entry : Option EntryChange) → IsChanged edit s made entry → file_check made ≡ Ok tt → IsChangeOf entry s made h.records (glyph_names made.items)
   change_of entry is file = record {
     right = e.held.right;
     edited = is.edited;
@@ -119,14 +119,20 @@ module _ (s : SourceParts) (k : List Pair) (edit : Edit) (change : Change) (h : 
     file = file;
     distinct = names_distinct made well_made;
     order = is.order;
-    names = ap (λ (m : SourceParts). glyph_names m.items) (source-alone change s k);
+    names = refl;
   }
 
-  -- the stale glyphs were run
-  pub runs_made : (entry : Option EntryChange) → IsChanged edit s made entry → file_check made ≡ Ok tt
-      → length (stale s (changed_keys (option_to_list entry)) made) ≡ renewing_runs edit s made
-  runs_made entry is file =
-      ap (λ keys. length (stale s keys made)) is.keys ∙ sym (ap (λ r. runs_where r (stale s (named edit) made)) file)
+  -- what it changes
+  pub change_alone : (entry : Option EntryChange) → IsChanged edit s made entry → (changes : List EntryChange) → changes ≡ option_to_list entry
+      → AreChanges s made (named edit) h changes
+  change_alone entry c changes is = record {
+    same = λ key. ap (list_any (key_eq key)) (ap changed_keys is ∙ c.keys);
+    edited = subst (λ l. IsEditedAt (changed_keys l) s made) (sym is) c.edited;
+    keys = subst (λ l. AreDistinctKeys (changed_keys l)) (sym is) (one_key entry);
+    bodies = subst (AllByRecursion (HasBody made)) (sym is) c.bodies;
+    compiled = c.compiled;
+    prepared = λ file. as-list changes entry s made h.records (glyph_names made.items) is (change_of entry c file);
+  }
 
 -- no glyph was run, where the file has a fault or memory ran out
 pub counts_none : {T : Type 0} (names : List (List ℕ)) (check : Result (Unit {0}) Fault) (old : ℕ) (r : Result T Refusal) (e : Refusal) → r ≡ Err e → Refuses e check
@@ -151,3 +157,17 @@ checked_well s checked again = source_well_formed (text s) s (again (counts_chec
 
 pub held_well : (s : SourceParts) (h : Held) → IsHeld s h → (list_all is_counted s.items ≡ true → reads (text s) ≡ Ok s) → IsWellFormed s
 held_well s h held again = checked_well s (right_checked s h.records held.right) again
+
+-- ---- edits that are right
+
+pub right_well : (e : Edits) (h : Held) → AreRight e h → IsWellFormed (made_of e)
+right_well (edits.One source pairs edit change) h right = well_made source.now pairs.now edit.now change.now h right
+right_well (edits.Batch source made entries) h right = right.1.well
+
+pub prepared_by : (e : Edits) (h : Held) → AreRight e h → IsPrepared (made_by e) h.private_len
+prepared_by (edits.One source pairs edit change) h right = record {
+  fits = record { pairs = pairs.now; serves = right.serves; well = right.well };
+  file = file_checked source.now (right_checked source.now h.records right.held.right);
+  known = right.held.len;
+}
+prepared_by (edits.Batch source made entries) h right = tt

@@ -1,13 +1,7 @@
 -- What is ready to be kept of an edited source.
-use Rattle.std.specs.Prelude.{◌≡◌, ℕ, List, Ok}
+use Rattle.std.specs.Prelude.{◌≡◌, ℕ, List}
 use Rattle.std.specs.List.{list_any}
 use Rattle.t1_parts.specs.SourceParts.{SourceParts}
-use Rattle.t1_source.specs.declared.edit.Edit.{Edit}
-use Rattle.t1_source.specs.declared.editing.change.Change.{Change}
-use Rattle.t1_pairs.specs.declared.pairs.Pair.{Pair}
-use Rattle.t1_source.specs.Changes.{changed, Serves}
-use Rattle.t1_source.specs.Editing.{edited}
-use Rattle.t1_source.specs.WellFormed.{IsWellFormed}
 use Rattle.t1_run.specs.Run.{Key}
 use Rattle.t1_font.specs.Assembly.{file_check}
 use Rattle.t1_charstrings.specs.Ready.{IsReadyLines}
@@ -19,14 +13,6 @@ use Rattle.t1_rerun.specs.Opened.{runs_where}
 use Rattle.t1_rerun.specs.Settled.{changed_keys}
 use Rattle.t1_held.specs.declared.held.Held.{Held}
 use Rattle.t1_held.specs.declared.held.ReadyHeld.{ReadyHeld}
-use Rattle.t1_held.specs.Held.{IsHeld}
-
--- profile: an edit that keeps the edit rules, and the change of the source and its pairs that was prepared for it
-pub record IsPreparedEdit (s : SourceParts) (k : List Pair) (edit : Edit) (change : Change) (h : Held) : Type 0 where
-  pub held : IsHeld s h
-  pub well : IsWellFormed s
-  pub serves : Serves change s k
-  pub made : edited s k edit ≡ Ok (changed change s k)
 
 -- profile: each glyph that edits at these keys make stale is run once; none, where a body or the file has a fault
 abbrev pub commit_runs : List Key → SourceParts → SourceParts → ℕ

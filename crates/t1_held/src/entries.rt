@@ -1,6 +1,7 @@
 //! The charstrings of the entries that edits name.
 ghost use Rattle.std.specs.Prelude.{◌≡◌, IfOk, OnOk, map};
 ghost use Rattle.std.specs.Option.{option_or};
+ghost use Rattle.t1_parts.specs.LenIV.{lead};
 ghost use Rattle.t1_run.specs.Run.{Key};
 ghost use Rattle.t1_charstrings.specs.Batch.{gone_key};
 ghost use Rattle.t1_charstrings.specs.Kept.{kept_at};
@@ -13,6 +14,7 @@ use t1_charstrings::{
     Charstrings, EditedEntries, Gone, no_charstrings, put_fresh_glyph, put_fresh_subr,
 };
 use t1_rerun::EntryChange;
+use t1_source::Source;
 
 /// Encrypts the body of a change, where it has one.
 fn put_fresh(
@@ -71,7 +73,7 @@ fn gone_entries(alloc: Global, changes: &[EntryChange]) -> Result<Vec<Gone>, All
 }
 
 /// What changes make of the charstrings: only those of the changed entries are encrypted, after so many leading bytes.
-pub(crate) fn edited_entries(
+fn edited_entries(
     alloc: Global,
     lead: u8,
     changes: &[EntryChange],
@@ -83,4 +85,22 @@ pub(crate) fn edited_entries(
         fresh: fresh_charstrings(alloc, lead, changes)?,
         gone: gone_entries(alloc, changes)?,
     })
+}
+
+/// What changes make of the charstrings of a source. Where there are none, nothing of the source is asked for.
+pub(crate) fn entries_of(
+    alloc: Global,
+    source: &Source,
+    changes: &[EntryChange],
+) -> Result<EditedEntries, AllocError>
+    ensures fresh { IfOk result (λ entries. (k : Key) → kept_at entries.fresh k ≡ fresh_in (lead source.now) changes.now k) }
+    ensures gone { IfOk result (λ entries. map gone_key entries.gone.items ≡ gone_keys changes.now) }
+{
+    if changes.is_empty() {
+        return Ok(EditedEntries {
+            fresh: no_charstrings(alloc),
+            gone: Vec::new(alloc),
+        });
+    }
+    edited_entries(alloc, source.lead(), changes)
 }

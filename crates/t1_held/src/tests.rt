@@ -67,7 +67,13 @@ fn edited(alloc: Global, text: &str, edit: &Edit) -> Result<(Source, Held, u64),
     let mut meter = Meter::new();
     let mut held = held_of(alloc, &source, &mut meter)?;
     let change = source.prepared(&pairs, edit)?;
-    let ready = prepare_edit(alloc, &mut held, &source, &pairs, edit, &change, &mut meter)?;
+    let edits = Edits::One {
+        source: &source,
+        pairs: &pairs,
+        edit,
+        change: &change,
+    };
+    let ready = prepare_edits(alloc, &mut held, edits, &mut meter)?;
     source.commit(&mut pairs, change)?;
     settle(&mut held, ready);
     Ok((source, held, meter.count()))
@@ -162,7 +168,12 @@ fn committed(
     batch.edit(alloc, first)?;
     batch.edit(alloc, second)?;
     let (made, _, entries) = batch.into_parts();
-    let ready = prepare_commit(alloc, &mut held, &source, &made, entries, &mut meter)?;
+    let edits = Edits::Batch {
+        source: &source,
+        made: &made,
+        entries,
+    };
+    let ready = prepare_edits(alloc, &mut held, edits, &mut meter)?;
     settle(&mut held, ready);
     Ok((made, held, meter.count()))
 }

@@ -4,13 +4,15 @@ use Rattle.std.specs.List.{list_all, onto_first}
 use Rattle.std.specs.Fmt.{decimal, signed_decimal}
 use Rattle.std.proofs.lemmas.Bool.{and_parts, and_from, leb-true, le-leb, not-true, ne_eqb}
 use Rattle.std.proofs.lemmas.List.Folds.{list_all-append}
+use Rattle.t1_frac.specs.Numbers.{is_number_word, number_written}
 use Rattle.t1_frac.specs.Words.{is_blank, words}
 use Rattle.t1_pairs.specs.declared.pairs.Pair.{Pair}
 use Rattle.t1_text.specs.Lines.{lines, joined, is_line, is_line_end}
-use Rattle.t1_text.specs.Names.{is_name, is_name_byte, is_digit}
+use Rattle.t1_text.specs.Names.{is_name, is_name_byte}
+use Rattle.std.specs.Char.{is_ascii_digit}
 use Rattle.t1_pairs.specs.Kerning.{kerning_value, line_pairs, pairs_from, put_all_pairs, pairs, kpx_line, kern, is_kerning_value, is_kerning_pair, precedes, are_ordered, are_pairs}
 use Rattle.t1_text.proofs.TextLaws.{lines_joined}
-use Rattle.t1_text.proofs.NumberLaws.{Spells, decimal_spells, spelled}
+use Rattle.t1_text.proofs.NumberLaws.{decimal_spells, digits_word, minus_word}
 use Rattle.t1_pairs.proofs.PutLaws.{put_last}
 
 -- a byte that no blank, and one that ends no line
@@ -74,30 +76,28 @@ kpx_words : (left right number : List ℕ) → 1 ≤ length left → are_high le
 kpx_words left right number a b c d e f =
     ap (λ t. codes "KPX" ∷ t) (first_word left (right ++ 32 ∷ number) a b ∙ ap (λ t. left ∷ t) (first_word right number c d ∙ ap (λ t. right ∷ t) (last_word number e f)))
 
-digit_high : (ds : List ℕ) → list_all is_digit ds ≡ true → are_high ds ≡ true
+digit_high : (ds : List ℕ) → list_all is_ascii_digit ds ≡ true → are_high ds ≡ true
 digit_high [] h = refl
 digit_high (d ∷ ds) h =
     let parts = and_parts _ _ h in
     let low = leb-true 48 d (and_parts _ _ parts.0).0 in
     and_from _ _ (le-leb 33 d (omega arith)) (digit_high ds parts.1)
 
--- digits are read as a value that isn't negative
-digits_value : (ds : List ℕ) (n : ℕ) → Spells n ds → n ≤ 32000 → kerning_value ds ≡ Some (pos n)
-digits_value [] n s h = absurd (omega (arith, s.2))
-digits_value (d ∷ ds) n s h =
-    let low = leb-true 48 d (and_parts _ _ (and_parts _ _ s.0).0).0 in
-    let read = spelled (d ∷ ds) n s in
-    rw (ne_eqb d 45 (omega arith)) (rw read (rw (le-leb n 32000 h) refl))
+-- a number word in range is read as its value
+value_read : (w : List ℕ) (v : ℤ) → is_number_word w ≡ true → number_written w ≡ v → is_kerning_value v ≡ true → kerning_value w ≡ Some v
+value_read w v word is h = rw (is, word, h) refl
 
 -- a printed value, read
 value_again : (v : ℤ) → is_kerning_value v ≡ true → kerning_value (signed_decimal v) ≡ Some v
 value_again (pos n) h =
-    let small = leb-true n 32000 h in
-    digits_value (decimal n) n (decimal_spells n (omega arith)) small
+    let s = decimal_spells n (omega (arith, leb-true n 32000 h)) in
+    let w = digits_word (decimal n) n s in
+    value_read (decimal n) (pos n) w.0 w.1 h
 value_again (negsuc n) h =
     let small = leb-true n 31999 (and_parts (nat_le n 31999) true h).0 in
-    let read = spelled (decimal (suc n)) (suc n) (decimal_spells (suc n) (omega arith)) in
-    rw read (rw (le-leb (suc n) 32000 (omega arith)) refl)
+    let s = decimal_spells (suc n) (omega (arith, small)) in
+    let w = minus_word (decimal (suc n)) (suc n) s in
+    value_read (45 ∷ decimal (suc n)) (negsuc n) w.0 w.1 h
 
 value_high : (v : ℤ) → is_kerning_value v ≡ true → (1 ≤ length (signed_decimal v)) × (are_high (signed_decimal v) ≡ true)
 value_high (pos n) h =

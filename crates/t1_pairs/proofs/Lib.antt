@@ -4,3 +4,4 @@ pub mod PairLaws
 pub mod PairsWellFormedLaws
 pub mod PutLaws
 pub mod SearchLaws
+pub mod ValueLaws

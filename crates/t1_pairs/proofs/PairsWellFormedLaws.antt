@@ -9,41 +9,25 @@ use Rattle.t1_frac.specs.Outcome.{told_at, ◌>>=◌}
 use Rattle.t1_frac.specs.Words.{words}
 use Rattle.t1_pairs.specs.declared.pairs.Pair.{Pair}
 use Rattle.t1_text.specs.Tokens.{first_is}
-use Rattle.t1_text.specs.Names.{is_name, decimal_of, up_to}
-use Rattle.t1_pairs.specs.Kerning.{kerning_value, pair_of, kpx_of, is_left_out, line_pairs, pairs_from, pairs_with, put_pair, put_all_pairs, is_kerning_value, is_kerning_pair, precedes, are_ordered, are_pairs}
+use Rattle.t1_frac.specs.Numbers.{is_number_word, number_written}
+use Rattle.t1_text.specs.Names.{is_name}
+use Rattle.t1_pairs.specs.Kerning.{kerning_value, small, pair_of, kpx_of, is_left_out, line_pairs, pairs_from, pairs_with, put_pair, put_all_pairs, is_kerning_value, is_kerning_pair, precedes, are_ordered, are_pairs}
 use Rattle.t1_frac.proofs.OutcomeLaws.{bind_ok, told_ok}
 use Rattle.t1_pairs.proofs.PutLaws.{put_keeps, put_ordered}
 
 -- a value that was read is in range
-small_good : (n : ℕ) → n ≤ 32000 → is_kerning_value (pos n) ≡ true
-small_good n h = le-leb n 32000 h
-
-negative_good : (n : ℕ) → n ≤ 32000 → is_kerning_value (neg_ℤ (pos n)) ≡ true
-negative_good zero h = refl
-negative_good (suc n) h = and_from _ _ (le-leb n 31999 (omega arith)) refl
-
-plain_value : (o : Option ℕ) (v : ℤ) → option_map pos (up_to 32000 o) ≡ Some v → is_kerning_value v ≡ true
-plain_value None v e = cc
-plain_value (Some n) v e =
-    elim (cases_Bool (nat_le n 32000)) [
-      | inl small ↦ let same : pos n ≡ v = (let is : Some (pos n) ≡ Some v = rw small at e in cc) in ap is_kerning_value (sym same) ∙ small_good n (leb-true n 32000 small)
-      | inr large ↦ let none : None ≡ Some v = rw large at e in cc
-    ]
-
-minus_value : (o : Option ℕ) (v : ℤ) → option_map (λ n. neg_ℤ (pos n)) (up_to 32000 o) ≡ Some v → is_kerning_value v ≡ true
-minus_value None v e = cc
-minus_value (Some n) v e =
-    elim (cases_Bool (nat_le n 32000)) [
-      | inl small ↦ let same : neg_ℤ (pos n) ≡ v = (let is : Some (neg_ℤ (pos n)) ≡ Some v = rw small at e in cc) in ap is_kerning_value (sym same) ∙ negative_good n (leb-true n 32000 small)
-      | inr large ↦ let none : None ≡ Some v = rw large at e in cc
+small_good : (n v : ℤ) → small n ≡ Some v → is_kerning_value v ≡ true
+small_good n v e =
+    elim (cases_Bool (is_kerning_value n)) [
+      | inl on ↦ let same : n ≡ v = (let is : Some n ≡ Some v = rw on at e in cc) in ap is_kerning_value (sym same) ∙ on
+      | inr off ↦ let none : None ≡ Some v = rw off at e in cc
     ]
 
 value_good : (w : List ℕ) (v : ℤ) → kerning_value w ≡ Some v → is_kerning_value v ≡ true
-value_good [] v e = cc
-value_good (c ∷ ds) v e =
-    elim (cases_Bool (c == 45)) [
-      | inl minus ↦ minus_value (decimal_of ds) v (rw minus at e)
-      | inr plain ↦ plain_value (decimal_of (c ∷ ds)) v (rw plain at e)
+value_good w v e =
+    elim (cases_Bool (is_number_word w)) [
+      | inl on ↦ small_good (number_written w) v (rw on at e)
+      | inr off ↦ let none : None ≡ Some v = rw off at e in cc
     ]
 
 pair_good : (left right : List ℕ) (o : Option ℤ) (p : Pair) → ((v : ℤ) → o ≡ Some v → is_kerning_value v ≡ true) → pair_of left right o ≡ Some p → is_kerning_pair p ≡ true

@@ -1,5 +1,5 @@
 -- Kerning files.
-use Rattle.std.specs.Prelude.{ℕ, Bool, true, ◌+◌, ◌&&◌, ◌==◌, ℤ, pos, negsuc, neg_ℤ, int_le, if◌then◌else◌, Option, Some, None, Result, Ok, Err, ok_or, option_map, List, [], ◌∷◌, ◌++◌, fold, codes, flat_map}
+use Rattle.std.specs.Prelude.{ℕ, Bool, true, ◌+◌, ◌&&◌, ℤ, pos, negsuc, int_le, if◌then◌else◌, Option, Some, None, Result, Ok, Err, ok_or, option_map, List, [], ◌∷◌, ◌++◌, fold, codes, flat_map}
 use Rattle.std.specs.Fmt.{signed_decimal}
 use Rattle.std.specs.List.{list_all, list_any}
 use Rattle.std.specs.Ordering.{nat_cmp, is_lt, match_ordering, ordering_then}
@@ -11,17 +11,24 @@ use Rattle.t1_frac.specs.declared.fault.Code.TheVariants.{F12, F13}
 use Rattle.t1_frac.specs.declared.fault.Fault.{Fault}
 use Rattle.t1_frac.specs.declared.fault.Place.TheVariants.{Line}
 use Rattle.t1_frac.specs.Outcome.{told_at, ◌>>=◌}
+use Rattle.t1_frac.specs.Numbers.{is_number_word, number_written}
 use Rattle.t1_frac.specs.Words.{words}
 use Rattle.t1_pairs.specs.declared.pairs.Pair.{Pair}
 use Rattle.t1_text.specs.Lines.{lines}
 use Rattle.t1_text.specs.Tokens.{first_is}
-use Rattle.t1_text.specs.Names.{decimal_of, is_name, up_to}
+use Rattle.t1_text.specs.Names.{is_name}
 
--- profile, kerning files: a number word from -32000 to 32000, as a whole number
+-- profile, kerning files: a value from -32000 to 32000
+abbrev pub is_kerning_value : ℤ → Bool
+is_kerning_value v = int_le (negsuc 31999) v && int_le v (pos 32000)
+
+-- profile, kerning files: the number, where it is such a value
+abbrev pub small : ℤ → Option ℤ
+small v = if is_kerning_value v then Some v else None
+
+-- profile, kerning files: what a number word writes, where it is such a value
 abbrev pub kerning_value : List ℕ → Option ℤ
-kerning_value [] = None
-kerning_value (c ∷ ds) =
-    if c == 45 then option_map (λ n. neg_ℤ (pos n)) (up_to 32000 (decimal_of ds)) else option_map pos (up_to 32000 (decimal_of (c ∷ ds)))
+kerning_value word = if is_number_word word then small (number_written word) else None
 
 -- profile, kerning files: the pair of two names, where they are names
 abbrev pub pair_of : List ℕ → List ℕ → Option ℤ → Option Pair
@@ -77,10 +84,6 @@ kpx_line p = codes "KPX " ++ (p.left ++ 32 ∷ (p.right ++ 32 ∷ signed_decimal
 -- profile, kerning files: one line a pair
 abbrev pub kern : List Pair → List ℕ
 kern ps = flat_map (λ p. kpx_line p ++ 10 ∷ []) ps
-
--- profile, kerning files: a value from -32000 to 32000
-abbrev pub is_kerning_value : ℤ → Bool
-is_kerning_value v = int_le (negsuc 31999) v && int_le v (pos 32000)
 
 -- profile, kerning files: two names and such a value
 abbrev pub is_kerning_pair : Pair → Bool

@@ -4,8 +4,8 @@ use itoa::Buffer;
 use std::alloc::{AllocError, Global};
 use std::collections::BTreeMap;
 use std::marker::Model;
-use t1_frac::{Bytes, Code, Refusal, next_word};
-use t1_text::{decimal_up_to, fault_on, first_line, is_name, same};
+use t1_frac::{Bytes, Code, Refusal, next_word, number_word};
+use t1_text::{fault_on, first_line, is_name, same};
 
 /// A kerning pair and its value.
 #[derive(Debug, Drop)]
@@ -59,7 +59,7 @@ ghost use Rattle.t1_frac.specs.Outcome.{Gives, told_at};
 ghost use Rattle.t1_frac.specs.Words.{words};
 ghost use Rattle.t1_text.specs.Lines.{lines};
 ghost use Rattle.t1_text.specs.Tokens.{first_is};
-ghost use Rattle.t1_pairs.specs.Kerning.{kerning_value, kpx_of, pair_of, is_left_out, line_pairs, put_pair, pairs_with, pairs, kern, kpx_line, are_pairs};
+ghost use Rattle.t1_pairs.specs.Kerning.{small, kerning_value, kpx_of, pair_of, is_left_out, line_pairs, put_pair, pairs_with, pairs, kern, kpx_line, are_pairs};
 
 impl Sorted {
     /// No pairs.
@@ -97,20 +97,23 @@ impl Sorted {
     }
 }
 
+/// A number from -32000 to 32000.
+fn small(number: i64) -> Option<i32>
+    ensures { result ≡ small number }
+{
+    if -32000 <= number && number <= 32000 {
+        Some(number as i32)
+    } else {
+        None
+    }
+}
+
 /// The value of a number word from -32000 to 32000.
+#[tactic(auto, using(crate::proofs::ValueLaws::small_word, crate::proofs::ValueLaws::no_word))]
 fn kerning_value(word: &[u8]) -> Option<i32>
     ensures { result ≡ kerning_value word.now }
 {
-    match word {
-        [b'-', digits @ ..] => match decimal_up_to(32000, digits) {
-            Some(size) => Some(-(size as i32)),
-            None => None,
-        },
-        _ => match decimal_up_to(32000, word) {
-            Some(size) => Some(size as i32),
-            None => None,
-        },
-    }
+    small(number_word(word)?)
 }
 
 /// Whether the first word of a line is this one.

@@ -6,7 +6,7 @@ use Rattle.std.proofs.Math.Numerals.{one-add}
 use Rattle.t1_frac.specs.Words.{is_blank, words}
 use Rattle.t1_text.specs.Lines.{trimmed}
 use Rattle.t1_text.specs.Tokens.{uncommented}
-use Rattle.t1_text.specs.Names.{is_number_word}
+use Rattle.t1_frac.specs.Numbers.{is_number_word}
 use Rattle.t1_text.specs.Delimiters.{is_brace, is_safe}
 use Rattle.t1_parts.specs.Entries.{has_brace, body_of, with_front, is_word_byte, is_word}
 use Rattle.t1_parts.specs.Printing.{body_line, last_line, word_groups}

@@ -6,7 +6,8 @@ use Rattle.std.proofs.lemmas.Bool.{and_parts, and_from, leb-true, le-leb, ne_eqb
 use Rattle.t1_parts.specs.declared.item.Item.TheVariants.{Subr, Glyph}
 use Rattle.t1_text.specs.Lines.{trimmed}
 use Rattle.t1_text.specs.Tokens.{tokens, is_regular}
-use Rattle.t1_text.specs.Names.{is_digit, is_name, is_name_byte, name_of_token}
+use Rattle.t1_text.specs.Names.{is_name, is_name_byte, name_of_token}
+use Rattle.std.specs.Char.{is_ascii_digit}
 use Rattle.t1_parts.specs.Sections.{is_subrs_line, is_glyphs_line}
 use Rattle.t1_parts.specs.Entries.{NumberedItem, has, is_subr, is_glyph, is_word, opened_body, body_of, with_front, subr_entry, glyph_entry}
 use Rattle.t1_parts.specs.Private.{item_at}
@@ -31,7 +32,7 @@ pub token_before : (w rest : List ℕ) → 1 ≤ length w → are_regular w ≡ 
 token_before [] rest some h = absurd (omega arith)
 token_before (c ∷ w) rest some h = run_before c w rest h
 
-pub digit_regular : (c : ℕ) → is_digit c ≡ true → is_regular c ≡ true
+pub digit_regular : (c : ℕ) → is_ascii_digit c ≡ true → is_regular c ≡ true
 digit_regular c h =
     let parts = and_parts _ _ h in
     let low = leb-true 48 c parts.0 in
@@ -53,7 +54,7 @@ digit_regular c h =
       ne_eqb c 37 (omega arith),
     ) refl
 
-pub digits_regular : (ds : List ℕ) → list_all is_digit ds ≡ true → are_regular ds ≡ true
+pub digits_regular : (ds : List ℕ) → list_all is_ascii_digit ds ≡ true → are_regular ds ≡ true
 digits_regular [] h = refl
 digits_regular (d ∷ ds) h = let parts = and_parts _ _ h in and_from _ _ (digit_regular d parts.0) (digits_regular ds parts.1)
 
@@ -95,7 +96,7 @@ opens_on a ws closing ls h words_h closing_h =
     ap (λ l. body_of (l ∷ (map body_line (word_groups ws) ++ last_line closing ∷ ls))) (after_brace a [] h)
     ∙ ap (with_front [] 1) (printed_body ws closing ls words_h closing_h)
 
-digit_before : (ds rest : List ℕ) → list_all is_digit ds ≡ true → are_before rest ≡ true → are_before (ds ++ rest) ≡ true
+digit_before : (ds rest : List ℕ) → list_all is_ascii_digit ds ≡ true → are_before rest ≡ true → are_before (ds ++ rest) ≡ true
 digit_before [] rest h k = k
 digit_before (d ∷ ds) rest h k =
     let parts = and_parts _ _ h in

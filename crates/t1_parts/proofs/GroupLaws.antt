@@ -2,7 +2,7 @@
 use Rattle.std.proofs.Common.{◌≡◌, ℕ, Bool, true, false, if◌then◌else◌, List, [], ◌∷◌, ◌++◌, map, refl, ◌∙◌, ap, append_assoc}
 use Rattle.std.specs.List.{onto_first, join_with_byte}
 use Rattle.t1_text.specs.Lines.{joined}
-use Rattle.t1_text.specs.Names.{is_number_word}
+use Rattle.t1_frac.specs.Numbers.{is_number_word}
 use Rattle.t1_parts.specs.Printing.{body_line, word_groups}
 
 -- the groups after a word that ends none: the rest of its line, and the lines after it

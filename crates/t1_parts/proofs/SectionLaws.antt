@@ -6,9 +6,10 @@ use Rattle.std.proofs.lemmas.Bool.{and_parts, and_from, cases_Bool, leb-true}
 use Rattle.std.proofs.lemmas.Slice.Eq.{bytes_eq-Decides}
 use Rattle.t1_frac.specs.Words.{is_blank}
 use Rattle.t1_text.specs.Tokens.{is_bracket, goes_on, tokens, onto_place, places_from}
-use Rattle.t1_text.specs.Names.{is_digit}
+use Rattle.std.specs.Char.{is_ascii_digit}
 use Rattle.t1_text.specs.Names.{is_count}
 use Rattle.t1_parts.specs.Sections.{count_between}
+use Rattle.t1_text.proofs.NumberLaws.{count_parts}
 use Rattle.t1_parts.proofs.RunLaws.{is_run, around_run}
 use Rattle.t1_parts.proofs.EntryLaws.{digits_regular}
 
@@ -39,13 +40,6 @@ bare_places i (c ∷ rest) =
         ]
       ]
     ]
-
--- what a count is
-pub count_parts : (ds : List ℕ) → is_count ds ≡ true → (1 ≤ length ds) × (length ds ≤ 9) × (list_all is_digit ds ≡ true)
-count_parts ds h =
-    let parts = and_parts (nat_le 1 (length ds) && nat_le (length ds) 9) (list_all is_digit ds) h in
-    let sizes = and_parts (nat_le 1 (length ds)) (nat_le (length ds) 9) parts.0 in
-    (leb-true 1 (length ds) sizes.0, leb-true (length ds) 9 sizes.1, parts.1)
 
 -- a count is a run of regular bytes
 count_run : (ds : List ℕ) → is_count ds ≡ true → is_run ds ≡ true

@@ -4,7 +4,7 @@ use Rattle.std.specs.List.{onto_first, join_with_byte}
 use Rattle.t1_parts.specs.declared.item.Item.{Item}
 use Rattle.t1_parts.specs.declared.item.Item.TheVariants.{Plain, Section, Subr, Glyph}
 use Rattle.t1_text.specs.Lines.{joined}
-use Rattle.t1_text.specs.Names.{is_number_word}
+use Rattle.t1_frac.specs.Numbers.{is_number_word}
 use Rattle.t1_parts.specs.SourceParts.{SourceParts}
 
 -- profile, printing: the words by lines, each of which ends after a word that isn't a number or after the last

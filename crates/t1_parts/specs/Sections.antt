@@ -4,7 +4,8 @@ use Rattle.std.specs.Str.{bytes_eq}
 use Rattle.t1_parts.specs.declared.item.Item.{Item}
 use Rattle.t1_parts.specs.declared.item.Item.TheVariants.{Section}
 use Rattle.t1_text.specs.Tokens.{tokens, last_is, places_from}
-use Rattle.t1_text.specs.Names.{is_count, decimal_value}
+use Rattle.t1_text.specs.Names.{is_count}
+use Rattle.t1_frac.specs.Numbers.{decimal_value}
 
 -- profile, sections: the count of the first key, count and word in a row, with its place
 abbrev pub count_between : List ℕ → List ℕ → List (ℕ × List ℕ) → Option (ℕ × List ℕ)

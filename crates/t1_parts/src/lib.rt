@@ -25,7 +25,7 @@ pub use header::header_of;
 pub use item::{Item, copied_items};
 pub use len_iv::{check_lead, lead_of, plain_line};
 pub use operator::operator_of;
-pub use parts::{Parts, holds, parts_of, tail_of};
+pub use parts::{Parts, has_clear_end, holds, parts_of, tail_of};
 pub use printing::{push_decimal, push_items, push_lines};
 pub use private::private_items;
 pub use sections::{count_between, is_glyphs_line, is_subrs_line, section_at};

@@ -3,11 +3,12 @@
 ghost use Rattle.std.specs.Prelude.{◌≡◌, ◌≤◌, ◌+◌, ◌==◌, length, IfOk, codes, if◌then◌else◌, Some, None, filter_map};
 ghost use Rattle.std.specs.List.{list_any, list_all, position};
 ghost use Rattle.t1_frac.specs.Outcome.{Gives};
+ghost use Rattle.t1_text.specs.Lines.{lines};
 ghost use Rattle.t1_parts.specs.Parts.{parts_of, ends_in, is_eexec, is_closefile, holds, is_zeros, tail_of};
 
 use std::alloc::{AllocError, Global};
 use t1_frac::{Bytes, Code, Refusal};
-use t1_text::{Line, trimmed};
+use t1_text::{Line, first_line, trimmed};
 
 /// Whether a line, trimmed, ends in this text.
 fn ends_in(text: &[u8], line: &[u8]) -> bool
@@ -28,6 +29,22 @@ fn is_closefile(line: &[u8]) -> bool
     ensures { result ≡ is_closefile line.now }
 {
     ends_in(b"mark currentfile closefile", line)
+}
+
+/// Whether a line of some bytes ends the clear part. It needs no table of the lines, and looks no further than to the first
+/// such line.
+pub fn has_clear_end(bytes: &[u8]) -> bool
+    ensures { result ≡ list_any is_eexec (lines bytes.now) }
+{
+    let mut rest = bytes;
+    while !rest.is_empty() {
+        let (line, after) = first_line(rest);
+        if is_eexec(line) {
+            return true;
+        }
+        rest = after;
+    }
+    false
 }
 
 /// Where the first line stands that ends the clear part.

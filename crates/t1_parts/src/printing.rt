@@ -8,8 +8,7 @@ ghost use Rattle.t1_parts.specs.Printing.{word_groups, body_line, last_line, ent
 use crate::item::Item;
 use itoa::Buffer;
 use std::alloc::AllocError;
-use t1_frac::{Bytes, next_word};
-use t1_text::is_number_word;
+use t1_frac::{Bytes, is_number_word, next_word};
 
 /// Adds a line and its end to a text.
 fn push_line(text: &mut Vec<u8>, line: &[u8]) -> Result<(), AllocError>

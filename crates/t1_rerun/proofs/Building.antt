@@ -11,7 +11,8 @@ use Rattle.std.proofs.lemmas.List.{map-append, take_more}
 use Rattle.std.proofs.lemmas.List.Folds.{list_any_more}
 use Rattle.t1_frac.specs.declared.fault.Code.{Code}
 use Rattle.t1_code.specs.declared.command.Command.{Command}
-use Rattle.t1_run.specs.Run.{FontBodies, Key, Subr, Glyph, NumberedRun}
+use Rattle.t1_run.specs.Run.{FontBodies, Key, Subr, Glyph}
+use Rattle.t1_extent.specs.Kept.{TracedRun}
 use Rattle.t1_run.specs.Touched.{is_user}
 use Rattle.t1_font.specs.declared.glyph_metrics.GlyphMetrics.{GlyphMetrics}
 use Rattle.t1_font.specs.Bodies.{subr_kept, glyph_kept, SameBodies}
@@ -29,7 +30,7 @@ use Rattle.t1_cache.specs.Users.{has, has_pair, lists, rest_of, users_at, wanted
 use Rattle.t1_cache.proofs.Changing.{rest_same}
 use Rattle.t1_cache.proofs.Joining.{tables_first}
 use Rattle.t1_cache.proofs.Names.{bytes_equiv}
-use Rattle.t1_cache.proofs.Putting.{bytes_tell, numbers_tell}
+use Rattle.t1_font.proofs.Lookups.{bytes_tell, numbers_tell}
 use Rattle.t1_cache.proofs.Rooming.{room_for_joins}
 use Rattle.t1_rerun.specs.Opened.{measured_names, AreMeasured, IsRecorded}
 use Rattle.t1_rerun.specs.Renewals.{run_in, HasRun}
@@ -196,7 +197,7 @@ module _ (was : Records) (bodies left_bodies : Glyphs) (runs left_runs : List Ke
       both false true = refl
       both false false = refl
 
-  pub glyph-built : (body : Body) → Some body ≡ glyph_kept left_bodies m.name → (run : NumberedRun) → Some run ≡ run_in (run_kept left_runs m.name)
+  pub glyph-built : (body : Body) → Some body ≡ glyph_kept left_bodies m.name → (run : TracedRun) → Some run ≡ run_in (run_kept left_runs m.name)
       → (left_bodies' : Glyphs) → ((g : List ℕ) → glyph_kept left_bodies' g ≡ cond (bytes_eq m.name g) None (glyph_kept left_bodies g))
       → (left_runs' : List KeptRun) → ((g : List ℕ) → run_kept left_runs' g ≡ cond (bytes_eq m.name g) None (run_kept left_runs g))
       → (new : Records) → SetsBody (Glyph m.name) (Some body) now new → ((k : Key) (u : List ℕ) → lists new k u ≡ lists now k u)
@@ -215,7 +216,7 @@ module _ (was : Records) (bodies left_bodies : Glyphs) (runs left_runs : List Ke
         (all-last (IsRecorded runs ms) (map kept_of now.glyphs.entries) (kept m.name run m.bbox) before.each
         (record { run = sym run-here ∙ sym (inside (run_kept left_runs m.name) run_is); box = has-box ms at m far is }));
   } where
-    inside : (r : Option (Result NumberedRun Code)) → Some run ≡ run_in r → Some (Ok run) ≡ r
+    inside : (r : Option (Result TracedRun Code)) → Some run ≡ run_in r → Some (Ok run) ≡ r
     inside None e = absurd (cc)
     inside (Some (Err code)) e = absurd (cc)
     inside (Some (Ok x)) e = let same : run ≡ x = cc in ap (λ y. Some (Ok y)) same
@@ -261,7 +262,7 @@ module _ (was : Records) (bodies left_bodies : Glyphs) (runs left_runs : List Ke
   pub run-there : AllByRecursion (HasRun runs) ms → None ≡ run_in (run_kept left_runs m.name) → ⊥
   run-there have none =
       let its = has-run runs ms at m have far is in
-      let never : ◌≡◌ {A = Option NumberedRun} None (Some its.0) =
+      let never : ◌≡◌ {A = Option TracedRun} None (Some its.0) =
       none ∙ ap run_in (run-here was bodies left_bodies runs left_runs ms at now distinct before m far is ∙ its.1) in
       absurd (cc)
 

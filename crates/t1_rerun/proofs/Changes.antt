@@ -7,7 +7,8 @@ use Rattle.std.specs.Str.{bytes_eq}
 use Rattle.t1_code.specs.declared.command.Command.{Command}
 use Rattle.t1_parts.specs.SourceParts.{SourceParts}
 use Rattle.t1_run.specs.Footprint.{Includes}
-use Rattle.t1_run.specs.Run.{FontBodies, Key, Glyph, NumberedRun, own}
+use Rattle.t1_run.specs.Run.{FontBodies, Key, Glyph, own}
+use Rattle.t1_extent.specs.Kept.{TracedRun}
 use Rattle.t1_run.specs.Touched.{is_key_of, is_met, is_named, is_touched, is_user}
 use Rattle.t1_afm.specs.declared.bbox.BBox.{BBox}
 use Rattle.t1_font.specs.Bodies.{bodies, SameBodies}
@@ -25,7 +26,7 @@ use Rattle.t1_cache.specs.Users.{among, has_pair, key_eq, key_of, lists, rest_of
 use Rattle.t1_cache.proofs.Adding.{key-itself, key-same}
 use Rattle.t1_cache.proofs.Changing.{rest_same}
 use Rattle.t1_cache.proofs.Judging.{unnamed}
-use Rattle.t1_cache.proofs.Putting.{bytes_tell}
+use Rattle.t1_font.proofs.Lookups.{bytes_tell}
 use Rattle.t1_cache.proofs.Rooming.{room_for_joins}
 use Rattle.t1_rerun.specs.declared.renewal.Renewal.{Renewal}
 use Rattle.t1_rerun.specs.declared.settling.EntryChange.{EntryChange}
@@ -98,11 +99,11 @@ all-mapped P f (x ∷ xs) h = (h.0, all-mapped P f xs h.1)
 
 -- ---- a record with a new run
 
-abbrev with-pair : Option (NumberedRun × Option BBox) → Kept → Kept
+abbrev with-pair : Option (TracedRun × Option BBox) → Kept → Kept
 with-pair None k = k
 with-pair (Some r) k = record { name = k.name; run = r.0; box = r.1 }
 
-abbrev pair : Rerun → NumberedRun × Option BBox
+abbrev pair : Rerun → TracedRun × Option BBox
 pair r = (r.run, r.bbox)
 
 as-pair : (r : Option Rerun) (k : Kept) → with_rerun r k ≡ with-pair (option_map pair r) k
@@ -113,7 +114,7 @@ run-none : (r : Option Rerun) → option_map pair r ≡ None → is_some r ≡ f
 run-none None e = refl
 run-none (Some r) e = absurd (cc)
 
-run-there : (reruns : List Rerun) (name : List ℕ) (r : NumberedRun) (box : Option BBox) → new_run reruns name ≡ Some (r, box)
+run-there : (reruns : List Rerun) (name : List ℕ) (r : TracedRun) (box : Option BBox) → new_run reruns name ≡ Some (r, box)
     → IsOneOf (map rerun_kept reruns) (kept name r box)
 run-there [] name r box e = absurd (cc)
 run-there (x ∷ reruns) name r box e = by (bytes_eq name x.name.items) refl e (run-there reruns name r box) where
@@ -141,7 +142,7 @@ module _ (changes : List EntryChange) (old new : SourceParts) (before : Records)
   abbrev reruns : List Rerun
   reruns = renewal.reruns.items
 
-  abbrev run : List ℕ → Option (NumberedRun × Option BBox)
+  abbrev run : List ℕ → Option (TracedRun × Option BBox)
   run = new_run reruns
 
   abbrev count : Key → ℕ

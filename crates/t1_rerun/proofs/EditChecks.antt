@@ -1,7 +1,7 @@
 -- What an edit changes of the bodies of a source, and their first fault after it.
-use Rattle.std.proofs.Common.{◌≡◌, ℕ, Bool, true, not, ℤ, pos, negsuc, nat_le, ok_or, Option, Some, None, Result, Ok, Err, List, [], ◌∷◌, ◌++◌, take, drop, filter, map, codes, refl, sym, ◌∙◌, ap, subst, arith, inl, inr}
+use Rattle.std.proofs.Common.{◌≡◌, ℕ, Bool, true, ℤ, pos, negsuc, nat_le, Option, Some, None, Result, Ok, Err, List, [], ◌∷◌, ◌++◌, take, drop, map, refl, sym, ◌∙◌, ap, subst, arith, inl, inr}
 use Rattle.std.specs.Prelude.{◌||◌, ◌&&◌, false, MatchResult}
-use Rattle.std.specs.List.{list_any, AllByRecursion, position, position_or_len, insert, remove, slice_set}
+use Rattle.std.specs.List.{AllByRecursion, position_or_len, insert, remove, slice_set}
 use Rattle.std.specs.Option.{option_map, option_to_list}
 use Rattle.std.specs.Result.{result_ok}
 use Rattle.std.proofs.lemmas.Bool.{cases_Bool}
@@ -19,17 +19,15 @@ use Rattle.t1_code.specs.Words.{commands}
 use Rattle.t1_parts.specs.declared.item.Item.{Item}
 use Rattle.t1_parts.specs.declared.item.Item.TheVariants as items
 use Rattle.t1_parts.specs.SourceParts.{SourceParts}
-use Rattle.t1_parts.specs.Counts.{is_glyph_entry, raised, raised_item, subrs_needed, glyphs_needed}
+use Rattle.t1_parts.specs.Counts.{raised, raised_item, subrs_needed, glyphs_needed}
 use Rattle.t1_parts.specs.Entries.{is_subr, is_glyph}
 use Rattle.t1_source.specs.declared.edit.Edit.{Edit}
 use Rattle.t1_source.specs.declared.edit.Edit.TheVariants.{ReplaceGlyph, AddGlyph, RemoveGlyph, ReplaceSubr, AddSubr, RemoveSubr, Encode, Unencode, LenIv, Kern, Unkern}
 use Rattle.t1_source.specs.declared.edit.Rule.{Rule}
-use Rattle.t1_source.specs.declared.edit.Rule.TheVariants.{E1, E2, E4, E10}
+use Rattle.t1_source.specs.declared.edit.Rule.TheVariants.{E4}
 use Rattle.t1_pairs.specs.declared.pairs.Pair.{Pair}
-use Rattle.t1_source.specs.Editing.{keeps, number_up_to, body_words, good_name, good_body, with_items, with_clear, closing_at, closing_among, through_last, is_subr_entry, among_subrs_items, among_glyphs_items, has_section, replaced_glyph, added_glyph, removed_glyph, replaced_subr, added_subr, removed_subr, array_parts, encoded_lines, encoded, unencoded, lead_edited, is_slot_of, kerned, unkerned, edited}
-use Rattle.t1_source.specs.Leads.{line_with_lead, lead_line, says_lead, is_section_line, line_at, lead_put, items_with_lead}
-use Rattle.t1_frac.proofs.OutcomeLaws.{bind_ok}
-use Rattle.t1_source.proofs.WellFormedItemsLaws.{given_some}
+use Rattle.t1_source.specs.Editing.{number_up_to, body_words, replaced_glyph, added_glyph, removed_glyph, replaced_subr, added_subr, removed_subr, encoded, unencoded, lead_edited, kerned, unkerned, edited}
+use Rattle.t1_source.specs.Leads.{line_with_lead, lead_line, says_lead, is_section_line, line_at}
 use Rattle.t1_source.proofs.WellFormedEditedLaws.{source_given, source_same}
 use Rattle.t1_source.proofs.ItemPlaceLaws.{position_first, set_there, removed_there}
 use Rattle.t1_run.specs.Footprint.{Includes}
@@ -40,8 +38,9 @@ use Rattle.t1_font.specs.Bodies.{bodies_check, body_check, words_check}
 use Rattle.t1_font.proofs.LengthLaws.{body_fault_told}
 use Rattle.t1_cache.specs.Edited.{body_after, named, IsEditedAt}
 use Rattle.t1_cache.specs.Users.{key_of}
+use Rattle.t1_cache.proofs.Accepted.{glyph_at, last_glyph, last_subr, new_glyph, new_subr, subr_at, added_glyph-made, added_subr-made, encoded-made, lead-made, removed_glyph-made, removed_subr-made, replaced_glyph-made, replaced_subr-made, unencoded-made, IsLeadMade, IsOut, IsPut, LeadIn, LeadPut}
 use Rattle.t1_cache.proofs.EditedBodies.{body_edited}
-use Rattle.t1_cache.proofs.Edits.{edits_named, made-items}
+use Rattle.t1_cache.proofs.Edits.{edits_named}
 use Rattle.t1_rerun.specs.declared.settling.EntryChange.{EntryChange}
 use Rattle.t1_rerun.specs.EntryChanges.{edit_change, key_change, number_within, put_key, put_number, removed_number, KeyChange, IsChanged, IsMade}
 use Rattle.t1_rerun.specs.Renewing.{entry_key, number_key}
@@ -97,27 +96,26 @@ module _ (a xs b : List Item) (fine : bodies_check (a ++ (xs ++ b)) ≡ Ok tt) w
   without = check-append a b ∙ ap (λ r. r >>= λ _. bodies_check b) front ∙ back
 
 module _ (s made : SourceParts) (fine : bodies_check s.items ≡ Ok tt) where
-  put-checks : (test : Item → Bool) (at : ℕ) (y : Item) → position test s.items ≡ Some at → made.items ≡ raised (slice_set s.items at y)
-      → bodies_check made.items ≡ body_check y
-  put-checks test at y there is =
-      let f = position_first test s.items at there in
+  put-checks : (test : Item → Bool) (y : ℕ → Item) → (put : IsPut test y s made) → bodies_check made.items ≡ body_check (y put.at)
+  put-checks test y put =
+      let f = position_first test s.items put.at put.there in
       let a = f.found.before in
       let x = f.found.here in
       let b = f.found.after in
-      let items = slice_set s.items at y in
-      ap bodies_check is ∙ check-raised (subrs_needed items) (glyphs_needed items) items
-      ∙ ap bodies_check (ap (λ t. slice_set t at y) f.found.whole ∙ set_there a x b at y f.place)
-      ∙ with-entry a (x ∷ []) b (ap bodies_check (sym f.found.whole) ∙ fine) y
+      let items = slice_set s.items put.at (y put.at) in
+      ap bodies_check put.are ∙ check-raised (subrs_needed items) (glyphs_needed items) items
+      ∙ ap bodies_check (ap (λ t. slice_set t put.at (y put.at)) f.found.whole ∙ set_there a x b put.at (y put.at) f.place)
+      ∙ with-entry a (x ∷ []) b (ap bodies_check (sym f.found.whole) ∙ fine) (y put.at)
 
-  out-checks : (test : Item → Bool) (at : ℕ) → position test s.items ≡ Some at → made.items ≡ raised (remove s.items at) → bodies_check made.items ≡ Ok tt
-  out-checks test at there is =
-      let f = position_first test s.items at there in
+  out-checks : (test : Item → Bool) → IsOut test s made → bodies_check made.items ≡ Ok tt
+  out-checks test out =
+      let f = position_first test s.items out.at out.there in
       let a = f.found.before in
       let x = f.found.here in
       let b = f.found.after in
-      let items = remove s.items at in
-      ap bodies_check is ∙ check-raised (subrs_needed items) (glyphs_needed items) items
-      ∙ ap bodies_check (ap (λ t. remove t at) f.found.whole ∙ removed_there a x b at f.place)
+      let items = remove s.items out.at in
+      ap bodies_check out.are ∙ check-raised (subrs_needed items) (glyphs_needed items) items
+      ∙ ap bodies_check (ap (λ t. remove t out.at) f.found.whole ∙ removed_there a x b out.at f.place)
       ∙ without a (x ∷ []) b (ap bodies_check (sym f.found.whole) ∙ fine)
 
   in-checks : (at : ℕ) (y : Item) → made.items ≡ raised (insert s.items at y) → bodies_check made.items ≡ body_check y
@@ -159,116 +157,40 @@ number-put v n words e = words-put (Subr n) (places.Subr n) words ∙ sym (ap (�
 -- ---- the edits of entries
 
 module _ (s made : SourceParts) (fine : bodies_check s.items ≡ Ok tt) where
-  replaced_glyph-checks : (g body : List ℕ) → replaced_glyph s g body ≡ Ok made → bodies_check made.items ≡ words_check (places.Glyph g) (body_words body)
-  unfolding replaced_glyph
-  replaced_glyph-checks g body e =
-      let y : ℕ → Item = λ at. items.Glyph g (body_words body) (closing_at at s.items) in
-      let placing : Result SourceParts Rule = ok_or (position (is_glyph g) s.items) E1 >>= λ at. Ok (with_items s (slice_set s.items at (y at))) in
-      let first = bind_ok (good_name g) (λ named. good_body body >>= λ closed. placing) made e in
-      let second = bind_ok (good_body body) (λ closed. placing) made first.2 in
-      let placed = bind_ok (ok_or (position (is_glyph g) s.items) E1) (λ at. Ok (with_items s (slice_set s.items at (y at)))) made second.2 in
-      put-checks s made fine (is_glyph g) placed.0 (y placed.0) (given_some (position (is_glyph g) s.items) E1 placed.0 placed.1) (made-items s made _ placed.2)
-
-  removed_glyph-checks : (g : List ℕ) → removed_glyph s g ≡ Ok made → bodies_check made.items ≡ Ok tt
-  unfolding removed_glyph
-  removed_glyph-checks g e =
-      let first = bind_ok (good_name g) (λ named. ok_or (position (is_glyph g) s.items) E1 >>= λ at. Ok (with_items s (remove s.items at))) made e in
-      let placed = bind_ok (ok_or (position (is_glyph g) s.items) E1) (λ at. Ok (with_items s (remove s.items at))) made first.2 in
-      out-checks s made fine (is_glyph g) placed.0 (given_some (position (is_glyph g) s.items) E1 placed.0 placed.1) (made-items s made _ placed.2)
-
-  added_glyph-checks : (g body : List ℕ) → added_glyph s g body ≡ Ok made → bodies_check made.items ≡ words_check (places.Glyph g) (body_words body)
-  unfolding added_glyph
-  added_glyph-checks g body e =
-      let y : Item = items.Glyph g (body_words body) (closing_among is_glyph_entry (codes "noaccess def") s.items) in
-      let done : Result SourceParts Rule = Ok (with_items s (insert s.items (through_last among_glyphs_items s.items) y)) in
-      let first = bind_ok (good_name g) (λ named. good_body body >>= λ closed. keeps E2 (not (list_any (is_glyph g) s.items)) >>= λ fresh. done) made e in
-      let second = bind_ok (good_body body) (λ closed. keeps E2 (not (list_any (is_glyph g) s.items)) >>= λ fresh. done) made first.2 in
-      let third = bind_ok (keeps E2 (not (list_any (is_glyph g) s.items))) (λ fresh. done) made second.2 in
-      in-checks s made fine (through_last among_glyphs_items s.items) y (made-items s made _ third.2)
-
   replaced_subr-checks : (v : ℤ) (body : List ℕ) → replaced_subr s v body ≡ Ok made → bodies_check made.items ≡ unit_of (put_number (number_within v) (body_words body))
-  unfolding replaced_subr
   replaced_subr-checks v body e =
-      let y : ℕ → ℕ → Item = λ n at. items.Subr n (body_words body) (closing_at at s.items) in
-      let placing : ℕ → Result SourceParts Rule = λ n. ok_or (position (is_subr n) s.items) E1 >>= λ at. Ok (with_items s (slice_set s.items at (y n at))) in
-      let number = bind_ok (number_up_to 32000 v) (λ n. good_body body >>= λ closed. has_section s >>= λ section. placing n) made e in
-      let n = number.0 in
-      let second = bind_ok (good_body body) (λ closed. has_section s >>= λ section. placing n) made number.2 in
-      let third = bind_ok (has_section s) (λ section. placing n) made second.2 in
-      let placed = bind_ok (ok_or (position (is_subr n) s.items) E1) (λ at. Ok (with_items s (slice_set s.items at (y n at)))) made third.2 in
-      put-checks s made fine (is_subr n) placed.0 (y n placed.0) (given_some (position (is_subr n) s.items) E1 placed.0 placed.1) (made-items s made _ placed.2)
-      ∙ number-put v n (body_words body) number.1
-
-  removed_subr-checks : (v : ℤ) → removed_subr s v ≡ Ok made → bodies_check made.items ≡ Ok tt
-  unfolding removed_subr
-  removed_subr-checks v e =
-      let placing : ℕ → Result SourceParts Rule = λ n. ok_or (position (is_subr n) s.items) E1 >>= λ at. Ok (with_items s (remove s.items at)) in
-      let number = bind_ok (number_up_to 32000 v) (λ n. has_section s >>= λ section. placing n) made e in
-      let n = number.0 in
-      let third = bind_ok (has_section s) (λ section. placing n) made number.2 in
-      let placed = bind_ok (ok_or (position (is_subr n) s.items) E1) (λ at. Ok (with_items s (remove s.items at))) made third.2 in
-      out-checks s made fine (is_subr n) placed.0 (given_some (position (is_subr n) s.items) E1 placed.0 placed.1) (made-items s made _ placed.2)
+      let its = replaced_subr-made s v body made e in
+      put-checks s made fine (is_subr its.n) (subr_at s body its.n) its.made ∙ number-put v its.n (body_words body) its.within
 
   added_subr-checks : (v : ℤ) (body : List ℕ) → added_subr s v body ≡ Ok made → bodies_check made.items ≡ unit_of (put_number (number_within v) (body_words body))
-  unfolding added_subr
   added_subr-checks v body e =
-      let y : ℕ → Item = λ n. items.Subr n (body_words body) (closing_among is_subr_entry (codes "noaccess put") s.items) in
-      let done : ℕ → Result SourceParts Rule = λ n. Ok (with_items s (insert s.items (through_last among_subrs_items s.items) (y n))) in
-      let fresh : ℕ → Result SourceParts Rule = λ n. keeps E2 (not (list_any (is_subr n) s.items)) >>= λ fresh. done n in
-      let number = bind_ok (number_up_to 32000 v) (λ n. good_body body >>= λ closed. has_section s >>= λ section. fresh n) made e in
-      let n = number.0 in
-      let second = bind_ok (good_body body) (λ closed. has_section s >>= λ section. fresh n) made number.2 in
-      let third = bind_ok (has_section s) (λ section. fresh n) made second.2 in
-      let fourth = bind_ok (keeps E2 (not (list_any (is_subr n) s.items))) (λ fresh. done n) made third.2 in
-      in-checks s made fine (through_last among_subrs_items s.items) (y n) (made-items s made _ fourth.2)
-      ∙ number-put v n (body_words body) number.1
+      let its = added_subr-made s v body made e in
+      in-checks s made fine (last_subr s) (new_subr s body its.n) its.made.are ∙ number-put v its.n (body_words body) its.within
+
+  removed_subr-checks : (v : ℤ) → removed_subr s v ≡ Ok made → bodies_check made.items ≡ Ok tt
+  removed_subr-checks v e = let its = removed_subr-made s v made e in out-checks s made fine (is_subr its.n) its.made
 
   -- ---- the others
 
-  made-clear : (ls : List (List ℕ)) → ◌≡◌ {A = Result SourceParts Rule} (Ok (with_clear s ls)) (Ok made) → s.items ≡ made.items
-  made-clear ls e = let is : with_clear s ls ≡ made = cc in ap (λ t. t.items) is
-
-  encoded-checks : (v : ℤ) (g : List ℕ) → encoded s v g ≡ Ok made → bodies_check made.items ≡ Ok tt
-  unfolding encoded
-  encoded-checks v g e =
-      let first = bind_ok (good_name g) (λ named. number_up_to 255 v >>= λ code. array_parts s.clear >>= λ array. Ok (with_clear s (array.front ++ encoded_lines code g array.lines ++ array.back))) made e in
-      let second = bind_ok (number_up_to 255 v) (λ code. array_parts s.clear >>= λ array. Ok (with_clear s (array.front ++ encoded_lines code g array.lines ++ array.back))) made first.2 in
-      let third = bind_ok (array_parts s.clear) (λ array. Ok (with_clear s (array.front ++ encoded_lines second.0 g array.lines ++ array.back))) made second.2 in
-      same-checks s made fine (made-clear _ third.2)
-
-  unencoded-checks : (v : ℤ) → unencoded s v ≡ Ok made → bodies_check made.items ≡ Ok tt
-  unfolding unencoded
-  unencoded-checks v e =
-      let first = bind_ok (number_up_to 255 v) (λ code. array_parts s.clear >>= λ array. keeps E10 (list_any (is_slot_of code) array.lines) >>= λ some. Ok (with_clear s (array.front ++ filter (λ l. not (is_slot_of code l)) array.lines ++ array.back))) made e in
-      let second = bind_ok (array_parts s.clear) (λ array. keeps E10 (list_any (is_slot_of first.0) array.lines) >>= λ some. Ok (with_clear s (array.front ++ filter (λ l. not (is_slot_of first.0 l)) array.lines ++ array.back))) made first.2 in
-      let third = bind_ok (keeps E10 (list_any (is_slot_of first.0) second.0.lines)) (λ some. Ok (with_clear s (second.0.front ++ filter (λ l. not (is_slot_of first.0 l)) second.0.lines ++ second.0.back))) made second.2 in
-      same-checks s made fine (made-clear _ third.2)
-
-  lead_put-checks : (n : ℕ) (o : Option ℕ) → position says_lead s.items ≡ o → made.items ≡ raised (lead_put n s.items o) → bodies_check made.items ≡ Ok tt
-  lead_put-checks n None there is = in-checks s made fine (position_or_len is_section_line s.items) (items.Plain (lead_line n)) is
-  lead_put-checks n (Some at) there is = put-checks s made fine says_lead at (items.Plain (line_with_lead n (line_at at s.items))) there is
-
-  lead-checks : (v : ℤ) → lead_edited s v ≡ Ok made → bodies_check made.items ≡ Ok tt
-  unfolding lead_edited items_with_lead
-  lead-checks v e =
-      let number = bind_ok (number_up_to 64 v) (λ n. Ok (with_items s (items_with_lead n s.items))) made e in
-      lead_put-checks number.0 (position says_lead s.items) refl (made-items s made _ number.2)
+  lead-checks : IsLeadMade s made → bodies_check made.items ≡ Ok tt
+  lead-checks (LeadIn n is) = in-checks s made fine (position_or_len is_section_line s.items) (items.Plain (lead_line n)) is
+  lead-checks (LeadPut n put) = put-checks s made fine says_lead (λ at. items.Plain (line_with_lead n (line_at at s.items))) put
 
 -- after an edit of a source whose bodies have no fault the first is that of the edit's words
 pub edits_checked : (s : SourceParts) (k : List Pair) (edit : Edit) (made : SourceParts) (ps : List Pair) → bodies_check s.items ≡ Ok tt
     → edited s k edit ≡ Ok (made, ps) → bodies_check made.items ≡ unit_of (edit_change edit)
 unfolding edited
 edits_checked s k (ReplaceGlyph g body) made ps fine e =
-    replaced_glyph-checks s made fine g body (source_given k ps (replaced_glyph s g body) made e) ∙ words-put (Glyph g) (places.Glyph g) (body_words body)
+    put-checks s made fine (is_glyph g) (glyph_at s g body) (replaced_glyph-made s g body made (source_given k ps (replaced_glyph s g body) made e)) ∙ words-put (Glyph g) (places.Glyph g) (body_words body)
 edits_checked s k (AddGlyph g body) made ps fine e =
-    added_glyph-checks s made fine g body (source_given k ps (added_glyph s g body) made e) ∙ words-put (Glyph g) (places.Glyph g) (body_words body)
-edits_checked s k (RemoveGlyph g) made ps fine e = removed_glyph-checks s made fine g (source_given k ps (removed_glyph s g) made e)
+    in-checks s made fine (last_glyph s) (new_glyph s g body) (added_glyph-made s g body made (source_given k ps (added_glyph s g body) made e)).are ∙ words-put (Glyph g) (places.Glyph g) (body_words body)
+edits_checked s k (RemoveGlyph g) made ps fine e = out-checks s made fine (is_glyph g) (removed_glyph-made s g made (source_given k ps (removed_glyph s g) made e))
 edits_checked s k (ReplaceSubr n body) made ps fine e = replaced_subr-checks s made fine n body (source_given k ps (replaced_subr s n body) made e)
 edits_checked s k (AddSubr n body) made ps fine e = added_subr-checks s made fine n body (source_given k ps (added_subr s n body) made e)
 edits_checked s k (RemoveSubr n) made ps fine e = removed_subr-checks s made fine n (source_given k ps (removed_subr s n) made e)
-edits_checked s k (Encode code g) made ps fine e = encoded-checks s made fine code g (source_given k ps (encoded s code g) made e)
-edits_checked s k (Unencode code) made ps fine e = unencoded-checks s made fine code (source_given k ps (unencoded s code) made e)
-edits_checked s k (LenIv n) made ps fine e = lead-checks s made fine n (source_given k ps (lead_edited s n) made e)
+edits_checked s k (Encode code g) made ps fine e = same-checks s made fine (encoded-made s code g made (source_given k ps (encoded s code g) made e))
+edits_checked s k (Unencode code) made ps fine e = same-checks s made fine (unencoded-made s code made (source_given k ps (unencoded s code) made e))
+edits_checked s k (LenIv n) made ps fine e = lead-checks s made fine (lead-made s n made (source_given k ps (lead_edited s n) made e))
 edits_checked s k (Kern left right v) made ps fine e = same-checks s made fine (ap (λ t. t.items) (source_same s ps (kerned k left right v) made e))
 edits_checked s k (Unkern left right) made ps fine e = same-checks s made fine (ap (λ t. t.items) (source_same s ps (unkerned k left right) made e))
 

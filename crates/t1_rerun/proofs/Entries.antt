@@ -17,7 +17,6 @@ use Rattle.t1_source.specs.declared.edit.Rule.TheVariants.{E4}
 use Rattle.t1_pairs.specs.declared.pairs.Pair.{Pair}
 use Rattle.t1_source.specs.Editing.{number_up_to, replaced_subr, added_subr, removed_subr, edited}
 use Rattle.t1_source.specs.WellFormed.{IsWellFormed}
-use Rattle.t1_frac.proofs.OutcomeLaws.{bind_ok}
 use Rattle.t1_source.proofs.WellFormedEditedLaws.{source_given}
 use Rattle.t1_font.specs.Glyphs.{glyph_names}
 use Rattle.t1_cache.specs.Edited.{named, names_after, subr_key}
@@ -26,6 +25,9 @@ use Rattle.t1_cache.proofs.Distinct.{names_distinct}
 use Rattle.t1_cache.proofs.EditedNames.{names_edited}
 use Rattle.t1_rerun.specs.Renewing.{entry_key, number_key}
 use Rattle.t1_rerun.specs.Right.{has_glyph}
+use Rattle.t1_font.proofs.Keeping.{bytes_self}
+use Rattle.t1_cache.proofs.Accepted.{added_subr-made, removed_subr-made, replaced_subr-made}
+use Rattle.t1_cache.proofs.Names.{or-left, or-right}
 use Rattle.t1_rerun.proofs.Meeting.{all-among, among-off, among-passing}
 
 -- ---- the key that an edit names
@@ -39,16 +41,13 @@ number-of (pos m) n e =
     ]
 
 subr-replaced : (s : SourceParts) (v : ℤ) (body : List ℕ) (made : SourceParts) → replaced_subr s v body ≡ Ok made → option_to_list (number_key v) ≡ subr_key v
-unfolding replaced_subr
-subr-replaced s v body made e = let number = bind_ok (number_up_to 32000 v) _ made e in number-of v number.0 number.1
+subr-replaced s v body made e = let its = replaced_subr-made s v body made e in number-of v its.n its.within
 
 subr-added : (s : SourceParts) (v : ℤ) (body : List ℕ) (made : SourceParts) → added_subr s v body ≡ Ok made → option_to_list (number_key v) ≡ subr_key v
-unfolding added_subr
-subr-added s v body made e = let number = bind_ok (number_up_to 32000 v) _ made e in number-of v number.0 number.1
+subr-added s v body made e = let its = added_subr-made s v body made e in number-of v its.n its.within
 
 subr-removed : (s : SourceParts) (v : ℤ) (made : SourceParts) → removed_subr s v ≡ Ok made → option_to_list (number_key v) ≡ subr_key v
-unfolding removed_subr
-subr-removed s v made e = let number = bind_ok (number_up_to 32000 v) _ made e in number-of v number.0 number.1
+subr-removed s v made e = let its = removed_subr-made s v made e in number-of v its.n its.within
 
 -- an edit that is made names the entry of its key
 pub key-named : (s : SourceParts) (k : List Pair) (edit : Edit) (made : SourceParts) (ps : List Pair) → edited s k edit ≡ Ok (made, ps)
@@ -67,17 +66,6 @@ key-named s k (Kern left right v) made ps e = refl
 key-named s k (Unkern left right) made ps e = refl
 
 -- ---- the order of the glyphs
-
-bytes_self : (a : List ℕ) → bytes_eq a a ≡ true
-bytes_self a = (bytes_eq-Decides a a).1 refl
-
-or_right : (a b : Bool) → b ≡ true → (a || b) ≡ true
-or_right true b h = refl
-or_right false b h = h
-
-or_left : (a b : Bool) → a ≡ true → (a || b) ≡ true
-or_left true b h = refl
-or_left false b h = absurd (cc)
 
 all-pass : (p : List ℕ → Bool) (xs : List (List ℕ)) → AllByRecursion (λ x. p x ≡ true) xs → filter p xs ≡ xs
 all-pass p [] h = refl
@@ -113,7 +101,7 @@ last-not (x ∷ xs) g d =
     apart true e =
         let same : g ≡ x = (bytes_eq-Decides g x).0 e in
         let there : list_any (bytes_eq x) (xs ++ g ∷ []) ≡ true =
-        list_any-append (bytes_eq x) xs (g ∷ []) ∙ or_right (list_any (bytes_eq x) xs) (bytes_eq x g || false) (or_left (bytes_eq x g) false (ap (bytes_eq x) same ∙ bytes_self x)) in
+        list_any-append (bytes_eq x) xs (g ∷ []) ∙ or-right (list_any (bytes_eq x) xs) (bytes_eq x g || false) (or-left (bytes_eq x g) false (ap (bytes_eq x) same ∙ bytes_self x)) in
         let never : true ≡ false = sym there ∙ d.0 in
         absurd (cc)
     apart false e = e
@@ -121,7 +109,7 @@ last-not (x ∷ xs) g d =
 added-order : (xs : List (List ℕ)) (g : List ℕ) → AreDistinct (xs ++ g ∷ [])
     → xs ++ g ∷ [] ≡ filter (λ x. list_any (bytes_eq x) (xs ++ g ∷ [])) xs ++ filter (λ x. not (list_any (bytes_eq x) xs)) (xs ++ g ∷ [])
 added-order xs g d =
-    let all = all-among xs (xs ++ g ∷ []) (λ x h. list_any-append (bytes_eq x) xs (g ∷ []) ∙ or_left (list_any (bytes_eq x) xs) (bytes_eq x g || false) h) in
+    let all = all-among xs (xs ++ g ∷ []) (λ x h. list_any-append (bytes_eq x) xs (g ∷ []) ∙ or-left (list_any (bytes_eq x) xs) (bytes_eq x g || false) h) in
     let fresh : filter (λ x. not (list_any (bytes_eq x) xs)) (g ∷ []) ≡ g ∷ [] = rw (last-not xs g d) refl in
     sym (ap (λ l. l ++ filter (λ x. not (list_any (bytes_eq x) xs)) (xs ++ g ∷ [])) (all-pass (λ x. list_any (bytes_eq x) (xs ++ g ∷ [])) xs all)
     ∙ ap (λ l. xs ++ l) (filter-append (λ x. not (list_any (bytes_eq x) xs)) xs (g ∷ [])
@@ -139,7 +127,7 @@ passed p x (y ∷ xs) h = one (p y) (passed p x xs) h where
         → (b || list_any (bytes_eq x) xs) ≡ true
     either true below h = refl
     either false below h = below h
-  one false below h = or_right (bytes_eq x y) (list_any (bytes_eq x) xs) (below h)
+  one false below h = or-right (bytes_eq x y) (list_any (bytes_eq x) xs) (below h)
 
 tests-agree : (p q : List ℕ → Bool) (xs : List (List ℕ)) → AllByRecursion (λ x. p x ≡ q x) xs → filter p xs ≡ filter q xs
 tests-agree p q [] h = refl

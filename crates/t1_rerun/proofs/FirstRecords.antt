@@ -24,7 +24,7 @@ use Rattle.t1_font.specs.Assembly.{file_check}
 use Rattle.t1_font.specs.Bodies.{bodies, bodies_check, SameBodies}
 use Rattle.t1_font.specs.Glyphs.{Glyph as Told, glyphs, glyphs_by, glyph_names}
 use Rattle.t1_font.specs.MeasuredGlyphs.{glyph_metrics, glyph_metrics_among}
-use Rattle.t1_font.specs.Runs.{Kept as KeptRun, drawing_kept, run_kept, kept_of as run_of, own_among, counted, Counts, CountsSome, IsAfter}
+use Rattle.t1_font.specs.Runs.{Kept as KeptRun, drawing_kept, run_kept, kept_of as run_of, own_among, counted, AreTraced, Counts, CountsSome, IsAfter, IsTracedAs}
 use Rattle.t1_font.specs.SourceChecks.{source_check}
 use Rattle.t1_font.proofs.Counted.{counted-source}
 use Rattle.t1_font.proofs.Measuring.{keeps-own, names-there, KeepsOwn}
@@ -43,7 +43,7 @@ use Rattle.t1_rerun.proofs.Building.{same-twice}
 use Rattle.t1_rerun.proofs.Gathering.{box-measured, measured-all, ok-run}
 use Rattle.t1_rerun.proofs.Meeting.{glyph-among, same-function}
 use Rattle.t1_rerun.proofs.Reaching.{all-some}
-use Rattle.t1_cache.proofs.Putting.{bytes_tell}
+use Rattle.t1_font.proofs.Lookups.{bytes_tell}
 
 -- ---- fonts with the same bodies
 
@@ -154,27 +154,28 @@ module _ (s : SourceParts) (file : file_check s ≡ Ok tt) where
         draw = λ g. keeps g ∙ sym (own-alike bs m same g);
       }
 
-      from-scratch : (k : Kept) → IsRecorded runs metrics k → IsFromScratch m k
-      from-scratch k is =
+      from-scratch : AreTraced runs → (k : Kept) → IsRecorded runs metrics k → IsFromScratch m k
+      from-scratch traced k is =
           let box = box-measured (own m) metrics k.name k.box all.0 is.box in
           record {
             segments = box.1.0;
             run = sym (keeps k.name) ∙ ap (option_map drawing_kept) is.run;
+            trace = subst (IsTracedAs k.name) is.run (traced k.name);
             draws = sym (outline-is m k.name) ∙ box.1.1.1.0;
             box = box.1.1.1.1;
           }
 
       -- records of what was measured are those of the source
-      pub are-right : (records : Records) → SameBodies (record_bodies records) bs → AreTables bs records
+      pub are-right : AreTraced runs → (records : Records) → SameBodies (record_bodies records) bs → AreTables bs records
           → map (λ k. k.name) (map kept_of records.glyphs.entries) ≡ measured_names metrics
           → AllByRecursion (IsRecorded runs metrics) (map kept_of records.glyphs.entries) → IsRight s records
-      are-right records compiled users order each = record {
+      are-right traced records compiled users order each = record {
         compiled = same-twice (record_bodies records) bs m compiled same;
         kept = record {
           glyphs = its-glyphs.0;
           faultless = ap (λ r. r >>= λ checked. glyphs m (glyph_names s.items)) file ∙ its-glyphs.1;
           from_scratch = shown-all m (glyph_names s.items) its-glyphs.0 (map kept_of records.glyphs.entries) its-glyphs.1 (order ∙ all.1)
-              (all-weaken (IsRecorded runs metrics) (IsFromScratch m) from-scratch (map kept_of records.glyphs.entries) each);
+              (all-weaken (IsRecorded runs metrics) (IsFromScratch m) (from-scratch traced) (map kept_of records.glyphs.entries) each);
         };
         users = λ k g. users k g ∙ ap (is_user k) (own-alike bs m same g);
       }

@@ -14,7 +14,8 @@ use Rattle.t1_code.specs.declared.command.Command.{Command}
 use Rattle.t1_parts.specs.SourceParts.{SourceParts}
 use Rattle.t1_run.specs.declared.outline.Segment.{Segment}
 use Rattle.t1_run.specs.Composite.{outline, outline_within}
-use Rattle.t1_run.specs.Run.{FontBodies, Key, Drawing, NumberedRun, own}
+use Rattle.t1_run.specs.Run.{FontBodies, Key, Drawing, own}
+use Rattle.t1_extent.specs.Kept.{TracedRun}
 use Rattle.t1_run.specs.Touched.{is_user}
 use Rattle.t1_afm.specs.declared.bbox.BBox.{BBox}
 use Rattle.t1_afm.specs.Box.{drawn_box}
@@ -24,7 +25,7 @@ use Rattle.t1_font.specs.Assembly.{file_check}
 use Rattle.t1_font.specs.Bodies.{bodies, SameBodies}
 use Rattle.t1_font.specs.Glyphs.{Glyph as Told, glyph_of, placed_parts_of, glyphs_by, glyphs, glyph_names}
 use Rattle.t1_font.specs.MeasuredGlyphs.{glyph_metrics, glyph_metrics_among}
-use Rattle.t1_font.specs.Runs.{Kept as KeptRun, drawing_kept, run_kept, kept_of as run_of, own_among}
+use Rattle.t1_font.specs.Runs.{Kept as KeptRun, drawing_kept, run_kept, kept_of as run_of, own_among, AreTraced, IsTracedAs}
 use Rattle.t1_font.specs.SourceChecks.{source_glyphs, source_check}
 use Rattle.t1_cache.specs.declared.records.Rerun.{Rerun}
 use Rattle.t1_cache.specs.declared.records.Records.{Records}
@@ -114,7 +115,7 @@ box-measured run (m ∷ metrics) g box all (inl h) =
     (all.0.drawing, (all.0.segments, (ap run (sym h.0) ∙ all.0.ran, (ap (outline_within run 4) (sym h.0) ∙ all.0.draws, sym h.1 ∙ all.0.box))))
 box-measured run (m ∷ metrics) g box all (inr h) = box-measured run metrics g box all.1 h
 
-pub ok-run : (k : Option (Result NumberedRun Code)) (d : Drawing) → option_map drawing_kept k ≡ Some (Ok d) → (r : NumberedRun) × (k ≡ Some (Ok r))
+pub ok-run : (k : Option (Result TracedRun Code)) (d : Drawing) → option_map drawing_kept k ≡ Some (Ok d) → (r : TracedRun) × (k ≡ Some (Ok r))
 ok-run None d e = absurd (cc)
 ok-run (Some (Err code)) d e = absurd (cc)
 ok-run (Some (Ok r)) d e = (r, refl)
@@ -194,7 +195,7 @@ module _ (keys : List Key) (old new : SourceParts) (told : List Told) (edit : Is
       by (refusals.Fault fault) (Ok ts) h = absurd (cc)
       by (refusals.Fault fault) (Err e) h = cc
 
-  module _ (runs : List KeptRun) (runs-are : (g : List ℕ) → run_of runs g ≡ own_among m (stale old keys new) g)
+  module _ (runs : List KeptRun) (runs-are : (g : List ℕ) → run_of runs g ≡ own_among m (stale old keys new) g) (traced : AreTraced runs)
       (metrics : List GlyphMetrics) (measured : glyph_metrics_among newest (stale old keys new) ≡ Ok metrics) where
     all-measured : AllByRecursion (IsMeasured newest) metrics × (map (λ x. x.name) metrics ≡ stale old keys new)
     all-measured = measured-all newest (stale old keys new) metrics measured
@@ -215,6 +216,7 @@ module _ (keys : List Key) (old new : SourceParts) (told : List Told) (edit : Is
         record {
           segments = box.1.0;
           run = ran;
+          trace = subst (IsTracedAs g) is.run (traced g);
           draws = sym (newest-is keys old new told edit was records kept m bodies-are g body.0 body.1).1 ∙ box.1.1.1.0;
           box = box.1.1.1.1;
         }

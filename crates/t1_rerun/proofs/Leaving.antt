@@ -11,7 +11,7 @@ use Rattle.t1_cache.specs.Bodies.{record_bodies}
 use Rattle.t1_cache.specs.Overlay.{body_at}
 use Rattle.t1_cache.specs.Renewed.{Kept, kept, kept_of}
 use Rattle.t1_cache.specs.Users.{has, is_key_among, key_eq, key_of, users_at}
-use Rattle.t1_cache.proofs.Putting.{bytes_tell}
+use Rattle.t1_font.proofs.Lookups.{bytes_tell}
 use Rattle.t1_rerun.specs.declared.settling.steps.Step.{Step}
 use Rattle.t1_rerun.specs.declared.settling.steps.Step.TheVariants as steps
 use Rattle.t1_rerun.specs.Steps.{after, after_all, seen, step_body, step_kept, step_key, step_users, takes_out, AreTakenOut, Seen}

@@ -18,3 +18,4 @@ pub mod Stepping
 pub mod Steps
 pub mod Taking
 pub mod Telling
+pub mod Traces

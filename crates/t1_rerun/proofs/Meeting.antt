@@ -1,59 +1,37 @@
 -- The glyphs that are found are the stale ones of the edited source, and the newest runs are its runs.
 use Rattle.std.proofs.Common.{◌≡◌, ℕ, Bool, true, false, cond, List, [], ◌∷◌, map, filter, refl, sym, ◌∙◌, ap, inl, inr, Option, Some, None}
-use Rattle.std.specs.Prelude.{Result, Ok, Err, ◌||◌}
+use Rattle.std.specs.Prelude.{Result, Ok, ◌||◌}
 use Rattle.std.specs.List.{AllByRecursion, list_any}
-use Rattle.std.specs.Option.{option_map, option_or}
+use Rattle.std.specs.Option.{option_or}
 use Rattle.std.specs.Str.{bytes_eq}
-use Rattle.std.specs.declared.alloc.Global.{Global}
-use Rattle.std.specs.declared.vec.Vec.{Vec}
-use Rattle.std.proofs.lemmas.Bool.{cases_Bool}
-use Rattle.std.proofs.lemmas.Slice.Eq.{bytes_eq-Decides}
+use Rattle.std.proofs.lemmas.Bool.{cases_Bool, or_parts}
 use Rattle.t1_frac.specs.declared.fault.Code.{Code}
-use Rattle.t1_frac.specs.declared.fault.Fault.{Fault}
-use Rattle.t1_frac.specs.declared.fault.Place.TheVariants as places
-use Rattle.t1_frac.specs.Outcome.{told_at, ◌>>=◌}
 use Rattle.t1_code.specs.declared.command.Command.{Command}
 use Rattle.t1_parts.specs.declared.item.Item.{Item}
 use Rattle.t1_parts.specs.SourceParts.{SourceParts}
-use Rattle.t1_run.specs.declared.outline.Segment.{Segment}
 use Rattle.t1_run.specs.Composite.{outline, outline_within}
 use Rattle.t1_run.specs.Footprint.{Includes}
 use Rattle.t1_run.specs.Run.{FontBodies, Key, Glyph, Drawing, own, own_of}
 use Rattle.t1_run.specs.Touched.{is_key_of, is_named, is_met, is_user, meets_run, meets_parts, touched_within, is_touched}
 use Rattle.t1_run.proofs.Agreeing.{own_same}
 use Rattle.t1_run.proofs.FoundByUsers.{found_are_touched}
-use Rattle.t1_run.proofs.Untouched.{or-false}
-use Rattle.t1_font.specs.declared.glyph_metrics.PlacedParts.{PlacedParts}
 use Rattle.t1_font.specs.Bodies.{bodies, glyph_among, SameBodies}
-use Rattle.t1_font.specs.Glyphs.{Glyph as Told, glyph_of, placed_parts_of, glyphs_by, glyph_names}
+use Rattle.t1_font.specs.Glyphs.{Glyph as Told, glyph_names}
 use Rattle.t1_font.specs.SourceChecks.{source_glyphs}
-use Rattle.t1_cache.specs.declared.records.GlyphRecord.{GlyphRecord}
+use Rattle.t1_font.proofs.Keeping.{bytes_self, same_bytes}
 use Rattle.t1_cache.specs.declared.records.Records.{Records}
 use Rattle.t1_cache.specs.Edited.{IsEditedAt, is_stale, stale}
 use Rattle.t1_cache.specs.Kept.{shown, shown_from}
-use Rattle.t1_cache.specs.Renewal.{IsFromScratch}
-use Rattle.t1_cache.specs.Renewed.{Kept, kept_of, record_of, recorded_run}
+use Rattle.t1_cache.specs.Renewed.{kept_of, recorded_run}
 use Rattle.t1_cache.specs.Tables.{AreStale}
 use Rattle.t1_cache.proofs.Drawing.{all_draw}
+use Rattle.t1_cache.proofs.Names.{or-left, or-right}
 use Rattle.t1_cache.proofs.Newest.{found as at-glyph, newest_drawn}
-use Rattle.t1_cache.proofs.Renewing.{glyphs-of, scratch-all}
+use Rattle.t1_cache.proofs.Recorded.{runs_recorded}
+use Rattle.t1_cache.proofs.Renewing.{glyphs-of}
 use Rattle.t1_rerun.specs.Newest.{newest_among}
 
 -- ---- lists and tests
-
-same_bytes : (a b : List ℕ) → bytes_eq a b ≡ true → a ≡ b
-same_bytes a b h = (bytes_eq-Decides a b).0 h
-
-bytes_self : (a : List ℕ) → bytes_eq a a ≡ true
-bytes_self a = (bytes_eq-Decides a a).1 refl
-
-or_right : (a b : Bool) → b ≡ true → (a || b) ≡ true
-or_right true b h = refl
-or_right false b h = h
-
-or_left : (a b : Bool) → a ≡ true → (a || b) ≡ true
-or_left true b h = refl
-or_left false b h = absurd (cc)
 
 -- tests that agree on a list pass the same of it
 filter-same : (p q : List ℕ → Bool) (xs : List (List ℕ)) → AllByRecursion (λ x. p x ≡ q x) xs → filter p xs ≡ filter q xs
@@ -66,14 +44,14 @@ among-passing p g (x ∷ xs) h e =
     elim (cases_Bool (bytes_eq g x)) [
       | inl same ↦
           let passes : p x ≡ true = ap p (sym (same_bytes g x same)) ∙ e in
-          rw passes (or_left (bytes_eq g x) (list_any (bytes_eq g) (filter p xs)) same)
+          rw passes (or-left (bytes_eq g x) (list_any (bytes_eq g) (filter p xs)) same)
       | inr other ↦
           let below = among-passing p g xs (rw other at h) e in
           either (p x) below
     ]
   where
     either : (b : Bool) → list_any (bytes_eq g) (filter p xs) ≡ true → list_any (bytes_eq g) (cond b (x ∷ filter p xs) (filter p xs)) ≡ true
-    either true below = or_right (bytes_eq g x) (list_any (bytes_eq g) (filter p xs)) below
+    either true below = or-right (bytes_eq g x) (list_any (bytes_eq g) (filter p xs)) below
     either false below = below
 
 pub among-off : (p : List ℕ → Bool) (g : List ℕ) (xs : List (List ℕ)) → p g ≡ false → list_any (bytes_eq g) (filter p xs) ≡ false
@@ -91,7 +69,7 @@ pub all-among : (xs ys : List (List ℕ)) → ((x : List ℕ) → list_any (byte
     → AllByRecursion (λ x. list_any (bytes_eq x) ys ≡ true) xs
 all-among [] ys h = tt
 all-among (x ∷ xs) ys h =
-    (h x (or_left (bytes_eq x x) (list_any (bytes_eq x) xs) (bytes_self x)), all-among xs ys (λ y e. h y (or_right (bytes_eq y x) (list_any (bytes_eq y) xs) e)))
+    (h x (or-left (bytes_eq x x) (list_any (bytes_eq x) xs) (bytes_self x)), all-among xs ys (λ y e. h y (or-right (bytes_eq y x) (list_any (bytes_eq y) xs) e)))
 
 all-weaken : {X : Type 0} (P Q : X → Type 0) → ((x : X) → P x → Q x) → (xs : List X) → AllByRecursion P xs → AllByRecursion Q xs
 all-weaken P Q step [] h = tt
@@ -108,18 +86,18 @@ named-met : (m : FontBodies) (g : List ℕ) (keys : List Key) → is_named keys 
 named-met m g [] h = absurd (cc)
 named-met m g (k ∷ keys) h =
     elim (cases_Bool (is_key_of g k)) [
-      | inl here ↦ or_left (is_met m g k) (list_any (is_met m g) keys) (or_left (is_key_of g k) (is_user k (own m g)) here)
-      | inr other ↦ or_right (is_met m g k) (list_any (is_met m g) keys) (named-met m g keys (rw other at h))
+      | inl here ↦ or-left (is_met m g k) (list_any (is_met m g) keys) (or-left (is_key_of g k) (is_user k (own m g)) here)
+      | inr other ↦ or-right (is_met m g k) (list_any (is_met m g) keys) (named-met m g keys (rw other at h))
     ]
 
 not-key : (keys : List Key) (g : List ℕ) → is_named keys g ≡ false → Includes keys (Glyph g) → ⊥
 not-key [] g h i = i
 not-key (k ∷ keys) g h (inl e) =
-    let h' = (or-false (is_key_of g k) (is_named keys g) h).0 in
+    let h' = (or_parts (is_key_of g k) (is_named keys g) h).0 in
     let here : is_key_of g k ≡ true = ap (is_key_of g) e ∙ bytes_self g in
     let never : true ≡ false = sym here ∙ h' in
     absurd (cc)
-not-key (k ∷ keys) g h (inr i) = not-key keys g (or-false (is_key_of g k) (is_named keys g) h).1 i
+not-key (k ∷ keys) g h (inr i) = not-key keys g (or_parts (is_key_of g k) (is_named keys g) h).1 i
 
 pub none-own : (m : FontBodies) (g : List ℕ) → m.glyphs g ≡ None → own m g ≡ None
 unfolding own
@@ -133,7 +111,7 @@ named-touched : (m : FontBodies) (keys : List Key) (g : List ℕ) → m.glyphs g
 unfolding is_touched
 named-touched m keys g e h =
     ap (λ r. meets_run keys g r || meets_parts (touched_within 3 m keys) r) (none-own m g e)
-    ∙ or_left (is_named keys g) false h
+    ∙ or-left (is_named keys g) false h
 
 -- ---- an edited source
 
@@ -169,51 +147,6 @@ module _ (keys : List Key) (old new : SourceParts) (told : List Told) (edit : Is
 
 -- ---- the runs of records
 
-heads-names : (ks : List Kept) → map (λ s. s.name) (map shown ks) ≡ map (λ k. k.name) ks
-heads-names [] = refl
-heads-names (k ∷ ks) = ap (λ l. k.name ∷ l) (heads-names ks)
-
-told-names : (ts : List Told) → map (λ s. s.name) (map shown_from ts) ≡ map (λ t. t.name) ts
-told-names [] = refl
-told-names (t ∷ ts) = ap (λ l. t.name ∷ l) (told-names ts)
-
-name-told : (g : List ℕ) (run : Option (Result Drawing Code)) (o : Result (List Segment) Code) (t : Told) → glyph_of g run o ≡ Ok t → t.name ≡ g
-name-told g None o t e = absurd (cc)
-name-told g (Some (Err code)) o t e = absurd (cc)
-name-told g (Some (Ok d)) (Err code) t e = absurd (cc)
-name-told g (Some (Ok d)) (Ok s) t e = by (placed_parts_of d.bearing d.composite) e where
-  by : (r : Result (Option PlacedParts) Code) → (r >>= (λ a. Ok (record { name = g; drawing = d; outline = s; parts = a }))) ≡ Ok t → t.name ≡ g
-  by (Err code) e = absurd (cc)
-  by (Ok a) e = let same : record { name = g; drawing = d; outline = s; parts = a } ≡ t = cc in sym (ap (λ x. x.name) same)
-
-names-told : (run : List ℕ → Option (Result Drawing Code)) (o : List ℕ → Result (List Segment) Code) (names : List (List ℕ)) (ts : List Told)
-    → glyphs_by run o names ≡ Ok ts → map (λ t. t.name) ts ≡ names
-names-told run o [] ts e = let same : [] ≡ ts = cc in ap (map (λ t. t.name)) (sym same)
-names-told run o (g ∷ names) ts e = one (glyph_of g (run g) (o g)) refl (glyphs_by run o names) refl (names-told run o names) e where
-  one : (r : Result Told Code) → glyph_of g (run g) (o g) ≡ r → (rest : Result (List Told) Fault) → glyphs_by run o names ≡ rest
-      → ((xs : List Told) → glyphs_by run o names ≡ Ok xs → map (λ t. t.name) xs ≡ names)
-      → (told_at (places.Glyph g) r >>= (λ x. rest >>= (λ xs. Ok (x ∷ xs)))) ≡ Ok ts → map (λ t. t.name) ts ≡ g ∷ names
-  one (Ok x) here (Ok xs) there others e =
-      let same : x ∷ xs ≡ ts = cc in
-      ap (map (λ t. t.name)) (sym same) ∙ ap (λ n. n ∷ map (λ t. t.name) xs) (name-told g (run g) (o g) x here) ∙ ap (λ l. g ∷ l) (others xs there)
-  one (Ok x) here (Err fault) there others e = absurd (cc)
-  one (Err code) here rest there others e = absurd (cc)
-
-recorded-run : (m : FontBodies) (g : List ℕ) (entries : List (Vec ℕ Global × GlyphRecord)) → AllByRecursion (IsFromScratch m) (map kept_of entries)
-    → list_any (bytes_eq g) (map (λ k. k.name) (map kept_of entries)) ≡ true → option_map (λ r. Ok r.run.drawing) (record_of entries g) ≡ own m g
-recorded-run m g [] all h = absurd (cc)
-recorded-run m g (e ∷ entries) all h =
-    elim (cases_Bool (bytes_eq g e.0.items)) [
-      | inl same ↦ rw same (sym (ap (own m) (same_bytes g e.0.items same) ∙ all.0.run))
-      | inr other ↦ rw other (recorded-run m g entries all.1 (rw other at h))
-    ]
-
-unrecorded : (g : List ℕ) (entries : List (Vec ℕ Global × GlyphRecord)) → list_any (bytes_eq g) (map (λ k. k.name) (map kept_of entries)) ≡ false → record_of entries g ≡ None
-unrecorded g [] h = refl
-unrecorded g (e ∷ entries) h =
-    let h' = or-false (bytes_eq g e.0.items) (list_any (bytes_eq g) (map (λ k. k.name) (map kept_of entries))) h in
-    rw h'.0 (unrecorded g entries h'.1)
-
 pub own-body : (m : FontBodies) (g : List ℕ) (r : Result Drawing Code) → own m g ≡ Some r → (b : List Command) × (m.glyphs g ≡ Some b)
 own-body m g r e = by (m.glyphs g) refl where
   by : (body : Option (List Command)) → m.glyphs g ≡ body → (b : List Command) × (m.glyphs g ≡ Some b)
@@ -222,28 +155,9 @@ own-body m g r e = by (m.glyphs g) refl where
 
 module _ (keys : List Key) (old new : SourceParts) (told : List Told) (edit : IsEditedAt keys old new) (was : source_glyphs old ≡ Ok told)
     (records : Records) (kept : map shown (map kept_of records.glyphs.entries) ≡ map shown_from told) where
-  record-names : map (λ k. k.name) (map kept_of records.glyphs.entries) ≡ glyph_names old.items
-  record-names =
-      sym (heads-names (map kept_of records.glyphs.entries)) ∙ ap (map (λ s. s.name)) kept ∙ told-names told
-      ∙ names-told (own (bodies old.items)) (outline (bodies old.items)) (glyph_names old.items) told (glyphs-of old told was)
-
   -- the run of a glyph's record, or none, is that of the font
   pub recorded-own : (g : List ℕ) → recorded_run records g ≡ own (bodies old.items) g
-  recorded-own g = by (list_any (bytes_eq g) (glyph_names old.items)) refl where
-    m : FontBodies
-    m = bodies old.items
-
-    lacks : (body : Option (List Command)) → m.glyphs g ≡ body → list_any (bytes_eq g) (glyph_names old.items) ≡ false → m.glyphs g ≡ None
-    lacks None e h = e
-    lacks (Some b) e h = let never : true ≡ false = sym (glyph-among old.items g b e) ∙ h in absurd (cc)
-
-    by : (b : Bool) → list_any (bytes_eq g) (glyph_names old.items) ≡ b → recorded_run records g ≡ own m g
-    by true h =
-        recorded-run m g records.glyphs.entries (scratch-all m (glyph_names old.items) told (map kept_of records.glyphs.entries) (glyphs-of old told was) kept)
-        (ap (list_any (bytes_eq g)) record-names ∙ h)
-    by false h =
-        ap (option_map (λ r. Ok r.run.drawing)) (unrecorded g records.glyphs.entries (ap (list_any (bytes_eq g)) record-names ∙ h))
-        ∙ sym (none-own m g (lacks (m.glyphs g) refl h))
+  recorded-own = runs_recorded old records (record { glyphs = told; faultless = was; from_scratch = kept })
 
   module _ (m : FontBodies) (bodies-are : SameBodies m (bodies new.items)) where
     pub own-is : (g : List ℕ) → own m g ≡ own (bodies new.items) g

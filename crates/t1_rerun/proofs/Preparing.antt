@@ -11,7 +11,8 @@ use Rattle.std.proofs.lemmas.List.Folds.{find-append}
 use Rattle.t1_code.specs.declared.command.Command.{Command}
 use Rattle.t1_parts.specs.SourceParts.{SourceParts}
 use Rattle.t1_font.specs.Bodies.{bodies, SameBodies}
-use Rattle.t1_run.specs.Run.{Key, Subr, Glyph, NumberedRun}
+use Rattle.t1_run.specs.Run.{Key, Subr, Glyph}
+use Rattle.t1_extent.specs.Kept.{TracedRun}
 use Rattle.t1_afm.specs.declared.bbox.BBox.{BBox}
 use Rattle.t1_cache.specs.declared.records.Named.{Named}
 use Rattle.t1_cache.specs.declared.records.Named.TheVariants as named
@@ -35,7 +36,7 @@ use Rattle.t1_rerun.proofs.Steps.{at-same, same-at, same-twice}
 
 -- ---- new runs by name
 
-abbrev pair : Rerun → NumberedRun × Option BBox
+abbrev pair : Rerun → TracedRun × Option BBox
 pair r = (r.run, r.bbox)
 
 -- a run by name is what is found under it
@@ -80,7 +81,7 @@ run-moved rest r old new g put =
     ∙ by (new_run rest g) (bytes_eq g r.name.items) (new_run (reruns_by_name old) g)
     ∙ ap (λ o. option_or o (new_run (reruns_by_name old) g)) (sym (run-last rest r g))
   where
-    by : (a : Option (NumberedRun × Option BBox)) (b : Bool) (c : Option (NumberedRun × Option BBox))
+    by : (a : Option (TracedRun × Option BBox)) (b : Bool) (c : Option (TracedRun × Option BBox))
         → option_or a (cond b (Some (r.run, r.bbox)) c) ≡ option_or (option_or a (cond b (Some (r.run, r.bbox)) None)) c
     by None true c = refl
     by None false c = refl
@@ -96,7 +97,7 @@ run-taken name old new g gone =
 -- ---- one step more
 
 -- where the runs of what a change names are the same, its step is
-pub step-by : (run run' : List ℕ → Option (NumberedRun × Option BBox)) (count : Key → ℕ) (records : Records) (c : EntryChange) (s : Step)
+pub step-by : (run run' : List ℕ → Option (TracedRun × Option BBox)) (count : Key → ℕ) (records : Records) (c : EntryChange) (s : Step)
     → ((g : List ℕ) → c.named ≡ named.Glyph g → run g ≡ run' g) → IsStepOf run count records c s → IsStepOf run' count records c s
 step-by run run' count records c (steps.Remove d) same is = (is.0, by is.1) where
   lacks : (d : Named) → c.named ≡ d → LacksRun run d → LacksRun run' d
@@ -117,7 +118,7 @@ pub apart-behind : (xs : List EntryChange) (c : EntryChange) (done : List EntryC
 apart-behind [] c done d = d.0
 apart-behind (x ∷ xs) c done d = apart-behind xs c done d.1
 
-module _ (run : List ℕ → Option (NumberedRun × Option BBox)) (count : Key → ℕ) (records : Records) (done : List EntryChange) (made : List Step)
+module _ (run : List ℕ → Option (TracedRun × Option BBox)) (count : Key → ℕ) (records : Records) (done : List EntryChange) (made : List Step)
     (are : AreStepsOf run count records done made) where
   not-made : (c : EntryChange) → list_any (key_eq (key_of c.named)) (changed_keys done) ≡ false → (g : List ℕ) → c.named ≡ named.Glyph g → some_inserts made g ≡ false
   not-made c apart g is = by (some_inserts made g) refl where
@@ -129,19 +130,19 @@ module _ (run : List ℕ → Option (NumberedRun × Option BBox)) (count : Key �
         absurd (cc)
 
   -- the step of the next change, by all runs
-  pub next-step : (c : EntryChange) (s : Step) (now : List ℕ → Option (NumberedRun × Option BBox)) → list_any (key_eq (key_of c.named)) (changed_keys done) ≡ false
+  pub next-step : (c : EntryChange) (s : Step) (now : List ℕ → Option (TracedRun × Option BBox)) → list_any (key_eq (key_of c.named)) (changed_keys done) ≡ false
       → ((g : List ℕ) → now g ≡ cond (some_inserts made g) None (run g)) → IsStepOf now count records c s → AreStepsOf run count records (c ∷ done) (made ++ s ∷ [])
   next-step c s now apart left is =
       (made, (s, (refl, (step-by now run count records c s (λ g e. left g ∙ ap (λ b. cond b None (run g)) (not-made c apart g e)) is, are))))
 
-pub runs-left : (made : List Step) (s : Step) (run now new : List ℕ → Option (NumberedRun × Option BBox)) → ((g : List ℕ) → now g ≡ cond (some_inserts made g) None (run g))
+pub runs-left : (made : List Step) (s : Step) (run now new : List ℕ → Option (TracedRun × Option BBox)) → ((g : List ℕ) → now g ≡ cond (some_inserts made g) None (run g))
     → ((g : List ℕ) → new g ≡ cond (inserts s g) None (now g)) → (g : List ℕ) → new g ≡ cond (some_inserts (made ++ s ∷ []) g) None (run g)
 runs-left made s run now new was is g =
     is g ∙ ap (cond (inserts s g) None) (was g)
     ∙ by (some_inserts made g) (inserts s g) (run g)
     ∙ ap (λ b. cond b None (run g)) (sym (inserts-last made s g))
   where
-    by : (a b : Bool) (r : Option (NumberedRun × Option BBox)) → cond b None (cond a None r) ≡ cond (a || b) None r
+    by : (a b : Bool) (r : Option (TracedRun × Option BBox)) → cond b None (cond a None r) ≡ cond (a || b) None r
     by true true r = refl
     by true false r = refl
     by false b r = refl
@@ -166,7 +167,7 @@ pub if-ok : {X E : Type 0} (P Q : X → Type 0) (r : Result X E) → IfOk r P �
 if-ok P Q (Ok x) h step = step x h
 if-ok P Q (Err e) h step = tt
 
-pub step-of : (c : EntryChange) (d : Named) (body : List Command) (run : List ℕ → Option (NumberedRun × Option BBox)) (count : Key → ℕ) (records : Records) (s : Step)
+pub step-of : (c : EntryChange) (d : Named) (body : List Command) (run : List ℕ → Option (TracedRun × Option BBox)) (count : Key → ℕ) (records : Records) (s : Step)
     → c.named ≡ d → c.body ≡ Some body → IsStepOf run count records (changed d (Some body) c.moved) s → IsStepOf run count records c s
 step-of c d body run count records s e f is =
     let same : c ≡ changed d (Some body) c.moved = (λ j. record { named = e j; body = f j; moved = c.moved }) in

@@ -16,7 +16,7 @@ use Rattle.t1_font.specs.declared.glyph_metrics.GlyphMetrics.{GlyphMetrics}
 use Rattle.t1_font.specs.Bodies.{bodies}
 use Rattle.t1_font.specs.Glyphs.{glyph_names}
 use Rattle.t1_font.specs.MeasuredGlyphs.{glyph_metrics_among}
-use Rattle.t1_font.specs.Runs.{Kept as KeptRun, run_kept, kept_of as run_of, own_among, counted, Counts, IsAfter}
+use Rattle.t1_font.specs.Runs.{Kept as KeptRun, run_kept, kept_of as run_of, own_among, counted, AreTraced, Counts, IsAfter}
 use Rattle.t1_font.specs.SourceChecks.{source_check}
 use Rattle.t1_cache.specs.declared.records.Named.{Named}
 use Rattle.t1_cache.specs.declared.records.Records.{Records}
@@ -133,18 +133,18 @@ module _ (edits : List Named) (old new : SourceParts) (records : Records) (m : F
       (subst (λ l. Refuses refusal (glyph_metrics_among (newest_among m l records) l)) stale-names h)
 
   pub is-renewal : (metrics : List GlyphMetrics) → glyph_metrics_among (newest_among m some records) some ≡ Ok metrics
-      → (runs : List KeptRun) → ((g : List ℕ) → run_of runs g ≡ own_among m some g) → (renewal : Renewal)
+      → (runs : List KeptRun) → ((g : List ℕ) → run_of runs g ≡ own_among m some g) → AreTraced runs → (renewal : Renewal)
       → AllByRecursion (IsRerun runs metrics) renewal.reruns.items
       → ((g : List ℕ) → list_any (bytes_eq g) (rerun_names renewal.reruns.items) ≡ list_any (λ x. bytes_eq g x.name) metrics)
       → ((k : Key) (u : List ℕ) → has_pair renewal.leaves.items k u ≡ (found u && is_user k (recorded_run records u)))
       → ((k : Key) (u : List ℕ) → has_pair renewal.joins.items k u ≡ (list_any (bytes_eq u) some && is_user k (run_of runs u)))
       → IsRenewal (map key_of edits) old new renewal
-  is-renewal metrics told runs runs-are renewal each named leaves joins = record {
+  is-renewal metrics told runs runs-are traced renewal each named leaves joins = record {
     found = found;
     reached = reached;
     scratch = all-map (IsFromScratch (bodies new.items)) rerun_kept renewal.reruns.items
-        (scratch-reruns (map key_of edits) old new e.right.kept.glyphs e.edited e.right.kept.faultless records e.right.kept.from_scratch m e.bodies stale-there runs runs-stale metrics (told-stale metrics told) renewal.reruns.items each);
-    names = names-gathered (map key_of edits) old new e.right.kept.glyphs e.edited e.right.kept.faultless records e.right.kept.from_scratch m e.bodies stale-there runs runs-stale metrics (told-stale metrics told) renewal.reruns.items named;
+        (scratch-reruns (map key_of edits) old new e.right.kept.glyphs e.edited e.right.kept.faultless records e.right.kept.from_scratch m e.bodies stale-there runs runs-stale traced metrics (told-stale metrics told) renewal.reruns.items each);
+    names = names-gathered (map key_of edits) old new e.right.kept.glyphs e.edited e.right.kept.faultless records e.right.kept.from_scratch m e.bodies stale-there runs runs-stale traced metrics (told-stale metrics told) renewal.reruns.items named;
     leaves = λ k u. leaves k u ∙ ap (λ r. found u && is_user k r) (recorded-own (map key_of edits) old new e.right.kept.glyphs e.edited e.right.kept.faultless records e.right.kept.from_scratch u);
     joins = λ k u. joins k u ∙ ap (λ r. list_any (bytes_eq u) some && is_user k r) (runs-are u)
         ∙ ap (λ l. list_any (bytes_eq u) l && is_user k (own_among m l u)) stale-names

@@ -24,7 +24,7 @@ use Rattle.t1_font.specs.Assembly.{file_check}
 use Rattle.t1_font.specs.Bodies.{bodies, bodies_check, SameBodies}
 use Rattle.t1_font.specs.Glyphs.{Glyph as Told, glyph_names, glyph_of, glyphs_by}
 use Rattle.t1_font.specs.MeasuredGlyphs.{glyph_metrics, glyph_metrics_among}
-use Rattle.t1_font.specs.Runs.{Kept as KeptRun, kept_of as run_of, own_among}
+use Rattle.t1_font.specs.Runs.{Kept as KeptRun, kept_of as run_of, own_among, AreTraced}
 use Rattle.t1_font.specs.SourceChecks.{source_check}
 use Rattle.t1_font.proofs.LengthLaws.{body_fault_told}
 use Rattle.t1_font.proofs.Measuring.{names-there}
@@ -37,7 +37,7 @@ use Rattle.t1_cache.specs.Renewed.{recorded_run}
 use Rattle.t1_cache.specs.Tables.{AreStale}
 use Rattle.t1_cache.specs.Users.{has, has_pair, key_of}
 use Rattle.t1_cache.proofs.Counting.{found_count}
-use Rattle.t1_cache.proofs.Putting.{bytes_tell}
+use Rattle.t1_font.proofs.Lookups.{bytes_tell}
 use Rattle.t1_rerun.specs.declared.renewal.Renewal.{Renewal}
 use Rattle.t1_rerun.specs.Newest.{judged_in, newest_among, FirstIn}
 use Rattle.t1_rerun.specs.Renewals.{rerun_names, HasBox, IsMeasured, IsRenewal, IsRerun}
@@ -334,17 +334,17 @@ module _ (edits : List Named) (old new : SourceParts) (records : Records) (m : F
       (λ ns told. measured-within run ordered these ns told (λ g h. sym (alike g) ∙ h)) h))
 
   pub renewal-is : (ms : List GlyphMetrics) → judged_in (glyph_metrics_among run these) (glyph_metrics_among run ordered) ≡ Ok ms
-      → (runs : List KeptRun) → ((g : List ℕ) → run_of runs g ≡ own_among m these g) → (renewal : Renewal)
+      → (runs : List KeptRun) → ((g : List ℕ) → run_of runs g ≡ own_among m these g) → AreTraced runs → (renewal : Renewal)
       → AllByRecursion (IsRerun runs ms) renewal.reruns.items
       → ((g : List ℕ) → list_any (bytes_eq g) (rerun_names renewal.reruns.items) ≡ list_any (λ x. bytes_eq g x.name) ms)
       → ((k : Key) (u : List ℕ) → has_pair renewal.leaves.items k u ≡ (found u && is_user k (recorded_run records u)))
       → ((k : Key) (u : List ℕ) → has_pair renewal.joins.items k u ≡ (list_any (bytes_eq u) these && is_user k (run_of runs u)))
       → IsRenewal (map key_of edits) old new renewal
-  renewal-is ms told runs runs-are renewal each named leaves joins =
+  renewal-is ms told runs runs-are traced renewal each named leaves joins =
       let its = measured-ordered ms told in
       let first = judged-ok (glyph_metrics_among run these) (glyph_metrics_among run ordered) ms told in
       is-renewal edits old new records m names e have found reached ordered refl its.0 (told-ordered its.0 its.1) runs
-      (λ g. runs-are g ∙ ap (λ b. cond b (own m g) None) (alike g)) renewal
+      (λ g. runs-are g ∙ ap (λ b. cond b (own m g) None) (alike g)) traced renewal
       (reruns-again run these ordered ms its.0 first its.1 alike runs renewal.reruns.items each)
       (λ g. named g ∙ names-again run these ordered ms its.0 first its.1 alike g)
       leaves

@@ -5,24 +5,20 @@ use Rattle.std.specs.List.{AllByRecursion, list_any}
 use Rattle.std.specs.Str.{bytes_eq}
 use Rattle.std.proofs.lemmas.Bool.{cases_Bool}
 use Rattle.t1_frac.specs.declared.fault.Fault.{Fault}
-use Rattle.t1_frac.specs.declared.fault.Place.TheVariants as places
-use Rattle.t1_frac.specs.Outcome.{told_at, ◌>>=◌}
 use Rattle.t1_code.specs.declared.command.Command.{Command}
 use Rattle.t1_parts.specs.SourceParts.{SourceParts}
 use Rattle.t1_run.specs.Composite.{outline}
-use Rattle.t1_run.specs.Run.{FontBodies, Key, Drawing, own}
+use Rattle.t1_run.specs.Run.{FontBodies, Key, own}
 use Rattle.t1_run.specs.Touched.{is_user}
-use Rattle.t1_run.specs.declared.outline.Segment.{Segment}
 use Rattle.t1_frac.specs.declared.fault.Code.{Code}
 use Rattle.t1_font.specs.Bodies.{bodies, SameBodies}
-use Rattle.t1_font.specs.declared.glyph_metrics.PlacedParts.{PlacedParts}
-use Rattle.t1_font.specs.Glyphs.{Glyph as Told, glyph_of, glyph_names, glyphs_by, placed_parts_of}
+use Rattle.t1_font.specs.Glyphs.{Glyph as Told, glyph_of, glyph_names}
 use Rattle.t1_font.specs.SourceChecks.{source_glyphs, source_check}
 use Rattle.t1_cache.specs.declared.records.Records.{Records}
 use Rattle.t1_cache.specs.declared.records.Rerun.{Rerun}
 use Rattle.t1_cache.specs.Bodies.{record_bodies}
 use Rattle.t1_cache.specs.Edited.{is_stale, stale, IsEditedAt}
-use Rattle.t1_cache.specs.Kept.{KeepsAll, shown, shown_from}
+use Rattle.t1_cache.specs.Kept.{KeepsAll}
 use Rattle.t1_cache.specs.Laws.{check}
 use Rattle.t1_cache.specs.Renewal.{IsFromScratch, IsOneOf, IsRenewed}
 use Rattle.t1_cache.specs.Renewed.{Kept, kept_of, rerun_of, with_rerun, with_reruns}
@@ -30,8 +26,8 @@ use Rattle.t1_cache.specs.Users.{has_pair, lists}
 use Rattle.t1_cache.proofs.Drawing.{all_draw}
 use Rattle.t1_cache.proofs.Joining.{run_kept}
 use Rattle.t1_cache.proofs.Judging.{fine-told, IsFine}
-use Rattle.t1_cache.proofs.Putting.{bytes_tell}
-use Rattle.t1_cache.proofs.Renewing.{glyphs-of, renewed}
+use Rattle.t1_font.proofs.Lookups.{bytes_tell}
+use Rattle.t1_cache.proofs.Renewing.{glyphs-of, names_kept, renewed}
 use Rattle.t1_rerun.specs.declared.renewal.Renewal.{Renewal}
 use Rattle.t1_rerun.specs.Renewals.{rerun_kept, rerun_names, IsRenewal}
 use Rattle.t1_rerun.specs.Right.{has_glyph, IsRight}
@@ -121,43 +117,6 @@ module _ (keys : List Key) (old : SourceParts) (reruns left : List Rerun) (kept 
           fresh = λ off. let never : true ≡ false = sym on ∙ off in absurd (cc);
         }
 
--- ---- the names of what is kept
-
-heads-names : (ks : List Kept) → map (λ s. s.name) (map shown ks) ≡ map (λ k. k.name) ks
-heads-names [] = refl
-heads-names (k ∷ ks) = ap (λ l. k.name ∷ l) (heads-names ks)
-
-told-names : (ts : List Told) → map (λ s. s.name) (map shown_from ts) ≡ map (λ t. t.name) ts
-told-names [] = refl
-told-names (t ∷ ts) = ap (λ l. t.name ∷ l) (told-names ts)
-
-name-told : (g : List ℕ) (run : Option (Result Drawing Code)) (o : Result (List Segment) Code) (t : Told) → glyph_of g run o ≡ Ok t → t.name ≡ g
-name-told g None o t e = absurd (cc)
-name-told g (Some (Err code)) o t e = absurd (cc)
-name-told g (Some (Ok d)) (Err code) t e = absurd (cc)
-name-told g (Some (Ok d)) (Ok s) t e = by (placed_parts_of d.bearing d.composite) e where
-  by : (r : Result (Option PlacedParts) Code) → (r >>= (λ a. Ok (record { name = g; drawing = d; outline = s; parts = a }))) ≡ Ok t → t.name ≡ g
-  by (Err code) e = absurd (cc)
-  by (Ok a) e = let same : record { name = g; drawing = d; outline = s; parts = a } ≡ t = cc in sym (ap (λ x. x.name) same)
-
-names-told : (run : List ℕ → Option (Result Drawing Code)) (o : List ℕ → Result (List Segment) Code) (names : List (List ℕ)) (ts : List Told)
-    → glyphs_by run o names ≡ Ok ts → map (λ t. t.name) ts ≡ names
-names-told run o [] ts e = let same : [] ≡ ts = cc in ap (map (λ t. t.name)) (sym same)
-names-told run o (g ∷ names) ts e = one (glyph_of g (run g) (o g)) refl (glyphs_by run o names) refl (names-told run o names) e where
-  one : (r : Result Told Code) → glyph_of g (run g) (o g) ≡ r → (rest : Result (List Told) Fault) → glyphs_by run o names ≡ rest
-      → ((xs : List Told) → glyphs_by run o names ≡ Ok xs → map (λ t. t.name) xs ≡ names)
-      → (told_at (places.Glyph g) r >>= (λ x. rest >>= (λ xs. Ok (x ∷ xs)))) ≡ Ok ts → map (λ t. t.name) ts ≡ g ∷ names
-  one (Ok x) here (Ok xs) there others e =
-      let same : x ∷ xs ≡ ts = cc in
-      ap (map (λ t. t.name)) (sym same) ∙ ap (λ n. n ∷ map (λ t. t.name) xs) (name-told g (run g) (o g) x here) ∙ ap (λ l. g ∷ l) (others xs there)
-  one (Ok x) here (Err fault) there others e = absurd (cc)
-  one (Err code) here rest there others e = absurd (cc)
-
-names-kept : (s : SourceParts) (ks : List Kept) → KeepsAll s ks → map (λ k. k.name) ks ≡ glyph_names s.items
-names-kept s ks is =
-    sym (heads-names ks) ∙ ap (map (λ s. s.name)) is.from_scratch ∙ told-names is.glyphs
-    ∙ names-told (own (bodies s.items)) (outline (bodies s.items)) (glyph_names s.items) is.glyphs (glyphs-of s is.glyphs is.faultless)
-
 -- ---- a source that was edited
 
 one-of : (P : Kept → Type 0) (kept : List Kept) (k : Kept) → AllByRecursion P kept → IsOneOf kept k → P k
@@ -192,7 +151,7 @@ module _ (keys : List Key) (old new : SourceParts) (before : Records) (renewal :
   reruns = renewal.reruns.items
 
   pub kept-names : map (λ k. k.name) kept ≡ glyph_names old.items
-  kept-names = names-kept old kept right.kept
+  kept-names = names_kept old kept right.kept
 
   -- ---- users
 

@@ -8,7 +8,8 @@ use Rattle.std.proofs.lemmas.List.{append-nil, append_assoc}
 use Rattle.std.proofs.lemmas.List.Folds.{list_any-append}
 use Rattle.t1_code.specs.declared.command.Command.{Command}
 use Rattle.t1_parts.specs.SourceParts.{SourceParts}
-use Rattle.t1_run.specs.Run.{Key, Subr, Glyph, NumberedRun}
+use Rattle.t1_run.specs.Run.{Key, Subr, Glyph}
+use Rattle.t1_extent.specs.Kept.{TracedRun}
 use Rattle.t1_run.specs.Touched.{is_key_of}
 use Rattle.t1_afm.specs.declared.bbox.BBox.{BBox}
 use Rattle.t1_cache.specs.declared.records.Named.{Named}
@@ -20,7 +21,7 @@ use Rattle.t1_cache.specs.Renewed.{Kept, kept}
 use Rattle.t1_cache.specs.Room.{MayJoin}
 use Rattle.t1_cache.specs.Users.{among, has, key_eq, key_of, users_of, UserSet}
 use Rattle.t1_cache.proofs.Adding.{key-same}
-use Rattle.t1_cache.proofs.Putting.{bytes_tell}
+use Rattle.t1_font.proofs.Lookups.{bytes_tell}
 use Rattle.t1_rerun.specs.declared.settling.EntryChange.{EntryChange}
 use Rattle.t1_rerun.specs.declared.settling.steps.Step.{Step}
 use Rattle.t1_rerun.specs.declared.settling.steps.Step.TheVariants as steps
@@ -133,7 +134,7 @@ kept-but-subr n d xs e = sym (all xs) ∙ ap (λ x. filter (λ k. not (is_key_of
 
 -- ---- the steps of changes
 
-module _ (run : List ℕ → Option (NumberedRun × Option BBox)) (count : Key → ℕ) (records : Records) where
+module _ (run : List ℕ → Option (TracedRun × Option BBox)) (count : Key → ℕ) (records : Records) where
   abbrev Are : List EntryChange → List Step → Type 0
   Are = AreStepsOf run count records
 
@@ -406,7 +407,7 @@ module _ (run : List ℕ → Option (NumberedRun × Option BBox)) (count : Key �
 
   -- what holds of each new record, and of each record that none takes the place of, holds of all
   pub kept-stepped : (Q : Kept → Type 0) (cs : List EntryChange) (ss : List Step) → Are cs ss
-      → ((name : List ℕ) (r : NumberedRun) (box : Option BBox) → some_inserts ss name ≡ true → run name ≡ Some (r, box) → Q (kept name r box))
+      → ((name : List ℕ) (r : TracedRun) (box : Option BBox) → some_inserts ss name ≡ true → run name ≡ Some (r, box) → Q (kept name r box))
       → (x : Seen) → AllByRecursion (λ k. some_inserts ss k.name ≡ false → Q k) x.kept → AllByRecursion Q (after_all ss x).kept
   kept-stepped Q [] ss h each x all =
       subst (λ l. AllByRecursion Q (after_all l x).kept) (sym h)

@@ -8,7 +8,7 @@ use Rattle.t1_cache.specs.declared.records.Records.{Records}
 use Rattle.t1_cache.specs.Overlay.{body_at}
 use Rattle.t1_cache.specs.Users.{lists, rest_of}
 use Rattle.t1_cache.proofs.Changing.{rest_same}
-use Rattle.t1_cache.proofs.Putting.{bytes_tell}
+use Rattle.t1_font.proofs.Lookups.{bytes_tell}
 use Rattle.t1_rerun.specs.Settled.{AreAsBefore}
 
 -- ---- bodies, key by key

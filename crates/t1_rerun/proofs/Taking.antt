@@ -6,7 +6,7 @@ use Rattle.std.specs.Str.{bytes_eq}
 use Rattle.std.proofs.lemmas.List.Folds.{list_any_more}
 use Rattle.std.proofs.lemmas.Slice.Eq.{bytes_eq-Decides}
 use Rattle.t1_frac.specs.declared.fault.Code.{Code}
-use Rattle.t1_run.specs.Run.{NumberedRun}
+use Rattle.t1_extent.specs.Kept.{TracedRun}
 use Rattle.t1_font.specs.declared.glyph_metrics.GlyphMetrics.{GlyphMetrics}
 use Rattle.t1_font.specs.Runs.{Kept, run_kept}
 use Rattle.t1_cache.specs.declared.records.Rerun.{Rerun}
@@ -72,7 +72,7 @@ module _ (runs now new : List Kept) (metrics : List GlyphMetrics) (at : ℕ) (rs
         ∙ sym (more-names g);
     left = λ g. others g ∙ ap (cond (bytes_eq m.name g) None) (before.left g) ∙ by g (bytes_eq g m.name) refl;
   } where
-    inside : (kept : Option (Result NumberedRun Code)) → Some r.run ≡ run_in kept → Some (Ok r.run) ≡ kept
+    inside : (kept : Option (Result TracedRun Code)) → Some r.run ≡ run_in kept → Some (Ok r.run) ≡ kept
     inside None e = absurd (cc)
     inside (Some (Err code)) e = absurd (cc)
     inside (Some (Ok x)) e = let same : r.run ≡ x = cc in ap (λ y. Some (Ok y)) same
@@ -80,7 +80,7 @@ module _ (runs now new : List Kept) (metrics : List GlyphMetrics) (at : ℕ) (rs
     was : (b : Bool) → list_any (bytes_eq m.name) (rerun_names rs) ≡ b → Some (Ok r.run) ≡ run_kept runs m.name
     was true h =
         let gone : run_kept now m.name ≡ None = before.left m.name ∙ ap (λ b. cond b None (run_kept runs m.name)) h in
-        let never : ◌≡◌ {A = Option NumberedRun} (Some r.run) None = run ∙ ap run_in gone in
+        let never : ◌≡◌ {A = Option TracedRun} (Some r.run) None = run ∙ ap run_in gone in
         absurd (cc)
     was false h = inside (run_kept now m.name) run ∙ before.left m.name ∙ ap (λ b. cond b None (run_kept runs m.name)) h
 
@@ -109,7 +109,7 @@ module _ (runs now new : List Kept) (metrics : List GlyphMetrics) (at : ℕ) (rs
     there true h = h
     there false h =
         let is_there : run_kept now m.name ≡ Some (Ok had.0) = before.left m.name ∙ ap (λ b. cond b None (run_kept runs m.name)) h ∙ had.1 in
-        let never : ◌≡◌ {A = Option NumberedRun} None (Some had.0) = none ∙ ap run_in is_there in
+        let never : ◌≡◌ {A = Option TracedRun} None (Some had.0) = none ∙ ap run_in is_there in
         absurd (cc)
 
     or-there : (g : List ℕ) (b : Bool) → bytes_eq g m.name ≡ b

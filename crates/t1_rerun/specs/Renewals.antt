@@ -6,7 +6,8 @@ use Rattle.t1_frac.specs.declared.fault.Code.{Code}
 use Rattle.t1_parts.specs.SourceParts.{SourceParts}
 use Rattle.t1_run.specs.declared.outline.Segment.{Segment}
 use Rattle.t1_run.specs.Composite.{outline_within}
-use Rattle.t1_run.specs.Run.{Key, Drawing, NumberedRun}
+use Rattle.t1_run.specs.Run.{Key, Drawing}
+use Rattle.t1_extent.specs.Kept.{TracedRun}
 use Rattle.t1_afm.specs.declared.bbox.BBox.{BBox}
 use Rattle.t1_afm.specs.Box.{drawn_box}
 use Rattle.t1_font.specs.declared.glyph_metrics.GlyphMetrics.{GlyphMetrics}
@@ -38,14 +39,14 @@ HasBox [] g box = ⊥
 HasBox (m ∷ ms) g box = ((m.name ≡ g) × (m.bbox ≡ box)) ⊎ HasBox ms g box
 
 -- profile: a run that is kept, where it has no fault
-abbrev pub run_in : Option (Result NumberedRun Code) → Option NumberedRun
+abbrev pub run_in : Option (Result TracedRun Code) → Option TracedRun
 run_in None = None
 run_in (Some (Err code)) = None
 run_in (Some (Ok run)) = Some run
 
 -- profile: the run of the glyph is kept, and has no fault
 abbrev pub HasRun : List KeptRun → GlyphMetrics → Type 0
-HasRun runs m = (run : NumberedRun) × (run_kept runs m.name ≡ Some (Ok run))
+HasRun runs m = (run : TracedRun) × (run_kept runs m.name ≡ Some (Ok run))
 
 -- profile: a rerun is a run that was kept, with the box that was measured
 pub record IsRerun (runs : List KeptRun) (metrics : List GlyphMetrics) (r : Rerun) : Type 0 where

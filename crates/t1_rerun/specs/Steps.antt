@@ -7,7 +7,8 @@ use Rattle.std.specs.declared.alloc.Global.{Global}
 use Rattle.std.specs.declared.vec.Vec.{Vec}
 use Rattle.indexmap.specs.IndexSet.{IndexSet, spare}
 use Rattle.t1_code.specs.declared.command.Command.{Command}
-use Rattle.t1_run.specs.Run.{Key, Subr, Glyph, NumberedRun}
+use Rattle.t1_run.specs.Run.{Key, Subr, Glyph}
+use Rattle.t1_extent.specs.Kept.{TracedRun}
 use Rattle.t1_run.specs.Touched.{is_key_of}
 use Rattle.t1_afm.specs.declared.bbox.BBox.{BBox}
 use Rattle.t1_cache.specs.declared.records.Named.{Named}
@@ -91,11 +92,11 @@ AreTakenOut names steps = (g : List ℕ) → has (λ name. name.items) names g �
 -- ---- the steps of changes
 
 -- profile: the new run and box of a glyph, by the first of its reruns
-abbrev pub new_run : List Rerun → List ℕ → Option (NumberedRun × Option BBox)
+abbrev pub new_run : List Rerun → List ℕ → Option (TracedRun × Option BBox)
 new_run reruns g = option_map (λ r. (r.run, r.bbox)) (rerun_of reruns g)
 
 -- profile: the same, of a new run that is kept by name
-abbrev pub new_run_of : Option NewRun → Option (NumberedRun × Option BBox)
+abbrev pub new_run_of : Option NewRun → Option (TracedRun × Option BBox)
 new_run_of r = option_map (λ r. (r.run, r.bbox)) r
 
 -- profile: a step puts in a new record of the glyph
@@ -113,7 +114,7 @@ is_last records moved (named.Subr n) = false
 is_last records moved (named.Glyph g) = moved || is_none (body_at (record_bodies records) (Glyph g))
 
 -- profile: there is no new run of the glyph
-abbrev pub LacksRun : (List ℕ → Option (NumberedRun × Option BBox)) → Named → Type 0
+abbrev pub LacksRun : (List ℕ → Option (TracedRun × Option BBox)) → Named → Type 0
 LacksRun run (named.Subr n) = ⊥
 LacksRun run (named.Glyph g) = run g ≡ None
 
@@ -123,7 +124,7 @@ HasPlaces count users = (users.keys ≡ []) × (count ≤ spare users)
 
 -- profile: the step of a change, by new runs and by how many users join each entry. An entry that was removed is
 -- removed, and so is a glyph to be put in that has no new run
-abbrev pub IsStepOf : (List ℕ → Option (NumberedRun × Option BBox)) → (Key → ℕ) → Records → EntryChange → Step → Type 0
+abbrev pub IsStepOf : (List ℕ → Option (TracedRun × Option BBox)) → (Key → ℕ) → Records → EntryChange → Step → Type 0
 IsStepOf run count records c (steps.Remove named) =
     (c.named ≡ named) × ((c.body ≡ None) ⊎ ((is_last records c.moved named ≡ true) × LacksRun run named))
 IsStepOf run count records c (steps.Put named body) =
@@ -140,7 +141,7 @@ abbrev pub changed : Named → Option (List Command) → Bool → EntryChange
 changed named body moved = record { named = named; body = body; moved = moved }
 
 -- profile: the last step is that of the first change, and so on
-abbrev pub AreStepsOf : (List ℕ → Option (NumberedRun × Option BBox)) → (Key → ℕ) → Records → List EntryChange → List Step → Type 0
+abbrev pub AreStepsOf : (List ℕ → Option (TracedRun × Option BBox)) → (Key → ℕ) → Records → List EntryChange → List Step → Type 0
 AreStepsOf run count records [] steps = steps ≡ []
 AreStepsOf run count records (c ∷ changes) steps =
     (front : List Step) × ((step : Step) × ((steps ≡ front ++ step ∷ []) × (IsStepOf run count records c step × AreStepsOf run count records changes front)))

@@ -1,5 +1,5 @@
 //! Records brought to those of a source that is edited at some entries.
-ghost use Rattle.std.specs.Prelude.{◌≡◌, ℕ, IfOk, List, Option, OnErr, OnOk, length, map};
+ghost use Rattle.std.specs.Prelude.{◌≡◌, ℕ, true, IfOk, List, Option, OnErr, OnOk, length, map};
 ghost use Rattle.std.specs.List.{AllByRecursion};
 ghost use Rattle.std.specs.Option.{option_to_list};
 ghost use Rattle.t1_frac.specs.Outcome.{Gives};
@@ -7,6 +7,7 @@ ghost use Rattle.t1_parts.specs.SourceParts.{SourceParts};
 ghost use Rattle.t1_font.specs.Runs.{Counts};
 ghost use Rattle.t1_font.specs.SourceChecks.{source_check};
 ghost use Rattle.t1_cache.specs.Edited.{stale};
+ghost use Rattle.t1_cache.specs.Kept.{keep_traces};
 ghost use Rattle.t1_cache.specs.Renewed.{kept_of};
 ghost use Rattle.t1_cache.specs.Users.{key_of};
 ghost use Rattle.t1_rerun.specs.Changing.{AreChangesOf, IsChangeOf, IsPrepared, IsReadyFor, MayBePrepared, MayBeRenewed};
@@ -55,6 +56,7 @@ fn rerun_changed<O: GlyphOrder>(
     order: &O,
     meter: &mut Meter,
 ) -> Result<Renewal, Refusal>
+    requires { keep_traces records.now ≡ true }
     ensures checked { (old new : SourceParts) → AreChangesOf changes.now old new records.now (O.ordered order.now) → Gives (λ _. tt) result (source_check new) }
     ensures renewal { (old new : SourceParts) → AreChangesOf changes.now old new records.now (O.ordered order.now) → IfOk result (IsRenewal (changed_keys changes.now) old new) }
     ensures later { IfOk result (λ renewal. AllByRecursion (IsLater meter.old) renewal.reruns.items) }

@@ -1,13 +1,14 @@
 //! An edited font judged.
-ghost use Rattle.std.specs.Prelude.{◌≡◌, All, IsSome, IfOk, List, ℕ, filter, length, map};
+ghost use Rattle.std.specs.Prelude.{◌≡◌, true, All, IsSome, IfOk, List, ℕ, filter, length, map};
 ghost use Rattle.std.specs.List.{AllByRecursion};
 ghost use Rattle.t1_frac.specs.Outcome.{Gives, Refuses};
 ghost use Rattle.t1_parts.specs.SourceParts.{SourceParts};
 ghost use Rattle.t1_run.specs.Run.{font};
 ghost use Rattle.t1_font.specs.MeasuredGlyphs.{glyph_metrics_among};
-ghost use Rattle.t1_font.specs.Runs.{own_among, kept_of, run_kept, Counts, IsAfter};
+ghost use Rattle.t1_font.specs.Runs.{own_among, kept_of, run_kept, AreTraced, Counts, IsAfter};
 ghost use Rattle.t1_font.specs.SourceChecks.{source_check};
 ghost use Rattle.t1_cache.specs.Edited.{stale};
+ghost use Rattle.t1_cache.specs.Kept.{keep_traces};
 ghost use Rattle.t1_cache.specs.Laws.{check};
 ghost use Rattle.t1_cache.specs.Users.{has, key_of};
 ghost use Rattle.t1_rerun.specs.Newest.{judged_in, newest, newest_among, FirstIn};
@@ -87,9 +88,11 @@ fn judged<B: Bodies, O: GlyphOrder>(
     order: &O,
     meter: &mut Meter,
 ) -> Result<(Runs, Vec<GlyphMetrics>), Refusal>
-    requires { All (λ name. IsSome (B.glyphs bodies.now name.now)) stale.now }
+    requires there { All (λ name. IsSome (B.glyphs bodies.now name.now)) stale.now }
+    requires traced { keep_traces records.now ≡ true }
     ensures told { Gives (λ made. made.1.items) result (judged_in (glyph_metrics_among (newest_among (font (B.subrs bodies.now) (B.glyphs bodies.now)) (map (λ name. name.now) stale.now) records.now) (map (λ name. name.now) stale.now)) (glyph_metrics_among (newest_among (font (B.subrs bodies.now) (B.glyphs bodies.now)) (map (λ name. name.now) stale.now) records.now) (filter (has (λ name. name.now) found.now.keys) (O.ordered order.now)))) }
     ensures kept { IfOk result (λ made. (g : List ℕ) → kept_of made.0 g ≡ own_among (font (B.subrs bodies.now) (B.glyphs bodies.now)) (map (λ name. name.now) stale.now) g) }
+    ensures traced { IfOk result (λ made. AreTraced made.0) }
     ensures after { IfOk result (λ made. (g : List ℕ) → IsAfter meter.old (run_kept made.0 g)) }
     ensures counted { Counts (length stale.now) meter.old meter.new result }
 {
@@ -113,6 +116,7 @@ pub fn rerun<B: Bodies, O: GlyphOrder>(
     edits: &[Named],
     meter: &mut Meter,
 ) -> Result<Renewal, Refusal>
+    requires { keep_traces records.now ≡ true }
     ensures checked { (old new : SourceParts) → IsEdit edits.now old new records.now (font (B.subrs bodies.now) (B.glyphs bodies.now)) (O.ordered order.now) → Gives (λ _. tt) result (source_check new) }
     ensures renewal { (old new : SourceParts) → IsEdit edits.now old new records.now (font (B.subrs bodies.now) (B.glyphs bodies.now)) (O.ordered order.now) → IfOk result (IsRenewal (map key_of edits.now) old new) }
     ensures later { IfOk result (λ renewal. AllByRecursion (IsLater meter.old) renewal.reruns.items) }

@@ -1,5 +1,6 @@
 //! The newest runs of an edited font.
-ghost use Rattle.t1_rerun.specs.Newest.{newest};
+ghost use Rattle.std.specs.Prelude.{◌≡◌, true};
+ghost use Rattle.t1_cache.specs.Kept.{keep_traces};
 
 use t1_cache::Records;
 use t1_extent::{KeptRun, KeptRuns};
@@ -11,6 +12,7 @@ use t1_frac::Code;
 pub struct Newest<'a> {
     pub runs: &'a Runs,
     pub records: &'a Records,
+    ghost traced: { keep_traces records.now ≡ true },
 }
 
 impl<'a> KeptRuns for Newest<'a> {

@@ -1,20 +1,20 @@
--- A run without a fault asks for the Subrs that it enters and for its parts, has its parts, and makes at most 100,000 steps.
+-- A run without a fault asks for the Subrs that it enters and for its parts, has all of them, and makes at most 100,000 steps.
 use Rattle.std.proofs.Common.{◌≡◌, ℕ, zero, suc, ◌≤◌, Bool, true, false, List, [], ◌∷◌, refl, sym, ◌∙◌, ap, subst, inl, inr, arith, Option, Some, None}
-use Rattle.std.specs.Prelude.{Ok, nat_lt, ◌==◌, ◌||◌, ◌↔◌, ◌⊎◌}
+use Rattle.std.specs.Prelude.{Ok, nat_lt, ◌==◌, ◌||◌, ◌↔◌}
 use Rattle.std.specs.List.{list_any}
 use Rattle.std.specs.Option.{ok_or}
 use Rattle.std.specs.Str.{bytes_eq}
-use Rattle.std.proofs.lemmas.Bool.{cases_Bool}
+use Rattle.std.proofs.lemmas.Bool.{cases_Bool, or_cases, or_left, or_right}
 use Rattle.std.proofs.lemmas.Bool.Decides.{nat_tests}
 use Rattle.std.proofs.lemmas.Slice.Eq.{bytes_eq-Decides}
 use Rattle.t1_frac.specs.Outcome.{◌>>=◌}
-use Rattle.t1_frac.specs.declared.fault.Code.TheVariants.{F33, F44, F45}
+use Rattle.t1_frac.specs.declared.fault.Code.TheVariants.{F44, F45}
 use Rattle.t1_code.specs.declared.command.Command.{Command}
 use Rattle.t1_run.specs.declared.outline.Accent.{Accent}
 use Rattle.t1_run.specs.declared.outline.Composite.{Composite}
 use Rattle.t1_run.specs.declared.outline.Metric.{Metric}
-use Rattle.t1_run.specs.Footprint.{Includes, Leaves, asks, uses, HasParts, ExactLaw, PartsLaw}
-use Rattle.t1_run.specs.Run.{FontBodies, Key, Subr, Glyph, Ending, Finished, Returned, Ended, Failed, Runner, Caller, Drawing, go_on, act, words, call_within, called, composed, encoded, asking_accent, asking_parts, entered_with, entering, ending, asked_by, own, own_of, foot, asked_of, drawing_of, outcome_of}
+use Rattle.t1_run.specs.Footprint.{Includes, Leaves, asks, uses, HasParts, HasSubrs, ExactLaw, PartsLaw}
+use Rattle.t1_run.specs.Run.{FontBodies, Key, Subr, Glyph, Progress, reached, Stop, OutOfWords, Returned, Completed, Failed, Runner, Caller, Drawing, go_on, act, words, call_within, called, too_deep, composed, encoded, asking_accent, asking_parts, entered_with, entering, body_stop, asked_by, own, own_of, foot, asked_of, drawing_of, outcome_of}
 use Rattle.t1_run.specs.State.{State, initial}
 use Rattle.t1_run.specs.Step.{Step, Next, Call, Back, End, Compose, Fault}
 use Rattle.t1_run.specs.Words.{step}
@@ -28,28 +28,30 @@ record Asks (composite : Option Composite) (entered : List ℕ) (asked : List Ke
   all : (k : Key) → asks composite entered k ≡ true → Includes asked k
 
 -- what holds between words
-record Under (s : State) (asked : List Key) : Type 0 where
-  keys : Asks None s.entered asked
-  steps : s.steps ≤ 100000
+record Under (m : FontBodies) (p : Progress) : Type 0 where
+  keys : Asks None p.state.entered p.asked
+  subrs : HasSubrs m p.state.entered
+  steps : p.state.steps ≤ 100000
 
 -- what holds where a run ends by endchar or seac
-record Over (m : FontBodies) (composite : Option Composite) (s : State) (asked : List Key) : Type 0 where
-  keys : Asks composite s.entered asked
+record Over (m : FontBodies) (composite : Option Composite) (p : Progress) : Type 0 where
+  keys : Asks composite p.state.entered p.asked
+  subrs : HasSubrs m p.state.entered
   parts : HasParts m composite
-  steps : s.steps ≤ 100000
+  steps : p.state.steps ≤ 100000
 
-abbrev Ends : FontBodies → Ending → Type 0
-Ends m (Finished s asked) = Under s asked
-Ends m (Returned s asked) = Under s asked
-Ends m (Ended composite s asked) = Over m composite s asked
-Ends m (Failed fault asked) = Unit {0}
+abbrev Stops : FontBodies → Stop → Type 0
+Stops m (OutOfWords p) = Under m p
+Stops m (Returned p) = Under m p
+Stops m (Completed composite p) = Over m composite p
+Stops m (Failed fault asked) = Unit {0}
 
 abbrev Runs : FontBodies → Runner → Type 0
-Runs m run = (s : State) (asked : List Key) → Under s asked → Ends m (run s asked)
+Runs m run = (p : Progress) → Under m p → Stops m (run p)
 
 -- a caller is given the key of its Subr as one more
 abbrev Calls : FontBodies → Caller → Type 0
-Calls m caller = (n : ℕ) (s : State) (asked : List Key) → Under s asked → Ends m (caller n s (Subr n ∷ asked))
+Calls m caller = (n : ℕ) (p : Progress) → Under m p → Stops m (caller n (reached p.state (Subr n ∷ p.asked)))
 
 -- ---- a Subr more
 
@@ -62,18 +64,6 @@ or_swap false false c = refl
 or_once : (a c : Bool) → (a || c) ≡ (a || (a || c))
 or_once true c = refl
 or_once false c = refl
-
-or_left : (a b : Bool) → a ≡ true → (a || b) ≡ true
-or_left true b h = refl
-or_left false b h = cc
-
-or_right : (a b : Bool) → b ≡ true → (a || b) ≡ true
-or_right true b h = refl
-or_right false b h = h
-
-or_cases : (a b : Bool) → (a || b) ≡ true → (a ≡ true) ⊎ (b ≡ true)
-or_cases true b h = inl refl
-or_cases false b h = inr h
 
 eq_self : (n : ℕ) → (n == n) ≡ true
 eq_self n = grind (arith, nat_tests)
@@ -117,8 +107,20 @@ asks-entering n entered asked h = record { only = only; all = all } where
       ]
   all (Glyph g) e = inr (h.all (Glyph g) e)
 
-under-entering : (n : ℕ) (s : State) (asked : List Key) → Under s asked → Under (entering n s) (Subr n ∷ asked)
-under-entering n s asked h = record { keys = asks-entering n s.entered asked h.keys; steps = h.steps }
+subrs-entering : (m : FontBodies) (n : ℕ) (entered : List ℕ) (body : List Command) → m.subrs n ≡ Some body → HasSubrs m entered → HasSubrs m (entered_with n entered)
+subrs-entering m n entered body e h k i =
+    elim (or_cases (n == k) (list_any (λ m. m == k) entered) (sym (entered-is n k entered) ∙ i)) [
+      | inl same ↦ (body, ap m.subrs (sym (same_when n k same)) ∙ e)
+      | inr there ↦ h k there
+    ]
+
+under-entering : (m : FontBodies) (n : ℕ) (body : List Command) → m.subrs n ≡ Some body → (p : Progress) → Under m p
+    → Under m (reached (entering n p.state) (Subr n ∷ p.asked))
+under-entering m n body e p h = record {
+  keys = asks-entering n p.state.entered p.asked h.keys;
+  subrs = subrs-entering m n p.state.entered body e h.subrs;
+  steps = h.steps;
+}
 
 -- ---- the parts are asked for last
 
@@ -142,58 +144,64 @@ asks-parts c entered asked h = record { only = only; all = all } where
       ]
 
 parts-end : (m : FontBodies) (a : Accent) (base accent : List ℕ) (b t : Option (List Command)) → m.glyphs base ≡ b → m.glyphs accent ≡ t
-    → (s : State) (asked : List Key) → Under s asked
-    → Ends m (composed (ok_or b F45 >>= (λ _. ok_or t F45 >>= (λ _. Ok (record { base = base; accent = accent; asb = a.asb; adx = a.adx; ady = a.ady })))) s (asking_accent b accent (Glyph base ∷ asked)))
-parts-end m a base accent None t e f s asked h = tt
-parts-end m a base accent (Some b) None e f s asked h = tt
-parts-end m a base accent (Some b) (Some t) e f s asked h = record {
-  keys = asks-parts (record { base = base; accent = accent; asb = a.asb; adx = a.adx; ady = a.ady }) s.entered asked h.keys;
+    → (p : Progress) → Under m p
+    → Stops m (composed (ok_or b F45 >>= (λ _. ok_or t F45 >>= (λ _. Ok (record { base = base; accent = accent; asb = a.asb; adx = a.adx; ady = a.ady })))) (reached p.state (asking_accent b accent (Glyph base ∷ p.asked))))
+parts-end m a base accent None t e f p h = tt
+parts-end m a base accent (Some b) None e f p h = tt
+parts-end m a base accent (Some b) (Some t) e f p h = record {
+  keys = asks-parts (record { base = base; accent = accent; asb = a.asb; adx = a.adx; ady = a.ady }) p.state.entered p.asked h.keys;
+  subrs = h.subrs;
   parts = ((b, e), (t, f));
   steps = h.steps;
 }
 
-names-end : (m : FontBodies) (a : Accent) (base accent : Option (List ℕ)) (s : State) (asked : List Key) → Under s asked
-    → Ends m (composed (ok_or base F44 >>= (λ base'. ok_or accent F44 >>= (λ accent'. ok_or (m.glyphs base') F45 >>= (λ _. ok_or (m.glyphs accent') F45 >>= (λ _. Ok (record { base = base'; accent = accent'; asb = a.asb; adx = a.adx; ady = a.ady })))))) s (asking_parts base accent m.glyphs asked))
-names-end m a None accent s asked h = tt
-names-end m a (Some base) None s asked h = tt
-names-end m a (Some base) (Some accent) s asked h = parts-end m a base accent (m.glyphs base) (m.glyphs accent) refl refl s asked h
+names-end : (m : FontBodies) (a : Accent) (base accent : Option (List ℕ)) (p : Progress) → Under m p
+    → Stops m (composed (ok_or base F44 >>= (λ base'. ok_or accent F44 >>= (λ accent'. ok_or (m.glyphs base') F45 >>= (λ _. ok_or (m.glyphs accent') F45 >>= (λ _. Ok (record { base = base'; accent = accent'; asb = a.asb; adx = a.adx; ady = a.ady })))))) (reached p.state (asking_parts base accent m.glyphs p.asked)))
+names-end m a None accent p h = tt
+names-end m a (Some base) None p h = tt
+names-end m a (Some base) (Some accent) p h = parts-end m a base accent (m.glyphs base) (m.glyphs accent) refl refl p h
 
 -- ---- words, calls and runs
 
-under-stepped : (s t : State) (asked : List Key) → Stepped s t → Under s asked → Under t asked
-under-stepped s t asked st h = record { keys = subst (λ e. Asks None e asked) (sym st.entered) h.keys; steps = st.within }
+under-stepped : (m : FontBodies) (p : Progress) (t : State) → Stepped p.state t → Under m p → Under m (reached t p.asked)
+under-stepped m p t st h = record {
+  keys = subst (λ e. Asks None e p.asked) (sym st.entered) h.keys;
+  subrs = subst (HasSubrs m) (sym st.entered) h.subrs;
+  steps = st.within;
+}
 
-go_on-ends : (m : FontBodies) (next : Runner) → Runs m next → (e : Ending) → Ends m e → Ends m (go_on next e)
-go_on-ends m next runs (Finished s asked) h = runs s asked h
-go_on-ends m next runs (Returned s asked) h = runs s asked h
-go_on-ends m next runs (Ended composite s asked) h = h
-go_on-ends m next runs (Failed fault asked) h = tt
+go_on-stops : (m : FontBodies) (next : Runner) → Runs m next → (e : Stop) → Stops m e → Stops m (go_on next e)
+go_on-stops m next runs (OutOfWords p) h = runs p h
+go_on-stops m next runs (Returned p) h = runs p h
+go_on-stops m next runs (Completed composite p) h = h
+go_on-stops m next runs (Failed fault asked) h = tt
 
-act-ends : (m : FontBodies) (caller : Caller) (next : Runner) → Calls m caller → Runs m next → (s : State) (t : Step) (asked : List Key)
-    → Leaves (Stepped s) t → Under s asked → Ends m (act m caller next t asked)
-act-ends m caller next calls runs s (Next t) asked st h = runs t asked (under-stepped s t asked st h)
-act-ends m caller next calls runs s (Call n t) asked st h =
-    go_on-ends m next runs (caller n t (Subr n ∷ asked)) (calls n t asked (under-stepped s t asked st h))
-act-ends m caller next calls runs s (Back t) asked st h = under-stepped s t asked st h
-act-ends m caller next calls runs s (End t) asked st h =
-    let u = under-stepped s t asked st h in record { keys = u.keys; parts = tt; steps = u.steps }
-act-ends m caller next calls runs s (Compose a t) asked st h =
-    names-end m a (encoded a.base) (encoded a.accent) t asked (under-stepped s t asked st h)
-act-ends m caller next calls runs s (Fault fault) asked st h = tt
+act-stops : (m : FontBodies) (caller : Caller) (next : Runner) → Calls m caller → Runs m next → (p : Progress) (t : Step)
+    → Leaves (Stepped p.state) t → Under m p → Stops m (act m caller next t p.asked)
+act-stops m caller next calls runs p (Next t) st h = runs (reached t p.asked) (under-stepped m p t st h)
+act-stops m caller next calls runs p (Call n t) st h =
+    go_on-stops m next runs (caller n (reached t (Subr n ∷ p.asked))) (calls n (reached t p.asked) (under-stepped m p t st h))
+act-stops m caller next calls runs p (Back t) st h = under-stepped m p t st h
+act-stops m caller next calls runs p (End t) st h =
+    let u = under-stepped m p t st h in record { keys = u.keys; subrs = u.subrs; parts = tt; steps = u.steps }
+act-stops m caller next calls runs p (Compose a t) st h =
+    names-end m a (encoded a.base) (encoded a.accent) (reached t p.asked) (under-stepped m p t st h)
+act-stops m caller next calls runs p (Fault fault) st h = tt
 
-words-end : (m : FontBodies) (caller : Caller) → Calls m caller → (cs : List Command) → Runs m (words m caller cs)
-words-end m caller calls [] s asked h = h
-words-end m caller calls (c ∷ cs) s asked h =
-    act-ends m caller (words m caller cs) calls (words-end m caller calls cs) s (step c s) asked (step-leaves c s) h
+words-stop : (m : FontBodies) (caller : Caller) → Calls m caller → (cs : List Command) → Runs m (words m caller cs)
+words-stop m caller calls [] p h = h
+words-stop m caller calls (c ∷ cs) p h =
+    act-stops m caller (words m caller cs) calls (words-stop m caller calls cs) p (step c p.state) (step-leaves c p.state) h
 
-called-ends : (m : FontBodies) (run : List Command → Runner) → ((body : List Command) → Runs m (run body)) → (b : Option (List Command)) → Calls m (called run b)
-called-ends m run runs None n s asked h = tt
-called-ends m run runs (Some body) n s asked h = runs body (entering n s) (Subr n ∷ asked) (under-entering n s asked h)
+called-stops : (m : FontBodies) (run : List Command → Runner) → ((body : List Command) → Runs m (run body)) → (n : ℕ) (b : Option (List Command)) → m.subrs n ≡ b
+    → (p : Progress) → Under m p → Stops m (called run b n (reached p.state (Subr n ∷ p.asked)))
+called-stops m run runs n None e p h = tt
+called-stops m run runs n (Some body) e p h = runs body (reached (entering n p.state) (Subr n ∷ p.asked)) (under-entering m n body e p h)
 
-call_within-ends : (m : FontBodies) (levels : ℕ) → Calls m (call_within m levels)
-call_within-ends m zero n s asked h = called-ends m (λ body s' asked'. Failed F33 asked') (λ body s' asked' h'. tt) (m.subrs n) n s asked h
-call_within-ends m (suc levels) n s asked h =
-    called-ends m (words m (call_within m levels)) (words-end m (call_within m levels) (call_within-ends m levels)) (m.subrs n) n s asked h
+call_within-stops : (m : FontBodies) (levels : ℕ) → Calls m (call_within m levels)
+call_within-stops m zero n p h = called-stops m too_deep (λ body q h'. tt) n (m.subrs n) refl p h
+call_within-stops m (suc levels) n p h =
+    called-stops m (words m (call_within m levels)) (words-stop m (call_within m levels) (call_within-stops m levels)) n (m.subrs n) refl p h
 
 none-asked : Asks None [] []
 none-asked = record { only = only; all = all } where
@@ -204,33 +212,36 @@ none-asked = record { only = only; all = all } where
   all (Subr n) e = let never : false ≡ true = e in absurd (cc)
   all (Glyph g) e = let never : false ≡ true = e in absurd (cc)
 
-ending-ends : (m : FontBodies) (body : List Command) → Ends m (ending m body)
-unfolding ending
-ending-ends m body = words-end m (call_within m 10) (call_within-ends m 10) body initial [] (record { keys = none-asked; steps = omega arith })
+body-stops : (m : FontBodies) (body : List Command) → Stops m (body_stop m body)
+unfolding body_stop
+body-stops m body = words-stop m (call_within m 10) (call_within-stops m 10) body (reached initial []) start where
+  start : Under m (reached initial [])
+  start = record { keys = none-asked; subrs = λ n e. let never : false ≡ true = e in absurd (cc); steps = omega arith }
 
 -- ---- what a drawing says
 
 record Told (m : FontBodies) (d : Drawing) (asked : List Key) : Type 0 where
   keys : Asks d.composite d.entered asked
+  subrs : HasSubrs m d.entered
   parts : HasParts m d.composite
   steps : d.steps ≤ 100000
 
-told-metric : (m : FontBodies) (metric : Option Metric) (composite : Option Composite) (s : State) (asked : List Key) (d : Drawing)
-    → Over m composite s asked → drawing_of metric composite s ≡ Ok d → Told m d asked
-told-metric m None composite s asked d h e = absurd (cc)
-told-metric m (Some metric) composite s asked d h e =
-    let same : record { width = metric.width; bearing = metric.bearing; segments = s.segments; composite = composite; entered = s.entered; steps = s.steps } ≡ d = cc in
-    subst (λ d'. Told m d' asked) same (record { keys = h.keys; parts = h.parts; steps = h.steps })
+told-metric : (m : FontBodies) (metric : Option Metric) (composite : Option Composite) (p : Progress) (d : Drawing)
+    → Over m composite p → drawing_of metric composite p.state ≡ Ok d → Told m d p.asked
+told-metric m None composite p d h e = absurd (cc)
+told-metric m (Some metric) composite p d h e =
+    let same : record { width = metric.width; bearing = metric.bearing; segments = p.state.segments; composite = composite; entered = p.state.entered; steps = p.state.steps } ≡ d = cc in
+    subst (λ d'. Told m d' p.asked) same (record { keys = h.keys; subrs = h.subrs; parts = h.parts; steps = h.steps })
 
-told-ending : (m : FontBodies) (e : Ending) (d : Drawing) → Ends m e → outcome_of e ≡ Ok d → Told m d (asked_by e)
-told-ending m (Finished s asked) d h e = absurd (cc)
-told-ending m (Returned s asked) d h e = absurd (cc)
-told-ending m (Ended composite s asked) d h e = told-metric m s.metric composite s asked d h e
-told-ending m (Failed fault asked) d h e = absurd (cc)
+told-stop : (m : FontBodies) (e : Stop) (d : Drawing) → Stops m e → outcome_of e ≡ Ok d → Told m d (asked_by e)
+told-stop m (OutOfWords p) d h e = absurd (cc)
+told-stop m (Returned p) d h e = absurd (cc)
+told-stop m (Completed composite p) d h e = told-metric m p.state.metric composite p d h e
+told-stop m (Failed fault asked) d h e = absurd (cc)
 
 told-body : (m : FontBodies) (b : Option (List Command)) (d : Drawing) → own_of m b ≡ Some (Ok d) → Told m d (asked_of m b)
 told-body m None d e = absurd (cc)
-told-body m (Some body) d e = told-ending m (ending m body) d (ending-ends m body) (cc)
+told-body m (Some body) d e = told-stop m (body_stop m body) d (body-stops m body) (cc)
 
 told-own : (m : FontBodies) (g : List ℕ) (d : Drawing) → own m g ≡ Some (Ok d) → Told m d (asked_of m (m.glyphs g))
 unfolding own
@@ -262,6 +273,9 @@ exact m g d e k = uses-all g d (asked_of m (m.glyphs g)) (told-own m g d e).keys
 
 pub parts_there : PartsLaw
 parts_there m g d e = (told-own m g d e).parts
+
+pub subrs_there : (m : FontBodies) (g : List ℕ) (d : Drawing) → own m g ≡ Some (Ok d) → HasSubrs m d.entered
+subrs_there m g d e = (told-own m g d e).subrs
 
 pub steps_within : (m : FontBodies) (g : List ℕ) (d : Drawing) → own m g ≡ Some (Ok d) → d.steps ≤ 100000
 steps_within m g d e = (told-own m g d e).steps

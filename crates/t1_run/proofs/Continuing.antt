@@ -3,7 +3,7 @@ use Rattle.std.proofs.Common.{◌≡◌, ℕ, zero, suc, ◌+◌, ◌<◌, ◌�
 use Rattle.std.specs.Prelude.{Result, Ok, Err}
 use Rattle.t1_frac.specs.Outcome.{Refuses, told_at, fault_at}
 use Rattle.t1_frac.specs.declared.fault.Code.{Code}
-use Rattle.t1_frac.specs.declared.fault.Code.TheVariants.{F32, F33, F34, F35}
+use Rattle.t1_frac.specs.declared.fault.Code.TheVariants.{F32, F33}
 use Rattle.t1_frac.specs.declared.fault.Place.TheVariants.{Nowhere}
 use Rattle.t1_frac.specs.declared.fault.Refusal.{Refusal}
 use Rattle.t1_frac.specs.declared.fault.Refusal.TheVariants as refusals
@@ -11,27 +11,27 @@ use Rattle.t1_code.specs.declared.command.Command.{Command}
 use Rattle.t1_run.specs.declared.outline.Accent.{Accent}
 use Rattle.t1_run.specs.declared.outline.Composite.{Composite}
 use Rattle.t1_run.specs.State.{State, initial}
-use Rattle.t1_run.specs.Step.{Next, Call, Back, End, Compose, Fault}
+use Rattle.t1_run.specs.Step.{Call, Back, End, Compose, Fault}
 use Rattle.t1_run.specs.Words.{step}
 use Rattle.t1_run.specs.Machine.{RefusesStep}
-use Rattle.t1_run.specs.Run.{FontBodies, Key, Subr, Ending, Ended, Failed, go_on, act, words, call_within, called, composed, composite_of, asking_parts, encoded, runs, entering, ending, drawing_of, outcome_of}
+use Rattle.t1_run.specs.Run.{FontBodies, Key, Subr, Progress, reached, Stop, Completed, Failed, go_on, act, words, call_within, called, too_deep, composed, composite_of, asking_parts, encoded, runs, entering, body_stop, drawing_of, outcome_of}
 
--- an ending goes on through the bodies that wait, the innermost first; `levels` is what is left where it ended
-abbrev pub resume : FontBodies → ℕ → List (List Command) → Ending → Ending
+-- where a body stopped, the bodies that wait go on, the innermost first; `levels` is what was left there
+abbrev pub resume : FontBodies → ℕ → List (List Command) → Stop → Stop
 resume m levels [] e = e
 resume m levels (rest ∷ waiting) e = resume m (suc levels) waiting (go_on (runs m (suc levels) rest) e)
 
--- the present rest from the present state, and then the bodies that wait, end as the whole body does
+-- the present rest from the present state, and then the bodies that wait, stop as the whole body does
 pub record Continues (m : FontBodies) (body rest : List Command) (waiting : List (List Command)) (s : State) : Type 0 where
   pub levels : ℕ
   pub asked : List Key
   pub room : levels + length waiting ≡ 10
-  pub same : resume m levels waiting (runs m levels rest s asked) ≡ ending m body
+  pub same : resume m levels waiting (runs m levels rest (reached s asked)) ≡ body_stop m body
 
-resume-ended : (m : FontBodies) (levels : ℕ) (waiting : List (List Command)) (composite : Option Composite) (s : State) (asked : List Key)
-    → resume m levels waiting (Ended composite s asked) ≡ Ended composite s asked
-resume-ended m levels [] composite s asked = refl
-resume-ended m levels (rest ∷ waiting) composite s asked = resume-ended m (suc levels) waiting composite s asked
+resume-completed : (m : FontBodies) (levels : ℕ) (waiting : List (List Command)) (composite : Option Composite) (p : Progress)
+    → resume m levels waiting (Completed composite p) ≡ Completed composite p
+resume-completed m levels [] composite p = refl
+resume-completed m levels (rest ∷ waiting) composite p = resume-completed m (suc levels) waiting composite p
 
 resume-failed : (m : FontBodies) (levels : ℕ) (waiting : List (List Command)) (fault : Code) (asked : List Key)
     → resume m levels waiting (Failed fault asked) ≡ Failed fault asked
@@ -41,7 +41,7 @@ resume-failed m levels (rest ∷ waiting) fault asked = resume-failed m (suc lev
 -- ---- the run goes on
 
 pub Continues-start : (m : FontBodies) (body : List Command) → Continues m body body [] initial
-unfolding ending
+unfolding body_stop
 Continues-start m body = record { levels = 10; asked = []; room = refl; same = refl }
 
 pub Continues-back : {m : FontBodies} {body cs rest : List Command} {waiting : List (List Command)} {s s' : State} {c : Command}
@@ -56,7 +56,7 @@ Continues-back {m = m} {cs = cs} {rest = rest} {waiting = waiting} {s' = s'} h e
 -- a call of a Subr that the maps have, with room for it
 call_at : (m : FontBodies) (body cs sub : List Command) (waiting : List (List Command)) (s s' : State) (c : Command) (n : ℕ)
     (levels : ℕ) (asked : List Key) → levels + length waiting ≡ 10
-    → resume m levels waiting (runs m levels (c ∷ cs) s asked) ≡ ending m body
+    → resume m levels waiting (runs m levels (c ∷ cs) (reached s asked)) ≡ body_stop m body
     → step c s ≡ Call n s' → m.subrs n ≡ Some sub → length waiting < 10
     → Continues m body sub (cs ∷ waiting) (entering n s')
 call_at m body cs sub waiting s s' c n zero asked room same e found fits = absurd (omega arith)
@@ -67,7 +67,7 @@ call_at m body cs sub waiting s s' c n (suc levels) asked room same e found fits
   same =
       sym (ap (λ t. resume m (suc levels) waiting (act m (call_within m (suc levels)) (runs m (suc levels) cs) t asked)) e
       ∙ ap (λ b. resume m (suc levels) waiting
-      (go_on (runs m (suc levels) cs) (called (words m (call_within m levels)) b n s' (Subr n ∷ asked)))) found)
+      (go_on (runs m (suc levels) cs) (called (words m (call_within m levels)) b n (reached s' (Subr n ∷ asked))))) found)
       ∙ same;
 }
 
@@ -80,14 +80,14 @@ Continues-call {m = m} {body = body} {cs = cs} {sub = sub} {waiting = waiting} {
 -- ---- the run is over
 
 pub outcome-end : {m : FontBodies} {body cs : List Command} {waiting : List (List Command)} {s s' : State} {c : Command}
-    → Continues m body (c ∷ cs) waiting s → step c s ≡ End s' → outcome_of (ending m body) ≡ drawing_of s'.metric None s'
+    → Continues m body (c ∷ cs) waiting s → step c s ≡ End s' → outcome_of (body_stop m body) ≡ drawing_of s'.metric None s'
 outcome-end {m = m} {cs = cs} {waiting = waiting} {s' = s'} h e =
     ap outcome_of (sym h.same
     ∙ ap (λ t. resume m h.levels waiting (act m (call_within m h.levels) (runs m h.levels cs) t h.asked)) e
-    ∙ resume-ended m h.levels waiting None s' h.asked)
+    ∙ resume-completed m h.levels waiting None (reached s' h.asked))
 
 pub outcome-fault : {m : FontBodies} {body cs : List Command} {waiting : List (List Command)} {s : State} {c : Command} {fault : Code}
-    → Continues m body (c ∷ cs) waiting s → step c s ≡ Fault fault → outcome_of (ending m body) ≡ Err fault
+    → Continues m body (c ∷ cs) waiting s → step c s ≡ Fault fault → outcome_of (body_stop m body) ≡ Err fault
 outcome-fault {m = m} {cs = cs} {waiting = waiting} {fault = fault} h e =
     ap outcome_of (sym h.same
     ∙ ap (λ t. resume m h.levels waiting (act m (call_within m h.levels) (runs m h.levels cs) t h.asked)) e
@@ -95,76 +95,76 @@ outcome-fault {m = m} {cs = cs} {waiting = waiting} {fault = fault} h e =
 
 -- a call, where so many levels are left, of a Subr that the maps lack
 missing_at : (m : FontBodies) (body cs : List Command) (waiting : List (List Command)) (s s' : State) (c : Command) (n : ℕ)
-    (levels : ℕ) (asked : List Key) → resume m levels waiting (runs m levels (c ∷ cs) s asked) ≡ ending m body
-    → step c s ≡ Call n s' → m.subrs n ≡ None → outcome_of (ending m body) ≡ Err F32
+    (levels : ℕ) (asked : List Key) → resume m levels waiting (runs m levels (c ∷ cs) (reached s asked)) ≡ body_stop m body
+    → step c s ≡ Call n s' → m.subrs n ≡ None → outcome_of (body_stop m body) ≡ Err F32
 missing_at m body cs waiting s s' c n zero asked same e found =
     ap outcome_of (sym same
     ∙ ap (λ t. resume m zero waiting (act m (call_within m zero) (runs m zero cs) t asked)) e
     ∙ ap (λ b. resume m zero waiting
-    (go_on (runs m zero cs) (called (λ body s asked. Failed F33 asked) b n s' (Subr n ∷ asked)))) found
+    (go_on (runs m zero cs) (called too_deep b n (reached s' (Subr n ∷ asked))))) found
     ∙ resume-failed m zero waiting F32 (Subr n ∷ asked))
 missing_at m body cs waiting s s' c n (suc levels) asked same e found =
     ap outcome_of (sym same
     ∙ ap (λ t. resume m (suc levels) waiting (act m (call_within m (suc levels)) (runs m (suc levels) cs) t asked)) e
     ∙ ap (λ b. resume m (suc levels) waiting
-    (go_on (runs m (suc levels) cs) (called (words m (call_within m levels)) b n s' (Subr n ∷ asked)))) found
+    (go_on (runs m (suc levels) cs) (called (words m (call_within m levels)) b n (reached s' (Subr n ∷ asked))))) found
     ∙ resume-failed m (suc levels) waiting F32 (Subr n ∷ asked))
 
 pub outcome-missing : {m : FontBodies} {body cs : List Command} {waiting : List (List Command)} {s s' : State} {c : Command} {n : ℕ}
-    → Continues m body (c ∷ cs) waiting s → step c s ≡ Call n s' → m.subrs n ≡ None → outcome_of (ending m body) ≡ Err F32
+    → Continues m body (c ∷ cs) waiting s → step c s ≡ Call n s' → m.subrs n ≡ None → outcome_of (body_stop m body) ≡ Err F32
 outcome-missing {m = m} {body = body} {cs = cs} {waiting = waiting} {s = s} {s' = s'} {c = c} {n = n} h e found =
     missing_at m body cs waiting s s' c n h.levels h.asked h.same e found
 
 -- a call where ten Subrs are active
 full_at : (m : FontBodies) (body cs sub : List Command) (waiting : List (List Command)) (s s' : State) (c : Command) (n : ℕ)
     (levels : ℕ) (asked : List Key) → levels + length waiting ≡ 10
-    → resume m levels waiting (runs m levels (c ∷ cs) s asked) ≡ ending m body
-    → step c s ≡ Call n s' → m.subrs n ≡ Some sub → 10 ≤ length waiting → outcome_of (ending m body) ≡ Err F33
+    → resume m levels waiting (runs m levels (c ∷ cs) (reached s asked)) ≡ body_stop m body
+    → step c s ≡ Call n s' → m.subrs n ≡ Some sub → 10 ≤ length waiting → outcome_of (body_stop m body) ≡ Err F33
 full_at m body cs sub waiting s s' c n (suc levels) asked room same e found full = absurd (omega arith)
 full_at m body cs sub waiting s s' c n zero asked room same e found full =
     ap outcome_of (sym same
     ∙ ap (λ t. resume m zero waiting (act m (call_within m zero) (runs m zero cs) t asked)) e
     ∙ ap (λ b. resume m zero waiting
-    (go_on (runs m zero cs) (called (λ body s asked. Failed F33 asked) b n s' (Subr n ∷ asked)))) found
+    (go_on (runs m zero cs) (called too_deep b n (reached s' (Subr n ∷ asked))))) found
     ∙ resume-failed m zero waiting F33 (Subr n ∷ asked))
 
 pub outcome-full : {m : FontBodies} {body cs sub : List Command} {waiting : List (List Command)} {s s' : State} {c : Command} {n : ℕ}
     → Continues m body (c ∷ cs) waiting s → step c s ≡ Call n s' → m.subrs n ≡ Some sub → 10 ≤ length waiting
-    → outcome_of (ending m body) ≡ Err F33
+    → outcome_of (body_stop m body) ≡ Err F33
 outcome-full {m = m} {body = body} {cs = cs} {sub = sub} {waiting = waiting} {s = s} {s' = s'} {c = c} {n = n} h e found full =
     full_at m body cs sub waiting s s' c n h.levels h.asked h.room h.same e found full
 
 -- a composite, where its parts are there, and where one isn't
 pub outcome-compose : {m : FontBodies} {body cs : List Command} {waiting : List (List Command)} {s s' : State} {c : Command} {a : Accent} {parts : Composite}
     → Continues m body (c ∷ cs) waiting s → step c s ≡ Compose a s' → composite_of m.glyphs a ≡ Ok parts
-    → outcome_of (ending m body) ≡ drawing_of s'.metric (Some parts) s'
+    → outcome_of (body_stop m body) ≡ drawing_of s'.metric (Some parts) s'
 outcome-compose {m = m} {cs = cs} {waiting = waiting} {s' = s'} {a = a} {parts = parts} h e found =
     let keys = asking_parts (encoded a.base) (encoded a.accent) m.glyphs h.asked in
     ap outcome_of (sym h.same
     ∙ ap (λ t. resume m h.levels waiting (act m (call_within m h.levels) (runs m h.levels cs) t h.asked)) e
-    ∙ ap (λ r. resume m h.levels waiting (composed r s' keys)) found
-    ∙ resume-ended m h.levels waiting (Some parts) s' keys)
+    ∙ ap (λ r. resume m h.levels waiting (composed r (reached s' keys))) found
+    ∙ resume-completed m h.levels waiting (Some parts) (reached s' keys))
 
 pub outcome-partless : {m : FontBodies} {body cs : List Command} {waiting : List (List Command)} {s s' : State} {c : Command} {a : Accent} {fault : Code}
     → Continues m body (c ∷ cs) waiting s → step c s ≡ Compose a s' → composite_of m.glyphs a ≡ Err fault
-    → outcome_of (ending m body) ≡ Err fault
+    → outcome_of (body_stop m body) ≡ Err fault
 outcome-partless {m = m} {cs = cs} {waiting = waiting} {s' = s'} {a = a} {fault = fault} h e found =
     let keys = asking_parts (encoded a.base) (encoded a.accent) m.glyphs h.asked in
     ap outcome_of (sym h.same
     ∙ ap (λ t. resume m h.levels waiting (act m (call_within m h.levels) (runs m h.levels cs) t h.asked)) e
-    ∙ ap (λ r. resume m h.levels waiting (composed r s' keys)) found
+    ∙ ap (λ r. resume m h.levels waiting (composed r (reached s' keys))) found
     ∙ resume-failed m h.levels waiting fault keys)
 
 -- ---- what refuses a word, or the search for parts, refuses the run
 
 pub refused-step : {m : FontBodies} {body cs : List Command} {waiting : List (List Command)} {s : State} {c : Command} (refusal : Refusal)
-    → Continues m body (c ∷ cs) waiting s → RefusesStep refusal (step c s) → Refuses refusal (told_at Nowhere (outcome_of (ending m body)))
+    → Continues m body (c ∷ cs) waiting s → RefusesStep refusal (step c s) → Refuses refusal (told_at Nowhere (outcome_of (body_stop m body)))
 refused-step refusals.Memory h e = tt
 refused-step (refusals.Fault f) h e = ap (told_at Nowhere) (outcome-fault h e.1) ∙ ap Err (sym e.0)
 
 refused_at : {m : FontBodies} {body cs : List Command} {waiting : List (List Command)} {s s' : State} {c : Command} {a : Accent}
     → Continues m body (c ∷ cs) waiting s → step c s ≡ Compose a s' → (r : Result Composite Code) → composite_of m.glyphs a ≡ r
-    → (refusal : Refusal) → Refuses refusal (told_at Nowhere r) → Refuses refusal (told_at Nowhere (outcome_of (ending m body)))
+    → (refusal : Refusal) → Refuses refusal (told_at Nowhere r) → Refuses refusal (told_at Nowhere (outcome_of (body_stop m body)))
 refused_at h e r found refusals.Memory refused = tt
 refused_at h e (Ok parts) found (refusals.Fault f) refused = absurd (cc)
 refused_at h e (Err fault) found (refusals.Fault f) refused =
@@ -173,10 +173,5 @@ refused_at h e (Err fault) found (refusals.Fault f) refused =
 
 pub refused-parts : {m : FontBodies} {body cs : List Command} {waiting : List (List Command)} {s s' : State} {c : Command} {a : Accent} (refusal : Refusal)
     → Continues m body (c ∷ cs) waiting s → step c s ≡ Compose a s' → Refuses refusal (told_at Nowhere (composite_of m.glyphs a))
-    → Refuses refusal (told_at Nowhere (outcome_of (ending m body)))
+    → Refuses refusal (told_at Nowhere (outcome_of (body_stop m body)))
 refused-parts {m = m} {a = a} refusal h e refused = refused_at h e (composite_of m.glyphs a) refl refusal refused
-
--- what is reported at no place is what was found
-pub found-parts : (r : Result Composite Code) (parts : Composite) → told_at Nowhere r ≡ Ok parts → r ≡ Ok parts
-found-parts (Ok x) parts e = cc
-found-parts (Err fault) parts e = absurd (cc)

@@ -1,31 +1,20 @@
 -- The glyphs found through tables of users are those that are touched.
-use Rattle.std.proofs.Common.{◌≡◌, ℕ, zero, suc, Bool, true, false, List, refl, sym, ◌∙◌, ap, ◌⊎◌, inl, inr, Option, Some, None}
+use Rattle.std.proofs.Common.{◌≡◌, ℕ, zero, suc, Bool, true, false, List, refl, sym, ◌∙◌, ap, inl, inr, Option, Some, None}
 use Rattle.std.specs.Prelude.{Result, Ok, Err, ◌||◌}
 use Rattle.std.specs.List.{list_any}
 use Rattle.std.specs.Str.{bytes_eq}
+use Rattle.std.proofs.lemmas.Bool.{or_cases, or_left, or_right}
 use Rattle.std.proofs.lemmas.Slice.Eq.{bytes_eq-Decides}
 use Rattle.t1_frac.specs.Outcome.{◌>>=◌}
 use Rattle.t1_frac.specs.declared.fault.Code.{Code}
 use Rattle.t1_frac.specs.declared.fault.Code.TheVariants.{F46}
+use Rattle.t1_frac.proofs.OutcomeLaws.{bind_ok}
 use Rattle.t1_run.specs.declared.outline.Composite.{Composite}
 use Rattle.t1_run.specs.declared.outline.Segment.{Segment}
 use Rattle.t1_run.specs.Composite.{joined, with_parts, drawn, outline_within, outline}
 use Rattle.t1_run.specs.Footprint.{uses, is_part}
 use Rattle.t1_run.specs.Run.{FontBodies, Key, Subr, Glyph, Drawing, own}
 use Rattle.t1_run.specs.Touched.{is_key_of, is_user, is_met, meets_run, meets_part, meets_parts, touched_within, is_touched, IsClosed, Found, Seed, User, FoundByUsersLaw}
-use Rattle.t1_run.proofs.Untouched.{bound}
-
-or-cases : (a b : Bool) → (a || b) ≡ true → (a ≡ true) ⊎ (b ≡ true)
-or-cases true b h = inl refl
-or-cases false b h = inr h
-
-or-left : (a b : Bool) → a ≡ true → (a || b) ≡ true
-or-left true b h = refl
-or-left false b h = absurd (cc)
-
-or-right : (a b : Bool) → b ≡ true → (a || b) ≡ true
-or-right true b h = refl
-or-right false b h = h
 
 both-ways : (a b : Bool) → (a ≡ true → b ≡ true) → (b ≡ true → a ≡ true) → a ≡ b
 both-ways true b h h' = sym (h refl)
@@ -55,13 +44,13 @@ module _ (m : FontBodies) (keys : List Key) (has : List ℕ → Bool) (closed : 
       → (o : List Segment) → with_parts part c d ≡ Ok o → meets_part touched c ≡ true → has g ≡ true
   part-has part touched have g d e None is o drew h = absurd (cc)
   part-has part touched have g d e (Some c) is o drew h =
-      let b = bound (part c.base) (λ base. part c.accent >>= (λ accent. joined d base accent)) o drew in
-      let t = bound (part c.accent) (λ accent. joined d b.0 accent) o b.2 in
-      elim (or-cases (touched c.base) (touched c.accent) h) [
+      let b = bind_ok (part c.base) (λ base. part c.accent >>= (λ accent. joined d base accent)) o drew in
+      let t = bind_ok (part c.accent) (λ accent. joined d b.0 accent) o b.2 in
+      elim (or_cases (touched c.base) (touched c.accent) h) [
         | inl h' ↦ closed.users c.base g (have c.base b.0 b.1 h')
-            (ap (is_user (Glyph c.base)) e ∙ ap (is_part c.base) is ∙ or-left (bytes_eq c.base c.base) (bytes_eq c.accent c.base) (itself c.base))
+            (ap (is_user (Glyph c.base)) e ∙ ap (is_part c.base) is ∙ or_left (bytes_eq c.base c.base) (bytes_eq c.accent c.base) (itself c.base))
         | inr h' ↦ closed.users c.accent g (have c.accent t.0 t.1 h')
-            (ap (is_user (Glyph c.accent)) e ∙ ap (is_part c.accent) is ∙ or-right (bytes_eq c.base c.accent) (bytes_eq c.accent c.accent) (itself c.accent))
+            (ap (is_user (Glyph c.accent)) e ∙ ap (is_part c.accent) is ∙ or_right (bytes_eq c.base c.accent) (bytes_eq c.accent c.accent) (itself c.accent))
       ]
 
   run-has : (part : List ℕ → Result (List Segment) Code) (touched : List ℕ → Bool) → PartsHave part touched
@@ -70,14 +59,14 @@ module _ (m : FontBodies) (keys : List Key) (has : List ℕ → Bool) (closed : 
   run-has part touched have g None e o drew h = absurd (cc)
   run-has part touched have g (Some (Err code)) e o drew h = absurd (cc)
   run-has part touched have g (Some (Ok d)) e o drew h =
-      elim (or-cases (list_any (uses g d) keys) (meets_part touched d.composite) h) [
+      elim (or_cases (list_any (uses g d) keys) (meets_part touched d.composite) h) [
         | inl h' ↦ closed.seeds g (met-run m keys g d e ∙ h')
         | inr h' ↦ part-has part touched have g d e d.composite refl o drew h'
       ]
 
   touched-has : (depth : ℕ) (g : List ℕ) (o : List Segment) → outline_within (own m) depth g ≡ Ok o → touched_within depth m keys g ≡ true → has g ≡ true
   touched-has zero g o drew h =
-      run-has (λ p. Err F46) (λ p. false) (λ p o' e h'. absurd (cc)) g (own m g) refl o drew (or-left (meets_run keys g (own m g)) _ h)
+      run-has (λ p. Err F46) (λ p. false) (λ p o' e h'. absurd (cc)) g (own m g) refl o drew (or_left (meets_run keys g (own m g)) _ h)
   touched-has (suc depth) g o drew h =
       run-has (outline_within (own m) depth) (touched_within depth m keys) (touched-has depth) g (own m g) refl o drew h
 
@@ -90,13 +79,13 @@ module _ (m : FontBodies) (keys : List Key) where
       → (c : Option Composite) (d : Drawing) (o : List Segment) → with_parts part c d ≡ Ok o → is_part p c ≡ true → meets_part touched c ≡ true
   user-part part touched p touch None d o drew h = absurd (cc)
   user-part part touched p touch (Some c) d o drew h =
-      let b = bound (part c.base) (λ base. part c.accent >>= (λ accent. joined d base accent)) o drew in
-      let t = bound (part c.accent) (λ accent. joined d b.0 accent) o b.2 in
-      elim (or-cases (bytes_eq c.base p) (bytes_eq c.accent p) h) [
+      let b = bind_ok (part c.base) (λ base. part c.accent >>= (λ accent. joined d base accent)) o drew in
+      let t = bind_ok (part c.accent) (λ accent. joined d b.0 accent) o b.2 in
+      elim (or_cases (bytes_eq c.base p) (bytes_eq c.accent p) h) [
         | inl h' ↦ let same : c.base ≡ p = (bytes_eq-Decides c.base p).0 h' in
-            or-left (touched c.base) (touched c.accent) (ap touched same ∙ touch b.0 (ap part (sym same) ∙ b.1))
+            or_left (touched c.base) (touched c.accent) (ap touched same ∙ touch b.0 (ap part (sym same) ∙ b.1))
         | inr h' ↦ let same : c.accent ≡ p = (bytes_eq-Decides c.accent p).0 h' in
-            or-right (touched c.base) (touched c.accent) (ap touched same ∙ touch t.0 (ap part (sym same) ∙ t.1))
+            or_right (touched c.base) (touched c.accent) (ap touched same ∙ touch t.0 (ap part (sym same) ∙ t.1))
       ]
 
   user-run : (part : List ℕ → Result (List Segment) Code) (touched : List ℕ → Bool) (p : List ℕ) → PartsTouch part touched p
@@ -114,7 +103,7 @@ module _ (m : FontBodies) (keys : List Key) where
   found-touched : (g : List ℕ) → Found m keys g → (depth : ℕ) (o : List Segment) → outline_within (own m) depth g ≡ Ok o → touched_within depth m keys g ≡ true
   found-touched g (Seed _ h) zero o drew = seed-run (λ p. Err F46) g (own m g) refl o drew h
   found-touched g (Seed _ h) (suc depth) o drew =
-      or-left (meets_run keys g (own m g)) (meets_parts (touched_within depth m keys) (own m g))
+      or_left (meets_run keys g (own m g)) (meets_parts (touched_within depth m keys) (own m g))
       (seed-run (outline_within (own m) depth) g (own m g) refl o drew h)
   found-touched g (User p _ found h) zero o drew =
       let never = user-run (λ q. Err F46) (λ q. false) p (λ o' e. absurd (cc)) (own m g) o drew h in
@@ -128,7 +117,7 @@ module _ (m : FontBodies) (keys : List Key) where
         never-met (Some (Err code)) h = cc
         never-met (Some (Ok d)) h = never-part d.composite h
   found-touched g (User p _ found h) (suc depth) o drew =
-      or-right (meets_run keys g (own m g)) (meets_parts (touched_within depth m keys) (own m g))
+      or_right (meets_run keys g (own m g)) (meets_parts (touched_within depth m keys) (own m g))
       (user-run (outline_within (own m) depth) (touched_within depth m keys) p (λ o' e. found-touched p found depth o' e) (own m g) o drew h)
 
 pub found_are_touched : FoundByUsersLaw

@@ -4,6 +4,7 @@ pub mod CompositeRows
 pub mod Continuing
 pub mod FoundByUsers
 pub mod Moved
+pub mod Naming
 pub mod Outlines
 pub mod Rows
 pub mod Searched

@@ -10,12 +10,13 @@ use Rattle.t1_frac.specs.Words.{words}
 use Rattle.t1_frac.specs.declared.fault.Code.{Code}
 use Rattle.t1_frac.specs.declared.fault.Code.TheVariants.{F30, F31, F32, F33, F34, F35, F36, F37, F38, F39, F40, F41, F42, F43, F44, F45, F48}
 use Rattle.t1_code.specs.Encoding.{standard_name, standard_names}
-use Rattle.t1_code.specs.Words.{commands, command_of_word, operator_named, operator_words, is_number_word, number_of_word}
+use Rattle.t1_code.specs.Words.{commands, command_of_word, operator_named, operator_words, number_of_word}
+use Rattle.t1_frac.specs.Numbers.{is_number_word}
 use Rattle.t1_code.specs.declared.command.Command.{Command}
 use Rattle.t1_run.specs.declared.outline.Point.{Point}
 use Rattle.t1_run.specs.declared.outline.Segment.{Segment}
 use Rattle.t1_run.specs.declared.outline.Segment.TheVariants.{Line, Curve}
-use Rattle.t1_run.specs.Run.{FontBodies, Drawing, Subr, Glyph, own, foot, ending}
+use Rattle.t1_run.specs.Run.{FontBodies, Drawing, Subr, Glyph, own, foot, body_stop}
 
 -- ---- fonts by the texts of their bodies
 
@@ -82,13 +83,13 @@ lines : map (λ text. segments_of (own (small text) (codes "space"))) (
     ∷ (Line (pt (pos 0) (pos 0)) (pt (pos 10) (pos 20)) ∷ [])
     ∷ (Line (pt (pos 0) (pos 0)) (pt (pos 7) (pos 0)) ∷ [])
     ∷ []
-unfolding own ending coordinate_sum lowest gcd commands command_of_word operator_named operator_words is_number_word number_of_word
+unfolding own body_stop coordinate_sum lowest gcd commands command_of_word operator_named operator_words is_number_word number_of_word
 lines = refl
 
 -- 2/3 and 1/3 are 1
 thirds : segments_of (own (small (codes "0 250 hsbw 4 6 div hmoveto 1 3 div hlineto endchar")) (codes "space"))
     ≡ Line (record { x = record { num = pos 2; den = 3 }; y = whole (pos 0) }) (pt (pos 1) (pos 0)) ∷ []
-unfolding own ending coordinate_sum quotient lowest gcd commands command_of_word operator_named operator_words is_number_word number_of_word
+unfolding own body_stop coordinate_sum quotient lowest gcd commands command_of_word operator_named operator_words is_number_word number_of_word
 thirds = refl
 
 -- the width is a fraction, and sbw sets it in both directions
@@ -98,7 +99,7 @@ width_of _ = None
 
 widths : map (λ text. width_of (own (small text) (codes "space"))) (codes "0 1001 2 div hsbw endchar" ∷ codes "0 0 500 20 sbw endchar" ∷ [])
     ≡ Some (record { x = record { num = pos 1001; den = 2 }; y = whole (pos 0) }) ∷ Some (pt (pos 500) (pos 20)) ∷ []
-unfolding own ending coordinate_sum quotient lowest gcd commands command_of_word operator_named operator_words is_number_word number_of_word
+unfolding own body_stop coordinate_sum quotient lowest gcd commands command_of_word operator_named operator_words is_number_word number_of_word
 widths = refl
 
 -- each code of refusal
@@ -120,7 +121,7 @@ refusals : map fault_with (
     codes "0 250 hsbw 0 0 0 65 65 seac" ∷
     [])
     ≡ Some F36 ∷ Some F36 ∷ Some F35 ∷ Some F30 ∷ Some F34 ∷ Some F32 ∷ Some F43 ∷ Some F37 ∷ Some F38 ∷ Some F39 ∷ Some F48 ∷ Some F42 ∷ Some F41 ∷ Some F44 ∷ Some F45 ∷ []
-unfolding own ending coordinate_sum quotient lowest gcd commands command_of_word operator_named operator_words is_number_word number_of_word standard_name standard_names
+unfolding own body_stop coordinate_sum quotient lowest gcd commands command_of_word operator_named operator_words is_number_word number_of_word standard_name standard_names
 refusals = refl
 
 -- operands are looked at from the lowest, but callothersubr's number before its count and its count before its arguments
@@ -138,7 +139,7 @@ orders : map fault_with (
     codes "0 250 hsbw 0 1 callothersubr 1 hlineto endchar" ∷
     [])
     ≡ Some F36 ∷ Some F37 ∷ Some F48 ∷ Some F37 ∷ Some F37 ∷ Some F48 ∷ Some F42 ∷ Some F30 ∷ Some F37 ∷ Some F37 ∷ Some F41 ∷ []
-unfolding own ending coordinate_sum quotient lowest gcd commands command_of_word operator_named operator_words is_number_word number_of_word standard_name standard_names
+unfolding own body_stop coordinate_sum quotient lowest gcd commands command_of_word operator_named operator_words is_number_word number_of_word standard_name standard_names
 orders = refl
 
 -- so many times the same words
@@ -158,7 +159,7 @@ edges : map fault_with (
     (codes "0 250 hsbw " ++ times 22 (codes "0") ++ codes "22 12 callothersubr endchar") ∷
     [])
     ≡ None ∷ Some F31 ∷ None ∷ Some F40 ∷ None ∷ Some F39 ∷ None ∷ Some F37 ∷ None ∷ []
-unfolding own ending coordinate_sum quotient lowest gcd commands command_of_word operator_named operator_words is_number_word number_of_word
+unfolding own body_stop coordinate_sum quotient lowest gcd commands command_of_word operator_named operator_words is_number_word number_of_word
 edges = refl
 
 -- ---- flex
@@ -179,7 +180,7 @@ flex : map (λ last. segments_of (own (demo (flex_start ++ last)) (codes "V"))) 
     codes "20 0 rmoveto 2 callsubr 50 100 5 0 callsubr 10 hlineto endchar" ∷
     [])
     ≡ flex_curves ∷ flex_curves ∷ (flex_curves ++ Line (pt (pos 100) (pos 5)) (pt (pos 110) (pos 5)) ∷ []) ∷ []
-unfolding own ending coordinate_sum quotient lowest gcd commands command_of_word operator_named operator_words is_number_word number_of_word
+unfolding own body_stop coordinate_sum quotient lowest gcd commands command_of_word operator_named operator_words is_number_word number_of_word
 flex = refl
 
 flex_faults : map (λ text. fault_of (own (demo text) (codes "V"))) (
@@ -191,11 +192,11 @@ flex_faults : map (λ text. fault_of (own (demo text) (codes "V"))) (
     codes "0 500 hsbw 1 callsubr endchar" ∷
     [])
     ≡ Some F41 ∷ Some F41 ∷ Some F41 ∷ Some F41 ∷ Some F41 ∷ Some F41 ∷ []
-unfolding own ending coordinate_sum quotient lowest gcd commands command_of_word operator_named operator_words is_number_word number_of_word
+unfolding own body_stop coordinate_sum quotient lowest gcd commands command_of_word operator_named operator_words is_number_word number_of_word
 flex_faults = refl
 
 flex_entered : entered_of (own (demo (flex_start ++ codes "20 0 rmoveto 2 callsubr 50 100 0 0 callsubr endchar")) (codes "V")) ≡ 0 ∷ 1 ∷ 2 ∷ []
-unfolding own ending coordinate_sum quotient lowest gcd commands command_of_word operator_named operator_words is_number_word number_of_word
+unfolding own body_stop coordinate_sum quotient lowest gcd commands command_of_word operator_named operator_words is_number_word number_of_word
 flex_entered = refl
 
 -- ---- Subr numbers that are computed
@@ -208,16 +209,16 @@ computed : map (λ text. segments_of (own (demo text) (codes "V"))) (
     ≡ (Line (pt (pos 10) (pos 0)) (pt (pos 110) (pos 178)) ∷ [])
     ∷ (Line (pt (pos 15) (pos 0)) (pt (pos 115) (pos 178)) ∷ [])
     ∷ []
-unfolding own ending coordinate_sum quotient lowest gcd commands command_of_word operator_named operator_words is_number_word number_of_word
+unfolding own body_stop coordinate_sum quotient lowest gcd commands command_of_word operator_named operator_words is_number_word number_of_word
 computed = refl
 
 computed_foot : foot (demo (codes "10 600 hsbw 4 1 3 callothersubr pop callsubr endchar")) (codes "V") ≡ Glyph (codes "V") ∷ Subr 4 ∷ []
-unfolding own ending coordinate_sum quotient lowest gcd commands command_of_word operator_named operator_words is_number_word number_of_word foot
+unfolding own body_stop coordinate_sum quotient lowest gcd commands command_of_word operator_named operator_words is_number_word number_of_word foot
 computed_foot = refl
 
 -- a Subr that is missing is asked for too
 missing_foot : foot (demo (codes "10 600 hsbw 40 callsubr endchar")) (codes "V") ≡ Glyph (codes "V") ∷ Subr 40 ∷ []
-unfolding own ending coordinate_sum quotient lowest gcd commands command_of_word operator_named operator_words is_number_word number_of_word foot
+unfolding own body_stop coordinate_sum quotient lowest gcd commands command_of_word operator_named operator_words is_number_word number_of_word foot
 missing_foot = refl
 
 -- ---- nesting
@@ -235,10 +236,10 @@ nesting : map (λ text. fault_of (own (font_of nested ((codes "V", text) ∷ [])
     codes "15 722 hsbw 15 callsubr endchar" ∷
     [])
     ≡ None ∷ Some F33 ∷ []
-unfolding own ending coordinate_sum quotient lowest gcd commands command_of_word operator_named operator_words is_number_word number_of_word
+unfolding own body_stop coordinate_sum quotient lowest gcd commands command_of_word operator_named operator_words is_number_word number_of_word
 nesting = refl
 
 nested_entered : entered_of (own (font_of nested ((codes "V", codes "15 722 hsbw 5 callsubr endchar") ∷ [])) (codes "V"))
     ≡ 5 ∷ 6 ∷ 7 ∷ 8 ∷ 9 ∷ 10 ∷ 11 ∷ 12 ∷ 13 ∷ 14 ∷ []
-unfolding own ending coordinate_sum quotient lowest gcd commands command_of_word operator_named operator_words is_number_word number_of_word
+unfolding own body_stop coordinate_sum quotient lowest gcd commands command_of_word operator_named operator_words is_number_word number_of_word
 nested_entered = refl

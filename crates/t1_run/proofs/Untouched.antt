@@ -1,10 +1,12 @@
 -- A glyph that edits don't touch runs and draws as before.
 use Rattle.std.proofs.Common.{◌≡◌, ℕ, zero, suc, Bool, true, false, List, [], ◌∷◌, refl, ◌∙◌, ap, inl, inr, Option, Some, None}
-use Rattle.std.specs.Prelude.{Result, Ok, Err, ◌||◌}
+use Rattle.std.specs.Prelude.{Result, Ok, Err}
 use Rattle.std.specs.List.{list_any}
+use Rattle.std.proofs.lemmas.Bool.{or_parts}
 use Rattle.t1_frac.specs.Outcome.{◌>>=◌}
 use Rattle.t1_frac.specs.declared.fault.Code.{Code}
 use Rattle.t1_frac.specs.declared.fault.Code.TheVariants.{F46}
+use Rattle.t1_frac.proofs.OutcomeLaws.{bind_ok}
 use Rattle.t1_run.specs.declared.outline.Composite.{Composite}
 use Rattle.t1_run.specs.declared.outline.Segment.{Segment}
 use Rattle.t1_run.specs.Composite.{joined, with_parts, drawn, outline_within, outline}
@@ -14,26 +16,17 @@ use Rattle.t1_run.proofs.Agreeing.{own_same}
 use Rattle.t1_run.proofs.Asked.{exact}
 use Rattle.t1_run.specs.Touched.{SameBut, meets_run, meets_part, meets_parts, touched_within, is_touched, UntouchedLaw}
 
-pub or-false : (a b : Bool) → (a || b) ≡ false → (a ≡ false) × (b ≡ false)
-or-false true b h = cc
-or-false false b h = (refl, h)
-
 -- a key that a test finds is not among keys at which it finds nothing
 unmet : (p : Key → Bool) (keys : List Key) → list_any p keys ≡ false → (k : Key) → p k ≡ true → Includes keys k → ⊥
 unmet p [] h k used i = i
-unmet p (x ∷ keys) h k used (inl e) = let h' = (or-false (p x) (list_any p keys) h).0 in let e' = ap p e in cc
-unmet p (x ∷ keys) h k used (inr i) = unmet p keys (or-false (p x) (list_any p keys) h).1 k used i
+unmet p (x ∷ keys) h k used (inl e) = let h' = (or_parts (p x) (list_any p keys) h).0 in let e' = ap p e in cc
+unmet p (x ∷ keys) h k used (inr i) = unmet p keys (or_parts (p x) (list_any p keys) h).1 k used i
 
 -- a run that used no key is the same afterwards
 pub own-kept : (keys : List Key) (m n : FontBodies) → SameBut keys m n → (g : List ℕ) (d : Drawing) → own m g ≡ Some (Ok d)
     → list_any (uses g d) keys ≡ false → own n g ≡ own m g
 own-kept keys m n but g d e h =
     (own_same m n g (record { same = λ k i. but.same k (unmet (uses g d) keys h k ((exact m g d e k).0 i)) })).0
-
--- the value that a value was made from
-pub bound : {X Y : Type 0} (r : Result X Code) (next : X → Result Y Code) (y : Y) → (r >>= next) ≡ Ok y → (x : X) × (r ≡ Ok x) × (next x ≡ Ok y)
-bound (Ok x) next y e = (x, refl, e)
-bound (Err code) next y e = absurd (cc)
 
 -- where parts that aren't touched draw as before
 abbrev PartsKept : (part part' : List ℕ → Result (List Segment) Code) → (List ℕ → Bool) → Type 0
@@ -44,9 +37,9 @@ parts-kept : (part part' : List ℕ → Result (List Segment) Code) (touched : L
     → with_parts part' c d ≡ with_parts part c d
 parts-kept part part' touched kept None d o e h = refl
 parts-kept part part' touched kept (Some c) d o e h =
-    let b = bound (part c.base) (λ base. part c.accent >>= (λ accent. joined d base accent)) o e in
-    let t = bound (part c.accent) (λ accent. joined d b.0 accent) o b.2 in
-    let h' = or-false (touched c.base) (touched c.accent) h in
+    let b = bind_ok (part c.base) (λ base. part c.accent >>= (λ accent. joined d base accent)) o e in
+    let t = bind_ok (part c.accent) (λ accent. joined d b.0 accent) o b.2 in
+    let h' = or_parts (touched c.base) (touched c.accent) h in
     ap (λ r. r >>= (λ base. part' c.accent >>= (λ accent. joined d base accent))) (kept c.base b.0 b.1 h'.0)
     ∙ ap (λ r. part c.base >>= (λ base. r >>= (λ accent. joined d base accent))) (kept c.accent t.0 t.1 h'.1)
 
@@ -79,7 +72,7 @@ pub within-kept : (keys : List Key) (m n : FontBodies) → SameBut keys m n
 within-kept keys m n but zero g o e h =
     drawn-kept keys m n but (λ p. Err F46) (λ p. Err F46) (λ p. false) (λ p o' e' h'. refl) g (own m g) refl o e h (no-parts (own m g))
 within-kept keys m n but (suc depth) g o e h =
-    let h' = or-false (meets_run keys g (own m g)) (meets_parts (touched_within depth m keys) (own m g)) h in
+    let h' = or_parts (meets_run keys g (own m g)) (meets_parts (touched_within depth m keys) (own m g)) h in
     drawn-kept keys m n but (outline_within (own m) depth) (outline_within (own n) depth) (touched_within depth m keys)
     (λ p o' e' h''. (within-kept keys m n but depth p o' e' h'').1) g (own m g) refl o e h'.0 h'.1
 

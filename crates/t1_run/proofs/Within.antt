@@ -1,10 +1,10 @@
 -- Fractions, points and segments that a run holds are in lowest terms, and within their limits.
 use Rattle.std.proofs.Common.{◌≡◌, ℕ, ◌*◌, ◌/◌, ◌^◌, ◌<◌, ◌≤◌, Bool, true, false, List, [], ◌∷◌, ◌++◌, take, drop, zero, suc, arith, refl, sym, ◌∙◌, ap, inl, inr, Some, None, ℤ, pos, negsuc, neg_ℤ, ◌+ℤ◌, ◌*ℤ◌}
-use Rattle.std.specs.Prelude.{Result, Ok, Err, IfOk, nat_lt, ◌||◌, ◌==◌, if◌then◌else◌}
+use Rattle.std.specs.Prelude.{Result, Ok, Err, IfOk, nat_lt, ◌==◌, if◌then◌else◌}
 use Rattle.std.specs.List.{AllByRecursion, list_any}
 use Rattle.std.specs.Int.RustNames.{unsigned_abs, int_div}
 use Rattle.std.proofs.Math.Nat.{div-one}
-use Rattle.std.proofs.lemmas.Bool.{cases_Bool}
+use Rattle.std.proofs.lemmas.Bool.{cases_Bool, or_parts}
 use Rattle.std.proofs.lemmas.Bool.Decides.{nat_tests}
 use borrow.Author.Differences.{sum_is_lem, product_is, same_in}
 use Rattle.t1_frac.specs.Fraction.{Fraction, IsLowest, gcd, lowest, whole, plus, minus, over}
@@ -129,10 +129,6 @@ zero-place = record { value = whole-value (pos 0); size = omega arith }
 
 -- ---- operands within 32000
 
-or_false : (a b : Bool) → (a || b) ≡ false → (a ≡ false) × (b ≡ false)
-or_false true b h = absurd (cc)
-or_false false b h = (refl, h)
-
 test_false : (test : Bool) (fault : Code) → (if test then Some fault else None) ≡ None → test ≡ false
 test_false true fault h = absurd (cc)
 test_false false fault h = refl
@@ -145,7 +141,7 @@ small-place a h small =
 all-small : (values : List Fraction) → AllByRecursion IsValue values → list_any (exceeds 32000) values ≡ false → AllByRecursion IsPlace values
 all-small [] h e = tt
 all-small (a ∷ rest) h e =
-    let both = or_false (exceeds 32000 a) (list_any (exceeds 32000) rest) e in
+    let both = or_parts (exceeds 32000 a) (list_any (exceeds 32000) rest) e in
     (small-place a h.0 both.0, all-small rest h.1 both.1)
 
 pub sized-places : (values : List Fraction) → AllByRecursion IsValue values → size_fault values ≡ None → AllByRecursion IsPlace values

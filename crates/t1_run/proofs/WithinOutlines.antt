@@ -12,10 +12,10 @@ use Rattle.t1_run.specs.declared.outline.Segment.{Segment}
 use Rattle.t1_run.specs.declared.outline.Segment.TheVariants.{Line, Curve}
 use Rattle.t1_run.specs.Composite.{accent_move, moved_point, moved_segment, moved_outline, joined, joined_with, with_parts, drawn, outline_within, outline, IsPoint, IsWithin}
 use Rattle.t1_code.specs.declared.command.Command.{Command}
-use Rattle.t1_run.specs.Run.{FontBodies, Drawing, own, ending, outcome_of}
+use Rattle.t1_run.specs.Run.{FontBodies, Drawing, own, body_stop, outcome_of}
 use Rattle.t1_run.specs.Within.{DrawnWithinLaw, AreRuns, OutlinesWithinLaw}
 use Rattle.t1_run.proofs.Within.{IsValue, IsPlace, IsPlaced, IsDrawn, AllDrawn, bind-ok, each-append, sum-place, difference-place, moved-placed, outline-stays}
-use Rattle.t1_run.proofs.WithinRuns.{PartsWithin, DrawingWithin, OwnWithin, own-within, outcome-within, ending-within}
+use Rattle.t1_run.proofs.WithinRuns.{PartsWithin, DrawingWithin, OwnWithin, own-within, outcome-within, stop-within}
 
 -- a distance in lowest terms
 record IsMove (by : Point) : Type 0 where
@@ -148,5 +148,5 @@ drawing-draws : (r : Result Drawing Code) → IfOk r DrawingWithin → DrawsWith
 drawing-draws (Ok d) h = all-within d.segments h.segments
 drawing-draws (Err fault) h = tt
 
-pub ending-draws : (m : FontBodies) (body : List Command) (r : Result Drawing Code) → outcome_of (ending m body) ≡ r → DrawsWithin r
-ending-draws m body r e = subst DrawsWithin e (drawing-draws (outcome_of (ending m body)) (outcome-within (ending m body) (ending-within m body)))
+pub stop-draws : (m : FontBodies) (body : List Command) (r : Result Drawing Code) → outcome_of (body_stop m body) ≡ r → DrawsWithin r
+stop-draws m body r e = subst DrawsWithin e (drawing-draws (outcome_of (body_stop m body)) (outcome-within (body_stop m body) (stop-within m body)))

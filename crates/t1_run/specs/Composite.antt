@@ -1,9 +1,10 @@
 -- Composites: a base with an accent, to four levels.
-use Rattle.std.specs.Prelude.{ℕ, zero, suc, List, [], ◌∷◌, ◌++◌, Option, Some, None, Result, Ok, Err}
+use Rattle.std.specs.Prelude.{◌≡◌, true, ℕ, zero, suc, List, [], ◌∷◌, ◌++◌, Option, Some, None, Result, Ok, Err}
 use Rattle.t1_frac.specs.Limits.{IsCoordinate, coordinate_sum, coordinate_difference}
 use Rattle.t1_frac.specs.Outcome.{◌>>=◌}
 use Rattle.t1_frac.specs.declared.fault.Code.{Code}
 use Rattle.t1_frac.specs.declared.fault.Code.TheVariants.{F45, F46}
+use Rattle.t1_code.specs.Encoding.{is_standard_name}
 use Rattle.t1_run.specs.declared.outline.Composite.{Composite}
 use Rattle.t1_run.specs.declared.outline.Point.{Point}
 use Rattle.t1_run.specs.declared.outline.Segment.{Segment}
@@ -97,6 +98,13 @@ foot_within m (suc depth) glyph = foot m glyph ++ asked_after (foot_within m dep
 -- profile: the footprint of a glyph's outline
 unfoldable pub outline_foot : FontBodies → List ℕ → List Key
 outline_foot m glyph = foot_within m 4 glyph
+
+-- ---- parts by their names
+
+-- Type 1 Font Format, chapter 6 (seac): the base and the accent have codes of StandardEncoding
+pub record HasStandardParts (c : Composite) : Type 0 where
+  pub base : is_standard_name c.base ≡ true
+  pub accent : is_standard_name c.accent ≡ true
 
 -- ---- points within the limits
 

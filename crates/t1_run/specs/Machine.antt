@@ -45,10 +45,19 @@ abbrev pub RefusesStep : Refusal → Step → Type 0
 RefusesStep refusals.Memory step = Unit {0}
 RefusesStep (refusals.Fault fault) step = (fault ≡ fault_at Nowhere fault.code) × (step ≡ Fault fault.code)
 
--- profile: a call makes this step: its answer and the state that it leaves stand for it, or it refuses as the step does
-abbrev pub Tells : Step → Result Control Refusal → StateFields → Type 0
-Tells step (Ok control) now = step ≡ told control (state_of now)
-Tells step (Err refused) now = RefusesStep refused step
+-- profile: the step after which the run goes on with the next word
+abbrev pub going_on : Unit {0} → State → Step
+going_on done s = Next s
+
+-- profile: the step of a call that takes no memory: that of its value and the state that it leaves, or its fault
+abbrev pub answered : {A : Type 0} → (A → State → Step) → Result A Code → State → Step
+answered step (Ok value) s = step value s
+answered step (Err code) s = Fault code
+
+-- profile: a call makes this step: its value and the state that it leaves stand for it, or it refuses as the step does
+abbrev pub Tells : {A : Type 0} → (A → State → Step) → Step → Result A Refusal → StateFields → Type 0
+Tells step made (Ok value) now = made ≡ step value (state_of now)
+Tells step made (Err refused) now = RefusesStep refused made
 
 -- profile: a call answers what the own body of a glyph of the maps draws, or its fault at no place, unless memory ran out
 abbrev pub GivesOwn : Result NumberedRun Refusal → Option (Result Drawing Code) → Type 0

@@ -29,19 +29,31 @@ pub data Key : Type 0 where
   Subr : ℕ → Key
   Glyph : List ℕ → Key
 
--- profile: how a list of commands ends, with the keys asked so far, the newest first
-pub data Ending : Type 0 where
+-- profile: how far a run has come: its state, and the keys asked so far, the newest first
+pub record Progress : Type 0 where
+  pub state : State
+  pub asked : List Key
+
+-- profile: the progress to this state, with these keys asked
+abbrev pub reached : State → List Key → Progress
+reached s asked = record { state = s; asked = asked }
+
+-- profile: how a list of commands stops
+pub data Stop : Type 0 where
   -- after its last word
-  Finished : State → List Key → Ending
-  Returned : State → List Key → Ending
-  Ended : Option Composite → State → List Key → Ending
-  Failed : Code → List Key → Ending
+  OutOfWords : Progress → Stop
+  -- by return
+  Returned : Progress → Stop
+  -- by endchar, or by seac with the parts that it found
+  Completed : Option Composite → Progress → Stop
+  -- by a fault, with the keys asked before it
+  Failed : Code → List Key → Stop
 
--- profile: what a list of commands does from a state
+-- profile: what a list of commands does from where the run has come
 abbrev pub Runner : Type 0
-Runner = State → List Key → Ending
+Runner = Progress → Stop
 
--- profile: what a call of a Subr does from a state
+-- profile: what a call of a Subr does from there
 abbrev pub Caller : Type 0
 Caller = ℕ → Runner
 
@@ -84,49 +96,53 @@ asking_parts _ _ glyphs asked = asked
 
 -- profile: the run ends with its composite, or by the composite's fault
 abbrev pub composed : Result Composite Code → Runner
-composed (Ok composite) s asked = Ended (Some composite) s asked
-composed (Err fault) s asked = Failed fault asked
+composed (Ok composite) p = Completed (Some composite) p
+composed (Err fault) p = Failed fault p.asked
 
 -- ---- words and calls
 
 -- Type 1 Font Format, chapter 6 (return): where a Subr is over, the caller goes on
-abbrev pub go_on : Runner → Ending → Ending
-go_on next (Finished s asked) = next s asked
-go_on next (Returned s asked) = next s asked
-go_on next (Ended composite s asked) = Ended composite s asked
+abbrev pub go_on : Runner → Stop → Stop
+go_on next (OutOfWords p) = next p
+go_on next (Returned p) = next p
+go_on next (Completed composite p) = Completed composite p
 go_on next (Failed fault asked) = Failed fault asked
 
--- profile: what a word's step does to the run
-abbrev pub act : FontBodies → Caller → Runner → Step → List Key → Ending
-act m caller next (Next s) asked = next s asked
-act m caller next (Call n s) asked = go_on next (caller n s (Subr n ∷ asked))
-act m caller next (Back s) asked = Returned s asked
-act m caller next (End s) asked = Ended None s asked
-act m caller next (Compose a s) asked = composed (composite_of m.glyphs a) s (asking_parts (encoded a.base) (encoded a.accent) m.glyphs asked)
+-- profile: what a word's step does to the run, by the keys asked before it
+abbrev pub act : FontBodies → Caller → Runner → Step → List Key → Stop
+act m caller next (Next s) asked = next (reached s asked)
+act m caller next (Call n s) asked = go_on next (caller n (reached s (Subr n ∷ asked)))
+act m caller next (Back s) asked = Returned (reached s asked)
+act m caller next (End s) asked = Completed None (reached s asked)
+act m caller next (Compose a s) asked = composed (composite_of m.glyphs a) (reached s (asking_parts (encoded a.base) (encoded a.accent) m.glyphs asked))
 act m caller next (Fault fault) asked = Failed fault asked
 
 -- Type 1 Font Format, chapter 6: the words one after another
 abbrev pub words : FontBodies → Caller → List Command → Runner
-words m caller [] s asked = Finished s asked
-words m caller (c ∷ cs) s asked = act m caller (words m caller cs) (step c s) asked
+words m caller [] p = OutOfWords p
+words m caller (c ∷ cs) p = act m caller (words m caller cs) (step c p.state) p.asked
 
 -- Type 1 Font Format, chapter 6 (callsubr): a Subr's body, run by this runner; F32 where there is no such Subr
 abbrev pub called : (List Command → Runner) → Option (List Command) → Caller
-called run None n s asked = Failed F32 asked
-called run (Some body) n s asked = run body (entering n s) asked
+called run None n p = Failed F32 p.asked
+called run (Some body) n p = run body (reached (entering n p.state) p.asked)
+
+-- profile, limits: a body that is called where no Subr more may be active
+abbrev pub too_deep : List Command → Runner
+too_deep body p = Failed F33 p.asked
 
 -- profile, limits: a call, where so many Subrs more may be active at once
 abbrev pub call_within : FontBodies → ℕ → Caller
-call_within m zero n s asked = called (λ body s' asked'. Failed F33 asked') (m.subrs n) n s asked
-call_within m (suc levels) n s asked = called (words m (call_within m levels)) (m.subrs n) n s asked
+call_within m zero n p = called too_deep (m.subrs n) n p
+call_within m (suc levels) n p = called (words m (call_within m levels)) (m.subrs n) n p
 
 -- profile, limits: what a list of commands does, where so many Subrs may be active at once
 abbrev pub runs : FontBodies → ℕ → List Command → Runner
 runs m levels = words m (call_within m levels)
 
--- profile, limits: a glyph's own body, in which ten Subrs may be active
-unfoldable pub ending : FontBodies → List Command → Ending
-ending m body = runs m 10 body initial []
+-- profile, limits: how a glyph's own body stops, in which ten Subrs may be active
+unfoldable pub body_stop : FontBodies → List Command → Stop
+body_stop m body = runs m 10 body (reached initial [])
 
 -- ---- what a run answers
 
@@ -159,27 +175,27 @@ drawing_of (Some metric) composite s =
     })
 
 -- Type 1 Font Format, chapter 6 (endchar): a glyph's own body ends by endchar or seac
-abbrev pub outcome_of : Ending → Result Drawing Code
-outcome_of (Finished s asked) = Err F35
-outcome_of (Returned s asked) = Err F34
-outcome_of (Ended composite s asked) = drawing_of s.metric composite s
+abbrev pub outcome_of : Stop → Result Drawing Code
+outcome_of (OutOfWords p) = Err F35
+outcome_of (Returned p) = Err F34
+outcome_of (Completed composite p) = drawing_of p.state.metric composite p.state
 outcome_of (Failed fault asked) = Err fault
 
--- profile: the keys that were asked by the end of a run, the newest first
-abbrev pub asked_by : Ending → List Key
-asked_by (Finished s asked) = asked
-asked_by (Returned s asked) = asked
-asked_by (Ended composite s asked) = asked
+-- profile: the keys that were asked until a run stopped, the newest first
+abbrev pub asked_by : Stop → List Key
+asked_by (OutOfWords p) = p.asked
+asked_by (Returned p) = p.asked
+asked_by (Completed composite p) = p.asked
 asked_by (Failed fault asked) = asked
 
 -- profile: what a body draws, or its first fault, where there is a body
 abbrev pub own_of : FontBodies → Option (List Command) → Option (Result Drawing Code)
-own_of m body = option_map (λ cs. outcome_of (ending m cs)) body
+own_of m body = option_map (λ cs. outcome_of (body_stop m cs)) body
 
 -- profile: what the run of a body asks of the maps, where there is a body
 abbrev pub asked_of : FontBodies → Option (List Command) → List Key
 asked_of m None = []
-asked_of m (Some body) = asked_by (ending m body)
+asked_of m (Some body) = asked_by (body_stop m body)
 
 -- profile: what the own body of a glyph of the maps draws, or its first fault
 unfoldable pub own : FontBodies → List ℕ → Option (Result Drawing Code)

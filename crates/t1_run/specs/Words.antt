@@ -96,14 +96,20 @@ places Sbw = true
 places SetCurrentPoint = true
 places _ = false
 
--- Type 1 Font Format, chapter 6: the commands that don't clear the operand stack, but for return
+-- Type 1 Font Format, chapter 6: the commands that put a value on the operand stack
 abbrev pub computes : Command → Bool
 computes (Num n) = true
 computes Pop = true
 computes Div = true
-computes CallSubr = true
-computes CallOtherSubr = true
 computes _ = false
+
+-- Type 1 Font Format, chapter 6: the commands after which the next word of the same body comes
+abbrev pub goes_on : Command → Bool
+goes_on CallSubr = false
+goes_on Return = false
+goes_on Seac = false
+goes_on EndChar = false
+goes_on _ = true
 
 -- profile, order of faults: operands enough, the side bearing, the operands, the flex, then the command's own rule
 abbrev pub execute : Command → State → Step

@@ -1,13 +1,13 @@
 //! Moves, lines, curves and metrics.
 
 ghost use Rattle.std.specs.Prelude.{◌≡◌, ◌≤◌, true, length};
-ghost use Rattle.t1_run.specs.Machine.{state_of, Tells};
+ghost use Rattle.t1_run.specs.Machine.{state_of, going_on, answered, Tells};
 ghost use Rattle.t1_run.specs.Operands.{takes, topmost};
 ghost use Rattle.t1_run.specs.Step.{moved as moved_by, move_by as move_of, line_by as line_of, curve_by as curve_of, set_metric as metric_of, Next, cleared, at_point};
 ghost use Rattle.t1_run.specs.Words.{rule, draws as draws_of, places as places_of};
 
 use crate::outline::{Metric, Point, Segment};
-use crate::state::{Control, State};
+use crate::state::State;
 use t1_code::Command;
 use t1_frac::{Code, Frac, Refusal};
 
@@ -22,25 +22,25 @@ pub fn moved(point: &Point, dx: &Frac, dy: &Frac) -> Result<Point, Code>
 
 impl State {
     /// Moves the current point, and draws nothing.
-    fn move_by(&mut self, dx: Frac, dy: Frac) -> Result<Control, Refusal>
-        ensures told { Tells (move_of dx dy (state_of self.old)) result self.new }
+    fn move_by(&mut self, dx: Frac, dy: Frac) -> Result<(), Code>
+        ensures told { move_of dx dy (state_of self.old) ≡ answered going_on result (state_of self.new) }
         ensures steps { self.new.steps ≡ self.old.steps }
     {
         self.current = moved(&self.current, &dx, &dy)?;
         self.operands.clear();
-        Ok(Control::Next)
+        Ok(())
     }
 
     /// Draws a line from the current point.
-    fn line_by(&mut self, dx: Frac, dy: Frac) -> Result<Control, Refusal>
-        ensures told { Tells (line_of dx dy (state_of self.old)) result self.new }
+    fn line_by(&mut self, dx: Frac, dy: Frac) -> Result<(), Refusal>
+        ensures told { Tells going_on (line_of dx dy (state_of self.old)) result self.new }
         ensures steps { self.new.steps ≡ self.old.steps }
     {
         let start = self.current;
         self.current = moved(&start, &dx, &dy)?;
         self.segments.push(Segment::Line(start, self.current))?;
         self.operands.clear();
-        Ok(Control::Next)
+        Ok(())
     }
 
     /// Draws a curve from the current point, by the steps to its other points.
@@ -49,8 +49,8 @@ impl State {
         first: (Frac, Frac),
         second: (Frac, Frac),
         third: (Frac, Frac),
-    ) -> Result<Control, Refusal>
-        ensures told { Tells (curve_of first.0 first.1 second.0 second.1 third.0 third.1 (state_of self.old)) result self.new }
+    ) -> Result<(), Refusal>
+        ensures told { Tells going_on (curve_of first.0 first.1 second.0 second.1 third.0 third.1 (state_of self.old)) result self.new }
         ensures steps { self.new.steps ≡ self.old.steps }
     {
         let start = self.current;
@@ -60,12 +60,12 @@ impl State {
         self.segments
             .push(Segment::Curve(start, one, two, self.current))?;
         self.operands.clear();
-        Ok(Control::Next)
+        Ok(())
     }
 
     /// Sets the side bearing and the width.
-    fn set_metric(&mut self, sbx: Frac, sby: Frac, wx: Frac, wy: Frac) -> Result<Control, Refusal>
-        ensures told { Tells (metric_of sbx sby wx wy (state_of self.old)) result self.new }
+    fn set_metric(&mut self, sbx: Frac, sby: Frac, wx: Frac, wy: Frac)
+        ensures told { metric_of sbx sby wx wy (state_of self.old) ≡ Next (state_of self.new) }
         ensures steps { self.new.steps ≡ self.old.steps }
     {
         self.current = Point { x: sbx, y: sby };
@@ -75,24 +75,22 @@ impl State {
             width,
         });
         self.operands.clear();
-        Ok(Control::Next)
     }
 
     /// Sets the current point.
-    fn set_point(&mut self, x: Frac, y: Frac) -> Result<Control, Refusal>
-        ensures told { Tells (Next (cleared (at_point (record { x = x; y = y }) (state_of self.old)))) result self.new }
+    fn set_point(&mut self, x: Frac, y: Frac)
+        ensures told { cleared (at_point (record { x = x; y = y }) (state_of self.old)) ≡ state_of self.new }
         ensures steps { self.new.steps ≡ self.old.steps }
     {
         self.current = Point { x, y };
         self.operands.clear();
-        Ok(Control::Next)
     }
 
     /// A line or a curve.
-    pub fn draw(&mut self, command: Command) -> Result<Control, Refusal>
+    pub fn draw(&mut self, command: Command) -> Result<(), Refusal>
         requires kind { draws_of command ≡ true }
         requires enough { takes command ≤ length self.old.operands }
-        ensures told { Tells (rule command (topmost (takes command) self.old.operands) (state_of self.old)) result self.new }
+        ensures told { Tells going_on (rule command (topmost (takes command) self.old.operands) (state_of self.old)) result self.new }
         ensures steps { self.new.steps ≡ self.old.steps }
     {
         let zero = Frac::whole(0);
@@ -126,10 +124,10 @@ impl State {
     }
 
     /// A command that sets the current point and draws nothing.
-    pub fn place(&mut self, command: Command) -> Result<Control, Refusal>
+    pub fn place(&mut self, command: Command) -> Result<(), Code>
         requires kind { places_of command ≡ true }
         requires enough { takes command ≤ length self.old.operands }
-        ensures told { Tells (rule command (topmost (takes command) self.old.operands) (state_of self.old)) result self.new }
+        ensures told { rule command (topmost (takes command) self.old.operands) (state_of self.old) ≡ answered going_on result (state_of self.new) }
         ensures steps { self.new.steps ≡ self.old.steps }
     {
         let zero = Frac::whole(0);
@@ -148,15 +146,18 @@ impl State {
             }
             Command::Hsbw => {
                 let (sbx, wx) = self.operands.top_two();
-                self.set_metric(sbx, zero, wx, zero)
+                self.set_metric(sbx, zero, wx, zero);
+                Ok(())
             }
             Command::Sbw => {
                 let [sbx, sby, wx, wy] = self.operands.top_four();
-                self.set_metric(sbx, sby, wx, wy)
+                self.set_metric(sbx, sby, wx, wy);
+                Ok(())
             }
             Command::SetCurrentPoint => {
                 let (x, y) = self.operands.top_two();
-                self.set_point(x, y)
+                self.set_point(x, y);
+                Ok(())
             }
             _ => unreachable!(),
         }

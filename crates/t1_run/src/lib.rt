@@ -13,7 +13,6 @@ mod operands;
 mod othersubrs;
 mod outcome;
 mod outline;
-mod overlay;
 mod plain;
 mod recorded;
 mod results;
@@ -29,7 +28,6 @@ pub use meter::Meter;
 pub use moving::{moved_point, moved_segment};
 pub use outcome::Run;
 pub use outline::{Composite, Point, Segment};
-pub use overlay::Overlay;
 pub use plain::Plain;
 pub use runner::run;
 

@@ -1,13 +1,12 @@
 //! callothersubr: flex, hint replacement and counter hints.
 
-ghost use Rattle.std.specs.Prelude.{◌≡◌, ◌≤◌, ◌+◌, pos, true, length, take, [], ◌∷◌};
-ghost use Rattle.t1_frac.specs.Fraction.{Fraction};
-ghost use Rattle.t1_run.specs.Machine.{state_of, Tells, effect_of};
+ghost use Rattle.std.specs.Prelude.{◌≡◌, ◌≤◌, ◌+◌, pos, true, length, [], ◌∷◌};
+ghost use Rattle.t1_run.specs.Machine.{state_of, going_on, answered, Tells, effect_of};
 ghost use Rattle.t1_run.specs.OtherSubrs.{is_supported as is_supported_of, start_flex as start_of, add_flex as add_of, end_flex as end_of, other_effect, other_with as with_of, other_subr as other_of};
 ghost use Rattle.t1_run.specs.State.{State as States};
 
 use crate::checks::{check_operand, check_sizes};
-use crate::state::{Control, State};
+use crate::state::State;
 use t1_frac::{Code, Frac, Refusal};
 
 /// What an othersubr does with its arguments.
@@ -49,79 +48,75 @@ fn effect_on(number: usize, arguments: &[Frac]) -> Effect
 
 impl State {
     /// Opens a flex at the current point.
-    fn start_flex(&mut self) -> Result<Control, Refusal>
-        ensures told { Tells (start_of (state_of self.old).flex (state_of self.old)) result self.new }
+    fn start_flex(&mut self) -> Result<(), Code>
+        ensures told { start_of (state_of self.old).flex (state_of self.old) ≡ answered going_on result (state_of self.new) }
         ensures steps { self.new.steps ≡ self.old.steps }
     {
         if self.flex.is_some() {
-            return Err(Refusal::from(Code::F41));
+            return Err(Code::F41);
         }
         self.flex = Some(self.current);
         self.recorded.clear();
         self.results.clear();
-        Ok(Control::Next)
+        Ok(())
     }
 
     /// Records the current point for the flex.
-    fn record_point(&mut self) -> Result<Control, Refusal>
-        ensures told { Tells (add_of (state_of self.old).flex (state_of self.old)) result self.new }
+    fn record_point(&mut self) -> Result<(), Code>
+        ensures told { add_of (state_of self.old).flex (state_of self.old) ≡ answered going_on result (state_of self.new) }
         ensures steps { self.new.steps ≡ self.old.steps }
     {
         if self.flex.is_none() || self.recorded.is_full() {
-            return Err(Refusal::from(Code::F41));
+            return Err(Code::F41);
         }
         self.recorded.push(self.current);
         self.results.clear();
-        Ok(Control::Next)
+        Ok(())
     }
 
     /// Draws the flex and closes it.
-    fn end_flex(&mut self, height: Frac, x: Frac, y: Frac) -> Result<Control, Refusal>
-        ensures told { Tells (end_of (state_of self.old).flex (height ∷ x ∷ y ∷ []) (state_of self.old)) result self.new }
+    fn end_flex(&mut self, height: Frac, x: Frac, y: Frac) -> Result<(), Refusal>
+        ensures told { Tells going_on (end_of (state_of self.old).flex (height ∷ x ∷ y ∷ []) (state_of self.old)) result self.new }
         ensures steps { self.new.steps ≡ self.old.steps }
     {
-        let Some(before) = self.flex else {
-            return Err(Refusal::from(Code::F41));
-        };
-        let Some(curves) = self.recorded.curves(before) else {
-            return Err(Refusal::from(Code::F41));
-        };
+        let before = self.flex.ok_or(Code::F41)?;
+        let curves = self.recorded.curves(before).ok_or(Code::F41)?;
         self.segments.extend_from_slice(&curves)?;
         self.flex = None;
         self.results.clear();
         self.results.push(y);
         self.results.push(x);
-        Ok(Control::Next)
+        Ok(())
     }
 }
 
 impl State {
     /// The othersubr's effect.
-    fn perform(&mut self, effect: Effect) -> Result<Control, Refusal>
-        ensures told { Tells (effect_of effect (state_of self.old)) result self.new }
+    fn perform(&mut self, effect: Effect) -> Result<(), Refusal>
+        ensures told { Tells going_on (effect_of effect (state_of self.old)) result self.new }
         ensures steps { self.new.steps ≡ self.old.steps }
     {
         match effect {
             Effect::EndFlex(height, x, y) => self.end_flex(height, x, y),
-            Effect::StartFlex => self.start_flex(),
-            Effect::RecordPoint => self.record_point(),
+            Effect::StartFlex => Ok(self.start_flex()?),
+            Effect::RecordPoint => Ok(self.record_point()?),
             Effect::Leave(value) => {
                 self.results.clear();
                 self.results.push(value);
-                Ok(Control::Next)
+                Ok(())
             }
             Effect::Discard => {
                 self.results.clear();
-                Ok(Control::Next)
+                Ok(())
             }
         }
     }
 
     /// The othersubr of this number, with so many arguments.
-    fn call_with(&mut self, number: usize, count: usize) -> Result<Control, Refusal>
+    fn call_with(&mut self, number: usize, count: usize) -> Result<(), Refusal>
         requires small { count ≤ 22 }
         requires supported { is_supported_of (pos number) (pos count) ≡ true }
-        ensures told { Tells (with_of number count (state_of self.old)) result self.new }
+        ensures told { Tells going_on (with_of number count (state_of self.old)) result self.new }
         ensures steps { self.new.steps ≡ self.old.steps }
     {
         let values = self.operands.as_slice();
@@ -138,8 +133,8 @@ impl State {
     }
 
     /// callothersubr, by the count of its arguments and its number.
-    pub fn call_other(&mut self, count: Frac, number: Frac) -> Result<Control, Refusal>
-        ensures told { Tells (other_of count number (state_of self.old)) result self.new }
+    pub fn call_other(&mut self, count: Frac, number: Frac) -> Result<(), Refusal>
+        ensures told { Tells going_on (other_of count number (state_of self.old)) result self.new }
         ensures steps { self.new.steps ≡ self.old.steps }
     {
         check_operand(true, &number)?;

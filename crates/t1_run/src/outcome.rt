@@ -1,16 +1,15 @@
 //! What a run answers.
 
-ghost use Rattle.std.specs.Prelude.{◌≡◌, All, IfOk, Option};
+ghost use Rattle.std.specs.Prelude.{◌≡◌, All, IfOk, IfSome, MatchResult, Option, Ok, Err};
 ghost use Rattle.std.specs.Option.{option_copied};
-ghost use Rattle.t1_frac.specs.Outcome.{Gives, told_at};
-ghost use Rattle.t1_run.specs.Composite.{IsWithin};
+ghost use Rattle.t1_run.specs.Composite.{HasStandardParts, IsWithin};
 ghost use Rattle.t1_run.specs.Machine.{state_of};
 ghost use Rattle.t1_run.specs.Run.{drawing_of};
 
 use crate::outline::{Composite, Metric, Point, Segment};
 use crate::state::State;
 use std::marker::Model;
-use t1_frac::{Code, Place, Refusal};
+use t1_frac::Code;
 
 /// What the run of a glyph's own body answered. It is made by `run` alone, and can't be cloned.
 #[derive(Debug, Drop)]
@@ -40,10 +39,10 @@ impl Model for Run {
       serial = r.serial;
     } };
 
-    ghost use Rattle.t1_run.specs.Composite.{IsWithin};
-    ghost use Rattle.std.specs.Prelude.{All};
+    ghost use Rattle.t1_run.specs.Composite.{HasStandardParts, IsWithin};
+    ghost use Rattle.std.specs.Prelude.{All, IfSome};
 
-    ghost invariant = { λ r. All IsWithin r.segments.items };
+    ghost invariant = { λ r. All IsWithin r.segments.items × IfSome r.composite HasStandardParts };
 }
 
 impl Run {
@@ -52,22 +51,23 @@ impl Run {
         state: State,
         composite: Option<Composite>,
         serial: u64,
-    ) -> Result<Run, Refusal>
-        requires { IfOk (drawing_of state.metric composite (state_of state)) (λ drawing. All IsWithin drawing.segments) }
-        ensures drawing { Gives (λ run. run.drawing) result (told_at Place.Nowhere (drawing_of state.metric composite (state_of state))) }
+    ) -> Result<Run, Code>
+        requires within { IfOk (drawing_of state.metric composite (state_of state)) (λ drawing. All IsWithin drawing.segments) }
+        requires parts { IfSome composite HasStandardParts }
+        ensures drawing { MatchResult
+            result
+            (λ run. drawing_of state.metric composite (state_of state) ≡ Ok run.drawing)
+            (λ code. drawing_of state.metric composite (state_of state) ≡ Err code) }
         ensures serial { IfOk result (λ run. run.serial ≡ serial) }
     {
         let State {
             metric,
-            mut segments,
+            segments,
             entered,
             steps,
             ..
         } = state;
-        let Some(metric) = metric else {
-            return Err(Refusal::from(Code::F36));
-        };
-        segments.shrink_to_fit();
+        let metric = metric.ok_or(Code::F36)?;
         Ok(Run {
             metric,
             segments,
@@ -102,7 +102,8 @@ impl Run {
 
     /// The parts of a glyph that ended by seac.
     pub fn composite(&self) -> Option<&Composite>
-        ensures { option_copied result ≡ self.now.drawing.composite }
+        ensures parts { option_copied result ≡ self.now.drawing.composite }
+        ensures names { IfSome self.now.drawing.composite HasStandardParts }
     {
         self.composite.as_ref()
     }

@@ -1,8 +1,5 @@
 //! Bodies in two maps.
 
-ghost use Rattle.std.specs.Prelude.{◌≡◌, ℕ, List, Option};
-ghost use Rattle.t1_code.specs.declared.command.Command.{Command};
-
 use crate::bodies::Bodies;
 use indexmap::IndexMap;
 use t1_code::Body;

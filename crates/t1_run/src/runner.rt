@@ -3,7 +3,7 @@
 ghost use Rattle.std.specs.Prelude.{◌≡◌, ◌+◌, ◌-◌, ◌^◌, min, IsSome, IfOk};
 ghost use Rattle.t1_frac.specs.Outcome.{Gives, told_at};
 ghost use Rattle.t1_run.specs.Machine.{GivesOwn};
-ghost use Rattle.t1_run.specs.Run.{ending, outcome_of, own, font};
+ghost use Rattle.t1_run.specs.Run.{body_stop, outcome_of, own, font};
 
 use crate::bodies::Bodies;
 use crate::meter::Meter;
@@ -25,7 +25,7 @@ fn run_body<'a, B: Bodies>(
     ensures drawing { Gives
         (λ run. run.drawing)
         result
-        (told_at Place.Nowhere (outcome_of (ending (font (B.subrs bodies.now) (B.glyphs bodies.now)) body.now))) }
+        (told_at Place.Nowhere (outcome_of (body_stop (font (B.subrs bodies.now) (B.glyphs bodies.now)) body.now))) }
     ensures serial { IfOk result (λ run. run.serial ≡ serial) }
 {
     let mut state = State::new(alloc);
@@ -33,18 +33,13 @@ fn run_body<'a, B: Bodies>(
     let mut rest = body;
     'words: loop {
         let Some((command, tail)) = rest.split_first() else {
-            let Some(waiting) = returns.pop() else {
-                return Err(Refusal::from(Code::F35));
-            };
-            rest = waiting;
+            rest = returns.pop().ok_or(Code::F35)?;
             continue;
         };
         match state.step(*command)? {
             Control::Next => rest = tail,
             Control::Call(n) => {
-                let Some(called) = bodies.subr(n) else {
-                    return Err(Refusal::from(Code::F32));
-                };
+                let called = bodies.subr(n).ok_or(Code::F32)?;
                 if returns.is_full() {
                     return Err(Refusal::from(Code::F33));
                 }
@@ -52,16 +47,11 @@ fn run_body<'a, B: Bodies>(
                 returns.push(tail);
                 rest = called.commands();
             }
-            Control::Back => {
-                let Some(waiting) = returns.pop() else {
-                    return Err(Refusal::from(Code::F34));
-                };
-                rest = waiting;
-            }
-            Control::End => return Run::ended(state, None, serial),
+            Control::Back => rest = returns.pop().ok_or(Code::F34)?,
+            Control::End => return Ok(Run::ended(state, None, serial)?),
             Control::Compose(accent) => {
                 let parts = find_parts(alloc, bodies, &accent)?;
-                return Run::ended(state, Some(parts), serial);
+                return Ok(Run::ended(state, Some(parts), serial)?);
             }
         }
     }

@@ -1,6 +1,6 @@
 //! The state of a run.
 
-ghost use Rattle.std.specs.Prelude.{◌≡◌, OnOk, IfErr};
+ghost use Rattle.std.specs.Prelude.{◌≡◌, OnOk};
 ghost use Rattle.t1_run.specs.Machine.{state_of};
 ghost use Rattle.t1_run.specs.Run.{entering};
 ghost use Rattle.t1_run.specs.State.{initial};
@@ -10,8 +10,8 @@ use crate::operands::Operands;
 use crate::outline::{Accent, Metric, Point, Segment};
 use crate::recorded::Recorded;
 use crate::results::Results;
-use std::alloc::Global;
-use t1_frac::{Frac, Refusal};
+use std::alloc::{AllocError, Global};
+use t1_frac::Frac;
 
 /// What a word asks of the run.
 #[derive(Clone, Copy, Debug, PartialEq, Eq)]
@@ -57,12 +57,10 @@ impl State {
     }
 
     /// Counts a Subr among those entered.
-    pub fn enter(&mut self, n: u16) -> Result<(), Refusal>
+    pub fn enter(&mut self, n: u16) -> Result<(), AllocError>
         ensures entered { OnOk result (state_of self.new ≡ entering n (state_of self.old)) }
         ensures steps { OnOk result (self.new.steps ≡ self.old.steps) }
-        ensures memory { IfErr result (λ refusal. refusal ≡ Refusal.Memory) }
     {
-        self.entered.add(n)?;
-        Ok(())
+        self.entered.add(n)
     }
 }

@@ -1,11 +1,11 @@
 //! One word of a charstring.
 
-ghost use Rattle.std.specs.Prelude.{◌≡◌, ◌+◌, ◌≤◌, OnOk, [], ◌∷◌, true, false, None, length};
+ghost use Rattle.std.specs.Prelude.{◌≡◌, ◌+◌, ◌≤◌, OnOk, true, false, None, length};
 ghost use Rattle.t1_frac.specs.Limits.{exceeds};
-ghost use Rattle.t1_run.specs.Machine.{state_of, Tells};
+ghost use Rattle.t1_run.specs.Machine.{state_of, going_on, answered, told, Tells};
 ghost use Rattle.t1_run.specs.Operands.{topmost, below, takes as takes_of, is_whole, operand_faults};
-ghost use Rattle.t1_run.specs.Step.{push as push_of, pop_result as pop_of, divide as divide_of, call as call_of, with_one, with_stack};
-ghost use Rattle.t1_run.specs.Words.{step as step_of, execute as execute_of, rule as rule_of, computes as computes_of};
+ghost use Rattle.t1_run.specs.Step.{push as push_of, pop_result as pop_of, divide as divide_of, call as call_of, Call, Compose, with_stack};
+ghost use Rattle.t1_run.specs.Words.{step as step_of, execute as execute_of, rule as rule_of, computes as computes_of, goes_on};
 
 use crate::checks::{check_operands, draws_or_ends, needs_bearing, sets_bearing, takes};
 use crate::outline::Accent;
@@ -18,81 +18,80 @@ const MAX_STEPS: u32 = 100_000;
 
 impl State {
     /// Pushes a value.
-    fn push(&mut self, value: Frac) -> Result<Control, Refusal>
-        ensures told { Tells (push_of value (state_of self.old)) result self.new }
+    fn push(&mut self, value: Frac) -> Result<(), Code>
+        ensures told { push_of value (state_of self.old) ≡ answered going_on result (state_of self.new) }
         ensures steps { self.new.steps ≡ self.old.steps }
     {
         if self.operands.as_slice().len() >= 24 {
-            return Err(Refusal::from(Code::F31));
+            return Err(Code::F31);
         }
         self.operands.push(value);
-        Ok(Control::Next)
+        Ok(())
     }
 
     /// Takes a result.
-    fn pop_result(&mut self) -> Result<Control, Refusal>
-        ensures told { Tells (pop_of self.old.results (state_of self.old)) result self.new }
+    fn pop_result(&mut self) -> Result<(), Code>
+        ensures told { pop_of self.old.results (state_of self.old) ≡ answered going_on result (state_of self.new) }
         ensures steps { self.new.steps ≡ self.old.steps }
     {
         let Some(value) = self.results.pop() else {
-            return Err(Refusal::from(Code::F43));
+            return Err(Code::F43);
         };
         self.push(value)
     }
 
     /// Puts the quotient in place of both values.
-    fn divide(&mut self, dividend: Frac, divisor: Frac) -> Result<Control, Refusal>
+    fn divide(&mut self, dividend: Frac, divisor: Frac) -> Result<(), Code>
         requires { 2 ≤ length self.old.operands }
-        ensures told { Tells (divide_of dividend divisor (state_of self.old)) result self.new }
+        ensures told { divide_of dividend divisor (state_of self.old) ≡ answered going_on result (state_of self.new) }
         ensures steps { self.new.steps ≡ self.old.steps }
     {
         let quotient = dividend.div(&divisor)?;
         let bottom = self.operands.as_slice().len() - 2;
         self.operands.truncate(bottom);
         self.operands.push(quotient);
-        Ok(Control::Next)
+        Ok(())
     }
 
-    /// Asks for a Subr.
-    fn call(&mut self, number: Frac) -> Result<Control, Refusal>
+    /// The number of the Subr that is called, which it takes off the stack.
+    fn call(&mut self, number: Frac) -> Result<u16, Code>
         requires some { 1 ≤ length self.old.operands }
         requires whole { is_whole number ≡ true }
         requires small { exceeds 32000 number ≡ false }
-        ensures told { Tells (call_of number.num (with_stack (below 1 (state_of self.old).stack) (state_of self.old))) result self.new }
+        ensures told { call_of number.num (with_stack (below 1 (state_of self.old).stack) (state_of self.old)) ≡ answered Call result (state_of self.new) }
         ensures steps { self.new.steps ≡ self.old.steps }
     {
         let number = number.num();
         if number < 0 {
-            return Err(Refusal::from(Code::F32));
+            return Err(Code::F32);
         }
         let bottom = self.operands.as_slice().len() - 1;
         self.operands.truncate(bottom);
-        Ok(Control::Call(number as u16))
+        Ok(number as u16)
     }
 
-    /// Ends the glyph as a composite.
-    fn compose(&mut self) -> Result<Control, Refusal>
+    /// What the glyph ends with as a composite.
+    fn compose(&mut self) -> Accent
         requires { 5 ≤ length self.old.operands }
-        ensures told { Tells (rule_of Command.Seac (topmost 5 self.old.operands) (state_of self.old)) result self.new }
+        ensures told { rule_of Command.Seac (topmost 5 self.old.operands) (state_of self.old) ≡ Compose result (state_of self.new) }
         ensures steps { self.new.steps ≡ self.old.steps }
     {
         let [asb, adx, ady, base, accent] = self.operands.top_five();
         self.operands.clear();
-        Ok(Control::Compose(Accent {
+        Accent {
             asb,
             adx,
             ady,
             base: base.num(),
             accent: accent.num(),
-        }))
+        }
     }
 
-    /// A command that computes on the operand stack, which it doesn't clear.
-    fn compute(&mut self, command: Command) -> Result<Control, Refusal>
+    /// A command that puts a value on the operand stack.
+    fn compute(&mut self, command: Command) -> Result<(), Code>
         requires kind { computes_of command ≡ true }
         requires enough { takes_of command ≤ length self.old.operands }
-        requires faultless { operand_faults command (topmost (takes_of command) self.old.operands) ≡ None }
-        ensures told { Tells (rule_of command (topmost (takes_of command) self.old.operands) (state_of self.old)) result self.new }
+        ensures told { rule_of command (topmost (takes_of command) self.old.operands) (state_of self.old) ≡ answered going_on result (state_of self.new) }
         ensures steps { self.new.steps ≡ self.old.steps }
     {
         match command {
@@ -102,31 +101,23 @@ impl State {
                 let (dividend, divisor) = self.operands.top_two();
                 self.divide(dividend, divisor)
             }
-            Command::CallSubr => {
-                let number = self.operands.top();
-                self.call(number)
-            }
-            Command::CallOtherSubr => {
-                let (count, number) = self.operands.top_two();
-                self.call_other(count, number)
-            }
             _ => unreachable!(),
         }
     }
 
-    /// The command's own rule, where its operands were found faultless.
-    fn apply(&mut self, command: Command) -> Result<Control, Refusal>
+    /// The rule of a command after which the next word comes.
+    fn carry_out(&mut self, command: Command) -> Result<(), Refusal>
+        requires kind { goes_on command ≡ true }
         requires enough { takes_of command ≤ length self.old.operands }
-        requires faultless { operand_faults command (topmost (takes_of command) self.old.operands) ≡ None }
-        ensures told { Tells (rule_of command (topmost (takes_of command) self.old.operands) (state_of self.old)) result self.new }
+        ensures told { Tells going_on (rule_of command (topmost (takes_of command) self.old.operands) (state_of self.old)) result self.new }
         ensures steps { self.new.steps ≡ self.old.steps }
     {
         match command {
-            Command::Num(_)
-            | Command::Pop
-            | Command::Div
-            | Command::CallSubr
-            | Command::CallOtherSubr => self.compute(command),
+            Command::Num(_) | Command::Pop | Command::Div => Ok(self.compute(command)?),
+            Command::CallOtherSubr => {
+                let (count, number) = self.operands.top_two();
+                self.call_other(count, number)
+            }
             Command::RLineTo
             | Command::HLineTo
             | Command::VLineTo
@@ -138,13 +129,7 @@ impl State {
             | Command::VMoveTo
             | Command::Hsbw
             | Command::Sbw
-            | Command::SetCurrentPoint => self.place(command),
-            Command::Seac => self.compose(),
-            Command::Return => Ok(Control::Back),
-            Command::EndChar => {
-                self.operands.clear();
-                Ok(Control::End)
-            }
+            | Command::SetCurrentPoint => Ok(self.place(command)?),
             Command::ClosePath
             | Command::HStem
             | Command::VStem
@@ -152,6 +137,32 @@ impl State {
             | Command::VStem3
             | Command::HStem3 => {
                 self.operands.clear();
+                Ok(())
+            }
+            _ => unreachable!(),
+        }
+    }
+
+    /// The command's own rule, where its operands were found faultless.
+    fn apply(&mut self, command: Command) -> Result<Control, Refusal>
+        requires enough { takes_of command ≤ length self.old.operands }
+        requires faultless { operand_faults command (topmost (takes_of command) self.old.operands) ≡ None }
+        ensures told { Tells told (rule_of command (topmost (takes_of command) self.old.operands) (state_of self.old)) result self.new }
+        ensures steps { self.new.steps ≡ self.old.steps }
+    {
+        match command {
+            Command::CallSubr => {
+                let number = self.operands.top();
+                Ok(Control::Call(self.call(number)?))
+            }
+            Command::Return => Ok(Control::Back),
+            Command::Seac => Ok(Control::Compose(self.compose())),
+            Command::EndChar => {
+                self.operands.clear();
+                Ok(Control::End)
+            }
+            _ => {
+                self.carry_out(command)?;
                 Ok(Control::Next)
             }
         }
@@ -159,7 +170,7 @@ impl State {
 
     /// A command by the order of its tests.
     fn execute(&mut self, command: Command) -> Result<Control, Refusal>
-        ensures told { Tells (execute_of command (state_of self.old)) result self.new }
+        ensures told { Tells told (execute_of command (state_of self.old)) result self.new }
         ensures steps { self.new.steps ≡ self.old.steps }
     {
         let values = self.operands.as_slice();
@@ -180,7 +191,7 @@ impl State {
 
     /// One word: F47 where a run has made its last step already.
     pub fn step(&mut self, command: Command) -> Result<Control, Refusal>
-        ensures told { Tells (step_of command (state_of self.old)) result self.new }
+        ensures told { Tells told (step_of command (state_of self.old)) result self.new }
         ensures counted { OnOk result (self.new.steps ≡ self.old.steps + 1) }
         ensures bounded { OnOk result (self.new.steps ≤ 100000) }
     {
@@ -190,7 +201,8 @@ impl State {
         self.steps += 1;
         // most words are numbers, and no test of a command refuses one
         if let Command::Num(number) = command {
-            return self.push(Frac::whole(number));
+            self.push(Frac::whole(number))?;
+            return Ok(Control::Next);
         }
         self.execute(command)
     }

@@ -31,7 +31,7 @@ fn add_glyph(alloc: Global, bodies: &mut Plain, name: &str, body: Body) -> Resul
 }
 
 /// How many steps a glyph makes, or its fault.
-fn steps_of<B: Bodies>(alloc: Global, bodies: &B, name: &[u8]) -> Result<Result<u32, Code>, Fail> {
+fn steps_of(alloc: Global, bodies: &Plain, name: &[u8]) -> Result<Result<u32, Code>, Fail> {
     if bodies.glyph(name).is_none() {
         return Err(Fail::new("no such glyph"));
     }
@@ -151,49 +151,4 @@ fn ends_at(outline: &[Segment], x: i32, y: i32) -> bool {
         Some(Segment::Line(_, end)) => is_at(end, x, y),
         _ => false,
     }
-}
-
-/// The demo font's bodies with this change of Subr 4: how many steps its accent makes, or its fault.
-fn steps_with(alloc: Global, change: Option<Body>) -> Result<Result<u32, Code>, Fail> {
-    let lent = accented(alloc)?;
-    let mut subrs = IndexMap::new(alloc);
-    subrs.insert(4, change)?;
-    let bodies = Overlay {
-        lent: &lent,
-        subrs,
-        glyphs: IndexMap::new(alloc),
-    };
-    steps_of(alloc, &bodies, b"acute")
-}
-
-#[test]
-fn changes_subrs(rt: HostRuntime) -> Result<(), Fail> {
-    let removed = steps_with(rt.alloc(), None)?;
-    assert!(rt; removed == Err(Code::F32));
-    let shorter = body(rt.alloc(), "return", 0, "", "")?;
-    let set = steps_with(rt.alloc(), Some(shorter))?;
-    assert!(rt; set == Ok(10));
-    Ok(())
-}
-
-/// The demo font's bodies without its A: how many steps another glyph makes, or its fault.
-fn steps_without(alloc: Global, name: &[u8]) -> Result<Result<u32, Code>, Fail> {
-    let lent = accented(alloc)?;
-    let mut glyphs = IndexMap::new(alloc);
-    glyphs.insert(Vec::from_slice(alloc, b"A")?, None)?;
-    let bodies = Overlay {
-        lent: &lent,
-        subrs: IndexMap::new(alloc),
-        glyphs,
-    };
-    steps_of(alloc, &bodies, name)
-}
-
-#[test]
-fn takes_glyphs_out(rt: HostRuntime) -> Result<(), Fail> {
-    let composite = steps_without(rt.alloc(), b"Aacute")?;
-    assert!(rt; composite == Err(Code::F45));
-    let accent = steps_without(rt.alloc(), b"acute")?;
-    assert!(rt; accent == Ok(13));
-    Ok(())
 }

@@ -1,28 +1,58 @@
-//! `t1_runs`: a tool of the tests, which counts the runs of glyphs in a session. It opens a session on the source that its
-//! argument names, performs the steps of the script on standard input, and writes a line for the opening and one for each
-//! step: whether it was accepted or refused, and how many runs there were by then.
+//! `t1_runs`: a tool of the tests, over the public calls of the crates.
+//!
+//! With a source alone it counts the runs of glyphs in a session: it opens one on the source, performs the steps of the script
+//! on standard input, and writes a line for the opening and one for each step: whether it was accepted or refused, and how many
+//! runs there were by then.
+//!
+//! With `read`, `run` or `edit` it makes these calls by themselves, each again where memory ran out: it reads a source, runs one
+//! glyph, or opens a session with pairs and takes the edits of the script, and writes what came of it and all prints.
 #![tactic(auto)]
 
 mod counting;
+mod editing;
 mod script;
 mod stop;
+mod trying;
 
 use counting::count_runs;
+use editing::try_editing;
 use std::env;
 use std::fs::File;
-use std::io::Read;
+use std::io::{ErrorKind, Read};
 use std::process::ExitCode;
 use stop::{Stop, report};
+use trying::{try_reading, try_running};
 
-/// All bytes of the source that the only argument names.
-fn read_source_file(rt: &HostRuntime) -> Result<Vec<u8>, Stop> {
-    let Ok(args) = env::args(rt) else {
-        return Err(Stop::Usage);
-    };
-    let words = args.collect::<Vec<String>>(rt.alloc())?;
-    let [_, path] = words.as_slice() else {
-        return Err(Stop::Usage);
-    };
+/// What the arguments ask for, with the paths of files.
+#[derive(Clone, Copy)]
+enum Task<'a> {
+    /// Of a source.
+    Count(&'a str),
+    /// Of a source.
+    Read(&'a str),
+    /// Of a source, and the name of a glyph.
+    Run(&'a str, &'a str),
+    /// Of a source and a kerning file.
+    Edit(&'a str, &'a str),
+}
+
+/// What the words of the command line ask for.
+fn task_of(words: &[String]) -> Option<Task<'_>> {
+    match words {
+        [_, source] => Some(Task::Count(source.as_str())),
+        [_, verb, source] if verb.as_str() == "read" => Some(Task::Read(source.as_str())),
+        [_, verb, source, glyph] if verb.as_str() == "run" => {
+            Some(Task::Run(source.as_str(), glyph.as_str()))
+        }
+        [_, verb, source, pairs] if verb.as_str() == "edit" => {
+            Some(Task::Edit(source.as_str(), pairs.as_str()))
+        }
+        _ => None,
+    }
+}
+
+/// All bytes of a file.
+fn read_file(rt: &HostRuntime, path: &str) -> Result<Vec<u8>, Stop> {
     let mut bytes = Vec::new(rt.alloc());
     File::open(rt, path)?.read_to_end(&mut bytes)?;
     Ok(bytes)
@@ -35,10 +65,44 @@ fn read_script(rt: &HostRuntime) -> Result<Vec<u8>, Stop> {
     Ok(bytes)
 }
 
-fn run(rt: &HostRuntime) -> Result<(), Stop> {
-    let source = read_source_file(rt)?;
+/// Counts the runs of a session on a source.
+fn count(rt: &HostRuntime, source: &str) -> Result<(), Stop> {
+    let source = read_file(rt, source)?;
     let script = read_script(rt)?;
     count_runs(rt.alloc(), &source, &script, &mut rt.stdout())
+}
+
+/// Edits a session on a source and a kerning file.
+fn edit(rt: &HostRuntime, source: &str, pairs: &str) -> Result<(), Stop> {
+    let source = read_file(rt, source)?;
+    let pairs = read_file(rt, pairs)?;
+    let script = read_script(rt)?;
+    try_editing(rt.alloc(), &source, &pairs, &script, &mut rt.stdout())
+}
+
+fn perform(rt: &HostRuntime, task: Task<'_>) -> Result<(), Stop> {
+    match task {
+        Task::Count(source) => count(rt, source),
+        Task::Read(source) => try_reading(rt.alloc(), &read_file(rt, source)?, &mut rt.stdout()),
+        Task::Run(source, glyph) => {
+            let source = read_file(rt, source)?;
+            try_running(rt.alloc(), &source, glyph.as_bytes(), &mut rt.stdout())
+        }
+        Task::Edit(source, pairs) => edit(rt, source, pairs),
+    }
+}
+
+fn run(rt: &HostRuntime) -> Result<(), Stop> {
+    let args = match env::args(rt) {
+        Ok(args) => args,
+        Err(error) if error.kind() == ErrorKind::OutOfMemory => return Err(Stop::Memory),
+        Err(_) => return Err(Stop::Usage),
+    };
+    let words = args.collect::<Vec<String>>(rt.alloc())?;
+    match task_of(&words) {
+        Some(task) => perform(rt, task),
+        None => Err(Stop::Usage),
+    }
 }
 
 fn main(rt: HostRuntime) -> ExitCode {

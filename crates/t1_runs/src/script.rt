@@ -2,8 +2,7 @@
 //! or the number of its entry.
 
 use std::alloc::{AllocError, Global};
-use t1_code::number_word;
-use t1_frac::{Bytes, next_word};
+use t1_frac::{Bytes, next_word, number_word};
 use t1_source::Edit;
 
 /// One step of a script.

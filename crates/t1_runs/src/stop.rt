@@ -1,18 +1,20 @@
 //! Why the program ends before its work is done.
 
 use std::alloc::{AllocError, AllocFailed};
-use std::io::{self, Write};
+use std::io::{self, ErrorKind, Write};
 use t1_frac::Refusal;
 
 /// Why the program ends before its work is done.
 #[derive(Clone, Copy, Debug, PartialEq, Eq)]
 pub enum Stop {
-    /// There isn't one argument.
+    /// The arguments are none of the usage.
     Usage,
     /// A read or a write failed.
     Failed,
     /// The source has a fault.
     Fault,
+    /// The source has no such glyph.
+    NoGlyph,
     /// A line of the script is no step.
     NoStep,
     Memory,
@@ -21,9 +23,12 @@ pub enum Stop {
 impl Stop {
     fn line(self) -> &'static [u8] {
         match self {
-            Stop::Usage => b"usage: t1_runs SOURCE < SCRIPT\n",
+            Stop::Usage => {
+                b"usage: t1_runs SOURCE < SCRIPT | read SOURCE | run SOURCE GLYPH | edit SOURCE PAIRS < SCRIPT\n"
+            }
             Stop::Failed => b"t1_runs: a read or a write failed\n",
             Stop::Fault => b"t1_runs: the source has a fault\n",
+            Stop::NoGlyph => b"t1_runs: the source has no such glyph\n",
             Stop::NoStep => b"t1_runs: a line of the script is no step\n",
             Stop::Memory => b"t1_runs: out of memory\n",
         }
@@ -36,8 +41,11 @@ pub fn report<W: Write>(stop: Stop, writer: &mut W) {
 }
 
 impl From<io::Error> for Stop {
-    fn from(_error: io::Error) -> Stop {
-        Stop::Failed
+    fn from(error: io::Error) -> Stop {
+        match error.kind() {
+            ErrorKind::OutOfMemory => Stop::Memory,
+            _ => Stop::Failed,
+        }
     }
 }
 

@@ -23,7 +23,7 @@ use Rattle.t1_rerun.specs.Opened.{runs_where}
 use Rattle.t1_rerun.specs.Renewing.{renewing_runs, IsRunWhereStale}
 use Rattle.t1_held.specs.declared.held.Held.{Held}
 use Rattle.t1_held.specs.Held.{IsHeld}
-use Rattle.t1_held.specs.Ready.{IsPreparedEdit}
+use Rattle.t1_held.specs.Edits.{IsPreparedEdit}
 use Rattle.t1_held.proofs.HeldLaws.{checked_well}
 use Rattle.t1_session.specs.Reruns.{Renews, Spends}
 use Rattle.t1_session.specs.State.{SessionView}

@@ -65,7 +65,7 @@ use t1_code::{Counted, OutError, Pfa, Pfb, WHOLE_PARTS};
 use t1_commands::{Answer, PfaData, PfbData, Print, block_size, put_answer};
 use t1_font::{MeasuredGlyphs, afm_of_source, usage_text, write_source_afm};
 use t1_frac::{Bytes, Refusal};
-use t1_held::{held_metrics, held_of, prepare_commit, prepare_edit, settle, write_held_file};
+use t1_held::{Edits, held_metrics, held_of, prepare_edits, settle, write_held_file};
 use t1_pairs::laws::text_of_pairs_read;
 use t1_source::laws::text_of_source_read;
 use t1_source::{Cause, Change, Edit, Rule};
@@ -207,15 +207,13 @@ impl Session {
         ensures runs { Reruns (Some (record { keys = named edit.now; source = (changed change self.old.state.source self.old.state.pairs).0 })) self.old result self.new }
     {
         text_of_source_read(&self.source);
-        let prepared = prepare_edit(
-            self.alloc,
-            &mut self.held,
-            &self.source,
-            &self.pairs,
+        let edits = Edits::One {
+            source: &self.source,
+            pairs: &self.pairs,
             edit,
-            &change,
-            &mut self.meter,
-        );
+            change: &change,
+        };
+        let prepared = prepare_edits(self.alloc, &mut self.held, edits, &mut self.meter);
         let ready = match prepared {
             Ok(ready) => ready,
             Err(refusal) => {
@@ -242,15 +240,12 @@ impl Session {
         ensures right { KeepsAll self.new.state.source self.new.kept }
         ensures runs { Reruns (Some (record { keys = keys (map entry_edit entries.items); source = source })) self.old result self.new }
     {
-        let meter = &mut self.meter;
-        let prepared = prepare_commit(
-            self.alloc,
-            &mut self.held,
-            &self.source,
-            &source,
+        let edits = Edits::Batch {
+            source: &self.source,
+            made: &source,
             entries,
-            meter,
-        );
+        };
+        let prepared = prepare_edits(self.alloc, &mut self.held, edits, &mut self.meter);
         let ready = match prepared {
             Ok(ready) => ready,
             Err(refusal) => return Err(cause_of(refusal)),

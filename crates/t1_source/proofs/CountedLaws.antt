@@ -18,7 +18,9 @@ use Rattle.t1_text.specs.Lines.{lines}
 use Rattle.t1_parts.specs.Encoding.{clear_check}
 use Rattle.t1_parts.specs.Parts.{parts_of, tail_of}
 use Rattle.t1_text.specs.Tokens.{tokens, places_from}
-use Rattle.t1_text.specs.Names.{is_digit, decimal_value, decimal_of, up_to, name_of_token}
+use Rattle.t1_text.specs.Names.{decimal_of, up_to, name_of_token}
+use Rattle.t1_frac.specs.Numbers.{decimal_value}
+use Rattle.std.specs.Char.{is_ascii_digit}
 use Rattle.t1_text.specs.Names.{is_count}
 use Rattle.t1_parts.specs.Sections.{count_between, section_at, subrs_line, glyphs_line, is_subrs_line, is_glyphs_line}
 use Rattle.t1_parts.specs.Entries.{NumberedItem, Taken, has, is_subr, is_glyph, opens_subr, opens_glyph, opened_body, entry_of, subr_entry, glyph_entry}
@@ -29,40 +31,11 @@ use Rattle.t1_parts.specs.Printing.{text}
 use Rattle.t1_source.specs.WellFormed.{Stand, IsPrivate, is_counted}
 use Rattle.t1_parts.proofs.CountLaws.{glyphs_same, subrs_same}
 use Rattle.t1_frac.proofs.OutcomeLaws.{bind_ok, told_ok}
-use Rattle.t1_parts.proofs.SectionLaws.{count_parts, count_place_of}
+use Rattle.t1_parts.proofs.SectionLaws.{count_place_of}
+use Rattle.t1_text.proofs.NumberLaws.{count_small}
 use Rattle.t1_source.proofs.WellFormedItemsLaws.{entry_given}
 use Rattle.t1_source.proofs.WellFormedSourceLaws.{source_well_formed}
 use Rattle.t1_source.proofs.SourceAgainLaws.{source_again}
-
-power_more : (k : ℕ) → 10 ^ suc k ≡ 10 * 10 ^ k
-power_more k = omega arith
-
--- the value of digits after a number
-value_from : (n : ℕ) (ds : List ℕ) → list_all is_digit ds ≡ true → fold (λ m d. 10 * m + (d - 48)) n ds < (n + 1) * 10 ^ length ds
-value_from n [] h = omega arith
-value_from n (d ∷ ds) h =
-    let parts = and_parts (is_digit d) (list_all is_digit ds) h in
-    let digit = and_parts (nat_le 48 d) (nat_le d 57) parts.0 in
-    let high = leb-true d 57 digit.1 in
-    let step : 10 * n + (d - 48) + 1 ≤ 10 * (n + 1) = omega (arith, high) in
-    let more = value_from (10 * n + (d - 48)) ds parts.1 in
-    let scaled = mul-le-mul_right (10 ^ length ds) step in
-    let size : 10 ^ length (d ∷ ds) ≡ 10 * 10 ^ length ds = power_more (length ds) in
-    value_step n (10 * n + (d - 48)) (10 ^ length ds) (10 ^ length (d ∷ ds)) _ size more scaled
-  where
-    value_step : (n m p q v : ℕ) → q ≡ 10 * p → v < (m + 1) * p → (m + 1) * p ≤ 10 * (n + 1) * p → v < (n + 1) * q
-    value_step n m p q v e a b = rw e (omega (arith, a, b))
-
--- a count has a value below 1,000,000,000
-pub count_small : (ds : List ℕ) → is_count ds ≡ true → decimal_value ds < 10 ^ 9
-count_small ds h =
-    let c = count_parts ds h in
-    let value = value_from 0 ds c.2 in
-    let size = pow-le-pow_right (le_by 10) c.1 in
-    omega (arith, value, size)
-  where
-    le_by : (n : ℕ) → 0 < 10
-    le_by n = omega arith
 
 section_counted : (key word l : List ℕ) (o : Option (ℕ × List ℕ)) (s : Item) → is_count key ≡ false → count_between key word (places_from 0 l) ≡ o → option_map (section_at l) o ≡ Some s → is_counted s ≡ true
 section_counted key word l None s plain found e = cc

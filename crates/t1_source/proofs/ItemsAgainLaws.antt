@@ -11,7 +11,7 @@ use Rattle.t1_frac.specs.Outcome.{told_at}
 use Rattle.t1_parts.specs.declared.item.Item.{Item}
 use Rattle.t1_parts.specs.declared.item.Item.TheVariants.{Plain, Section, Subr, Glyph}
 use Rattle.t1_text.specs.Tokens.{tokens}
-use Rattle.t1_text.specs.Names.{decimal_value}
+use Rattle.t1_frac.specs.Numbers.{decimal_value}
 use Rattle.t1_parts.specs.Sections.{subrs_line, glyphs_line, is_subrs_line, is_glyphs_line}
 use Rattle.t1_parts.specs.Entries.{NumberedItem, has, is_subr, is_glyph, opens_subr, opens_glyph}
 use Rattle.t1_parts.specs.Private.{line_item, line_at, item_at, items_of, private_items}

@@ -10,7 +10,7 @@ use Rattle.t1_parts.specs.declared.item.Item.TheVariants.{Plain, Section, Subr, 
 use Rattle.t1_parts.specs.SourceParts.{SourceParts}
 use Rattle.t1_text.specs.Lines.{is_line}
 use Rattle.t1_text.specs.Tokens.{tokens, after_token}
-use Rattle.t1_text.specs.Names.{is_digit}
+use Rattle.std.specs.Char.{is_ascii_digit}
 use Rattle.t1_parts.specs.Counts.{raised}
 use Rattle.t1_parts.specs.LenIV.{said_lead, lead_of_token, first_lead, lead_among}
 use Rattle.t1_parts.specs.Parts.{is_closefile}
@@ -37,8 +37,8 @@ lead_digits : (t : Option (List ℕ)) → is_some (lead_of_token t) ≡ true →
 lead_digits None h = cc
 lead_digits (Some []) h = cc
 lead_digits (Some (d ∷ ds)) h =
-    elim (cases_Bool (list_all is_digit (d ∷ ds))) [
-      | inl on ↦ (d ∷ ds, refl, and_from (nat_le 1 (length (d ∷ ds))) (list_all is_digit (d ∷ ds)) (le-leb 1 (length (d ∷ ds)) (omega arith)) on)
+    elim (cases_Bool (list_all is_ascii_digit (d ∷ ds))) [
+      | inl on ↦ (d ∷ ds, refl, and_from (nat_le 1 (length (d ∷ ds))) (list_all is_ascii_digit (d ∷ ds)) (le-leb 1 (length (d ∷ ds)) (omega arith)) on)
       | inr off ↦ let none : false ≡ true = rw off at h in cc
     ]
 

@@ -10,7 +10,7 @@ use Rattle.std.proofs.Math.Seq.{drop-append-add, drop-append_seam, take-append_s
 use Rattle.t1_parts.specs.declared.item.Item.{Item}
 use Rattle.t1_text.specs.Lines.{is_line}
 use Rattle.t1_text.specs.Tokens.{tokens, places_from, after_token}
-use Rattle.t1_text.specs.Names.{is_digit}
+use Rattle.std.specs.Char.{is_ascii_digit}
 use Rattle.t1_parts.specs.Sections.{count_between, section_at, subrs_line, glyphs_line, is_subrs_line, is_glyphs_line}
 use Rattle.t1_parts.specs.Parts.{is_closefile}
 use Rattle.t1_parts.specs.Entries.{opens_subr, opens_glyph}
@@ -29,11 +29,11 @@ key = codes "/lenIV"
 
 -- one or more digits
 abbrev pub is_digits : List ℕ → Bool
-is_digits ds = nat_le 1 (length ds) && list_all is_digit ds
+is_digits ds = nat_le 1 (length ds) && list_all is_ascii_digit ds
 
 digits_run : (ds : List ℕ) → is_digits ds ≡ true → is_run ds ≡ true
 digits_run [] h = cc
-digits_run (d ∷ ds) h = digits_regular (d ∷ ds) (and_parts (nat_le 1 (length (d ∷ ds))) (list_all is_digit (d ∷ ds)) h).1
+digits_run (d ∷ ds) h = digits_regular (d ∷ ds) (and_parts (nat_le 1 (length (d ∷ ds))) (list_all is_ascii_digit (d ∷ ds)) h).1
 
 -- digits are no text that has other bytes
 not_text : (ds text : List ℕ) → is_digits ds ≡ true → is_digits text ≡ false → bytes_eq ds text ≡ false
@@ -195,9 +195,9 @@ not_line_same first word l m ts us d e off plain hd he tl tm none =
     (found_among first word (places_from 0 m) ∙ ap (among first word) (bare_places 0 m ∙ tm) ∙ sym (among_same first word ts us d e off plain hd he) ∙ ap (among first word) (sym (bare_places 0 l ∙ tl))
     ∙ sym (found_among first word (places_from 0 l)) ∙ none_of (section_at l) (count_between first word (places_from 0 l)) none)
 
-digits_parts : (ds : List ℕ) → is_digits ds ≡ true → (1 ≤ length ds) × (list_all is_digit ds ≡ true)
+digits_parts : (ds : List ℕ) → is_digits ds ≡ true → (1 ≤ length ds) × (list_all is_ascii_digit ds ≡ true)
 digits_parts [] h = cc
-digits_parts (d ∷ ds) h = (omega arith, (and_parts (nat_le 1 (length (d ∷ ds))) (list_all is_digit (d ∷ ds)) h).1)
+digits_parts (d ∷ ds) h = (omega arith, (and_parts (nat_le 1 (length (d ∷ ds))) (list_all is_ascii_digit (d ∷ ds)) h).1)
 
 -- a line stays the closefile line, or another one
 closes_same : (before after d e : List ℕ) → is_digits d ≡ true → is_closefile (before ++ (d ++ after)) ≡ true → is_closefile (before ++ (e ++ after)) ≡ true
@@ -218,7 +218,7 @@ pub record LeadAgain (l m : List ℕ) (n : ℕ) : Type 0 where
   pub last : is_closefile l ≡ true → is_closefile m ≡ true
 
 pub decimal_digits : (n : ℕ) → n < 2 ^ 64 → is_digits (decimal n) ≡ true
-decimal_digits n h = let s = decimal_spells n h in and_from (nat_le 1 (length (decimal n))) (list_all is_digit (decimal n)) (le-leb 1 (length (decimal n)) s.2) s.0
+decimal_digits n h = let s = decimal_spells n h in and_from (nat_le 1 (length (decimal n))) (list_all is_ascii_digit (decimal n)) (le-leb 1 (length (decimal n)) s.2) s.0
 
 -- the lines around digits
 again_around : (before after d e : List ℕ) (front : List (List ℕ)) (n : ℕ) → is_digits d ≡ true → is_digits e ≡ true → e ≡ decimal n → list_any (λ u. bytes_eq u key) front ≡ false

@@ -1,13 +1,15 @@
 -- Printed lines of items: lines, none of them the closefile line.
-use Rattle.std.proofs.Common.{◌≡◌, ℕ, zero, suc, Bool, true, false, not, ◌&&◌, ◌==◌, ◌+◌, ◌/◌, ◌%◌, ◌^◌, ◌<◌, ◌≤◌, nat_le, is_some, List, [], ◌∷◌, ◌++◌, length, map, reverse, codes, refl, sym, ◌∙◌, ap, inl, inr, arith, append_assoc, length-append}
+use Rattle.std.proofs.Common.{◌≡◌, ℕ, zero, suc, Bool, true, false, not, ◌&&◌, ◌==◌, ◌+◌, ◌/◌, ◌%◌, ◌^◌, ◌<◌, ◌≤◌, nat_le, nat_lt, is_some, List, [], ◌∷◌, ◌++◌, length, map, reverse, codes, refl, sym, ◌∙◌, ap, inl, inr, arith, append_assoc, length-append}
 use Rattle.std.specs.List.{list_all, list_any, onto_first, join_with_byte}
 use Rattle.std.specs.Fmt.{decimal}
-use Rattle.std.proofs.lemmas.Bool.{and_parts, and_from, cases_Bool, not-true, eqb-true, le-leb}
+use Rattle.std.proofs.lemmas.Bool.{and_parts, and_from, cases_Bool, not-true, eqb-true, le-leb, ltb-true}
 use Rattle.std.proofs.lemmas.Fmt.{decimal_by_steps}
 use Rattle.std.proofs.lemmas.List.Folds.{list_all-append}
 use Rattle.t1_frac.specs.Words.{is_blank, trimmed_front}
 use Rattle.t1_text.specs.Lines.{is_line, is_line_end}
-use Rattle.t1_text.specs.Names.{is_digit, is_name, is_name_byte, decimal_of, is_number_word}
+use Rattle.t1_text.specs.Names.{is_name, is_name_byte, decimal_of}
+use Rattle.t1_frac.specs.Numbers.{is_number_word}
+use Rattle.std.specs.Char.{is_ascii_digit}
 use Rattle.t1_text.specs.Names.{is_count}
 use Rattle.t1_parts.specs.Entries.{is_word, is_word_byte}
 use Rattle.t1_parts.specs.Parts.{is_closefile}
@@ -16,7 +18,7 @@ use Rattle.t1_source.specs.WellFormed.{is_inner, IsEntry}
 use Rattle.t1_text.proofs.TokenLaws.{regular_parts}
 use Rattle.t1_parts.proofs.EntryLaws.{digit_regular}
 use Rattle.t1_text.proofs.NumberLaws.{decimal_spells}
-use Rattle.t1_parts.proofs.SectionLaws.{count_parts}
+use Rattle.t1_text.proofs.NumberLaws.{count_parts}
 use Rattle.t1_parts.proofs.CloseLaws.{closing_bytes, closes_from, closes_more, closes_past, closes_blank, all_reverse}
 
 -- a number of at most k digits
@@ -37,7 +39,7 @@ pub decimal_count : (n : ℕ) → n < 10 ^ 9 → is_count (decimal n) ≡ true
 decimal_count n h =
     let s = decimal_spells n (omega arith) in
     let size = short n (omega arith) 8 h in
-    and_from (nat_le 1 (length (decimal n)) && nat_le (length (decimal n)) 9) (list_all is_digit (decimal n))
+    and_from (nat_le 1 (length (decimal n)) && nat_le (length (decimal n)) 9) (list_all is_ascii_digit (decimal n))
     (and_from (nat_le 1 (length (decimal n))) (nat_le (length (decimal n)) 9) (le-leb 1 (length (decimal n)) s.2) (le-leb (length (decimal n)) 9 size)) s.0
 
 pub bool_apart : (b : Bool) → b ≡ true → b ≡ false → ⊥
@@ -49,14 +51,14 @@ contra b true f h = absurd (bool_apart b (f refl) h)
 contra b false f h = refl
 
 -- some digits and the last one
-pub last_digit : (ds : List ℕ) → 1 ≤ length ds → list_all is_digit ds ≡ true → (x : List ℕ) × (d : ℕ) × (ds ≡ x ++ d ∷ []) × (is_digit d ≡ true)
+pub last_digit : (ds : List ℕ) → 1 ≤ length ds → list_all is_ascii_digit ds ≡ true → (x : List ℕ) × (d : ℕ) × (ds ≡ x ++ d ∷ []) × (is_ascii_digit d ≡ true)
 last_digit [] some h = absurd (omega arith)
-last_digit (c ∷ []) some h = ([], c, refl, (and_parts (is_digit c) true h).0)
+last_digit (c ∷ []) some h = ([], c, refl, (and_parts (is_ascii_digit c) true h).0)
 last_digit (c ∷ e ∷ ds) some h =
-    let more = last_digit (e ∷ ds) (omega arith) (and_parts (is_digit c) (list_all is_digit (e ∷ ds)) h).1 in
+    let more = last_digit (e ∷ ds) (omega arith) (and_parts (is_ascii_digit c) (list_all is_ascii_digit (e ∷ ds)) h).1 in
     (c ∷ more.0, more.1, ap (λ t. c ∷ t) more.2, more.3)
 
-digit_word : (d : ℕ) → is_digit d ≡ true → is_blank d ≡ false
+digit_word : (d : ℕ) → is_ascii_digit d ≡ true → is_blank d ≡ false
 digit_word d h = (regular_parts d (digit_regular d h)).0
 
 -- a byte that passes a test stands in no text whose bytes fail it
@@ -70,11 +72,11 @@ none_like test d (c ∷ t) h on =
     ]
 
 -- after digits
-pub digits_past : (ds y : List ℕ) → 1 ≤ length ds → list_all is_digit ds ≡ true → (x : List ℕ) → is_closefile (x ++ (ds ++ y)) ≡ true → is_closefile y ≡ true
+pub digits_past : (ds y : List ℕ) → 1 ≤ length ds → list_all is_ascii_digit ds ≡ true → (x : List ℕ) → is_closefile (x ++ (ds ++ y)) ≡ true → is_closefile y ≡ true
 digits_past ds y some h x on =
     let r = last_digit ds some h in
     let split : x ++ (ds ++ y) ≡ (x ++ r.0) ++ r.1 ∷ y = ap (λ t. x ++ (t ++ y)) r.2 ∙ ap (λ t. x ++ t) (append_assoc r.0 (r.1 ∷ []) y) ∙ sym (append_assoc x r.0 (r.1 ∷ y)) in
-    closes_past (x ++ r.0) r.1 y (digit_word r.1 r.3) (none_like is_digit r.1 closing_bytes refl r.3) (ap is_closefile (sym split) ∙ on)
+    closes_past (x ++ r.0) r.1 y (digit_word r.1 r.3) (none_like is_ascii_digit r.1 closing_bytes refl r.3) (ap is_closefile (sym split) ∙ on)
 
 pub line_parts : (a b : List ℕ) → is_line (a ++ b) ≡ true → (is_line a ≡ true) × (is_line b ≡ true)
 line_parts a b h = and_parts (is_line a) (is_line b) (sym (list_all-append (λ c. not (is_line_end c)) a b) ∙ h)
@@ -82,22 +84,22 @@ line_parts a b h = and_parts (is_line a) (is_line b) (sym (list_all-append (λ c
 pub line_append : (a b : List ℕ) → is_line a ≡ true → is_line b ≡ true → is_line (a ++ b) ≡ true
 line_append a b p q = list_all-append (λ c. not (is_line_end c)) a b ∙ and_from (is_line a) (is_line b) p q
 
-digit_line : (d : ℕ) → is_digit d ≡ true → not (is_line_end d) ≡ true
+digit_line : (d : ℕ) → is_ascii_digit d ≡ true → not (is_line_end d) ≡ true
 digit_line d h = elim (cases_Bool (is_line_end d)) [
   | inl on ↦ absurd (end_digit d on h)
   | inr off ↦ rw off refl
 ]
   where
-    end_digit : (c : ℕ) → is_line_end c ≡ true → is_digit c ≡ true → ⊥
+    end_digit : (c : ℕ) → is_line_end c ≡ true → is_ascii_digit c ≡ true → ⊥
     end_digit c e k =
         elim (cases_Bool (c == 10)) [
-          | inl lf ↦ bool_apart (is_digit c) k (ap is_digit (eqb-true c 10 lf))
-          | inr other ↦ let cr : (c == 13) ≡ true = rw other at e in bool_apart (is_digit c) k (ap is_digit (eqb-true c 13 cr))
+          | inl lf ↦ bool_apart (is_ascii_digit c) k (ap is_ascii_digit (eqb-true c 10 lf))
+          | inr other ↦ let cr : (c == 13) ≡ true = rw other at e in bool_apart (is_ascii_digit c) k (ap is_ascii_digit (eqb-true c 13 cr))
         ]
 
-pub digits_line : (ds : List ℕ) → list_all is_digit ds ≡ true → is_line ds ≡ true
+pub digits_line : (ds : List ℕ) → list_all is_ascii_digit ds ≡ true → is_line ds ≡ true
 digits_line [] h = refl
-digits_line (d ∷ ds) h = let parts = and_parts (is_digit d) (list_all is_digit ds) h in and_from (not (is_line_end d)) (is_line ds) (digit_line d parts.0) (digits_line ds parts.1)
+digits_line (d ∷ ds) h = let parts = and_parts (is_ascii_digit d) (list_all is_ascii_digit ds) h in and_from (not (is_line_end d)) (is_line ds) (digit_line d parts.0) (digits_line ds parts.1)
 
 pub inner_parts : (l : List ℕ) → is_inner l ≡ true → (is_line l ≡ true) × (is_closefile l ≡ false)
 inner_parts l h = let parts = and_parts (is_line l) (not (is_closefile l)) h in (parts.0, not-true (is_closefile l) parts.1)
@@ -155,20 +157,16 @@ groups_all test (w ∷ ws) h =
     ]
 
 -- the digits at the end of a number word
-decimal_digits : (ds : List ℕ) → is_some (decimal_of ds) ≡ true → (1 ≤ length ds) × (list_all is_digit ds ≡ true)
-decimal_digits [] h = cc
-decimal_digits (d ∷ ds) h =
-    elim (cases_Bool (list_all is_digit (d ∷ ds))) [
-      | inl on ↦ (omega arith, on)
-      | inr off ↦ let none : false ≡ true = rw off at h in cc
-    ]
+digits_some : (ds : List ℕ) → (nat_lt 0 (length ds) && list_all is_ascii_digit ds) ≡ true → (1 ≤ length ds) × (list_all is_ascii_digit ds ≡ true)
+digits_some ds h = let parts = and_parts (nat_lt 0 (length ds)) (list_all is_ascii_digit ds) h in (ltb-true 0 (length ds) parts.0, parts.1)
 
 number_past : (w y : List ℕ) → is_number_word w ≡ true → is_closefile (w ++ y) ≡ true → is_closefile y ≡ true
+unfolding is_number_word
 number_past [] y h on = on
 number_past (c ∷ ds) y h on =
     elim (cases_Bool (c == 45)) [
-      | inl minus ↦ let r = decimal_digits ds (rw minus at h) in digits_past ds y r.0 r.1 (c ∷ []) on
-      | inr plain ↦ let r = decimal_digits (c ∷ ds) (rw plain at h) in digits_past (c ∷ ds) y r.0 r.1 [] on
+      | inl minus ↦ let r = digits_some ds (rw minus at h) in digits_past ds y r.0 r.1 (c ∷ []) on
+      | inr plain ↦ let r = digits_some (c ∷ ds) (rw plain at h) in digits_past (c ∷ ds) y r.0 r.1 [] on
     ]
 
 full : (l : List ℕ) → list_all is_word_byte l ≡ true → list_all (λ c. not (is_blank c)) l ≡ true

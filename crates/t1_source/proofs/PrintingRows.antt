@@ -2,6 +2,7 @@
 use Rattle.std.specs.Prelude.{◌≡◌, ℕ, List, [], ◌∷◌, ◌++◌, Some, None, Ok, codes, take, refl, length}
 use Rattle.std.proofs.Common.{ap, ◌∙◌}
 use Rattle.std.specs.Fmt.{digits}
+use Rattle.t1_frac.specs.Numbers.{is_number_word}
 use Rattle.t1_frac.specs.Outcome.{◌>>=◌}
 use Rattle.t1_code.specs.Encoding.{standard_names, standard_name}
 use Rattle.t1_parts.specs.SourceParts.{SourceParts}
@@ -18,15 +19,15 @@ use Rattle.t1_parts.proofs.ReadingRows.{space_lines, space_form}
 use Rattle.t1_parts.proofs.DemoRows.{demo_lines, demo_form, demo_read}
 
 pub space_text : text space_form ≡ joined (space_lines ++ codes "cleartomark" ∷ [])
-unfolding digits
+unfolding digits is_number_word
 space_text = refl
 
 pub space_text_length : length (text space_form) ≡ 161
-unfolding digits
+unfolding digits is_number_word
 space_text_length = refl
 
 pub demo_text : text demo_form ≡ joined demo_lines
-unfolding digits
+unfolding digits is_number_word
 demo_text = refl
 
 -- the demo font, read and printed, is its own text, and its text is read as the same source
@@ -65,11 +66,11 @@ neat_lines =
     codes "cleartomark" ∷ []
 
 pub loose_printed : (reads (joined loose_lines) >>= λ s. Ok (text s)) ≡ Ok (joined neat_lines)
-unfolding reads reads_lines parts_of clear_check opening_check later_check private_items item_at subr_entry glyph_entry line_item whole_check tail_of digits
+unfolding reads reads_lines parts_of clear_check opening_check later_check private_items item_at subr_entry glyph_entry line_item whole_check tail_of digits is_number_word
 loose_printed = refl
 
 pub neat_printed : (reads (joined neat_lines) >>= λ s. Ok (text s)) ≡ Ok (joined neat_lines)
-unfolding reads reads_lines parts_of clear_check opening_check later_check private_items item_at subr_entry glyph_entry line_item whole_check tail_of digits
+unfolding reads reads_lines parts_of clear_check opening_check later_check private_items item_at subr_entry glyph_entry line_item whole_check tail_of digits is_number_word
 neat_printed = refl
 
 pub neat_again : reads (joined neat_lines) ≡ reads (joined loose_lines)

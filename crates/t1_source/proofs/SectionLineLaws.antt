@@ -6,7 +6,7 @@ use Rattle.std.proofs.Math.Seq.{drop-append-add, drop-append_seam, take-append_s
 use Rattle.t1_parts.specs.declared.item.Item.{Item}
 use Rattle.t1_parts.specs.declared.item.Item.TheVariants.{Section}
 use Rattle.t1_text.specs.Tokens.{tokens, places_from}
-use Rattle.t1_text.specs.Names.{decimal_value}
+use Rattle.t1_frac.specs.Numbers.{decimal_value}
 use Rattle.t1_text.specs.Names.{is_count}
 use Rattle.t1_parts.specs.Sections.{count_between, section_at, subrs_line, glyphs_line, is_subrs_line, is_glyphs_line}
 use Rattle.t1_parts.specs.Entries.{opens_subr}

@@ -11,7 +11,8 @@ use Rattle.t1_parts.specs.declared.body.EntryBody.{EntryBody}
 use Rattle.t1_parts.specs.declared.item.Item.{Item}
 use Rattle.t1_parts.specs.declared.item.Item.TheVariants.{Plain, Section, Subr, Glyph}
 use Rattle.t1_text.specs.Tokens.{tokens, places_from}
-use Rattle.t1_text.specs.Names.{is_name, name_of_token, decimal_of, up_to, decimal_value}
+use Rattle.t1_text.specs.Names.{is_name, name_of_token, decimal_of, up_to}
+use Rattle.t1_frac.specs.Numbers.{decimal_value}
 use Rattle.t1_parts.specs.Sections.{count_between, section_at, subrs_line, glyphs_line, is_subrs_line, is_glyphs_line}
 use Rattle.t1_parts.specs.Entries.{NumberedItem, Taken, has, is_subr, is_glyph, opens_subr, opens_glyph, opened_body, entry_of, subr_entry, glyph_entry}
 use Rattle.t1_parts.specs.Private.{line_item, among_glyphs, among_subrs, item_at, items_of}

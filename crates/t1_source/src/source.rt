@@ -5,8 +5,8 @@ use std::alloc::{AllocError, Global};
 use std::marker::Model;
 use t1_frac::{Bytes, Code, Refusal};
 use t1_parts::{
-    Gathered, Item, check_clear, check_lead, copied_items, has_standard, header_of, lead_of,
-    operator_of, parts_of, private_items, push_items, push_lines, raise, tail_of,
+    Gathered, Item, check_clear, check_lead, copied_items, has_clear_end, has_standard, header_of,
+    lead_of, operator_of, parts_of, private_items, push_items, push_lines, raise, tail_of,
 };
 use t1_text::{Line, copied_bytes, copied_lines, cut_lines, same};
 
@@ -82,11 +82,14 @@ fn read_lines(alloc: Global, lines: &[Line]) -> Result<Source, Refusal>
 
 /// The source of some bytes. The first fault refuses it: F1 where no line ends the clear part, F2 where none ends the
 /// private part, then F5 and F6 of the clear lines, F4 and F7 to F10 of the private lines, each from the top and
-/// with its line, then F3 and F11.
-#[tactic(auto, unfolding(t1_parts::specs::Reading::reads), using(crate::proofs::WellFormedSourceLaws::lines_are_lines))]
+/// with its line, then F3 and F11. Bytes without an end of a clear part are refused before a table of their lines is made.
+#[tactic(auto, unfolding(t1_parts::specs::Reading::reads), using(crate::proofs::WellFormedSourceLaws::lines_are_lines, t1_parts::proofs::PartLaws::unread))]
 pub fn read_source(alloc: Global, bytes: &[u8]) -> Result<Source, Refusal>
     ensures { Gives (λ source. source) result (reads bytes.now) }
 {
+    if !has_clear_end(bytes) {
+        return Err(Refusal::from(Code::F1));
+    }
     let lines = cut_lines(alloc, bytes)?;
     read_lines(alloc, &lines)
 }

@@ -1,6 +1,8 @@
 -- Names and numbers.
-use Rattle.std.specs.Prelude.{ℕ, Bool, false, not, ◌&&◌, ◌==◌, ◌+◌, ◌*◌, ◌-◌, nat_le, if◌then◌else◌, Option, Some, None, is_some, List, [], ◌∷◌, length, fold}
+use Rattle.std.specs.Prelude.{ℕ, Bool, not, ◌&&◌, ◌==◌, nat_le, if◌then◌else◌, Option, Some, None, List, [], ◌∷◌, length}
+use Rattle.std.specs.Char.{is_ascii_digit}
 use Rattle.std.specs.List.{list_all}
+use Rattle.t1_frac.specs.Numbers.{decimal_value}
 use Rattle.t1_text.specs.Tokens.{is_regular}
 
 -- profile, names: a byte of a name, from 33 to 126, none of ( ) < > [ ] { } / % ;
@@ -16,29 +18,16 @@ abbrev pub name_of_token : List ℕ → Option (List ℕ)
 name_of_token [] = None
 name_of_token (c ∷ name) = if c == 47 && is_name name then Some name else None
 
--- profile, numbers: a decimal digit
-abbrev pub is_digit : ℕ → Bool
-is_digit c = nat_le 48 c && nat_le c 57
-
--- profile, numbers: the value of decimal digits, the highest first
-abbrev pub decimal_value : List ℕ → ℕ
-decimal_value ds = fold (λ n d. 10 * n + (d - 48)) 0 ds
-
 -- profile, numbers: one or more decimal digits, as a number
 abbrev pub decimal_of : List ℕ → Option ℕ
 decimal_of [] = None
-decimal_of (d ∷ ds) = if list_all is_digit (d ∷ ds) then Some (decimal_value (d ∷ ds)) else None
+decimal_of (d ∷ ds) = if list_all is_ascii_digit (d ∷ ds) then Some (decimal_value (d ∷ ds)) else None
 
 -- profile, numbers: the number, where it is at most the limit
 abbrev pub up_to : ℕ → Option ℕ → Option ℕ
 up_to limit None = None
 up_to limit (Some n) = if nat_le n limit then Some n else None
 
--- profile, numbers: an optional '-' and one or more digits
-abbrev pub is_number_word : List ℕ → Bool
-is_number_word [] = false
-is_number_word (c ∷ ds) = is_some (decimal_of (if c == 45 then ds else c ∷ ds))
-
 -- profile, sections: a count of 1 to 9 digits
 abbrev pub is_count : List ℕ → Bool
-is_count n = nat_le 1 (length n) && nat_le (length n) 9 && list_all is_digit n
+is_count n = nat_le 1 (length n) && nat_le (length n) 9 && list_all is_ascii_digit n

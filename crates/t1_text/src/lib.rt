@@ -1,4 +1,4 @@
-//! The text of a readable source: its lines, the tokens of a line, names and number words.
+//! The text of a readable source: its lines, the tokens of a line, names and decimal numbers.
 #![tactic(auto)]
 
 mod lines;
@@ -8,9 +8,7 @@ mod tokens;
 pub use lines::{
     Line, copied_bytes, copied_lines, cut_lines, fault_on, first_delimiter, first_line, trimmed,
 };
-pub use names::{
-    count_of, decimal_up_to, is_count, is_decimal, is_name, is_number_word, name_of_token,
-};
+pub use names::{count_of, decimal_up_to, is_count, is_decimal, is_name, name_of_token};
 pub use tokens::{
     after_token, first_is, first_token, is_regular, last_is, next_place, next_token, same,
 };

@@ -1,12 +1,12 @@
 //! Names and numbers.
 
-ghost use Rattle.std.specs.Prelude.{◌≡◌, ◌+◌, ◌*◌, ◌<◌, ◌≤◌, ◌^◌, length, is_some, option_map, IsTrue};
+ghost use Rattle.std.specs.Prelude.{◌≡◌, is_some, option_map, IsTrue};
 ghost use Rattle.std.specs.List.{list_all};
-ghost use Rattle.t1_text.specs.Tokens.{is_regular};
-ghost use Rattle.t1_text.specs.Names.{is_name, is_name_byte, name_of_token, is_digit, decimal_of, decimal_value, up_to, is_number_word};
-ghost use Rattle.t1_text.specs.Names.{is_count};
+ghost use Rattle.t1_frac.specs.Numbers.{decimal_value};
+ghost use Rattle.t1_text.specs.Names.{is_name, is_name_byte, name_of_token, decimal_of, up_to, is_count};
 
 use crate::tokens::is_regular;
+use t1_frac::{are_digits, leading_number, magnitude};
 
 /// Whether a byte may stand in a name.
 fn is_name_byte(byte: u8) -> bool
@@ -39,35 +39,11 @@ pub fn name_of_token(token: &[u8]) -> Option<&[u8]>
     }
 }
 
-/// Whether a byte is a decimal digit.
-fn is_digit(byte: u8) -> bool
-    ensures { result ≡ is_digit byte }
-{
-    48 <= byte && byte <= 57
-}
-
-/// Whether each byte is a decimal digit.
-fn are_digits(bytes: &[u8]) -> bool
-    ensures { result ≡ list_all is_digit bytes.now }
-{
-    bytes.iter().all(|byte| is_digit(*byte))
-}
-
 /// Whether the bytes are a decimal number.
 pub fn is_decimal(bytes: &[u8]) -> bool
     ensures { result ≡ is_some (decimal_of bytes.now) }
 {
     !bytes.is_empty() && are_digits(bytes)
-}
-
-/// Whether a word is an optional `-` and one or more digits.
-pub fn is_number_word(word: &[u8]) -> bool
-    ensures { result ≡ is_number_word word.now }
-{
-    match word {
-        [b'-', digits @ ..] => is_decimal(digits),
-        _ => is_decimal(word),
-    }
 }
 
 /// The number of some decimal digits, where it is at most the limit.
@@ -77,13 +53,7 @@ pub fn decimal_up_to(limit: u32, digits: &[u8]) -> Option<u32>
     if digits.is_empty() {
         return None;
     }
-    let mut value: u64 = 0;
-    for digit in digits {
-        if !is_digit(*digit) {
-            return None;
-        }
-        value = (10 * value + u64::from(*digit - 48)).min(u64::from(limit) + 1);
-    }
+    let value = magnitude(digits)?;
     if value <= u64::from(limit) {
         Some(value as u32)
     } else {
@@ -103,9 +73,5 @@ pub fn count_of(digits: &[u8]) -> u64
     requires { IsTrue (is_count digits.now) }
     ensures value { result ≡ decimal_value digits.now }
 {
-    let mut value: u64 = 0;
-    for digit in digits {
-        value = 10 * value + u64::from(*digit - 48);
-    }
-    value
+    leading_number(digits).0
 }

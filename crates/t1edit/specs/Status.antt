@@ -51,12 +51,12 @@ abbrev pub IsWritten : {W : Type 0} → (W → Option (List ℕ)) → Tally W �
 IsWritten contents old new line = WritesAll contents old new line ⊎ WritesFront contents old new line
 
 -- profile: the line of a run that stopped is written, and none where the command line was rejected, since its text stands there
-abbrev pub Reports : {W : Type 0} → (W → Option (List ℕ)) → Tally W → Tally W → Stop → Type 0
-Reports contents old new Rejected = new ≡ old
-Reports contents old new (Misused misuse) = IsWritten contents old new (misuse_line misuse)
-Reports contents old new (Failed error) = IsWritten contents old new (error_line error)
+abbrev pub ReportsStop : {W : Type 0} → (W → Option (List ℕ)) → Tally W → Tally W → Stop → Type 0
+ReportsStop contents old new Rejected = new ≡ old
+ReportsStop contents old new (Misused misuse) = IsWritten contents old new (misuse_line misuse)
+ReportsStop contents old new (Failed error) = IsWritten contents old new (error_line error)
 
 -- profile: a run that did all reports nothing
 abbrev pub ReportsRun : {W T : Type 0} → (W → Option (List ℕ)) → Tally W → Tally W → Result T Stop → Type 0
 ReportsRun contents old new (Ok done) = new ≡ old
-ReportsRun contents old new (Err stop) = Reports contents old new stop
+ReportsRun contents old new (Err stop) = ReportsStop contents old new stop

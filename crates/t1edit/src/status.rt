@@ -1,7 +1,7 @@
 //! How the program ends.
 ghost use Rattle.std.specs.Prelude.{◌≡◌};
 ghost use Rattle.t1_code.specs.Counted.{Writes};
-ghost use Rattle.t1edit.specs.Status.{error_line, misuse_line, status_of, status_of_misuse, status_of_stop, status_of_run, IsWritten, Reports, ReportsRun};
+ghost use Rattle.t1edit.specs.Status.{error_line, misuse_line, status_of, status_of_misuse, status_of_stop, status_of_run, IsWritten, ReportsStop, ReportsRun};
 
 use std::io::{self, Write};
 use t1_code::Counted;
@@ -133,7 +133,7 @@ fn misused<W: Write>(misuse: Misuse, writer: &mut Counted<W>) -> u8
 /// The exit status of a run that stopped, whose line is written.
 fn stopped<W: Write>(stop: &Stop, writer: &mut Counted<W>) -> u8
     ensures status { result ≡ status_of_stop stop.now }
-    ensures line { Reports W.contents writer.old writer.new stop.now }
+    ensures line { ReportsStop W.contents writer.old writer.new stop.now }
 {
     match stop {
         Stop::Rejected => USAGE,

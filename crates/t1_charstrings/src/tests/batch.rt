@@ -1,6 +1,7 @@
 //! Fresh charstrings of a batch of edits.
 
 use super::*;
+use crate::anew::prepare_anew;
 
 /// The font with a Subr after three edits: A is replaced, B is added, and space is removed.
 const EDITED: &str = "\
@@ -75,9 +76,15 @@ fn puts_a_fresh_subr(rt: HostRuntime) -> Result<(), Fail> {
 
 /// The small font's charstrings and the length of its private text, brought to those after its lenIV was edited.
 fn anew(alloc: Global) -> Result<(Charstrings, usize), Fail> {
-    let mut charstrings = charstrings_of(alloc, &read(alloc, SMALL)?)?;
+    let small = read(alloc, SMALL)?;
+    let bare = read(alloc, BARE)?;
+    let mut charstrings = charstrings_of(alloc, &small)?;
     let mut len = 0;
-    let ready = prepare_anew(alloc, &read(alloc, BARE)?)?;
+    let made = Made::Batch {
+        source: &small,
+        made: &bare,
+    };
+    let ready = prepare_anew(alloc, &made)?;
     settle_lines(&mut charstrings, &mut len, ready);
     Ok((charstrings, len))
 }

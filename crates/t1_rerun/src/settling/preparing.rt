@@ -1,7 +1,8 @@
 //! The changes of records, each with the memory that it takes.
 ghost use Rattle.std.specs.Prelude.{◌≡◌, ◌&&◌, ℕ, Bool, false, List, Option, None, Some, IfOk, IfSome, true, is_some, length, not, if◌then◌else◌};
 ghost use Rattle.std.specs.Str.{bytes_eq};
-ghost use Rattle.t1_run.specs.Run.{Glyph, NumberedRun};
+ghost use Rattle.t1_run.specs.Run.{Glyph};
+ghost use Rattle.t1_extent.specs.Kept.{TracedRun};
 ghost use Rattle.t1_afm.specs.declared.bbox.BBox.{BBox};
 ghost use Rattle.t1_cache.specs.declared.records.Named.TheVariants as named;
 ghost use Rattle.t1_cache.specs.Bodies.{record_bodies};
@@ -63,7 +64,7 @@ fn subr_step(
     body: Body,
     counts: &Counts,
 ) -> Result<Step, AllocError>
-    ensures step { IfOk result (λ step. (run : List ℕ → Option (NumberedRun × Option BBox)) (moved : Bool) → IsStepOf run (count_at counts.now) records.now (changed (named.Subr number) (Some body) moved) step) }
+    ensures step { IfOk result (λ step. (run : List ℕ → Option (TracedRun × Option BBox)) (moved : Bool) → IsStepOf run (count_at counts.now) records.now (changed (named.Subr number) (Some body) moved) step) }
     ensures apart { IfOk result (λ step. (g : List ℕ) → inserts step g ≡ false) }
 {
     if records.subr(number).is_some() {

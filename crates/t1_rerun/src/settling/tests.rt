@@ -117,7 +117,7 @@ fn rerun(alloc: Global, records: &Records, name: &[u8]) -> Result<Vec<Rerun>, Fa
     let mut reruns = Vec::new(alloc);
     reruns.push(Rerun {
         name: Vec::from_slice(alloc, name)?,
-        run: KeptRun::of(alloc, run)?,
+        run: KeptRun::of(alloc, name, run)?,
         bbox: None,
     })?;
     Ok(reruns)

@@ -1,7 +1,7 @@
 use Rattle.std.proofs.Common.{ap, cond, Some, ◌∙◌}
 use Rattle.std.specs.Map.{lookup}
 use Rattle.std.specs.Str.{bytes_eq}
-use Rattle.t1_font.proofs.Keeping.{lookup-inserted}
+use Rattle.t1_font.proofs.Lookups.{bytes_tell, inserted-at}
 use Rattle.t1_batch.specs.Passing.{glyph_mark, marked}
 use Rattle.t1_batch.proofs.Marking.{mark-put}
 use Rattle.t1_batch.proofs.marks.mark_glyph.Goals as goal
@@ -13,6 +13,6 @@ returns c = λ g.
     let now = c.now_added-added.result in
     let name = c.args.name.now in
     ap (λ es. lookup (λ k. bytes_eq g k.items) es) c.in_ok-insert.ensures.entries
-    ∙ lookup-inserted (λ k. k.items) g key now old
+    ∙ inserted-at bytes_eq bytes_tell (λ k. k.items) g key now old
     ∙ ap (λ n. cond (bytes_eq g n) (Some now) (glyph_mark old g)) c.in_ok-from_slice.ensures.items
     ∙ mark-put c.args.added now name g (glyph_mark old) (c.now_added-added.ensures ∙ ap (marked c.args.added) (c.copied.ensures ∙ c.get.ensures.value))

@@ -10,7 +10,7 @@ use Rattle.t1_cache.specs.Renewed.{kept_of}
 use Rattle.t1_cache.specs.Users.{among, glyph_users, key_eq, lists, users_at, users_of, HasRoom}
 use Rattle.t1_cache.proofs.Adding.{at-key}
 use Rattle.t1_cache.proofs.Changing.{kept-last, nothing-read, reads-inserted, room-inserted, users-inserted}
-use Rattle.t1_cache.proofs.Putting.{bytes_tell}
+use Rattle.t1_font.proofs.Lookups.{bytes_tell}
 use Rattle.t1_cache.proofs.changed.insert_glyph.Goals as goal
 
 pub returns-clause-bodies : goal.returns-clause-bodies

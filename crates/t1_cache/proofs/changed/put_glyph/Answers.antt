@@ -10,7 +10,8 @@ use Rattle.t1_cache.specs.Users.{glyph_users, key_eq, users_at, users_of}
 use Rattle.std.specs.Option.{option_map}
 use Rattle.t1_cache.proofs.Adding.{at-key}
 use Rattle.t1_cache.proofs.Changing.{put-there}
-use Rattle.t1_cache.proofs.Putting.{bytes_tell, reads-put, reads-stay, rest-put}
+use Rattle.t1_font.proofs.Lookups.{bytes_tell}
+use Rattle.t1_cache.proofs.Putting.{reads-put, reads-stay, rest-put}
 use Rattle.t1_cache.proofs.changed.put_glyph.Goals as goal
 
 pub returns-in-Some-clause-bodies : goal.returns-in-Some-clause-bodies

@@ -10,7 +10,7 @@ use Rattle.t1_cache.specs.Renewed.{kept, kept_of}
 use Rattle.t1_cache.specs.Users.{glyph_users, key_eq, users_at, users_of}
 use Rattle.t1_cache.proofs.Adding.{at-key}
 use Rattle.t1_cache.proofs.Changing.{again-at, all-but, kept-but, kept-last, reads-inserted, reads-removed}
-use Rattle.t1_cache.proofs.Putting.{bytes_tell}
+use Rattle.t1_font.proofs.Lookups.{bytes_tell}
 use Rattle.t1_cache.proofs.changed.put_last_glyph.Goals as goal
 
 pub returns-clause-bodies : goal.returns-clause-bodies

@@ -9,7 +9,7 @@ use Rattle.t1_cache.specs.Renewed.{kept_of}
 use Rattle.t1_cache.specs.Users.{glyph_users, key_eq, users_at, users_of}
 use Rattle.t1_cache.proofs.Adding.{at-key}
 use Rattle.t1_cache.proofs.Changing.{all-but, kept-but, reads-removed}
-use Rattle.t1_cache.proofs.Putting.{bytes_tell}
+use Rattle.t1_font.proofs.Lookups.{bytes_tell}
 use Rattle.t1_cache.proofs.changed.remove_glyph.Goals as goal
 
 pub returns-clause-bodies : goal.returns-clause-bodies

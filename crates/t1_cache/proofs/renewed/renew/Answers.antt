@@ -6,7 +6,8 @@ use Rattle.t1_cache.specs.Renewed.{kept_of, with_run}
 use Rattle.t1_cache.specs.Users.{glyph_users, users_of}
 use Rattle.t1_cache.proofs.Places.{with-put, with-none}
 use Rattle.t1_cache.proofs.Names.{entries-once}
-use Rattle.t1_cache.proofs.Putting.{bytes_tell, reads-stay}
+use Rattle.t1_font.proofs.Lookups.{bytes_tell}
+use Rattle.t1_cache.proofs.Putting.{reads-stay}
 use Rattle.t1_cache.proofs.renewed.renew.Goals as goal
 
 pub returns-in-None-clause-records : goal.returns-in-None-clause-records

@@ -2,7 +2,7 @@ use Rattle.std.proofs.Common.{◌∙◌, ◌+◌, ap}
 use Rattle.std.specs.Option.{unwrap_or}
 use Rattle.std.specs.Str.{bytes_eq}
 use Rattle.t1_cache.specs.Room.{glyph_count}
-use Rattle.t1_cache.proofs.Putting.{bytes_tell}
+use Rattle.t1_font.proofs.Lookups.{bytes_tell}
 use Rattle.t1_cache.proofs.Rooming.{count-inserted}
 use Rattle.t1_cache.proofs.room.count_glyph.Goals as goal
 

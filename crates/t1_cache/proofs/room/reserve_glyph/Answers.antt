@@ -3,7 +3,8 @@ use Rattle.std.specs.Str.{bytes_eq}
 use Rattle.t1_cache.specs.declared.records.GlyphRecord.{GlyphRecord}
 use Rattle.t1_cache.specs.Room.{IsRoomier}
 use Rattle.t1_cache.specs.Users.{users_of, glyph_users, glyph_rest}
-use Rattle.t1_cache.proofs.Putting.{bytes_tell, rest-put}
+use Rattle.t1_font.proofs.Lookups.{bytes_tell}
+use Rattle.t1_cache.proofs.Putting.{rest-put}
 use Rattle.t1_cache.proofs.Rooming.{roomier-put}
 use Rattle.t1_cache.proofs.room.reserve_glyph.Goals as goal
 

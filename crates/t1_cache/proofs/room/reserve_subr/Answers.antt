@@ -3,7 +3,8 @@ use Rattle.std.specs.Prelude.{nat_eq}
 use Rattle.t1_cache.specs.declared.records.SubrRecord.{SubrRecord}
 use Rattle.t1_cache.specs.Room.{IsRoomier}
 use Rattle.t1_cache.specs.Users.{users_of, subr_users, subr_rest}
-use Rattle.t1_cache.proofs.Putting.{numbers_tell, rest-put}
+use Rattle.t1_font.proofs.Lookups.{numbers_tell}
+use Rattle.t1_cache.proofs.Putting.{rest-put}
 use Rattle.t1_cache.proofs.Rooming.{roomier-put}
 use Rattle.t1_cache.proofs.room.reserve_subr.Goals as goal
 

@@ -2,7 +2,8 @@ use Rattle.std.proofs.Common.{◌∙◌, ◌++◌, take, ap, sym, append_assoc, 
 use Rattle.std.specs.Prelude.{◌||◌}
 use Rattle.std.specs.Str.{bytes_eq}
 use Rattle.t1_cache.specs.Users.{has}
-use Rattle.t1_cache.proofs.Names.{or_assoc, one-more, inserted-behind, name-inserted}
+use Rattle.t1_font.proofs.Naming.{name-inserted}
+use Rattle.t1_cache.proofs.Names.{or_assoc, one-more, inserted-behind}
 use Rattle.t1_cache.proofs.stale.add_users.Goals as goal
 
 pub loop-name-preserved : goal.loop-name-preserved

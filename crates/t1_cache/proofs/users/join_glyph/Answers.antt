@@ -3,7 +3,8 @@ use Rattle.std.specs.Option.{option_map}
 use Rattle.std.specs.Str.{bytes_eq}
 use Rattle.t1_cache.specs.declared.records.GlyphRecord.{GlyphRecord}
 use Rattle.t1_cache.specs.Users.{among, users_of, glyph_users, glyph_rest, HasRoom}
-use Rattle.t1_cache.proofs.Putting.{came, bytes_tell, rest-put, room-put}
+use Rattle.t1_font.proofs.Lookups.{bytes_tell}
+use Rattle.t1_cache.proofs.Putting.{came, rest-put, room-put}
 use Rattle.t1_cache.proofs.users.join_glyph.Goals as goal
 
 pub put_in-requires : goal.put_in-requires

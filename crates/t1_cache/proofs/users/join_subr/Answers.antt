@@ -3,7 +3,8 @@ use Rattle.std.specs.Prelude.{nat_eq}
 use Rattle.std.specs.Option.{option_map}
 use Rattle.t1_cache.specs.declared.records.SubrRecord.{SubrRecord}
 use Rattle.t1_cache.specs.Users.{among, users_of, subr_users, subr_rest, HasRoom}
-use Rattle.t1_cache.proofs.Putting.{came, numbers_tell, rest-put, room-put}
+use Rattle.t1_font.proofs.Lookups.{numbers_tell}
+use Rattle.t1_cache.proofs.Putting.{came, rest-put, room-put}
 use Rattle.t1_cache.proofs.users.join_subr.Goals as goal
 
 pub put_in-requires : goal.put_in-requires

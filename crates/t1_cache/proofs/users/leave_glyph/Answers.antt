@@ -2,7 +2,8 @@ use Rattle.std.proofs.Common.{ap, map, sym, subst, ◌∙◌, refl}
 use Rattle.std.specs.Str.{bytes_eq}
 use Rattle.t1_cache.specs.declared.records.GlyphRecord.{GlyphRecord}
 use Rattle.t1_cache.specs.Users.{among, users_of, glyph_users, glyph_rest, HasRoom}
-use Rattle.t1_cache.proofs.Putting.{left, bytes_tell, rest-put, room-stays}
+use Rattle.t1_font.proofs.Lookups.{bytes_tell}
+use Rattle.t1_cache.proofs.Putting.{left, rest-put, room-stays}
 use Rattle.t1_cache.proofs.users.leave_glyph.Goals as goal
 
 pub returns-in-Some-clause-users : goal.returns-in-Some-clause-users

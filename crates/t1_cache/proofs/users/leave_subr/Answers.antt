@@ -2,7 +2,8 @@ use Rattle.std.proofs.Common.{ap, map, sym, subst, ◌∙◌, refl}
 use Rattle.std.specs.Prelude.{nat_eq}
 use Rattle.t1_cache.specs.declared.records.SubrRecord.{SubrRecord}
 use Rattle.t1_cache.specs.Users.{among, users_of, subr_users, subr_rest, HasRoom}
-use Rattle.t1_cache.proofs.Putting.{left, numbers_tell, rest-put, room-stays}
+use Rattle.t1_font.proofs.Lookups.{numbers_tell}
+use Rattle.t1_cache.proofs.Putting.{left, rest-put, room-stays}
 use Rattle.t1_cache.proofs.users.leave_subr.Goals as goal
 
 pub returns-in-Some-clause-users : goal.returns-in-Some-clause-users

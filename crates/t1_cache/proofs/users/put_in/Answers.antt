@@ -1,6 +1,6 @@
 use Rattle.std.proofs.Common.{◌∙◌, ap}
 use Rattle.t1_cache.specs.Users.{has}
-use Rattle.t1_cache.proofs.Names.{name-inserted}
+use Rattle.t1_font.proofs.Naming.{name-inserted}
 use Rattle.t1_cache.proofs.users.put_in.Goals as goal
 
 pub returns-clause-names : goal.returns-clause-names

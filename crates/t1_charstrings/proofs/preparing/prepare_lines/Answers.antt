@@ -1,22 +1,15 @@
-use Rattle.std.proofs.Common.{subst}
-use Rattle.t1_source.specs.Changes.{changed}
-use Rattle.t1_charstrings.specs.Batch.{AreEdits}
+use Rattle.std.proofs.Common.{◌∙◌, sym}
+use Rattle.t1_charstrings.specs.Made.{made_of, source_of}
+use Rattle.t1_charstrings.proofs.Batches.{entries_ready}
+use Rattle.t1_charstrings.proofs.MadeItems.{lead_kept}
 use Rattle.t1_charstrings.proofs.preparing.prepare_lines.Goals as goal
 
-pub prepare_put-requires-clause-edits : goal.prepare_put-requires-clause-edits
-prepare_put-requires-clause-edits c = subst (λ change. AreEdits c.args.source.now (changed change c.args.source.now c.args.pairs.now).0 c.args.charstrings.now c.args.entries) c.in-PutItem.is c.requires.edits
-
-pub prepare_insert-requires-clause-edits : goal.prepare_insert-requires-clause-edits
-prepare_insert-requires-clause-edits c = subst (λ change. AreEdits c.args.source.now (changed change c.args.source.now c.args.pairs.now).0 c.args.charstrings.now c.args.entries) c.in-InsertItem.is c.requires.edits
-
-pub returns-in-PutItem-clause-judged : goal.returns-in-PutItem-clause-judged
-returns-in-PutItem-clause-judged c = rw c.in-PutItem.is c.prepare_put.ensures.judged
-
-pub returns-in-PutItem-clause-ready : goal.returns-in-PutItem-clause-ready
-returns-in-PutItem-clause-ready c = rw c.in-PutItem.is c.prepare_put.ensures.ready
-
-pub returns-in-InsertItem-clause-judged : goal.returns-in-InsertItem-clause-judged
-returns-in-InsertItem-clause-judged c = rw c.in-InsertItem.is c.prepare_insert.ensures.judged
-
-pub returns-in-InsertItem-clause-ready : goal.returns-in-InsertItem-clause-ready
-returns-in-InsertItem-clause-ready c = rw c.in-InsertItem.is c.prepare_insert.ensures.ready
+pub returns-clause-ready : goal.returns-clause-ready
+returns-clause-ready c =
+    let m = c.args.made.now in
+    let kept = c.args.charstrings.now in
+    let need = c.requires in
+    let ready = c.in_ok-ready_entries.ensures in
+    let front = lead_kept m c.args.private_len kept c.args.entries need.prepared need.edits (sym c.may_set_lead.ensures ∙ c.if-may_set_lead.false) in
+    entries_ready (source_of m) (made_of m) kept c.ready_entries.new.charstrings c.args.entries c.in_ok-len.len c.in_ok-ready_entries.field-0 need.edits front ready.same ready.ready ready.room
+    c.in_ok-len.ensures.len

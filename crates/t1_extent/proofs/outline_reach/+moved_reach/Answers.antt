@@ -14,8 +14,8 @@ pub returns-in_err-own_through : goal.returns-in_err-own_through
 returns-in_err-own_through g t c =
     let run = g.R.KeptRuns.drawn c.args.runs.now in
     let d = c.in-Some-Ok.run'.now.drawing in
-    let own = sym (ap (λ kept. Some (drawing_lent kept)) c.in-Some-Ok.field-0-is) ∙ c.in-Some-Ok.ensures in
-    let is = lonely run c.args.depth c.args.name.now d own c.in_default.ensures in
+    let own = sym (ap (λ kept. Some (drawing_lent kept)) c.in-Some-Ok.field-0-is) ∙ c.in-Some-Ok.ensures.drawn in
+    let is = lonely run c.args.depth c.args.name.now d own c.in_default.ensures.parts in
     let p = err_from_is_err_and c.from_residual.result c.from_residual.ensures.1 in
     rw (p.1, p.2) (refused_told c.in_err-own_through.field-0.0 _ (ap (given_through c.args.moves.now c.args.last.now) is ∙ c.in_err-own_through.ensures))
 
@@ -23,8 +23,8 @@ pub returns-in_default : goal.returns-in_default
 returns-in_default g t c =
     let run = g.R.KeptRuns.drawn c.args.runs.now in
     let d = c.in-Some-Ok.run'.now.drawing in
-    let own = sym (ap (λ kept. Some (drawing_lent kept)) c.in-Some-Ok.field-0-is) ∙ c.in-Some-Ok.ensures in
-    let is = lonely run c.args.depth c.args.name.now d own c.in_default.ensures in
+    let own = sym (ap (λ kept. Some (drawing_lent kept)) c.in-Some-Ok.field-0-is) ∙ c.in-Some-Ok.ensures.drawn in
+    let is = lonely run c.args.depth c.args.name.now d own c.in_default.ensures.parts in
     let told = c.in_ok-own_through.ensures in
     (told.0, ap (given_through c.args.moves.now c.args.last.now) is ∙ told.1, told.2)
 
@@ -33,9 +33,9 @@ returns-in_err-accent_move g t c =
     let run = g.R.KeptRuns.drawn c.args.runs.now in
     let d = c.in-Some-Ok.run'.now.drawing in
     let parts = c.in-Some.parts.now in
-    let own = sym (ap (λ kept. Some (drawing_lent kept)) c.in-Some-Ok.field-0-is) ∙ c.in-Some-Ok.ensures in
+    let own = sym (ap (λ kept. Some (drawing_lent kept)) c.in-Some-Ok.field-0-is) ∙ c.in-Some-Ok.ensures.drawn in
     let part = outline_within run (c.args.depth - 1) in
-    absurd (stuck run c.args.depth c.args.name.now d parts c.side_bearing.result c.in_err-accent_move.field-0.0 c.args.moves.now c.if-depth-eq0.false own c.in-Some.ensures
+    absurd (stuck run c.args.depth c.args.name.now d parts c.side_bearing.result c.in_err-accent_move.field-0.0 c.args.moves.now c.if-depth-eq0.false own c.in-Some.ensures.parts
     c.side_bearing.ensures c.in_err-accent_move.ensures.moved c.requires.passed)
 
 pub own_through-requires-2-clause-passed : goal.own_through-requires-2-clause-passed
@@ -43,9 +43,9 @@ own_through-requires-2-clause-passed g t c =
     let run = g.R.KeptRuns.drawn c.args.runs.now in
     let d = c.in-Some-Ok.run'.now.drawing in
     let parts = c.in-Some.parts.now in
-    let own = sym (ap (λ kept. Some (drawing_lent kept)) c.in-Some-Ok.field-0-is) ∙ c.in-Some-Ok.ensures in
+    let own = sym (ap (λ kept. Some (drawing_lent kept)) c.in-Some-Ok.field-0-is) ∙ c.in-Some-Ok.ensures.drawn in
     let part = outline_within run (c.args.depth - 1) in
-    let w = walks run c.args.depth c.args.name.now d parts c.side_bearing.result c.in_ok-accent_move.accent_move.by c.args.moves.now c.args.last.now c.if-depth-eq0.false own c.in-Some.ensures
+    let w = walks run c.args.depth c.args.name.now d parts c.side_bearing.result c.in_ok-accent_move.accent_move.by c.args.moves.now c.args.last.now c.if-depth-eq0.false own c.in-Some.ensures.parts
     c.side_bearing.ensures c.in_ok-accent_move.ensures.moved c.requires.passed in
     w.own
 
@@ -54,9 +54,9 @@ returns-in_err-own g t c =
     let run = g.R.KeptRuns.drawn c.args.runs.now in
     let d = c.in-Some-Ok.run'.now.drawing in
     let parts = c.in-Some.parts.now in
-    let own = sym (ap (λ kept. Some (drawing_lent kept)) c.in-Some-Ok.field-0-is) ∙ c.in-Some-Ok.ensures in
+    let own = sym (ap (λ kept. Some (drawing_lent kept)) c.in-Some-Ok.field-0-is) ∙ c.in-Some-Ok.ensures.drawn in
     let part = outline_within run (c.args.depth - 1) in
-    let w = walks run c.args.depth c.args.name.now d parts c.side_bearing.result c.in_ok-accent_move.accent_move.by c.args.moves.now c.args.last.now c.if-depth-eq0.false own c.in-Some.ensures
+    let w = walks run c.args.depth c.args.name.now d parts c.side_bearing.result c.in_ok-accent_move.accent_move.by c.args.moves.now c.args.last.now c.if-depth-eq0.false own c.in-Some.ensures.parts
     c.side_bearing.ensures c.in_ok-accent_move.ensures.moved c.requires.passed in
     let base = given_through c.args.moves.now c.args.last.now (part parts.base) in
     let accent = given_through (c.in_ok-accent_move.accent_move.by ∷ c.args.moves.now) c.args.last.now (part parts.accent) in
@@ -70,9 +70,9 @@ moved_reach-requires g t c =
     let run = g.R.KeptRuns.drawn c.args.runs.now in
     let d = c.in-Some-Ok.run'.now.drawing in
     let parts = c.in-Some.parts.now in
-    let own = sym (ap (λ kept. Some (drawing_lent kept)) c.in-Some-Ok.field-0-is) ∙ c.in-Some-Ok.ensures in
+    let own = sym (ap (λ kept. Some (drawing_lent kept)) c.in-Some-Ok.field-0-is) ∙ c.in-Some-Ok.ensures.drawn in
     let part = outline_within run (c.args.depth - 1) in
-    let w = walks run c.args.depth c.args.name.now d parts c.side_bearing.result c.in_ok-accent_move.accent_move.by c.args.moves.now c.args.last.now c.if-depth-eq0.false own c.in-Some.ensures
+    let w = walks run c.args.depth c.args.name.now d parts c.side_bearing.result c.in_ok-accent_move.accent_move.by c.args.moves.now c.args.last.now c.if-depth-eq0.false own c.in-Some.ensures.parts
     c.side_bearing.ensures c.in_ok-accent_move.ensures.moved c.requires.passed in
     let passed : IsOk (given_in_turn c.args.moves.now (part c.as_slice.result.now)) = subst (λ n. IsOk (given_in_turn c.args.moves.now (part n))) (sym c.as_slice.ensures) w.base_moves in
     search rules
@@ -82,9 +82,9 @@ returns-in_err-base g t c =
     let run = g.R.KeptRuns.drawn c.args.runs.now in
     let d = c.in-Some-Ok.run'.now.drawing in
     let parts = c.in-Some.parts.now in
-    let own = sym (ap (λ kept. Some (drawing_lent kept)) c.in-Some-Ok.field-0-is) ∙ c.in-Some-Ok.ensures in
+    let own = sym (ap (λ kept. Some (drawing_lent kept)) c.in-Some-Ok.field-0-is) ∙ c.in-Some-Ok.ensures.drawn in
     let part = outline_within run (c.args.depth - 1) in
-    let w = walks run c.args.depth c.args.name.now d parts c.side_bearing.result c.in_ok-accent_move.accent_move.by c.args.moves.now c.args.last.now c.if-depth-eq0.false own c.in-Some.ensures
+    let w = walks run c.args.depth c.args.name.now d parts c.side_bearing.result c.in_ok-accent_move.accent_move.by c.args.moves.now c.args.last.now c.if-depth-eq0.false own c.in-Some.ensures.parts
     c.side_bearing.ensures c.in_ok-accent_move.ensures.moved c.requires.passed in
     let base = given_through c.args.moves.now c.args.last.now (part parts.base) in
     let accent = given_through (c.in_ok-accent_move.accent_move.by ∷ c.args.moves.now) c.args.last.now (part parts.accent) in
@@ -99,9 +99,9 @@ moved_reach-requires-2 g t c =
     let run = g.R.KeptRuns.drawn c.args.runs.now in
     let d = c.in-Some-Ok.run'.now.drawing in
     let parts = c.in-Some.parts.now in
-    let own = sym (ap (λ kept. Some (drawing_lent kept)) c.in-Some-Ok.field-0-is) ∙ c.in-Some-Ok.ensures in
+    let own = sym (ap (λ kept. Some (drawing_lent kept)) c.in-Some-Ok.field-0-is) ∙ c.in-Some-Ok.ensures.drawn in
     let part = outline_within run (c.args.depth - 1) in
-    let w = walks run c.args.depth c.args.name.now d parts c.side_bearing.result c.in_ok-accent_move.accent_move.by c.args.moves.now c.args.last.now c.if-depth-eq0.false own c.in-Some.ensures
+    let w = walks run c.args.depth c.args.name.now d parts c.side_bearing.result c.in_ok-accent_move.accent_move.by c.args.moves.now c.args.last.now c.if-depth-eq0.false own c.in-Some.ensures.parts
     c.side_bearing.ensures c.in_ok-accent_move.ensures.moved c.requires.passed in
     let moves' = c.as_slice-3.result.now in
     let same : moves' ≡ c.in_ok-accent_move.accent_move.by ∷ c.args.moves.now = c.as_slice-3.ensures.value ∙ c.in_ok-inner.ensures in
@@ -117,9 +117,9 @@ returns-in_err-accent g t c =
     let run = g.R.KeptRuns.drawn c.args.runs.now in
     let d = c.in-Some-Ok.run'.now.drawing in
     let parts = c.in-Some.parts.now in
-    let own = sym (ap (λ kept. Some (drawing_lent kept)) c.in-Some-Ok.field-0-is) ∙ c.in-Some-Ok.ensures in
+    let own = sym (ap (λ kept. Some (drawing_lent kept)) c.in-Some-Ok.field-0-is) ∙ c.in-Some-Ok.ensures.drawn in
     let part = outline_within run (c.args.depth - 1) in
-    let w = walks run c.args.depth c.args.name.now d parts c.side_bearing.result c.in_ok-accent_move.accent_move.by c.args.moves.now c.args.last.now c.if-depth-eq0.false own c.in-Some.ensures
+    let w = walks run c.args.depth c.args.name.now d parts c.side_bearing.result c.in_ok-accent_move.accent_move.by c.args.moves.now c.args.last.now c.if-depth-eq0.false own c.in-Some.ensures.parts
     c.side_bearing.ensures c.in_ok-accent_move.ensures.moved c.requires.passed in
     let base = given_through c.args.moves.now c.args.last.now (part parts.base) in
     let accent = given_through (c.in_ok-accent_move.accent_move.by ∷ c.args.moves.now) c.args.last.now (part parts.accent) in
@@ -144,9 +144,9 @@ returns g t c =
     let run = g.R.KeptRuns.drawn c.args.runs.now in
     let d = c.in-Some-Ok.run'.now.drawing in
     let parts = c.in-Some.parts.now in
-    let own = sym (ap (λ kept. Some (drawing_lent kept)) c.in-Some-Ok.field-0-is) ∙ c.in-Some-Ok.ensures in
+    let own = sym (ap (λ kept. Some (drawing_lent kept)) c.in-Some-Ok.field-0-is) ∙ c.in-Some-Ok.ensures.drawn in
     let part = outline_within run (c.args.depth - 1) in
-    let w = walks run c.args.depth c.args.name.now d parts c.side_bearing.result c.in_ok-accent_move.accent_move.by c.args.moves.now c.args.last.now c.if-depth-eq0.false own c.in-Some.ensures
+    let w = walks run c.args.depth c.args.name.now d parts c.side_bearing.result c.in_ok-accent_move.accent_move.by c.args.moves.now c.args.last.now c.if-depth-eq0.false own c.in-Some.ensures.parts
     c.side_bearing.ensures c.in_ok-accent_move.ensures.moved c.requires.passed in
     let base = given_through c.args.moves.now c.args.last.now (part parts.base) in
     let accent = given_through (c.in_ok-accent_move.accent_move.by ∷ c.args.moves.now) c.args.last.now (part parts.accent) in

@@ -3,8 +3,8 @@ use Rattle.std.specs.Borrow.{Bor}
 use Rattle.std.specs.List.{list_any}
 use Rattle.std.specs.Str.{bytes_eq}
 use Rattle.t1_run.specs.Run.{font, own}
-use Rattle.t1_font.specs.Runs.{kept_of, run_kept, IsAfter}
-use Rattle.t1_font.proofs.Keeping.{RunsInFront, one-more, one-after, after-earlier, counts-one-more, name-first, on-err}
+use Rattle.t1_font.specs.Runs.{kept_of, run_kept, AreTraced, IsAfter}
+use Rattle.t1_font.proofs.Keeping.{RunsInFront, one-more, one-traced, one-after, after-earlier, counts-one-more, name-first, on-err}
 use Rattle.t1_font.proofs.runs.runs_of.Goals as goal
 
 pub loop-name-init : goal.loop-name-init
@@ -12,6 +12,7 @@ loop-name-init g c =
     let m = font (g.B.Bodies.subrs c.args.bodies.now) (g.B.Bodies.glyphs c.args.bodies.now) in
     record {
       kept = λ q. ap (λ runs. cond (list_any (bytes_eq q) (map (λ name. name.now) c.args.names.now)) (own m q) (kept_of runs q)) c.new-runs.ensures;
+      traced = subst AreTraced (sym c.new-runs.ensures) (λ q. tt);
       after = λ q. subst (λ runs. IsAfter c.args.meter.now (run_kept runs q)) (sym c.new-runs.ensures) tt;
       counted = refl;
     }
@@ -28,6 +29,7 @@ loop-name-preserved g c =
     record {
       kept = one-more m (map (λ name. name.now) (drop (i + 1) names)) c.loop-name.runs c.keep.new.self (map (λ name. name.now) names) (get_or names i none).now c.in_ok-kept.kept
           c.in_ok-kept.ensures.kept c.in_ok-keep.ensures rest;
+      traced = one-traced c.loop-name.runs c.keep.new.self (get_or names i none).now c.in_ok-kept.kept c.in_ok-keep.ensures c.in_ok-kept.ensures.traced c.loop-name.invariant.traced;
       after = one-after c.args.meter.now c.loop-name.runs c.keep.new.self (get_or names i none).now c.in_ok-kept.kept c.in_ok-keep.ensures
           (after-earlier c.args.meter.now i c.in_ok-kept.kept (subst (λ count. IsAfter count (Some c.in_ok-kept.kept)) c.loop-name.invariant.counted c.in_ok-kept.ensures.after))
           c.loop-name.invariant.after;

@@ -8,6 +8,7 @@ use Rattle.t1_rerun.proofs.ChangedBodies.{as-lent, is-ready}
 use Rattle.t1_rerun.proofs.FirstRecords.{counts-done}
 use Rattle.t1_rerun.proofs.Preparing.{as-self}
 use Rattle.t1_rerun.proofs.Reaching.{counts-same}
+use Rattle.t1_rerun.proofs.Traces.{right_traces}
 use Rattle.t1_rerun.proofs.changing.prepare_changes.Goals as goal
 
 pub returns-in_err-renewal-clause-checked : goal.returns-in_err-renewal-clause-checked
@@ -26,6 +27,9 @@ returns-in_err-renewal-clause-counted g c = λ old new j.
 
 pub returns-in_err-renewal-clause-same : goal.returns-in_err-renewal-clause-same
 returns-in_err-renewal-clause-same g c = as-self c.args.records.now
+
+pub rerun_changed-requires : goal.rerun_changed-requires
+rerun_changed-requires g c = right_traces c.requires.0 c.args.records.now c.requires.1.1.right
 
 pub make_ready-requires : goal.make_ready-requires
 make_ready-requires g c = c.requires.1.1.keys

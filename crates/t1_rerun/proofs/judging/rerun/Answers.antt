@@ -21,8 +21,8 @@ returns-in_err-stale-clause-counted g c = λ old new e.
     let p = err_from_is_err_and c.from_residual-in_err-stale.result c.from_residual-in_err-stale.ensures.1 in
     counts-none (length (stale old (map key_of c.args.edits.now) new)) c.args.meter.now c.from_residual-in_err-stale.result p.0 p.1 p.2
 
-pub judged-requires : goal.judged-requires
-judged-requires g c =
+pub judged-requires-clause-there : goal.judged-requires-clause-there
+judged-requires-clause-there g c =
     let m = font (g.B.Bodies.subrs c.args.bodies.now) (g.B.Bodies.glyphs c.args.bodies.now) in
     let keys = c.in_ok-found.found.keys in
     let these = map (λ name. name.now) c.deref.result.now in
@@ -116,7 +116,7 @@ returns-clause-renewal g c = λ old new e.
     let runs = c.in_ok-runs.runs in
     let renewal = c.in_ok-renewal_of.field-0 in
     renewal-is c.args.edits.now old new c.args.records.now m names e found reached these are
-    c.in_ok-runs.metrics.items c.in_ok-runs.ensures.told runs c.in_ok-runs.ensures.kept renewal
+    c.in_ok-runs.metrics.items c.in_ok-runs.ensures.told runs c.in_ok-runs.ensures.kept c.in_ok-runs.ensures.traced renewal
     (subst (λ ms. AllByRecursion (IsRerun runs ms) renewal.reruns.items) c.deref-3.ensures.value c.in_ok-renewal_of.ensures.each)
     (λ x. c.in_ok-renewal_of.ensures.names x ∙ ap (list_any (λ y. bytes_eq x y.name)) c.deref-3.ensures.value)
     (λ k u. c.in_ok-renewal_of.ensures.leaves k u ∙ ap (λ l. has (λ name. name.now) l u && is_user k (recorded_run c.args.records.now u)) c.as_slice-2.ensures.keys)

@@ -107,7 +107,7 @@ returns-clause-right c =
     let told = ap (λ l. glyph_metrics_among (run_of runs) (map (λ name. name.now) l)) (sym c.deref-2.ensures.value) ∙ c.in_ok-metrics.ensures in
     let records = c.in_ok-records_of.field-0 in
     let made = c.in_ok-records_of.ensures in
-    are-right s its.file bs its.bodies its.no_fault names are runs kept metrics told records made.compiled made.users
+    are-right s its.file bs its.bodies its.no_fault names are runs kept metrics told c.in_ok-runs.ensures.traced records made.compiled made.users
     (made.order ∙ ap measured_names c.deref-4.ensures.value)
     (subst (λ l. AllByRecursion (IsRecorded runs l) (map kept_of records.glyphs.entries)) c.deref-4.ensures.value made.each)
 

@@ -1,5 +1,5 @@
 use Rattle.std.proofs.Common.{Bool, List, ℕ, Some, Option}
-use Rattle.t1_run.specs.Run.{NumberedRun}
+use Rattle.t1_extent.specs.Kept.{TracedRun}
 use Rattle.t1_afm.specs.declared.bbox.BBox.{BBox}
 use Rattle.t1_cache.specs.declared.records.Named.TheVariants as named
 use Rattle.t1_cache.specs.Renewed.{reruns_by_name}
@@ -12,7 +12,7 @@ pub returns-in-Subr-clause-step : goal.returns-in-Subr-clause-step
 returns-in-Subr-clause-step c =
     let run = new_run (reruns_by_name c.args.runs.now.entries) in
     if-ok
-    (λ step. (run : List ℕ → Option (NumberedRun × Option BBox)) (moved : Bool)
+    (λ step. (run : List ℕ → Option (TracedRun × Option BBox)) (moved : Bool)
     → IsStepOf run (count_at c.args.counts.now) c.args.records.now (changed (named.Subr c.in-Subr.number) (Some c.in-Some.body) moved) step)
     (IsStepOf run (count_at c.args.counts.now) c.args.records.now c.args.change)
     c.subr_step.result c.subr_step.ensures.step

@@ -1,6 +1,6 @@
 use Rattle.std.proofs.Common.{◌∙◌, ap}
 use Rattle.t1_cache.specs.Users.{has}
-use Rattle.t1_cache.proofs.Names.{name-inserted}
+use Rattle.t1_font.proofs.Naming.{name-inserted}
 use Rattle.t1_rerun.specs.Steps.{takes_out}
 use Rattle.t1_rerun.proofs.Leaving.{taken-more}
 use Rattle.t1_rerun.proofs.settling.preparing.taken_out.Goals as goal

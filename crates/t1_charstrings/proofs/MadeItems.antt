@@ -1,0 +1,271 @@
+-- The items of a source that edits make, in three parts.
+use Rattle.std.proofs.Common.{◌≡◌, ◌-◌, ◌+◌, ◌^◌, ◌<◌, min, max, ℕ, zero, suc, Bool, true, false, cond, List, [], ◌∷◌, ◌++◌, map, length, take, drop, append_assoc, length-append, refl, sym, ap, subst, ◌∙◌, Option, None, Some, Result, Ok, Err, arith}
+use Rattle.std.specs.Prelude.{◌||◌, ◌&&◌, is_some, nat_eq}
+use Rattle.std.proofs.lemmas.Bool.{eqb-true, not-false}
+use Rattle.std.specs.List.{find, list_all, list_any, remove, slice_set}
+use Rattle.std.specs.Option.{option_map, option_or}
+use Rattle.std.proofs.lemmas.List.{map-append}
+use Rattle.t1_frac.specs.declared.fault.Fault.{Fault}
+use Rattle.t1_frac.specs.declared.fault.Refusal.{Refusal}
+use Rattle.t1_frac.specs.declared.fault.Refusal.TheVariants as refusals
+use Rattle.t1_frac.specs.Outcome.{Refuses, ◌>>=◌, fault_at}
+use Rattle.t1_frac.specs.declared.fault.Code.TheVariants.{F23}
+use Rattle.t1_frac.specs.declared.fault.Place.TheVariants.{Nowhere}
+use Rattle.t1_parts.specs.declared.item.Item.{Item}
+use Rattle.t1_parts.specs.declared.item.Item.TheVariants as items
+use Rattle.t1_parts.specs.Counts.{glyphs_needed, raised, raised_item, subrs_needed}
+use Rattle.t1_parts.specs.LenIV.{first_lead, lead, lead_among, said_lead}
+use Rattle.t1_parts.specs.Operator.{operator, operator_among, reads_strings}
+use Rattle.t1_parts.specs.SourceParts.{SourceParts}
+use Rattle.t1_source.specs.Leads.{says_lead}
+use Rattle.t1_source.specs.WellFormed.{is_counted, IsWellFormed}
+use Rattle.t1_run.specs.Run.{Key, Subr, Glyph}
+use Rattle.t1_font.specs.Assembly.{counts_check, file_check, length_check}
+use Rattle.t1_font.specs.Bodies.{bodies, bodies_check, body_check}
+use Rattle.t1_font.specs.Lengths.{IsPrivateLen}
+use Rattle.t1_font.proofs.Compiling.{or-assoc, or-none}
+use Rattle.t1_charstrings.specs.declared.entries.Charstrings.{Charstrings}
+use Rattle.t1_charstrings.specs.Entries.{Kept, body_at, encrypted}
+use Rattle.t1_charstrings.specs.Kept.{kept_at, AreEncrypted, Encrypt}
+use Rattle.t1_charstrings.specs.Lines.{kept_line, kept_text}
+use Rattle.t1_charstrings.specs.Raising.{is_raised_counted, raised_check}
+use Rattle.t1_source.specs.declared.editing.change.Change.{Change}
+use Rattle.t1_source.specs.declared.editing.change.Change.TheVariants as changes
+use Rattle.t1_charstrings.specs.declared.made.Made.{Made}
+use Rattle.t1_charstrings.specs.declared.made.Made.TheVariants as made
+use Rattle.t1_charstrings.specs.declared.settling.EditedEntries.{EditedEntries}
+use Rattle.t1_charstrings.specs.Batch.{AreEdits, IsEditOf}
+use Rattle.t1_charstrings.specs.Made.{is_entry_changed, made_after, made_of, may_set_lead, source_of, IsFor, IsPrepared}
+use Rattle.t1_charstrings.proofs.Entered.{left_front, put_front}
+use Rattle.t1_charstrings.proofs.Entering.{body_in, first-body, raised-bodies, raised-checks, raised-leads}
+use Rattle.t1_charstrings.proofs.Filed.{kept_len}
+use Rattle.t1_charstrings.proofs.Gathered.{or-map}
+use Rattle.t1_charstrings.proofs.Inserting.{counted-all, glyphs_first, insert_front}
+use Rattle.t1_charstrings.proofs.Totals.{find-raised, named}
+
+-- ---- an item put in the place of another, or taken out
+
+pub put-parts : (is : List Item) (at : ℕ) (x : Item) → at < length is → take at is ++ (x ∷ drop 1 (drop at is)) ≡ slice_set is at x
+put-parts [] at x h = absurd (omega (arith, h))
+put-parts (i ∷ is) zero x h = refl
+put-parts (i ∷ is) (suc at) x h = ap (λ l. i ∷ l) (put-parts is at x (omega (arith, h)))
+
+pub remove-parts : (is : List Item) (at : ℕ) → at < length is → take at is ++ drop 1 (drop at is) ≡ remove is at
+remove-parts [] at h = absurd (omega (arith, h))
+remove-parts (i ∷ is) zero h = refl
+remove-parts (i ∷ is) (suc at) h = ap (λ l. i ∷ l) (remove-parts is at (omega (arith, h)))
+
+-- ---- the first part that says something decides
+
+pub lead-first : (a b : List Item) → list_any says_lead a ≡ true → lead_among (a ++ b) ≡ lead_among a
+lead-first [] b h = absurd (cc)
+lead-first (i ∷ a) b h = by (said_lead i) refl h (lead-first a b) where
+  by : (r : Option (Option (List ℕ))) → said_lead i ≡ r → (is_some r || list_any says_lead a) ≡ true
+      → (list_any says_lead a ≡ true → lead_among (a ++ b) ≡ lead_among a) → lead_among (i ∷ (a ++ b)) ≡ lead_among (i ∷ a)
+  by (Some t) is h rest = rw is refl
+  by None is h rest = rw is (rest h)
+
+pub lead-later : (a b : List Item) → list_any says_lead a ≡ false → lead_among (a ++ b) ≡ lead_among b
+lead-later [] b h = refl
+lead-later (i ∷ a) b h = by (said_lead i) refl h (lead-later a b) where
+  by : (r : Option (Option (List ℕ))) → said_lead i ≡ r → (is_some r || list_any says_lead a) ≡ false
+      → (list_any says_lead a ≡ false → lead_among (a ++ b) ≡ lead_among b) → lead_among (i ∷ (a ++ b)) ≡ lead_among b
+  by (Some t) is h rest = absurd (cc)
+  by None is h rest = rw is (rest h)
+
+find-first : (test : Item → Bool) (a b : List Item) → list_any test a ≡ true → find test (a ++ b) ≡ find test a
+find-first test [] b h = absurd (cc)
+find-first test (i ∷ a) b h = by (test i) h (find-first test a b) where
+  by : (t : Bool) → (t || list_any test a) ≡ true → (list_any test a ≡ true → find test (a ++ b) ≡ find test a)
+      → cond t (Some i) (find test (a ++ b)) ≡ cond t (Some i) (find test a)
+  by true h rest = refl
+  by false h rest = rest h
+
+find-later : (test : Item → Bool) (a b : List Item) → list_any test a ≡ false → find test (a ++ b) ≡ find test b
+find-later test [] b h = refl
+find-later test (i ∷ a) b h = by (test i) h (find-later test a b) where
+  by : (t : Bool) → (t || list_any test a) ≡ false → (list_any test a ≡ false → find test (a ++ b) ≡ find test b)
+      → cond t (Some i) (find test (a ++ b)) ≡ find test b
+  by true h rest = absurd (cc)
+  by false h rest = rest h
+
+pub operator-first : (a b : List Item) → list_any reads_strings a ≡ true → operator_among (a ++ b) ≡ operator_among a
+operator-first a b h = ap named (find-first reads_strings a b h)
+
+pub operator-later : (a b : List Item) → list_any reads_strings a ≡ false → operator_among (a ++ b) ≡ operator_among b
+operator-later a b h = ap named (find-later reads_strings a b h)
+
+-- ---- counts
+
+pub subrs-both : (a b : List Item) → subrs_needed (a ++ b) ≡ max (subrs_needed a) (subrs_needed b)
+subrs-both [] b = omega arith
+subrs-both (items.Plain l ∷ a) b = subrs-both a b
+subrs-both (items.Section before n after ∷ a) b = subrs-both a b
+subrs-both (items.Subr n ws closing ∷ a) b = omega (arith, subrs-both a b)
+subrs-both (items.Glyph g ws closing ∷ a) b = subrs-both a b
+
+pub glyphs-both : (a b : List Item) → glyphs_needed (a ++ b) ≡ glyphs_needed a + glyphs_needed b
+glyphs-both [] b = omega arith
+glyphs-both (i ∷ a) b = omega (arith, glyphs_first i (a ++ b), glyphs_first i a, glyphs-both a b)
+
+abbrev counts-told : Bool → Result (Unit {0}) Fault
+counts-told c = cond c (Ok tt) (Err (fault_at Nowhere F23))
+
+pub raised-both : (subrs glyphs : ℕ) (a b : List Item) → raised_check subrs glyphs (a ++ b) ≡ (raised_check subrs glyphs a >>= λ _. raised_check subrs glyphs b)
+raised-both subrs glyphs [] b = refl
+raised-both subrs glyphs (i ∷ a) b = by (is_raised_counted subrs glyphs i) (raised-both subrs glyphs a b) where
+  by : (c : Bool) → counts-told (list_all (is_raised_counted subrs glyphs) (a ++ b)) ≡ (counts-told (list_all (is_raised_counted subrs glyphs) a) >>= λ _. raised_check subrs glyphs b)
+      → counts-told (c && list_all (is_raised_counted subrs glyphs) (a ++ b)) ≡ (counts-told (c && list_all (is_raised_counted subrs glyphs) a) >>= λ _. raised_check subrs glyphs b)
+  by true rest = rest
+  by false rest = refl
+
+-- ---- lengths
+
+pub text-parts : (c : Charstrings) (o : List ℕ) (subrs glyphs : ℕ) (a b : List Item)
+    → length (kept_text c o (map (raised_item subrs glyphs) (a ++ b)))
+    ≡ length (kept_text c o (map (raised_item subrs glyphs) a)) + length (kept_text c o (map (raised_item subrs glyphs) b))
+text-parts c o subrs glyphs [] b = omega arith
+text-parts c o subrs glyphs (i ∷ a) b =
+    let one = kept_line c o (raised_item subrs glyphs i) in
+    omega (
+      arith,
+      text-parts c o subrs glyphs a b,
+      length-append one (kept_text c o (map (raised_item subrs glyphs) (a ++ b))),
+      length-append one (kept_text c o (map (raised_item subrs glyphs) a)),
+    )
+
+-- ---- bodies
+
+pub check-both : (a b : List Item) → bodies_check (a ++ b) ≡ (bodies_check a >>= λ _. bodies_check b)
+check-both [] b = refl
+check-both (i ∷ a) b = by (body_check i) (check-both a b) where
+  by : (r : Result (Unit {0}) Fault) → bodies_check (a ++ b) ≡ (bodies_check a >>= λ _. bodies_check b)
+      → (r >>= λ _. bodies_check (a ++ b)) ≡ ((r >>= λ _. bodies_check a) >>= λ _. bodies_check b)
+  by (Ok tt) rest = rest
+  by (Err fault) rest = refl
+
+sound-both : (a b : List Item) → bodies_check a ≡ Ok tt → bodies_check b ≡ Ok tt → bodies_check (a ++ b) ≡ Ok tt
+sound-both a b h k = check-both a b ∙ ap (λ r. r >>= λ _. bodies_check b) h ∙ k
+
+refused-first : (r : Refusal) (a b : List Item) → Refuses r (bodies_check a) → Refuses r (bodies_check (a ++ b))
+refused-first refusals.Memory a b h = tt
+refused-first (refusals.Fault fault) a b h = check-both a b ∙ ap (λ r. r >>= λ _. bodies_check b) h
+
+refused-later : (r : Refusal) (a b : List Item) → bodies_check a ≡ Ok tt → Refuses r (bodies_check b) → Refuses r (bodies_check (a ++ b))
+refused-later refusals.Memory a b sound h = tt
+refused-later (refusals.Fault fault) a b sound h = check-both a b ∙ ap (λ r. r >>= λ _. bodies_check b) sound ∙ h
+
+pub sound-parts : (a b c : List Item) → bodies_check a ≡ Ok tt → bodies_check b ≡ Ok tt → bodies_check c ≡ Ok tt → bodies_check (a ++ (b ++ c)) ≡ Ok tt
+sound-parts a b c h k l = sound-both a (b ++ c) h (sound-both b c k l)
+
+pub refused-before : (r : Refusal) (a b c : List Item) → Refuses r (bodies_check a) → Refuses r (bodies_check (a ++ (b ++ c)))
+refused-before r a b c h = refused-first r a (b ++ c) h
+
+pub refused-between : (r : Refusal) (a b c : List Item) → bodies_check a ≡ Ok tt → Refuses r (bodies_check b) → Refuses r (bodies_check (a ++ (b ++ c)))
+refused-between r a b c sound h = refused-later r a (b ++ c) sound (refused-first r b c h)
+
+pub refused-after : (r : Refusal) (a b c : List Item) → bodies_check a ≡ Ok tt → bodies_check b ≡ Ok tt → Refuses r (bodies_check c) → Refuses r (bodies_check (a ++ (b ++ c)))
+refused-after r a b c sound too h = refused-later r a (b ++ c) sound (refused-later r b c too h)
+
+pub bodies-both : (a b : List Item) (k : Key) → body_at (bodies (a ++ b)) k ≡ option_or (body_at (bodies a) k) (body_at (bodies b) k)
+bodies-both [] b (Subr n) = refl
+bodies-both [] b (Glyph g) = refl
+bodies-both (i ∷ a) b k =
+    first-body k i (a ++ b) ∙ ap (option_or (body_in k i)) (bodies-both a b k)
+    ∙ sym (or-assoc (body_in k i) (body_at (bodies a) k) (body_at (bodies b) k))
+    ∙ ap (λ r. option_or r (body_at (bodies b) k)) (sym (first-body k i a))
+
+-- the charstrings of one part after those of others
+pub kept-both : (front : ℕ) (a b : List Item) (old new : Charstrings) → Encrypt front (bodies a) old
+    → ((k : Key) → kept_at new k ≡ option_or (kept_at old k) (option_map (encrypted front k) (body_at (bodies b) k)))
+    → Encrypt front (bodies (a ++ b)) new
+kept-both front a b old new each added k =
+    added k ∙ ap (λ r. option_or r (option_map (encrypted front k) (body_at (bodies b) k))) (each k)
+    ∙ or-map (encrypted front k) (body_at (bodies a) k) (body_at (bodies b) k)
+    ∙ ap (option_map (encrypted front k)) (sym (bodies-both a b k))
+
+-- no charstrings are those of no items
+kept-none : (front : ℕ) (c : Charstrings) → ((k : Key) → kept_at c k ≡ None) → Encrypt front (bodies []) c
+kept-none front c h (Subr n) = h (Subr n)
+kept-none front c h (Glyph g) = h (Glyph g)
+
+-- what charstrings become where those of items are added
+abbrev pub Adds : ℕ → List Item → Charstrings → Charstrings → Type 0
+Adds front is old new = (k : Key) → kept_at new k ≡ option_or (kept_at old k) (option_map (encrypted front k) (body_at (bodies is) k))
+
+pub kept-parts : (front : ℕ) (a b c : List Item) (none first second third : Charstrings) → ((k : Key) → kept_at none k ≡ None)
+    → Adds front a none first → Adds front b first second → Adds front c second third → Encrypt front (bodies (a ++ (b ++ c))) third
+kept-parts front a b c none first second third empty one two three =
+    subst (λ is. Encrypt front (bodies is) third) (append_assoc a b c)
+    (kept-both front (a ++ b) c second third (kept-both front a b first second (kept-both front [] a none first (kept-none front none empty) one) two) three)
+
+-- ---- the faults of a file
+
+pub length_refused : (s : SourceParts) (r : Refusal) → Refuses r (length_check s) → Refuses r (file_check s)
+unfolding file_check
+length_refused s refusals.Memory h = tt
+length_refused s (refusals.Fault fault) h = ap (λ t. t >>= λ _. counts_check s.items) h
+
+pub counts_refused : (s : SourceParts) (r : Refusal) → length_check s ≡ Ok tt → Refuses r (counts_check s.items) → Refuses r (file_check s)
+unfolding file_check
+counts_refused s refusals.Memory fits h = tt
+counts_refused s (refusals.Fault fault) fits h = ap (λ t. t >>= λ _. counts_check s.items) fits ∙ h
+
+pub file_passed : (s : SourceParts) → length_check s ≡ Ok tt → counts_check s.items ≡ Ok tt → file_check s ≡ Ok tt
+unfolding file_check
+file_passed s fits h = ap (λ t. t >>= λ _. counts_check s.items) fits ∙ h
+
+-- ---- the source whose items they are, once their counts are raised
+
+module _ (is : List Item) (made : SourceParts) (whole : raised is ≡ made.items) where
+  lead-made : lead_among is ≡ lead made
+  lead-made = sym (ap first_lead (raised-leads (subrs_needed is) (glyphs_needed is) is)) ∙ ap lead_among whole
+
+  operator-made : operator_among is ≡ operator made
+  operator-made = sym (ap named (find-raised (subrs_needed is) (glyphs_needed is) is)) ∙ ap operator_among whole
+
+  pub check_made : bodies_check is ≡ bodies_check made.items
+  check_made = sym (raised-checks (subrs_needed is) (glyphs_needed is) is) ∙ ap bodies_check whole
+
+  body-made : (k : Key) → body_at (bodies is) k ≡ body_at (bodies made.items) k
+  body-made k = sym (raised-bodies (subrs_needed is) (glyphs_needed is) k is) ∙ ap (λ l. body_at (bodies l) k) whole
+
+  pub kept_made : (c : Charstrings) → bodies_check is ≡ Ok tt → Encrypt (lead_among is) (bodies is) c → AreEncrypted made c
+  kept_made c sound each = record {
+    sound = sym check_made ∙ sound;
+    each = λ k.
+        each k ∙ ap (λ n. option_map (encrypted n k) (body_at (bodies is) k)) lead-made
+        ∙ ap (option_map (encrypted (lead made) k)) (body-made k);
+  }
+
+  pub len_made : (c : Charstrings) (subrs glyphs len : ℕ) → IsWellFormed made → AreEncrypted made c → subrs ≡ subrs_needed is → glyphs ≡ glyphs_needed is
+      → len ≡ min (length (kept_text c (operator_among is) (map (raised_item subrs glyphs) is))) (2 ^ 64 - 1) → IsPrivateLen made len
+  len_made c subrs glyphs len well kept subrs_are glyphs_are len_is =
+      kept_len made c (operator_among is) (raised is) len well kept operator-made whole
+      (len_is ∙ ap (λ n. min (length (kept_text c (operator_among is) (map (raised_item n glyphs) is))) (2 ^ 64 - 1)) subrs_are
+      ∙ ap (λ n. min (length (kept_text c (operator_among is) (map (raised_item (subrs_needed is) n) is))) (2 ^ 64 - 1)) glyphs_are)
+
+  pub counts_made : (subrs glyphs : ℕ) → subrs ≡ subrs_needed is → glyphs ≡ glyphs_needed is → counts_check made.items ≡ raised_check subrs glyphs is
+  counts_made subrs glyphs subrs_are glyphs_are =
+      ap counts_check (sym whole)
+      ∙ ap (λ b. cond b (Ok tt) (Err (fault_at Nowhere F23))) (counted-all (subrs_needed is) (glyphs_needed is) is)
+      ∙ ap (λ n. raised_check n (glyphs_needed is) is) (sym subrs_are) ∙ ap (λ n. raised_check subrs n is) (sym glyphs_are)
+
+-- ---- edits that leave lenIV as it is
+
+lead-changed : {keys : List Key} (change : Change) (s : SourceParts) (c : Charstrings) → IsFor change s → IsEditOf keys s (made_after change s) c
+    → is_entry_changed change s ≡ true → lead (made_after change s) ≡ lead s
+lead-changed (changes.PutItem at item) s c fits edit entry = put_front s c at item fits.well fits.serves.fits.0 edit.kept fits.serves.fits.1 entry edit.sound
+lead-changed (changes.InsertItem at item) s c fits edit entry = insert_front s c at item fits.well fits.serves.fits edit.kept _ _ refl refl entry edit.well edit.sound
+lead-changed (changes.RemoveItem at) s c fits edit entry = left_front s c at fits.well fits.serves.fits edit.kept entry
+lead-changed (changes.PutClear lines) s c fits edit entry = refl
+lead-changed (changes.PutPair at pair) s c fits edit entry = refl
+lead-changed (changes.InsertPair at pair) s c fits edit entry = refl
+lead-changed (changes.RemovePair at) s c fits edit entry = refl
+
+pub lead_kept : (m : Made) (len : ℕ) (c : Charstrings) (entries : EditedEntries) → IsPrepared m len → AreEdits (source_of m) (made_of m) c entries → may_set_lead m ≡ false
+    → lead (made_of m) ≡ lead (source_of m)
+lead_kept (made.Edit source change) len c entries prepared edits off =
+    lead-changed change.now source.now c prepared.fits edits.edit (not-false (is_entry_changed change.now source.now) off)
+lead_kept (made.Batch source of_batch) len c entries prepared edits off =
+    eqb-true (lead of_batch.now) (lead source.now) (not-false (nat_eq (lead of_batch.now) (lead source.now)) off)

@@ -1,0 +1,8 @@
+use Rattle.std.proofs.Common.{◌≡◌, ◌^◌, ◌-◌, min, length, map, take}
+use Rattle.t1_parts.specs.Counts.{raised_item}
+use Rattle.t1_charstrings.specs.Lines.{kept_text}
+use Rattle.t1_charstrings.proofs.raising.raised_items_len.Given as goal
+
+-- the lines of the items so far
+abbrev pub invariant-loop-item : goal.invariant-loop-item
+invariant-loop-item l = l.total ≡ min (length (kept_text l.charstrings l.operator (map (raised_item l.needed.subrs l.needed.glyphs) (take l.item-index l.items)))) (2 ^ 64 - 1)

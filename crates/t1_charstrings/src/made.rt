@@ -1,0 +1,133 @@
+//! A source that an edit or a batch of edits makes.
+ghost use Rattle.std.specs.Prelude.{◌≡◌, ◌<◌, [], length};
+ghost use Rattle.t1_parts.specs.Counts.{raised};
+ghost use Rattle.t1_source.specs.Changes.{changed};
+ghost use Rattle.t1_charstrings.specs.Made.{is_entry_changed, made_items, made_of, may_set_lead, IsFor, IsMade};
+ghost use Rattle.t1_charstrings.specs.Ready.{is_entry};
+ghost use Rattle.t1_charstrings.specs.Sums.{item_at};
+
+use crate::made_items::MadeItems;
+use t1_frac::Bytes;
+use t1_source::{Change, Item, Source};
+
+/// How the source is known that edits make of another one.
+#[derive(Drop)]
+pub enum Made<'a> {
+    /// By the change that was prepared for one edit: the edited source isn't there yet.
+    Edit {
+        source: &'a Source,
+        change: &'a Change,
+    },
+    /// As a source of its own, which a batch of edits made.
+    Batch {
+        source: &'a Source,
+        made: &'a Source,
+    },
+}
+
+/// Whether an item is a Subr or a glyph.
+fn is_entry(item: &Item) -> bool
+    ensures { result ≡ is_entry item.now }
+{
+    matches!(item, Item::Subr(_, _, _) | Item::Glyph(_, _, _))
+}
+
+/// Whether the item at a place is a Subr or a glyph.
+fn is_entry_at(source: &Source, at: usize) -> bool
+    requires { at < length source.now.items }
+    ensures { result ≡ is_entry (item_at source.now.items at) }
+{
+    is_entry(&source.items()[at])
+}
+
+/// Whether a change leaves all items but Subrs and glyphs as they are.
+fn is_entry_changed(source: &Source, change: &Change) -> bool
+    requires { IsFor change.now source.now }
+    ensures { result ≡ is_entry_changed change.now source.now }
+{
+    match change {
+        Change::PutItem(_, item) => is_entry(item),
+        Change::InsertItem(_, item) => is_entry(item),
+        Change::RemoveItem(at) => is_entry_at(source, *at),
+        Change::PutClear(_) => true,
+        Change::PutPair(_, _) => true,
+        Change::InsertPair(_, _) => true,
+        Change::RemovePair(_) => true,
+    }
+}
+
+/// The clear lines after a change.
+fn clear_after<'a>(source: &'a Source, change: &'a Change) -> &'a [Bytes]
+    ensures { result.now ≡ (changed change.now source.now []).0.clear }
+{
+    match change {
+        Change::PutItem(_, _) => source.clear(),
+        Change::InsertItem(_, _) => source.clear(),
+        Change::RemoveItem(_) => source.clear(),
+        Change::PutClear(lines) => lines.as_slice(),
+        Change::PutPair(_, _) => source.clear(),
+        Change::InsertPair(_, _) => source.clear(),
+        Change::RemovePair(_) => source.clear(),
+    }
+}
+
+/// The items after a change, before their counts are raised.
+fn items_after<'a>(source: &'a Source, change: &'a Change) -> MadeItems<'a>
+    requires { IsFor change.now source.now }
+    ensures { raised (made_items result) ≡ (changed change.now source.now []).0.items }
+{
+    let items = source.items();
+    match change {
+        Change::PutItem(at, item) => MadeItems::put(items, *at, item),
+        Change::InsertItem(at, item) => MadeItems::inserted(items, *at, item),
+        Change::RemoveItem(at) => MadeItems::removed(items, *at),
+        Change::PutClear(_) => MadeItems::all(items),
+        Change::PutPair(_, _) => MadeItems::all(items),
+        Change::InsertPair(_, _) => MadeItems::all(items),
+        Change::RemovePair(_) => MadeItems::all(items),
+    }
+}
+
+impl<'a> Made<'a> {
+    /// Whether the edits may have set lenIV. Of one edit it is known by the kind of the item that it changes.
+    pub(crate) fn may_set_lead(&self) -> bool
+        requires { IsMade self.now }
+        ensures { result ≡ may_set_lead self.now }
+    {
+        match self {
+            Made::Edit { source, change } => !is_entry_changed(source, change),
+            Made::Batch { source, made } => made.lead() != source.lead(),
+        }
+    }
+
+    /// The lines of the clear part.
+    pub(crate) fn clear(&self) -> &[Bytes]
+        ensures { result.now ≡ (made_of self.now).clear }
+    {
+        match self {
+            Made::Edit { source, change } => clear_after(source, change),
+            Made::Batch { source: _, made } => made.clear(),
+        }
+    }
+
+    /// The items of the private part, before their counts are raised.
+    pub(crate) fn items(&self) -> MadeItems<'_>
+        requires { IsMade self.now }
+        ensures { raised (made_items result) ≡ (made_of self.now).items }
+    {
+        match self {
+            Made::Edit { source, change } => items_after(source, change),
+            Made::Batch { source: _, made } => MadeItems::all(made.items()),
+        }
+    }
+
+    /// The lines of the tail.
+    pub(crate) fn tail(&self) -> &[Bytes]
+        ensures { result.now ≡ (made_of self.now).tail }
+    {
+        match self {
+            Made::Edit { source, change: _ } => source.tail(),
+            Made::Batch { source: _, made } => made.tail(),
+        }
+    }
+}

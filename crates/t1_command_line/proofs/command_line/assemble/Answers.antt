@@ -1,0 +1,26 @@
+use Rattle.std.proofs.Common.{rules, ap₂, codes, ◌≡◌, ◌∙◌}
+use Rattle.std.proofs.lemmas.Result.{IfOk-weaker}
+use Rattle.clap.specs.Words.{App, app_of, new_app, with_rule}
+use Rattle.t1_command_line.specs.CommandLine.{block, pfa, output}
+use Rattle.t1_command_line.proofs.command_line.assemble.Goals as goal
+
+-- the command with its first arguments
+abbrev with_block : App
+with_block = with_rule (new_app (codes "assemble")) block
+
+abbrev with_pfa : App
+with_pfa = with_rule with_block pfa
+
+abbrev with_output : App
+with_output = with_rule with_pfa output
+
+pub returns : goal.returns
+returns c =
+    let named : app_of c.after_long_help.result ≡ new_app (codes "assemble") = search rules in
+    let first : app_of c.in_ok-arg.field-0 ≡ with_block =
+    c.in_ok-arg.ensures.shape c.in_ok-block.ensures.local ∙ ap₂ with_rule named c.in_ok-block.ensures.rule in
+    let second : app_of c.in_ok-arg-2.field-0 ≡ with_pfa =
+    c.in_ok-arg-2.ensures.shape c.pfa.ensures.local ∙ ap₂ with_rule first c.pfa.ensures.rule in
+    let third : app_of c.in_ok-arg-3.field-0 ≡ with_output =
+    c.in_ok-arg-3.ensures.shape c.output.ensures.local ∙ ap₂ with_rule second c.output.ensures.rule in
+    IfOk-weaker c.arg-4.result _ _ (λ _ h. h.shape c.source.ensures.local ∙ ap₂ with_rule third c.source.ensures.rule) c.arg-4.ensures

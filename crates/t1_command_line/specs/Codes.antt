@@ -1,0 +1,66 @@
+-- The codes that are explained, below their titles, and the lists of them in the helps.
+use Rattle.std.specs.Prelude.{◌≡◌, ℕ, List, [], ◌∷◌, ◌++◌, map, codes}
+use Rattle.t1_command_line.specs.declared.topic.Section.{Section}
+use Rattle.t1_command_line.specs.Topics.{list_text}
+
+-- profile: a section without its texts: its title, and the codes of its topics in their order
+abbrev pub outline_of : Section → List ℕ × List (List ℕ)
+outline_of section = (section.title.now, map (λ topic. topic.code.now) section.topics.now)
+
+-- profile: the faults of reading a source
+abbrev pub reading : List ℕ × List (List ℕ)
+reading = (
+  codes "Faults of reading a source",
+  codes "F1" ∷ codes "F2" ∷ codes "F3" ∷ codes "F4" ∷ codes "F5" ∷ codes "F6" ∷ codes "F7" ∷ codes "F8" ∷ codes "F9" ∷ codes "F10" ∷ codes "F11" ∷ [],
+)
+
+-- profile: the faults of reading a kerning file
+abbrev pub kerning : List ℕ × List (List ℕ)
+kerning = (codes "Faults of reading a kerning file", codes "F12" ∷ codes "F13" ∷ [])
+
+-- profile: the faults of a body, and of the PFB file
+abbrev pub bodies : List ℕ × List (List ℕ)
+bodies = (codes "Faults of a body, and of the PFB file", codes "F20" ∷ codes "F21" ∷ codes "F22" ∷ codes "F23" ∷ [])
+
+-- profile: the faults of running a glyph
+abbrev pub runs : List ℕ × List (List ℕ)
+runs = (
+  codes "Faults of running a glyph",
+  codes "F30" ∷ codes "F31" ∷ codes "F32" ∷ codes "F33" ∷ codes "F34" ∷ codes "F35" ∷ codes "F36" ∷ codes "F37" ∷ codes "F38" ∷ codes "F39" ∷ codes "F40" ∷ codes "F41" ∷ codes "F42" ∷ codes "F43" ∷ codes "F44" ∷ codes "F45" ∷ codes "F46" ∷ codes "F47" ∷ codes "F48" ∷ [],
+)
+
+-- profile: the rules of a session's commands
+abbrev pub rules : List ℕ × List (List ℕ)
+rules = (
+  codes "Rules of a session's commands",
+  codes "E1" ∷ codes "E2" ∷ codes "E3" ∷ codes "E4" ∷ codes "E5" ∷ codes "E6" ∷ codes "E7" ∷ codes "E8" ∷ codes "E9" ∷ codes "E10" ∷ codes "E11" ∷ codes "E12" ∷ [],
+)
+
+-- profile: the exit statuses
+abbrev pub statuses : List ℕ × List (List ℕ)
+statuses = (codes "Exit statuses", codes "0" ∷ codes "1" ∷ codes "2" ∷ codes "3" ∷ codes "4" ∷ [])
+
+-- profile: all of them, in the order in which they are listed
+abbrev pub of_program : List (List ℕ × List (List ℕ))
+of_program = reading ∷ kerning ∷ bodies ∷ runs ∷ rules ∷ statuses ∷ []
+
+-- profile: what assembling can answer
+abbrev pub of_assembling : List (List ℕ × List (List ℕ))
+of_assembling = reading ∷ bodies ∷ statuses ∷ []
+
+-- profile: what measuring and checking can answer
+abbrev pub of_measuring : List (List ℕ × List (List ℕ))
+of_measuring = reading ∷ kerning ∷ bodies ∷ runs ∷ statuses ∷ []
+
+-- profile: the text is the list of sections of these titles and codes
+pub record Lists (text : List ℕ) (outlines : List (List ℕ × List (List ℕ))) : Type 0 where
+  pub sections : List Section
+  pub titles : map outline_of sections ≡ outlines
+  pub list : text ≡ list_text sections
+
+-- profile: the text ends in such a list, after what it says of something else
+pub record EndsInList (text : List ℕ) (outlines : List (List ℕ × List (List ℕ))) : Type 0 where
+  pub front : List ℕ
+  pub last : List ℕ
+  pub whole : text ≡ front ++ last
+  pub lists : Lists last outlines

@@ -1,0 +1,68 @@
+-- What the words of the command line are read by.
+use Rattle.std.specs.Prelude.{ℕ, List, [], ◌∷◌, true, false, Some, codes}
+use Rattle.clap.specs.Words.{App, Rule, Shape, new_rule}
+use Rattle.clap.specs.Simple.{new_shape}
+use Rattle.clap.specs.declared.builder.action.ArgAction.TheVariants.{Set, SetTrue}
+
+-- profile: the source, which must be there
+abbrev pub source : Rule
+source = record (new_rule (codes "SOURCE")) { action = Some Set; required = true }
+
+-- profile: --kern FILE
+abbrev pub kern : Rule
+kern = record (new_rule (codes "kern")) { long = Some (codes "kern"); action = Some Set; value_names = 1 }
+
+-- profile: -o FILE, --output FILE
+abbrev pub output : Rule
+output =
+    record (new_rule (codes "output")) { short = Some 111; long = Some (codes "output"); action = Some Set; value_names = 1 }
+
+-- profile: -l N, --block N, which doesn't go with another argument
+abbrev pub block : Rule
+block =
+    record (new_rule (codes "block")) {
+      short = Some 108;
+      long = Some (codes "block");
+      action = Some Set;
+      value_names = 1;
+      is_free = false;
+    }
+
+-- profile: -a, --pfa
+abbrev pub pfa : Rule
+pfa = record (new_rule (codes "pfa")) { short = Some 97; long = Some (codes "pfa"); action = Some SetTrue }
+
+-- profile: what is to be explained
+abbrev pub code : Rule
+code = record (new_rule (codes "CODE")) { action = Some Set }
+
+-- profile: a command that takes these arguments
+abbrev pub taking : List ℕ → List Rule → Shape
+taking name rules = record (new_shape name) { rules = rules }
+
+abbrev pub assemble : Shape
+assemble = taking (codes "assemble") (block ∷ pfa ∷ output ∷ source ∷ [])
+
+abbrev pub measure : Shape
+measure = taking (codes "measure") (kern ∷ output ∷ source ∷ [])
+
+abbrev pub check : Shape
+check = taking (codes "check") (kern ∷ source ∷ [])
+
+abbrev pub session : Shape
+session = taking (codes "session") (kern ∷ source ∷ [])
+
+abbrev pub explain : Shape
+explain = taking (codes "explain") (code ∷ [])
+
+-- profile: the program, of which a command must be named
+abbrev pub program : App
+program =
+    record {
+      top = record (new_shape (codes "t1edit")) { is_leaf = false; has_version = true; subcommand_required = true };
+      subs = assemble ∷ measure ∷ check ∷ session ∷ explain ∷ [];
+    }
+
+-- profile: a command without commands of its own
+abbrev pub alone : Shape → App
+alone shape = record { top = shape; subs = [] }

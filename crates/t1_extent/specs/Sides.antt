@@ -1,0 +1,13 @@
+-- Extremes that have one denominator, by their numerators.
+use Rattle.std.specs.Prelude.{ℕ, ℤ}
+use Rattle.t1_frac.specs.Fraction.{Fraction, lowest}
+use Rattle.t1_extent.specs.declared.sides.Sides.{Sides}
+use Rattle.t1_extent.specs.Extremes.{Extremes}
+
+-- profile, fractions: a numerator over a denominator, in lowest terms
+abbrev pub over : ℕ → ℤ → Fraction
+over den num = lowest (record { num = num; den = den })
+
+-- profile: the extremes whose numerators over this denominator these are
+abbrev pub extremes_over : ℕ → Sides → Extremes
+extremes_over den s = record { left = over den s.left; bottom = over den s.bottom; right = over den s.right; top = over den s.top }

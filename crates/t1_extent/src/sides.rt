@@ -1,0 +1,76 @@
+//! Extremes that have one denominator, by their numerators.
+
+ghost use Rattle.std.specs.Prelude.{◌≡◌, ◌≤◌, ◌^◌};
+ghost use Rattle.std.specs.Int.RustNames.{unsigned_abs};
+
+use crate::exact::Exact;
+use crate::extent::Extent;
+
+/// The numerators of extremes, each over the same denominator.
+#[derive(Clone, Copy, Debug)]
+pub struct Sides {
+    pub(crate) left: i64,
+    pub(crate) bottom: i64,
+    pub(crate) right: i64,
+    pub(crate) top: i64,
+    ghost left_size: { unsigned_abs left ≤ 2 ^ 38 },
+    ghost bottom_size: { unsigned_abs bottom ≤ 2 ^ 38 },
+    ghost right_size: { unsigned_abs right ≤ 2 ^ 38 },
+    ghost top_size: { unsigned_abs top ≤ 2 ^ 38 },
+}
+
+impl Sides {
+    ghost use Rattle.std.specs.Prelude.{ℕ, ◌<◌, Some, option_map};
+    ghost use Rattle.t1_extent.specs.Exacts.{extremes_of, AreFine};
+    ghost use Rattle.t1_extent.specs.Extremes.{reaching as reaching_of, unite as unite_of};
+    ghost use Rattle.t1_extent.specs.Sides.{extremes_over};
+
+    /// The extremes of both.
+    #[tactic(auto, using(crate::proofs::Sums::lesser_over, crate::proofs::Sums::greater_over))]
+    pub(crate) fn reaching(&self, other: &Sides) -> Sides
+        ensures { (den : ℕ) → 0 < den → extremes_over den result ≡ reaching_of (extremes_over den self.now) (extremes_over den other.now) }
+    {
+        Sides {
+            left: self.left.min(other.left),
+            bottom: self.bottom.min(other.bottom),
+            right: self.right.max(other.right),
+            top: self.top.max(other.top),
+        }
+    }
+
+    /// The extremes of these and of others, if there are any.
+    pub(crate) fn united(&self, others: Option<Sides>) -> Sides
+        ensures { (den : ℕ) → 0 < den → Some (extremes_over den result) ≡ unite_of (option_map (extremes_over den) others) (Some (extremes_over den self.now)) }
+    {
+        match others {
+            None => *self,
+            Some(others) => others.reaching(self),
+        }
+    }
+
+    /// The extremes whose numerators over 1 these are.
+    pub(crate) fn over_one(&self) -> Extent
+        ensures value { extremes_of result ≡ extremes_over 1 self.now }
+        ensures fine { AreFine 1 result }
+    {
+        Extent {
+            left: Exact::over_one(self.left),
+            bottom: Exact::over_one(self.bottom),
+            right: Exact::over_one(self.right),
+            top: Exact::over_one(self.top),
+        }
+    }
+
+    /// The extremes whose numerators over 64^3 these are.
+    pub(crate) fn over_cube(&self) -> Extent
+        ensures value { extremes_of result ≡ extremes_over 262144 self.now }
+        ensures fine { AreFine (2 ^ 20) result }
+    {
+        Extent {
+            left: Exact::over_cube(self.left),
+            bottom: Exact::over_cube(self.bottom),
+            right: Exact::over_cube(self.right),
+            top: Exact::over_cube(self.top),
+        }
+    }
+}

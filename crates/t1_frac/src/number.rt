@@ -1,0 +1,93 @@
+//! Number words.
+ghost use Rattle.std.specs.Prelude.{◌≡◌, ◌+◌, ◌-◌, ◌*◌, ◌^◌, ◌≤◌, true, false, length, take, min, MatchOption};
+ghost use Rattle.std.specs.List.{list_all, prefix_len};
+ghost use Rattle.std.specs.Char.{is_ascii_digit};
+ghost use Rattle.t1_frac.specs.Numbers.{digits_of_word, decimal_value, is_number_word, number_word};
+
+/// A word without the minus that it may begin with.
+pub fn digits_of_word(word: &[u8]) -> &[u8]
+    ensures { result.now ≡ digits_of_word word.now }
+{
+    match word {
+        [b'-', digits @ ..] => digits,
+        _ => word,
+    }
+}
+
+/// Whether each byte is a decimal digit.
+pub fn are_digits(bytes: &[u8]) -> bool
+    ensures { result ≡ list_all is_ascii_digit bytes.now }
+{
+    bytes.iter().all(|byte| byte.is_ascii_digit())
+}
+
+/// Whether a word is a number word: an optional minus, and one digit or more.
+#[tactic(auto, unfolding(crate::specs::Numbers::is_number_word))]
+pub fn is_number_word(word: &[u8]) -> bool
+    ensures { result ≡ is_number_word word.now }
+{
+    let digits = digits_of_word(word);
+    !digits.is_empty() && are_digits(digits)
+}
+
+/// The number that goes on with this digit, up to 2^64 - 1.
+fn with_digit(value: u64, digit: u8) -> u64
+    requires { digit ≤ 9 }
+    ensures { result ≡ min (10 * value + digit) (2 ^ 64 - 1) }
+{
+    if value < 1 << 60 {
+        return value * 10 + u64::from(digit);
+    }
+    value.saturating_mul(10).saturating_add(u64::from(digit))
+}
+
+/// The number that the digits at the front of a text write, or 2^64 - 1 where it is more, and how many digits there
+/// are.
+pub fn leading_number(text: &[u8]) -> (u64, usize)
+    ensures within { result.1 ≤ length text.now }
+    ensures count { result.1 ≡ prefix_len is_ascii_digit text.now }
+    ensures value { result.0 ≡ min (decimal_value (take result.1 text.now)) (2 ^ 64 - 1) }
+{
+    let mut value: u64 = 0;
+    let mut count = 0;
+    for byte in text {
+        if !byte.is_ascii_digit() {
+            return (value, count);
+        }
+        value = with_digit(value, *byte - 48);
+        count += 1;
+    }
+    (value, count)
+}
+
+/// The number that digits write, or 2^64 - 1 where it is more; nothing where a byte is no digit.
+#[tactic(auto, using(crate::proofs::NumberLaws::digits_to_the_end, crate::proofs::NumberLaws::digits_end_early))]
+pub fn magnitude(digits: &[u8]) -> Option<u64>
+    ensures { MatchOption
+        result
+        (list_all is_ascii_digit digits.now ≡ false)
+        (λ value. (list_all is_ascii_digit digits.now ≡ true) × (value ≡ min (decimal_value digits.now) (2 ^ 64 - 1))) }
+{
+    let (value, count) = leading_number(digits);
+    if count < digits.len() {
+        return None;
+    }
+    Some(value)
+}
+
+/// The number of a number word; 2^63 - 1 where it doesn't fit 64 bits. None for any other word.
+#[tactic(auto, unfolding(crate::specs::Numbers::number_word, crate::specs::Numbers::is_number_word))]
+pub fn number_word(word: &[u8]) -> Option<i64>
+    ensures { result ≡ number_word word.now }
+{
+    let digits = digits_of_word(word);
+    if digits.is_empty() {
+        return None;
+    }
+    let magnitude = i128::from(magnitude(digits)?);
+    let number = match word {
+        [b'-', ..] => -magnitude,
+        _ => magnitude,
+    };
+    Some(i64::try_from(number).unwrap_or(i64::MAX))
+}

@@ -1,0 +1,158 @@
+use Rattle.std.proofs.Common.{◌≡◌, ◌∙◌, ap, refl, subst, sym, Ok}
+use Rattle.std.proofs.lemmas.Result.{err_from_is_err_and}
+use Rattle.t1_frac.specs.Outcome.{Refuses}
+use Rattle.t1_parts.specs.LenIV.{lead}
+use Rattle.t1_font.specs.Assembly.{file_check}
+use Rattle.t1_font.specs.Glyphs.{glyph_names}
+use Rattle.t1_font.specs.Runs.{counted}
+use Rattle.t1_cache.specs.Edited.{stale}
+use Rattle.t1_charstrings.specs.Made.{made_of as made_in}
+use Rattle.t1_charstrings.specs.Ready.{IsReadyLines}
+use Rattle.t1_rerun.specs.Changing.{AreChangesOf}
+use Rattle.t1_rerun.proofs.Judged.{file-refused}
+use Rattle.t1_rerun.proofs.Preparing.{as-self}
+use Rattle.t1_rerun.proofs.Reaching.{counts-same}
+use Rattle.t1_held.specs.Edits.{keys_of, made_of, source_of}
+use Rattle.t1_held.specs.Entries.{fresh_in, gone_keys}
+use Rattle.t1_held.proofs.CommitLaws.{edits_are, made_is, right_held, runs_are, source_by}
+use Rattle.t1_held.proofs.HeldLaws.{counts_none, prepared_by, right_well, still_held}
+use Rattle.t1_held.proofs.preparing.prepare_edits.Goals as goal
+
+pub prepare_lines-requires-clause-prepared : goal.prepare_lines-requires-clause-prepared
+prepare_lines-requires-clause-prepared c =
+    rw c.made-made.ensures (prepared_by c.args.edits c.args.held.now c.requires)
+
+pub prepare_lines-requires-clause-edits : goal.prepare_lines-requires-clause-edits
+prepare_lines-requires-clause-edits c =
+    let e = c.args.edits in
+    let s = source_of e in
+    let made = made_of e in
+    let held = c.args.held.now in
+    let changes = c.in_ok-changes.changes.items in
+    let are = c.in_ok-changes.ensures held c.requires in
+    let entries = c.in_ok-entries.ensures in
+    rw c.made-made.ensures (rw (source_by e, made_is e)
+    (edits_are s made changes held.charstrings c.in_ok-entries.entries (right_held e held c.requires).encrypted (right_well e held c.requires) are.compiled are.edited are.keys are.bodies
+    (λ k. entries.fresh k ∙ ap (λ l. fresh_in (lead c.source-source.result.now) l k) c.deref.ensures.value ∙ ap (λ x. fresh_in (lead x) changes k) c.source-source.ensures)
+    (entries.gone ∙ ap gone_keys c.deref.ensures.value)))
+
+pub returns-in_err-lines-clause-checked : goal.returns-in_err-lines-clause-checked
+returns-in_err-lines-clause-checked c =
+    let e = c.args.edits in
+    let s = source_of e in
+    let made = made_of e in
+    let held = c.args.held.now in
+    let is : made_in c.made-made.result ≡ made = ap made_in c.made-made.ensures ∙ made_is e in
+    let p = err_from_is_err_and c.from_residual-in_err-lines.result c.from_residual-in_err-lines.ensures.1 in
+    let r = c.in_err-lines.field-0.0 in
+    rw (p.1, p.2) (file-refused made r (subst (λ m. Refuses r (file_check m)) is c.in_err-lines.ensures.judged))
+
+pub returns-in_err-lines-clause-held : goal.returns-in_err-lines-clause-held
+returns-in_err-lines-clause-held c =
+    still_held c.args.held.now _ (as-self c.args.held.now.records) c.in_err-lines.ensures.same refl
+
+pub returns-in_err-lines-clause-counted : goal.returns-in_err-lines-clause-counted
+returns-in_err-lines-clause-counted c =
+    let e = c.args.edits in
+    let s = source_of e in
+    let made = made_of e in
+    let held = c.args.held.now in
+    let is : made_in c.made-made.result ≡ made = ap made_in c.made-made.ensures ∙ made_is e in
+    let p = err_from_is_err_and c.from_residual-in_err-lines.result c.from_residual-in_err-lines.ensures.1 in
+    let r = c.in_err-lines.field-0.0 in
+    counts_none (stale s (keys_of e) made) (file_check made) c.args.meter.now c.from_residual-in_err-lines.result r (rw (p.1, p.2) refl)
+    (subst (λ m. Refuses r (file_check m)) is c.in_err-lines.ensures.judged)
+
+pub prepare_records-requires : goal.prepare_records-requires
+prepare_records-requires c =
+    let e = c.args.edits in
+    let s = source_of e in
+    let made = made_of e in
+    let held = c.args.held.now in
+    let is : made_in c.made-made.result ≡ made = ap made_in c.made-made.ensures ∙ made_is e in
+    let changes = c.in_ok-changes.changes.items in
+    let are = c.in_ok-changes.ensures held c.requires in
+    let file : file_check made ≡ Ok tt = subst (λ m. file_check m ≡ Ok tt) is c.in_ok-lines.ensures.judged in
+    let of = subst (λ m. AreChangesOf changes s made held.records (glyph_names m.items)) (sym is) (are.prepared file) in
+    (s, (made, of))
+
+pub returns-in_err-records-clause-checked : goal.returns-in_err-records-clause-checked
+returns-in_err-records-clause-checked c =
+    let e = c.args.edits in
+    let s = source_of e in
+    let made = made_of e in
+    let held = c.args.held.now in
+    let is : made_in c.made-made.result ≡ made = ap made_in c.made-made.ensures ∙ made_is e in
+    let changes = c.in_ok-changes.changes.items in
+    let are = c.in_ok-changes.ensures held c.requires in
+    let file : file_check made ≡ Ok tt = subst (λ m. file_check m ≡ Ok tt) is c.in_ok-lines.ensures.judged in
+    let of = subst (λ m. AreChangesOf changes s made held.records (glyph_names m.items)) (sym is) (are.prepared file) in
+    let p = err_from_is_err_and c.from_residual-in_err-records.result c.from_residual-in_err-records.ensures.1 in
+    rw (p.1, p.2) (c.in_err-records.ensures.checked s made of)
+
+pub returns-in_err-records-clause-held : goal.returns-in_err-records-clause-held
+returns-in_err-records-clause-held c =
+    still_held c.args.held.now _ c.in_err-records.ensures.same c.in_ok-lines.ensures.same refl
+
+pub returns-in_err-records-clause-counted : goal.returns-in_err-records-clause-counted
+returns-in_err-records-clause-counted c =
+    let e = c.args.edits in
+    let s = source_of e in
+    let made = made_of e in
+    let held = c.args.held.now in
+    let is : made_in c.made-made.result ≡ made = ap made_in c.made-made.ensures ∙ made_is e in
+    let changes = c.in_ok-changes.changes.items in
+    let are = c.in_ok-changes.ensures held c.requires in
+    let file : file_check made ≡ Ok tt = subst (λ m. file_check m ≡ Ok tt) is c.in_ok-lines.ensures.judged in
+    let of = subst (λ m. AreChangesOf changes s made held.records (glyph_names m.items)) (sym is) (are.prepared file) in
+    let p = err_from_is_err_and c.from_residual-in_err-records.result c.from_residual-in_err-records.ensures.1 in
+    counts-same _ _ c.args.meter.now c.prepare_records.new.meter c.prepare_records.result c.from_residual-in_err-records.result
+    c.in_err-records.field-0.0 p.0 c.in_err-records.was p.1 p.2 (runs_are s made (keys_of e) held changes are file) (c.prepare_records.ensures.counted s made of)
+
+pub returns-clause-checked : goal.returns-clause-checked
+returns-clause-checked c =
+    let e = c.args.edits in
+    let s = source_of e in
+    let made = made_of e in
+    let held = c.args.held.now in
+    let is : made_in c.made-made.result ≡ made = ap made_in c.made-made.ensures ∙ made_is e in
+    let changes = c.in_ok-changes.changes.items in
+    let are = c.in_ok-changes.ensures held c.requires in
+    let file : file_check made ≡ Ok tt = subst (λ m. file_check m ≡ Ok tt) is c.in_ok-lines.ensures.judged in
+    let of = subst (λ m. AreChangesOf changes s made held.records (glyph_names m.items)) (sym is) (are.prepared file) in
+    c.in_ok-records.ensures.checked s made of
+
+pub returns-clause-ready : goal.returns-clause-ready
+returns-clause-ready c =
+    let e = c.args.edits in
+    let s = source_of e in
+    let made = made_of e in
+    let held = c.args.held.now in
+    let is : made_in c.made-made.result ≡ made = ap made_in c.made-made.ensures ∙ made_is e in
+    let changes = c.in_ok-changes.changes.items in
+    let are = c.in_ok-changes.ensures held c.requires in
+    let file : file_check made ≡ Ok tt = subst (λ m. file_check m ≡ Ok tt) is c.in_ok-lines.ensures.judged in
+    let of = subst (λ m. AreChangesOf changes s made held.records (glyph_names m.items)) (sym is) (are.prepared file) in
+    record {
+      changes = changes;
+      same = are.same;
+      records = c.in_ok-records.ensures.ready s made of;
+      lines = subst (λ m. IsReadyLines m c.prepare_lines.new.charstrings c.in_ok-lines.lines) is c.in_ok-lines.ensures.ready;
+    }
+
+pub returns-clause-held : goal.returns-clause-held
+returns-clause-held c =
+    still_held c.args.held.now _ c.in_ok-records.ensures.same c.in_ok-lines.ensures.same refl
+
+pub returns-clause-counted : goal.returns-clause-counted
+returns-clause-counted c =
+    let e = c.args.edits in
+    let s = source_of e in
+    let made = made_of e in
+    let held = c.args.held.now in
+    let is : made_in c.made-made.result ≡ made = ap made_in c.made-made.ensures ∙ made_is e in
+    let changes = c.in_ok-changes.changes.items in
+    let are = c.in_ok-changes.ensures held c.requires in
+    let file : file_check made ≡ Ok tt = subst (λ m. file_check m ≡ Ok tt) is c.in_ok-lines.ensures.judged in
+    let of = subst (λ m. AreChangesOf changes s made held.records (glyph_names m.items)) (sym is) (are.prepared file) in
+    subst (λ n. c.prepare_records.new.meter ≡ counted c.args.meter.now n) (runs_are s made (keys_of e) held changes are file) (c.in_ok-records.ensures.counted s made of)

@@ -1,0 +1,69 @@
+-- Edits of a source, and what they make of it.
+use Rattle.std.specs.Prelude.{◌≡◌, List, Ok, map}
+use Rattle.std.specs.List.{list_any, AllByRecursion}
+use Rattle.t1_parts.specs.SourceParts.{SourceParts}
+use Rattle.t1_source.specs.declared.edit.Edit.{Edit}
+use Rattle.t1_source.specs.declared.editing.change.Change.{Change}
+use Rattle.t1_pairs.specs.declared.pairs.Pair.{Pair}
+use Rattle.t1_source.specs.Changes.{changed, Serves}
+use Rattle.t1_source.specs.Editing.{edited}
+use Rattle.t1_source.specs.WellFormed.{IsWellFormed}
+use Rattle.t1_run.specs.Run.{Key}
+use Rattle.t1_font.specs.Assembly.{file_check}
+use Rattle.t1_font.specs.Bodies.{bodies_check}
+use Rattle.t1_font.specs.Glyphs.{glyph_names}
+use Rattle.t1_charstrings.specs.declared.made.Made.{Made}
+use Rattle.t1_charstrings.specs.declared.made.Made.TheVariants as ways
+use Rattle.t1_cache.specs.Edited.{named, IsEditedAt}
+use Rattle.t1_cache.specs.Users.{key_eq}
+use Rattle.t1_rerun.specs.declared.settling.EntryChange.{EntryChange}
+use Rattle.t1_rerun.specs.Changing.{AreChangesOf}
+use Rattle.t1_rerun.specs.Settled.{changed_keys, AreDistinctKeys, HasBody}
+use Rattle.t1_batch.specs.Batch.{entry_edit, keys, IsEditedBy}
+use Rattle.t1_held.specs.declared.edits.Edits.{Edits}
+use Rattle.t1_held.specs.declared.edits.Edits.TheVariants as edits
+use Rattle.t1_held.specs.declared.held.Held.{Held}
+use Rattle.t1_held.specs.Held.{IsHeld}
+
+-- profile, edits: the source that is edited
+abbrev pub source_of : Edits → SourceParts
+source_of (edits.One source pairs edit change) = source.now
+source_of (edits.Batch source made entries) = source.now
+
+-- profile, edits: the source that the edits make
+abbrev pub made_of : Edits → SourceParts
+made_of (edits.One source pairs edit change) = (changed change.now source.now pairs.now).0
+made_of (edits.Batch source made entries) = made.now
+
+-- profile, edits: how it is known
+abbrev pub made_by : Edits → Made
+made_by (edits.One source pairs edit change) = ways.Edit source change
+made_by (edits.Batch source made entries) = ways.Batch source made
+
+-- profile, edits: the keys of the entries that the edits name
+abbrev pub keys_of : Edits → List Key
+keys_of (edits.One source pairs edit change) = named edit.now
+keys_of (edits.Batch source made entries) = keys (map entry_edit entries.items)
+
+-- profile, edits: an edit that keeps the edit rules, and the change of the source and its pairs that was prepared for it
+pub record IsPreparedEdit (s : SourceParts) (k : List Pair) (edit : Edit) (change : Change) (h : Held) : Type 0 where
+  pub held : IsHeld s h
+  pub well : IsWellFormed s
+  pub serves : Serves change s k
+  pub made : edited s k edit ≡ Ok (changed change s k)
+
+-- profile, edits: the edits keep the edit rules and make this source of one of which this is held: one edit, and
+-- the edits of a batch one after another
+abbrev pub AreRight : Edits → Held → Type 0
+AreRight (edits.One source pairs edit change) h = IsPreparedEdit source.now pairs.now edit.now change.now h
+AreRight (edits.Batch source made entries) h = IsHeld source.now h × IsEditedBy (map entry_edit entries.items) source.now made.now
+
+-- profile, edits: what edits at these keys change: each entry once, with the body that it has after them; the bodies of the
+-- edited source have no fault
+pub record AreChanges (s made : SourceParts) (ks : List Key) (h : Held) (changes : List EntryChange) : Type 0 where
+  pub same : (k : Key) → list_any (key_eq k) (changed_keys changes) ≡ list_any (key_eq k) ks
+  pub edited : IsEditedAt (changed_keys changes) s made
+  pub keys : AreDistinctKeys (changed_keys changes)
+  pub bodies : AllByRecursion (HasBody made) changes
+  pub compiled : bodies_check made.items ≡ Ok tt
+  pub prepared : file_check made ≡ Ok tt → AreChangesOf changes s made h.records (glyph_names made.items)

@@ -1,0 +1,177 @@
+//! A session with pairs, opened and edited by its public calls. Each is tried again where memory ran out, an edit by the one
+//! that came back.
+
+ghost use Rattle.std.specs.Prelude.{IfOk};
+ghost use Rattle.t1_commands.specs.declared.command.Command.TheVariants as commands;
+ghost use Rattle.t1_session.specs.Outcomes.{Takes};
+ghost use Rattle.t1_runs.specs.Steps.{command_of};
+
+use crate::script::{Step, step_of};
+use crate::stop::Stop;
+use crate::trying::{WANTED, put_text};
+use std::alloc::Global;
+use std::io::Write;
+use t1_code::{Counted, OutError};
+use t1_commands::{Answer, Print, answer_of, put_answer};
+use t1_frac::Refusal;
+use t1_pairs::read_pairs;
+use t1_session::Session;
+use t1_source::{Cause, Edit, read_source};
+use t1_text::cut_lines;
+
+/// The prints of a session.
+const PRINTS: [(&str, Print); 7] = [
+    ("source", Print::Source),
+    ("kern", Print::Kern),
+    ("pfb", Print::Pfb),
+    ("pfb 40", Print::Blocks(40)),
+    ("pfa", Print::Pfa),
+    ("afm", Print::Afm),
+    ("uses", Print::Uses),
+];
+
+/// Writes a print by its public call, in blocks of 40 bytes where it is in blocks.
+fn put_print<W: Write>(
+    session: &Session,
+    print: Print,
+    out: &mut Counted<W>,
+) -> Result<(), OutError> {
+    match print {
+        Print::Source => session.print_source(out),
+        Print::Kern => session.print_kern(out),
+        Print::Pfb => session.print_pfb(out),
+        Print::Blocks(_) => session.print_pfb_blocks(40, out),
+        Print::Pfa => session.print_pfa(out),
+        Print::Afm => session.print_afm(out),
+        Print::Uses => session.print_uses(out),
+    }
+}
+
+/// The text of a print. In memory a write fails for want of it alone.
+fn print_of(alloc: Global, session: &Session, print: Print) -> Result<Vec<u8>, Stop> {
+    let mut out = Counted::new(Vec::new(alloc));
+    match put_print(session, print, &mut out) {
+        Ok(()) => Ok(out.into_inner()),
+        Err(OutError::Fault(_)) => Err(Stop::Fault),
+        Err(OutError::Write | OutError::Memory) => Err(Stop::Memory),
+    }
+}
+
+/// Writes all prints of a session.
+fn put_prints<W: Write>(alloc: Global, session: &Session, out: &mut W) -> Result<(), Stop> {
+    for (name, print) in &PRINTS {
+        put_text(name, &print_of(alloc, session, *print)?, out)?;
+    }
+    Ok(())
+}
+
+/// The session of the bytes of a source and of a kerning file that are read, or why it isn't opened.
+fn opened(alloc: Global, source: &[u8], pairs: &[u8]) -> Result<Result<Session, Refusal>, Refusal> {
+    let source = read_source(alloc, source)?;
+    let pairs = read_pairs(alloc, pairs)?;
+    Ok(Session::open(alloc, source, pairs))
+}
+
+/// The same, read and opened again where memory ran out in the opening.
+fn session_of<W: Write>(
+    alloc: Global,
+    source: &[u8],
+    pairs: &[u8],
+    out: &mut W,
+) -> Result<Session, Stop> {
+    match opened(alloc, source, pairs)? {
+        Err(Refusal::Memory) => {
+            out.write_all(WANTED)?;
+            Ok(opened(alloc, source, pairs)??)
+        }
+        opened => Ok(opened?),
+    }
+}
+
+/// Takes an edit, or says why it was refused.
+fn taken(session: &mut Session, edit: Edit) -> Result<(), Cause>
+    ensures { Takes session.old.state (commands.Edit edit) result session.new.state }
+{
+    match session.try_apply(edit) {
+        Ok(()) => Ok(()),
+        Err((cause, _)) => Err(cause),
+    }
+}
+
+/// The same. Where memory ran out all is printed, and the edit that came back is tried again.
+fn edited<W: Write>(
+    alloc: Global,
+    session: &mut Session,
+    edit: Edit,
+    out: &mut W,
+) -> Result<Result<(), Cause>, Stop>
+    ensures { IfOk result (λ taken. Takes session.old.state (commands.Edit edit) taken session.new.state) }
+{
+    match session.try_apply(edit) {
+        Err((Cause::Memory, edit)) => {
+            out.write_all(WANTED)?;
+            put_prints(alloc, session, out)?;
+            Ok(taken(session, edit))
+        }
+        Err((cause, _)) => Ok(Err(cause)),
+        Ok(()) => Ok(Ok(())),
+    }
+}
+
+/// Performs a step, an edit as above.
+fn performed<W: Write>(
+    alloc: Global,
+    session: &mut Session,
+    step: Step,
+    out: &mut W,
+) -> Result<Result<(), Cause>, Stop>
+    ensures { IfOk result (λ taken. Takes session.old.state (command_of step) taken session.new.state) }
+{
+    match step {
+        Step::Edit(edit) => edited(alloc, session, edit, out),
+        Step::Begin => Ok(session.begin()),
+        Step::Commit => Ok(session.commit()),
+        Step::Abort => Ok(session.abort()),
+    }
+}
+
+/// The text of an answer.
+fn text_of(alloc: Global, answer: &Answer) -> Result<Vec<u8>, Stop> {
+    let mut out = Counted::new(Vec::new(alloc));
+    match put_answer(&mut out, answer) {
+        Ok(()) => Ok(out.into_inner()),
+        Err(_) => Err(Stop::Memory),
+    }
+}
+
+/// Performs the step of a line, and writes what a session answers to it, and all prints.
+fn try_step<W: Write>(
+    alloc: Global,
+    session: &mut Session,
+    line: &[u8],
+    out: &mut W,
+) -> Result<(), Stop> {
+    let Some(step) = step_of(alloc, line)? else {
+        return Err(Stop::NoStep);
+    };
+    let answer = answer_of(performed(alloc, session, step, out)?)?;
+    out.write_all(&text_of(alloc, &answer)?)?;
+    put_prints(alloc, session, out)
+}
+
+/// Opens a session on a source and its pairs, performs the steps of a script, and writes all prints after the opening and
+/// after each step, behind its answer.
+pub fn try_editing<W: Write>(
+    alloc: Global,
+    source: &[u8],
+    pairs: &[u8],
+    script: &[u8],
+    out: &mut W,
+) -> Result<(), Stop> {
+    let mut session = session_of(alloc, source, pairs, out)?;
+    put_prints(alloc, &session, out)?;
+    for line in &cut_lines(alloc, script)? {
+        try_step(alloc, &mut session, line.as_slice(), out)?;
+    }
+    Ok(())
+}

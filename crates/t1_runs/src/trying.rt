@@ -1,0 +1,87 @@
+//! Public calls by themselves: reading a source, and the run of a glyph. Each is tried again where memory ran out.
+
+use crate::stop::Stop;
+use std::alloc::Global;
+use std::io::Write;
+use t1_font::checked_bodies;
+use t1_frac::Refusal;
+use t1_run::{Bodies, Meter, Plain, Run, run};
+use t1_source::{Source, read_source};
+
+/// The line that says that a call met want of memory.
+pub const WANTED: &[u8] = b"wanted memory\n";
+
+/// Writes a text behind its name and its length, and a line end.
+pub fn put_text<W: Write>(name: &str, text: &[u8], out: &mut W) -> Result<(), Stop> {
+    let length = text.len();
+    write!(out, "{name} {length}\n")?;
+    out.write_all(text)?;
+    out.write_all(b"\n")?;
+    Ok(())
+}
+
+/// The source of some bytes, read again where memory ran out.
+fn source_of<W: Write>(alloc: Global, bytes: &[u8], out: &mut W) -> Result<Source, Stop> {
+    match read_source(alloc, bytes) {
+        Err(Refusal::Memory) => {
+            out.write_all(WANTED)?;
+            Ok(read_source(alloc, bytes)?)
+        }
+        read => Ok(read?),
+    }
+}
+
+/// Reads a source, and writes its text.
+pub fn try_reading<W: Write>(alloc: Global, bytes: &[u8], out: &mut W) -> Result<(), Stop> {
+    let source = source_of(alloc, bytes, out)?;
+    put_text("source", &source.text()?, out)
+}
+
+/// The run of a glyph, made again where memory ran out.
+fn run_of<W: Write>(
+    alloc: Global,
+    bodies: &Plain,
+    name: &[u8],
+    meter: &mut Meter,
+    out: &mut W,
+) -> Result<Run, Stop> {
+    if bodies.glyph(name).is_none() {
+        return Err(Stop::NoGlyph);
+    }
+    match run(alloc, bodies, name, meter) {
+        Err(Refusal::Memory) => {
+            out.write_all(WANTED)?;
+            Ok(run(alloc, bodies, name, meter)?)
+        }
+        made => Ok(made?),
+    }
+}
+
+/// Writes what a run drew.
+fn put_run<W: Write>(run: &Run, out: &mut W) -> Result<(), Stop> {
+    let (width, bearing) = (run.width(), run.side_bearing());
+    write!(out, "width {width:?}, bearing {bearing:?}\n")?;
+    for segment in run.segments() {
+        write!(out, "{segment:?}\n")?;
+    }
+    let (composite, entered, steps) = (run.composite(), run.entered(), run.steps());
+    write!(out, "{composite:?}, Subrs {entered:?}, {steps} steps\n")?;
+    Ok(())
+}
+
+/// Runs a glyph of a source, and writes what it drew and how many runs were made.
+pub fn try_running<W: Write>(
+    alloc: Global,
+    bytes: &[u8],
+    name: &[u8],
+    out: &mut W,
+) -> Result<(), Stop> {
+    let source = read_source(alloc, bytes)?;
+    let bodies = checked_bodies(alloc, &source)?;
+    let mut meter = Meter::new();
+    let run = run_of(alloc, &bodies, name, &mut meter, out)?;
+    put_run(&run, out)?;
+    let runs = meter.count();
+    write!(out, "{runs} runs\n")?;
+    Ok(())
+}
