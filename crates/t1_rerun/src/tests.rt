@@ -1,6 +1,7 @@
 //! The records of a font of three glyphs, with memory that doesn't run out.
-ghost use Rattle.std.specs.Prelude.{IfOk};
+ghost use Rattle.std.specs.Prelude.{◌≡◌, true, IfOk};
 ghost use Rattle.t1_source.specs.WellFormed.{IsWellFormed};
+ghost use Rattle.t1_cache.specs.Kept.{keep_traces};
 ghost use Rattle.t1_rerun.specs.Renewing.{IsEdited};
 
 use super::*;
@@ -54,9 +55,12 @@ pub(crate) fn three_source(alloc: Global) -> Result<Source, Fail>
 }
 
 /// The records of the three glyphs, in the order Aacute, A, acute.
-pub(crate) fn three(alloc: Global, meter: &mut Meter) -> Result<Records, Fail> {
+pub(crate) fn three(alloc: Global, meter: &mut Meter) -> Result<Records, Fail>
+    ensures { IfOk result (λ records. keep_traces records ≡ true) }
+{
     let source = read_source(alloc, THREE.as_bytes())?;
-    Ok(opened_records(alloc, &source, meter)?)
+    let records = opened_records(alloc, &source, meter)?;
+    Ok(records)
 }
 
 /// Whether these are the users, in this order.
@@ -131,9 +135,9 @@ fn measures_records(rt: HostRuntime) -> Result<(), Fail> {
 
 /// How many glyphs are run again where Subr 4 is edited, and how many runs are counted with the first three.
 fn reruns(alloc: Global) -> Result<(usize, u64), Fail> {
-    let source = read_source(alloc, THREE.as_bytes())?;
+    let source = three_source(alloc)?;
     let mut meter = Meter::new();
-    let records = opened_records(alloc, &source, &mut meter)?;
+    let records = three(alloc, &mut meter)?;
     let edits = [Named::Subr(4)];
     let renewal = rerun(alloc, &records, &records, &source, &edits, &mut meter)?;
     Ok((renewal.reruns.len(), meter.count()))

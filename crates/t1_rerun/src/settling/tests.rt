@@ -1,6 +1,7 @@
 //! Records of a Subr and of three glyphs, with memory that doesn't run out.
-ghost use Rattle.std.specs.Prelude.{◌≡◌, [], IfOk};
+ghost use Rattle.std.specs.Prelude.{◌≡◌, [], true, IfOk};
 ghost use Rattle.t1_run.specs.Run.{Glyph};
+ghost use Rattle.t1_cache.specs.Kept.{keep_traces};
 ghost use Rattle.t1_cache.specs.Users.{key_of};
 ghost use Rattle.t1_rerun.specs.Settled.{changed_keys, AreDistinctKeys};
 
@@ -205,7 +206,9 @@ fn renewal_of_three(
     records: &Records,
     changes: &[EntryChange],
     meter: &mut Meter,
-) -> Result<Renewal, Fail> {
+) -> Result<Renewal, Fail>
+    requires { keep_traces records.now ≡ true }
+{
     let source = three_source(alloc)?;
     let bodies = edited_bodies(alloc, records, changes)?;
     let named = [
