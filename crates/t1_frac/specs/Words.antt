@@ -1,10 +1,10 @@
--- Blanks and words of a line.
+-- Blanks and words of a text.
 use Rattle.std.specs.Prelude.{ℕ, Bool, false, not, ◌||◌, ◌==◌, if◌then◌else◌, List, [], ◌∷◌, drop}
 use Rattle.std.specs.List.{onto_first, prefix_len}
 
--- profile, lines: blanks are the bytes 0, 9, 12 and 32
+-- PostScript Language Reference, white space: the bytes 0, 9, 10, 12, 13 and 32; a line has no 10 and no 13
 abbrev pub is_blank : ℕ → Bool
-is_blank c = c == 0 || c == 9 || c == 12 || c == 32
+is_blank c = c == 0 || c == 9 || c == 10 || c == 12 || c == 13 || c == 32
 
 -- profile, lines: without the blanks at the front
 abbrev pub trimmed_front : List ℕ → List ℕ

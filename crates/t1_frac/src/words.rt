@@ -48,11 +48,11 @@ impl Words {
     }
 }
 
-/// Whether a byte is a blank: 0, a tab, a form feed or a space.
+/// Whether a byte is a blank: 0, a tab, a line feed, a form feed, a carriage return or a space.
 pub fn is_blank(byte: u8) -> bool
     ensures { result ≡ is_blank byte }
 {
-    matches!(byte, 0 | 9 | 12 | 32)
+    matches!(byte, 0 | 9 | 10 | 12 | 13 | 32)
 }
 
 /// How many blanks stand at the front.

@@ -1,3 +1,5 @@
+pub mod CutLaws
+pub mod EndLaws
 pub mod LineLaws
 pub mod NumberLaws
 pub mod PlaceLaws

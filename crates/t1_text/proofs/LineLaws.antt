@@ -17,22 +17,26 @@ stays c = not (is_line_end c)
 pub longer : (c : ℕ) (rest : List ℕ) → (c == 13) ≡ false → (c == 10) ≡ false → lines (c ∷ rest) ≡ onto_first c (lines rest)
 longer c rest not_cr not_lf = rw (not_cr, not_lf) refl
 
-cr_lf : (c : ℕ) (rest : List ℕ) → (c == 13) ≡ true → begins_with 10 rest ≡ true → lines (c ∷ rest) ≡ [] ∷ lines (drop 1 rest)
+pub cr_lf : (c : ℕ) (rest : List ℕ) → (c == 13) ≡ true → begins_with 10 rest ≡ true → lines (c ∷ rest) ≡ [] ∷ lines (drop 1 rest)
 cr_lf c [] is_cr lf = cc
 cr_lf c (d ∷ rest) is_cr lf =
     let is_lf : d ≡ 10 = sym (eqb-true 10 d lf) in
     let ends : (d == 13) ≡ false = rw is_lf refl in
     rw (is_cr, lf, ends, eq-eqb d 10 is_lf) refl
 
-cr_alone : (c : ℕ) (rest : List ℕ) → (c == 13) ≡ true → begins_with 10 rest ≡ false → lines (c ∷ rest) ≡ [] ∷ lines rest
+pub cr_alone : (c : ℕ) (rest : List ℕ) → (c == 13) ≡ true → begins_with 10 rest ≡ false → lines (c ∷ rest) ≡ [] ∷ lines rest
 cr_alone c rest is_cr lf = rw (is_cr, lf) refl
 
-lf_ends : (c : ℕ) (rest : List ℕ) → (c == 13) ≡ false → (c == 10) ≡ true → lines (c ∷ rest) ≡ [] ∷ lines rest
+pub lf_ends : (c : ℕ) (rest : List ℕ) → (c == 13) ≡ false → (c == 10) ≡ true → lines (c ∷ rest) ≡ [] ∷ lines rest
 lf_ends c rest not_cr is_lf = rw (not_cr, is_lf) refl
+
+-- the bytes after the first line and its end
+abbrev pub after_line : List ℕ → List ℕ
+after_line bytes = after_end (drop (line_len bytes) bytes)
 
 -- the lines of bytes are the first one, and the lines after its end
 abbrev pub FirstLine : List ℕ → Type 0
-FirstLine bytes = lines bytes ≡ take (line_len bytes) bytes ∷ lines (after_end (drop (line_len bytes) bytes))
+FirstLine bytes = lines bytes ≡ take (line_len bytes) bytes ∷ lines (after_line bytes)
 
 or_parts : (x y : Bool) → (x || y) ≡ false → (x ≡ false) × (y ≡ false)
 or_parts true y h = cc

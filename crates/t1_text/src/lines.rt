@@ -1,69 +1,17 @@
 //! Cutting a text into lines.
 
-ghost use Rattle.std.specs.Prelude.{◌≡◌, ◌<◌, ◌≤◌, ◌-◌, ◌∷◌, length, take, drop, IfOk, reverse};
+ghost use Rattle.std.specs.Prelude.{◌≡◌, ◌<◌, ◌≤◌, ◌-◌, ◌+◌, ℕ, ◌∷◌, length, take, drop, IfOk, reverse};
 ghost use Rattle.std.specs.List.{prefix_len, position_or_len};
 ghost use Rattle.t1_frac.specs.declared.fault.Place.TheVariants as places;
 ghost use Rattle.t1_frac.specs.declared.fault.Refusal.TheVariants as refusals;
 ghost use Rattle.t1_frac.specs.Outcome.{fault_at};
 ghost use Rattle.t1_frac.specs.Words.{is_blank};
 ghost use Rattle.t1_text.specs.Delimiters.{is_safe};
-ghost use Rattle.t1_text.specs.Lines.{lines, is_line_end, after_end, trimmed};
+ghost use Rattle.t1_text.specs.Lines.{lines, line_ends, is_line_end, after_end, trimmed};
 
 use memchr::{memchr2, memchr3};
 use std::alloc::{AllocError, Global};
-use std::marker::Model;
 use t1_frac::{Bytes, Code, Fault, Place, Refusal, is_blank, skip_blanks};
-
-/// A line of the text that it stands in, with the place of its first brace or `%`. Contracts see the list of its bytes.
-#[derive(Drop)]
-pub struct Line<'a> {
-    bytes: &'a [u8],
-    first_delimiter: usize,
-}
-
-impl<'a> Model for Line<'a> {
-    ghost use Rattle.std.specs.Prelude.{◌≡◌, List, ℕ};
-    ghost use Rattle.std.specs.List.{prefix_len};
-    ghost use Rattle.t1_text.specs.Delimiters.{is_safe};
-
-    ghost Value = { List ℕ };
-
-    ghost view = { λ line. line.bytes.now };
-
-    ghost invariant = { λ line. line.first_delimiter ≡ prefix_len is_safe line.bytes.now };
-}
-
-impl<'a> Line<'a> {
-    fn new(bytes: &'a [u8], first_delimiter: usize) -> Self
-        requires { first_delimiter ≡ prefix_len is_safe bytes.now }
-        ensures { result ≡ bytes.now }
-    {
-        Line {
-            bytes,
-            first_delimiter,
-        }
-    }
-
-    /// Where its first brace stands or its comment begins, or its length.
-    pub fn first_delimiter(&self) -> usize
-        ensures { result ≡ prefix_len is_safe self.now }
-    {
-        self.first_delimiter
-    }
-
-    pub fn as_slice(&self) -> &'a [u8]
-        ensures { result.now ≡ self.now }
-    {
-        self.bytes
-    }
-
-    /// A copy of its bytes.
-    pub fn copied(&self, alloc: Global) -> Result<Bytes, AllocError>
-        ensures { IfOk result (λ copy. copy ≡ self.now) }
-    {
-        Bytes::copied(alloc, self.bytes)
-    }
-}
 
 /// The refusal by a fault on the line of this number.
 pub fn fault_on(number: u64, code: Code) -> Refusal
@@ -73,17 +21,6 @@ pub fn fault_on(number: u64, code: Code) -> Refusal
         code,
         place: Place::Line(number),
     })
-}
-
-/// Copies of some lines.
-pub fn copied_lines(alloc: Global, lines: &[Line]) -> Result<Vec<Bytes>, AllocError>
-    ensures { IfOk result (λ copies. copies.items ≡ lines.now) }
-{
-    let mut copies = Vec::new(alloc);
-    for line in lines {
-        copies.push(line.copied(alloc)?)?;
-    }
-    Ok(copies)
 }
 
 /// Copies of some runs of bytes.
@@ -116,13 +53,14 @@ fn after_end(bytes: &[u8]) -> &[u8]
 }
 
 /// The first line of some bytes, and the bytes after its end.
-#[tactic(auto, using(crate::proofs::LineLaws::first_line_lem))]
+#[tactic(auto, using(crate::proofs::LineLaws::first_line_lem, crate::proofs::CutLaws::cut_after))]
 pub fn first_line(bytes: &[u8]) -> (&[u8], &[u8])
     requires { 0 < length bytes.now }
     ensures lines { lines bytes.now ≡ result.0.now ∷ lines result.1.now }
     ensures shorter { length result.1.now < length bytes.now }
     ensures front { result.0.now ≡ take (length result.0.now) bytes.now }
     ensures back { result.1.now ≡ drop (length bytes.now - length result.1.now) bytes.now }
+    ensures cut { (j : ℕ) → lines (take (length bytes.now - length result.1.now + j) bytes.now) ≡ result.0.now ∷ lines (take j result.1.now) }
 {
     let (line, end) = bytes.split_at(line_len(bytes));
     (line, after_end(end))
@@ -136,34 +74,34 @@ pub fn first_delimiter(bytes: &[u8]) -> usize
     memchr3(b'{', b'}', b'%', bytes).unwrap_or(bytes.len())
 }
 
-/// Where the first brace of the last bytes stands or a comment begins, or their length, by where it is in all bytes.
-fn delimiter_after(delimiter: usize, bytes: &[u8], after: &[u8]) -> usize
-    requires delimiter { delimiter ≡ prefix_len is_safe bytes.now }
-    requires after { after.now ≡ drop (length bytes.now - length after.now) bytes.now }
-    requires shorter { length after.now ≤ length bytes.now }
-    ensures { result ≡ prefix_len is_safe after.now }
+/// Copies of the lines of a text, without their ends.
+pub fn copied_lines(alloc: Global, text: &[u8]) -> Result<Vec<Bytes>, AllocError>
+    ensures { IfOk result (λ copies. copies.items ≡ lines text.now) }
 {
-    let before = bytes.len() - after.len();
-    if delimiter < before {
-        return first_delimiter(after);
-    }
-    delimiter - before
-}
-
-/// The lines of a text, without their ends.
-pub fn cut_lines(alloc: Global, text: &[u8]) -> Result<Vec<Line<'_>>, AllocError>
-    ensures { IfOk result (λ found. found.items ≡ lines text.now) }
-{
-    let mut found = Vec::new(alloc);
+    let mut copies = Vec::new(alloc);
     let mut rest = text;
-    let mut delimiter = first_delimiter(text);
     while !rest.is_empty() {
         let (line, after) = first_line(rest);
-        found.push(Line::new(line, delimiter.min(line.len())))?;
-        delimiter = delimiter_after(delimiter, rest, after);
+        copies.push(Bytes::copied(alloc, line)?)?;
         rest = after;
     }
-    Ok(found)
+    Ok(copies)
+}
+
+/// How many line ends stand in a text, of which CR LF is one.
+pub fn line_ends(text: &[u8]) -> usize
+    ensures value { result ≡ line_ends text.now }
+    ensures within { result ≤ length text.now }
+{
+    let mut count = 0;
+    let mut rest = text;
+    let mut at = line_len(rest);
+    while at < rest.len() {
+        count += 1;
+        rest = after_end(rest.split_at(at).1);
+        at = line_len(rest);
+    }
+    count
 }
 
 /// How many blanks stand at the end.
