@@ -2,7 +2,8 @@
 use Rattle.std.proofs.Common.{◌≡◌, ℕ, zero, suc, Bool, true, false, not, ◌&&◌, ◌||◌, if◌then◌else◌, ◌+◌, ◌-◌, ◌==◌, ◌<◌, ◌≤◌, List, [], ◌∷◌, length, take, drop, refl, sym, ◌∙◌, ap, inl, inr, arith}
 use Rattle.std.specs.List.{onto_first}
 use Rattle.std.proofs.lemmas.Bool.{cases_Bool, not-true, not-false, eqb-true}
-use Rattle.std.proofs.lemmas.List.{length-drop}
+use Rattle.std.proofs.lemmas.List.{length-drop, length-take-le}
+use Rattle.std.proofs.lemmas.List.Sums.{prefix_len-le-length}
 use Rattle.std.proofs.Math.Numerals.{one-add}
 use Rattle.t1_text.specs.Lines.{begins_with, lines, is_line_end, after_end}
 use Rattle.t1_text.proofs.LineLaws.{line_len, stays, longer, cr_lf, cr_alone, lf_ends, not_ended, after_line, FirstLine, first_line_lem}
@@ -102,6 +103,15 @@ end_within c (d ∷ rest) = elim (cases_Bool (c == 13)) [
   | inr other ↦ rw other (omega arith)
 ]
 
+end_some : (c : ℕ) (rest : List ℕ) → 0 < 0 + end_len (c ∷ rest)
+end_some c rest = elim (cases_Bool (c == 13)) [
+  | inl cr ↦ elim (cases_Bool (begins_with 10 rest)) [
+    | inl lf ↦ rw (cr, lf) (omega arith)
+    | inr alone ↦ rw (cr, alone) (omega arith)
+  ]
+  | inr other ↦ rw other (omega arith)
+]
+
 after_its_end : (c : ℕ) (rest : List ℕ) → drop (0 + end_len (c ∷ rest)) (c ∷ rest) ≡ after_end (c ∷ rest)
 after_its_end c rest = elim (cases_Bool (c == 13)) [
   | inl cr ↦ elim (cases_Bool (begins_with 10 rest)) [
@@ -120,6 +130,13 @@ taken_within (c ∷ rest) = elim (cases_Bool (stays c)) [
       let more = taken_within rest in
       rw (longer_len c rest on) (omega (arith, more))
   | inr off ↦ rw (ended_len c rest off) (end_within c rest)
+]
+
+taken_some : (bytes : List ℕ) → 0 < length bytes → 0 < taken_len bytes
+taken_some [] h = absurd (omega arith)
+taken_some (c ∷ rest) h = elim (cases_Bool (stays c)) [
+  | inl on ↦ rw (longer_len c rest on) (omega arith)
+  | inr off ↦ rw (ended_len c rest off) (end_some c rest)
 ]
 
 -- the bytes of the first line and its end are those that aren't behind it
@@ -141,3 +158,25 @@ cut_after bytes after j h e =
     let within = taken_within bytes in
     let size : length bytes - length after + j ≡ taken_len bytes + j = omega (arith, left, same, within) in
     rw e (ap (λ k. lines (take k bytes)) (sym (ap (λ a. length bytes - length a + j) e) ∙ size) ∙ cut_behind bytes j h)
+
+-- what is left after the first line is shorter
+pub line_gone : (bytes : List ℕ) → 0 < length bytes → length (after_line bytes) < length bytes
+line_gone bytes h =
+    let left = length-drop (taken_len bytes) bytes in
+    let same : length (drop (taken_len bytes) bytes) ≡ length (after_line bytes) = ap length (taken_of bytes) in
+    let within = taken_within bytes in
+    let some = taken_some bytes h in
+    omega (arith, left, same, within, some, h)
+
+-- the first line stands at the front
+pub line_before : (bytes : List ℕ) → take (length (take (line_len bytes) bytes)) bytes ≡ take (line_len bytes) bytes
+line_before bytes = ap (λ k. take k bytes) (length-take-le (line_len bytes) bytes (prefix_len-le-length stays bytes))
+
+-- and the bytes after it at the back
+pub line_behind : (bytes : List ℕ) → drop (length bytes - length (after_line bytes)) bytes ≡ after_line bytes
+line_behind bytes =
+    let left = length-drop (taken_len bytes) bytes in
+    let same : length (drop (taken_len bytes) bytes) ≡ length (after_line bytes) = ap length (taken_of bytes) in
+    let within = taken_within bytes in
+    let size : length bytes - length (after_line bytes) ≡ taken_len bytes = omega (arith, left, same, within) in
+    ap (λ k. drop k bytes) size ∙ taken_of bytes

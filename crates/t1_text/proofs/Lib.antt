@@ -8,3 +8,4 @@ pub mod TextLaws
 pub mod TokenLaws
 pub mod TrimLaws
 pub mod WordLaws
+pub mod WholeLines

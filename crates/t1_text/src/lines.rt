@@ -52,8 +52,17 @@ fn after_end(bytes: &[u8]) -> &[u8]
     }
 }
 
+/// The bytes before the first line end, and the bytes after it.
+pub fn cut_line(bytes: &[u8]) -> (&[u8], &[u8])
+    ensures line { result.0.now ≡ take (position_or_len is_line_end bytes.now) bytes.now }
+    ensures after { result.1.now ≡ after_end (drop (position_or_len is_line_end bytes.now) bytes.now) }
+{
+    let (line, end) = bytes.split_at(line_len(bytes));
+    (line, after_end(end))
+}
+
 /// The first line of some bytes, and the bytes after its end.
-#[tactic(auto, using(crate::proofs::LineLaws::first_line_lem, crate::proofs::CutLaws::cut_after))]
+#[tactic(auto, using(crate::proofs::LineLaws::first_line_lem, crate::proofs::CutLaws::cut_after, crate::proofs::CutLaws::line_gone, crate::proofs::CutLaws::line_before, crate::proofs::CutLaws::line_behind))]
 pub fn first_line(bytes: &[u8]) -> (&[u8], &[u8])
     requires { 0 < length bytes.now }
     ensures lines { lines bytes.now ≡ result.0.now ∷ lines result.1.now }
@@ -62,8 +71,7 @@ pub fn first_line(bytes: &[u8]) -> (&[u8], &[u8])
     ensures back { result.1.now ≡ drop (length bytes.now - length result.1.now) bytes.now }
     ensures cut { (j : ℕ) → lines (take (length bytes.now - length result.1.now + j) bytes.now) ≡ result.0.now ∷ lines (take j result.1.now) }
 {
-    let (line, end) = bytes.split_at(line_len(bytes));
-    (line, after_end(end))
+    cut_line(bytes)
 }
 
 /// Where the first brace of some bytes stands or a comment begins, or their length.
