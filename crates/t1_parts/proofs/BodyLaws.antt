@@ -49,7 +49,7 @@ words_joined ((c ∷ w) ∷ v ∷ ws) h =
     word_before c w (join_with_byte 32 (v ∷ ws)) parts.0 ∙ ap (λ t. (c ∷ w) ∷ t) (words_joined (v ∷ ws) parts.1)
 
 -- safe bytes have no comment
-no_comment : (l : List ℕ) → list_all is_safe l ≡ true → uncommented l ≡ l
+pub no_comment : (l : List ℕ) → list_all is_safe l ≡ true → uncommented l ≡ l
 no_comment [] h = refl
 no_comment (c ∷ l) h =
     let parts = and_parts _ _ h in
@@ -57,7 +57,7 @@ no_comment (c ∷ l) h =
     rw (off.1, one-add) (ap (λ t. c ∷ t) (no_comment l parts.1))
 
 -- and no brace
-no_brace : (l : List ℕ) → list_all is_safe l ≡ true → list_any is_brace l ≡ false
+pub no_brace : (l : List ℕ) → list_all is_safe l ≡ true → list_any is_brace l ≡ false
 no_brace [] h = refl
 no_brace (c ∷ l) h =
     let parts = and_parts _ _ h in

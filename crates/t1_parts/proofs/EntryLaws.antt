@@ -40,7 +40,9 @@ digit_regular c h =
     rw (
       ne_eqb c 0 (omega arith),
       ne_eqb c 9 (omega arith),
+      ne_eqb c 10 (omega arith),
       ne_eqb c 12 (omega arith),
+      ne_eqb c 13 (omega arith),
       ne_eqb c 32 (omega arith),
       ne_eqb c 40 (omega arith),
       ne_eqb c 41 (omega arith),

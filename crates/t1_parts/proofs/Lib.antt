@@ -1,14 +1,15 @@
 pub mod BodyLaws
 pub mod CloseLaws
 pub mod CountLaws
-pub mod DelimiterLaws
 pub mod DemoRows
 pub mod EncodingLaws
 pub mod EntryLaws
 pub mod GroupLaws
 pub mod ItemLaws
 pub mod KeyLaws
+pub mod OpeningLaws
 pub mod PartLaws
+pub mod PieceLaws
 pub mod ReadingRows
 pub mod RunLaws
 pub mod SectionLaws

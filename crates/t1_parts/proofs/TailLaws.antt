@@ -9,12 +9,6 @@ use Rattle.t1_parts.specs.Parts.{is_zeros, holds, tail_of}
 abbrev pub kept : List (List ℕ) → List (List ℕ)
 kept ls = filter_map (λ l. if is_zeros l then None else Some l) ls
 
-pub line_kept : (k : ℕ) (l : List ℕ) (ls : List (List ℕ)) → k < length ls → l ≡ get_or ls k l → is_zeros l ≡ false → kept (drop k ls) ≡ l ∷ kept (drop (k + 1) ls)
-line_kept k l ls h is e = ap kept (drop_more ls k l h ∙ ap (λ x. x ∷ drop (k + 1) ls) (sym is)) ∙ (rw e refl)
-
-pub line_dropped : (k : ℕ) (l : List ℕ) (ls : List (List ℕ)) → k < length ls → l ≡ get_or ls k l → is_zeros l ≡ true → kept (drop k ls) ≡ kept (drop (k + 1) ls)
-line_dropped k l ls h is e = ap kept (drop_more ls k l h ∙ ap (λ x. x ∷ drop (k + 1) ls) (sym is)) ∙ (rw e refl)
-
 kept_again : (ls : List (List ℕ)) → kept (kept ls) ≡ kept ls
 kept_again [] = refl
 kept_again (l ∷ ls) =

@@ -6,6 +6,7 @@ pub mod Header
 pub mod LenIV
 pub mod Operator
 pub mod Parts
+pub mod Pieces
 pub mod Printing
 pub mod Private
 pub mod Reading

@@ -1,5 +1,5 @@
 -- The three parts of a source, and its tail.
-use Rattle.std.specs.Prelude.{ℕ, Bool, false, ◌+◌, ◌||◌, ◌&&◌, ◌==◌, nat_le, if◌then◌else◌, Some, None, Result, Ok, ok_or, List, [], ◌∷◌, length, take, drop, codes, filter_map}
+use Rattle.std.specs.Prelude.{◌≡◌, ◌++◌, true, ℕ, Bool, false, ◌+◌, ◌||◌, ◌&&◌, ◌==◌, nat_le, if◌then◌else◌, Some, None, Result, Ok, ok_or, List, [], ◌∷◌, length, take, drop, codes, filter_map}
 use Rattle.std.specs.List.{list_all, list_any, position, starts_with, ends_with}
 use Rattle.t1_frac.specs.declared.fault.Code.TheVariants.{F1, F2}
 use Rattle.t1_frac.specs.declared.fault.Fault.{Fault}
@@ -18,6 +18,10 @@ is_eexec l = ends_in (codes "currentfile eexec") l
 -- Type 1 Font Format, eexec: the line that ends the private part
 abbrev pub is_closefile : List ℕ → Bool
 is_closefile l = ends_in (codes "mark currentfile closefile") l
+
+-- profile, parts: lines cut at the first one that passes a test: those before it, the line, and those after it
+abbrev pub IsCut : (List ℕ → Bool) → List (List ℕ) → List (List ℕ) → List ℕ → List (List ℕ) → Type 0
+IsCut test ls before line after = (ls ≡ before ++ line ∷ after) × (list_any test before ≡ false) × (test line ≡ true)
 
 -- profile, parts: the three parts of some lines
 pub record Parts : Type 0 where

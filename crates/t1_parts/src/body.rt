@@ -1,15 +1,17 @@
 //! The bodies of entries: words, comments, closing text.
 
-ghost use Rattle.std.specs.Prelude.{◌≡◌, ◌≤◌, ◌==◌, ◌∷◌, length, take, true, false, IfOk, IfSome, IsTrue, MatchOption};
-ghost use Rattle.std.specs.List.{before_first, after_first, list_any, position_or_len, prefix_len};
-ghost use Rattle.t1_text.specs.Lines.{trimmed};
+ghost use Rattle.std.specs.Prelude.{◌≡◌, ◌≤◌, ◌+◌, ◌==◌, ◌∷◌, ℕ, List, length, nat_lt, if◌then◌else◌, IfOk, IfSome, option_map};
+ghost use Rattle.std.specs.List.{list_any, position_or_len};
+ghost use Rattle.t1_text.specs.Lines.{lines};
 ghost use Rattle.t1_text.specs.Tokens.{uncommented};
-ghost use Rattle.t1_text.specs.Delimiters.{is_brace, is_safe};
-ghost use Rattle.t1_parts.specs.Entries.{closes, has_brace, body_of, opened_body};
+ghost use Rattle.t1_text.specs.Delimiters.{is_brace};
+ghost use Rattle.t1_parts.specs.Entries.{has_brace, body_of, opened_body};
+ghost use Rattle.t1_parts.specs.Pieces.{IsAfter};
 
+use crate::piece::{Piece, piece_of};
 use std::alloc::{AllocError, Global};
 use t1_frac::{Bytes, Words};
-use t1_text::{Line, first_delimiter, trimmed};
+use t1_text::line_ends;
 
 /// The words of an entry, its closing text, and how many lines it takes after its first.
 #[derive(Drop)]
@@ -41,14 +43,6 @@ fn is_brace(byte: u8) -> bool
     byte == b'{' || byte == b'}'
 }
 
-/// Where the first brace of a line stands, or its length.
-fn brace_start(line: &[u8]) -> usize
-    ensures within { result ≤ length line.now }
-    ensures value { result ≡ position_or_len is_brace line.now }
-{
-    line.iter().take_while(|byte| !is_brace(**byte)).count()
-}
-
 /// Whether a line has a brace outside its comment.
 pub fn has_brace(line: &[u8]) -> bool
     ensures { result ≡ has_brace line.now }
@@ -63,96 +57,31 @@ fn has_any_brace(line: &[u8]) -> bool
     line.iter().any(|byte| is_brace(*byte))
 }
 
-/// Whether some bytes begin with a brace.
-fn begins_braced(bytes: &[u8]) -> bool
-    ensures { result ≡ list_any is_brace (take 1 bytes.now) }
-{
-    match bytes {
-        [byte, ..] => is_brace(*byte),
-        [] => false,
-    }
-}
-
-/// A line without its comment, where it has no brace outside it. The delimiter is where its first brace stands or its
-/// comment begins, or its length.
-#[tactic(auto, using(crate::proofs::DelimiterLaws::braced_at_delimiter, crate::proofs::DelimiterLaws::text_before_delimiter))]
-fn unbraced(line: &[u8], delimiter: usize) -> Option<&[u8]>
-    requires { delimiter ≡ prefix_len is_safe line.now }
-    ensures { MatchOption
-        result
-        (has_brace line.now ≡ true)
-        (λ text. (has_brace line.now ≡ false) × (text.now ≡ uncommented line.now)) }
-{
-    let (text, rest) = line.split_at(delimiter);
-    if begins_braced(rest) {
-        return None;
-    }
-    Some(text)
-}
-
-/// The part of a line before its first brace.
-fn before_brace(line: &[u8]) -> &[u8]
-    ensures { result.now ≡ before_first is_brace line.now }
-{
-    line.split_at(brace_start(line)).0
-}
-
-/// Whether the first brace of a line is `}`.
-fn closes(line: &[u8]) -> bool
-    ensures { result ≡ closes line.now }
-{
-    let at = brace_start(line);
-    at < line.len() && line[at] == b'}'
-}
-
-/// The trimmed part of a line after its first brace.
-fn closing_text(line: &[u8]) -> &[u8]
-    requires { IsTrue (closes line.now) }
-    ensures { result.now ≡ trimmed (after_first is_brace line.now) }
-{
-    trimmed(line.split_at(brace_start(line) + 1).1)
-}
-
-/// The body that begins on a line after its brace and goes on over the later lines; nothing where it isn't ended.
-pub fn body_of(alloc: Global, first: &[u8], later: &[Line]) -> Result<Option<EntryBody>, AllocError>
-    ensures value { IfOk result (λ body. body ≡ body_of (first.now ∷ later.now)) }
-    ensures within { IfOk result (λ body. IfSome body (λ b. b.more ≤ length later.now)) }
+/// The body at the front of some bytes, and the bytes after the line on which it ends; nothing where it isn't ended.
+pub fn body_of(alloc: Global, bytes: &[u8]) -> Result<Option<(EntryBody, &[u8])>, AllocError>
+    ensures value { IfOk result (λ found. option_map (λ f. f.0) found ≡ body_of (lines bytes.now)) }
+    ensures after { IfOk result (λ found. IfSome found (λ f. IsAfter (f.0.more + 1) bytes.now f.1.now)) }
 {
     let mut words = Words::new(alloc);
-    let mut line = first;
-    let mut delimiter = first_delimiter(first);
     let mut more = 0;
-    while let Some(text) = unbraced(line, delimiter) {
-        words.push_line(text)?;
-        if more == later.len() {
-            return Ok(None);
-        }
-        line = later[more].as_slice();
-        delimiter = later[more].first_delimiter();
-        more += 1;
+    let mut piece = piece_of(bytes);
+    while let Piece::Commented(front, after) = piece {
+        words.push_line(front)?;
+        more += line_ends(front) + 1;
+        piece = piece_of(after);
     }
-    if !closes(line) {
+    let Piece::Closed(front, closing, after) = piece else {
         return Ok(None);
-    }
-    words.push_line(before_brace(line))?;
-    let closing = Bytes::copied(alloc, closing_text(line))?;
-    Ok(Some(EntryBody {
+    };
+    words.push_line(front)?;
+    more += line_ends(front);
+    let closing = Bytes::copied(alloc, closing)?;
+    let body = EntryBody {
         words,
         closing,
         more,
-    }))
-}
-
-/// The body that opens on the first of these lines.
-pub fn opened_body(
-    alloc: Global,
-    line: &[u8],
-    later: &[Line],
-) -> Result<Option<EntryBody>, AllocError>
-    ensures value { IfOk result (λ body. body ≡ opened_body line.now later.now) }
-    ensures within { IfOk result (λ body. IfSome body (λ b. b.more ≤ length later.now)) }
-{
-    body_of(alloc, after_opening(line), later)
+    };
+    Ok(Some((body, after)))
 }
 
 /// Where the first `{` of a line stands, or its length.
@@ -163,13 +92,26 @@ fn opening_start(line: &[u8]) -> usize
     line.iter().take_while(|byte| **byte != b'{').count()
 }
 
-/// The part of a line after its first `{`.
-fn after_opening(line: &[u8]) -> &[u8]
-    ensures { result.now ≡ after_first (λ c. c == 123) line.now }
+/// How many bytes of a line stand through its first `{`, or its length.
+fn opening_end(line: &[u8]) -> usize
+    ensures value { result ≡ (if nat_lt (position_or_len (λ c. c == 123) line.now) (length line.now) then position_or_len (λ c. c == 123) line.now + 1 else position_or_len (λ c. c == 123) line.now) }
+    ensures within { result ≤ length line.now }
 {
-    let rest = line.split_at(opening_start(line)).1;
-    match rest {
-        [_, after @ ..] => after,
-        [] => rest,
-    }
+    let start = opening_start(line);
+    if start < line.len() { start + 1 } else { start }
+}
+
+/// The body that opens on the first line of some bytes, and the bytes after the line on which it ends.
+#[tactic(auto, using(crate::proofs::OpeningLaws::opened, crate::proofs::OpeningLaws::opened_after))]
+pub fn opened_body<'a>(
+    alloc: Global,
+    line: &[u8],
+    bytes: &'a [u8],
+) -> Result<Option<(EntryBody, &'a [u8])>, AllocError>
+    requires { length line.now ≤ length bytes.now }
+    ensures value { (ls : List (List ℕ)) → lines bytes.now ≡ line.now ∷ ls → IfOk result (λ found. option_map (λ f. f.0) found ≡ opened_body line.now ls) }
+    ensures after { (ls : List (List ℕ)) → lines bytes.now ≡ line.now ∷ ls → IfOk result (λ found. IfSome found (λ f. IsAfter (f.0.more + 1) bytes.now f.1.now)) }
+{
+    let text = bytes.split_at(opening_end(line)).1;
+    body_of(alloc, text)
 }

@@ -1,18 +1,19 @@
 //! Opening the entries of Subrs and glyphs.
 
-ghost use Rattle.std.specs.Prelude.{◌≡◌, ◌≤◌, length, IfOk, option_map};
+ghost use Rattle.std.specs.Prelude.{◌≡◌, ◌≤◌, ◌+◌, ◌∷◌, ℕ, List, length, IfOk, option_map};
 ghost use Rattle.t1_frac.specs.declared.fault.Place.TheVariants as places;
 ghost use Rattle.t1_frac.specs.Outcome.{Gives, told_at};
-ghost use Rattle.t1_text.specs.Lines.{begins_with};
+ghost use Rattle.t1_text.specs.Lines.{begins_with, lines};
 ghost use Rattle.t1_text.specs.Tokens.{tokens};
 ghost use Rattle.t1_parts.specs.Entries.{opens_subr, opens_glyph, opened_body, subr_entry, glyph_entry};
+ghost use Rattle.t1_parts.specs.Pieces.{IsAfter};
 
 use crate::body::opened_body;
 use crate::gathered::Gathered;
-use crate::item::Item;
+use crate::item::{Item, Taken};
 use std::alloc::Global;
 use t1_frac::{Bytes, Code, Refusal};
-use t1_text::{Line, decimal_up_to, fault_on, name_of_token, next_token, same};
+use t1_text::{decimal_up_to, fault_on, name_of_token, next_token, same};
 
 /// The token between `dup` and `{`, where the line begins so.
 pub fn opens_subr(line: &[u8]) -> Option<&[u8]>
@@ -36,19 +37,20 @@ pub fn opens_subr(line: &[u8]) -> Option<&[u8]>
 
 /// The Subr entry that opens on a line.
 #[tactic(auto, unfolding(crate::specs::Entries::subr_entry))]
-pub fn subr_entry(
+pub fn subr_entry<'a>(
     alloc: Global,
     earlier: &Gathered,
     number: u64,
     token: &[u8],
     line: &[u8],
-    later: &[Line],
-) -> Result<(Item, usize), Refusal>
-    ensures value { Gives
-        (λ taken. taken)
+    bytes: &'a [u8],
+) -> Result<Taken<'a>, Refusal>
+    requires { length line.now ≤ length bytes.now }
+    ensures value { (ls : List (List ℕ)) → lines bytes.now ≡ line.now ∷ ls → Gives
+        (λ taken. (taken.item, taken.more))
         result
-        (told_at (places.Line number) (subr_entry earlier.now token.now (opened_body line.now later.now))) }
-    ensures within { IfOk result (λ taken. taken.1 ≤ length later.now) }
+        (told_at (places.Line number) (subr_entry earlier.now token.now (opened_body line.now ls))) }
+    ensures after { (ls : List (List ℕ)) → lines bytes.now ≡ line.now ∷ ls → IfOk result (λ taken. IsAfter (taken.more + 1) bytes.now taken.after.now) }
 {
     let Some(subr) = decimal_up_to(32000, token) else {
         return Err(fault_on(number, Code::F8));
@@ -57,10 +59,14 @@ pub fn subr_entry(
     if earlier.has_subr(subr) {
         return Err(fault_on(number, Code::F9));
     }
-    let Some(body) = opened_body(alloc, line, later)? else {
+    let Some((body, after)) = opened_body(alloc, line, bytes)? else {
         return Err(fault_on(number, Code::F7));
     };
-    Ok((Item::Subr(subr, body.words, body.closing), body.more))
+    Ok(Taken {
+        item: Item::Subr(subr, body.words, body.closing),
+        more: body.more,
+        after,
+    })
 }
 
 /// Whether a token begins with `/`.
@@ -92,19 +98,20 @@ pub fn opens_glyph(line: &[u8]) -> Option<&[u8]>
 
 /// The glyph entry that opens on a line.
 #[tactic(auto, unfolding(crate::specs::Entries::glyph_entry))]
-pub fn glyph_entry(
+pub fn glyph_entry<'a>(
     alloc: Global,
     earlier: &Gathered,
     number: u64,
     token: &[u8],
     line: &[u8],
-    later: &[Line],
-) -> Result<(Item, usize), Refusal>
-    ensures value { Gives
-        (λ taken. taken)
+    bytes: &'a [u8],
+) -> Result<Taken<'a>, Refusal>
+    requires { length line.now ≤ length bytes.now }
+    ensures value { (ls : List (List ℕ)) → lines bytes.now ≡ line.now ∷ ls → Gives
+        (λ taken. (taken.item, taken.more))
         result
-        (told_at (places.Line number) (glyph_entry earlier.now token.now (opened_body line.now later.now))) }
-    ensures within { IfOk result (λ taken. taken.1 ≤ length later.now) }
+        (told_at (places.Line number) (glyph_entry earlier.now token.now (opened_body line.now ls))) }
+    ensures after { (ls : List (List ℕ)) → lines bytes.now ≡ line.now ∷ ls → IfOk result (λ taken. IsAfter (taken.more + 1) bytes.now taken.after.now) }
 {
     let Some(name) = name_of_token(token) else {
         return Err(fault_on(number, Code::F8));
@@ -112,9 +119,13 @@ pub fn glyph_entry(
     if earlier.has_glyph(name) {
         return Err(fault_on(number, Code::F10));
     }
-    let Some(body) = opened_body(alloc, line, later)? else {
+    let Some((body, after)) = opened_body(alloc, line, bytes)? else {
         return Err(fault_on(number, Code::F7));
     };
     let name = Bytes::copied(alloc, name)?;
-    Ok((Item::Glyph(name, body.words, body.closing), body.more))
+    Ok(Taken {
+        item: Item::Glyph(name, body.words, body.closing),
+        more: body.more,
+        after,
+    })
 }

@@ -18,6 +18,14 @@ pub enum Item {
     Glyph(Bytes, Words, Bytes),
 }
 
+/// An item that was read: how many lines it takes after its first, and the bytes after them.
+#[derive(Drop)]
+pub struct Taken<'a> {
+    pub item: Item,
+    pub more: usize,
+    pub after: &'a [u8],
+}
+
 /// A copy of the words of an entry.
 #[tactic(auto, using(t1_text::proofs::WordLaws::words_skip))]
 fn copied_words(alloc: Global, words: &Words) -> Result<Words, AllocError>

@@ -1,14 +1,14 @@
-//! Cutting the lines of a source into its parts.
+//! Cutting a source into its parts.
 
-ghost use Rattle.std.specs.Prelude.{◌≡◌, ◌≤◌, ◌+◌, ◌==◌, length, IfOk, codes, if◌then◌else◌, Some, None, filter_map};
-ghost use Rattle.std.specs.List.{list_any, list_all, position};
+ghost use Rattle.std.specs.Prelude.{◌≡◌, ◌==◌, ◌++◌, ◌∷◌, [], false, IfOk, MatchOption, codes, if◌then◌else◌, Some, None, filter_map};
+ghost use Rattle.std.specs.List.{list_any, list_all};
 ghost use Rattle.t1_frac.specs.Outcome.{Gives};
 ghost use Rattle.t1_text.specs.Lines.{lines};
-ghost use Rattle.t1_parts.specs.Parts.{parts_of, ends_in, is_eexec, is_closefile, holds, is_zeros, tail_of};
+ghost use Rattle.t1_parts.specs.Parts.{parts_of, ends_in, holds, is_zeros, tail_of, IsCut};
 
 use std::alloc::{AllocError, Global};
 use t1_frac::{Bytes, Code, Refusal};
-use t1_text::{Line, first_line, trimmed};
+use t1_text::{first_line, trimmed};
 
 /// Whether a line, trimmed, ends in this text.
 fn ends_in(text: &[u8], line: &[u8]) -> bool
@@ -17,79 +17,67 @@ fn ends_in(text: &[u8], line: &[u8]) -> bool
     trimmed(line).ends_with(text)
 }
 
-/// Whether a line ends the clear part.
-fn is_eexec(line: &[u8]) -> bool
-    ensures { result ≡ is_eexec line.now }
-{
-    ends_in(b"currentfile eexec", line)
+/// Some bytes cut at a line: the bytes before it, the line, and the bytes after it.
+#[derive(Drop)]
+struct Cut<'a> {
+    before: &'a [u8],
+    line: &'a [u8],
+    after: &'a [u8],
 }
 
-/// Whether a line ends the private part.
-fn is_closefile(line: &[u8]) -> bool
-    ensures { result ≡ is_closefile line.now }
-{
-    ends_in(b"mark currentfile closefile", line)
-}
-
-/// Whether a line of some bytes ends the clear part. It needs no table of the lines, and looks no further than to the first
-/// such line.
-pub fn has_clear_end(bytes: &[u8]) -> bool
-    ensures { result ≡ list_any is_eexec (lines bytes.now) }
+/// Some bytes cut at their first line that, trimmed, ends in a text.
+fn cut_at<'a>(text: &[u8], bytes: &'a [u8]) -> Option<Cut<'a>>
+    ensures { MatchOption
+        result
+        (list_any (ends_in text.now) (lines bytes.now) ≡ false)
+        (λ cut. IsCut (ends_in text.now) (lines bytes.now) (lines cut.before.now) cut.line.now (lines cut.after.now)) }
 {
     let mut rest = bytes;
     while !rest.is_empty() {
         let (line, after) = first_line(rest);
-        if is_eexec(line) {
-            return true;
+        if ends_in(text, line) {
+            let before = bytes.split_at(bytes.len() - rest.len()).0;
+            return Some(Cut {
+                before,
+                line,
+                after,
+            });
         }
         rest = after;
     }
-    false
+    None
 }
 
-/// Where the first line stands that ends the clear part.
-fn eexec_at(lines: &[Line]) -> Option<usize>
-    ensures { result ≡ position is_eexec lines.now }
-{
-    lines.iter().position(|line| is_eexec(line.as_slice()))
-}
-
-/// Where the first line stands that ends the private part.
-fn closefile_at(lines: &[Line]) -> Option<usize>
-    ensures { result ≡ position is_closefile lines.now }
-{
-    lines.iter().position(|line| is_closefile(line.as_slice()))
-}
-
-/// The lines of the three parts.
+/// The bytes of the three parts, but for the line that ends each of the first two.
 #[derive(Drop)]
-pub struct Parts<'a, 'b> {
-    pub clear: &'a [Line<'b>],
-    pub private: &'a [Line<'b>],
-    pub tail: &'a [Line<'b>],
+pub struct Parts<'a> {
+    pub clear: &'a [u8],
+    pub eexec: &'a [u8],
+    pub private: &'a [u8],
+    pub closefile: &'a [u8],
+    pub tail: &'a [u8],
 }
 
-/// The parts of the lines of a source.
-#[tactic(auto, unfolding(crate::specs::Parts::parts_of))]
-pub fn parts_of<'a, 'b>(lines: &'a [Line<'b>]) -> Result<Parts<'a, 'b>, Refusal>
-    ensures value { Gives
-        (λ p. record { clear = p.clear.now; private = p.private.now; tail = p.tail.now })
+/// The parts of a source.
+#[tactic(auto, unfolding(crate::specs::Parts::parts_of), using(crate::proofs::PartLaws::no_clear, crate::proofs::PartLaws::no_private, crate::proofs::PartLaws::parts_cut))]
+pub fn parts_of(bytes: &[u8]) -> Result<Parts<'_>, Refusal>
+    ensures { Gives
+        (λ p. record { clear = lines p.clear.now ++ p.eexec.now ∷ []; private = lines p.private.now ++ p.closefile.now ∷ []; tail = lines p.tail.now })
         result
-        (parts_of lines.now) }
-    ensures within { IfOk result (λ p. length p.clear.now + length p.private.now ≤ length lines.now) }
+        (parts_of (lines bytes.now)) }
 {
-    let Some(eexec) = eexec_at(lines) else {
+    let Some(clear) = cut_at(b"currentfile eexec", bytes) else {
         return Err(Refusal::from(Code::F1));
     };
-    let (clear, rest) = lines.split_at(eexec + 1);
-    let Some(closefile) = closefile_at(rest) else {
+    let Some(private) = cut_at(b"mark currentfile closefile", clear.after) else {
         return Err(Refusal::from(Code::F2));
     };
-    let (private, tail) = rest.split_at(closefile + 1);
     Ok(Parts {
-        clear,
-        private,
-        tail,
+        clear: clear.before,
+        eexec: clear.line,
+        private: private.before,
+        closefile: private.line,
+        tail: private.after,
     })
 }
 
@@ -132,25 +120,27 @@ fn has_delimiter(lines: &[Bytes]) -> bool
 }
 
 /// Copies of the lines that aren't lines of zeros.
-#[tactic(auto, using(crate::proofs::TailLaws::line_kept, crate::proofs::TailLaws::line_dropped))]
-fn kept_lines(alloc: Global, lines: &[Line]) -> Result<Vec<Bytes>, AllocError>
-    ensures { IfOk result (λ kept. kept.items ≡ filter_map (λ l. if is_zeros l then None else Some l) lines.now) }
+fn kept_lines(alloc: Global, bytes: &[u8]) -> Result<Vec<Bytes>, AllocError>
+    ensures { IfOk result (λ kept. kept.items ≡ filter_map (λ l. if is_zeros l then None else Some l) (lines bytes.now)) }
 {
     let mut kept = Vec::new(alloc);
-    for line in lines {
-        if !is_zeros(line.as_slice()) {
-            kept.push(line.copied(alloc)?)?;
+    let mut rest = bytes;
+    while !rest.is_empty() {
+        let (line, after) = first_line(rest);
+        if !is_zeros(line) {
+            kept.push(Bytes::copied(alloc, line)?)?;
         }
+        rest = after;
     }
     Ok(kept)
 }
 
 /// The lines of the tail that is kept.
 #[tactic(auto, unfolding(crate::specs::Parts::tail_of))]
-pub fn tail_of(alloc: Global, lines: &[Line]) -> Result<Vec<Bytes>, AllocError>
-    ensures { IfOk result (λ tail. tail.items ≡ tail_of lines.now) }
+pub fn tail_of(alloc: Global, bytes: &[u8]) -> Result<Vec<Bytes>, AllocError>
+    ensures { IfOk result (λ tail. tail.items ≡ tail_of (lines bytes.now)) }
 {
-    let mut kept = kept_lines(alloc, lines)?;
+    let mut kept = kept_lines(alloc, bytes)?;
     if has_delimiter(&kept) {
         return Ok(kept);
     }

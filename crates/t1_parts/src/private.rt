@@ -1,28 +1,24 @@
 //! Reading the private part: plain lines, section lines and entries.
 
-ghost use Rattle.std.specs.Prelude.{◌≡◌, ◌+◌, ◌<◌, ◌≤◌, ◌^◌, [], length, IfOk};
+ghost use Rattle.std.specs.Prelude.{◌≡◌, ◌+◌, ◌<◌, ◌^◌, ◌++◌, ◌∷◌, [], ℕ, List, length, IfOk};
 ghost use Rattle.t1_frac.specs.declared.fault.Place.TheVariants as places;
 ghost use Rattle.t1_frac.specs.Outcome.{Gives, told_at};
+ghost use Rattle.t1_text.specs.Lines.{lines};
+ghost use Rattle.t1_parts.specs.Pieces.{IsAfter};
 ghost use Rattle.t1_parts.specs.Private.{line_at, item_at, items_of, private_items};
 
 use crate::entries::{glyph_entry, opens_glyph, opens_subr, subr_entry};
 use crate::gathered::Gathered;
-use crate::item::Item;
+use crate::item::{Item, Taken};
 use crate::sections::{count_between, section_at};
 use std::alloc::Global;
 use t1_frac::{Bytes, Code, Refusal};
-use t1_text::{Line, fault_on};
+use t1_text::{fault_on, first_line};
 
 /// The section line or the plain line.
 #[tactic(auto, unfolding(crate::specs::Private::line_item))]
-fn line_at(
-    alloc: Global,
-    earlier: &Gathered,
-    number: u64,
-    line: &[u8],
-) -> Result<(Item, usize), Refusal>
-    ensures value { Gives (λ taken. taken) result (told_at (places.Line number) (line_at earlier.now line.now)) }
-    ensures within { IfOk result (λ taken. taken.1 ≡ 0) }
+fn line_at(alloc: Global, earlier: &Gathered, number: u64, line: &[u8]) -> Result<Item, Refusal>
+    ensures { Gives (λ item. (item, 0)) result (told_at (places.Line number) (line_at earlier.now line.now)) }
 {
     let subrs = count_between(b"/Subrs", b"array", line);
     let glyphs = count_between(b"/CharStrings", b"dict", line);
@@ -36,64 +32,74 @@ fn line_at(
         }
         _ => return Err(fault_on(number, Code::F4)),
     };
-    Ok((item, 0))
+    Ok(item)
 }
 
-/// The item that begins on a line, and how many of the later lines it takes.
+/// The item at the front of some bytes, of which the first line has this number.
 #[tactic(auto, unfolding(crate::specs::Private::item_at))]
-fn item_at(
+fn item_at<'a>(
     alloc: Global,
     earlier: &Gathered,
     number: u64,
-    line: &[u8],
-    later: &[Line],
-) -> Result<(Item, usize), Refusal>
-    ensures value { Gives
-        (λ taken. taken)
+    bytes: &'a [u8],
+) -> Result<Taken<'a>, Refusal>
+    requires { 0 < length bytes.now }
+    ensures value { (l : List ℕ) (ls : List (List ℕ)) → lines bytes.now ≡ l ∷ ls → Gives
+        (λ taken. (taken.item, taken.more))
         result
-        (told_at (places.Line number) (item_at earlier.now line.now later.now)) }
-    ensures within { IfOk result (λ taken. taken.1 ≤ length later.now) }
+        (told_at (places.Line number) (item_at earlier.now l ls)) }
+    ensures after { IfOk result (λ taken. IsAfter (taken.more + 1) bytes.now taken.after.now) }
 {
+    let (line, after) = first_line(bytes);
     if earlier.has_glyphs_line() {
         if let Some(token) = opens_glyph(line) {
-            return glyph_entry(alloc, earlier, number, token, line, later);
+            return glyph_entry(alloc, earlier, number, token, line, bytes);
         }
     } else if earlier.has_subrs_line() {
         if let Some(token) = opens_subr(line) {
-            return subr_entry(alloc, earlier, number, token, line, later);
+            return subr_entry(alloc, earlier, number, token, line, bytes);
         }
     }
-    line_at(alloc, earlier, number, line)
+    let item = line_at(alloc, earlier, number, line)?;
+    Ok(Taken {
+        item,
+        more: 0,
+        after,
+    })
 }
 
-/// The items of some lines, of which the first has this number, each with the number of its first line.
-#[tactic(auto, using(crate::proofs::ItemLaws::items_step, crate::proofs::ItemLaws::items_fault))]
-fn items_of(alloc: Global, number: u64, lines: &[Line]) -> Result<Gathered, Refusal>
-    requires { number + length lines.now < 2 ^ 64 }
-    ensures { Gives (λ items. items) result (items_of [] 0 number lines.now) }
+/// The items of some bytes, of which the first line has this number, each with the number of its first line; and the number
+/// that a further line has.
+#[tactic(auto, using(crate::proofs::ItemLaws::item_read, crate::proofs::ItemLaws::item_fault))]
+fn items_of(alloc: Global, number: u64, bytes: &[u8]) -> Result<(Gathered, u64), Refusal>
+    requires { number + length bytes.now < 2 ^ 64 }
+    ensures value { Gives (λ read. read.0) result (items_of [] 0 number (lines bytes.now)) }
+    ensures number { IfOk result (λ read. read.1 ≡ number + length (lines bytes.now)) }
 {
     let mut items = Gathered::new(alloc);
-    let mut at = 0;
-    while at < lines.len() {
-        let first = number + at as u64;
-        let later = lines.split_at(at + 1).1;
-        let (item, more) = item_at(alloc, &items, first, lines[at].as_slice(), later)?;
-        items = items.with(alloc, first, item)?;
-        at += 1 + more;
+    let mut first = number;
+    let mut rest = bytes;
+    while !rest.is_empty() {
+        let taken = item_at(alloc, &items, first, rest)?;
+        items = items.with(alloc, first, taken.item)?;
+        first += taken.more as u64 + 1;
+        rest = taken.after;
     }
-    Ok(items)
+    Ok((items, first))
 }
 
-/// The items of a private part, of which the last line opens nothing.
-#[tactic(auto, unfolding(crate::specs::Private::private_items))]
-pub fn private_items(alloc: Global, number: u64, lines: &[Line]) -> Result<Gathered, Refusal>
-    requires { number + length lines.now < 2 ^ 64 }
-    ensures { Gives (λ items. items) result (private_items number lines.now) }
+/// The items of a private part, of which the last line opens nothing. The first of its lines has this number.
+#[tactic(auto, unfolding(crate::specs::Private::private_items), using(crate::proofs::ItemLaws::before_last))]
+pub fn private_items(
+    alloc: Global,
+    number: u64,
+    bytes: &[u8],
+    last: &[u8],
+) -> Result<Gathered, Refusal>
+    requires { number + length bytes.now < 2 ^ 64 }
+    ensures { Gives (λ items. items) result (private_items number (lines bytes.now ++ last.now ∷ [])) }
 {
-    let Some((last, body)) = lines.split_last() else {
-        return Ok(Gathered::new(alloc));
-    };
-    let items = items_of(alloc, number, body)?;
-    let last = Item::Plain(last.copied(alloc)?);
-    Ok(items.with(alloc, number + body.len() as u64, last)?)
+    let (items, further) = items_of(alloc, number, bytes)?;
+    let last = Item::Plain(Bytes::copied(alloc, last)?);
+    Ok(items.with(alloc, further, last)?)
 }

@@ -26,10 +26,10 @@ front_begins zero l h = refl
 front_begins (suc n) [] h = refl
 front_begins (suc n) (c ∷ l) h = h
 
-longer_len : (c : ℕ) (rest : List ℕ) → stays c ≡ true → line_len (c ∷ rest) ≡ suc (line_len rest)
+pub longer_len : (c : ℕ) (rest : List ℕ) → stays c ≡ true → line_len (c ∷ rest) ≡ suc (line_len rest)
 longer_len c rest h = rw (h, one-add) refl
 
-ended_len : (c : ℕ) (rest : List ℕ) → stays c ≡ false → line_len (c ∷ rest) ≡ 0
+pub ended_len : (c : ℕ) (rest : List ℕ) → stays c ≡ false → line_len (c ∷ rest) ≡ 0
 ended_len c rest h = rw h refl
 
 cut_stays : (c : ℕ) (rest : List ℕ) (j : ℕ) → stays c ≡ true → Cut rest j → Cut (c ∷ rest) j
@@ -180,3 +180,23 @@ line_behind bytes =
     let within = taken_within bytes in
     let size : length bytes - length (after_line bytes) ≡ taken_len bytes = omega (arith, left, same, within) in
     ap (λ k. drop k bytes) size ∙ taken_of bytes
+
+-- what is left after the first line is no longer, if there is one
+pub after_within : (bytes : List ℕ) → length (after_line bytes) ≤ length bytes
+after_within bytes =
+    let left = length-drop (taken_len bytes) bytes in
+    let same : length (drop (taken_len bytes) bytes) ≡ length (after_line bytes) = ap length (taken_of bytes) in
+    omega (arith, left, same)
+
+-- there are no more lines than bytes
+pub lines_within : (bytes : List ℕ) → length (lines bytes) ≤ length bytes
+lines_within bytes = within (length bytes) bytes (omega arith)
+  where
+  within : (n : ℕ) (bytes : List ℕ) → length bytes ≤ n → length (lines bytes) ≤ length bytes
+  within n [] h = omega arith
+  within zero (c ∷ rest) h = absurd (omega (arith, h))
+  within (suc n) (c ∷ rest) h =
+      let first = ap length (first_line_lem (c ∷ rest) (omega arith)) in
+      let gone = line_gone (c ∷ rest) (omega arith) in
+      let more = within n (after_line (c ∷ rest)) (omega (arith, h, gone)) in
+      omega (arith, first, gone, more)

@@ -28,7 +28,7 @@ ends c rest h = elim (cases_Bool (c == 13)) [
       let other : (d == 13) ≡ false = rw is_lf refl in
       rw (cr, lf, other, eq-eqb d 10 is_lf, one-add) refl
 
-after_stays : (c : ℕ) (rest : List ℕ) → stays c ≡ true → after_line (c ∷ rest) ≡ after_line rest
+pub after_stays : (c : ℕ) (rest : List ℕ) → stays c ≡ true → after_line (c ∷ rest) ≡ after_line rest
 after_stays c rest h = rw (h, one-add) refl
 
 -- a text with a line end has one more than what stands after its first line

@@ -165,3 +165,10 @@ line_on [] c (d ∷ rest) h k = onto c (d ∷ rest) k ∙ ap (onto_first c) (fir
 line_on (b ∷ line) c rest h k =
     let parts = and_parts (stays b) (is_line line) h in
     onto b (line ++ c ∷ rest) parts.0 ∙ ap (onto_first b) (line_on line c rest parts.1 k)
+
+-- a line alone
+pub single_line : (c : ℕ) (line : List ℕ) → is_line (c ∷ line) ≡ true → lines (c ∷ line) ≡ (c ∷ line) ∷ []
+single_line c [] h = onto c [] (and_parts (stays c) true h).0
+single_line c (d ∷ line) h =
+    let parts = and_parts (stays c) (is_line (d ∷ line)) h in
+    onto c (d ∷ line) parts.0 ∙ ap (onto_first c) (single_line d line parts.1)

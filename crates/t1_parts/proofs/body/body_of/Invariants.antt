@@ -1,13 +1,9 @@
-use Rattle.std.proofs.Common.{◌≡◌, ◌∷◌, ◌≤◌, ◌-◌, length, drop}
-use Rattle.std.specs.List.{prefix_len}
-use Rattle.t1_parts.specs.Entries.{body_of, with_front}
-use Rattle.t1_text.specs.Delimiters.{is_safe}
+use Rattle.t1_parts.proofs.PieceLaws.{left_after, IsRead}
 use Rattle.t1_parts.proofs.body.body_of.Given as goal
 
--- the body is the words so far, and the body of the lines that are left
-abbrev pub invariant-loop-text : goal.invariant-loop-text
-invariant-loop-text l =
-    (with_front l.words l.more (body_of (l.line ∷ drop l.more l.later)) ≡ body_of (l.first ∷ l.later)) × (l.more ≤ length l.later) × (l.delimiter ≡ prefix_len is_safe l.line)
+-- the body is the words so far, and that of the piece and of the bytes after it
+abbrev pub invariant-loop-piece : goal.invariant-loop-piece
+invariant-loop-piece l = IsRead l.words l.more l.bytes l.piece
 
-abbrev pub decreases-loop-text : goal.decreases-loop-text
-decreases-loop-text l = length l.later - l.more
+abbrev pub decreases-loop-piece : goal.decreases-loop-piece
+decreases-loop-piece l = left_after l.piece
