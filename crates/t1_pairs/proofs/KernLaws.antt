@@ -23,7 +23,7 @@ is_dark c = not (is_blank c)
 high_dark : (c : ℕ) → nat_le 33 c ≡ true → is_dark c ≡ true
 high_dark c h =
     let high = leb-true 33 c h in
-    rw (ne_eqb c 0 (omega arith), ne_eqb c 9 (omega arith), ne_eqb c 12 (omega arith), ne_eqb c 32 (omega arith)) refl
+    rw (ne_eqb c 0 (omega arith), ne_eqb c 9 (omega arith), ne_eqb c 10 (omega arith), ne_eqb c 12 (omega arith), ne_eqb c 13 (omega arith), ne_eqb c 32 (omega arith)) refl
 
 high_stays : (c : ℕ) → nat_le 33 c ≡ true → not (is_line_end c) ≡ true
 high_stays c h =

@@ -5,10 +5,10 @@ use std::alloc::{AllocError, Global};
 use std::marker::Model;
 use t1_frac::{Bytes, Code, Refusal};
 use t1_parts::{
-    Gathered, Item, check_clear, check_lead, copied_items, has_clear_end, has_standard, header_of,
-    lead_of, operator_of, parts_of, private_items, push_items, push_lines, raise, tail_of,
+    Gathered, Item, Parts, check_clear, check_lead, copied_items, has_standard, header_of, lead_of,
+    operator_of, parts_of, private_items, push_items, push_lines, raise, tail_of,
 };
-use t1_text::{Line, copied_bytes, copied_lines, cut_lines, same};
+use t1_text::{copied_bytes, copied_lines, same};
 
 /// The readable source of a font: its clear lines, the items of its private part and its tail.
 #[derive(Debug, Drop)]
@@ -31,11 +31,11 @@ impl Model for Source {
     ghost invariant = { λ source. IsWellFormed (record { clear = source.clear.items; items = source.items.items; tail = source.tail.items }) };
 }
 
-ghost use Rattle.std.specs.Prelude.{◌≡◌, ◌<◌, ◌≤◌, ℕ, [], length, slice_set, slice_index_or, IfOk, OnOk, OnErr, option_map, true};
-ghost use Rattle.std.specs.List.{insert, list_all, remove};
+ghost use Rattle.std.specs.Prelude.{◌≡◌, ◌<◌, ◌≤◌, ◌++◌, ◌∷◌, ℕ, [], length, slice_set, slice_index_or, IfOk, OnOk, OnErr, option_map};
+ghost use Rattle.std.specs.List.{insert, remove};
 ghost use Rattle.t1_frac.specs.Outcome.{Gives};
-ghost use Rattle.t1_text.specs.Lines.{is_line};
-ghost use Rattle.t1_parts.specs.Reading.{whole_check, reads_lines, reads, standard};
+ghost use Rattle.t1_text.specs.Lines.{lines};
+ghost use Rattle.t1_parts.specs.Reading.{whole_check, reads, standard};
 ghost use Rattle.t1_source.specs.WellFormed.{IsWellFormed};
 ghost use Rattle.t1_parts.specs.LenIV.{lead};
 ghost use Rattle.t1_parts.specs.Operator.{operator};
@@ -58,16 +58,31 @@ fn check_whole(items: &Gathered) -> Result<(), Refusal>
     Ok(())
 }
 
-/// The source of some lines, or the first fault.
-#[tactic(auto, unfolding(t1_parts::specs::Reading::reads_lines))]
-fn read_lines(alloc: Global, lines: &[Line]) -> Result<Source, Refusal>
-    requires { list_all is_line lines.now ≡ true }
-    ensures { Gives (λ source. source) result (reads_lines lines.now) }
+/// The lines of the clear part, of which the eexec line is the last.
+fn clear_lines(alloc: Global, parts: &Parts) -> Result<Vec<Bytes>, AllocError>
+    ensures { IfOk result (λ clear. clear.items ≡ lines parts.now.clear.now ++ parts.now.eexec.now ∷ []) }
 {
-    let parts = parts_of(lines)?;
-    let clear = copied_lines(alloc, parts.clear)?;
+    let mut clear = copied_lines(alloc, parts.clear)?;
+    clear.push(Bytes::copied(alloc, parts.eexec)?)?;
+    Ok(clear)
+}
+
+/// The source of some bytes. The first fault refuses it: F1 where no line ends the clear part, F2 where none ends the
+/// private part, then F5 and F6 of the clear lines, F4 and F7 to F10 of the private lines, each from the top and
+/// with its line, then F3 and F11. No table of the lines is made.
+#[tactic(auto, unfolding(t1_parts::specs::Reading::reads, t1_parts::specs::Reading::reads_lines))]
+pub fn read_source(alloc: Global, bytes: &[u8]) -> Result<Source, Refusal>
+    ensures { Gives (λ source. source) result (reads bytes.now) }
+{
+    let parts = parts_of(bytes)?;
+    let clear = clear_lines(alloc, &parts)?;
     check_clear(&clear)?;
-    let items = private_items(alloc, parts.clear.len() as u64 + 1, parts.private)?;
+    let items = private_items(
+        alloc,
+        clear.len() as u64 + 1,
+        parts.private,
+        parts.closefile,
+    )?;
     check_whole(&items)?;
     let mut items = items.into_items(alloc)?;
     raise(&mut items);
@@ -78,20 +93,6 @@ fn read_lines(alloc: Global, lines: &[Line]) -> Result<Source, Refusal>
         items,
         tail,
     })
-}
-
-/// The source of some bytes. The first fault refuses it: F1 where no line ends the clear part, F2 where none ends the
-/// private part, then F5 and F6 of the clear lines, F4 and F7 to F10 of the private lines, each from the top and
-/// with its line, then F3 and F11. Bytes without an end of a clear part are refused before a table of their lines is made.
-#[tactic(auto, unfolding(t1_parts::specs::Reading::reads), using(crate::proofs::WellFormedSourceLaws::lines_are_lines, t1_parts::proofs::PartLaws::unread))]
-pub fn read_source(alloc: Global, bytes: &[u8]) -> Result<Source, Refusal>
-    ensures { Gives (λ source. source) result (reads bytes.now) }
-{
-    if !has_clear_end(bytes) {
-        return Err(Refusal::from(Code::F1));
-    }
-    let lines = cut_lines(alloc, bytes)?;
-    read_lines(alloc, &lines)
 }
 
 /// Puts an item in the place of another.
