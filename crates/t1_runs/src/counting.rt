@@ -9,7 +9,7 @@ use std::io::Write;
 use t1_pairs::read_pairs;
 use t1_session::Session;
 use t1_source::{Cause, read_source};
-use t1_text::cut_lines;
+use t1_text::first_line;
 
 /// Performs a step.
 pub fn perform(session: &mut Session, step: Step) -> Result<(), Cause>
@@ -61,8 +61,11 @@ pub fn count_runs<W: Write>(
     let mut session = Session::open(alloc, source, read_pairs(alloc, b"")?)?;
     let runs = session.runs();
     write!(out, "{runs} opened\n")?;
-    for line in &cut_lines(alloc, script)? {
-        count_step(alloc, &mut session, line.as_slice(), out)?;
+    let mut rest = script;
+    while !rest.is_empty() {
+        let (line, after) = first_line(rest);
+        count_step(alloc, &mut session, line, out)?;
+        rest = after;
     }
     Ok(())
 }

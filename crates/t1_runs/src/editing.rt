@@ -17,7 +17,7 @@ use t1_frac::Refusal;
 use t1_pairs::read_pairs;
 use t1_session::Session;
 use t1_source::{Cause, Edit, read_source};
-use t1_text::cut_lines;
+use t1_text::first_line;
 
 /// The prints of a session.
 const PRINTS: [(&str, Print); 7] = [
@@ -170,8 +170,11 @@ pub fn try_editing<W: Write>(
 ) -> Result<(), Stop> {
     let mut session = session_of(alloc, source, pairs, out)?;
     put_prints(alloc, &session, out)?;
-    for line in &cut_lines(alloc, script)? {
-        try_step(alloc, &mut session, line.as_slice(), out)?;
+    let mut rest = script;
+    while !rest.is_empty() {
+        let (line, after) = first_line(rest);
+        try_step(alloc, &mut session, line, out)?;
+        rest = after;
     }
     Ok(())
 }
