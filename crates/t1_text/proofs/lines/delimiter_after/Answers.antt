@@ -1,4 +1,4 @@
-use Rattle.std.proofs.Common.{◌≡◌, ◌-◌, ◌≤◌, length, ◌∙◌, ap, arith}
+use Rattle.std.proofs.Common.{◌-◌, ◌≤◌, length, ◌∙◌, ap, arith}
 use Rattle.std.specs.List.{prefix_len}
 use Rattle.t1_text.specs.Delimiters.{is_safe}
 use Rattle.t1_text.proofs.ScanLaws.{prefix_of_end}
