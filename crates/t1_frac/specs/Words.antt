@@ -1,10 +1,11 @@
 -- Blanks and words of a line.
 use Rattle.std.specs.Prelude.{ℕ, Bool, false, not, ◌||◌, ◌==◌, if◌then◌else◌, List, [], ◌∷◌, drop}
 use Rattle.std.specs.List.{onto_first, prefix_len}
+use Rattle.t1_frac.specs.Ascii.{null, tab, form_feed, space}
 
--- profile, lines: blanks are the bytes 0, 9, 12 and 32
+-- profile, lines: the blanks: the byte 0, a tab, a form feed and a space
 abbrev pub is_blank : ℕ → Bool
-is_blank c = c == 0 || c == 9 || c == 12 || c == 32
+is_blank c = c == null || c == tab || c == form_feed || c == space
 
 -- profile, lines: without the blanks at the front
 abbrev pub trimmed_front : List ℕ → List ℕ

@@ -2,6 +2,7 @@
 
 ghost use Rattle.std.specs.Prelude.{◌≡◌, ◌≤◌, ◌==◌, ◌∷◌, length, take, true, false, IfOk, IfSome, IsTrue, MatchOption};
 ghost use Rattle.std.specs.List.{before_first, after_first, list_any, position_or_len, prefix_len};
+ghost use Rattle.t1_frac.specs.Ascii.{open_brace, percent};
 ghost use Rattle.t1_text.specs.Lines.{trimmed};
 ghost use Rattle.t1_text.specs.Tokens.{uncommented};
 ghost use Rattle.t1_text.specs.Delimiters.{is_brace, is_safe};
@@ -29,7 +30,7 @@ pub fn uncommented(line: &[u8]) -> &[u8]
 /// Where the comment of a line begins, or its length.
 fn comment_start(line: &[u8]) -> usize
     ensures within { result ≤ length line.now }
-    ensures value { result ≡ position_or_len (λ c. c == 37) line.now }
+    ensures value { result ≡ position_or_len (λ c. c == percent) line.now }
 {
     line.iter().take_while(|byte| **byte != b'%').count()
 }
@@ -158,14 +159,14 @@ pub fn opened_body(
 /// Where the first `{` of a line stands, or its length.
 fn opening_start(line: &[u8]) -> usize
     ensures within { result ≤ length line.now }
-    ensures value { result ≡ position_or_len (λ c. c == 123) line.now }
+    ensures value { result ≡ position_or_len (λ c. c == open_brace) line.now }
 {
     line.iter().take_while(|byte| **byte != b'{').count()
 }
 
 /// The part of a line after its first `{`.
 fn after_opening(line: &[u8]) -> &[u8]
-    ensures { result.now ≡ after_first (λ c. c == 123) line.now }
+    ensures { result.now ≡ after_first (λ c. c == open_brace) line.now }
 {
     let rest = line.split_at(opening_start(line)).1;
     match rest {

@@ -2,6 +2,7 @@
 
 ghost use Rattle.std.specs.Prelude.{◌≡◌, ◌+◌, ◌≤◌, ◌<◌, ◌^◌, ◌∷◌, length, nat_le, option_map, IfSome, ◌&&◌};
 ghost use Rattle.std.specs.List.{list_any, position, position_or_len};
+ghost use Rattle.t1_frac.specs.Ascii.{digit_seven, digit_zero};
 ghost use Rattle.t1_frac.specs.Outcome.{Gives};
 ghost use Rattle.t1_text.specs.Tokens.{tokens};
 ghost use Rattle.t1_text.specs.Names.{up_to};
@@ -118,9 +119,9 @@ fn check_opening(number: u64, opening: &[u8], later: &[Bytes]) -> Result<(), Ref
 
 /// Whether a byte is an octal digit.
 fn is_octal(byte: u8) -> bool
-    ensures { result ≡ nat_le 48 byte && nat_le byte 55 }
+    ensures { result ≡ nat_le digit_zero byte && nat_le byte digit_seven }
 {
-    48 <= byte && byte <= 55
+    b'0' <= byte && byte <= b'7'
 }
 
 /// The code of some octal digits, where it is at most 255.
@@ -135,7 +136,7 @@ fn octal_code(digits: &[u8]) -> Option<u8>
         if !is_octal(*digit) {
             return None;
         }
-        value = (8 * value + u32::from(*digit - 48)).min(256);
+        value = (8 * value + u32::from(*digit - b'0')).min(256);
     }
     if value <= 255 {
         Some(value as u8)

@@ -1,6 +1,7 @@
 //! Opening the entries of Subrs and glyphs.
 
 ghost use Rattle.std.specs.Prelude.{◌≡◌, ◌≤◌, length, IfOk, option_map};
+ghost use Rattle.t1_frac.specs.Ascii.{slash};
 ghost use Rattle.t1_frac.specs.declared.fault.Place.TheVariants as places;
 ghost use Rattle.t1_frac.specs.Outcome.{Gives, told_at};
 ghost use Rattle.t1_text.specs.Lines.{begins_with};
@@ -65,10 +66,10 @@ pub fn subr_entry(
 
 /// Whether a token begins with `/`.
 fn begins_name(token: &[u8]) -> bool
-    ensures { result ≡ begins_with 47 token.now }
+    ensures { result ≡ begins_with slash token.now }
 {
     match token {
-        [first, ..] => 47 == *first,
+        [first, ..] => b'/' == *first,
         [] => false,
     }
 }

@@ -2,6 +2,7 @@
 
 ghost use Rattle.std.specs.Prelude.{◌≡◌, ◌≤◌, ◌+◌, ◌==◌, length, IfOk, codes, if◌then◌else◌, Some, None, filter_map};
 ghost use Rattle.std.specs.List.{list_any, list_all, position};
+ghost use Rattle.t1_frac.specs.Ascii.{digit_zero};
 ghost use Rattle.t1_frac.specs.Outcome.{Gives};
 ghost use Rattle.t1_text.specs.Lines.{lines};
 ghost use Rattle.t1_parts.specs.Parts.{parts_of, ends_in, is_eexec, is_closefile, holds, is_zeros, tail_of};
@@ -109,7 +110,7 @@ pub fn holds(text: &[u8], line: &[u8]) -> bool
 
 /// Whether each byte is `0`.
 fn are_zeros(line: &[u8]) -> bool
-    ensures { result ≡ list_all (λ c. c == 48) line.now }
+    ensures { result ≡ list_all (λ c. c == digit_zero) line.now }
 {
     line.iter().all(|byte| *byte == b'0')
 }

@@ -2,15 +2,20 @@
 use Rattle.std.specs.Prelude.{ℕ, Bool, false, not, ◌||◌, ◌==◌, ◌+◌, if◌then◌else◌, Option, Some, None, List, [], ◌∷◌}
 use Rattle.std.specs.List.{onto_first, before_first, prefix_len, last_or}
 use Rattle.std.specs.Str.{bytes_eq}
+use Rattle.t1_frac.specs.Ascii.{close_brace, close_bracket, close_parenthesis, greater_than, less_than, open_brace, open_bracket, open_parenthesis, percent, slash}
 use Rattle.t1_frac.specs.Words.{is_blank}
 
 -- profile, tokens: the bytes that are tokens by themselves, ( ) < > [ ] { }
 abbrev pub is_bracket : ℕ → Bool
-is_bracket c = c == 40 || c == 41 || c == 60 || c == 62 || c == 91 || c == 93 || c == 123 || c == 125
+is_bracket c =
+    c == open_parenthesis || c == close_parenthesis
+    || c == less_than || c == greater_than
+    || c == open_bracket || c == close_bracket
+    || c == open_brace || c == close_brace
 
--- profile, tokens: a byte that goes on with a token; '/' is 47 and '%' 37
+-- profile, tokens: a byte that goes on with a token
 abbrev pub is_regular : ℕ → Bool
-is_regular c = not (is_blank c || is_bracket c || c == 47 || c == 37)
+is_regular c = not (is_blank c || is_bracket c || c == slash || c == percent)
 
 -- profile, tokens: whether a token that has come this far goes on
 abbrev pub goes_on : List ℕ → Bool
@@ -27,7 +32,7 @@ abbrev pub tokens : List ℕ → List (List ℕ)
 tokens [] = []
 tokens (c ∷ rest) =
     if is_blank c then tokens rest
-    else if c == 37 then []
+    else if c == percent then []
     else if is_bracket c then (c ∷ []) ∷ tokens rest
     else joins c rest (tokens rest)
 
@@ -73,10 +78,10 @@ abbrev pub places_from : ℕ → List ℕ → List (ℕ × List ℕ)
 places_from i [] = []
 places_from i (c ∷ rest) =
     if is_blank c then places_from (i + 1) rest
-    else if c == 37 then []
+    else if c == percent then []
     else if is_bracket c then (i, c ∷ []) ∷ places_from (i + 1) rest
     else joins_at i c rest (places_from (i + 1) rest)
 
 -- profile, comments: a line without its comment
 abbrev pub uncommented : List ℕ → List ℕ
-uncommented l = before_first (λ c. c == 37) l
+uncommented l = before_first (λ c. c == percent) l
