@@ -15,7 +15,7 @@ use Rattle.t1_parts.specs.Entries.{is_word, is_word_byte}
 use Rattle.t1_parts.specs.Parts.{is_closefile}
 use Rattle.t1_parts.specs.Printing.{body_line, last_line, word_groups, entry_lines}
 use Rattle.t1_source.specs.WellFormed.{is_inner, IsEntry}
-use Rattle.t1_text.proofs.TokenLaws.{regular_parts}
+use Rattle.t1_text.proofs.PlaceLaws.{regular_parts}
 use Rattle.t1_parts.proofs.EntryLaws.{digit_regular}
 use Rattle.t1_text.proofs.NumberLaws.{decimal_spells}
 use Rattle.t1_text.proofs.NumberLaws.{count_parts}
