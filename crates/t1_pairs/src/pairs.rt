@@ -190,12 +190,12 @@ fn line_pair(alloc: Global, number: u64, line: &[u8]) -> Result<Option<Pair>, Re
 {
     if first_word_is(b"KPX", line) {
         let Some(pair) = kpx_of(alloc, line)? else {
-            return Err(fault_on(number, Code::F12));
+            return Err(Refusal::from(fault_on(number, Code::F12)));
         };
         return Ok(Some(pair));
     }
     if is_left_out(line) {
-        return Err(fault_on(number, Code::F13));
+        return Err(Refusal::from(fault_on(number, Code::F13)));
     }
     Ok(None)
 }

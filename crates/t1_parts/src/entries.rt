@@ -52,14 +52,14 @@ pub fn subr_entry(
     ensures within { IfOk result (λ taken. taken.1 ≤ length later.now) }
 {
     let Some(subr) = decimal_up_to(32000, token) else {
-        return Err(fault_on(number, Code::F8));
+        return Err(Refusal::from(fault_on(number, Code::F8)));
     };
     let subr = subr as u16;
     if earlier.has_subr(subr) {
-        return Err(fault_on(number, Code::F9));
+        return Err(Refusal::from(fault_on(number, Code::F9)));
     }
     let Some(body) = opened_body(alloc, line, later)? else {
-        return Err(fault_on(number, Code::F7));
+        return Err(Refusal::from(fault_on(number, Code::F7)));
     };
     Ok((Item::Subr(subr, body.words, body.closing), body.more))
 }
@@ -108,13 +108,13 @@ pub fn glyph_entry(
     ensures within { IfOk result (λ taken. taken.1 ≤ length later.now) }
 {
     let Some(name) = name_of_token(token) else {
-        return Err(fault_on(number, Code::F8));
+        return Err(Refusal::from(fault_on(number, Code::F8)));
     };
     if earlier.has_glyph(name) {
-        return Err(fault_on(number, Code::F10));
+        return Err(Refusal::from(fault_on(number, Code::F10)));
     }
     let Some(body) = opened_body(alloc, line, later)? else {
-        return Err(fault_on(number, Code::F7));
+        return Err(Refusal::from(fault_on(number, Code::F7)));
     };
     let name = Bytes::copied(alloc, name)?;
     Ok((Item::Glyph(name, body.words, body.closing), body.more))

@@ -1,11 +1,10 @@
 //! The number of bytes that stand in front of a charstring.
 
 ghost use Rattle.std.specs.Prelude.{◌≡◌, ◌≤◌, option_map, IfSome, filter_map};
-ghost use Rattle.t1_frac.specs.Outcome.{Gives};
 ghost use Rattle.t1_parts.specs.LenIV.{plain_line, said_lead, lead_of_token, says_lead, lead_check, lead_among};
 
 use crate::item::Item;
-use t1_frac::{Code, Refusal};
+use t1_frac::{Code, Fault};
 use t1_text::{after_token, decimal_up_to, fault_on};
 
 /// The bytes of a plain line.
@@ -29,8 +28,8 @@ fn said_lead(item: &Item) -> Option<Option<&[u8]>>
 }
 
 /// The lenIV of some items with their lines, or its fault.
-pub fn check_lead(items: &[(u64, Item)]) -> Result<u8, Refusal>
-    ensures { Gives (λ lead. lead) result (lead_check (filter_map says_lead items.now)) }
+pub fn check_lead(items: &[(u64, Item)]) -> Result<u8, Fault>
+    ensures { result ≡ lead_check (filter_map says_lead items.now) }
 {
     let mut rest = items;
     while let Some((item, after)) = rest.split_first() {

@@ -1,14 +1,13 @@
 //! Cutting the lines of a source into its parts.
 
-ghost use Rattle.std.specs.Prelude.{◌≡◌, ◌≤◌, ◌+◌, ◌==◌, length, IfOk, codes, if◌then◌else◌, Some, None, filter_map};
+ghost use Rattle.std.specs.Prelude.{◌≡◌, ◌≤◌, ◌+◌, ◌==◌, length, IfOk, codes, if◌then◌else◌, Some, None, Ok, Err, MatchResult, filter_map};
 ghost use Rattle.std.specs.List.{list_any, list_all, position};
 ghost use Rattle.t1_frac.specs.Ascii.{digit_zero};
-ghost use Rattle.t1_frac.specs.Outcome.{Gives};
 ghost use Rattle.t1_text.specs.Lines.{lines};
 ghost use Rattle.t1_parts.specs.Parts.{parts_of, ends_in, is_eexec, is_closefile, holds, is_zeros, tail_of};
 
 use std::alloc::{AllocError, Global};
-use t1_frac::{Bytes, Code, Refusal};
+use t1_frac::{Bytes, Code, Fault};
 use t1_text::{Line, first_line, trimmed};
 
 /// Whether a line, trimmed, ends in this text.
@@ -72,19 +71,19 @@ pub struct Parts<'a, 'b> {
 
 /// The parts of the lines of a source.
 #[tactic(auto, unfolding(crate::specs::Parts::parts_of))]
-pub fn parts_of<'a, 'b>(lines: &'a [Line<'b>]) -> Result<Parts<'a, 'b>, Refusal>
-    ensures value { Gives
-        (λ p. record { clear = p.clear.now; private = p.private.now; tail = p.tail.now })
+pub fn parts_of<'a, 'b>(lines: &'a [Line<'b>]) -> Result<Parts<'a, 'b>, Fault>
+    ensures value { MatchResult
         result
-        (parts_of lines.now) }
+        (λ p. parts_of lines.now ≡ Ok (record { clear = p.clear.now; private = p.private.now; tail = p.tail.now }))
+        (λ fault. parts_of lines.now ≡ Err fault) }
     ensures within { IfOk result (λ p. length p.clear.now + length p.private.now ≤ length lines.now) }
 {
     let Some(eexec) = eexec_at(lines) else {
-        return Err(Refusal::from(Code::F1));
+        return Err(Fault::from(Code::F1));
     };
     let (clear, rest) = lines.split_at(eexec + 1);
     let Some(closefile) = closefile_at(rest) else {
-        return Err(Refusal::from(Code::F2));
+        return Err(Fault::from(Code::F2));
     };
     let (private, tail) = rest.split_at(closefile + 1);
     Ok(Parts {

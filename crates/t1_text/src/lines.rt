@@ -3,7 +3,6 @@
 ghost use Rattle.std.specs.Prelude.{◌≡◌, ◌<◌, ◌≤◌, ◌-◌, ◌∷◌, length, take, drop, IfOk, reverse};
 ghost use Rattle.std.specs.List.{prefix_len, position_or_len};
 ghost use Rattle.t1_frac.specs.declared.fault.Place.TheVariants as places;
-ghost use Rattle.t1_frac.specs.declared.fault.Refusal.TheVariants as refusals;
 ghost use Rattle.t1_frac.specs.Outcome.{fault_at};
 ghost use Rattle.t1_frac.specs.Words.{is_blank};
 ghost use Rattle.t1_text.specs.Delimiters.{is_safe};
@@ -12,7 +11,7 @@ ghost use Rattle.t1_text.specs.Lines.{lines, is_line_end, after_end, trimmed};
 use memchr::{memchr2, memchr3};
 use std::alloc::{AllocError, Global};
 use std::marker::Model;
-use t1_frac::{Bytes, Code, Fault, Place, Refusal, is_blank, skip_blanks};
+use t1_frac::{Bytes, Code, Fault, Place, is_blank, skip_blanks};
 
 /// A line of the text that it stands in, with the place of its first brace or `%`. Contracts see the list of its bytes.
 #[derive(Drop)]
@@ -65,14 +64,14 @@ impl<'a> Line<'a> {
     }
 }
 
-/// The refusal by a fault on the line of this number.
-pub fn fault_on(number: u64, code: Code) -> Refusal
-    ensures { result ≡ refusals.Fault (fault_at (places.Line number) code) }
+/// A fault on the line of this number.
+pub fn fault_on(number: u64, code: Code) -> Fault
+    ensures { result ≡ fault_at (places.Line number) code }
 {
-    Refusal::Fault(Fault {
+    Fault {
         code,
         place: Place::Line(number),
-    })
+    }
 }
 
 /// Copies of some lines.
