@@ -8,6 +8,7 @@ pub mod EntryLaws
 pub mod GroupLaws
 pub mod ItemLaws
 pub mod KeyLaws
+pub mod LeadLaws
 pub mod PartLaws
 pub mod ReadingRows
 pub mod RunLaws

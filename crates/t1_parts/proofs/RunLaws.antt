@@ -5,7 +5,7 @@ use Rattle.std.proofs.lemmas.Bool.{and_parts, cases_Bool}
 use Rattle.std.proofs.lemmas.List.{take-append-drop}
 use Rattle.std.proofs.Math.Numerals.{one-add}
 use Rattle.t1_frac.specs.Words.{is_blank}
-use Rattle.t1_text.specs.Tokens.{is_bracket, is_regular, goes_on, onto_place, joins_at, places_from}
+use Rattle.t1_text.specs.Tokens.{is_bracket, is_regular, goes_on, onto_place, places_from}
 use Rattle.t1_text.proofs.PlaceLaws.{regular_parts, other_place, regular_place, run_place}
 
 -- one or more bytes that go on with a token

@@ -25,7 +25,7 @@ use Rattle.t1_source.specs.WellFormed.{IsClear, IsWellFormed}
 use Rattle.t1_frac.proofs.OutcomeLaws.{bind_ok}
 use Rattle.t1_source.proofs.RuleLaws.{kept_ok}
 use Rattle.t1_text.proofs.NumberLaws.{decimal_spells, spelled}
-use Rattle.t1_text.proofs.TokenLaws.{blank_first, other_first}
+use Rattle.t1_text.proofs.TokenLaws.{other_first}
 use Rattle.t1_parts.proofs.EntryLaws.{digits_regular, name_regular, run_before, token_before}
 use Rattle.t1_source.proofs.PrintedLaws.{line_append, digits_line, name_is_line}
 use Rattle.t1_source.proofs.SourceAgainLaws.{Ends}
