@@ -3,9 +3,8 @@ ghost use Rattle.std.specs.Prelude.{◌≡◌, ◌<◌, ◌≤◌, ◌^◌, ◌-
 ghost use Rattle.std.specs.List.{insert, list_any, remove, slice_set};
 ghost use Rattle.t1_frac.specs.Outcome.{Gives};
 ghost use Rattle.t1_parts.specs.Counts.{glyphs_needed, raised_item, subrs_needed};
-ghost use Rattle.t1_parts.specs.LenIV.{lead_among};
+ghost use Rattle.t1_parts.specs.LenIV.{lead_among, says_lead};
 ghost use Rattle.t1_parts.specs.Operator.{operator_among, reads_strings};
-ghost use Rattle.t1_source.specs.Leads.{says_lead};
 ghost use Rattle.t1_font.specs.Bodies.{bodies, bodies_check};
 ghost use Rattle.t1_charstrings.specs.Kept.{Encrypt};
 ghost use Rattle.t1_charstrings.specs.Lines.{kept_text};
@@ -19,9 +18,10 @@ use crate::raising::{Needed, check_raised, raised_items_len};
 use std::alloc::Global;
 use std::slice;
 use t1_frac::Refusal;
-use t1_parts::{glyphs_needed, holds, lead_of, operator_of, plain_line, subrs_needed};
+use t1_parts::{
+    glyphs_needed, holds, lead_of, operator_of, plain_line, says_lead, subrs_needed,
+};
 use t1_source::Item;
-use t1_text::after_token;
 
 /// Items in three parts: those before the place of an edit, those that it puts there, and those after it.
 #[derive(Drop)]
@@ -29,16 +29,6 @@ pub(crate) struct MadeItems<'a> {
     before: &'a [Item],
     put: &'a [Item],
     after: &'a [Item],
-}
-
-/// Whether an item is a plain line with a token `/lenIV`.
-fn says_lead(item: &Item) -> bool
-    ensures { result ≡ says_lead item.now }
-{
-    match plain_line(item) {
-        Some(line) => after_token(b"/lenIV", line).is_some(),
-        None => false,
-    }
 }
 
 /// Whether one of the items says lenIV.

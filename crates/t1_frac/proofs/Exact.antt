@@ -4,7 +4,7 @@ use Rattle.std.specs.Int.{IsGcd}
 use Rattle.std.specs.Int.RustNames.{unsigned_abs, int_div}
 use Rattle.std.proofs.Math.Nat.{div-mul_cancel, div-one, one-dvd, mul-dvd-mul_right, dvd_of_mul-dvd-mul_right}
 use Prim.Native.Nat.{◌∣◌}
-use Rattle.t1_frac.specs.Fraction.{Fraction, IsSame, IsLowest, lowest, negated, gcd}
+use Rattle.t1_frac.specs.Fraction.{Fraction, IsSame, IsLowest, lowest, gcd}
 use Rattle.t1_frac.specs.Rounding.{LowestTerms}
 use Rattle.t1_frac.proofs.Divisors.{IsGcd-gcd, gcd_is, gcd_above, gcd_below, quotient_above}
 

@@ -1,3 +1,4 @@
+pub mod Ascii
 pub mod Fraction
 pub mod Limits
 pub mod Numbers

@@ -3,6 +3,7 @@ use Rattle.std.specs.Prelude.{fold, ℕ, ◌+◌, ◌-◌, ◌*◌, ◌^◌, ℤ
 use Rattle.std.specs.Char.{is_ascii_digit}
 use Rattle.std.specs.List.{list_all}
 use Rattle.std.specs.Str.Parse.{starts_with_minus}
+use Rattle.t1_frac.specs.Ascii.{digit_zero}
 
 -- profile, numbers: a number word is an optional minus and one digit or more
 abbrev pub digits_of_word : List ℕ → List ℕ
@@ -14,7 +15,7 @@ is_number_word word = nat_lt 0 (length (digits_of_word word)) && list_all is_asc
 
 -- profile, numbers: the value of decimal digits, the highest first
 abbrev pub decimal_value : List ℕ → ℕ
-decimal_value digits = fold (λ value digit. 10 * value + (digit - 48)) 0 digits
+decimal_value digits = fold (λ value digit. 10 * value + (digit - digit_zero)) 0 digits
 
 -- profile, numbers: the number of this size, less than nothing after a minus
 abbrev pub signed : Bool → ℕ → ℤ

@@ -1,10 +1,12 @@
 -- Blanks and words of a text.
 use Rattle.std.specs.Prelude.{ℕ, Bool, false, not, ◌||◌, ◌==◌, if◌then◌else◌, List, [], ◌∷◌, drop}
 use Rattle.std.specs.List.{onto_first, prefix_len}
+use Rattle.t1_frac.specs.Ascii.{null, tab, line_feed, form_feed, carriage_return, space}
 
--- PostScript Language Reference, white space: the bytes 0, 9, 10, 12, 13 and 32; a line has no 10 and no 13
+-- PostScript Language Reference, white space: the byte 0, a tab, a line feed, a form feed, a carriage return and a space;
+-- a line has no line feed and no carriage return
 abbrev pub is_blank : ℕ → Bool
-is_blank c = c == 0 || c == 9 || c == 10 || c == 12 || c == 13 || c == 32
+is_blank c = c == null || c == tab || c == line_feed || c == form_feed || c == carriage_return || c == space
 
 -- profile, lines: without the blanks at the front
 abbrev pub trimmed_front : List ℕ → List ℕ

@@ -121,6 +121,22 @@ impl Refusal {
     }
 }
 
+impl From<Code> for Fault {
+    ghost use Rattle.std.specs.Prelude.{◌≡◌};
+    ghost use Rattle.t1_frac.specs.declared.fault.Place.TheVariants as places;
+    ghost use Rattle.t1_frac.specs.Outcome.{fault_at};
+
+    ghost from_gives = { λ code fault. fault ≡ fault_at places.Nowhere code };
+
+    /// The fault of a call that knows no place.
+    fn from(code: Code) -> Fault {
+        Fault {
+            code,
+            place: Place::Nowhere,
+        }
+    }
+}
+
 impl From<Fault> for Refusal {
     ghost use Rattle.std.specs.Prelude.{◌≡◌};
     ghost use Rattle.t1_frac.specs.declared.fault.Refusal.TheVariants as refusals;
@@ -140,10 +156,7 @@ impl From<Code> for Refusal {
 
     /// The fault of a call that knows no place.
     fn from(code: Code) -> Refusal {
-        Refusal::Fault(Fault {
-            code,
-            place: Place::Nowhere,
-        })
+        Refusal::Fault(Fault::from(code))
     }
 }
 

@@ -16,7 +16,7 @@ pub use frac::Frac;
 pub use number::{
     are_digits, digits_of_word, is_number_word, leading_number, magnitude, number_word,
 };
-pub use words::{Words, is_blank, next_word, skip_blanks};
+pub use words::{Words, blank_len, is_blank, next_word, skip_blanks};
 
 #[cfg(test)]
 mod tests;

@@ -54,7 +54,7 @@ pub fn leading_number(text: &[u8]) -> (u64, usize)
         if !byte.is_ascii_digit() {
             return (value, count);
         }
-        value = with_digit(value, *byte - 48);
+        value = with_digit(value, *byte - b'0');
         count += 1;
     }
     (value, count)

@@ -1,4 +1,4 @@
-ghost use Rattle.std.specs.Prelude.{◌≡◌, ◌≤◌, ◌<◌, [], ◌∷◌, ◌++◌, length, IfSome, MatchOption, OnOk};
+ghost use Rattle.std.specs.Prelude.{◌≡◌, ◌≤◌, ◌<◌, [], ◌∷◌, ◌++◌, length, IfSome, MatchOption, OnOk, OnErr};
 ghost use Rattle.std.specs.List.{prefix_len, position_or_len};
 ghost use Rattle.t1_frac.specs.Words.{is_blank, trimmed_front, words};
 
@@ -38,9 +38,10 @@ impl Words {
         self.bytes.as_slice()
     }
 
-    /// Adds the words of a line.
+    /// Adds the words of a line. Where memory runs out, they are the words as before.
     pub fn push_line(&mut self, line: &[u8]) -> Result<(), AllocError>
-        ensures { OnOk result (self.new ≡ self.old ++ words line.now) }
+        ensures ok { OnOk result (self.new ≡ self.old ++ words line.now) }
+        ensures err { OnErr result (self.new ≡ self.old) }
     {
         self.bytes.push(b' ')?;
         self.bytes.extend_from_slice(line)?;
@@ -56,7 +57,7 @@ pub fn is_blank(byte: u8) -> bool
 }
 
 /// How many blanks stand at the front.
-fn blank_len(line: &[u8]) -> usize
+pub fn blank_len(line: &[u8]) -> usize
     ensures within { result ≤ length line.now }
     ensures value { result ≡ prefix_len is_blank line.now }
 {

@@ -6,6 +6,7 @@ use Rattle.std.specs.Ordering.{nat_cmp, is_lt, match_ordering, ordering_then}
 use Rattle.std.specs.Cmp.Lexicographic.{slice_cmp}
 use Rattle.std.specs.Str.{bytes_eq}
 use Rattle.std.specs.declared.cmp.Ordering.{Ordering}
+use Rattle.t1_frac.specs.Ascii.{line_feed, space}
 use Rattle.t1_frac.specs.declared.fault.Code.{Code}
 use Rattle.t1_frac.specs.declared.fault.Code.TheVariants.{F12, F13}
 use Rattle.t1_frac.specs.declared.fault.Fault.{Fault}
@@ -79,11 +80,11 @@ pairs bytes = pairs_with [] 1 (lines bytes)
 
 -- AFM 4.1, kerning data: the line `KPX LEFT RIGHT N`
 abbrev pub kpx_line : Pair → List ℕ
-kpx_line p = codes "KPX " ++ (p.left ++ 32 ∷ (p.right ++ 32 ∷ signed_decimal p.value))
+kpx_line p = codes "KPX " ++ (p.left ++ space ∷ (p.right ++ space ∷ signed_decimal p.value))
 
 -- profile, kerning files: one line a pair
 abbrev pub kern : List Pair → List ℕ
-kern ps = flat_map (λ p. kpx_line p ++ 10 ∷ []) ps
+kern ps = flat_map (λ p. kpx_line p ++ line_feed ∷ []) ps
 
 -- profile, kerning files: two names and such a value
 abbrev pub is_kerning_pair : Pair → Bool

@@ -54,6 +54,7 @@ impl Model for Sorted {
 
 ghost use Rattle.std.specs.Prelude.{◌≡◌, ◌∷◌, ◌+◌, ◌<◌, ◌≤◌, ◌^◌, [], ◌++◌, IfOk, OnOk, OnErr, length, slice_set, option_to_list, true, None, MatchOption};
 ghost use Rattle.std.specs.List.{insert, list_any, remove};
+ghost use Rattle.t1_frac.specs.Ascii.{line_feed};
 ghost use Rattle.t1_frac.specs.declared.fault.Place.TheVariants as places;
 ghost use Rattle.t1_frac.specs.Outcome.{Gives, told_at};
 ghost use Rattle.t1_frac.specs.Words.{words};
@@ -189,12 +190,12 @@ fn line_pair(alloc: Global, number: u64, line: &[u8]) -> Result<Option<Pair>, Re
 {
     if first_word_is(b"KPX", line) {
         let Some(pair) = kpx_of(alloc, line)? else {
-            return Err(fault_on(number, Code::F12));
+            return Err(Refusal::from(fault_on(number, Code::F12)));
         };
         return Ok(Some(pair));
     }
     if is_left_out(line) {
-        return Err(fault_on(number, Code::F13));
+        return Err(Refusal::from(fault_on(number, Code::F13)));
     }
     Ok(None)
 }
@@ -230,7 +231,7 @@ pub fn read_pairs(alloc: Global, bytes: &[u8]) -> Result<Pairs, Refusal>
 
 /// Adds the line of a pair to a text.
 fn push_pair(text: &mut Vec<u8>, pair: &Pair) -> Result<(), AllocError>
-    ensures { OnOk result (text.new.items ≡ text.old.items ++ kpx_line pair.now ++ 10 ∷ []) }
+    ensures { OnOk result (text.new.items ≡ text.old.items ++ kpx_line pair.now ++ line_feed ∷ []) }
 {
     text.extend_from_slice(b"KPX ")?;
     text.extend_from_slice(pair.left.as_slice())?;

@@ -12,7 +12,7 @@ use Rattle.t1_parts.specs.Sections.{is_subrs_line, is_glyphs_line}
 use Rattle.t1_parts.specs.Entries.{NumberedItem, has, is_subr, is_glyph, is_word, opened_body, body_of, with_front, subr_entry, glyph_entry}
 use Rattle.t1_parts.specs.Private.{item_at}
 use Rattle.t1_parts.specs.Printing.{word_groups, body_line, last_line}
-use Rattle.t1_text.proofs.TokenLaws.{regular_first}
+use Rattle.t1_text.proofs.TokenLaws.{blank_first, other_first, regular_first}
 use Rattle.t1_text.proofs.NumberLaws.{decimal_spells, spelled}
 use Rattle.t1_parts.proofs.BodyLaws.{printed_body}
 
@@ -22,7 +22,7 @@ are_regular l = list_all is_regular l
 
 -- a token of such bytes, and a blank after it
 pub run_before : (c : ℕ) (w rest : List ℕ) → are_regular (c ∷ w) ≡ true → tokens (c ∷ w ++ 32 ∷ rest) ≡ (c ∷ w) ∷ tokens rest
-run_before c [] rest h = regular_first c (32 ∷ rest) (and_parts _ _ h).0
+run_before c [] rest h = regular_first c (32 ∷ rest) (and_parts _ _ h).0 ∙ ap (λ t. (c ∷ []) ∷ t) (blank_first 32 rest refl)
 run_before c (d ∷ w) rest h =
     let parts = and_parts _ _ h in
     let next : is_regular d ≡ true = (and_parts _ _ parts.1).0 in
@@ -68,7 +68,8 @@ name_regular (c ∷ n) h = let parts = and_parts _ _ h in and_from _ _ (and_part
 pub subr_head : (n : ℕ) → n < 2 ^ 64 → tokens (codes "dup " ++ (decimal n ++ codes " {")) ≡ codes "dup" ∷ decimal n ∷ codes "{" ∷ []
 subr_head n h =
     let s = decimal_spells n h in
-    ap (λ t. codes "dup" ∷ t) (token_before (decimal n) (codes "{") s.2 (digits_regular (decimal n) s.0))
+    token_before (codes "dup") (decimal n ++ codes " {") (omega arith) refl
+    ∙ ap (λ t. codes "dup" ∷ t) (token_before (decimal n) (codes "{") s.2 (digits_regular (decimal n) s.0))
 
 -- the tokens of the head of a glyph
 pub glyph_head : (g : List ℕ) → is_name g ≡ true → tokens (47 ∷ (g ++ codes " {")) ≡ (47 ∷ g) ∷ codes "{" ∷ []
@@ -76,7 +77,7 @@ glyph_head [] h = cc
 glyph_head (c ∷ g) h =
     let bytes = name_regular (c ∷ g) (and_parts _ _ h).1 in
     let first : is_regular c ≡ true = (and_parts _ _ bytes).0 in
-    rw first (ap (onto_first 47) (run_before c g (codes "{") bytes))
+    other_first 47 (c ∷ g ++ codes " {") refl refl refl ∙ (rw first (ap (onto_first 47) (run_before c g (codes "{") bytes)))
 
 -- bytes before a brace
 abbrev pub are_before : List ℕ → Bool

@@ -7,6 +7,7 @@ pub mod EntryLaws
 pub mod GroupLaws
 pub mod ItemLaws
 pub mod KeyLaws
+pub mod LeadLaws
 pub mod OpeningLaws
 pub mod PartLaws
 pub mod PieceLaws

@@ -5,9 +5,8 @@ use Rattle.std.proofs.lemmas.Bool.{and_parts, cases_Bool}
 use Rattle.std.proofs.lemmas.List.{take-append-drop}
 use Rattle.std.proofs.Math.Numerals.{one-add}
 use Rattle.t1_frac.specs.Words.{is_blank}
-use Rattle.t1_text.specs.Tokens.{is_bracket, is_regular, goes_on, onto_place, joins_at, places_from}
-use Rattle.t1_text.proofs.TokenLaws.{regular_parts}
-use Rattle.t1_text.proofs.PlaceLaws.{regular_place, run_place}
+use Rattle.t1_text.specs.Tokens.{is_bracket, is_regular, goes_on, onto_place, places_from}
+use Rattle.t1_text.proofs.PlaceLaws.{regular_parts, other_place, regular_place, run_place}
 
 -- one or more bytes that go on with a token
 abbrev pub is_run : List ℕ → Bool
@@ -105,9 +104,6 @@ around_longer i c rest ps before_ps p t qs h step r =
           step (r.before ++ (es ++ r.after)) ((p, es) ∷ places_from (p + length es) r.after)
           (same_on r.before es t r.after regular h ∙ ap goes_on (sym r.whole)) (r.other es regular);
     }
-
-other_place : (i c : ℕ) (rest : List ℕ) → is_blank c ≡ false → (c == 37) ≡ false → is_bracket c ≡ false → places_from i (c ∷ rest) ≡ joins_at i c rest (places_from (i + 1) rest)
-other_place i c rest word none other = rw (word, none, other) refl
 
 -- the places of a token that goes on
 onto_parts : (i c : ℕ) (zs : List (ℕ × List ℕ)) (x : ℕ × List ℕ) (xs qs : List (ℕ × List ℕ)) (y : ℕ × List ℕ) → onto_place i c zs ≡ x ∷ (xs ++ y ∷ qs)

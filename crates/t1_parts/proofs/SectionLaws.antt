@@ -1,45 +1,15 @@
 -- A section line, with another count in the place of its count.
-use Rattle.std.proofs.Common.{◌≡◌, ℕ, Bool, true, false, ◌&&◌, ◌||◌, ◌==◌, ◌+◌, ◌≤◌, nat_le, if◌then◌else◌, Some, is_some, List, [], ◌∷◌, ◌++◌, length, map, refl, sym, ◌∙◌, ap, inl, inr, arith, append_assoc}
-use Rattle.std.specs.List.{list_all, onto_first}
+use Rattle.std.proofs.Common.{◌≡◌, ℕ, Bool, true, false, ◌&&◌, ◌||◌, ◌+◌, Some, is_some, List, [], ◌∷◌, ◌++◌, length, refl, sym, ◌∙◌, ap, inl, inr, arith, append_assoc}
 use Rattle.std.specs.Str.{bytes_eq}
-use Rattle.std.proofs.lemmas.Bool.{and_parts, and_from, cases_Bool, leb-true}
+use Rattle.std.proofs.lemmas.Bool.{and_parts, and_from, cases_Bool}
 use Rattle.std.proofs.lemmas.Slice.Eq.{bytes_eq-Decides}
-use Rattle.t1_frac.specs.Words.{is_blank}
-use Rattle.t1_text.specs.Tokens.{is_bracket, goes_on, tokens, onto_place, places_from}
-use Rattle.std.specs.Char.{is_ascii_digit}
+use Rattle.t1_text.specs.Tokens.{tokens, places_from}
 use Rattle.t1_text.specs.Names.{is_count}
 use Rattle.t1_parts.specs.Sections.{count_between}
 use Rattle.t1_text.proofs.NumberLaws.{count_parts}
+use Rattle.t1_text.proofs.TokenLaws.{bare, bare_places}
 use Rattle.t1_parts.proofs.RunLaws.{is_run, around_run}
 use Rattle.t1_parts.proofs.EntryLaws.{digits_regular}
-
--- the tokens without their places
-abbrev pub bare : List (ℕ × List ℕ) → List (List ℕ)
-bare ps = map (λ t. t.1) ps
-
-bare_onto : (i c : ℕ) (ps : List (ℕ × List ℕ)) → bare (onto_place i c ps) ≡ onto_first c (bare ps)
-bare_onto i c [] = refl
-bare_onto i c (t ∷ ts) = refl
-
-bare_joins : (i c : ℕ) (rest : List ℕ) (b : Bool) (ps : List (ℕ × List ℕ)) (ts : List (List ℕ)) → bare ps ≡ ts
-    → bare (if b then onto_place i c ps else (i, c ∷ []) ∷ ps) ≡ (if b then onto_first c ts else (c ∷ []) ∷ ts)
-bare_joins i c rest true ps ts e = bare_onto i c ps ∙ ap (onto_first c) e
-bare_joins i c rest false ps ts e = ap (λ t. (c ∷ []) ∷ t) e
-
--- the tokens of a line are the same wherever it begins
-pub bare_places : (i : ℕ) (l : List ℕ) → bare (places_from i l) ≡ tokens l
-bare_places i [] = refl
-bare_places i (c ∷ rest) =
-    elim (cases_Bool (is_blank c)) [
-      | inl blank ↦ rw blank (bare_places (i + 1) rest)
-      | inr word ↦ elim (cases_Bool (c == 37)) [
-        | inl comment ↦ rw (word, comment) refl
-        | inr none ↦ elim (cases_Bool (is_bracket c)) [
-          | inl bracket ↦ rw (word, none, bracket) (ap (λ t. (c ∷ []) ∷ t) (bare_places (i + 1) rest))
-          | inr other ↦ rw (word, none, other) (bare_joins i c rest (goes_on rest) (places_from (i + 1) rest) (tokens rest) (bare_places (i + 1) rest))
-        ]
-      ]
-    ]
 
 -- a count is a run of regular bytes
 count_run : (ds : List ℕ) → is_count ds ≡ true → is_run ds ≡ true

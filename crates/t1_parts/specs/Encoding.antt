@@ -2,6 +2,7 @@
 use Rattle.std.specs.Prelude.{ℕ, Bool, false, ◌+◌, ◌-◌, ◌*◌, ◌||◌, ◌&&◌, nat_le, if◌then◌else◌, Option, Some, None, Result, Ok, Err, is_some, is_none, List, [], ◌∷◌, length, take, drop, fold, codes, filter_map}
 use Rattle.std.specs.List.{list_all, list_any, position_or_len}
 use Rattle.std.specs.Str.{bytes_eq}
+use Rattle.t1_frac.specs.Ascii.{digit_seven, digit_zero}
 use Rattle.t1_frac.specs.declared.fault.Code.TheVariants.{F5, F6}
 use Rattle.t1_frac.specs.declared.fault.Fault.{Fault}
 use Rattle.t1_frac.specs.declared.fault.Place.TheVariants.{Nowhere, Line}
@@ -13,7 +14,7 @@ use Rattle.t1_text.specs.Names.{decimal_of, up_to, name_of_token}
 abbrev pub octal_of : List ℕ → Option ℕ
 octal_of [] = None
 octal_of (d ∷ ds) =
-    if list_all (λ c. nat_le 48 c && nat_le c 55) (d ∷ ds) then Some (fold (λ n c. 8 * n + (c - 48)) 0 (d ∷ ds)) else None
+    if list_all (λ c. nat_le digit_zero c && nat_le c digit_seven) (d ∷ ds) then Some (fold (λ n c. 8 * n + (c - digit_zero)) 0 (d ∷ ds)) else None
 
 -- profile, encoding: `8#` and octal digits
 abbrev pub radix_of : List ℕ → Option ℕ

@@ -2,6 +2,7 @@
 use Rattle.std.specs.Prelude.{slice_index, ℕ, Bool, false, not, ◌+◌, ◌&&◌, ◌==◌, if◌then◌else◌, Option, Some, None, Result, Err, ok_or, option_map, List, [], ◌∷◌, ◌++◌, codes}
 use Rattle.std.specs.List.{list_all, list_any, before_first, after_first, position_or_len}
 use Rattle.std.specs.Str.{bytes_eq}
+use Rattle.t1_frac.specs.Ascii.{close_brace, open_brace, slash}
 use Rattle.t1_frac.specs.declared.fault.Code.{Code}
 use Rattle.t1_frac.specs.declared.fault.Code.TheVariants.{F7, F8, F9, F10}
 use Rattle.t1_frac.specs.Outcome.{◌>>=◌}
@@ -29,7 +30,7 @@ has_brace l = list_any is_brace (uncommented l)
 
 -- profile, entries: whether the first brace of a line is `}`
 abbrev pub closes : List ℕ → Bool
-closes l = slice_index l (position_or_len is_brace l) == 125
+closes l = slice_index l (position_or_len is_brace l) == close_brace
 
 -- profile, entries: a body with these words in front, on so many lines more
 abbrev pub with_front : List (List ℕ) → ℕ → Option EntryBody → Option EntryBody
@@ -47,7 +48,7 @@ body_of (l ∷ ls) =
 
 -- profile, entries: the body that opens on the first of these lines
 abbrev pub opened_body : List ℕ → List (List ℕ) → Option EntryBody
-opened_body l ls = body_of (after_first (λ c. c == 123) l ∷ ls)
+opened_body l ls = body_of (after_first (λ c. c == open_brace) l ∷ ls)
 
 -- profile, entries: the first tokens `dup`, T, `{`, and T
 abbrev pub opens_subr : List (List ℕ) → Option (List ℕ)
@@ -56,7 +57,7 @@ opens_subr _ = None
 
 -- profile, entries: the first tokens `/NAME`, `{`, and `/NAME`
 abbrev pub opens_glyph : List (List ℕ) → Option (List ℕ)
-opens_glyph (name ∷ brace ∷ more) = if begins_with 47 name && bytes_eq brace (codes "{") then Some name else None
+opens_glyph (name ∷ brace ∷ more) = if begins_with slash name && bytes_eq brace (codes "{") then Some name else None
 opens_glyph _ = None
 
 -- profile, entries: whether an item is the Subr of this number

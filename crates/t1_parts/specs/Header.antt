@@ -2,6 +2,7 @@
 use Rattle.std.specs.Prelude.{ℕ, Bool, false, not, ◌+◌, ◌-◌, ◌&&◌, ◌==◌, if◌then◌else◌, Option, Some, None, option_and_then, List, [], ◌∷◌, length, take, drop, codes}
 use Rattle.std.specs.List.{list_any, starts_with}
 use Rattle.std.specs.Str.{bytes_eq}
+use Rattle.t1_frac.specs.Ascii.{backslash, close_parenthesis, open_parenthesis, slash}
 use Rattle.t1_frac.specs.Words.{trimmed_front}
 use Rattle.t1_parts.specs.SourceParts.{SourceParts}
 use Rattle.t1_text.specs.Lines.{begins_with}
@@ -16,15 +17,15 @@ not_empty (c ∷ cs) = Some (c ∷ cs)
 
 -- profile, header keys: how many parentheses are open past a byte, which counts for nothing after a backslash
 abbrev pub open_after : Bool → ℕ → ℕ → ℕ
-open_after escaped depth c = if escaped then depth else if c == 40 then depth + 1 else if c == 41 then depth - 1 else depth
+open_after escaped depth c = if escaped then depth else if c == open_parenthesis then depth + 1 else if c == close_parenthesis then depth - 1 else depth
 
 -- profile, header keys: how many bytes stand before the `)` that balances, or before the end; a backslash takes
 -- the next byte with it
 abbrev pub before_balance : Bool → ℕ → List ℕ → ℕ
 before_balance escaped depth [] = 0
 before_balance escaped depth (c ∷ rest) =
-    if not escaped && c == 41 && depth == 0 then 0
-    else 1 + before_balance (not escaped && c == 92) (open_after escaped depth c) rest
+    if not escaped && c == close_parenthesis && depth == 0 then 0
+    else 1 + before_balance (not escaped && c == backslash) (open_after escaped depth c) rest
 
 -- profile, header keys: a `/` and the name
 abbrev pub name_value : List ℕ → Option (List ℕ)
@@ -33,7 +34,7 @@ name_value rest = option_and_then name_of_token (first_token (tokens rest))
 -- profile, header keys: a `(` and the bytes as written up to the balancing `)`
 abbrev pub text_value : List ℕ → Option (List ℕ)
 text_value rest =
-    if begins_with 40 rest then not_empty (take (before_balance false 0 (drop 1 rest)) (drop 1 rest)) else None
+    if begins_with open_parenthesis rest then not_empty (take (before_balance false 0 (drop 1 rest)) (drop 1 rest)) else None
 
 -- profile, header keys: one token
 abbrev pub token_value : List ℕ → Option (List ℕ)
@@ -43,7 +44,7 @@ token_value rest = first_token (tokens rest)
 abbrev pub after_key : List ℕ → List ℕ → Option (List ℕ)
 after_key key [] = None
 after_key key (c ∷ rest) =
-    if c == 47 && starts_with (λ x y. x == y) rest key && not (goes_on (drop (length key) rest)) then Some (trimmed_front (drop (length key) rest))
+    if c == slash && starts_with (λ x y. x == y) rest key && not (goes_on (drop (length key) rest)) then Some (trimmed_front (drop (length key) rest))
     else None
 
 -- profile, header keys: the first line with the key decides; the bytes of it after the key

@@ -1,5 +1,5 @@
 -- lenIV: how many bytes stand in front of each charstring.
-use Rattle.std.specs.Prelude.{ℕ, Option, Some, None, Result, Ok, ok_or, option_and_then, option_map, unwrap_or, List, [], ◌∷◌, codes, filter_map}
+use Rattle.std.specs.Prelude.{ℕ, Bool, is_some, Option, Some, None, Result, Ok, ok_or, option_and_then, option_map, unwrap_or, List, [], ◌∷◌, codes, filter_map}
 use Rattle.t1_frac.specs.declared.fault.Code.TheVariants.{F11}
 use Rattle.t1_frac.specs.declared.fault.Fault.{Fault}
 use Rattle.t1_frac.specs.declared.fault.Place.TheVariants.{Line}
@@ -24,9 +24,13 @@ said_lead i = option_and_then (λ l. after_token (codes "/lenIV") (tokens l)) (p
 abbrev pub lead_of_token : Option (List ℕ) → Option ℕ
 lead_of_token t = up_to 64 (option_and_then decimal_of t)
 
+-- profile, lenIV: whether an item is a plain line with a token `/lenIV`
+abbrev pub says_lead : Item → Bool
+says_lead i = is_some (said_lead i)
+
 -- profile, lenIV: what an item says of lenIV, with its line
-abbrev pub says_lead : NumberedItem → Option (ℕ × Option (List ℕ))
-says_lead i = option_map (λ t. (i.0, t)) (said_lead i.1)
+abbrev pub said_with_line : NumberedItem → Option (ℕ × Option (List ℕ))
+said_with_line i = option_map (λ t. (i.0, t)) (said_lead i.1)
 
 -- profile, lenIV: the first line that says something decides; 4 where none does
 abbrev pub lead_check : List (ℕ × Option (List ℕ)) → Result ℕ Fault

@@ -1,6 +1,7 @@
 -- The three parts of a source, and its tail.
 use Rattle.std.specs.Prelude.{◌≡◌, ◌++◌, true, ℕ, Bool, false, ◌+◌, ◌||◌, ◌&&◌, ◌==◌, nat_le, if◌then◌else◌, Some, None, Result, Ok, ok_or, List, [], ◌∷◌, length, take, drop, codes, filter_map}
 use Rattle.std.specs.List.{list_all, list_any, position, starts_with, ends_with}
+use Rattle.t1_frac.specs.Ascii.{digit_zero}
 use Rattle.t1_frac.specs.declared.fault.Code.TheVariants.{F1, F2}
 use Rattle.t1_frac.specs.declared.fault.Fault.{Fault}
 use Rattle.t1_frac.specs.declared.fault.Place.TheVariants.{Nowhere}
@@ -47,7 +48,7 @@ holds text (c ∷ rest) = starts_with (λ x y. x == y) (c ∷ rest) text || hold
 
 -- profile, tail: a line that, trimmed, has at least one byte, each of them `0`
 abbrev pub is_zeros : List ℕ → Bool
-is_zeros l = nat_le 1 (length (trimmed l)) && list_all (λ c. c == 48) (trimmed l)
+is_zeros l = nat_le 1 (length (trimmed l)) && list_all (λ c. c == digit_zero) (trimmed l)
 
 -- profile, tail: lines of zeros dropped, and `cleartomark` put first where no line holds it
 unfoldable pub tail_of : List (List ℕ) → List (List ℕ)

@@ -14,7 +14,7 @@ use Rattle.t1_parts.specs.Entries.{NumberedItem, has}
 use Rattle.t1_parts.specs.Private.{private_items}
 use Rattle.t1_parts.specs.Parts.{parts_of, tail_of}
 use Rattle.t1_parts.specs.Counts.{raised}
-use Rattle.t1_parts.specs.LenIV.{says_lead, lead_check}
+use Rattle.t1_parts.specs.LenIV.{said_with_line, lead_check}
 
 -- profile, sources: the items without their line numbers
 abbrev pub unnumbered : List NumberedItem → List Item
@@ -23,7 +23,7 @@ unnumbered items = map (λ i. i.1) items
 -- profile, sources: the fault of the private items as a whole
 unfoldable pub whole_check : List NumberedItem → Result (Unit {0}) Fault
 whole_check items =
-    if has is_glyphs_line items then (lead_check (filter_map says_lead items) >>= λ lead. Ok tt)
+    if has is_glyphs_line items then (lead_check (filter_map said_with_line items) >>= λ lead. Ok tt)
     else Err (fault_at Nowhere F3)
 
 -- profile, sources: the source of the lines, or the first fault

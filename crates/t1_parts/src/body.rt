@@ -2,6 +2,7 @@
 
 ghost use Rattle.std.specs.Prelude.{◌≡◌, ◌≤◌, ◌+◌, ◌==◌, ◌∷◌, ℕ, List, length, nat_lt, if◌then◌else◌, IfOk, IfSome, option_map};
 ghost use Rattle.std.specs.List.{list_any, position_or_len};
+ghost use Rattle.t1_frac.specs.Ascii.{open_brace, percent};
 ghost use Rattle.t1_text.specs.Lines.{lines};
 ghost use Rattle.t1_text.specs.Tokens.{uncommented};
 ghost use Rattle.t1_text.specs.Delimiters.{is_brace};
@@ -31,7 +32,7 @@ pub fn uncommented(line: &[u8]) -> &[u8]
 /// Where the comment of a line begins, or its length.
 fn comment_start(line: &[u8]) -> usize
     ensures within { result ≤ length line.now }
-    ensures value { result ≡ position_or_len (λ c. c == 37) line.now }
+    ensures value { result ≡ position_or_len (λ c. c == percent) line.now }
 {
     line.iter().take_while(|byte| **byte != b'%').count()
 }
@@ -87,14 +88,14 @@ pub fn body_of(alloc: Global, bytes: &[u8]) -> Result<Option<(EntryBody, &[u8])>
 /// Where the first `{` of a line stands, or its length.
 fn opening_start(line: &[u8]) -> usize
     ensures within { result ≤ length line.now }
-    ensures value { result ≡ position_or_len (λ c. c == 123) line.now }
+    ensures value { result ≡ position_or_len (λ c. c == open_brace) line.now }
 {
     line.iter().take_while(|byte| **byte != b'{').count()
 }
 
 /// How many bytes of a line stand through its first `{`, or its length.
 fn opening_end(line: &[u8]) -> usize
-    ensures value { result ≡ (if nat_lt (position_or_len (λ c. c == 123) line.now) (length line.now) then position_or_len (λ c. c == 123) line.now + 1 else position_or_len (λ c. c == 123) line.now) }
+    ensures value { result ≡ (if nat_lt (position_or_len (λ c. c == open_brace) line.now) (length line.now) then position_or_len (λ c. c == open_brace) line.now + 1 else position_or_len (λ c. c == open_brace) line.now) }
     ensures within { result ≤ length line.now }
 {
     let start = opening_start(line);

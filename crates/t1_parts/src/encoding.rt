@@ -2,12 +2,12 @@
 
 ghost use Rattle.std.specs.Prelude.{◌≡◌, ◌+◌, ◌≤◌, ◌<◌, ◌^◌, ◌∷◌, length, nat_le, option_map, IfSome, ◌&&◌};
 ghost use Rattle.std.specs.List.{list_any, position, position_or_len};
-ghost use Rattle.t1_frac.specs.Outcome.{Gives};
+ghost use Rattle.t1_frac.specs.Ascii.{digit_seven, digit_zero};
 ghost use Rattle.t1_text.specs.Tokens.{tokens};
 ghost use Rattle.t1_text.specs.Names.{up_to};
 ghost use Rattle.t1_parts.specs.Encoding.{opens_encoding, ends_array, is_standard, is_array, is_bad_slot, array_lines, from_encoding, opening_check, later_check, later_checks, clear_check, chooses_standard, code_of_token, slot_of_tokens, octal_of};
 
-use t1_frac::{Bytes, Code, Refusal};
+use t1_frac::{Bytes, Code, Fault};
 use t1_text::{
     decimal_up_to, fault_on, first_is, is_decimal, last_is, name_of_token, next_token, same,
 };
@@ -107,8 +107,8 @@ pub fn array_len(opening: &[u8], later: &[Bytes]) -> usize
 
 /// Judges the line that opens the encoding.
 #[tactic(auto, unfolding(crate::specs::Encoding::opening_check))]
-fn check_opening(number: u64, opening: &[u8], later: &[Bytes]) -> Result<(), Refusal>
-    ensures { Gives (λ x. x) result (opening_check number opening.now later.now) }
+fn check_opening(number: u64, opening: &[u8], later: &[Bytes]) -> Result<(), Fault>
+    ensures { result ≡ opening_check number opening.now later.now }
 {
     if is_standard(opening) || (is_array(opening) && has_end(later)) {
         return Ok(());
@@ -118,9 +118,9 @@ fn check_opening(number: u64, opening: &[u8], later: &[Bytes]) -> Result<(), Ref
 
 /// Whether a byte is an octal digit.
 fn is_octal(byte: u8) -> bool
-    ensures { result ≡ nat_le 48 byte && nat_le byte 55 }
+    ensures { result ≡ nat_le digit_zero byte && nat_le byte digit_seven }
 {
-    48 <= byte && byte <= 55
+    b'0' <= byte && byte <= b'7'
 }
 
 /// The code of some octal digits, where it is at most 255.
@@ -135,7 +135,7 @@ fn octal_code(digits: &[u8]) -> Option<u8>
         if !is_octal(*digit) {
             return None;
         }
-        value = (8 * value + u32::from(*digit - 48)).min(256);
+        value = (8 * value + u32::from(*digit - b'0')).min(256);
     }
     if value <= 255 {
         Some(value as u8)
@@ -198,8 +198,8 @@ fn is_bad_slot(line: &[u8]) -> bool
 
 /// Judges a line after the one that opens the encoding.
 #[tactic(auto, unfolding(crate::specs::Encoding::later_check))]
-fn check_later(number: u64, in_array: usize, line: &[u8]) -> Result<(), Refusal>
-    ensures { Gives (λ x. x) result (later_check number in_array line.now) }
+fn check_later(number: u64, in_array: usize, line: &[u8]) -> Result<(), Fault>
+    ensures { result ≡ later_check number in_array line.now }
 {
     if opens_encoding(line) {
         return Err(fault_on(number, Code::F5));
@@ -212,9 +212,9 @@ fn check_later(number: u64, in_array: usize, line: &[u8]) -> Result<(), Refusal>
 
 /// Judges the lines after the one that opens the encoding.
 #[tactic(auto, using(crate::proofs::EncodingLaws::later_step, crate::proofs::EncodingLaws::later_stop))]
-fn check_all_later(number: u64, in_array: usize, lines: &[Bytes]) -> Result<(), Refusal>
+fn check_all_later(number: u64, in_array: usize, lines: &[Bytes]) -> Result<(), Fault>
     requires { number + length lines.now < 2 ^ 64 }
-    ensures { Gives (λ x. x) result (later_checks number in_array lines.now) }
+    ensures { result ≡ later_checks number in_array lines.now }
 {
     let mut number = number;
     let mut in_array = in_array;
@@ -228,12 +228,12 @@ fn check_all_later(number: u64, in_array: usize, lines: &[Bytes]) -> Result<(), 
 
 /// Judges the clear lines.
 #[tactic(auto, unfolding(crate::specs::Encoding::clear_check), using(crate::proofs::EncodingLaws::opening_passes, crate::proofs::EncodingLaws::opening_stops))]
-pub fn check_clear(clear: &[Bytes]) -> Result<(), Refusal>
-    ensures { Gives (λ x. x) result (clear_check clear.now) }
+pub fn check_clear(clear: &[Bytes]) -> Result<(), Fault>
+    ensures { result ≡ clear_check clear.now }
 {
     let start = encoding_start(clear);
     let Some((opening, later)) = clear.split_at(start).1.split_first() else {
-        return Err(Refusal::from(Code::F5));
+        return Err(Fault::from(Code::F5));
     };
     let number = start as u64 + 1;
     check_opening(number, opening.as_slice(), later)?;

@@ -1,6 +1,7 @@
 //! Opening the entries of Subrs and glyphs.
 
 ghost use Rattle.std.specs.Prelude.{◌≡◌, ◌≤◌, ◌+◌, ◌∷◌, ℕ, List, length, IfOk, option_map};
+ghost use Rattle.t1_frac.specs.Ascii.{slash};
 ghost use Rattle.t1_frac.specs.declared.fault.Place.TheVariants as places;
 ghost use Rattle.t1_frac.specs.Outcome.{Gives, told_at};
 ghost use Rattle.t1_text.specs.Lines.{begins_with, lines};
@@ -53,14 +54,14 @@ pub fn subr_entry<'a>(
     ensures after { (ls : List (List ℕ)) → lines bytes.now ≡ line.now ∷ ls → IfOk result (λ taken. IsAfter (taken.more + 1) bytes.now taken.after.now) }
 {
     let Some(subr) = decimal_up_to(32000, token) else {
-        return Err(fault_on(number, Code::F8));
+        return Err(Refusal::from(fault_on(number, Code::F8)));
     };
     let subr = subr as u16;
     if earlier.has_subr(subr) {
-        return Err(fault_on(number, Code::F9));
+        return Err(Refusal::from(fault_on(number, Code::F9)));
     }
     let Some((body, after)) = opened_body(alloc, line, bytes)? else {
-        return Err(fault_on(number, Code::F7));
+        return Err(Refusal::from(fault_on(number, Code::F7)));
     };
     Ok(Taken {
         item: Item::Subr(subr, body.words, body.closing),
@@ -71,10 +72,10 @@ pub fn subr_entry<'a>(
 
 /// Whether a token begins with `/`.
 fn begins_name(token: &[u8]) -> bool
-    ensures { result ≡ begins_with 47 token.now }
+    ensures { result ≡ begins_with slash token.now }
 {
     match token {
-        [first, ..] => 47 == *first,
+        [first, ..] => b'/' == *first,
         [] => false,
     }
 }
@@ -114,13 +115,13 @@ pub fn glyph_entry<'a>(
     ensures after { (ls : List (List ℕ)) → lines bytes.now ≡ line.now ∷ ls → IfOk result (λ taken. IsAfter (taken.more + 1) bytes.now taken.after.now) }
 {
     let Some(name) = name_of_token(token) else {
-        return Err(fault_on(number, Code::F8));
+        return Err(Refusal::from(fault_on(number, Code::F8)));
     };
     if earlier.has_glyph(name) {
-        return Err(fault_on(number, Code::F10));
+        return Err(Refusal::from(fault_on(number, Code::F10)));
     }
     let Some((body, after)) = opened_body(alloc, line, bytes)? else {
-        return Err(fault_on(number, Code::F7));
+        return Err(Refusal::from(fault_on(number, Code::F7)));
     };
     let name = Bytes::copied(alloc, name)?;
     Ok(Taken {

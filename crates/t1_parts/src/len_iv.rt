@@ -1,11 +1,11 @@
 //! The number of bytes that stand in front of a charstring.
 
-ghost use Rattle.std.specs.Prelude.{◌≡◌, ◌≤◌, option_map, IfSome, filter_map};
-ghost use Rattle.t1_frac.specs.Outcome.{Gives};
-ghost use Rattle.t1_parts.specs.LenIV.{plain_line, said_lead, lead_of_token, says_lead, lead_check, lead_among};
+ghost use Rattle.std.specs.Prelude.{◌≡◌, option_and_then, option_map, filter_map};
+ghost use Rattle.std.specs.List.{find};
+ghost use Rattle.t1_parts.specs.LenIV.{plain_line, said_lead, says_lead, lead_of_token, said_with_line, lead_check, lead_among};
 
 use crate::item::Item;
-use t1_frac::{Code, Refusal};
+use t1_frac::{Code, Fault};
 use t1_text::{after_token, decimal_up_to, fault_on};
 
 /// The bytes of a plain line.
@@ -28,42 +28,61 @@ fn said_lead(item: &Item) -> Option<Option<&[u8]>>
     }
 }
 
-/// The lenIV of some items with their lines, or its fault.
-pub fn check_lead(items: &[(u64, Item)]) -> Result<u8, Refusal>
-    ensures { Gives (λ lead. lead) result (lead_check (filter_map says_lead items.now)) }
+/// Whether an item is a plain line with a token `/lenIV`.
+pub fn says_lead(item: &Item) -> bool
+    ensures { result ≡ says_lead item.now }
 {
-    let mut rest = items;
-    while let Some((item, after)) = rest.split_first() {
-        if let Some(said) = said_lead(&item.1) {
-            let Some(token) = said else {
-                return Err(fault_on(item.0, Code::F11));
-            };
-            let Some(lead) = decimal_up_to(64, token) else {
-                return Err(fault_on(item.0, Code::F11));
-            };
-            return Ok(lead as u8);
-        }
-        rest = after;
-    }
-    Ok(4)
+    said_lead(item).is_some()
+}
+
+/// The number from 0 to 64 that an item says.
+fn lead_on(item: &Item) -> Option<u8>
+    ensures { result ≡ option_and_then lead_of_token (said_lead item.now) }
+{
+    let Some(Some(token)) = said_lead(item) else {
+        return None;
+    };
+    let Some(lead) = decimal_up_to(64, token) else {
+        return None;
+    };
+    Some(lead as u8)
+}
+
+/// The first item with its line that says lenIV.
+fn first_with_line(items: &[(u64, Item)]) -> Option<&(u64, Item)>
+    ensures { option_map (λ item. item.now) result ≡ find (λ i. says_lead i.1) items.now }
+{
+    items.iter().find(|item| says_lead(&item.1))
+}
+
+/// The lenIV of some items with their lines, or its fault.
+#[tactic(auto, using(crate::proofs::LeadLaws::checked_well, crate::proofs::LeadLaws::checked_ill, crate::proofs::LeadLaws::checked_nowhere))]
+pub fn check_lead(items: &[(u64, Item)]) -> Result<u8, Fault>
+    ensures { result ≡ lead_check (filter_map said_with_line items.now) }
+{
+    let Some(item) = first_with_line(items) else {
+        return Ok(4);
+    };
+    let Some(lead) = lead_on(&item.1) else {
+        return Err(fault_on(item.0, Code::F11));
+    };
+    Ok(lead)
+}
+
+/// The first item that says lenIV.
+fn first_saying(items: &[Item]) -> Option<&Item>
+    ensures { option_map (λ item. item.now) result ≡ find says_lead items.now }
+{
+    items.iter().find(|item| says_lead(item))
 }
 
 /// The lenIV of some items.
+#[tactic(auto, using(crate::proofs::LeadLaws::said_there, crate::proofs::LeadLaws::said_nowhere))]
 pub fn lead_of(items: &[Item]) -> u8
     ensures { result ≡ lead_among items.now }
 {
-    let mut rest = items;
-    while let Some((item, after)) = rest.split_first() {
-        if let Some(said) = said_lead(item) {
-            let Some(token) = said else {
-                return 4;
-            };
-            let Some(lead) = decimal_up_to(64, token) else {
-                return 4;
-            };
-            return lead as u8;
-        }
-        rest = after;
+    match first_saying(items) {
+        Some(item) => lead_on(item).unwrap_or(4),
+        None => 4,
     }
-    4
 }

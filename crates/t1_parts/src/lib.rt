@@ -24,7 +24,7 @@ pub use entries::{glyph_entry, opens_glyph, opens_subr, subr_entry};
 pub use gathered::Gathered;
 pub use header::header_of;
 pub use item::{Item, Taken, copied_items};
-pub use len_iv::{check_lead, lead_of, plain_line};
+pub use len_iv::{check_lead, lead_of, plain_line, says_lead};
 pub use operator::operator_of;
 pub use parts::{Parts, holds, parts_of, tail_of};
 pub use piece::{Piece, piece_of};

@@ -1,13 +1,13 @@
 //! Cutting a source into its parts.
 
-ghost use Rattle.std.specs.Prelude.{◌≡◌, ◌==◌, ◌++◌, ◌∷◌, [], false, IfOk, MatchOption, codes, if◌then◌else◌, Some, None, filter_map};
+ghost use Rattle.std.specs.Prelude.{◌≡◌, ◌==◌, ◌++◌, ◌∷◌, [], false, IfOk, MatchOption, codes, if◌then◌else◌, Some, None, Ok, Err, MatchResult, filter_map};
 ghost use Rattle.std.specs.List.{list_any, list_all};
-ghost use Rattle.t1_frac.specs.Outcome.{Gives};
+ghost use Rattle.t1_frac.specs.Ascii.{digit_zero};
 ghost use Rattle.t1_text.specs.Lines.{lines};
 ghost use Rattle.t1_parts.specs.Parts.{parts_of, ends_in, holds, is_zeros, tail_of, IsCut};
 
 use std::alloc::{AllocError, Global};
-use t1_frac::{Bytes, Code, Refusal};
+use t1_frac::{Bytes, Code, Fault};
 use t1_text::{first_line, trimmed};
 
 /// Whether a line, trimmed, ends in this text.
@@ -60,17 +60,17 @@ pub struct Parts<'a> {
 
 /// The parts of a source.
 #[tactic(auto, unfolding(crate::specs::Parts::parts_of), using(crate::proofs::PartLaws::no_clear, crate::proofs::PartLaws::no_private, crate::proofs::PartLaws::parts_cut))]
-pub fn parts_of(bytes: &[u8]) -> Result<Parts<'_>, Refusal>
-    ensures { Gives
-        (λ p. record { clear = lines p.clear.now ++ p.eexec.now ∷ []; private = lines p.private.now ++ p.closefile.now ∷ []; tail = lines p.tail.now })
+pub fn parts_of(bytes: &[u8]) -> Result<Parts<'_>, Fault>
+    ensures { MatchResult
         result
-        (parts_of (lines bytes.now)) }
+        (λ p. parts_of (lines bytes.now) ≡ Ok (record { clear = lines p.clear.now ++ p.eexec.now ∷ []; private = lines p.private.now ++ p.closefile.now ∷ []; tail = lines p.tail.now }))
+        (λ fault. parts_of (lines bytes.now) ≡ Err fault) }
 {
     let Some(clear) = cut_at(b"currentfile eexec", bytes) else {
-        return Err(Refusal::from(Code::F1));
+        return Err(Fault::from(Code::F1));
     };
     let Some(private) = cut_at(b"mark currentfile closefile", clear.after) else {
-        return Err(Refusal::from(Code::F2));
+        return Err(Fault::from(Code::F2));
     };
     Ok(Parts {
         clear: clear.before,
@@ -97,7 +97,7 @@ pub fn holds(text: &[u8], line: &[u8]) -> bool
 
 /// Whether each byte is `0`.
 fn are_zeros(line: &[u8]) -> bool
-    ensures { result ≡ list_all (λ c. c == 48) line.now }
+    ensures { result ≡ list_all (λ c. c == digit_zero) line.now }
 {
     line.iter().all(|byte| *byte == b'0')
 }

@@ -1,6 +1,7 @@
 //! The printed form of a source.
 
 ghost use Rattle.std.specs.Prelude.{◌≡◌, ◌∷◌, [], ◌++◌, if◌then◌else◌, OnOk, map, decimal, codes, flat_map};
+ghost use Rattle.t1_frac.specs.Ascii.{line_feed, space, tab};
 ghost use Rattle.t1_text.specs.Lines.{joined};
 ghost use Rattle.t1_frac.specs.Words.{words};
 ghost use Rattle.t1_parts.specs.Printing.{word_groups, body_line, last_line, entry_lines, item_lines};
@@ -12,7 +13,7 @@ use t1_frac::{Bytes, is_number_word, next_word};
 
 /// Adds a line and its end to a text.
 fn push_line(text: &mut Vec<u8>, line: &[u8]) -> Result<(), AllocError>
-    ensures { OnOk result (text.new.items ≡ text.old.items ++ line.now ++ 10 ∷ []) }
+    ensures { OnOk result (text.new.items ≡ text.old.items ++ line.now ++ line_feed ∷ []) }
 {
     text.extend_from_slice(line)?;
     text.push(b'\n')?;
@@ -42,7 +43,7 @@ pub fn push_decimal(text: &mut Vec<u8>, number: u64) -> Result<(), AllocError>
 
 /// Adds a word to a line of words that is open or begins with it.
 fn push_word(text: &mut Vec<u8>, is_open: bool, word: &[u8]) -> Result<(), AllocError>
-    ensures { OnOk result (text.new.items ≡ text.old.items ++ (if is_open then 32 else 9) ∷ word.now) }
+    ensures { OnOk result (text.new.items ≡ text.old.items ++ (if is_open then space else tab) ∷ word.now) }
 {
     text.push(if is_open { b' ' } else { b'\t' })?;
     text.extend_from_slice(word)?;
@@ -72,7 +73,7 @@ fn push_words(text: &mut Vec<u8>, bytes: &[u8]) -> Result<(), AllocError>
 
 /// Adds the last line of an entry to a text.
 fn push_last_line(text: &mut Vec<u8>, closing: &[u8]) -> Result<(), AllocError>
-    ensures { OnOk result (text.new.items ≡ text.old.items ++ last_line closing.now ++ 10 ∷ []) }
+    ensures { OnOk result (text.new.items ≡ text.old.items ++ last_line closing.now ++ line_feed ∷ []) }
 {
     text.extend_from_slice(b"\t}")?;
     if !closing.is_empty() {

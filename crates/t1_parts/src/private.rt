@@ -30,7 +30,7 @@ fn line_at(alloc: Global, earlier: &Gathered, number: u64, line: &[u8]) -> Resul
         (None, Some((at, count))) if !earlier.has_glyphs_line() => {
             section_at(alloc, line, at, count)?
         }
-        _ => return Err(fault_on(number, Code::F4)),
+        _ => return Err(Refusal::from(fault_on(number, Code::F4))),
     };
     Ok(item)
 }

@@ -17,7 +17,8 @@ use Rattle.t1_parts.specs.Entries.{opens_subr, opens_glyph}
 use Rattle.t1_text.proofs.NumberLaws.{decimal_spells}
 use Rattle.t1_parts.proofs.EntryLaws.{digits_regular}
 use Rattle.t1_parts.proofs.CloseLaws.{closes_more}
-use Rattle.t1_parts.proofs.SectionLaws.{bare, bare_places, in_row, among, found_among}
+use Rattle.t1_text.proofs.TokenLaws.{bare, bare_places}
+use Rattle.t1_parts.proofs.SectionLaws.{in_row, among, found_among}
 use Rattle.t1_source.specs.Leads.{place_after, with_token, line_with_lead}
 use Rattle.t1_source.specs.WellFormed.{is_inner, opens_entry}
 use Rattle.t1_source.proofs.PrintedLaws.{digits_past, digits_line, line_parts, line_append, inner_parts, inner_from, contra}

@@ -6,7 +6,6 @@ pub mod EditedLeadLaws
 pub mod EditingRows
 pub mod ItemPlaceLaws
 pub mod ItemsAgainLaws
-pub mod LastLaws
 pub mod LeadEditLaws
 pub mod LeadLineLaws
 pub mod OrderLaws

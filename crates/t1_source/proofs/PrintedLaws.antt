@@ -1,5 +1,5 @@
 -- Printed lines of items: lines, none of them the closefile line.
-use Rattle.std.proofs.Common.{◌≡◌, ℕ, zero, suc, Bool, true, false, not, ◌&&◌, ◌==◌, ◌+◌, ◌/◌, ◌%◌, ◌^◌, ◌<◌, ◌≤◌, nat_le, nat_lt, is_some, List, [], ◌∷◌, ◌++◌, length, map, reverse, codes, refl, sym, ◌∙◌, ap, inl, inr, arith, append_assoc, length-append}
+use Rattle.std.proofs.Common.{◌≡◌, ℕ, zero, suc, Bool, true, false, not, ◌&&◌, ◌==◌, ◌+◌, ◌/◌, ◌%◌, ◌^◌, ◌<◌, ◌≤◌, nat_le, nat_lt, List, [], ◌∷◌, ◌++◌, length, map, reverse, codes, refl, sym, ◌∙◌, ap, inl, inr, arith, append_assoc, length-append}
 use Rattle.std.specs.List.{list_all, list_any, onto_first, join_with_byte}
 use Rattle.std.specs.Fmt.{decimal}
 use Rattle.std.proofs.lemmas.Bool.{and_parts, and_from, cases_Bool, not-true, eqb-true, le-leb, ltb-true}
@@ -7,7 +7,7 @@ use Rattle.std.proofs.lemmas.Fmt.{decimal_by_steps}
 use Rattle.std.proofs.lemmas.List.Folds.{list_all-append}
 use Rattle.t1_frac.specs.Words.{is_blank, trimmed_front}
 use Rattle.t1_text.specs.Lines.{is_line, is_line_end}
-use Rattle.t1_text.specs.Names.{is_name, is_name_byte, decimal_of}
+use Rattle.t1_text.specs.Names.{is_name, is_name_byte}
 use Rattle.t1_frac.specs.Numbers.{is_number_word}
 use Rattle.std.specs.Char.{is_ascii_digit}
 use Rattle.t1_text.specs.Names.{is_count}
@@ -15,7 +15,7 @@ use Rattle.t1_parts.specs.Entries.{is_word, is_word_byte}
 use Rattle.t1_parts.specs.Parts.{is_closefile}
 use Rattle.t1_parts.specs.Printing.{body_line, last_line, word_groups, entry_lines}
 use Rattle.t1_source.specs.WellFormed.{is_inner, IsEntry}
-use Rattle.t1_text.proofs.TokenLaws.{regular_parts}
+use Rattle.t1_text.proofs.PlaceLaws.{regular_parts}
 use Rattle.t1_parts.proofs.EntryLaws.{digit_regular}
 use Rattle.t1_text.proofs.NumberLaws.{decimal_spells}
 use Rattle.t1_text.proofs.NumberLaws.{count_parts}

@@ -11,7 +11,8 @@ use Rattle.t1_text.specs.Names.{is_count}
 use Rattle.t1_parts.specs.Sections.{count_between, section_at, subrs_line, glyphs_line, is_subrs_line, is_glyphs_line}
 use Rattle.t1_parts.specs.Entries.{opens_subr}
 use Rattle.t1_source.specs.WellFormed.{opens_entry, IsSectionLine}
-use Rattle.t1_parts.proofs.SectionLaws.{bare_places, among, found_among, among_other, not_text, count_place_of}
+use Rattle.t1_text.proofs.TokenLaws.{bare_places}
+use Rattle.t1_parts.proofs.SectionLaws.{among, found_among, among_other, not_text, count_place_of}
 
 -- the section line whose count stands between key and word
 abbrev pub line_of : List ℕ → List ℕ → List ℕ → Option Item

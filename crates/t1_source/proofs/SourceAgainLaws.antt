@@ -18,7 +18,7 @@ use Rattle.t1_parts.specs.Sections.{is_glyphs_line}
 use Rattle.t1_parts.specs.Entries.{NumberedItem, has}
 use Rattle.t1_parts.specs.Private.{private_items}
 use Rattle.t1_parts.specs.Parts.{parts_of, is_eexec, is_closefile}
-use Rattle.t1_parts.specs.LenIV.{said_lead, says_lead, lead_check, lead_of_token}
+use Rattle.t1_parts.specs.LenIV.{said_lead, said_with_line, lead_check, lead_of_token}
 use Rattle.t1_parts.specs.Counts.{raised}
 use Rattle.t1_parts.specs.Reading.{unnumbered, whole_check, reads_lines, reads}
 use Rattle.t1_parts.specs.Printing.{item_lines, text_lines, text}
@@ -87,9 +87,9 @@ lead_said n (Some t) said ts h more = lead_given (lead_of_token t) (and_parts (i
     lead_given None h f = cc
     lead_given (Some k) h f = refl
 
-lead_again : (ns : List NumberedItem) → says_lead_well (unnumbered ns) ≡ true → checked (lead_check (filter_map says_lead ns)) ≡ Ok tt
+lead_again : (ns : List NumberedItem) → says_lead_well (unnumbered ns) ≡ true → checked (lead_check (filter_map said_with_line ns)) ≡ Ok tt
 lead_again [] h = refl
-lead_again (i ∷ ns) h = lead_said i.0 (said_lead i.1) (filter_map says_lead ns) (filter_map said_lead (unnumbered ns)) h (λ more. lead_again ns more)
+lead_again (i ∷ ns) h = lead_said i.0 (said_lead i.1) (filter_map said_with_line ns) (filter_map said_lead (unnumbered ns)) h (λ more. lead_again ns more)
 
 whole_again : (ns : List NumberedItem) → list_any is_glyphs_line (unnumbered ns) ≡ true → says_lead_well (unnumbered ns) ≡ true → whole_check ns ≡ Ok tt
 unfolding whole_check

@@ -25,6 +25,7 @@ use Rattle.t1_source.specs.WellFormed.{IsClear, IsWellFormed}
 use Rattle.t1_frac.proofs.OutcomeLaws.{bind_ok}
 use Rattle.t1_source.proofs.RuleLaws.{kept_ok}
 use Rattle.t1_text.proofs.NumberLaws.{decimal_spells, spelled}
+use Rattle.t1_text.proofs.TokenLaws.{other_first}
 use Rattle.t1_parts.proofs.EntryLaws.{digits_regular, name_regular, run_before, token_before}
 use Rattle.t1_source.proofs.PrintedLaws.{line_append, digits_line, name_is_line}
 use Rattle.t1_source.proofs.SourceAgainLaws.{Ends}
@@ -336,8 +337,10 @@ slot_tokens code (c ∷ g) small named =
     let s = decimal_spells code (omega (arith, small)) in
     let bytes = name_regular (c ∷ g) (and_parts _ _ named).1 in
     let first : is_regular c ≡ true = (and_parts (is_regular c) (list_all is_regular g) bytes).0 in
-    let name : tokens (47 ∷ (c ∷ g ++ codes " put")) ≡ (47 ∷ c ∷ g) ∷ codes "put" ∷ [] = rw first (ap (onto_first 47) (run_before c g (codes "put") bytes)) in
-    ap (λ t. codes "dup" ∷ t) (token_before (decimal code) (47 ∷ (c ∷ g ++ codes " put")) s.2 (digits_regular (decimal code) s.0) ∙ ap (λ t. decimal code ∷ t) name)
+    let name : tokens (47 ∷ (c ∷ g ++ codes " put")) ≡ (47 ∷ c ∷ g) ∷ codes "put" ∷ [] =
+    other_first 47 (c ∷ g ++ codes " put") refl refl refl ∙ (rw first (ap (onto_first 47) (run_before c g (codes "put") bytes))) in
+    token_before (codes "dup") (decimal code ++ (codes " /" ++ (c ∷ g ++ codes " put"))) (omega arith) refl
+    ∙ ap (λ t. codes "dup" ∷ t) (token_before (decimal code) (47 ∷ (c ∷ g ++ codes " put")) s.2 (digits_regular (decimal code) s.0) ∙ ap (λ t. decimal code ∷ t) name)
 
 last_bytes : (x y : List ℕ) (a b : ℕ) → x ++ a ∷ [] ≡ y ++ b ∷ [] → a ≡ b
 last_bytes x y a b e =

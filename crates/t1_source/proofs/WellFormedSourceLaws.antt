@@ -17,7 +17,7 @@ use Rattle.t1_parts.specs.Sections.{is_glyphs_line}
 use Rattle.t1_parts.specs.Entries.{NumberedItem, has}
 use Rattle.t1_parts.specs.Private.{items_of, private_items}
 use Rattle.t1_parts.specs.Parts.{Parts, parts_of, is_eexec, is_closefile, is_zeros, holds, tail_of}
-use Rattle.t1_parts.specs.LenIV.{said_lead, says_lead, lead_check, lead_of_token}
+use Rattle.t1_parts.specs.LenIV.{said_lead, said_with_line, lead_check, lead_of_token}
 use Rattle.t1_parts.specs.Counts.{subrs_needed, glyphs_needed, raised_item, raised}
 use Rattle.t1_parts.specs.Reading.{unnumbered, whole_check, reads_lines, reads}
 use Rattle.t1_source.specs.WellFormed.{is_inner, says_lead_well, Stand, IsPrivate, IsWellFormed}
@@ -196,9 +196,9 @@ lead_said : (n : ℕ) (o : Option (Option (List ℕ))) (said : List (ℕ × Opti
 lead_said n None said ts e more = more e
 lead_said n (Some t) said ts e more = and_from (is_some (lead_of_token t)) true (lead_given (lead_of_token t) (fault_at (Line n) F11) e) refl
 
-lead_well_formed : (ns : List NumberedItem) → checked (lead_check (filter_map says_lead ns)) ≡ Ok tt → says_lead_well (unnumbered ns) ≡ true
+lead_well_formed : (ns : List NumberedItem) → checked (lead_check (filter_map said_with_line ns)) ≡ Ok tt → says_lead_well (unnumbered ns) ≡ true
 lead_well_formed [] e = refl
-lead_well_formed (i ∷ ns) e = lead_said i.0 (said_lead i.1) (filter_map says_lead ns) (filter_map said_lead (unnumbered ns)) e (λ more. lead_well_formed ns more)
+lead_well_formed (i ∷ ns) e = lead_said i.0 (said_lead i.1) (filter_map said_with_line ns) (filter_map said_lead (unnumbered ns)) e (λ more. lead_well_formed ns more)
 
 whole_well_formed : (ns : List NumberedItem) → whole_check ns ≡ Ok tt → (list_any is_glyphs_line (unnumbered ns) ≡ true) × (says_lead_well (unnumbered ns) ≡ true)
 unfolding whole_check

@@ -1,11 +1,11 @@
 -- lenIV put into a private part.
-use Rattle.std.specs.Prelude.{ℕ, Bool, ◌+◌, ◌||◌, if◌then◌else◌, Option, Some, None, is_some, List, [], ◌∷◌, ◌++◌, length, take, drop, codes, decimal}
+use Rattle.std.specs.Prelude.{ℕ, Bool, ◌+◌, ◌||◌, if◌then◌else◌, Option, Some, None, List, [], ◌∷◌, ◌++◌, length, take, drop, codes, decimal}
 use Rattle.std.specs.List.{insert, position, position_or_len, slice_set, slice_index_or}
 use Rattle.std.specs.Str.{bytes_eq}
 use Rattle.t1_parts.specs.declared.item.Item.{Item}
 use Rattle.t1_parts.specs.declared.item.Item.TheVariants.{Plain, Section, Subr, Glyph}
 use Rattle.t1_text.specs.Tokens.{places_from}
-use Rattle.t1_parts.specs.LenIV.{said_lead}
+pub use Rattle.t1_parts.specs.LenIV.{says_lead}
 use Rattle.t1_parts.specs.Sections.{is_subrs_line, is_glyphs_line}
 
 -- profile, tokens: the first token with its place
@@ -30,10 +30,6 @@ line_with_lead n l = with_token l (decimal n) (place_after (codes "/lenIV") (pla
 -- Type 1 Font Format, lenIV: the line of a new lenIV
 abbrev pub lead_line : ℕ → List ℕ
 lead_line n = codes "/lenIV " ++ (decimal n ++ codes " def")
-
--- profile, lenIV: whether an item is a plain line with a token `/lenIV`
-abbrev pub says_lead : Item → Bool
-says_lead i = is_some (said_lead i)
 
 -- profile, sections: whether an item is a section line
 abbrev pub is_section_line : Item → Bool

@@ -1,6 +1,7 @@
 -- What is true of every source that was read or edited.
 use Rattle.std.specs.Prelude.{◌≡◌, ◌⊎◌, ℕ, Bool, true, false, not, ◌+◌, ◌≤◌, ◌^◌, ◌&&◌, nat_lt, if◌then◌else◌, None, Some, Ok, is_some, List, [], ◌∷◌, ◌++◌, length, take, filter_map}
 use Rattle.std.specs.List.{list_all, list_any, position_or_len}
+use Rattle.t1_frac.specs.Ascii.{digit_zero}
 use Rattle.t1_parts.specs.declared.item.Item.{Item}
 use Rattle.t1_parts.specs.declared.item.Item.TheVariants.{Plain, Section, Subr, Glyph}
 use Rattle.t1_parts.specs.SourceParts.{SourceParts}
@@ -42,9 +43,9 @@ abbrev pub Stands : List Item → Item → Type 0
 Stands earlier (Plain l) =
     (is_inner l ≡ true) × (opens_entry earlier l ≡ false) × (subrs_line l ≡ None) × (glyphs_line l ≡ None)
 Stands earlier (Section before n after) =
-    (is_inner (before ++ 48 ∷ after) ≡ true)
-    × (opens_entry earlier (before ++ 48 ∷ after) ≡ false)
-    × IsSectionLine earlier (Section before 0 after) (before ++ 48 ∷ after)
+    (is_inner (before ++ digit_zero ∷ after) ≡ true)
+    × (opens_entry earlier (before ++ digit_zero ∷ after) ≡ false)
+    × IsSectionLine earlier (Section before 0 after) (before ++ digit_zero ∷ after)
 Stands earlier (Subr n ws closing) =
     (list_any is_glyphs_line earlier ≡ false)
     × (list_any is_subrs_line earlier ≡ true)

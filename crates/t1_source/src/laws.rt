@@ -2,6 +2,7 @@
 
 ghost use Rattle.std.specs.Prelude.{◌≡◌, ◌≤◌, ◌<◌, ◌^◌, ◌+◌, ℕ, List, ◌∷◌, ◌++◌, Some, true, false, Ok, pos, codes, decimal, length, map};
 ghost use Rattle.std.specs.List.{list_all, list_any};
+ghost use Rattle.t1_frac.specs.Ascii.{slash};
 ghost use Rattle.t1_text.specs.Lines.{lines, joined, is_line, trimmed};
 ghost use Rattle.t1_parts.specs.declared.item.Item.{Item};
 ghost use Rattle.t1_parts.specs.declared.item.Item.TheVariants.{Subr, Glyph};
@@ -50,7 +51,7 @@ pub fn printed_glyph_read()
     ensures { (earlier : List NumberedItem) (g : List ℕ) (ws : List (List ℕ)) (closing : List ℕ) (ls : List (List ℕ))
         → has is_glyphs_line earlier ≡ true → has (is_glyph g) earlier ≡ false → is_name g ≡ true
         → list_all is_word ws ≡ true → trimmed closing ≡ closing
-        → item_at earlier (47 ∷ (g ++ codes " {")) (map body_line (word_groups ws) ++ last_line closing ∷ ls)
+        → item_at earlier (slash ∷ (g ++ codes " {")) (map body_line (word_groups ws) ++ last_line closing ∷ ls)
         ≡ Ok (Glyph g ws closing, 1 + length (word_groups ws)) }
 {}
 

@@ -3,7 +3,7 @@
 use crate::codes::{array_code, array_names, standard_code, standard_names};
 use std::alloc::{AllocError, Global};
 use std::marker::Model;
-use t1_frac::{Bytes, Code, Refusal};
+use t1_frac::{Bytes, Code, Fault, Refusal};
 use t1_parts::{
     Gathered, Item, Parts, check_clear, check_lead, copied_items, has_standard, header_of, lead_of,
     operator_of, parts_of, private_items, push_items, push_lines, raise, tail_of,
@@ -48,11 +48,11 @@ ghost use Rattle.t1_parts.specs.declared.item.Item.TheVariants as variants;
 
 /// Judges the items of a private part as a whole.
 #[tactic(auto, unfolding(t1_parts::specs::Reading::whole_check))]
-fn check_whole(items: &Gathered) -> Result<(), Refusal>
-    ensures { Gives (λ x. x) result (whole_check items.now) }
+fn check_whole(items: &Gathered) -> Result<(), Fault>
+    ensures { result ≡ whole_check items.now }
 {
     if !items.has_glyphs_line() {
-        return Err(Refusal::from(Code::F3));
+        return Err(Fault::from(Code::F3));
     }
     let _lead = check_lead(items.as_slice())?;
     Ok(())

@@ -1,7 +1,7 @@
 -- The first line of some bytes, and the lines after it.
 use Rattle.std.proofs.Common.{◌≡◌, ℕ, Bool, true, false, not, ◌||◌, ◌==◌, ◌<◌, List, [], ◌∷◌, length, take, drop, refl, sym, ◌∙◌, ap, inl, inr, arith}
 use Rattle.std.specs.List.{onto_first, position_or_len}
-use Rattle.std.proofs.lemmas.Bool.{cases_Bool, eqb-true, eq-eqb, not-true, not-false}
+use Rattle.std.proofs.lemmas.Bool.{cases_Bool, eqb-true, eq-eqb, not-true, not-false, or_parts}
 use Rattle.std.proofs.Math.Numerals.{one-add}
 use Rattle.t1_text.specs.Lines.{begins_with, lines, is_line_end, after_end}
 
@@ -37,10 +37,6 @@ after_line bytes = after_end (drop (line_len bytes) bytes)
 -- the lines of bytes are the first one, and the lines after its end
 abbrev pub FirstLine : List ℕ → Type 0
 FirstLine bytes = lines bytes ≡ take (line_len bytes) bytes ∷ lines (after_line bytes)
-
-or_parts : (x y : Bool) → (x || y) ≡ false → (x ≡ false) × (y ≡ false)
-or_parts true y h = cc
-or_parts false y h = (refl, h)
 
 -- such a byte is neither LF nor CR
 pub not_ended : (c : ℕ) → stays c ≡ true → (c == 10 ≡ false) × (c == 13 ≡ false)

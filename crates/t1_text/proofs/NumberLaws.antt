@@ -1,5 +1,5 @@
 -- Decimal digits, printed and read.
-use Rattle.std.proofs.Common.{◌≡◌, ℕ, suc, true, ◌&&◌, ◌+◌, ◌*◌, ◌-◌, ◌/◌, ◌%◌, ◌^◌, ◌<◌, ◌≤◌, nat_le, nat_lt, ℤ, pos, neg_ℤ, min, Some, List, [], ◌∷◌, ◌++◌, length, take, take_all, fold, refl, ◌∙◌, ap, arith, length-append}
+use Rattle.std.proofs.Common.{◌≡◌, ℕ, suc, true, ◌&&◌, ◌+◌, ◌*◌, ◌-◌, ◌/◌, ◌%◌, ◌^◌, ◌<◌, ◌≤◌, nat_le, nat_lt, pos, neg_ℤ, min, Some, List, [], ◌∷◌, ◌++◌, length, take, take_all, fold, refl, ◌∙◌, ap, arith, length-append}
 use Rattle.std.specs.Char.{is_ascii_digit}
 use Rattle.std.specs.List.{list_all, prefix_len}
 use Rattle.std.specs.Fmt.{decimal}

@@ -1,35 +1,49 @@
 -- Tokens of a line.
-use Rattle.std.specs.Prelude.{ℕ, Bool, false, not, ◌||◌, ◌==◌, ◌+◌, if◌then◌else◌, Option, Some, None, List, [], ◌∷◌}
-use Rattle.std.specs.List.{onto_first, before_first, prefix_len, last_or}
+use Rattle.std.specs.Prelude.{ℕ, Bool, false, not, ◌||◌, ◌==◌, ◌+◌, if◌then◌else◌, Option, Some, None, List, [], ◌∷◌, map}
+use Rattle.std.specs.List.{before_first, prefix_len, last_or}
 use Rattle.std.specs.Str.{bytes_eq}
+use Rattle.t1_frac.specs.Ascii.{close_brace, close_bracket, close_parenthesis, greater_than, less_than, open_brace, open_bracket, open_parenthesis, percent, slash}
 use Rattle.t1_frac.specs.Words.{is_blank}
 
 -- profile, tokens: the bytes that are tokens by themselves, ( ) < > [ ] { }
 abbrev pub is_bracket : ℕ → Bool
-is_bracket c = c == 40 || c == 41 || c == 60 || c == 62 || c == 91 || c == 93 || c == 123 || c == 125
+is_bracket c =
+    c == open_parenthesis || c == close_parenthesis
+    || c == less_than || c == greater_than
+    || c == open_bracket || c == close_bracket
+    || c == open_brace || c == close_brace
 
--- profile, tokens: a byte that goes on with a token; '/' is 47 and '%' 37
+-- profile, tokens: a byte that goes on with a token
 abbrev pub is_regular : ℕ → Bool
-is_regular c = not (is_blank c || is_bracket c || c == 47 || c == 37)
+is_regular c = not (is_blank c || is_bracket c || c == slash || c == percent)
 
 -- profile, tokens: whether a token that has come this far goes on
 abbrev pub goes_on : List ℕ → Bool
 goes_on [] = false
 goes_on (c ∷ rest) = is_regular c
 
--- profile, tokens: a byte of a token before the tokens that follow it
-abbrev pub joins : ℕ → List ℕ → List (List ℕ) → List (List ℕ)
-joins c rest tokens = if goes_on rest then onto_first c tokens else (c ∷ []) ∷ tokens
+-- profile, tokens: a byte before the first token, which then begins at this place
+abbrev pub onto_place : ℕ → ℕ → List (ℕ × List ℕ) → List (ℕ × List ℕ)
+onto_place i c [] = (i, c ∷ []) ∷ []
+onto_place i c (t ∷ ts) = (i, c ∷ t.1) ∷ ts
 
--- profile, tokens: '%' begins a comment, a bracket is a token, '/' begins one, and other bytes that aren't
--- blanks form longest runs
+-- profile, tokens: a byte of a token at a place, before the tokens that follow it
+abbrev pub joins_at : ℕ → ℕ → List ℕ → List (ℕ × List ℕ) → List (ℕ × List ℕ)
+joins_at i c rest ts = if goes_on rest then onto_place i c ts else (i, c ∷ []) ∷ ts
+
+-- profile, tokens: the tokens of a line, the first byte of which has this place, each with the place where it begins. '%'
+-- begins a comment, a bracket is a token, '/' begins one, and other bytes that aren't blanks form longest runs
+abbrev pub places_from : ℕ → List ℕ → List (ℕ × List ℕ)
+places_from i [] = []
+places_from i (c ∷ rest) =
+    if is_blank c then places_from (i + 1) rest
+    else if c == percent then []
+    else if is_bracket c then (i, c ∷ []) ∷ places_from (i + 1) rest
+    else joins_at i c rest (places_from (i + 1) rest)
+
+-- profile, tokens: the tokens of a line
 abbrev pub tokens : List ℕ → List (List ℕ)
-tokens [] = []
-tokens (c ∷ rest) =
-    if is_blank c then tokens rest
-    else if c == 37 then []
-    else if is_bracket c then (c ∷ []) ∷ tokens rest
-    else joins c rest (tokens rest)
+tokens l = map (λ t. t.1) (places_from 0 l)
 
 -- profile, tokens: how many bytes the token takes that begins the list
 abbrev pub token_len : List ℕ → ℕ
@@ -59,24 +73,6 @@ abbrev pub after_token : List ℕ → List (List ℕ) → Option (Option (List �
 after_token t [] = None
 after_token t (u ∷ us) = if bytes_eq u t then Some (first_token us) else after_token t us
 
--- profile, tokens: a byte before the first token, which then begins at this place
-abbrev pub onto_place : ℕ → ℕ → List (ℕ × List ℕ) → List (ℕ × List ℕ)
-onto_place i c [] = (i, c ∷ []) ∷ []
-onto_place i c (t ∷ ts) = (i, c ∷ t.1) ∷ ts
-
--- profile, tokens: a byte of a token at a place, before the tokens that follow it
-abbrev pub joins_at : ℕ → ℕ → List ℕ → List (ℕ × List ℕ) → List (ℕ × List ℕ)
-joins_at i c rest ts = if goes_on rest then onto_place i c ts else (i, c ∷ []) ∷ ts
-
--- profile, tokens: the tokens of a line, each with the place where it begins
-abbrev pub places_from : ℕ → List ℕ → List (ℕ × List ℕ)
-places_from i [] = []
-places_from i (c ∷ rest) =
-    if is_blank c then places_from (i + 1) rest
-    else if c == 37 then []
-    else if is_bracket c then (i, c ∷ []) ∷ places_from (i + 1) rest
-    else joins_at i c rest (places_from (i + 1) rest)
-
 -- profile, comments: a line without its comment
 abbrev pub uncommented : List ℕ → List ℕ
-uncommented l = before_first (λ c. c == 37) l
+uncommented l = before_first (λ c. c == percent) l

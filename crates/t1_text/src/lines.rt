@@ -3,7 +3,6 @@
 ghost use Rattle.std.specs.Prelude.{◌≡◌, ◌<◌, ◌≤◌, ◌-◌, ◌+◌, ℕ, ◌∷◌, length, take, drop, IfOk, reverse};
 ghost use Rattle.std.specs.List.{prefix_len, position_or_len};
 ghost use Rattle.t1_frac.specs.declared.fault.Place.TheVariants as places;
-ghost use Rattle.t1_frac.specs.declared.fault.Refusal.TheVariants as refusals;
 ghost use Rattle.t1_frac.specs.Outcome.{fault_at};
 ghost use Rattle.t1_frac.specs.Words.{is_blank};
 ghost use Rattle.t1_text.specs.Delimiters.{is_safe};
@@ -11,16 +10,16 @@ ghost use Rattle.t1_text.specs.Lines.{lines, line_ends, is_line_end, after_end, 
 
 use memchr::{memchr2, memchr3};
 use std::alloc::{AllocError, Global};
-use t1_frac::{Bytes, Code, Fault, Place, Refusal, is_blank, skip_blanks};
+use t1_frac::{Bytes, Code, Fault, Place, is_blank, skip_blanks};
 
-/// The refusal by a fault on the line of this number.
-pub fn fault_on(number: u64, code: Code) -> Refusal
-    ensures { result ≡ refusals.Fault (fault_at (places.Line number) code) }
+/// The fault on the line of this number.
+pub fn fault_on(number: u64, code: Code) -> Fault
+    ensures { result ≡ fault_at (places.Line number) code }
 {
-    Refusal::Fault(Fault {
+    Fault {
         code,
         place: Place::Line(number),
-    })
+    }
 }
 
 /// Copies of some runs of bytes.

@@ -6,7 +6,7 @@ ghost use Rattle.std.specs.Str.{bytes_eq};
 ghost use Rattle.t1_frac.specs.Words.{is_blank};
 ghost use Rattle.t1_text.specs.Tokens.{is_bracket, is_regular, token_len, tokens, first_token, first_is, last_is, after_token, places_from};
 
-use t1_frac::{is_blank, skip_blanks};
+use t1_frac::{blank_len, is_blank, skip_blanks};
 
 /// Whether a byte is a token by itself.
 fn is_bracket(byte: u8) -> bool
@@ -57,14 +57,6 @@ pub fn next_token(line: &[u8]) -> Option<(&[u8], &[u8])>
         return None;
     }
     Some(rest.split_at(token_len(rest)))
-}
-
-/// How many blanks stand at the front.
-fn blank_len(line: &[u8]) -> usize
-    ensures within { result ≤ length line.now }
-    ensures value { result ≡ prefix_len is_blank line.now }
-{
-    line.iter().take_while(|byte| is_blank(**byte)).count()
 }
 
 /// The first token of a line that begins at a place, with the token's place, and the bytes after it.

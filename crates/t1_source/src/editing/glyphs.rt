@@ -1,6 +1,6 @@
 //! Edits of glyphs.
 
-ghost use Rattle.std.specs.Prelude.{◌≡◌, ◌≤◌, ◌<◌, List, length, IfOk, IfSome, codes};
+ghost use Rattle.std.specs.Prelude.{◌≡◌, ◌≤◌, ◌<◌, List, length, reverse, IfOk, IfSome, codes};
 ghost use Rattle.std.specs.List.{list_any, position};
 ghost use Rattle.t1_parts.specs.Counts.{is_glyph_entry};
 ghost use Rattle.t1_parts.specs.Entries.{is_glyph};
@@ -56,14 +56,10 @@ fn is_glyph_entry(item: &Item) -> bool
 fn glyph_closing(items: &[Item]) -> &[u8]
     ensures { result.now ≡ closing_among is_glyph_entry (codes "noaccess def") items.now }
 {
-    let mut rest = items;
-    while let Some((item, after)) = rest.split_first() {
-        if is_glyph_entry(item) {
-            return closing_of(item);
-        }
-        rest = after;
+    match items.iter().find(|item| is_glyph_entry(item)) {
+        Some(item) => closing_of(item),
+        None => b"noaccess def",
     }
-    b"noaccess def"
 }
 
 /// Whether an item is a glyph or the CharStrings line.
@@ -74,20 +70,24 @@ fn among_glyphs(item: &Item) -> bool
     is_glyph_entry(item) || is_glyphs_line(item)
 }
 
+/// How many items stand after the last glyph or CharStrings line.
+fn after_glyphs(items: &[Item]) -> Option<usize>
+    ensures value { result ≡ position among_glyphs_items (reverse items.now) }
+    ensures within { IfSome result (λ after. after < length items.now) }
+{
+    items.iter().rev().position(|item| among_glyphs(item))
+}
+
 /// How many items stand through the last glyph, or the CharStrings line.
-#[tactic(auto, using(crate::proofs::LastLaws::last_passes, crate::proofs::LastLaws::last_fails, crate::proofs::LastLaws::none_passes))]
+#[tactic(auto, unfolding(crate::specs::Editing::through_last))]
 fn through_glyphs(items: &[Item]) -> usize
     ensures within { result ≤ length items.now }
     ensures value { result ≡ through_last among_glyphs_items items.now }
 {
-    let mut rest = items;
-    while let Some((item, before)) = rest.split_last() {
-        if among_glyphs(item) {
-            return rest.len();
-        }
-        rest = before;
+    match after_glyphs(items) {
+        Some(after) => items.len() - after,
+        None => 0,
     }
-    0
 }
 
 /// A glyph with another body.

@@ -14,18 +14,8 @@ use crate::editing::rules::number_up_to;
 use crate::source::Source;
 use std::alloc::{AllocError, Global};
 use t1_frac::Bytes;
-use t1_parts::{Item, is_glyphs_line, is_subrs_line, plain_line, push_decimal};
-use t1_text::{after_token, next_place, same};
-
-/// Whether an item is a plain line with a token `/lenIV`.
-fn says_lead(item: &Item) -> bool
-    ensures { result ≡ says_lead item.now }
-{
-    match plain_line(item) {
-        Some(line) => after_token(b"/lenIV", line).is_some(),
-        None => false,
-    }
-}
+use t1_parts::{Item, is_glyphs_line, is_subrs_line, push_decimal, says_lead};
+use t1_text::{next_place, same};
 
 /// Where the first plain line with a token `/lenIV` stands.
 fn lead_at(items: &[Item]) -> Option<usize>

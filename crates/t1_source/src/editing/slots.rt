@@ -1,7 +1,7 @@
 //! Editing the array of an encoding.
 
-ghost use Rattle.std.specs.Prelude.{◌≡◌, ◌≤◌, List, length, Ok, Err, not, filter, IfOk, MatchResult};
-ghost use Rattle.std.specs.List.{list_any};
+ghost use Rattle.std.specs.Prelude.{◌≡◌, ◌<◌, ◌≤◌, List, length, Ok, Err, not, filter, reverse, IfOk, IfSome, MatchResult};
+ghost use Rattle.std.specs.List.{list_any, position};
 ghost use Rattle.t1_source.specs.Changes.{changed, Fits};
 ghost use Rattle.t1_source.specs.Editing.{Edits, array_parts, beside_pairs, is_slot, is_slot_of, through_last, slot_line, encoded_lines, encoded, unencoded};
 ghost use Rattle.t1_pairs.specs.declared.pairs.Pair.{Pair};
@@ -69,36 +69,47 @@ fn has_slot_of(code: u16, lines: &[Bytes]) -> bool
     lines.iter().any(|line| is_slot_of(code, line.as_slice()))
 }
 
+/// How many lines stand after the last slot.
+fn after_slots(lines: &[Bytes]) -> Option<usize>
+    ensures value { result ≡ position is_slot (reverse lines.now) }
+    ensures within { IfSome result (λ after. after < length lines.now) }
+{
+    lines.iter().rev().position(|line| is_slot(line.as_slice()))
+}
+
 /// How many lines stand through the last slot.
-#[tactic(auto, using(crate::proofs::LastLaws::last_passes, crate::proofs::LastLaws::last_fails, crate::proofs::LastLaws::none_passes))]
+#[tactic(auto, unfolding(crate::specs::Editing::through_last))]
 fn through_slots(lines: &[Bytes]) -> usize
     ensures within { result ≤ length lines.now }
     ensures value { result ≡ through_last is_slot lines.now }
 {
-    let mut rest = lines;
-    while let Some((line, before)) = rest.split_last() {
-        if is_slot(line.as_slice()) {
-            return rest.len();
-        }
-        rest = before;
+    match after_slots(lines) {
+        Some(after) => lines.len() - after,
+        None => 0,
     }
-    0
+}
+
+/// How many lines stand after the last slot of the code.
+fn after_slots_of(code: u16, lines: &[Bytes]) -> Option<usize>
+    ensures value { result ≡ position (is_slot_of code) (reverse lines.now) }
+    ensures within { IfSome result (λ after. after < length lines.now) }
+{
+    lines
+        .iter()
+        .rev()
+        .position(|line| is_slot_of(code, line.as_slice()))
 }
 
 /// How many lines stand through the last slot of the code.
-#[tactic(auto, using(crate::proofs::LastLaws::last_passes, crate::proofs::LastLaws::last_fails, crate::proofs::LastLaws::none_passes))]
+#[tactic(auto, unfolding(crate::specs::Editing::through_last))]
 fn through_slots_of(code: u16, lines: &[Bytes]) -> usize
     ensures within { result ≤ length lines.now }
     ensures value { result ≡ through_last (is_slot_of code) lines.now }
 {
-    let mut rest = lines;
-    while let Some((line, before)) = rest.split_last() {
-        if is_slot_of(code, line.as_slice()) {
-            return rest.len();
-        }
-        rest = before;
+    match after_slots_of(code, lines) {
+        Some(after) => lines.len() - after,
+        None => 0,
     }
-    0
 }
 
 /// The line of a new slot.

@@ -1,6 +1,6 @@
 //! Edits of Subrs.
 
-ghost use Rattle.std.specs.Prelude.{◌≡◌, ◌≤◌, ◌<◌, List, length, IfOk, IfSome, codes};
+ghost use Rattle.std.specs.Prelude.{◌≡◌, ◌≤◌, ◌<◌, List, length, reverse, IfOk, IfSome, codes};
 ghost use Rattle.std.specs.List.{list_any, position};
 ghost use Rattle.t1_parts.specs.Entries.{is_subr};
 ghost use Rattle.t1_parts.specs.Sections.{is_subrs_line};
@@ -55,14 +55,10 @@ fn is_subr_entry(item: &Item) -> bool
 fn subr_closing(items: &[Item]) -> &[u8]
     ensures { result.now ≡ closing_among is_subr_entry (codes "noaccess put") items.now }
 {
-    let mut rest = items;
-    while let Some((item, after)) = rest.split_first() {
-        if is_subr_entry(item) {
-            return closing_of(item);
-        }
-        rest = after;
+    match items.iter().find(|item| is_subr_entry(item)) {
+        Some(item) => closing_of(item),
+        None => b"noaccess put",
     }
-    b"noaccess put"
 }
 
 /// Whether an item is a Subr or the Subrs line.
@@ -73,20 +69,24 @@ fn among_subrs(item: &Item) -> bool
     is_subr_entry(item) || is_subrs_line(item)
 }
 
+/// How many items stand after the last Subr or Subrs line.
+fn after_subrs(items: &[Item]) -> Option<usize>
+    ensures value { result ≡ position among_subrs_items (reverse items.now) }
+    ensures within { IfSome result (λ after. after < length items.now) }
+{
+    items.iter().rev().position(|item| among_subrs(item))
+}
+
 /// How many items stand through the last Subr, or the Subrs line.
-#[tactic(auto, using(crate::proofs::LastLaws::last_passes, crate::proofs::LastLaws::last_fails, crate::proofs::LastLaws::none_passes))]
+#[tactic(auto, unfolding(crate::specs::Editing::through_last))]
 fn through_subrs(items: &[Item]) -> usize
     ensures within { result ≤ length items.now }
     ensures value { result ≡ through_last among_subrs_items items.now }
 {
-    let mut rest = items;
-    while let Some((item, before)) = rest.split_last() {
-        if among_subrs(item) {
-            return rest.len();
-        }
-        rest = before;
+    match after_subrs(items) {
+        Some(after) => items.len() - after,
+        None => 0,
     }
-    0
 }
 
 /// Whether one of the items is the Subrs line.

@@ -7,5 +7,5 @@ use Rattle.t1_source.proofs.source.read_source.Goals as goal
 pub invariant_of-result : goal.invariant_of-result
 invariant_of-result c =
     let clear = c.deref.ensures.value ∙ c.in_ok-clear.ensures in
-    made_well_formed _ _ _ _ _ _ c.in_ok-parts.ensures c.in_ok-items.ensures c.in_ok-check_whole.ensures (ap clear_check (sym clear) ∙ c.in_ok-check_clear.ensures) (lines_are_lines c.args.bytes.now) c.in_ok-clear.ensures
+    made_well_formed _ _ _ _ _ _ c.in_ok-parts.ensures c.in_ok-items.ensures (sym c.in_ok-check_whole.ensures) (ap clear_check (sym clear) ∙ sym c.in_ok-check_clear.ensures) (lines_are_lines c.args.bytes.now) c.in_ok-clear.ensures
     (c.raise.ensures ∙ ap raised c.in_ok-items-2.ensures) c.in_ok-tail.ensures
