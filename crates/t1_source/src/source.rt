@@ -77,7 +77,7 @@ pub fn read_source(alloc: Global, bytes: &[u8]) -> Result<Source, Refusal>
     let parts = parts_of(bytes)?;
     let clear = clear_lines(alloc, &parts)?;
     check_clear(&clear)?;
-    let number = clear.len() as u64 + 1;
+    let number = clear.as_slice().len() as u64 + 1;
     let items = private_items(alloc, number, parts.private, parts.closefile)?;
     check_whole(&items)?;
     let mut items = items.into_items(alloc)?;
