@@ -2,6 +2,8 @@
 use Rattle.std.proofs.Common.{◌≡◌, ℕ, zero, suc, Bool, true, false, not, List, [], ◌∷◌, filter, Option, None, Some, Result, Ok, Err, refl, sym, ◌∙◌, ap, inl, inr}
 use Rattle.std.specs.Prelude.{◌||◌}
 use Rattle.std.specs.List.{list_any}
+use Rattle.std.specs.Cmp.{both_ways}
+use Rattle.std.proofs.lemmas.Bool.{or_left, or_right}
 use Rattle.t1_frac.specs.declared.fault.Code.{Code}
 use Rattle.t1_run.specs.Footprint.{Includes, uses}
 use Rattle.t1_run.specs.Run.{FontBodies, Key, Drawing, own}
@@ -12,25 +14,12 @@ use Rattle.t1_cache.specs.Users.{key_eq}
 use Rattle.t1_cache.proofs.Adding.{key-itself, key-same}
 use Rattle.t1_batch.specs.Members.{HaveSameKeys, SameEditedLaw, SameStaleGlyphsLaw, SameStaleLaw}
 
-pub or-left : (a b : Bool) → a ≡ true → (a || b) ≡ true
-or-left true b h = refl
-or-left false b h = absurd (cc)
-
-pub or-right : (a b : Bool) → b ≡ true → (a || b) ≡ true
-or-right true b h = refl
-or-right false b h = h
-
-pub both-ways : (a b : Bool) → (a ≡ true → b ≡ true) → (b ≡ true → a ≡ true) → a ≡ b
-both-ways true b there back = sym (there refl)
-both-ways false true there back = back refl
-both-ways false false there back = refl
-
 -- ---- one key
 
 pub includes-among : (ks : List Key) (k : Key) → Includes ks k → list_any (key_eq k) ks ≡ true
 includes-among [] k i = absurd i
-includes-among (x ∷ ks) k (inl e) = or-left (key_eq k x) (list_any (key_eq k) ks) (ap (key_eq k) e ∙ key-itself k)
-includes-among (x ∷ ks) k (inr i) = or-right (key_eq k x) (list_any (key_eq k) ks) (includes-among ks k i)
+includes-among (x ∷ ks) k (inl e) = or_left (key_eq k x) (list_any (key_eq k) ks) (ap (key_eq k) e ∙ key-itself k)
+includes-among (x ∷ ks) k (inr i) = or_right (key_eq k x) (list_any (key_eq k) ks) (includes-among ks k i)
 
 pub among-includes : (ks : List Key) (k : Key) → list_any (key_eq k) ks ≡ true → Includes ks k
 among-includes [] k h = absurd (cc)
@@ -41,24 +30,24 @@ among-includes (x ∷ ks) k h = by (key_eq k x) refl h (among-includes ks k) whe
 
 passes-there : (f : Key → Bool) (ks : List Key) (k : Key) → Includes ks k → f k ≡ true → list_any f ks ≡ true
 passes-there f [] k i on = absurd i
-passes-there f (x ∷ ks) k (inl e) on = or-left (f x) (list_any f ks) (ap f e ∙ on)
-passes-there f (x ∷ ks) k (inr i) on = or-right (f x) (list_any f ks) (passes-there f ks k i on)
+passes-there f (x ∷ ks) k (inl e) on = or_left (f x) (list_any f ks) (ap f e ∙ on)
+passes-there f (x ∷ ks) k (inr i) on = or_right (f x) (list_any f ks) (passes-there f ks k i on)
 
 -- ---- a test that some key passes
 
 within : (f : Key → Bool) (ks ls : List Key) → ((k : Key) → list_any (key_eq k) ks ≡ true → list_any (key_eq k) ls ≡ true) → list_any f ks ≡ true
     → list_any f ls ≡ true
 within f [] ls there h = absurd (cc)
-within f (x ∷ ks) ls there h = by (f x) refl h (within f ks ls (λ k e. there k (or-right (key_eq k x) (list_any (key_eq k) ks) e))) where
+within f (x ∷ ks) ls there h = by (f x) refl h (within f ks ls (λ k e. there k (or_right (key_eq k x) (list_any (key_eq k) ks) e))) where
   by : (b : Bool) → f x ≡ b → (b || list_any f ks) ≡ true → (list_any f ks ≡ true → list_any f ls ≡ true) → list_any f ls ≡ true
   by true on h rest =
-      passes-there f ls x (among-includes ls x (there x (or-left (key_eq x x) (list_any (key_eq x) ks) (key-itself x)))) on
+      passes-there f ls x (among-includes ls x (there x (or_left (key_eq x x) (list_any (key_eq x) ks) (key-itself x)))) on
   by false off h rest = rest h
 
 module _ (ks ls : List Key) (same : HaveSameKeys ks ls) where
   pub same-test : (f : Key → Bool) → list_any f ks ≡ list_any f ls
   same-test f =
-      both-ways (list_any f ks) (list_any f ls) (within f ks ls (λ k h. sym (same k) ∙ h)) (within f ls ks (λ k h. same k ∙ h))
+      both_ways (list_any f ks) (list_any f ls) (within f ks ls (λ k h. sym (same k) ∙ h)) (within f ls ks (λ k h. same k ∙ h))
 
   met : (g : List ℕ) (r : Option (Result Drawing Code)) → meets_run ks g r ≡ meets_run ls g r
   met g None = same-test (is_key_of g)

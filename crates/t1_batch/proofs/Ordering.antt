@@ -3,6 +3,7 @@ use Rattle.std.proofs.Common.{◌≡◌, ℕ, ℤ, pos, negsuc, Bool, true, fals
 use Rattle.std.specs.Prelude.{◌||◌, ◌&&◌}
 use Rattle.std.specs.List.{list_any}
 use Rattle.std.specs.Str.{bytes_eq}
+use Rattle.std.proofs.Math.Bool.{and-false, and_comm, or-false, or-true}
 use Rattle.std.proofs.lemmas.List.{append_assoc, append-nil}
 use Rattle.std.proofs.lemmas.List.Elements.{filter-append}
 use Rattle.std.proofs.lemmas.List.Folds.{list_any-append}
@@ -17,20 +18,6 @@ use Rattle.t1_batch.specs.Batch.{edited_entries, was_added}
 -- names after edits: those of before that are still there and weren't gone at any time, in their order, then the others
 abbrev pub InOrder : (List ℕ → Bool) → List (List ℕ) → List (List ℕ) → Type 0
 InOrder gone xs ys = ys ≡ filter (λ g. list_any (bytes_eq g) ys && not (gone g)) xs ++ filter (λ g. gone g || not (list_any (bytes_eq g) xs)) ys
-
--- ---- tests
-
-and-false : (b : Bool) → (b && false) ≡ false
-and-false true = refl
-and-false false = refl
-
-or-false : (b : Bool) → (b || false) ≡ b
-or-false true = refl
-or-false false = refl
-
-or-true : (b : Bool) → (b || true) ≡ true
-or-true true = refl
-or-true false = refl
 
 -- ---- lists of names
 
@@ -50,15 +37,9 @@ filter-both p q (x ∷ xs) = one (p x) (filter-both p q xs) where
   one true e = ap (λ l. cond (q x) (x ∷ l) l) e
   one false e = e
 
-and-turned : (a b : Bool) → (a && b) ≡ (b && a)
-and-turned true true = refl
-and-turned true false = refl
-and-turned false true = refl
-and-turned false false = refl
-
 filter-turned : (p q : List ℕ → Bool) (xs : List (List ℕ)) → filter q (filter p xs) ≡ filter p (filter q xs)
 filter-turned p q xs =
-    filter-both p q xs ∙ filter-as (λ g. p g && q g) (λ g. q g && p g) xs (λ g there. and-turned (p g) (q g)) ∙ sym (filter-both q p xs)
+    filter-both p q xs ∙ filter-as (λ g. p g && q g) (λ g. q g && p g) xs (λ g there. and_comm (p g) (q g)) ∙ sym (filter-both q p xs)
 
 -- a name is among those that pass where it is among all and passes
 among-passing : (q : List ℕ → Bool) (g : List ℕ) (ys : List (List ℕ)) → list_any (bytes_eq g) (filter q ys) ≡ (list_any (bytes_eq g) ys && q g)
@@ -172,7 +153,7 @@ some-less gone xs ys q is =
     other g = gone g || not (list_any (bytes_eq g) xs)
 
     moved : (a b c : Bool) → ((a && b) && c) ≡ ((a && c) && b)
-    moved true b c = and-turned b c
+    moved true b c = and_comm b c
     moved false b c = refl
 
     stays-as : (g : List ℕ) → (stayed g && q g) ≡ stays g

@@ -5,6 +5,9 @@ use Rattle.std.specs.List.{list_any, AllByRecursion}
 use Rattle.std.specs.Option.{option_or, option_to_list}
 use Rattle.std.specs.Result.{result_ok}
 use Rattle.std.specs.Str.{bytes_eq}
+use Rattle.std.specs.Cmp.{both_ways}
+use Rattle.std.proofs.Math.Bool.{and-false, or-false, or-true}
+use Rattle.std.proofs.lemmas.Bool.{or_from, or_parts}
 use Rattle.std.proofs.lemmas.List.Folds.{list_any-append}
 use Rattle.t1_frac.specs.declared.fault.Code.{Code}
 use Rattle.t1_frac.specs.declared.fault.Place.{Place}
@@ -23,6 +26,7 @@ use Rattle.t1_cache.specs.declared.records.Named.TheVariants as named
 use Rattle.t1_cache.specs.Overlay.{body_at}
 use Rattle.t1_cache.specs.Users.{key_eq, key_of}
 use Rattle.t1_cache.proofs.Adding.{key-itself, key-same}
+use Rattle.t1_cache.proofs.Lists.{all-weaken}
 use Rattle.t1_rerun.specs.declared.settling.EntryChange.{EntryChange}
 use Rattle.t1_rerun.specs.Settled.{changed_keys, AreDistinctKeys}
 use Rattle.t1_rerun.specs.Steps.{changed}
@@ -30,33 +34,6 @@ use Rattle.t1_batch.specs.declared.entries.EditedEntry.{EditedEntry}
 use Rattle.t1_batch.specs.Batch.{entry_edit, keys}
 use Rattle.t1_batch.specs.Passing.{all_marked, behind_items, items_put, marked, put_of, with_mark, without, Sought}
 use Rattle.t1_batch.proofs.Gathering.{in_front, Outcome}
-use Rattle.t1_batch.proofs.Members.{both-ways}
-
--- ---- tests
-
-pub and-false : (a : Bool) → (a && false) ≡ false
-and-false true = refl
-and-false false = refl
-
-or-true : (a : Bool) → true ≡ (a || true)
-or-true true = refl
-or-true false = refl
-
-or-none : (a : Bool) → a ≡ (a || false)
-or-none true = refl
-or-none false = refl
-
-pub or-split : (a b : Bool) → (a || b) ≡ false → (a ≡ false) × (b ≡ false)
-or-split true b h = absurd (cc)
-or-split false b h = (refl, h)
-
-pub neither : (a b : Bool) → a ≡ false → b ≡ false → (a || b) ≡ false
-neither true b h i = absurd (cc)
-neither false b h i = i
-
-pub all-weaken : {X : Type 0} (P Q : X → Type 0) → ((x : X) → P x → Q x) → (xs : List X) → AllByRecursion P xs → AllByRecursion Q xs
-all-weaken P Q step [] h = tt
-all-weaken P Q step (x ∷ xs) h = (step x h.0, all-weaken P Q step xs h.1)
 
 pub all-append : {X : Type 0} (P : X → Type 0) (xs ys : List X) → AllByRecursion P xs → AllByRecursion P ys → AllByRecursion P (xs ++ ys)
 all-append P [] ys h i = i
@@ -66,7 +43,7 @@ all-append P (x ∷ xs) ys h i = (h.0, all-append P xs ys h.1 i)
 
 key-sym : (j k : Key) → key_eq j k ≡ key_eq k j
 key-sym j k =
-    both-ways (key_eq j k) (key_eq k j) (λ on. ap (key_eq k) (key-same j k on) ∙ key-itself k) (λ on. ap (key_eq j) (key-same k j on) ∙ key-itself j)
+    both_ways (key_eq j k) (key_eq k j) (λ on. ap (key_eq k) (key-same j k on) ∙ key-itself k) (λ on. ap (key_eq j) (key-same k j on) ∙ key-itself j)
 
 pub glyph-key : (g : List ℕ) (k : Key) → is_key_of g k ≡ key_eq (Glyph g) k
 glyph-key g (Subr n) = refl
@@ -93,12 +70,12 @@ always b = true
 
 pub marks-named : (es : List EditedEntry) (m : Sought) (k : Key)
     → is_some (all_marked es m k) ≡ (is_some (m k) || list_any (key_eq k) (keys (map entry_edit es)))
-marks-named [] m k = or-none (is_some (m k))
+marks-named [] m k = sym (or-false (is_some (m k)))
 marks-named (e ∷ es) m k = marks-named es (with_mark (key_of e.named) e.added m) k ∙ by (key_eq k (key_of e.named)) where
   by : (b : Bool)
       → (is_some (cond b (marked e.added (m k)) (m k)) || list_any (key_eq k) (keys (map entry_edit es)))
       ≡ (is_some (m k) || (b || list_any (key_eq k) (keys (map entry_edit es))))
-  by true = or-true (is_some (m k))
+  by true = sym (or-true (is_some (m k)))
   by false = refl
 
 mark-more : (r : Option Bool) (added rest : Bool) → (mark_is itself (marked added r) || rest) ≡ (mark_is itself r || ((added && true) || rest))
@@ -115,7 +92,7 @@ and-drop false rest = refl
 
 pub marks-added : (es : List EditedEntry) (m : Sought) (k : Key)
     → mark_is itself (all_marked es m k) ≡ (mark_is itself (m k) || list_any (λ e. e.added && key_eq k e.key) (map entry_edit es))
-marks-added [] m k = or-none (mark_is itself (m k))
+marks-added [] m k = sym (or-false (mark_is itself (m k)))
 marks-added (e ∷ es) m k = marks-added es (with_mark (key_of e.named) e.added m) k ∙ by (key_eq k (key_of e.named)) where
   by : (b : Bool)
       → (mark_is itself (cond b (marked e.added (m k)) (m k)) || list_any (λ x. x.added && key_eq k x.key) (map entry_edit es))
@@ -274,7 +251,7 @@ distinct-met is m d words cs back rest (inr x) apart =
     first =
         ap (list_any (key_eq (key_of d))) (changed-append x.rest back)
         ∙ list_any-append (key_eq (key_of d)) (changed_keys x.rest) (changed_keys back)
-        ∙ neither (list_any (key_eq (key_of d)) (changed_keys x.rest)) (list_any (key_eq (key_of d)) (changed_keys back))
+        ∙ or_from (list_any (key_eq (key_of d)) (changed_keys x.rest)) (list_any (key_eq (key_of d)) (changed_keys back))
         (keys-any (key_of d) x.rest ∙ tallied always (key_of d) is (without (key_of d) m) x.rest x.others
         ∙ ap (λ r. has_at (key_of d) is && mark_is always r) (gone (key_of d) m) ∙ and-false (has_at (key_of d) is))
         (apart (key_of d)
@@ -360,5 +337,5 @@ absent [] (Subr n) h = refl
 absent [] (Glyph g) h = refl
 absent (items.Plain l ∷ is) k h = skip-plain l is k ∙ absent is k h
 absent (items.Section b n a ∷ is) k h = skip-section b n a is k ∙ absent is k h
-absent (items.Subr n words c ∷ is) k h = let o = or-split (key_eq k (Subr n)) (has_at k is) h in skip-subr n words c is k o.0 ∙ absent is k o.1
-absent (items.Glyph g words c ∷ is) k h = let o = or-split (key_eq k (Glyph g)) (has_at k is) h in skip-glyph g words c is k o.0 ∙ absent is k o.1
+absent (items.Subr n words c ∷ is) k h = let o = or_parts (key_eq k (Subr n)) (has_at k is) h in skip-subr n words c is k o.0 ∙ absent is k o.1
+absent (items.Glyph g words c ∷ is) k h = let o = or_parts (key_eq k (Glyph g)) (has_at k is) h in skip-glyph g words c is k o.0 ∙ absent is k o.1

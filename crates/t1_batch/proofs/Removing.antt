@@ -4,6 +4,8 @@ use Rattle.std.specs.Prelude.{◌||◌, ◌&&◌, ◌⊎◌}
 use Rattle.std.specs.List.{list_any, AllByRecursion}
 use Rattle.std.specs.Option.{option_to_list}
 use Rattle.std.specs.Str.{bytes_eq}
+use Rattle.std.proofs.Math.Bool.{and-false}
+use Rattle.std.proofs.lemmas.Bool.{or_parts, or_right}
 use Rattle.std.proofs.lemmas.List.{append_assoc}
 use Rattle.std.proofs.lemmas.List.Folds.{list_any-append}
 use Rattle.t1_frac.specs.declared.fault.Code.{Code}
@@ -27,6 +29,7 @@ use Rattle.t1_cache.specs.declared.records.Named.TheVariants as named
 use Rattle.t1_cache.specs.Laws.{AreDistinct}
 use Rattle.t1_cache.specs.Users.{key_eq, key_of}
 use Rattle.t1_cache.proofs.Adding.{key-itself, key-same}
+use Rattle.t1_cache.proofs.Lists.{all-weaken}
 use Rattle.t1_font.proofs.Lookups.{bytes_tell}
 use Rattle.t1_rerun.specs.declared.settling.EntryChange.{EntryChange}
 use Rattle.t1_rerun.specs.Right.{has_glyph}
@@ -36,8 +39,8 @@ use Rattle.t1_batch.specs.declared.entries.EditedEntry.{EditedEntry}
 use Rattle.t1_batch.specs.Batch.{entry_edit, keys, IsSoundBut}
 use Rattle.t1_batch.specs.Passing.{all_removed, items_put, put_of, removed_at, without, Sought}
 use Rattle.t1_batch.proofs.Gathering.{in_front, Outcome}
-use Rattle.t1_batch.proofs.Members.{includes-among, or-right}
-use Rattle.t1_batch.proofs.Passing.{all-weaken, always, and-false, has_at, is_at, itself, keys-any, mark_is, Met, or-split, Passes, tally, without-at}
+use Rattle.t1_batch.proofs.Members.{includes-among}
+use Rattle.t1_batch.proofs.Passing.{always, has_at, is_at, itself, keys-any, mark_is, Met, Passes, tally, without-at}
 
 gone : (key : Key) (m : Sought) → without key m key ≡ None
 gone key m = ap (λ b. cond b None (m key)) (key-itself key)
@@ -188,7 +191,7 @@ Seeks ks earlier m = (k : Key) → has_at k earlier ≡ false → is_some (m k) 
 
 module _ (ks : List Key) (earlier : List Item) (i : Item) (m : Sought) (marks : Seeks ks earlier m) where
   sooner : (k : Key) → has_at k (earlier ++ i ∷ []) ≡ false → (has_at k earlier ≡ false) × ((is_at k i || false) ≡ false)
-  sooner k h = or-split (has_at k earlier) (is_at k i || false) (sym (list_any-append (is_at k) earlier (i ∷ [])) ∙ h)
+  sooner k h = or_parts (has_at k earlier) (is_at k i || false) (sym (list_any-append (is_at k) earlier (i ∷ [])) ∙ h)
 
   seeks-past : Seeks ks (earlier ++ i ∷ []) m
   seeks-past k h = marks k (sooner k h).0
@@ -196,7 +199,7 @@ module _ (ks : List Key) (earlier : List Item) (i : Item) (m : Sought) (marks : 
   seeks-behind : (key : Key) → ((k : Key) → is_at k i ≡ key_eq k key) → Seeks ks (earlier ++ i ∷ []) (without key m)
   seeks-behind key at k h =
       let s = sooner k h in
-      let off : key_eq k key ≡ false = sym (at k) ∙ (or-split (is_at k i) false s.1).0 in
+      let off : key_eq k key ≡ false = sym (at k) ∙ (or_parts (is_at k i) false s.1).0 in
       ap is_some (without-at key k m) ∙ ap (λ b. is_some (cond b None (m k))) off ∙ marks k s.0
 
 -- where all other bodies have no fault, the first is that of an entry that is looked for
@@ -253,7 +256,7 @@ module _ (old : SourceParts) (marks : Sought) where
       at true on =
           let never : true ≡ false = sym there ∙ ap (λ n. list_any (bytes_eq n) names) (sym (bytes_tell.same g x on)) ∙ apart in
           absurd (cc)
-      at false off = agrees x (or-right (bytes_eq x g) (list_any (bytes_eq x) names) there)
+      at false off = agrees x (or_right (bytes_eq x g) (list_any (bytes_eq x) names) there)
 
     turned : (b : Bool) (f ls : List (List ℕ)) → f ≡ ls → cond b (g ∷ f) f ≡ cond b (g ∷ []) [] ++ ls
     turned true f ls e = ap (λ l. g ∷ l) e
@@ -277,4 +280,4 @@ module _ (old : SourceParts) (marks : Sought) where
   all-last (items.Section b n a ∷ is) d knows m cs p agrees = all-last is d knows m cs p agrees
   all-last (items.Subr n words c ∷ is) d knows m cs p agrees = last-subr n words (glyph_names is) (Passes is) (all-last is d knows) m cs p agrees
   all-last (items.Glyph g words c ∷ is) d knows m cs p agrees =
-      last-met g words (glyph_names is) (Passes is) d.0 (all-last is d.1 (λ x there. knows x (or-right (bytes_eq x g) (list_any (bytes_eq x) (glyph_names is)) there))) knows m cs p agrees
+      last-met g words (glyph_names is) (Passes is) d.0 (all-last is d.1 (λ x there. knows x (or_right (bytes_eq x g) (list_any (bytes_eq x) (glyph_names is)) there))) knows m cs p agrees

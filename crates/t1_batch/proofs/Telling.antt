@@ -3,6 +3,8 @@ use Rattle.std.proofs.Common.{◌≡◌, ℕ, Bool, true, false, cond, not, List
 use Rattle.std.specs.Prelude.{◌||◌, ◌&&◌, MatchResult}
 use Rattle.std.specs.List.{list_any, AllByRecursion}
 use Rattle.std.specs.Str.{bytes_eq}
+use Rattle.std.proofs.lemmas.Bool.{or_right}
+use Rattle.std.proofs.Math.Bool.{or-false}
 use Rattle.std.proofs.lemmas.List.{append-nil}
 use Rattle.std.proofs.lemmas.List.Folds.{list_any-append}
 use Rattle.t1_frac.specs.declared.fault.Fault.{Fault}
@@ -18,6 +20,7 @@ use Rattle.t1_font.specs.Glyphs.{glyph_names}
 use Rattle.t1_font.proofs.LengthLaws.{body_fault_told}
 use Rattle.t1_cache.specs.Users.{key_eq, key_of}
 use Rattle.t1_cache.proofs.Distinct.{names_distinct}
+use Rattle.t1_cache.proofs.Lists.{all-weaken}
 use Rattle.t1_rerun.specs.declared.settling.EntryChange.{EntryChange}
 use Rattle.t1_rerun.specs.Right.{has_glyph, IsInOrder}
 use Rattle.t1_rerun.specs.Settled.{changed_keys, last_glyphs, was_moved, AreDistinctKeys, HasBody}
@@ -27,8 +30,8 @@ use Rattle.t1_batch.specs.declared.entries.EditedEntry.{EditedEntry}
 use Rattle.t1_batch.specs.Batch.{entry_edit, keys, was_added, AreBatchChanges, EntryEdit, IsEditedBy, IsSoundBut}
 use Rattle.t1_batch.specs.Passing.{all_marked, all_removed, behind_items, changes_by, items_put, none_sought, Sought}
 use Rattle.t1_batch.proofs.Gathering.{Outcome}
-use Rattle.t1_batch.proofs.Members.{or-right, same_edited}
-use Rattle.t1_batch.proofs.Passing.{absent, all-append, all-put, all-weaken, always, at-glyph, behind-at, distinct, glyph-key, has_at, itself, keys-any, mark_is, marks-added, marks-named, passes, tallied, tally, IsPut, Passes}
+use Rattle.t1_batch.proofs.Members.{same_edited}
+use Rattle.t1_batch.proofs.Passing.{absent, all-append, all-put, always, at-glyph, behind-at, distinct, glyph-key, has_at, itself, keys-any, mark_is, marks-added, marks-named, passes, tallied, tally, IsPut, Passes}
 use Rattle.t1_batch.proofs.Removing.{all-last, checked, each-removed, last-append, removed-any, removed-distinct, removed-last, removed-unmoved, unit, IsRemoved}
 
 -- a name that passes is there
@@ -43,11 +46,7 @@ passed p g (x ∷ xs) h = one (p x) (passed p g xs) h where
   one : (b : Bool) → (list_any (bytes_eq g) (filter p xs) ≡ true → list_any (bytes_eq g) xs ≡ true)
       → list_any (bytes_eq g) (cond b (x ∷ filter p xs) (filter p xs)) ≡ true → (bytes_eq g x || list_any (bytes_eq g) xs) ≡ true
   one true below h = either (bytes_eq g x) below h
-  one false below h = or-right (bytes_eq g x) (list_any (bytes_eq g) xs) (below h)
-
-or-false : (a : Bool) → (a || false) ≡ a
-or-false true = refl
-or-false false = refl
+  one false below h = or_right (bytes_eq g x) (list_any (bytes_eq g) xs) (below h)
 
 -- ---- an outcome
 

@@ -1,6 +1,7 @@
 -- What accepted edits make of the items of a source.
-use Rattle.std.proofs.Common.{◌≡◌, ℕ, Bool, true, false, not, ℤ, ok_or, Option, Some, None, Result, Ok, List, ◌++◌, filter, codes, refl, sym, ap}
+use Rattle.std.proofs.Common.{◌≡◌, ℕ, Bool, false, not, ℤ, ok_or, Option, Some, None, Result, Ok, List, ◌++◌, filter, codes, refl, sym, ap}
 use Rattle.std.specs.List.{list_any, position, position_or_len, insert, remove, slice_set}
+use Rattle.std.proofs.lemmas.Bool.{not-true}
 use Rattle.t1_frac.specs.Outcome.{◌>>=◌}
 use Rattle.t1_parts.specs.declared.item.Item.{Item}
 use Rattle.t1_parts.specs.declared.item.Item.TheVariants as entries
@@ -68,10 +69,6 @@ made-items s made xs e = let is : with_items s xs ≡ made = cc in ap (λ t. t.i
 made-clear : (s made : SourceParts) (ls : List (List ℕ)) → ◌≡◌ {A = Result SourceParts Rule} (Ok (with_clear s ls)) (Ok made) → s.items ≡ made.items
 made-clear s made ls e = let is : with_clear s ls ≡ made = cc in ap (λ t. t.items) is
 
-not-there : (b : Bool) → not b ≡ true → b ≡ false
-not-there true h = absurd (cc)
-not-there false h = refl
-
 placed : (test : Item → Bool) (y : ℕ → Item) (s made : SourceParts)
     → (ok_or (position test s.items) E1 >>= λ at. Ok (with_items s (slice_set s.items at (y at)))) ≡ Ok made → IsPut test y s made
 placed test y s made e =
@@ -88,7 +85,7 @@ added : (test : Item → Bool) (at : ℕ) (y : Item) (s made : SourceParts)
     → (keeps E2 (not (list_any test s.items)) >>= λ fresh. Ok (with_items s (insert s.items at y))) ≡ Ok made → IsIn test at y s made
 added test at y s made e =
     let fresh = bind_ok (keeps E2 (not (list_any test s.items))) (λ fresh. Ok (with_items s (insert s.items at y))) made e in
-    record { fresh = not-there (list_any test s.items) (kept_ok E2 (not (list_any test s.items)) fresh.1); are = made-items s made (insert s.items at y) fresh.2 }
+    record { fresh = not-true (list_any test s.items) (kept_ok E2 (not (list_any test s.items)) fresh.1); are = made-items s made (insert s.items at y) fresh.2 }
 
 pub replaced_glyph-made : (s : SourceParts) (g body : List ℕ) (made : SourceParts) → replaced_glyph s g body ≡ Ok made → IsPut (is_glyph g) (glyph_at s g body) s made
 unfolding replaced_glyph

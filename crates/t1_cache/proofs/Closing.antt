@@ -7,13 +7,14 @@ use Rattle.std.specs.Option.{option_map}
 use Rattle.std.specs.Str.{bytes_eq}
 use Rattle.std.specs.declared.alloc.Global.{Global}
 use Rattle.std.specs.declared.vec.Vec.{Vec}
+use Rattle.std.proofs.lemmas.Bool.{or_cases, or_left, or_right}
 use Rattle.std.proofs.lemmas.List.{take-append-le}
 use Rattle.std.proofs.lemmas.List.Folds.{list_any_at, list_any_more, list_any-append}
 use Rattle.std.proofs.lemmas.Slice.Eq.{bytes_eq-Decides}
 use Rattle.t1_cache.specs.declared.records.GlyphRecord.{GlyphRecord}
 use Rattle.t1_cache.specs.Found.{Reached, Seed, User}
 use Rattle.t1_cache.specs.Users.{among, glyph_users, has, users_of}
-use Rattle.t1_cache.proofs.Names.{or-cases, or-left, or-right, no-more-names}
+use Rattle.t1_cache.proofs.Names.{no-more-names}
 
 -- the users of the first names are there
 pub record IsClosing {K : Type 0} (name : K → List ℕ) (seed : List ℕ → Bool) (uses : List ℕ → List ℕ → Bool) (ks : List K) (at : ℕ) : Type 0 where
@@ -35,21 +36,21 @@ closing-more name seed uses ks new more at d n was h is behind names = record {
       let first : (has name (take at ks) p || bytes_eq p n) ≡ true =
       sym (list_any_more (λ k. bytes_eq p (name k)) ks at d h ∙ ap (λ m. has name (take at ks) p || bytes_eq p m) (sym is))
       ∙ sym (ap (λ l. has name l p) before) ∙ there in
-      elim (or-cases (has name (take at ks) p) (bytes_eq p n) first) [
+      elim (or_cases (has name (take at ks) p) (bytes_eq p n) first) [
         | inl earlier ↦ kept u (was.users p u earlier used)
         | inr here ↦ added u (sym (ap (λ q. uses q u) ((bytes_eq-Decides p n).0 here)) ∙ used)
       ];
   reached = λ g there.
-      elim (or-cases (has name ks g) (uses n g) (sym (names g) ∙ there)) [
+      elim (or_cases (has name ks g) (uses n g) (sym (names g) ∙ there)) [
         | inl old ↦ was.reached g old
         | inr new ↦ User n g (was.reached n itself) new
       ];
 } where
   kept : (g : List ℕ) → has name ks g ≡ true → has name new g ≡ true
-  kept g e = names g ∙ or-left (has name ks g) (uses n g) e
+  kept g e = names g ∙ or_left (has name ks g) (uses n g) e
 
   added : (g : List ℕ) → uses n g ≡ true → has name new g ≡ true
-  added g e = names g ∙ or-right (has name ks g) (uses n g) e
+  added g e = names g ∙ or_right (has name ks g) (uses n g) e
 
   itself : has name ks n ≡ true
   itself = list_any_at (λ x. bytes_eq n (name x)) ks at d h (ap (λ m. bytes_eq n m) (sym is) ∙ (bytes_eq-Decides n n).1 refl)
@@ -67,8 +68,8 @@ listed (e ∷ es) p u h =
     by : (b : Bool) → among (option_map (λ r. users_of r.users) (cond b (Some e.1) (lookup (λ key. bytes_eq p key.items) es))) u ≡ true
         → (among (glyph_users es p) u ≡ true → has (λ k. k.items) (all_users es) u ≡ true)
         → (has (λ k. k.items) e.1.users.keys u || has (λ k. k.items) (all_users es) u) ≡ true
-    by true here later = or-left (has (λ k. k.items) e.1.users.keys u) (has (λ k. k.items) (all_users es) u) here
-    by false there later = or-right (has (λ k. k.items) e.1.users.keys u) (has (λ k. k.items) (all_users es) u) (later there)
+    by true here later = or_left (has (λ k. k.items) e.1.users.keys u) (has (λ k. k.items) (all_users es) u) here
+    by false there later = or_right (has (λ k. k.items) e.1.users.keys u) (has (λ k. k.items) (all_users es) u) (later there)
 
 -- each name is a seed or a user
 known : (seed : List ℕ → Bool) (entries : List (Vec ℕ Global × GlyphRecord)) → (g : List ℕ) → Reached seed (λ p. among (glyph_users entries p)) g

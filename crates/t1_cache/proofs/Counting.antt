@@ -2,6 +2,7 @@
 use Rattle.std.proofs.Common.{◌≡◌, ℕ, suc, Bool, true, false, cond, not, ◌&&◌, ◌||◌, List, [], ◌∷◌, filter, length, refl, sym, ◌∙◌, ap, inl, inr}
 use Rattle.std.specs.List.{list_any}
 use Rattle.std.specs.Str.{bytes_eq}
+use Rattle.std.proofs.Math.Bool.{and-false, and-true}
 use Rattle.std.proofs.lemmas.Bool.{cases_Bool}
 use Rattle.std.proofs.lemmas.Slice.Eq.{bytes_eq-Decides}
 use Rattle.t1_cache.specs.Laws.{AreDistinct, CountLaw}
@@ -28,10 +29,7 @@ has-but x g (y ∷ names) =
     ]
   where
     gone : (a b c : Bool) → (a ≡ true → c ≡ true) → (b && not c) ≡ ((a || b) && not c)
-    gone true b c h = rw (h refl) (none b) where
-      none : (b : Bool) → (b && false) ≡ false
-      none true = refl
-      none false = refl
+    gone true b c h = rw (h refl) (and-false b)
     gone false b c h = refl
 
     stays : (a b c : Bool) → (a ≡ true → c ≡ false) → (a || (b && not c)) ≡ ((a || b) && not c)
@@ -64,22 +62,14 @@ none-there : (names : List (List ℕ)) → ((g : List ℕ) → has names g ≡ f
 none-there [] h = refl
 none-there (x ∷ names) h = let e : (bytes_eq x x || has names x) ≡ false = h x in let never : true ≡ false = rw (itself x) at e in absurd (cc)
 
-never-and : (c : Bool) → (c && false) ≡ false
-never-and true = refl
-never-and false = refl
-
-and-true : (c : Bool) → (c && true) ≡ c
-and-true true = refl
-and-true false = refl
-
 left : (a b c d : Bool) → (a ≡ true → d ≡ true) → (b ≡ true → d ≡ false) → (((a || b) && c) && not d) ≡ (b && c)
 left true true c d f g = let never : true ≡ false = sym (f refl) ∙ g refl in absurd (cc)
-left true false c d f g = rw (f refl) (never-and c)
+left true false c d f g = rw (f refl) (and-false c)
 left false true c d f g = rw (g refl) (and-true c)
 left false false c d f g = refl
 
 dropped : (a b c : Bool) → (a ≡ true → c ≡ false) → ((a || b) && c) ≡ (b && c)
-dropped true b c f = rw (f refl) (sym (never-and b))
+dropped true b c f = rw (f refl) (sym (and-false b))
 dropped false b c f = refl
 
 apart : (n : List ℕ) (names : List (List ℕ)) → has names n ≡ false → (g : List ℕ) → has names g ≡ true → bytes_eq n g ≡ false

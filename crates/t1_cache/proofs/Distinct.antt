@@ -1,8 +1,9 @@
 -- The names of a source's glyphs, each once.
-use Rattle.std.proofs.Common.{◌≡◌, ℕ, Bool, true, false, List, [], ◌∷◌, ◌++◌, refl, sym, ◌∙◌, ap, subst, inl, inr}
+use Rattle.std.proofs.Common.{◌≡◌, ℕ, true, false, List, [], ◌∷◌, ◌++◌, refl, sym, ◌∙◌, ap, subst, inl, inr}
 use Rattle.std.specs.Prelude.{◌||◌}
 use Rattle.std.specs.List.{list_any}
 use Rattle.std.specs.Str.{bytes_eq}
+use Rattle.std.proofs.Math.Bool.{or-true}
 use Rattle.std.proofs.lemmas.Bool.{cases_Bool}
 use Rattle.std.proofs.lemmas.List.Folds.{list_any-append}
 use Rattle.std.proofs.lemmas.Slice.Eq.{bytes_eq-Decides}
@@ -22,11 +23,7 @@ last : (g : List ℕ) (earlier : List Item) (ws : List (List ℕ)) (closing : Li
 last g earlier ws closing =
     list_any-append (is_glyph g) earlier (Glyph g ws closing ∷ [])
     ∙ ap (λ b. list_any (is_glyph g) earlier || (b || false)) ((bytes_eq-Decides g g).1 refl)
-    ∙ right (list_any (is_glyph g) earlier)
-  where
-    right : (a : Bool) → (a || true) ≡ true
-    right true = refl
-    right false = refl
+    ∙ or-true (list_any (is_glyph g) earlier)
 
 -- no glyph after these bears a name that one of these does
 unlike : (g : List ℕ) (earlier is : List Item) → list_any (is_glyph g) earlier ≡ true → Stand earlier is → list_any (bytes_eq g) (glyph_names is) ≡ false

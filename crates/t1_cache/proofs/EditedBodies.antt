@@ -4,7 +4,8 @@ use Rattle.std.specs.Prelude.{◌||◌, ◌==◌}
 use Rattle.std.specs.List.{list_any, position, insert, remove, slice_set}
 use Rattle.std.specs.Option.{option_or}
 use Rattle.std.specs.Result.{result_ok}
-use Rattle.std.proofs.lemmas.Bool.{eqb-true}
+use Rattle.std.proofs.Math.Bool.{or-true}
+use Rattle.std.proofs.lemmas.Bool.{eqb-true, or_parts}
 use Rattle.std.proofs.lemmas.Bool.Decides.{nat_tests}
 use Rattle.std.proofs.lemmas.List.{take-append-drop}
 use Rattle.std.proofs.lemmas.List.Folds.{list_any-append}
@@ -45,22 +46,18 @@ first f (i ∷ is) = option_or (f i) (first f is)
 abbrev Needs : (Item → Bool) → Reads → Type 0
 Needs test f = (i : Item) → test i ≡ false → f i ≡ None
 
-neither : (a b : Bool) → (a || b) ≡ false → (a ≡ false) × (b ≡ false)
-neither true b h = absurd (cc)
-neither false b h = (refl, h)
-
 first-past : (test : Item → Bool) (f : Reads) → Needs test f → (a b : List Item) → list_any test a ≡ false → first f (a ++ b) ≡ first f b
 unfolding first
 first-past test f needs [] b h = refl
 first-past test f needs (i ∷ a) b h =
-    let h' = neither (test i) (list_any test a) h in
+    let h' = or_parts (test i) (list_any test a) h in
     ap (λ r. option_or r (first f (a ++ b))) (needs i h'.0) ∙ first-past test f needs a b h'.1
 
 first-none : (test : Item → Bool) (f : Reads) → Needs test f → (b : List Item) → list_any test b ≡ false → first f b ≡ None
 unfolding first
 first-none test f needs [] h = refl
 first-none test f needs (i ∷ b) h =
-    let h' = neither (test i) (list_any test b) h in
+    let h' = or_parts (test i) (list_any test b) h in
     ap (λ r. option_or r (first f b)) (needs i h'.0) ∙ first-none test f needs b h'.1
 
 first-here : (test : Item → Bool) (f : Reads) → Needs test f → (a : List Item) (y : Item) (b : List Item) → list_any test a ≡ false → list_any test b ≡ false
@@ -134,10 +131,7 @@ any-still : (test : Item → Bool) (a : List Item) (i : Item) → list_any test 
 any-still test a i there = list_any-append test a (i ∷ []) ∙ ap (λ b. b || list_any test (i ∷ [])) there
 
 any-last : (test : Item → Bool) (a : List Item) (i : Item) → test i ≡ true → list_any test (a ++ i ∷ []) ≡ true
-any-last test a i on = list_any-append test a (i ∷ []) ∙ ap (λ b. list_any test a || (b || false)) on ∙ right (list_any test a) where
-  right : (a : Bool) → (a || true) ≡ true
-  right true = refl
-  right false = refl
+any-last test a i on = list_any-append test a (i ∷ []) ∙ ap (λ b. list_any test a || (b || false)) on ∙ or-true (list_any test a)
 
 none-later : (test : Item → Bool) → Once test → (earlier is : List Item) → list_any test earlier ≡ true → Stand earlier is → list_any test is ≡ false
 none-later test once earlier [] there h = refl
@@ -180,7 +174,7 @@ out-body test f needs once plain s well at there =
 
 in-body : (test : Item → Bool) (f : Reads) → Needs test f → (is : List Item) (at : ℕ) (y : Item) → list_any test is ≡ false → first f (insert is at y) ≡ f y
 in-body test f needs is at y none =
-    let parts = neither (list_any test (take at is)) (list_any test (drop at is))
+    let parts = or_parts (list_any test (take at is)) (list_any test (drop at is))
     (sym (list_any-append test (take at is) (drop at is)) ∙ ap (list_any test) (take-append-drop at is) ∙ none) in
     first-here test f needs (take at is) y (drop at is) parts.0 parts.1
 

@@ -3,6 +3,7 @@ use Rattle.std.proofs.Common.{◌≡◌, ℕ, Bool, true, false, cond, not, ℤ,
 use Rattle.std.specs.Prelude.{◌||◌}
 use Rattle.std.specs.List.{list_any, insert, remove, slice_set}
 use Rattle.std.specs.Str.{bytes_eq}
+use Rattle.std.proofs.lemmas.Bool.{or_parts, or_right}
 use Rattle.std.proofs.lemmas.Slice.Eq.{bytes_eq-Decides}
 use Rattle.t1_source.specs.declared.edit.Edit.TheVariants.{ReplaceGlyph, AddGlyph, RemoveGlyph, ReplaceSubr, AddSubr, RemoveSubr, Encode, Unencode, LenIv, Kern, Unkern}
 use Rattle.t1_parts.specs.declared.item.Item.{Item}
@@ -79,10 +80,7 @@ none-after : (b : List Item) → list_any among_glyphs_items b ≡ false → gly
 unfolding among_glyphs_items
 none-after [] h = refl
 none-after (items.Plain l ∷ b) h = none-after b h
-none-after (items.Section c n d ∷ b) h = none-after b (later (is_glyphs_line (items.Section c n d)) (list_any among_glyphs_items b) h) where
-  later : (x y : Bool) → (x || y) ≡ false → y ≡ false
-  later true y h = absurd (cc)
-  later false y h = h
+none-after (items.Section c n d ∷ b) h = none-after b (or_parts (is_glyphs_line (items.Section c n d)) (list_any among_glyphs_items b) h).1
 none-after (items.Subr n ws c ∷ b) h = none-after b h
 none-after (items.Glyph g ws c ∷ b) h = absurd (cc)
 
@@ -96,10 +94,7 @@ among-lines (i ∷ is) h = by (is_glyphs_line i) refl h (among-lines is) where
     left : (a : Bool) → ((a || true) || list_any among_glyphs_items is) ≡ true
     left true = refl
     left false = refl
-  by false off h rest = right (is_glyph_entry i || is_glyphs_line i) (list_any among_glyphs_items is) (rest h) where
-    right : (a b : Bool) → b ≡ true → (a || b) ≡ true
-    right true b h = refl
-    right false b h = h
+  by false off h rest = or_right (is_glyph_entry i || is_glyphs_line i) (list_any among_glyphs_items is) (rest h)
 
 names-nil : (names : List (List ℕ)) → names ++ [] ≡ names
 names-nil [] = refl
@@ -141,14 +136,8 @@ but-there g (x ∷ xs) ys d =
     ∙ ap (λ l. x ∷ l) (but-there g xs ys d.1)
   where
     among : (zs : List (List ℕ)) → list_any (bytes_eq x) (zs ++ g ∷ ys) ≡ false → bytes_eq x g ≡ false
-    among [] h = left (bytes_eq x g) (list_any (bytes_eq x) ys) h where
-      left : (a b : Bool) → (a || b) ≡ false → a ≡ false
-      left true b h = absurd (cc)
-      left false b h = refl
-    among (z ∷ zs) h = among zs (right (bytes_eq x z) (list_any (bytes_eq x) (zs ++ g ∷ ys)) h) where
-      right : (a b : Bool) → (a || b) ≡ false → b ≡ false
-      right true b h = absurd (cc)
-      right false b h = h
+    among [] h = (or_parts (bytes_eq x g) (list_any (bytes_eq x) ys) h).0
+    among (z ∷ zs) h = among zs (or_parts (bytes_eq x z) (list_any (bytes_eq x) (zs ++ g ∷ ys)) h).1
 
     apart : (b : Bool) → bytes_eq g x ≡ b → bytes_eq g x ≡ false
     apart true on =

@@ -3,6 +3,7 @@ use Rattle.std.proofs.Common.{◌≡◌, ℕ, zero, suc, Bool, true, false, cond
 use Rattle.std.specs.Prelude.{Result, Ok, Err, ◌||◌}
 use Rattle.std.specs.List.{AllByRecursion, list_any}
 use Rattle.std.specs.Str.{bytes_eq}
+use Rattle.std.proofs.Math.Bool.{or-true}
 use Rattle.t1_source.specs.declared.edit.Edit.TheVariants.{ReplaceGlyph, AddGlyph, RemoveGlyph, ReplaceSubr, AddSubr, RemoveSubr, Encode, Unencode, LenIv, Kern, Unkern}
 use Rattle.std.proofs.lemmas.Bool.{or_parts}
 use Rattle.std.proofs.lemmas.List.Folds.{list_any-append}
@@ -47,12 +48,8 @@ names-filtered g (x ∷ xs) = by (bytes_eq g x.name) (names-filtered g xs) where
 
 -- ---- more keys
 
-left : (a b : Bool) → (a || b) ≡ false → a ≡ false
-left true b h = absurd (cc)
-left false b h = refl
-
 some : {X : Type 0} (test : X → Bool) (ks ls : List X) → list_any test (ks ++ ls) ≡ false → list_any test ks ≡ false
-some test ks ls h = left (list_any test ks) (list_any test ls) (sym (list_any-append test ks ls) ∙ h)
+some test ks ls h = (or_parts (list_any test ks) (list_any test ls) (sym (list_any-append test ks ls) ∙ h)).0
 
 fewer-run : (ks ls : List Key) (g : List ℕ) (r : Option (Result Drawing Code)) → meets_run (ks ++ ls) g r ≡ false → meets_run ks g r ≡ false
 fewer-run ks ls g None h = some (is_key_of g) ks ls h
@@ -100,13 +97,9 @@ all-filtered Q test (x ∷ xs) h = by (test x) (all-filtered Q test xs h.1) wher
 named-stale : (s : SourceParts) (ks : List Key) (g : List ℕ) → is_stale s (ks ++ Glyph g ∷ []) g ≡ false → ⊥
 named-stale s ks g off =
     let never : true ≡ false =
-    sym (list_any-append (is_key_of g) ks (Glyph g ∷ []) ∙ ap (λ b. list_any (is_key_of g) ks || (b || false)) (bytes_tell.itself g) ∙ right (list_any (is_key_of g) ks))
+    sym (list_any-append (is_key_of g) ks (Glyph g ∷ []) ∙ ap (λ b. list_any (is_key_of g) ks || (b || false)) (bytes_tell.itself g) ∙ or-true (list_any (is_key_of g) ks))
     ∙ unnamed (bodies s.items) (ks ++ Glyph g ∷ []) g off in
     absurd (cc)
-  where
-    right : (a : Bool) → (a || true) ≡ true
-    right true = refl
-    right false = refl
 
 pub turn_in_place : KeptTurnLaw
 turn_in_place keys old s k (AddGlyph g body) made ps well e kept before at run box = record {

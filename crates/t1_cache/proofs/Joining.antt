@@ -2,7 +2,8 @@
 use Rattle.std.proofs.Common.{◌≡◌, ℕ, Bool, true, false, cond, not, List, [], ◌∷◌, refl, sym, ap, ◌∙◌, Option, Some, None, inl, inr}
 use Rattle.std.specs.Prelude.{◌||◌, ◌&&◌}
 use Rattle.std.specs.List.{list_any}
-use Rattle.std.proofs.lemmas.Bool.{cases_Bool}
+use Rattle.std.proofs.Math.Bool.{and-false}
+use Rattle.std.proofs.lemmas.Bool.{cases_Bool, or_right}
 use Rattle.std.proofs.lemmas.Slice.Eq.{bytes_eq-Decides}
 use Rattle.t1_code.specs.declared.command.Command.{Command}
 use Rattle.t1_run.specs.Footprint.{Includes}
@@ -17,17 +18,13 @@ use Rattle.t1_cache.proofs.Adding.{key-same}
 use Rattle.t1_cache.proofs.Newest.{not-key}
 use Rattle.t1_cache.proofs.There.{uses_there}
 
-right : (a b : Bool) → b ≡ true → (a || b) ≡ true
-right true b h = refl
-right false b h = h
-
 -- a glyph that is named is met
 met-named : (m : FontBodies) (g : List ℕ) (keys : List Key) → Includes keys (Glyph g) → list_any (is_met m g) keys ≡ true
 met-named m g [] i = absurd i
 met-named m g (k ∷ keys) (inl e) =
     let here : is_met m g k ≡ true = ap (is_met m g) e ∙ ap (λ b. b || is_user (Glyph g) (own m g)) ((bytes_eq-Decides g g).1 refl) in
     ap (λ b. b || list_any (is_met m g) keys) here
-met-named m g (k ∷ keys) (inr i) = right (is_met m g k) (list_any (is_met m g) keys) (met-named m g keys i)
+met-named m g (k ∷ keys) (inr i) = or_right (is_met m g k) (list_any (is_met m g) keys) (met-named m g keys i)
 
 pub none-run : (m : FontBodies) (g : List ℕ) → m.glyphs g ≡ None → own m g ≡ None
 unfolding own
@@ -51,7 +48,7 @@ met-all m g (k ∷ keys) h = by (is_key_of g k) refl h (met-all m g keys) where
   by : (b : Bool) → is_key_of g k ≡ b → (b || is_named keys g) ≡ true → (is_named keys g ≡ true → list_any (is_met m g) keys ≡ true)
       → list_any (is_met m g) (k ∷ keys) ≡ true
   by true e h rest = ap (λ b. (b || is_user k (own m g)) || list_any (is_met m g) keys) e
-  by false e h rest = right (is_met m g k) (list_any (is_met m g) keys) (rest h)
+  by false e h rest = or_right (is_met m g k) (list_any (is_met m g) keys) (rest h)
 
 touched-named : (m : FontBodies) (keys : List Key) (g : List ℕ) → own m g ≡ None → is_named keys g ≡ true → is_touched m keys g ≡ true
 unfolding is_touched
@@ -105,13 +102,9 @@ tables_first m names all old new leaves joins empty in_ after k g =
     ∙ in_ k g
     ∙ by (m.glyphs g) refl
   where
-    none : (b : Bool) → (b && false) ≡ false
-    none true = refl
-    none false = refl
-
     by : (body : Option (List Command)) → m.glyphs g ≡ body → (names g && is_user k (own m g)) ≡ is_user k (own m g)
     by None e =
-        ap (λ r. names g && is_user k r) (none-run m g e) ∙ none (names g)
+        ap (λ r. names g && is_user k r) (none-run m g e) ∙ and-false (names g)
         ∙ ap (is_user k) (sym (none-run m g e))
     by (Some body) e = ap (λ b. b && is_user k (own m g)) (all g body e)
 

@@ -3,7 +3,7 @@ use Rattle.std.proofs.Common.{◌≡◌, ℕ, Bool, true, false, cond, not, List
 use Rattle.std.specs.Prelude.{Result, Ok, Err}
 use Rattle.std.specs.List.{AllByRecursion, list_any}
 use Rattle.std.specs.Str.{bytes_eq}
-use Rattle.std.proofs.lemmas.Bool.{or_parts}
+use Rattle.std.proofs.lemmas.Bool.{not_from_false, or_parts}
 use Rattle.t1_frac.specs.Outcome.{told_at, ◌>>=◌}
 use Rattle.t1_frac.specs.declared.fault.Code.{Code}
 use Rattle.t1_frac.specs.declared.fault.Fault.{Fault}
@@ -20,6 +20,7 @@ use Rattle.t1_run.specs.Touched.{is_named, meets_run, meets_parts, touched_withi
 use Rattle.t1_run.proofs.Untouched.{untouched_kept}
 use Rattle.t1_cache.specs.Edited.{is_stale}
 use Rattle.t1_cache.specs.Laws.{check, FirstFaultLaw}
+use Rattle.t1_cache.proofs.Lists.{all-weaken}
 
 -- ---- lists and tests
 
@@ -38,10 +39,6 @@ one-cond P x xs false h = ((λ e. absurd (cc)), h)
 all-where : {X : Type 0} (P : X → Type 0) (q : X → Bool) (xs : List X) → AllByRecursion P (filter q xs) → AllByRecursion (λ x. q x ≡ true → P x) xs
 all-where P q [] h = tt
 all-where P q (x ∷ xs) h = let p = one-cond P x (filter q xs) (q x) h in (p.0, all-where P q xs p.1)
-
-all-weaken : {X : Type 0} (P Q : X → Type 0) → ((x : X) → P x → Q x) → (xs : List X) → AllByRecursion P xs → AllByRecursion Q xs
-all-weaken P Q step [] h = tt
-all-weaken P Q step (x ∷ xs) h = (step x h.0, all-weaken P Q step xs h.1)
 
 -- ---- the first fault among a part of the glyphs
 
@@ -111,10 +108,6 @@ drew g run o told e =
     let second = bind_ok o (λ s. placed_parts_of first.0.bearing first.0.composite >>= (λ a. Ok (record { name = g; drawing = first.0; outline = s; parts = a }))) told first.2 in
     (second.0, second.1)
 
-pub not-false : (t : Bool) → t ≡ false → not t ≡ true
-not-false true h = absurd (cc)
-not-false false h = refl
-
 pub first_fault_stale : FirstFaultLaw
 first_fault_stale keys old new was edit e =
     let m = bodies old.items in
@@ -124,7 +117,7 @@ first_fault_stale keys old new was edit e =
     among-part (own n) (outline n) (is_stale old keys) (glyph_names new.items)
     (all-weaken (λ g. not (is_named keys g) ≡ true → IsFine (own m) (outline m) g) (λ g. is_stale old keys g ≡ false → IsFine (own n) (outline n) g)
     (λ g was_fine fresh. kept-fine keys m n g (λ o e'. untouched_kept keys m n edit.bodies g o e' fresh)
-    (was_fine (not-false (is_named keys g) (unnamed m keys g fresh))))
+    (was_fine (not_from_false (is_named keys g) (unnamed m keys g fresh))))
     (glyph_names new.items) (all-where (IsFine (own m) (outline m)) (λ g. not (is_named keys g)) (glyph_names new.items) others))
   where
     kept-fine : (keys : List Key) (m n : FontBodies) (g : List ℕ) → ((o : List Segment) → outline m g ≡ Ok o → (own n g ≡ own m g) × (outline n g ≡ outline m g))

@@ -11,6 +11,7 @@ pub mod EditedRecords
 pub mod Edits
 pub mod Joining
 pub mod Judging
+pub mod Lists
 pub mod Middles
 pub mod Names
 pub mod NamesThere

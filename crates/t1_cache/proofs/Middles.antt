@@ -1,10 +1,10 @@
 -- Entries put in, taken out or replaced change a source at their keys and nowhere else.
-use Rattle.std.proofs.Common.{◌≡◌, ℕ, Bool, true, false, cond, not, ◌||◌, List, [], ◌∷◌, ◌++◌, map, filter, refl, sym, ◌∙◌, ap, inl, inr, None}
+use Rattle.std.proofs.Common.{◌≡◌, ℕ, true, cond, not, List, [], ◌∷◌, ◌++◌, map, filter, refl, sym, ◌∙◌, ap, inl, inr, None}
 use Rattle.std.specs.Prelude.{◌==◌}
 use Rattle.std.specs.List.{AllByRecursion}
 use Rattle.std.specs.Option.{option_or}
 use Rattle.std.specs.Str.{bytes_eq}
-use Rattle.std.proofs.lemmas.Bool.{cases_Bool, eqb-true}
+use Rattle.std.proofs.lemmas.Bool.{cases_Bool, eqb-true, or_left, or_right}
 use Rattle.std.proofs.lemmas.Slice.Eq.{bytes_eq-Decides}
 use Rattle.t1_parts.specs.declared.item.Item.{Item}
 use Rattle.t1_parts.specs.declared.item.Item.TheVariants as items
@@ -79,14 +79,8 @@ names-raised s g (items.Glyph h ws c ∷ is) = ap (λ t. h ∷ t) (names-raised 
 
 named-here : (keys : List Key) (g : List ℕ) → Includes keys (Glyph g) → is_named keys g ≡ true
 named-here [] g i = absurd i
-named-here (k ∷ keys) g (inl e) = rw e (left (bytes_eq g g) (is_named keys g) ((bytes_eq-Decides g g).1 refl)) where
-  left : (x y : Bool) → x ≡ true → (x || y) ≡ true
-  left true y h = refl
-  left false y h = absurd (cc)
-named-here (k ∷ keys) g (inr i) = right (is_key_of g k) (is_named keys g) (named-here keys g i) where
-  right : (x y : Bool) → y ≡ true → (x || y) ≡ true
-  right true y h = refl
-  right false y h = h
+named-here (k ∷ keys) g (inl e) = rw e (or_left (bytes_eq g g) (is_named keys g) ((bytes_eq-Decides g g).1 refl))
+named-here (k ∷ keys) g (inr i) = or_right (is_key_of g k) (is_named keys g) (named-here keys g i)
 
 abbrev others : List Key → List Item → List (List ℕ)
 others keys is = filter (λ g. not (is_named keys g)) (glyph_names is)

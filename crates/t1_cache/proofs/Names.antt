@@ -7,7 +7,7 @@ use Rattle.std.specs.Map.{keys_of}
 use Rattle.std.specs.Str.{bytes_eq}
 use Rattle.std.specs.declared.alloc.Global.{Global}
 use Rattle.std.specs.declared.vec.Vec.{Vec}
-use Rattle.std.proofs.lemmas.Bool.{cases_Bool}
+use Rattle.std.proofs.lemmas.Bool.{cases_Bool, or_cases, or_left, or_right}
 use Rattle.std.proofs.lemmas.Cmp.{nat_list_eq_equiv}
 use Rattle.std.proofs.lemmas.List.{append-nil, length-append, length-map}
 use Rattle.std.proofs.lemmas.List.Folds.{list_any_more, list_any-append}
@@ -18,22 +18,6 @@ use Rattle.t1_cache.specs.declared.records.GlyphRecord.{GlyphRecord}
 use Rattle.t1_cache.specs.Laws.{AreDistinct}
 use Rattle.t1_cache.specs.Renewed.{names_of}
 use Rattle.t1_cache.specs.Users.{has}
-
-pub or_assoc : (a b c : Bool) → ((a || b) || c) ≡ (a || (b || c))
-or_assoc true b c = refl
-or_assoc false b c = refl
-
-pub or-cases : (a b : Bool) → (a || b) ≡ true → (a ≡ true) ⊎ (b ≡ true)
-or-cases true b h = inl refl
-or-cases false b h = inr h
-
-pub or-left : (a b : Bool) → a ≡ true → (a || b) ≡ true
-or-left true b h = refl
-or-left false b h = absurd (cc)
-
-pub or-right : (a b : Bool) → b ≡ true → (a || b) ≡ true
-or-right true b h = refl
-or-right false b h = h
 
 -- keys are put in after the others
 pub inserted-behind : {K : Type 0} (eq : K → K → Bool) (ks : List K) (k : K) → (more : List K) × (insert_key eq ks k ≡ ks ++ more)
@@ -80,8 +64,8 @@ no-more-names name name' name'' ks ls ms distinct among =
     all g h =
         list_any-append (bytes_eq g) (map name' ls) (map name'' ms)
         ∙ elim (among g (sym (has-map name ks g) ∙ h)) [
-          | inl l ↦ or-left (list_any (bytes_eq g) (map name' ls)) (list_any (bytes_eq g) (map name'' ms)) (has-map name' ls g ∙ l)
-          | inr r ↦ or-right (list_any (bytes_eq g) (map name' ls)) (list_any (bytes_eq g) (map name'' ms)) (has-map name'' ms g ∙ r)
+          | inl l ↦ or_left (list_any (bytes_eq g) (map name' ls)) (list_any (bytes_eq g) (map name'' ms)) (has-map name' ls g ∙ l)
+          | inr r ↦ or_right (list_any (bytes_eq g) (map name' ls)) (list_any (bytes_eq g) (map name'' ms)) (has-map name'' ms g ∙ r)
         ]
 
 -- ---- a name that is taken out
@@ -89,7 +73,7 @@ no-more-names name name' name'' ks ls ms distinct among =
 pub witness : {K : Type 0} (name : K → List ℕ) (ks : List K) (g : List ℕ) → has name ks g ≡ true → (k : K) × (name k ≡ g)
 witness name [] g h = absurd (cc)
 witness name (k ∷ ks) g h =
-    elim (or-cases (bytes_eq g (name k)) (has name ks g) h) [
+    elim (or_cases (bytes_eq g (name k)) (has name ks g) h) [
       | inl e ↦ (k, sym ((bytes_eq-Decides g (name k)).0 e))
       | inr r ↦ witness name ks g r
     ]

@@ -3,6 +3,7 @@ use Rattle.std.proofs.Common.{◌≡◌, ℕ, Bool, true, false, List, [], ◌�
 use Rattle.std.specs.Prelude.{Ok, ◌||◌}
 use Rattle.std.specs.List.{AllByRecursion, list_any}
 use Rattle.std.specs.Str.{bytes_eq}
+use Rattle.std.proofs.lemmas.Bool.{or_right}
 use Rattle.t1_code.specs.declared.command.Command.{Command}
 use Rattle.t1_run.specs.Composite.{outline}
 use Rattle.t1_run.specs.Run.{FontBodies, own}
@@ -11,7 +12,6 @@ use Rattle.t1_font.specs.Glyphs.{glyph_of, glyph_names}
 use Rattle.t1_cache.specs.There.{NamesThereLaw}
 use Rattle.t1_cache.proofs.Joining.{none-run}
 use Rattle.t1_cache.proofs.Judging.{IsFine, fine-told}
-use Rattle.t1_cache.proofs.Names.{or-right}
 use Rattle.t1_cache.proofs.Newest.{found}
 use Rattle.t1_font.proofs.Lookups.{bytes_tell}
 use Rattle.t1_cache.proofs.Renewing.{glyphs-of}
@@ -21,7 +21,7 @@ all-among : (P : List ℕ → Type 0) (names : List (List ℕ)) → ((g : List �
 all-among P [] each = tt
 all-among P (n ∷ names) each = (
   each n (ap (λ b. b || list_any (bytes_eq n) names) (bytes_tell.itself n)),
-  all-among P names (λ g there. each g (or-right (bytes_eq g n) (list_any (bytes_eq g) names) there)),
+  all-among P names (λ g there. each g (or_right (bytes_eq g n) (list_any (bytes_eq g) names) there)),
 )
 
 one-among : (P : List ℕ → Type 0) (names : List (List ℕ)) (g : List ℕ) → AllByRecursion P names → list_any (bytes_eq g) names ≡ true → P g

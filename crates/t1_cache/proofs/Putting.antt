@@ -4,6 +4,7 @@ use Rattle.std.specs.Prelude.{◌||◌, ◌&&◌}
 use Rattle.std.specs.Map.{lookup, set_value}
 use Rattle.std.specs.Option.{option_map}
 use Rattle.std.specs.Str.{bytes_eq}
+use Rattle.std.proofs.Math.Bool.{and-true, or-false}
 use Rattle.std.proofs.lemmas.Bool.{cases_Bool}
 use Rattle.t1_font.proofs.Keeping.{map-cond}
 use Rattle.t1_font.proofs.Lookups.{Tells, again}
@@ -90,12 +91,8 @@ left eq t name users es p was now user h out q u =
           ∙ ap (λ b. among (at eq name users es q) u && not (b && bytes_eq u user)) (sym on)
       | inr off ↦
           ap (λ b. among (cond b (Some (users now)) (at eq name users es q)) u) off
-          ∙ all (among (at eq name users es q) u) ∙ ap (λ b. among (at eq name users es q) u && not (b && bytes_eq u user)) (sym off)
+          ∙ sym (and-true (among (at eq name users es q) u)) ∙ ap (λ b. among (at eq name users es q) u && not (b && bytes_eq u user)) (sym off)
     ]
-  where
-    all : (b : Bool) → b ≡ (b && true)
-    all true = refl
-    all false = refl
 
 pub came : {Q K R : Type 0} (eq : Q → Q → Bool) → Tells eq → (name : K → Q) (users : R → UserSet) (es : List (K × R)) (p : Q) (was now : R) (user : List ℕ)
     → lookup (λ k. eq p (name k)) es ≡ Some was
@@ -112,12 +109,8 @@ came eq t name users es p was now user h put q u =
           ∙ ap (λ b. among (at eq name users es q) u || (b && bytes_eq u user)) (sym on)
       | inr off ↦
           ap (λ b. among (cond b (Some (users now)) (at eq name users es q)) u) off
-          ∙ none (among (at eq name users es q) u) ∙ ap (λ b. among (at eq name users es q) u || (b && bytes_eq u user)) (sym off)
+          ∙ sym (or-false (among (at eq name users es q) u)) ∙ ap (λ b. among (at eq name users es q) u || (b && bytes_eq u user)) (sym off)
     ]
-  where
-    none : (b : Bool) → b ≡ (b || false)
-    none true = refl
-    none false = refl
 
 pub room-put : {Q K R : Type 0} (eq : Q → Q → Bool) → Tells eq → (name : K → Q) (users : R → UserSet) (es : List (K × R)) (p : Q) (was now : R)
     → lookup (λ k. eq p (name k)) es ≡ Some was → (users was).room ≤ (users now).room + 1

@@ -22,6 +22,7 @@ use Rattle.t1_cache.specs.Edited.{is_stale}
 use Rattle.t1_cache.specs.Kept.{shown, shown_from, KeptNamesLaw}
 use Rattle.t1_cache.specs.Renewed.{Kept}
 use Rattle.t1_cache.specs.Renewal.{IsFromScratch, IsOneOf, IsRenewed, RenewalLaw}
+use Rattle.t1_cache.proofs.Lists.{all-weaken}
 
 -- ---- equations of lists and results
 
@@ -131,10 +132,6 @@ one-of : (P : Kept → Type 0) (kept : List Kept) (k : Kept) → AllByRecursion 
 one-of P [] k all i = absurd i
 one-of P (x ∷ kept) k all (inl e) = subst P e all.0
 one-of P (x ∷ kept) k all (inr i) = one-of P kept k all.1 i
-
-all-weaken : {X : Type 0} (P Q : X → Type 0) → ((x : X) → P x → Q x) → (xs : List X) → AllByRecursion P xs → AllByRecursion Q xs
-all-weaken P Q step [] h = tt
-all-weaken P Q step (x ∷ xs) h = (step x h.0, all-weaken P Q step xs h.1)
 
 pub glyphs-of : (s : SourceParts) (told : List Told) → source_glyphs s ≡ Ok told → glyphs (bodies s.items) (glyph_names s.items) ≡ Ok told
 glyphs-of s told e = by (file_check s) e where

@@ -6,6 +6,7 @@ use Rattle.std.specs.Option.{option_or}
 use Rattle.std.specs.Str.{bytes_eq}
 use Rattle.std.specs.declared.alloc.Global.{Global}
 use Rattle.std.specs.declared.vec.Vec.{Vec}
+use Rattle.std.proofs.lemmas.Bool.{or_parts, or_right}
 use Rattle.std.proofs.lemmas.List.Folds.{find-append}
 use Rattle.t1_cache.specs.declared.records.GlyphRecord.{GlyphRecord}
 use Rattle.t1_cache.specs.declared.records.NewRun.{NewRun}
@@ -16,7 +17,7 @@ use Rattle.t1_cache.specs.Laws.{AreDistinct}
 use Rattle.t1_cache.specs.Renewal.{IsFromScratch, IsOneOf, IsRenewed, RerunsLaw, kept_by}
 use Rattle.t1_cache.specs.Renewed.{Kept, kept_of, names_of, rerun_by_name, rerun_of, reruns_by_name, with_run, with_rerun, with_reruns}
 use Rattle.t1_cache.specs.Users.{has}
-use Rattle.t1_cache.proofs.Names.{bytes_equiv, or-right}
+use Rattle.t1_cache.proofs.Names.{bytes_equiv}
 use Rattle.t1_font.proofs.Lookups.{bytes_tell}
 use Rattle.t1_cache.proofs.Renewing.{renewed}
 
@@ -44,13 +45,9 @@ none-named : (reruns : List Rerun) (r : Rerun) (kept : List Kept) → list_any (
     → with_reruns reruns kept ≡ with_reruns (reruns ++ r ∷ []) kept
 none-named reruns r [] h = refl
 none-named reruns r (k ∷ kept) h =
-    let h' = neither (bytes_eq r.name.items k.name) (list_any (bytes_eq r.name.items) (map (λ k. k.name) kept)) h in
+    let h' = or_parts (bytes_eq r.name.items k.name) (list_any (bytes_eq r.name.items) (map (λ k. k.name) kept)) h in
     ap (λ x. x ∷ with_reruns reruns kept) (again reruns r k false h'.0)
     ∙ ap (λ l. with_rerun (rerun_of (reruns ++ r ∷ []) k.name) k ∷ l) (none-named reruns r kept h'.1)
-  where
-    neither : (a b : Bool) → (a || b) ≡ false → (a ≡ false) × (b ≡ false)
-    neither true b h = absurd (cc)
-    neither false b h = (refl, h)
 
 -- the last rerun, put into the record of its name, and the others after it
 with-last : (reruns : List Rerun) (r : Rerun) (kept : List Kept) → AreDistinct (map (λ k. k.name) kept)
@@ -104,7 +101,7 @@ all-named : (P : Kept → Type 0) (xs : List Kept) → ((x : Kept) → list_any 
 all-named P [] each = tt
 all-named P (x ∷ xs) each = (
   each x (ap (λ b. b || list_any (bytes_eq x.name) (map (λ k. k.name) xs)) (bytes_tell.itself x.name)),
-  all-named P xs (λ y there. each y (or-right (bytes_eq y.name x.name) (list_any (bytes_eq y.name) (map (λ k. k.name) xs)) there)),
+  all-named P xs (λ y there. each y (or_right (bytes_eq y.name x.name) (list_any (bytes_eq y.name) (map (λ k. k.name) xs)) there)),
 )
 
 all-with : {X Y : Type 0} (P Q : X → Type 0) (R : Y → Type 0) (f : X → Y) → ((x : X) → P x → Q x → R (f x)) → (xs : List X)

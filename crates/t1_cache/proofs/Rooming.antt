@@ -6,6 +6,7 @@ use Rattle.std.specs.Option.{option_map, unwrap_or}
 use Rattle.std.specs.Str.{bytes_eq}
 use Rattle.std.specs.declared.alloc.Global.{Global}
 use Rattle.std.specs.declared.vec.Vec.{Vec}
+use Rattle.std.proofs.lemmas.Bool.{and_parts}
 use Rattle.std.proofs.lemmas.List.Sums.{count_by_more_no, count_by_more_yes, sum_by-append}
 use Rattle.indexmap.specs.IndexMap.{insert_entry}
 use Rattle.t1_code.specs.declared.command.Command.{Command}
@@ -99,10 +100,6 @@ some-wanted (p ∷ joins) k = by (key_eq k (key_of p.0)) refl (some-wanted joins
     ap (λ b. (b && bytes_eq there.0 p.1.items) || has_pair joins k there.0) off ∙ there.1,
   )
 
-and-left : (a b : Bool) → (a && b) ≡ true → b ≡ true
-and-left true b h = h
-and-left false b h = absurd (cc)
-
 pub room_for_joins : RoomLaw
 room_for_joins m names joins are records same may k = by (users_at records k) refl (may k) where
   at-same : (k : Key) → body_at (record_bodies records) k ≡ body_at m k
@@ -115,7 +112,7 @@ room_for_joins m names joins are records same may k = by (users_at records k) re
       elim (some-wanted joins k) [
         | inl none ↦ none
         | inr there ↦
-            let used = and-left (names there.0) (is_user k (own m there.0)) (sym (are k there.0) ∙ there.1) in
+            let used = (and_parts (names there.0) (is_user k (own m there.0)) (sym (are k there.0) ∙ there.1)).1 in
             let body = uses_there m there.0 k used in
             let users = users-there records k body.0 (at-same k ∙ body.1) in
             let never : None ≡ Some users.0 = sym e ∙ users.1 in

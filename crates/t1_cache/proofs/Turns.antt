@@ -1,5 +1,6 @@
 -- Edits taken in turn edit a source at the keys of all.
 use Rattle.std.proofs.Common.{◌≡◌, ℕ, Bool, true, false, cond, not, ◌||◌, List, [], ◌∷◌, ◌++◌, filter, refl, sym, ◌∙◌, ap, inl, inr}
+use Rattle.std.proofs.Math.Bool.{or_assoc}
 use Rattle.t1_run.specs.Run.{Key, Subr, Glyph}
 use Rattle.t1_run.specs.Footprint.{Includes, SameAt}
 use Rattle.t1_font.specs.Bodies.{bodies}
@@ -18,10 +19,7 @@ in-second (x ∷ ks) ls k i = inr (in-second ks ls k i)
 
 named-both : (ks ls : List Key) (g : List ℕ) → is_named (ks ++ ls) g ≡ (is_named ks g || is_named ls g)
 named-both [] ls g = refl
-named-both (x ∷ ks) ls g = ap (λ t. is_key_of g x || t) (named-both ks ls g) ∙ shift (is_key_of g x) (is_named ks g) (is_named ls g) where
-  shift : (a b c : Bool) → (a || (b || c)) ≡ ((a || b) || c)
-  shift true b c = refl
-  shift false b c = refl
+named-both (x ∷ ks) ls g = ap (λ t. is_key_of g x || t) (named-both ks ls g) ∙ sym (or_assoc (is_key_of g x) (is_named ks g) (is_named ls g))
 
 -- where only elements of a part pass, those that pass are those of the part
 within : {X : Type 0} (p q : X → Bool) → ((x : X) → q x ≡ false → p x ≡ false) → (xs : List X) → filter p xs ≡ filter p (filter q xs)

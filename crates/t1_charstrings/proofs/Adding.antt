@@ -3,6 +3,7 @@ use Rattle.std.proofs.Common.{◌≡◌, ◌+◌, ◌<◌, ◌≤◌, ℕ, zero,
 use Rattle.std.specs.Prelude.{◌||◌, nat_eq}
 use Rattle.std.specs.List.{insert, list_any, remove, slice_set}
 use Rattle.std.specs.Str.{bytes_eq}
+use Rattle.std.proofs.lemmas.Bool.{or_parts}
 use Rattle.std.proofs.lemmas.List.Folds.{list_any-append}
 use Rattle.t1_parts.specs.declared.item.Item.{Item}
 use Rattle.t1_parts.specs.declared.item.Item.TheVariants as items
@@ -16,14 +17,10 @@ use Rattle.t1_charstrings.specs.Changed.{Sets}
 use Rattle.t1_charstrings.specs.Entries.{Kept}
 use Rattle.t1_charstrings.specs.Kept.{kept_at}
 use Rattle.t1_charstrings.specs.Lines.{entry_line, kept_line, kept_text}
-use Rattle.t1_charstrings.proofs.Putting.{bytes_tell, numbers_tell, Tells}
+use Rattle.t1_font.proofs.Lookups.{bytes_tell, numbers_tell, Tells}
 use Rattle.t1_charstrings.specs.Sums.{has_key, item_at, section_line, section_text, InsertLenLaw, PutLenLaw, RaisedLenLaw, RemoveLenLaw}
 
 -- ---- items that don't have the key
-
-pub neither : (a b : Bool) → (a || b) ≡ false → (a ≡ false) × (b ≡ false)
-neither true b h = absurd (cc)
-neither false b h = (refl, h)
 
 turned : {Q : Type 0} (eq : Q → Q → Bool) → Tells eq → (a b : Q) → eq a b ≡ false → eq b a ≡ false
 turned eq t a b off = by (eq b a) refl where
@@ -47,7 +44,7 @@ same-lines : (key : Key) (entry : Option Kept) (old new : Charstrings) → Sets 
     → kept_text new operator is ≡ kept_text old operator is
 same-lines key entry old new sets operator [] h = refl
 same-lines key entry old new sets operator (i ∷ is) h =
-    let h' = neither (has_key key i) (list_any (has_key key) is) h in
+    let h' = or_parts (has_key key i) (list_any (has_key key) is) h in
     rw (same-line key entry old new sets operator i h'.0, same-lines key entry old new sets operator is h'.1) refl
 
 -- ---- one item in the place of another, put in, taken out
@@ -93,7 +90,7 @@ module _ (key : Key) (entry : Option Kept) (old new : Charstrings) (sets : Sets 
       omega (arith, rest, text-both new operator item is)
   insert-len [] (suc at) item within none = absurd (omega (arith, within))
   insert-len (i ∷ is) (suc at) item within none =
-      let h = neither (has_key key i) (list_any (has_key key) is) none in
+      let h = or_parts (has_key key i) (list_any (has_key key) is) none in
       let first = ap (λ (t : List ℕ). length t) (same-line key entry old new sets operator i h.0) in
       let rest = insert-len is at item (omega (arith, within)) h.1 in
       omega (arith, first, rest, text-both new operator i (insert is at item), text-both old operator i is)
@@ -137,10 +134,10 @@ none-later key earlier (i ∷ is) last there h =
 none-at : (key : Key) (is : List Item) (at : ℕ) → has_key key (item_at is at) ≡ true → list_any (has_key key) is ≡ false → ⊥
 none-at key [] at on none = let never : false ≡ true = sym (plain-none key []) ∙ on in cc
 none-at key (j ∷ is) zero on none =
-    let h = neither (has_key key j) (list_any (has_key key) is) none in
+    let h = or_parts (has_key key j) (list_any (has_key key) is) none in
     let never : true ≡ false = sym on ∙ h.0 in
     cc
-none-at key (j ∷ is) (suc at) on none = none-at key is at on (neither (has_key key j) (list_any (has_key key) is) none).1
+none-at key (j ∷ is) (suc at) on none = none-at key is at on (or_parts (has_key key j) (list_any (has_key key) is) none).1
 
 alone-at : (key : Key) (earlier is : List Item) (last : List ℕ) (at : ℕ) → Stand earlier is
     → has_key key (item_at (is ++ items.Plain last ∷ []) at) ≡ true → list_any (has_key key) earlier ≡ false

@@ -25,7 +25,7 @@ use Rattle.t1_charstrings.specs.Kept.{AreEncrypted, kept_at}
 use Rattle.t1_font.specs.Lengths.{IsPrivateLen}
 use Rattle.t1_charstrings.specs.Ready.{HasRoom, IsReadyLines, SettlesTo}
 use Rattle.t1_charstrings.proofs.Gathered.{at-key}
-use Rattle.t1_charstrings.proofs.Putting.{bytes_tell}
+use Rattle.t1_font.proofs.Lookups.{bytes_tell}
 use Rattle.t1_charstrings.proofs.Sources.{at-same, key-itself}
 use Rattle.t1_charstrings.proofs.Texts.{text_by_is, Serves}
 

@@ -47,7 +47,7 @@ use Rattle.t1_charstrings.proofs.Adding.{alone, text-both}
 use Rattle.t1_charstrings.proofs.Batches.{over-serves}
 use Rattle.t1_charstrings.proofs.Entering.{body_in, check-put, check-remove, counted-entry, counted-put, counted-remove, lead-put, lead-remove, other_kept, put-other, put-own, remove-other, remove-own, IsOther}
 use Rattle.t1_charstrings.proofs.Gathered.{at-key}
-use Rattle.t1_charstrings.proofs.Putting.{bytes_tell, lookup-but, numbers_tell}
+use Rattle.t1_font.proofs.Lookups.{bytes_tell, lookup-but, numbers_tell}
 use Rattle.t1_charstrings.proofs.Sources.{key-same}
 use Rattle.t1_charstrings.proofs.Texts.{kept_text_is}
 use Rattle.t1_charstrings.proofs.Totals.{len-of, put_sum, remove_sum}

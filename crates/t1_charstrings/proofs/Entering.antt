@@ -5,7 +5,7 @@ use Rattle.std.specs.List.{insert, list_all, list_any, remove, slice_set}
 use Rattle.std.specs.Option.{option_map, option_or}
 use Rattle.std.specs.Result.{result_ok}
 use Rattle.std.specs.Str.{bytes_eq}
-use Rattle.std.proofs.lemmas.Bool.{and_parts, and_from}
+use Rattle.std.proofs.lemmas.Bool.{and_from, and_parts, or_parts}
 use Rattle.t1_frac.specs.declared.fault.Fault.{Fault}
 use Rattle.t1_frac.specs.Outcome.{◌>>=◌}
 use Rattle.t1_code.specs.declared.command.Command.{Command}
@@ -23,8 +23,8 @@ use Rattle.t1_charstrings.specs.Changed.{Sets}
 use Rattle.t1_charstrings.specs.Entries.{body_at, encrypted, key_eq}
 use Rattle.t1_charstrings.specs.Kept.{AreEncrypted, kept_at}
 use Rattle.t1_charstrings.specs.Sums.{has_key, item_at}
-use Rattle.t1_charstrings.proofs.Adding.{neither, Alone}
-use Rattle.t1_charstrings.proofs.Putting.{bytes_tell, numbers_tell}
+use Rattle.t1_charstrings.proofs.Adding.{Alone}
+use Rattle.t1_font.proofs.Lookups.{bytes_tell, numbers_tell}
 use Rattle.t1_charstrings.proofs.Sources.{key-same}
 
 -- an item's body, where it is the entry of this key
@@ -71,7 +71,7 @@ behind k i is js h = first-body k i is ∙ ap (option_or (body_in k i)) h ∙ sy
 none-there : (k : Key) (is : List Item) → list_any (has_key k) is ≡ false → body_at (bodies is) k ≡ None
 none-there (Subr n) [] h = refl
 none-there (Glyph g) [] h = refl
-none-there k (i ∷ is) h = let h' = neither (has_key k i) (list_any (has_key k) is) h in past k i is h'.0 ∙ none-there k is h'.1
+none-there k (i ∷ is) h = let h' = or_parts (has_key k i) (list_any (has_key k) is) h in past k i is h'.0 ∙ none-there k is h'.1
 
 -- ---- the bodies
 
@@ -103,7 +103,7 @@ pub insert-own : (key : Key) (is : List Item) (at : ℕ) (x : Item) (b : List Co
 insert-own key is zero x b within none h = here key x is b h
 insert-own key [] (suc at) x b within none h = absurd (omega (arith, within))
 insert-own key (i ∷ is) (suc at) x b within none h =
-    let h' = neither (has_key key i) (list_any (has_key key) is) none in
+    let h' = or_parts (has_key key i) (list_any (has_key key) is) none in
     past key i (insert is at x) h'.0 ∙ insert-own key is at x b (omega (arith, within)) h'.1 h
 
 pub insert-other : (k key : Key) (is : List Item) (at : ℕ) (x : Item) → at ≤ length is → has_key key x ≡ true → key_eq k key ≡ false

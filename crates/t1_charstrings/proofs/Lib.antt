@@ -6,7 +6,6 @@ pub mod Filed
 pub mod Gathered
 pub mod Inserting
 pub mod MadeItems
-pub mod Putting
 pub mod Readying
 pub mod Sources
 pub mod Texts

@@ -3,7 +3,7 @@ use Rattle.std.proofs.Common.{◌≡◌, true, ap}
 use Rattle.t1_run.specs.Run.{FontBodies, Key, Subr, Glyph}
 use Rattle.t1_run.specs.Footprint.{SameAt}
 use Rattle.t1_charstrings.specs.Entries.{body_at, key_eq}
-use Rattle.t1_charstrings.proofs.Putting.{bytes_tell, numbers_tell}
+use Rattle.t1_font.proofs.Lookups.{bytes_tell, numbers_tell}
 
 pub key-itself : (k : Key) → key_eq k k ≡ true
 key-itself (Subr n) = numbers_tell.itself n

@@ -4,6 +4,7 @@ use Rattle.std.specs.Prelude.{◌||◌, ◌==◌}
 use Rattle.std.specs.List.{flat_map, list_any}
 use Rattle.std.specs.Option.{option_map, option_or}
 use Rattle.std.specs.Result.{result_ok}
+use Rattle.std.proofs.lemmas.Bool.{or_parts}
 use Rattle.std.proofs.lemmas.Bool.Decides.{nat_tests}
 use Rattle.std.proofs.lemmas.Slice.Eq.{bytes_eq-Decides}
 use Rattle.t1_frac.specs.declared.fault.Code.{Code}
@@ -55,10 +56,6 @@ first-all : (earlier is : List Item) (last : List ℕ) → Stand earlier is → 
 first-all earlier [] last h = (tt, tt)
 first-all earlier (i ∷ is) last h = (first-one earlier i h.0, first-all (earlier ++ i ∷ []) is last h.1)
 
-neither : (a b : Bool) → (a || b) ≡ false → (a ≡ false) × (b ≡ false)
-neither true b h = absurd (cc)
-neither false b h = (refl, h)
-
 subr-other : (n : ℕ) (i : Item) → is_subr n i ≡ false → subr_in i n ≡ None
 subr-other n (items.Plain l) h = refl
 subr-other n (items.Section before k after) h = refl
@@ -74,13 +71,13 @@ glyph-other g (items.Glyph name ws closing) h = ap (λ b. cond b (result_ok (com
 subr-past : (n : ℕ) (a b : List Item) → list_any (is_subr n) a ≡ false → subr_among (a ++ b) n ≡ subr_among b n
 subr-past n [] b h = refl
 subr-past n (i ∷ a) b h =
-    let h' = neither (is_subr n i) (list_any (is_subr n) a) h in
+    let h' = or_parts (is_subr n i) (list_any (is_subr n) a) h in
     ap (λ r. option_or r (subr_among (a ++ b) n)) (subr-other n i h'.0) ∙ subr-past n a b h'.1
 
 glyph-past : (g : List ℕ) (a b : List Item) → list_any (is_glyph g) a ≡ false → glyph_among (a ++ b) g ≡ glyph_among b g
 glyph-past g [] b h = refl
 glyph-past g (i ∷ a) b h =
-    let h' = neither (is_glyph g i) (list_any (is_glyph g) a) h in
+    let h' = or_parts (is_glyph g i) (list_any (is_glyph g) a) h in
     ap (λ r. option_or r (glyph_among (a ++ b) g)) (glyph-other g i h'.0) ∙ glyph-past g a b h'.1
 
 number-itself : (n : ℕ) → (n == n) ≡ true

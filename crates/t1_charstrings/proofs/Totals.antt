@@ -18,7 +18,7 @@ use Rattle.t1_font.specs.Lengths.{IsPrivateLen}
 use Rattle.t1_charstrings.specs.Lines.{kept_text}
 use Rattle.t1_charstrings.specs.Sums.{has_key, item_at, section_line, section_text, InsertSumLaw, PutSumLaw, RemoveSumLaw}
 use Rattle.t1_charstrings.proofs.Adding.{inserted_len, put_len, raised_len, remove_len}
-use Rattle.t1_charstrings.proofs.Putting.{bytes_tell, numbers_tell}
+use Rattle.t1_font.proofs.Lookups.{bytes_tell, numbers_tell}
 use Rattle.t1_charstrings.proofs.Texts.{kept_text_is}
 
 -- ---- entries say nothing of the operator, nor of a section

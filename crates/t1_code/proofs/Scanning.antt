@@ -80,9 +80,6 @@ number_from : (word digits : List ℕ) → digits_of_word word ≡ digits → 0 
 unfolding is_number_word
 number_from word digits e some all = rw (e, lt-ltb 0 (length digits) some, all) refl
 
-count_within : (text : List ℕ) → prefix_len is_ascii_digit text ≤ length text
-count_within text = prefix_len-le-length is_ascii_digit text
-
 -- the first word is a number word where digits are all that it has after its minus
 pub number_first : (text : List ℕ) → 0 < prefix_len is_ascii_digit (digits_of_word text) → word_goes_on (drop (prefix_len is_ascii_digit (digits_of_word text)) (digits_of_word text)) ≡ false
     → (is_number_word (first_word text) ≡ true)
@@ -96,7 +93,7 @@ number_first (c ∷ rest) some ends =
     let parts = first_split text in
     let end = word_end digits ends in
     let found : digits_of_word (first_word text) ≡ take n digits = parts.0 ∙ ap (λ k. take k digits) end in
-    let long : 0 < length (take n digits) = rw (length-take n digits) (omega (arith, count_within digits)) in
+    let long : 0 < length (take n digits) = rw (length-take n digits) (omega (arith, prefix_len-le-length is_ascii_digit digits)) in
     let split = word_at text text (sym (rw (no_blank_first c rest some) refl)) (omega arith) in (
       number_from (first_word text) (take n digits) found long (all_digits digits),
       ap (λ minus. signed minus (decimal_value (digits_of_word (first_word text)))) parts.1 ∙ ap (λ l. signed (starts_with_minus text) (decimal_value l)) found,

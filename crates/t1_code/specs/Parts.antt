@@ -29,17 +29,17 @@ charstring_length (Entry head operator charstring closing) = length charstring.n
 abbrev pub bytes_of : List (Bor (List ℕ)) → List ℕ
 bytes_of slices = flat_map (λ slice. slice.now) slices
 
--- profile: the private text is its pieces, one after another
-abbrev pub private_text : Parts → List ℕ
-private_text parts = flat_map piece_text parts.pieces.now
+-- profile: the private text of the parts: that of its pieces, one after another
+abbrev pub pieces_text : Parts → List ℕ
+pieces_text parts = flat_map piece_text parts.pieces.now
 
 -- Technical Note 5040, 3.3: the PFB file of the parts, in segments of this size
 abbrev pub file_of : ℕ → Parts → Result (List ℕ) Fault
-file_of size parts = pfb_of size parts.clear.now (private_text parts) parts.trailer.now
+file_of size parts = pfb_of size parts.clear.now (pieces_text parts) parts.trailer.now
 
 -- Type 1 Font Format, Chapter 2: the PFA file of the parts
 abbrev pub hexadecimal_file_of : Parts → Result (List ℕ) Fault
-hexadecimal_file_of parts = pfa_of parts.clear.now (private_text parts) parts.trailer.now
+hexadecimal_file_of parts = pfa_of parts.clear.now (pieces_text parts) parts.trailer.now
 
 -- profile: how many bytes a file has, or why there is none
 abbrev pub length_of : Result (List ℕ) Fault → Result ℕ Fault

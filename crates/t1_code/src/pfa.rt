@@ -3,7 +3,7 @@ ghost use Rattle.std.specs.Prelude.{◌≡◌, ◌≢◌, Err};
 ghost use Rattle.std.specs.List.{flat_map};
 ghost use Rattle.t1_code.specs.Cipher.{eexec};
 ghost use Rattle.t1_code.specs.Counted.{Puts, Writes, outlet};
-ghost use Rattle.t1_code.specs.Parts.{piece_text, private_text, hexadecimal_file_of, Prints};
+ghost use Rattle.t1_code.specs.Parts.{piece_text, pieces_text, hexadecimal_file_of, Prints};
 ghost use Rattle.t1_code.specs.Pfa.{hexadecimal_lines, pfa};
 
 use crate::chunk::{Chunk, put_plain};
@@ -25,7 +25,7 @@ fn put_digits<W: Write>(out: &mut Counted<W>, chunk: &mut Chunk, pieces: &[Piece
 
 /// Passes on the file.
 fn put_file<W: Write>(out: &mut Counted<W>, chunk: &mut Chunk, parts: &Parts) -> io::Result<()>
-    ensures { Puts W.contents (outlet out.old chunk.old) (outlet out.new chunk.new) (pfa parts.now.clear.now (private_text parts.now) parts.now.trailer.now) result }
+    ensures { Puts W.contents (outlet out.old chunk.old) (outlet out.new chunk.new) (pfa parts.now.clear.now (pieces_text parts.now) parts.now.trailer.now) result }
 {
     put_plain(out, chunk, parts.clear)?;
     put_digits(out, chunk, parts.pieces)?;

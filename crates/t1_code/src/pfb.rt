@@ -2,7 +2,7 @@
 ghost use Rattle.std.specs.Prelude.{◌≡◌, ◌≢◌, Err, ◌-◌, ◌^◌, ◌<◌, ◌≤◌, length};
 ghost use Rattle.t1_code.specs.Cipher.{eexec};
 ghost use Rattle.t1_code.specs.Counted.{Puts, Writes, outlet};
-ghost use Rattle.t1_code.specs.Parts.{private_text, file_of, Prints};
+ghost use Rattle.t1_code.specs.Parts.{pieces_text, file_of, Prints};
 ghost use Rattle.t1_code.specs.Pfb.{pfb};
 
 use crate::chunk::{Chunk, put_plain};
@@ -37,8 +37,8 @@ fn put_file<W: Write>(
 ) -> io::Result<()>
     requires some { 1 ≤ size }
     requires short { size < 2 ^ 31 }
-    requires whole { private_len ≡ length (eexec (private_text parts.now)) }
-    ensures { Puts W.contents (outlet out.old chunk.old) (outlet out.new chunk.new) (pfb size parts.now.clear.now (private_text parts.now) parts.now.trailer.now) result }
+    requires whole { private_len ≡ length (eexec (pieces_text parts.now)) }
+    ensures { Puts W.contents (outlet out.old chunk.old) (outlet out.new chunk.new) (pfb size parts.now.clear.now (pieces_text parts.now) parts.now.trailer.now) result }
 {
     put_part(out, chunk, ASCII, size, parts.clear)?;
     let segmenter = Segmenter::begin(out, chunk, BINARY, size, private_len)?;

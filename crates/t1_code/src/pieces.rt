@@ -2,7 +2,7 @@
 ghost use Rattle.std.specs.Prelude.{◌≡◌, ◌^◌, ◌-◌, min, length, decimal, IfErr, IfOk, is_err};
 ghost use Rattle.std.specs.List.{flat_map};
 ghost use Rattle.t1_code.specs.Cipher.{eexec};
-ghost use Rattle.t1_code.specs.Parts.{piece_text, private_text, charstring_length, bytes_of};
+ghost use Rattle.t1_code.specs.Parts.{piece_text, pieces_text, charstring_length, bytes_of};
 ghost use Rattle.t1_code.specs.Pfb.{has_long_part};
 ghost use Rattle.t1_frac.specs.declared.fault.Code.TheVariants.{F23};
 
@@ -78,8 +78,8 @@ fn private_len(pieces: &[Piece]) -> usize
 /// How long the private part is, its leading bytes included; F23 where a part of the file is too long.
 pub(crate) fn private_part_len(parts: &Parts) -> Result<usize, Code>
     ensures fault { IfErr result (λ code. code ≡ F23) }
-    ensures judged { is_err result ≡ has_long_part parts.now.clear.now (private_text parts.now) parts.now.trailer.now }
-    ensures len { IfOk result (λ len. len ≡ length (eexec (private_text parts.now))) }
+    ensures judged { is_err result ≡ has_long_part parts.now.clear.now (pieces_text parts.now) parts.now.trailer.now }
+    ensures len { IfOk result (λ len. len ≡ length (eexec (pieces_text parts.now))) }
 {
     let private_len = private_len(parts.pieces).saturating_add(EEXEC_LEAD);
     let longest = parts.clear.len().max(private_len).max(parts.trailer.len());

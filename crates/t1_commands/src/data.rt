@@ -1,7 +1,7 @@
 //! Files as the data of an answer: after their length, and not made in memory.
 ghost use Rattle.std.specs.Prelude.{◌≡◌, ◌≤◌, ◌-◌, ◌^◌, Ok};
 ghost use Rattle.t1_code.specs.Counted.{Puts, outlet};
-ghost use Rattle.t1_code.specs.Parts.{PassesFile, length_of, private_text};
+ghost use Rattle.t1_code.specs.Parts.{PassesFile, length_of, pieces_text};
 ghost use Rattle.t1_commands.specs.AnswerTexts.{data_of, data_head};
 
 use itoa::Buffer;
@@ -28,8 +28,8 @@ fn put_data<F: FileForm, W: Write>(
     out: &mut Counted<W>,
     chunk: &mut Chunk,
 ) -> Result<(), OutError>
-    requires { length_of (F.file form.now parts.now.clear.now (private_text parts.now) parts.now.trailer.now) ≡ Ok len }
-    ensures { PassesFile W.contents (outlet out.old chunk.old) (outlet out.new chunk.new) (data_of (F.file form.now parts.now.clear.now (private_text parts.now) parts.now.trailer.now)) result }
+    requires { length_of (F.file form.now parts.now.clear.now (pieces_text parts.now) parts.now.trailer.now) ≡ Ok len }
+    ensures { PassesFile W.contents (outlet out.old chunk.old) (outlet out.new chunk.new) (data_of (F.file form.now parts.now.clear.now (pieces_text parts.now) parts.now.trailer.now)) result }
 {
     put_head(out, chunk, len)?;
     form.put(parts, out, chunk)?;

@@ -25,7 +25,6 @@ use Rattle.t1_source.specs.declared.editing.change.Change.TheVariants as changes
 use Rattle.t1_source.specs.Changes.{changed}
 use Rattle.t1_pairs.specs.declared.pairs.Pair.{Pair}
 use Rattle.t1_font.specs.Assembly.{file_check}
-use Rattle.t1_font.specs.Glyphs.{glyph_names}
 use Rattle.t1_charstrings.specs.Kept.{AreEncrypted}
 use Rattle.t1_cache.specs.Edited.{stale, IsEditedAt}
 use Rattle.t1_cache.specs.Renewed.{Kept as KeptGlyph}

@@ -1,11 +1,12 @@
 -- What is held of a source, and of an edited one.
-use Rattle.std.proofs.Common.{◌≡◌, ℕ, true, List, [], Option, Result, Ok, Err, refl, ap, sym, ◌∙◌, subst, arith}
+use Rattle.std.proofs.Common.{◌≡◌, ℕ, true, List, Option, Result, Ok, Err, refl, ap, sym, ◌∙◌, subst, arith}
 use Rattle.std.specs.List.{list_all, list_any, AllByRecursion}
 use Rattle.std.specs.Option.{option_to_list}
 use Rattle.t1_frac.specs.declared.fault.Fault.{Fault}
 use Rattle.t1_frac.specs.declared.fault.Refusal.{Refusal}
 use Rattle.t1_frac.specs.declared.fault.Refusal.TheVariants as refusals
 use Rattle.t1_frac.specs.Outcome.{Refuses, ◌>>=◌}
+use Rattle.t1_frac.proofs.OutcomeLaws.{bind_ok}
 use Rattle.t1_parts.specs.SourceParts.{SourceParts}
 use Rattle.t1_parts.specs.LenIV.{lead}
 use Rattle.t1_font.specs.Bodies.{bodies, bodies_check}
@@ -56,17 +57,13 @@ use Rattle.t1_font.proofs.SourceMetrics.{by-source-metrics}
 
 -- ---- a source without a fault
 
-first-ok : {A B : Type 0} (a : Result A Fault) (f : A → Result B Fault) (b : B) → (a >>= f) ≡ Ok b → (x : A) × (a ≡ Ok x)
-first-ok (Ok x) f b h = (x, refl)
-first-ok (Err fault) f b h = absurd (cc)
-
 measured-file : (s : SourceParts) (font : MeasuredFont) → measured_source s ≡ Ok font → (u : Unit {0}) × (file_check s ≡ Ok u)
 unfolding measured_source
-measured-file s font e = first-ok (file_check s) (λ checked. measured s.items) font e
+measured-file s font e = let step = bind_ok (file_check s) (λ checked. measured s.items) font e in (step.0, step.1)
 
 pub file_checked : (s : SourceParts) → source_check s ≡ Ok tt → file_check s ≡ Ok tt
 file_checked s e =
-    let font = first-ok (measured_source s) (λ metrics. Ok (tt {0})) tt (sym (by-source-metrics s).check ∙ e) in
+    let font = bind_ok (measured_source s) (λ metrics. Ok (tt {0})) tt (sym (by-source-metrics s).check ∙ e) in
     (measured-file s font.0 font.1).1
 
 pub right_checked : (s : SourceParts) (records : Records) → IsRight s records → source_check s ≡ Ok tt

@@ -1,6 +1,5 @@
 //! Edits of a source, and what they make of it.
 ghost use Rattle.std.specs.Prelude.{◌≡◌, IfOk, List, MatchResult, map};
-ghost use Rattle.std.specs.Option.{option_to_list};
 ghost use Rattle.t1_frac.specs.Outcome.{Refuses};
 ghost use Rattle.t1_parts.specs.SourceParts.{SourceParts};
 ghost use Rattle.t1_pairs.specs.declared.pairs.Pair.{Pair};
@@ -13,12 +12,12 @@ ghost use Rattle.t1_held.specs.declared.held.Held.{Held};
 ghost use Rattle.t1_held.specs.Edits.{keys_of, made_by, made_of, source_of, AreChanges, AreRight, IsPreparedEdit};
 ghost use Rattle.t1_held.specs.Held.{IsHeld};
 
-use std::alloc::{AllocError, Global};
+use std::alloc::Global;
 use t1_batch::{EditedEntry, batch_changes};
 use t1_charstrings::Made;
 use t1_frac::Refusal;
 use t1_pairs::Pairs;
-use t1_rerun::{EntryChange, change_of_edit};
+use t1_rerun::{EntryChange, change_alone, change_of_edit};
 use t1_source::laws::text_of_source_read;
 use t1_source::{Change, Edit, Source};
 
@@ -38,17 +37,6 @@ pub enum Edits<'a> {
         made: &'a Source,
         entries: Vec<EditedEntry>,
     },
-}
-
-/// The change of an edit alone.
-fn change_alone(alloc: Global, change: Option<EntryChange>) -> Result<Vec<EntryChange>, AllocError>
-    ensures { IfOk result (λ changes. changes.items ≡ option_to_list change) }
-{
-    let mut changes = Vec::new(alloc);
-    if let Some(change) = change {
-        changes.push(change)?;
-    }
-    Ok(changes)
 }
 
 /// The entry that one edit names, where it names one, with its body after it; or the fault of the edit's words.

@@ -7,6 +7,7 @@ use Rattle.std.specs.Option.{option_or}
 use Rattle.std.specs.Str.{bytes_eq}
 use Rattle.std.specs.declared.alloc.Global.{Global}
 use Rattle.std.specs.declared.vec.Vec.{Vec}
+use Rattle.std.proofs.lemmas.Bool.{or_left, or_right}
 use Rattle.std.proofs.lemmas.List.{map-append, take_more}
 use Rattle.std.proofs.lemmas.List.Folds.{list_any_more}
 use Rattle.t1_frac.specs.declared.fault.Code.{Code}
@@ -114,20 +115,12 @@ among-names : (g : List ℕ) (ms : List GlyphMetrics) → list_any (bytes_eq g) 
 among-names g [] = refl
 among-names g (m ∷ ms) = ap (λ b. bytes_eq g m.name || b) (among-names g ms)
 
-or-right : (a b : Bool) → b ≡ true → (a || b) ≡ true
-or-right true b h = refl
-or-right false b h = h
-
-or-left : (a b : Bool) → a ≡ true → (a || b) ≡ true
-or-left true b h = refl
-or-left false b h = absurd (cc)
-
 name-among : (ms : List GlyphMetrics) (at : ℕ) (m : GlyphMetrics) → at < length ms → m ≡ get_or ms at m → list_any (bytes_eq m.name) (measured_names ms) ≡ true
 name-among [] at m far is = absurd (omega (arith, far))
 name-among (x ∷ ms) zero m far is =
-    or-left (bytes_eq m.name x.name) (list_any (bytes_eq m.name) (measured_names ms)) (ap (λ y. bytes_eq m.name y.name) (sym is) ∙ bytes_tell.itself m.name)
+    or_left (bytes_eq m.name x.name) (list_any (bytes_eq m.name) (measured_names ms)) (ap (λ y. bytes_eq m.name y.name) (sym is) ∙ bytes_tell.itself m.name)
 name-among (x ∷ ms) (suc at) m far is =
-    or-right (bytes_eq m.name x.name) (list_any (bytes_eq m.name) (measured_names ms)) (name-among ms at m (omega (arith, far)) is)
+    or_right (bytes_eq m.name x.name) (list_any (bytes_eq m.name) (measured_names ms)) (name-among ms at m (omega (arith, far)) is)
 
 not-done : (ms : List GlyphMetrics) (at : ℕ) (m : GlyphMetrics) → AreDistinct (measured_names ms) → at < length ms → m ≡ get_or ms at m → is-done ms at m.name ≡ false
 not-done [] at m distinct far is = absurd (omega (arith, far))

@@ -28,7 +28,7 @@ use Rattle.t1_cache.proofs.Distinct.{names_distinct}
 use Rattle.t1_rerun.specs.declared.renewal.Renewal.{Renewal}
 use Rattle.t1_rerun.specs.declared.settling.EntryChange.{EntryChange}
 use Rattle.t1_rerun.specs.declared.settling.Ready.{Ready}
-use Rattle.t1_rerun.specs.Changing.{body_changed, AreChangesOf, IsChangeOf, IsReadyFor, MayBeRenewed}
+use Rattle.t1_rerun.specs.Changing.{body_changed, AreChangesOf, IsChangeOf, IsReadyFor, MayBePrepared}
 use Rattle.t1_rerun.specs.EntryChanges.{IsChanged, IsMade}
 use Rattle.t1_rerun.specs.Renewals.{IsLater, IsRenewal}
 use Rattle.t1_rerun.specs.Renewing.{IsEdited}
@@ -184,14 +184,15 @@ told-file s told e = by (file_check s) e where
 
 -- where an edit was made of a source whose records are right, its change may be prepared
 pub entry-changed : (records : Records) (edit : Edit) (new : SourceParts) → IsEdited records edit new → file_check new ≡ Ok tt → (change : Option EntryChange)
-    → ((old new : SourceParts) → IsMade edit old new → IsChanged edit old new change) → MayBeRenewed change records (glyph_names new.items)
-entry-changed records edit new e file change changes =
+    → ((old new : SourceParts) → IsMade edit old new → IsChanged edit old new change) → (changes : List EntryChange) → changes ≡ option_to_list change
+    → MayBePrepared changes records (glyph_names new.items)
+entry-changed records edit new e file change changed changes alone =
     let compiled = bodies-fine e.old (told-file e.old e.right.kept.glyphs e.right.kept.faultless) in
-    let is = changes e.old new (record { pairs = e.pairs; made_pairs = e.made_pairs; compiled = compiled; well = e.well; well_made = e.well_made; made = e.made }) in (
+    let is = changed e.old new (record { pairs = e.pairs; made_pairs = e.made_pairs; compiled = compiled; well = e.well; well_made = e.well_made; made = e.made }) in (
       e.old,
       (
         new,
-        record {
+        as-list changes change e.old new records (glyph_names new.items) alone (record {
           right = e.right;
           edited = is.edited;
           bodies = is.bodies;
@@ -200,6 +201,6 @@ entry-changed records edit new e file change changes =
           distinct = names_distinct new e.well_made;
           order = is.order;
           names = refl;
-        },
+        }),
       ),
     )

@@ -4,6 +4,8 @@ use Rattle.std.specs.Prelude.{◌||◌, ◌&&◌}
 use Rattle.std.specs.List.{AllByRecursion, list_any}
 use Rattle.std.specs.Option.{option_map}
 use Rattle.std.specs.Str.{bytes_eq}
+use Rattle.std.proofs.Math.Bool.{or-true}
+use Rattle.std.proofs.lemmas.Bool.{or_parts, or_right, true_from_ne_false}
 use Rattle.t1_code.specs.declared.command.Command.{Command}
 use Rattle.t1_parts.specs.SourceParts.{SourceParts}
 use Rattle.t1_run.specs.Footprint.{Includes}
@@ -46,19 +48,12 @@ not-included : (ks : List Key) (k : Key) → list_any (key_eq k) ks ≡ false �
 not-included [] k off i = i
 not-included (j ∷ ks) k off (inl e) =
     let never : true ≡ false = ap (λ b. b || list_any (key_eq k) ks) (sym (key-itself k) ∙ ap (key_eq k) (sym e)) ∙ off in absurd (cc)
-not-included (j ∷ ks) k off (inr i) = not-included ks k (later (key_eq k j) off) i where
-  later : (b : Bool) → (b || list_any (key_eq k) ks) ≡ false → list_any (key_eq k) ks ≡ false
-  later true e = absurd (cc)
-  later false e = e
-
-is-true : (b : Bool) → (b ≡ false → ⊥) → b ≡ true
-is-true true h = refl
-is-true false h = absurd (h refl)
+not-included (j ∷ ks) k off (inr i) = not-included ks k (or_parts (key_eq k j) (list_any (key_eq k) ks) off).1 i
 
 -- a glyph that is named is stale
 named-stale : (m : FontBodies) (keys : List Key) (g : List ℕ) → is_named keys g ≡ true → is_touched m keys g ≡ true
 named-stale m keys g on =
-    is-true (is_touched m keys g) (λ off. let never : true ≡ false = sym on ∙ unnamed m keys g off in absurd (cc))
+    true_from_ne_false (is_touched m keys g) (λ off. let never : true ≡ false = sym on ∙ unnamed m keys g off in absurd (cc))
 
 -- what holds where a test does holds of each name that passes
 pub filter-as : (p q : List ℕ → Bool) (xs : List (List ℕ)) → ((g : List ℕ) → list_any (bytes_eq g) xs ≡ true → p g ≡ q g) → filter p xs ≡ filter q xs
@@ -193,11 +188,8 @@ module _ (changes : List EntryChange) (old new : SourceParts) (before : Records)
   served-all [] has within = tt
   served-all (c ∷ cs) has within = (
     served-one c has.0 (within (key_of c.named) (ap (λ b. b || list_any (key_eq (key_of c.named)) (changed_keys cs)) (key-itself (key_of c.named)))),
-    served-all cs has.1 (λ k on. within k (later (key_eq k (key_of c.named)) (list_any (key_eq k) (changed_keys cs)) on)),
-  ) where
-    later : (a b : Bool) → b ≡ true → (a || b) ≡ true
-    later true b h = refl
-    later false b h = h
+    served-all cs has.1 (λ k on. within k (or_right (key_eq k (key_of c.named)) (list_any (key_eq k) (changed_keys cs)) on)),
+  )
 
   served : AllByRecursion (IsServed run count before) changes
   served = served-all changes j.bodies (λ k on. on)
@@ -230,14 +222,6 @@ module _ (changes : List EntryChange) (old new : SourceParts) (before : Records)
         met : (ks : List Key) → list_any (key_eq k) ks ≡ true → is_user k (own m u) ≡ true → list_any (is_met m u) ks ≡ true
         met [] h used = absurd (cc)
         met (x ∷ ks) h used = by (key_eq k x) refl h (λ later. met ks later used) where
-          or-true : (b : Bool) → (b || true) ≡ true
-          or-true true = refl
-          or-true false = refl
-
-          or-more : (a b : Bool) → b ≡ true → (a || b) ≡ true
-          or-more true b h = refl
-          or-more false b h = h
-
           by : (b : Bool) → key_eq k x ≡ b → (b || list_any (key_eq k) ks) ≡ true → (list_any (key_eq k) ks ≡ true → list_any (is_met m u) ks ≡ true)
               → (is_met m u x || list_any (is_met m u) ks) ≡ true
           by true e h rest =
@@ -245,7 +229,7 @@ module _ (changes : List EntryChange) (old new : SourceParts) (before : Records)
               ap (λ q. (is_key_of u x || is_user q (own m u)) || list_any (is_met m u) ks) (sym same)
               ∙ ap (λ b. (is_key_of u x || b) || list_any (is_met m u) ks) used
               ∙ ap (λ b. b || list_any (is_met m u) ks) (or-true (is_key_of u x))
-          by false e h rest = or-more (is_met m u x) (list_any (is_met m u) ks) (rest h)
+          by false e h rest = or_right (is_met m u x) (list_any (is_met m u) ks) (rest h)
 
     moved-mid : (k : Key) (u : List ℕ)
         → ((lists mid k u && not (has_pair done.leaves.items k u)) || has_pair done.joins.items k u) ≡ is_moved renewal before k u

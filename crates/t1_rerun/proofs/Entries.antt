@@ -4,7 +4,7 @@ use Rattle.std.specs.Prelude.{◌||◌}
 use Rattle.std.specs.List.{AllByRecursion, list_any}
 use Rattle.std.specs.Option.{option_to_list}
 use Rattle.std.specs.Str.{bytes_eq}
-use Rattle.std.proofs.lemmas.Bool.{cases_Bool}
+use Rattle.std.proofs.lemmas.Bool.{cases_Bool, or_left, or_right}
 use Rattle.std.proofs.lemmas.Bool.Decides.{nat_tests}
 use Rattle.std.proofs.lemmas.List.{append-nil}
 use Rattle.std.proofs.lemmas.List.Folds.{list_any-append}
@@ -27,7 +27,6 @@ use Rattle.t1_rerun.specs.Renewing.{entry_key, number_key}
 use Rattle.t1_rerun.specs.Right.{has_glyph}
 use Rattle.t1_font.proofs.Keeping.{bytes_self}
 use Rattle.t1_cache.proofs.Accepted.{added_subr-made, removed_subr-made, replaced_subr-made}
-use Rattle.t1_cache.proofs.Names.{or-left, or-right}
 use Rattle.t1_rerun.proofs.Meeting.{all-among, among-off, among-passing}
 
 -- ---- the key that an edit names
@@ -101,7 +100,7 @@ last-not (x ∷ xs) g d =
     apart true e =
         let same : g ≡ x = (bytes_eq-Decides g x).0 e in
         let there : list_any (bytes_eq x) (xs ++ g ∷ []) ≡ true =
-        list_any-append (bytes_eq x) xs (g ∷ []) ∙ or-right (list_any (bytes_eq x) xs) (bytes_eq x g || false) (or-left (bytes_eq x g) false (ap (bytes_eq x) same ∙ bytes_self x)) in
+        list_any-append (bytes_eq x) xs (g ∷ []) ∙ or_right (list_any (bytes_eq x) xs) (bytes_eq x g || false) (or_left (bytes_eq x g) false (ap (bytes_eq x) same ∙ bytes_self x)) in
         let never : true ≡ false = sym there ∙ d.0 in
         absurd (cc)
     apart false e = e
@@ -109,7 +108,7 @@ last-not (x ∷ xs) g d =
 added-order : (xs : List (List ℕ)) (g : List ℕ) → AreDistinct (xs ++ g ∷ [])
     → xs ++ g ∷ [] ≡ filter (λ x. list_any (bytes_eq x) (xs ++ g ∷ [])) xs ++ filter (λ x. not (list_any (bytes_eq x) xs)) (xs ++ g ∷ [])
 added-order xs g d =
-    let all = all-among xs (xs ++ g ∷ []) (λ x h. list_any-append (bytes_eq x) xs (g ∷ []) ∙ or-left (list_any (bytes_eq x) xs) (bytes_eq x g || false) h) in
+    let all = all-among xs (xs ++ g ∷ []) (λ x h. list_any-append (bytes_eq x) xs (g ∷ []) ∙ or_left (list_any (bytes_eq x) xs) (bytes_eq x g || false) h) in
     let fresh : filter (λ x. not (list_any (bytes_eq x) xs)) (g ∷ []) ≡ g ∷ [] = rw (last-not xs g d) refl in
     sym (ap (λ l. l ++ filter (λ x. not (list_any (bytes_eq x) xs)) (xs ++ g ∷ [])) (all-pass (λ x. list_any (bytes_eq x) (xs ++ g ∷ [])) xs all)
     ∙ ap (λ l. xs ++ l) (filter-append (λ x. not (list_any (bytes_eq x) xs)) xs (g ∷ [])
@@ -127,7 +126,7 @@ passed p x (y ∷ xs) h = one (p y) (passed p x xs) h where
         → (b || list_any (bytes_eq x) xs) ≡ true
     either true below h = refl
     either false below h = below h
-  one false below h = or-right (bytes_eq x y) (list_any (bytes_eq x) xs) (below h)
+  one false below h = or_right (bytes_eq x y) (list_any (bytes_eq x) xs) (below h)
 
 tests-agree : (p q : List ℕ → Bool) (xs : List (List ℕ)) → AllByRecursion (λ x. p x ≡ q x) xs → filter p xs ≡ filter q xs
 tests-agree p q [] h = refl

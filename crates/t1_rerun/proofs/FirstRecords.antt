@@ -36,6 +36,7 @@ use Rattle.t1_cache.specs.Renewed.{Kept, kept_of}
 use Rattle.t1_cache.specs.Tables.{AreTables}
 use Rattle.t1_cache.proofs.Distinct.{names_distinct}
 use Rattle.t1_cache.proofs.Renewing.{shown-all}
+use Rattle.t1_cache.proofs.Lists.{all-weaken}
 use Rattle.t1_rerun.specs.Opened.{measured_names, opening_runs, runs_where, AreMeasured, IsRecorded, IsRunAfter}
 use Rattle.t1_rerun.specs.Renewals.{HasRun, IsMeasured}
 use Rattle.t1_rerun.specs.Right.{IsRight}
@@ -58,10 +59,6 @@ all-at P (x ∷ names) h g e = by (bytes_eq g x) refl e (all-at P names h.1 g) w
   by : (b : Bool) → bytes_eq g x ≡ b → (b || list_any (bytes_eq g) names) ≡ true → (list_any (bytes_eq g) names ≡ true → P g) → P g
   by true same e others = subst P (sym (bytes_tell.same g x same)) h.0
   by false other e others = others e
-
-pub all-weaken : {X : Type 0} (P Q : X → Type 0) → ((x : X) → P x → Q x) → (xs : List X) → AllByRecursion P xs → AllByRecursion Q xs
-all-weaken P Q step [] h = tt
-all-weaken P Q step (x ∷ xs) h = (step x h.0, all-weaken P Q step xs h.1)
 
 -- ---- what is reported of a font's glyphs
 

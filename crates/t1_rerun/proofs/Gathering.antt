@@ -4,6 +4,7 @@ use Rattle.std.specs.Prelude.{Result, Ok, Err, ◌||◌, ◌&&◌}
 use Rattle.std.specs.List.{AllByRecursion, list_any}
 use Rattle.std.specs.Option.{option_map, option_or}
 use Rattle.std.specs.Str.{bytes_eq}
+use Rattle.std.proofs.Math.Bool.{and-false}
 use Rattle.t1_frac.specs.declared.fault.Code.{Code}
 use Rattle.t1_frac.specs.declared.fault.Fault.{Fault}
 use Rattle.t1_frac.specs.declared.fault.Place.TheVariants as places
@@ -237,10 +238,6 @@ module _ (keys : List Key) (old new : SourceParts) (told : List Told) (edit : Is
     n : FontBodies
     n = bodies new.items
 
-    and_false : (b : Bool) → false ≡ (b && false)
-    and_false true = refl
-    and_false false = refl
-
     passes : (b : Bool) → found u ≡ b → list_any (bytes_eq u) (stale old keys new) ≡ true → found u ≡ true
     passes true e h = e
     passes false e h =
@@ -249,7 +246,7 @@ module _ (keys : List Key) (old new : SourceParts) (told : List Told) (edit : Is
 
     away : (body : Option (List Command)) → n.glyphs u ≡ body → (b : Bool) → found u ≡ b → list_any (bytes_eq u) (stale old keys new) ≡ false
         → false ≡ (found u && is_user k (own n u))
-    away None e b f h = and_false (found u) ∙ ap (λ r. found u && is_user k r) (sym (none-own n u e))
+    away None e b f h = sym (and-false (found u)) ∙ ap (λ r. found u && is_user k r) (sym (none-own n u e))
     away (Some body) e false f h = sym (ap (λ t. t && is_user k (own n u)) f)
     away (Some body) e true f h =
         let never : true ≡ false = sym (ap (list_any (bytes_eq u)) (sym is) ∙ among-passing found u (glyph_names new.items) (glyph-among new.items u body e) f) ∙ h in

@@ -3,6 +3,8 @@ use Rattle.std.proofs.Common.{Vec, Global, ◌≡◌, ◌<◌, ◌++◌, ℕ, ze
 use Rattle.std.specs.Prelude.{◌&&◌, ◌||◌}
 use Rattle.std.specs.List.{list_any}
 use Rattle.std.specs.Str.{bytes_eq}
+use Rattle.std.proofs.Math.Bool.{and-true, and_self}
+use Rattle.std.proofs.lemmas.Bool.{or_right}
 use Rattle.std.proofs.lemmas.List.Elements.{filter-append}
 use Rattle.t1_run.specs.Run.{Key, Subr, Glyph}
 use Rattle.t1_run.specs.Touched.{is_key_of}
@@ -59,17 +61,13 @@ record Alike (p : List ℕ → Bool) (x y : Seen) : Type 0 where
 abbrev still : (List ℕ → Bool) → Step → List ℕ → Bool
 still p step g = p g && not (takes_out step g)
 
-stays-false : (a : Bool) → (a && true) ≡ a
-stays-false true = refl
-stays-false false = refl
-
 -- glyphs that are still there aren't those of another key
 was-off : (p : List ℕ → Bool) (step : Step) (k : Key) → key_eq k (step_key step) ≡ false → of-key (still p step) k ≡ false → of-key p k ≡ false
 was-off p step (Subr n) other off = refl
-was-off p (steps.Remove named) (Glyph g) other off = sym (stays-false (p g)) ∙ ap (λ b. p g && not b) (sym other) ∙ off
-was-off p (steps.Put named body) (Glyph g) other off = sym (stays-false (p g)) ∙ off
-was-off p (steps.InsertSubr n r) (Glyph g) other off = sym (stays-false (p g)) ∙ off
-was-off p (steps.InsertGlyph name r) (Glyph g) other off = sym (stays-false (p g)) ∙ ap (λ b. p g && not b) (sym other) ∙ off
+was-off p (steps.Remove named) (Glyph g) other off = sym (and-true (p g)) ∙ ap (λ b. p g && not b) (sym other) ∙ off
+was-off p (steps.Put named body) (Glyph g) other off = sym (and-true (p g)) ∙ off
+was-off p (steps.InsertSubr n r) (Glyph g) other off = sym (and-true (p g)) ∙ off
+was-off p (steps.InsertGlyph name r) (Glyph g) other off = sym (and-true (p g)) ∙ ap (λ b. p g && not b) (sym other) ∙ off
 
 gone-later : (a b : Bool) → (not (a && not b) && not b) ≡ (not b && not a)
 gone-later true true = refl
@@ -102,10 +100,10 @@ kept-after p (steps.Remove named) xs ys same = each ys ∙ taken-kept p (λ g. k
       (filter-same (λ k. not (is_key_of k.name (key_of named))) (λ k. not (key_eq (Glyph k.name) (key_of named))) (λ k. ap not (of-named k.name (key_of named))) ks)
 kept-after p (steps.Put named body) xs ys same = each ys ∙ same ∙ sym (each xs) where
   each : (ks : List Kept) → filter (λ k. not (p k.name && true)) ks ≡ filter (λ k. not (p k.name)) ks
-  each ks = filter-same (λ k. not (p k.name && true)) (λ k. not (p k.name)) (λ k. ap not (stays-false (p k.name))) ks
+  each ks = filter-same (λ k. not (p k.name && true)) (λ k. not (p k.name)) (λ k. ap not (and-true (p k.name))) ks
 kept-after p (steps.InsertSubr n r) xs ys same = each ys ∙ same ∙ sym (each xs) where
   each : (ks : List Kept) → filter (λ k. not (p k.name && true)) ks ≡ filter (λ k. not (p k.name)) ks
-  each ks = filter-same (λ k. not (p k.name && true)) (λ k. not (p k.name)) (λ k. ap not (stays-false (p k.name))) ks
+  each ks = filter-same (λ k. not (p k.name && true)) (λ k. not (p k.name)) (λ k. ap not (and-true (p k.name))) ks
 kept-after p (steps.InsertGlyph name r) xs ys same = each ys ∙ ap (λ l. l ++ filter left (new ∷ [])) (taken-kept p (λ g. bytes_eq g name.items) xs ys same) ∙ sym (each xs) where
   left : Kept → Bool
   left k = not (still p (steps.InsertGlyph name r) k.name)
@@ -129,14 +127,14 @@ alike-after p step x y a = record {
   put-body : (step : Step) (k : Key) → of-key (still p step) k ≡ false → step_body step (y.bodies k) ≡ step_body step (x.bodies k)
   put-body (steps.Remove named) k off = refl
   put-body (steps.Put named body) (Subr n) off = ap (step_body (steps.Put named body)) (a.bodies (Subr n) refl)
-  put-body (steps.Put named body) (Glyph g) off = ap (step_body (steps.Put named body)) (a.bodies (Glyph g) (sym (stays-false (p g)) ∙ off))
+  put-body (steps.Put named body) (Glyph g) off = ap (step_body (steps.Put named body)) (a.bodies (Glyph g) (sym (and-true (p g)) ∙ off))
   put-body (steps.InsertSubr n r) k off = refl
   put-body (steps.InsertGlyph name r) k off = refl
 
   put-users : (step : Step) (k : Key) → of-key (still p step) k ≡ false → step_users step (y.users k) ≡ step_users step (x.users k)
   put-users (steps.Remove named) k off = refl
   put-users (steps.Put named body) (Subr n) off = a.users (Subr n) refl
-  put-users (steps.Put named body) (Glyph g) off = a.users (Glyph g) (sym (stays-false (p g)) ∙ off)
+  put-users (steps.Put named body) (Glyph g) off = a.users (Glyph g) (sym (and-true (p g)) ∙ off)
   put-users (steps.InsertSubr n r) k off = refl
   put-users (steps.InsertGlyph name r) k off = refl
 
@@ -160,7 +158,7 @@ as-alike : (p q : List ℕ → Bool) → ((g : List ℕ) → p g ≡ q g) → (x
 as-alike p q same x y a = subst (λ (f : List ℕ → Bool). Alike f x y) (λ j. λ g. same g j) a
 
 alike-after-all : (steps : List Step) (p : List ℕ → Bool) (x y : Seen) → Alike p x y → Alike (λ g. p g && not (some-take steps g)) (after_all steps x) (after_all steps y)
-alike-after-all [] p x y a = as-alike p (λ g. p g && true) (λ g. sym (stays-false (p g))) x y a
+alike-after-all [] p x y a = as-alike p (λ g. p g && true) (λ g. sym (and-true (p g))) x y a
 alike-after-all (step ∷ steps) p x y a =
     as-alike (still (λ g. p g && not (some-take steps g)) step) (λ g. p g && not (some-take (step ∷ steps) g))
     (λ g. both (p g) (some-take steps g) (takes_out step g)) (after_all (step ∷ steps) x) (after_all (step ∷ steps) y)
@@ -203,15 +201,11 @@ taken-first steps names taken old new bodies users kepts =
     as-key (Subr n) = refl
     as-key (Glyph g) = refl
 
-    twice : (b : Bool) → (b && b) ≡ b
-    twice true = refl
-    twice false = refl
-
     once : filter (λ k. not (p k.name)) (map kept_of new.glyphs.entries) ≡ filter (λ k. not (p k.name)) (map kept_of old.glyphs.entries)
     once =
         ap (filter (λ k. not (p k.name))) kepts
         ∙ filter-twice (λ k. not (p k.name)) (λ k. not (p k.name)) (map kept_of old.glyphs.entries)
-        ∙ filter-same (λ k. not (p k.name) && not (p k.name)) (λ k. not (p k.name)) (λ k. twice (not (p k.name))) (map kept_of old.glyphs.entries)
+        ∙ filter-same (λ k. not (p k.name) && not (p k.name)) (λ k. not (p k.name)) (λ k. and_self (not (p k.name))) (map kept_of old.glyphs.entries)
 
 -- ---- one of the steps
 
@@ -220,10 +214,7 @@ pub taken-at : (steps : List Step) (at : ℕ) (step : Step) (g : List ℕ) → a
     → list_any (λ s. takes_out s g) steps ≡ true
 taken-at [] at step g far is on = absurd (omega (arith, far))
 taken-at (s ∷ steps) zero step g far is on = ap (λ b. b || some-take steps g) (ap (λ s. takes_out s g) (sym is) ∙ on)
-taken-at (s ∷ steps) (suc at) step g far is on = or-right (takes_out s g) (some-take steps g) (taken-at steps at step g (omega (arith, far)) is on) where
-  or-right : (a b : Bool) → b ≡ true → (a || b) ≡ true
-  or-right true b h = refl
-  or-right false b h = h
+taken-at (s ∷ steps) (suc at) step g far is on = or_right (takes_out s g) (some-take steps g) (taken-at steps at step g (omega (arith, far)) is on)
 
 -- one name more
 pub taken-more : (steps : List Step) (names new : List (Vec ℕ Global)) (key : Vec ℕ Global) (at : ℕ) (step : Step) → AreTakenOut names steps

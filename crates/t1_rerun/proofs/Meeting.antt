@@ -4,7 +4,7 @@ use Rattle.std.specs.Prelude.{Result, Ok, ◌||◌}
 use Rattle.std.specs.List.{AllByRecursion, list_any}
 use Rattle.std.specs.Option.{option_or}
 use Rattle.std.specs.Str.{bytes_eq}
-use Rattle.std.proofs.lemmas.Bool.{cases_Bool, or_parts}
+use Rattle.std.proofs.lemmas.Bool.{cases_Bool, or_left, or_parts, or_right}
 use Rattle.t1_frac.specs.declared.fault.Code.{Code}
 use Rattle.t1_code.specs.declared.command.Command.{Command}
 use Rattle.t1_parts.specs.declared.item.Item.{Item}
@@ -25,10 +25,10 @@ use Rattle.t1_cache.specs.Kept.{shown, shown_from}
 use Rattle.t1_cache.specs.Renewed.{kept_of, recorded_run}
 use Rattle.t1_cache.specs.Tables.{AreStale}
 use Rattle.t1_cache.proofs.Drawing.{all_draw}
-use Rattle.t1_cache.proofs.Names.{or-left, or-right}
 use Rattle.t1_cache.proofs.Newest.{found as at-glyph, newest_drawn}
 use Rattle.t1_cache.proofs.Recorded.{runs_recorded}
 use Rattle.t1_cache.proofs.Renewing.{glyphs-of}
+use Rattle.t1_cache.proofs.Lists.{all-weaken}
 use Rattle.t1_rerun.specs.Newest.{newest_among}
 
 -- ---- lists and tests
@@ -44,14 +44,14 @@ among-passing p g (x ∷ xs) h e =
     elim (cases_Bool (bytes_eq g x)) [
       | inl same ↦
           let passes : p x ≡ true = ap p (sym (same_bytes g x same)) ∙ e in
-          rw passes (or-left (bytes_eq g x) (list_any (bytes_eq g) (filter p xs)) same)
+          rw passes (or_left (bytes_eq g x) (list_any (bytes_eq g) (filter p xs)) same)
       | inr other ↦
           let below = among-passing p g xs (rw other at h) e in
           either (p x) below
     ]
   where
     either : (b : Bool) → list_any (bytes_eq g) (filter p xs) ≡ true → list_any (bytes_eq g) (cond b (x ∷ filter p xs) (filter p xs)) ≡ true
-    either true below = or-right (bytes_eq g x) (list_any (bytes_eq g) (filter p xs)) below
+    either true below = or_right (bytes_eq g x) (list_any (bytes_eq g) (filter p xs)) below
     either false below = below
 
 pub among-off : (p : List ℕ → Bool) (g : List ℕ) (xs : List (List ℕ)) → p g ≡ false → list_any (bytes_eq g) (filter p xs) ≡ false
@@ -69,11 +69,7 @@ pub all-among : (xs ys : List (List ℕ)) → ((x : List ℕ) → list_any (byte
     → AllByRecursion (λ x. list_any (bytes_eq x) ys ≡ true) xs
 all-among [] ys h = tt
 all-among (x ∷ xs) ys h =
-    (h x (or-left (bytes_eq x x) (list_any (bytes_eq x) xs) (bytes_self x)), all-among xs ys (λ y e. h y (or-right (bytes_eq y x) (list_any (bytes_eq y) xs) e)))
-
-all-weaken : {X : Type 0} (P Q : X → Type 0) → ((x : X) → P x → Q x) → (xs : List X) → AllByRecursion P xs → AllByRecursion Q xs
-all-weaken P Q step [] h = tt
-all-weaken P Q step (x ∷ xs) h = (step x h.0, all-weaken P Q step xs h.1)
+    (h x (or_left (bytes_eq x x) (list_any (bytes_eq x) xs) (bytes_self x)), all-among xs ys (λ y e. h y (or_right (bytes_eq y x) (list_any (bytes_eq y) xs) e)))
 
 -- a glyph with a body is among the names
 pub glyph-among : (items : List Item) (g : List ℕ) (b : List Command) → glyph_among items g ≡ Some b → list_any (bytes_eq g) (glyph_names items) ≡ true
@@ -86,8 +82,8 @@ named-met : (m : FontBodies) (g : List ℕ) (keys : List Key) → is_named keys 
 named-met m g [] h = absurd (cc)
 named-met m g (k ∷ keys) h =
     elim (cases_Bool (is_key_of g k)) [
-      | inl here ↦ or-left (is_met m g k) (list_any (is_met m g) keys) (or-left (is_key_of g k) (is_user k (own m g)) here)
-      | inr other ↦ or-right (is_met m g k) (list_any (is_met m g) keys) (named-met m g keys (rw other at h))
+      | inl here ↦ or_left (is_met m g k) (list_any (is_met m g) keys) (or_left (is_key_of g k) (is_user k (own m g)) here)
+      | inr other ↦ or_right (is_met m g k) (list_any (is_met m g) keys) (named-met m g keys (rw other at h))
     ]
 
 not-key : (keys : List Key) (g : List ℕ) → is_named keys g ≡ false → Includes keys (Glyph g) → ⊥
@@ -111,7 +107,7 @@ named-touched : (m : FontBodies) (keys : List Key) (g : List ℕ) → m.glyphs g
 unfolding is_touched
 named-touched m keys g e h =
     ap (λ r. meets_run keys g r || meets_parts (touched_within 3 m keys) r) (none-own m g e)
-    ∙ or-left (is_named keys g) false h
+    ∙ or_left (is_named keys g) false h
 
 -- ---- an edited source
 

@@ -5,6 +5,8 @@ use Rattle.std.specs.Borrow.{Bor}
 use Rattle.std.specs.List.{AllByRecursion, list_any}
 use Rattle.std.specs.Option.{option_or}
 use Rattle.std.specs.Str.{bytes_eq}
+use Rattle.std.proofs.Math.Bool.{and-false, and_comm}
+use Rattle.std.proofs.lemmas.Bool.{or_right}
 use Rattle.t1_frac.specs.declared.fault.Code.{Code}
 use Rattle.t1_frac.specs.declared.fault.Fault.{Fault}
 use Rattle.t1_frac.specs.declared.fault.Place.TheVariants as places
@@ -37,6 +39,7 @@ use Rattle.t1_cache.specs.Renewed.{recorded_run}
 use Rattle.t1_cache.specs.Tables.{AreStale}
 use Rattle.t1_cache.specs.Users.{has, has_pair, key_of}
 use Rattle.t1_cache.proofs.Counting.{found_count}
+use Rattle.t1_cache.proofs.Lists.{all-weaken}
 use Rattle.t1_font.proofs.Lookups.{bytes_tell}
 use Rattle.t1_rerun.specs.declared.renewal.Renewal.{Renewal}
 use Rattle.t1_rerun.specs.Newest.{judged_in, newest_among, FirstIn}
@@ -62,10 +65,6 @@ all-at P (x ∷ names) h g e = by (bytes_eq g x) refl e (all-at P names h.1 g) w
   by true same e others = subst P (sym (bytes_tell.same g x same)) h.0
   by false other e others = others e
 
-all-weaken : {X : Type 0} (P Q : X → Type 0) → ((x : X) → P x → Q x) → (xs : List X) → AllByRecursion P xs → AllByRecursion Q xs
-all-weaken P Q step [] h = tt
-all-weaken P Q step (x ∷ xs) h = (step x h.0, all-weaken P Q step xs h.1)
-
 -- and of each name of a list of such names
 all-within : (P : List ℕ → Type 0) (xs ys : List (List ℕ)) → AllByRecursion P xs
     → ((g : List ℕ) → list_any (bytes_eq g) ys ≡ true → list_any (bytes_eq g) xs ≡ true) → AllByRecursion P ys
@@ -74,10 +73,6 @@ all-within P xs ys all within = all-weaken (λ g. list_any (bytes_eq g) xs ≡ t
 -- a name that passes is among those that pass
 pub has-passing : (p : List ℕ → Bool) (g : List ℕ) (xs : List (List ℕ)) → list_any (bytes_eq g) (filter p xs) ≡ (list_any (bytes_eq g) xs && p g)
 has-passing p g xs = by (p g) refl (list_any (bytes_eq g) xs) refl where
-  never : (b : Bool) → false ≡ (b && false)
-  never true = refl
-  never false = refl
-
   none : (xs : List (List ℕ)) → list_any (bytes_eq g) xs ≡ false → list_any (bytes_eq g) (filter p xs) ≡ false
   none [] h = refl
   none (x ∷ xs) h = one (bytes_eq g x) refl (p x) h (none xs) where
@@ -88,7 +83,7 @@ has-passing p g xs = by (p g) refl (list_any (bytes_eq g) xs) refl where
     one false e false h others = others h
 
   by : (b : Bool) → p g ≡ b → (t : Bool) → list_any (bytes_eq g) xs ≡ t → list_any (bytes_eq g) (filter p xs) ≡ (list_any (bytes_eq g) xs && p g)
-  by false off t h = among-off p g xs off ∙ never (list_any (bytes_eq g) xs) ∙ ap (λ b. list_any (bytes_eq g) xs && b) (sym off)
+  by false off t h = among-off p g xs off ∙ sym (and-false (list_any (bytes_eq g) xs)) ∙ ap (λ b. list_any (bytes_eq g) xs && b) (sym off)
   by true on true h = among-passing p g xs h on ∙ sym (ap (λ b. b && p g) h ∙ on)
   by true on false h = none xs h ∙ sym (ap (λ b. b && p g) h)
 
@@ -164,10 +159,7 @@ measured-within run xs ys ms e within = by (glyphs_by run (outline_within run 4)
 has-box-name : (ms : List GlyphMetrics) (g : List ℕ) (box : Option BBox) → HasBox ms g box → list_any (bytes_eq g) (map (λ m. m.name) ms) ≡ true
 has-box-name [] g box h = absurd h
 has-box-name (m ∷ ms) g box (inl h) = ap (λ n. bytes_eq g n || list_any (bytes_eq g) (map (λ m. m.name) ms)) h.0 ∙ ap (λ b. b || list_any (bytes_eq g) (map (λ m. m.name) ms)) (bytes_tell.itself g)
-has-box-name (m ∷ ms) g box (inr h) = right (bytes_eq g m.name) (list_any (bytes_eq g) (map (λ m. m.name) ms)) (has-box-name ms g box h) where
-  right : (a b : Bool) → b ≡ true → (a || b) ≡ true
-  right true b h = refl
-  right false b h = h
+has-box-name (m ∷ ms) g box (inr h) = or_right (bytes_eq g m.name) (list_any (bytes_eq g) (map (λ m. m.name) ms)) (has-box-name ms g box h)
 
 box-there : (run : Runs) (ns : List GlyphMetrics) (g : List ℕ) (box : Option BBox) (s : List Segment) → AllByRecursion (IsMeasured run) ns
     → outline_within run 4 g ≡ Ok s → box ≡ drawn_box s → list_any (bytes_eq g) (map (λ m. m.name) ns) ≡ true → HasBox ns g box
@@ -300,12 +292,7 @@ module _ (edits : List Named) (old new : SourceParts) (records : Records) (m : F
 
   -- the same glyphs
   alike : (g : List ℕ) → list_any (bytes_eq g) these ≡ list_any (bytes_eq g) ordered
-  alike g = these-are g ∙ turned (found g) (is_some (m.glyphs g)) ∙ ap (λ b. b && found g) (sym (has-name g)) ∙ sym (has-passing found g names) where
-    turned : (a b : Bool) → (a && b) ≡ (b && a)
-    turned true true = refl
-    turned true false = refl
-    turned false true = refl
-    turned false false = refl
+  alike g = these-are g ∙ and_comm (found g) (is_some (m.glyphs g)) ∙ ap (λ b. b && found g) (sym (has-name g)) ∙ sym (has-passing found g names)
 
   newest-alike : newest_among m these records ≡ newest_among m ordered records
   newest-alike = same-function _ _ (λ g. ap (λ b. option_or (cond b (own m g) None) (recorded_run records g)) (alike g))

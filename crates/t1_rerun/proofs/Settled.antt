@@ -28,6 +28,7 @@ use Rattle.t1_cache.proofs.Joining.{run_kept}
 use Rattle.t1_cache.proofs.Judging.{fine-told, IsFine}
 use Rattle.t1_font.proofs.Lookups.{bytes_tell}
 use Rattle.t1_cache.proofs.Renewing.{glyphs-of, names_kept, renewed}
+use Rattle.t1_cache.proofs.Lists.{all-weaken}
 use Rattle.t1_rerun.specs.declared.renewal.Renewal.{Renewal}
 use Rattle.t1_rerun.specs.Renewals.{rerun_kept, rerun_names, IsRenewal}
 use Rattle.t1_rerun.specs.Right.{has_glyph, IsRight}
@@ -35,10 +36,6 @@ use Rattle.t1_rerun.specs.Settled.{is_moved, IsRenewedBy}
 use Rattle.t1_rerun.proofs.Meeting.{among-off, among-passing, glyph-among, none-own}
 
 -- ---- lists and tests
-
-all-weaken : {X : Type 0} (P Q : X → Type 0) → ((x : X) → P x → Q x) → (xs : List X) → AllByRecursion P xs → AllByRecursion Q xs
-all-weaken P Q step [] h = tt
-all-weaken P Q step (x ∷ xs) h = (step x h.0, all-weaken P Q step xs h.1)
 
 all-at : (P : List ℕ → Type 0) (g : List ℕ) (xs : List (List ℕ)) → AllByRecursion P xs → list_any (bytes_eq g) xs ≡ true → P g
 all-at P g [] all h = absurd (cc)

@@ -4,6 +4,7 @@ use Rattle.std.specs.Prelude.{◌||◌, ◌&&◌}
 use Rattle.std.specs.List.{AllByRecursion, list_any}
 use Rattle.std.specs.Option.{option_to_list}
 use Rattle.std.specs.Str.{bytes_eq}
+use Rattle.std.proofs.Math.Bool.{and-true}
 use Rattle.std.proofs.lemmas.List.{append-nil}
 use Rattle.t1_code.specs.declared.command.Command.{Command}
 use Rattle.t1_parts.specs.SourceParts.{SourceParts}
@@ -55,10 +56,6 @@ filter-one g (x ∷ xs) d h = by (bytes_eq g x) refl (filter-one g xs d.1) where
 
 -- ---- no glyph was moved
 
-and-true : (b : Bool) → b ≡ (b && true)
-and-true true = refl
-and-true false = refl
-
 -- the order of one edit
 pub one-order : (changes : List EntryChange) (old new : SourceParts) → ((g : List ℕ) → was_moved changes g ≡ false) → IsInOrderAlone old new
     → IsInOrder (was_moved changes) old new
@@ -70,7 +67,7 @@ one-order changes old new none order =
     (ap (λ p. filter p (glyph_names new.items)) (λ j. λ g. others g j))
   where
     stays : (g : List ℕ) → has_glyph new g ≡ (has_glyph new g && not (was_moved changes g))
-    stays g = and-true (has_glyph new g) ∙ ap (λ b. has_glyph new g && not b) (sym (none g))
+    stays g = sym (and-true (has_glyph new g)) ∙ ap (λ b. has_glyph new g && not b) (sym (none g))
 
     others : (g : List ℕ) → not (has_glyph old g) ≡ (was_moved changes g || not (has_glyph old g))
     others g = ap (λ b. b || not (has_glyph old g)) (sym (none g))

@@ -4,6 +4,8 @@ use Rattle.std.specs.Prelude.{◌||◌, ◌&&◌, IsSome}
 use Rattle.std.specs.List.{AllByRecursion, list_any}
 use Rattle.std.specs.Option.{option_map}
 use Rattle.std.specs.Str.{bytes_eq}
+use Rattle.std.proofs.Math.Bool.{and-false, and-true, or-false}
+use Rattle.std.proofs.lemmas.Bool.{not-true, or_left, or_parts, or_right}
 use Rattle.std.proofs.lemmas.List.{append-nil, append_assoc}
 use Rattle.std.proofs.lemmas.List.Folds.{list_any-append}
 use Rattle.t1_code.specs.declared.command.Command.{Command}
@@ -21,6 +23,7 @@ use Rattle.t1_cache.specs.Renewed.{Kept, kept}
 use Rattle.t1_cache.specs.Room.{MayJoin}
 use Rattle.t1_cache.specs.Users.{among, has, key_eq, key_of, users_of, UserSet}
 use Rattle.t1_cache.proofs.Adding.{key-same}
+use Rattle.t1_cache.proofs.Lists.{all-weaken}
 use Rattle.t1_font.proofs.Lookups.{bytes_tell}
 use Rattle.t1_rerun.specs.declared.settling.EntryChange.{EntryChange}
 use Rattle.t1_rerun.specs.declared.settling.steps.Step.{Step}
@@ -29,32 +32,6 @@ use Rattle.t1_rerun.specs.Right.{has_glyph}
 use Rattle.t1_rerun.specs.Settled.{changed_keys, last_glyph, last_glyphs, was_moved, AreDistinctKeys}
 use Rattle.t1_rerun.specs.Steps.{after, after_all, inserts, is_last, some_inserts, step_body, step_key, step_kept, step_users, AreStepsOf, IsStepOf, LacksRun, Seen}
 use Rattle.t1_rerun.proofs.Steps.{turned}
-
--- ---- tests
-
-or-right : (a b : Bool) → b ≡ true → (a || b) ≡ true
-or-right true b h = refl
-or-right false b h = h
-
-or-left : (a b : Bool) → a ≡ true → (a || b) ≡ true
-or-left true b h = refl
-or-left false b h = absurd (cc)
-
-neither : (a b : Bool) → (a || b) ≡ false → (a ≡ false) × (b ≡ false)
-neither true b h = absurd (cc)
-neither false b h = (refl, h)
-
-and-false : (b : Bool) → (b && false) ≡ false
-and-false true = refl
-and-false false = refl
-
-and-true : (b : Bool) → (b && true) ≡ b
-and-true true = refl
-and-true false = refl
-
-or-false : (b : Bool) → (b || false) ≡ b
-or-false true = refl
-or-false false = refl
 
 -- ---- the last step comes first
 
@@ -111,10 +88,6 @@ names-filtered p (k ∷ xs) = by (p k.name) (names-filtered p xs) where
   by true rest = ap (λ l. k.name ∷ l) rest
   by false rest = rest
 
-all-weaken : {X : Type 0} (P Q : X → Type 0) → ((x : X) → P x → Q x) → (xs : List X) → AllByRecursion P xs → AllByRecursion Q xs
-all-weaken P Q step [] h = tt
-all-weaken P Q step (x ∷ xs) h = (step x h.0, all-weaken P Q step xs h.1)
-
 all-passing : (P Q : Kept → Type 0) (p : Kept → Bool) → ((k : Kept) → p k ≡ true → P k → Q k) → (xs : List Kept) → AllByRecursion P xs → AllByRecursion Q (filter p xs)
 all-passing P Q p step [] all = tt
 all-passing P Q p step (x ∷ xs) all = by (p x) refl (all-passing P Q p step xs all.1) where
@@ -164,7 +137,7 @@ module _ (run : List ℕ → Option (TracedRun × Option BBox)) (count : Key →
   apart-bodies (c ∷ cs) ss h x k off =
       let front = h.0 in
       let s = h.1.0 in
-      let both = neither (key_eq k (key_of c.named)) (list_any (key_eq k) (changed_keys cs)) off in
+      let both = or_parts (key_eq k (key_of c.named)) (list_any (key_eq k) (changed_keys cs)) off in
       ap (λ l. (after_all l x).bodies k) h.1.1.0
       ∙ ap (λ y. y.bodies k) (after-last front s x)
       ∙ apart-bodies cs front h.1.1.1.1 (after s x) k both.1
@@ -251,14 +224,14 @@ module _ (run : List ℕ → Option (TracedRun × Option BBox)) (count : Key →
           → StayOrGo (c ∷ cs) k (x.users k) now
       first on e same (inl stays) = inl (same ∙ ap (λ t. cond t (step_users h.1.0 (x.users k)) (x.users k)) e ∙ stays)
       first true e same (inr none) = inr (
-        or-left (key_eq k (key_of c.named)) (list_any (key_eq k) (changed_keys cs)) (ap (key_eq k) (sym (key-step c h.1.0 h.1.1.1.0)) ∙ e),
+        or_left (key_eq k (key_of c.named)) (list_any (key_eq k) (changed_keys cs)) (ap (key_eq k) (sym (key-step c h.1.0 h.1.1.1.0)) ∙ e),
         λ u. ap (λ v. among v u) (same ∙ ap (λ t. cond t (step_users h.1.0 (x.users k)) (x.users k)) e) ∙ none u,
       )
       first false e same (inr none) = inl (same ∙ ap (λ t. cond t (step_users h.1.0 (x.users k)) (x.users k)) e)
 
       by : StayOrGo cs k ((after h.1.0 x).users k) now → (on : Bool) → key_eq k (step_key h.1.0) ≡ on → StayOrGo (c ∷ cs) k (x.users k) now
       by (inl same) on e = first on e same (users-step c h.1.0 h.1.1.1.0 k (x.users k) on e)
-      by (inr none) on e = inr (or-right (key_eq k (key_of c.named)) (list_any (key_eq k) (changed_keys cs)) none.0, none.1)
+      by (inr none) on e = inr (or_right (key_eq k (key_of c.named)) (list_any (key_eq k) (changed_keys cs)) none.0, none.1)
 
   -- ---- glyphs
 
@@ -272,7 +245,7 @@ module _ (run : List ℕ → Option (TracedRun × Option BBox)) (count : Key →
   leaves-apart : (cs : List EntryChange) (g : List ℕ) → list_any (key_eq (Glyph g)) (changed_keys cs) ≡ false → leaves cs g ≡ false
   leaves-apart [] g off = refl
   leaves-apart (c ∷ cs) g off =
-      let both = neither (key_eq (Glyph g) (key_of c.named)) (list_any (key_eq (Glyph g)) (changed_keys cs)) off in
+      let both = or_parts (key_eq (Glyph g) (key_of c.named)) (list_any (key_eq (Glyph g)) (changed_keys cs)) off in
       ap (λ b. (b && (is_none c.body || is_last records c.moved c.named)) || leaves cs g) (key-of g (key_of c.named) ∙ both.0)
       ∙ leaves-apart cs g both.1
 
@@ -415,7 +388,7 @@ module _ (run : List ℕ → Option (TracedRun × Option BBox)) (count : Key →
   kept-stepped Q (c ∷ cs) ss h each x all =
       subst (λ y. AllByRecursion Q y.kept) (sym (ap (λ l. after_all l x) h.1.1.0 ∙ after-last h.0 h.1.0 x))
       (kept-stepped Q cs h.0 h.1.1.1.1
-      (λ name r box on. each name r box (ap (λ l. some_inserts l name) h.1.1.0 ∙ inserts-last h.0 h.1.0 name ∙ or-left (some_inserts h.0 name) (inserts h.1.0 name) on))
+      (λ name r box on. each name r box (ap (λ l. some_inserts l name) h.1.1.0 ∙ inserts-last h.0 h.1.0 name ∙ or_left (some_inserts h.0 name) (inserts h.1.0 name) on))
       (after h.1.0 x) (by h.1.0 refl))
     where
       -- of the steps that are left none puts in this glyph
@@ -435,16 +408,12 @@ module _ (run : List ℕ → Option (TracedRun × Option BBox)) (count : Key →
       by (steps.InsertGlyph name r) is =
           all-last P (filter (λ k. not (bytes_eq name.items k.name)) x.kept) (kept name.items r.run r.bbox)
           (all-passing (λ k. some_inserts ss k.name ≡ false → Q k) P (λ k. not (bytes_eq name.items k.name))
-          (λ k on q. earlier (steps.InsertGlyph name r) is k (was-not (bytes_eq name.items k.name) on) q) x.kept all)
+          (λ k on q. earlier (steps.InsertGlyph name r) is k (not-true (bytes_eq name.items k.name) on) q) x.kept all)
           (λ off. each name.items r.run r.bbox
           (ap (λ l. some_inserts l name.items) h.1.1.0 ∙ inserts-last h.0 h.1.0 name.items
-          ∙ or-right (some_inserts h.0 name.items) (inserts h.1.0 name.items) (ap (λ t. inserts t name.items) is ∙ bytes_tell.itself name.items))
+          ∙ or_right (some_inserts h.0 name.items) (inserts h.1.0 name.items) (ap (λ t. inserts t name.items) is ∙ bytes_tell.itself name.items))
           (run-of (subst (Is c) is h.1.1.1.0)))
         where
-          was-not : (b : Bool) → not b ≡ true → b ≡ false
-          was-not true e = absurd (cc)
-          was-not false e = refl
-
           run-of : Is c (steps.InsertGlyph name r) → run name.items ≡ Some (r.run, r.bbox)
           run-of g = g.1.1.1.1
 
@@ -458,10 +427,10 @@ module _ (run : List ℕ → Option (TracedRun × Option BBox)) (count : Key →
       by : (b : Bool) → some_inserts h.0 g ≡ b → (s : Step) → Is c s → (some_inserts h.0 g || inserts s g) ≡ true
           → (some_inserts h.0 g ≡ true → list_any (key_eq (Glyph g)) (changed_keys cs) ≡ true)
           → (key_eq (Glyph g) (key_of c.named) || list_any (key_eq (Glyph g)) (changed_keys cs)) ≡ true
-      by true e s is both rest = or-right (key_eq (Glyph g) (key_of c.named)) (list_any (key_eq (Glyph g)) (changed_keys cs)) (rest e)
+      by true e s is both rest = or_right (key_eq (Glyph g) (key_of c.named)) (list_any (key_eq (Glyph g)) (changed_keys cs)) (rest e)
       by false e (steps.Remove d) is both rest = let never : false ≡ true = ap (λ b. b || false) (sym e) ∙ both in absurd (cc)
       by false e (steps.Put d body) is both rest = let never : false ≡ true = ap (λ b. b || false) (sym e) ∙ both in absurd (cc)
       by false e (steps.InsertSubr n r) is both rest = let never : false ≡ true = ap (λ b. b || false) (sym e) ∙ both in absurd (cc)
       by false e (steps.InsertGlyph name r) is both rest =
-          or-left (key_eq (Glyph g) (key_of c.named)) (list_any (key_eq (Glyph g)) (changed_keys cs))
+          or_left (key_eq (Glyph g) (key_of c.named)) (list_any (key_eq (Glyph g)) (changed_keys cs))
           (ap (λ d. key_eq (Glyph g) (key_of d)) is.0 ∙ turned g name.items ∙ ap (λ b. b || bytes_eq name.items g) (sym e) ∙ both)

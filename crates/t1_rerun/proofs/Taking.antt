@@ -3,6 +3,7 @@ use Rattle.std.proofs.Common.{◌≡◌, ◌<◌, ◌+◌, ℕ, zero, suc, Bool,
 use Rattle.std.specs.Prelude.{Result, Ok, Err, ◌||◌}
 use Rattle.std.specs.List.{AllByRecursion, list_any}
 use Rattle.std.specs.Str.{bytes_eq}
+use Rattle.std.proofs.Math.Bool.{or-false, or_assoc}
 use Rattle.std.proofs.lemmas.List.Folds.{list_any_more}
 use Rattle.std.proofs.lemmas.Slice.Eq.{bytes_eq-Decides}
 use Rattle.t1_frac.specs.declared.fault.Code.{Code}
@@ -27,14 +28,8 @@ all-one-more P [] x h p = (p, tt)
 all-one-more P (y ∷ xs) x h p = (h.0, all-one-more P xs x h.1 p)
 
 names-more : (rs : List Rerun) (r : Rerun) (g : List ℕ) → list_any (bytes_eq g) (rerun_names (rs ++ r ∷ [])) ≡ (list_any (bytes_eq g) (rerun_names rs) || bytes_eq g r.name.items)
-names-more [] r g = one (bytes_eq g r.name.items) where
-  one : (b : Bool) → (b || false) ≡ b
-  one true = refl
-  one false = refl
-names-more (x ∷ rs) r g = ap (λ b. bytes_eq g x.name.items || b) (names-more rs r g) ∙ assoc (bytes_eq g x.name.items) (list_any (bytes_eq g) (rerun_names rs)) (bytes_eq g r.name.items) where
-  assoc : (a b c : Bool) → (a || (b || c)) ≡ ((a || b) || c)
-  assoc true b c = refl
-  assoc false b c = refl
+names-more [] r g = or-false (bytes_eq g r.name.items)
+names-more (x ∷ rs) r g = ap (λ b. bytes_eq g x.name.items || b) (names-more rs r g) ∙ sym (or_assoc (bytes_eq g x.name.items) (list_any (bytes_eq g) (rerun_names rs)) (bytes_eq g r.name.items))
 
 -- what holds of the reruns so far
 pub record AreTaken (runs now : List Kept) (metrics : List GlyphMetrics) (at : ℕ) (rs : List Rerun) : Type 0 where
@@ -117,10 +112,7 @@ module _ (runs now new : List Kept) (metrics : List GlyphMetrics) (at : ℕ) (rs
     or-there g true e =
         let here = sym (before.names g) ∙ ap (λ x. list_any (bytes_eq x) (rerun_names rs)) (same_name g e) ∙ there (list_any (bytes_eq m.name) (rerun_names rs)) refl in
         ap (λ b. b || bytes_eq g m.name) here ∙ sym here
-    or-there g false e = ap (λ b. list_any (λ x. bytes_eq g x.name) (take at metrics) || b) e ∙ or_false (list_any (λ x. bytes_eq g x.name) (take at metrics)) where
-      or_false : (b : Bool) → (b || false) ≡ b
-      or_false true = refl
-      or_false false = refl
+    or-there g false e = ap (λ b. list_any (λ x. bytes_eq g x.name) (take at metrics) || b) e ∙ or-false (list_any (λ x. bytes_eq g x.name) (take at metrics))
 
     by : (g : List ℕ) (b : Bool) → bytes_eq g m.name ≡ b
         → cond (bytes_eq m.name g) None (cond (list_any (bytes_eq g) (rerun_names rs)) None (run_kept runs g))

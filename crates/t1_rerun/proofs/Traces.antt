@@ -5,6 +5,7 @@ use Rattle.std.specs.List.{list_all}
 use Rattle.std.specs.Str.{bytes_eq}
 use Rattle.std.specs.declared.alloc.Global.{Global}
 use Rattle.std.specs.declared.vec.Vec.{Vec}
+use Rattle.std.proofs.lemmas.Bool.{and_parts}
 use Rattle.t1_parts.specs.SourceParts.{SourceParts}
 use Rattle.t1_extent.specs.Kept.{traces}
 use Rattle.t1_font.specs.Glyphs.{Glyph as Told}
@@ -15,16 +16,12 @@ use Rattle.t1_cache.specs.Kept.{keep_traces, shown, shown_from}
 use Rattle.t1_cache.specs.Renewed.{Kept, kept_of, record_of}
 use Rattle.t1_rerun.specs.Right.{IsRight}
 
-and-both : (a b : Bool) → (a && b) ≡ true → (a ≡ true) × (b ≡ true)
-and-both true b h = (refl, h)
-and-both false b h = absurd (cc)
-
 -- the run of a record that is found keeps its trace
 pub found_trace : (es : List (Vec ℕ Global × GlyphRecord)) (g : List ℕ) (r : GlyphRecord)
     → list_all (λ (k : Kept). traces k.name k.run) (map kept_of es) ≡ true → record_of es g ≡ Some r → traces g r.run ≡ true
 found_trace [] g r h e = absurd (cc)
 found_trace (x ∷ es) g r h e =
-    let both = and-both (traces x.0.items x.1.run) (list_all (λ (k : Kept). traces k.name k.run) (map kept_of es)) h in
+    let both = and_parts (traces x.0.items x.1.run) (list_all (λ (k : Kept). traces k.name k.run) (map kept_of es)) h in
     by (bytes_eq g x.0.items) refl both.0 (found_trace es g r both.1) e
   where
     by : (b : Bool) → bytes_eq g x.0.items ≡ b → traces x.0.items x.1.run ≡ true → (record_of es g ≡ Some r → traces g r.run ≡ true)

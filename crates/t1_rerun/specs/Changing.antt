@@ -76,10 +76,6 @@ pub record IsChangeOf (change : Option EntryChange) (old new : SourceParts) (rec
   pub order : IsInOrder (was_moved (option_to_list change)) old new
   pub names : ordered ≡ glyph_names new.items
 
--- profile: there are such sources
-abbrev pub MayBeRenewed : Option EntryChange → Records → List (List ℕ) → Type 0
-MayBeRenewed change records ordered = (old : SourceParts) × ((new : SourceParts) × IsChangeOf change old new records ordered)
-
 -- profile: the edited source has no fault, each stale glyph was run after this count, and all that the change of the
 -- records takes is there
 pub record IsReadyFor (count : ℕ) (changes : List EntryChange) (old new : SourceParts) (records : Records) (ready : Ready) : Type 0 where

@@ -1,7 +1,6 @@
 //! Records brought to those of a source that is edited at some entries.
-ghost use Rattle.std.specs.Prelude.{◌≡◌, ℕ, true, IfOk, List, Option, OnErr, OnOk, length, map};
+ghost use Rattle.std.specs.Prelude.{◌≡◌, ℕ, true, IfOk, List, OnErr, OnOk, length, map};
 ghost use Rattle.std.specs.List.{AllByRecursion};
-ghost use Rattle.std.specs.Option.{option_to_list};
 ghost use Rattle.t1_frac.specs.Outcome.{Gives};
 ghost use Rattle.t1_parts.specs.SourceParts.{SourceParts};
 ghost use Rattle.t1_font.specs.Runs.{Counts};
@@ -10,7 +9,7 @@ ghost use Rattle.t1_cache.specs.Edited.{stale};
 ghost use Rattle.t1_cache.specs.Kept.{keep_traces};
 ghost use Rattle.t1_cache.specs.Renewed.{kept_of};
 ghost use Rattle.t1_cache.specs.Users.{key_of};
-ghost use Rattle.t1_rerun.specs.Changing.{AreChangesOf, IsChangeOf, IsPrepared, IsReadyFor, MayBePrepared, MayBeRenewed};
+ghost use Rattle.t1_rerun.specs.Changing.{AreChangesOf, IsPrepared, IsReadyFor, MayBePrepared};
 ghost use Rattle.t1_rerun.specs.Renewals.{IsLater, IsRenewal};
 ghost use Rattle.t1_rerun.specs.Renewing.{IsRunWhereStale};
 ghost use Rattle.t1_rerun.specs.Right.{IsRight};
@@ -20,7 +19,7 @@ use crate::bodies::edited_bodies;
 use crate::judging::rerun;
 use crate::order::GlyphOrder;
 use crate::renewal::Renewal;
-use crate::settling::{EntryChange, Ready, changes_of, make_ready, settle};
+use crate::settling::{EntryChange, Ready, make_ready, settle};
 use std::alloc::{AllocError, Global};
 use t1_cache::{Named, Records};
 use t1_frac::{Bytes, Refusal};
@@ -86,24 +85,6 @@ pub fn prepare_changes<O: GlyphOrder>(
     let renewal = rerun_changed(alloc, records, &changes, order, meter)?;
     let ready = make_ready(alloc, records, changes, renewal)?;
     Ok(ready)
-}
-
-/// The same for a change of one entry or of none.
-pub fn prepare_change<O: GlyphOrder>(
-    alloc: Global,
-    records: &mut Records,
-    change: Option<EntryChange>,
-    order: &O,
-    meter: &mut Meter,
-) -> Result<Ready, Refusal>
-    requires { MayBeRenewed change records.old (O.ordered order.now) }
-    ensures checked { (old new : SourceParts) → IsChangeOf change old new records.old (O.ordered order.now) → Gives (λ _. tt) result (source_check new) }
-    ensures ready { (old new : SourceParts) → IsChangeOf change old new records.old (O.ordered order.now) → IfOk result (IsReadyFor meter.old (option_to_list change) old new records.new) }
-    ensures counted { (old new : SourceParts) → IsChangeOf change old new records.old (O.ordered order.now) → Counts (length (stale old (changed_keys (option_to_list change)) new)) meter.old meter.new result }
-    ensures same { AreAsBefore records.old records.new }
-{
-    let changes = changes_of(alloc, change)?;
-    prepare_changes(alloc, records, changes, order, meter)
 }
 
 /// Brings the records of a source to those of the edited one, by what was prepared for its changes. It takes no memory and

@@ -1,6 +1,6 @@
 //! What an edit changes of the bodies of a source.
 ghost use Rattle.std.specs.Prelude.{◌≡◌, false, IfOk, MatchResult};
-ghost use Rattle.std.specs.Option.{option_map};
+ghost use Rattle.std.specs.Option.{option_map, option_to_list};
 ghost use Rattle.t1_frac.specs.Outcome.{Gives, Refuses};
 ghost use Rattle.t1_frac.specs.declared.fault.Place.TheVariants as places;
 ghost use Rattle.t1_parts.specs.SourceParts.{SourceParts};
@@ -105,4 +105,18 @@ pub fn change_of_edit(alloc: Global, edit: &Edit) -> Result<Option<EntryChange>,
     ensures changed { (old new : SourceParts) → IsMade edit.now old new → MatchResult result (IsChanged edit.now old new) (λ refusal. Refuses refusal (file_check new)) }
 {
     entry_change(alloc, edit)
+}
+
+/// The change of one edit as a list: alone in it, or none.
+pub fn change_alone(
+    alloc: Global,
+    change: Option<EntryChange>,
+) -> Result<Vec<EntryChange>, AllocError>
+    ensures { IfOk result (λ changes. changes.items ≡ option_to_list change) }
+{
+    let mut changes = Vec::new(alloc);
+    if let Some(change) = change {
+        changes.push(change)?;
+    }
+    Ok(changes)
 }

@@ -7,8 +7,8 @@
 //! name: the glyphs that these make stale are run, each once, and measured by their newest runs ([`rerun`]), over the bodies of
 //! the records under the changes ([`EditedBodies`]); [`make_ready`] makes all that the change of the records takes; and
 //! [`settle`] changes them, which takes no memory. There is no pass over the font: the order of the glyphs is asked for
-//! ([`GlyphOrder`], as of [`Prepared`]) only where one has a fault. [`prepare_change`] is the first step for one edit, whose
-//! entry [`change_of_edit`] gives.
+//! ([`GlyphOrder`], as of [`Prepared`]) only where one has a fault. The entry that one edit names [`change_of_edit`] gives, and
+//! [`change_alone`] the list of it.
 #![tactic(auto)]
 
 mod bodies;
@@ -26,8 +26,8 @@ mod settling;
 mod stale;
 
 pub use bodies::{EditedBodies, edited_bodies};
-pub use changing::{prepare_change, prepare_changes, settle_ready};
-pub use edit_change::change_of_edit;
+pub use changing::{prepare_changes, settle_ready};
+pub use edit_change::{change_alone, change_of_edit};
 pub use judging::rerun;
 pub use measured::measured_records;
 pub use newest::Newest;

@@ -2,7 +2,6 @@
 //! then the change, which takes no memory and can't fail.
 ghost use Rattle.std.specs.Prelude.{◌≡◌, ◌≤◌, List, IfOk, OnErr, OnOk, map};
 ghost use Rattle.std.specs.List.{AllByRecursion};
-ghost use Rattle.std.specs.Option.{option_to_list};
 ghost use Rattle.indexmap.specs.IndexMap.{spare};
 ghost use Rattle.t1_cache.specs.Changed.{AreUnchanged};
 ghost use Rattle.t1_cache.specs.Renewed.{kept_of};
@@ -101,20 +100,6 @@ pub fn settle(records: &mut Records, ready: Ready)
     change_all(records, steps, &taken);
     move_users(records, leaves, joins);
     renew_by_name(&mut records.glyphs, runs);
-}
-
-/// The change as a list.
-pub(crate) fn changes_of(
-    alloc: Global,
-    change: Option<EntryChange>,
-) -> Result<Vec<EntryChange>, AllocError>
-    ensures { IfOk result (λ changes. changes.items ≡ option_to_list change) }
-{
-    let mut changes = Vec::new(alloc);
-    if let Some(change) = change {
-        changes.push(change)?;
-    }
-    Ok(changes)
 }
 
 #[cfg(test)]

@@ -239,7 +239,8 @@ fn renew(
 {
     checked_bodies(alloc, made)?;
     let change = change_of_edit(alloc, edit)?;
-    let ready = prepare_change(alloc, records, change, made, meter)?;
+    let changes = change_alone(alloc, change)?;
+    let ready = prepare_changes(alloc, records, changes, made, meter)?;
     settle_ready(records, ready);
     Ok(())
 }

@@ -2,26 +2,18 @@
 use Rattle.std.proofs.Common.{◌≡◌, ◌∙◌, ℕ, suc, Bool, true, false, cond, List, [], ◌∷◌, ◌++◌, length, refl, ap, ◌&&◌, arith}
 use Rattle.std.specs.Prelude.{◌==◌, ◌||◌, not}
 use Rattle.std.specs.List.{onto_first}
-use Rattle.std.proofs.lemmas.Bool.{eqb-true, and_parts}
+use Rattle.std.proofs.lemmas.Bool.{and_parts, eqb-true, false_from_ne_true, not-true}
 use Rattle.std.proofs.lemmas.List.Sums.{sum_by-cons}
 use Rattle.t1_text.specs.Lines.{unified, split_lines}
 use Rattle.t1_commands.specs.Lines.{ended_lines, finished_lines}
 use Rattle.t1_session.specs.Conversation.{input_after, ends_line, is_unbroken}
 
-pub not_false : (q : Bool) → not q ≡ true → q ≡ false
-not_false true h = cc
-not_false false h = refl
-
-not_equal : (q : Bool) → (q ≡ true → ⊥) → q ≡ false
-not_equal true h = absurd (h refl)
-not_equal false h = refl
-
 -- two numbers that differ don't compare as equal
 pub differs : (a b : ℕ) → (a ≡ b → ⊥) → (a == b) ≡ false
-differs a b h = not_equal (a == b) (λ e. h (eqb-true a b e))
+differs a b h = false_from_ne_true (a == b) (λ e. h (eqb-true a b e))
 
 other_ten : (b : ℕ) → (b == 10) ≡ false → (10 == b) ≡ false
-other_ten b h = not_equal (10 == b) (λ e. let s : 10 ≡ b = eqb-true 10 b e in let t : true ≡ false = ap (λ n. n == 10) s ∙ h in cc)
+other_ten b h = false_from_ne_true (10 == b) (λ e. let s : 10 ≡ b = eqb-true 10 b e in let t : true ≡ false = ap (λ n. n == 10) s ∙ h in cc)
 
 -- the last line, where it isn't empty
 abbrev pub last_line : List ℕ → List (List ℕ)
@@ -37,25 +29,25 @@ split-line : (xs rest : List ℕ) → is_unbroken xs ≡ true → split_lines (x
 split-line [] rest h = refl
 split-line (b ∷ bs) rest h =
     let s = and_parts (not (b == 10)) (is_unbroken bs) h in
-    rw (not_false (b == 10) s.0, split-line bs rest s.1) refl
+    rw (not-true (b == 10) s.0, split-line bs rest s.1) refl
 
 split-unbroken : (xs : List ℕ) → is_unbroken xs ≡ true → split_lines xs ≡ last_line xs
 split-unbroken [] h = refl
 split-unbroken (b ∷ bs) h =
     let s = and_parts (not (b == 10)) (is_unbroken bs) h in
-    rw (not_false (b == 10) s.0, split-unbroken bs s.1) (onto_last b bs)
+    rw (not-true (b == 10) s.0, split-unbroken bs s.1) (onto_last b bs)
 
 ended-line : (xs rest : List ℕ) → is_unbroken xs ≡ true → ended_lines (xs ++ 10 ∷ rest) ≡ suc (ended_lines rest)
 ended-line [] rest h = sum_by-cons (λ c. cond (c == 10) 1 0) 10 rest ∙ omega arith
 ended-line (b ∷ bs) rest h =
     let s = and_parts (not (b == 10)) (is_unbroken bs) h in
-    sum_by-cons (λ c. cond (c == 10) 1 0) b (bs ++ 10 ∷ rest) ∙ rw (not_false (b == 10) s.0) (omega (arith, ended-line bs rest s.1))
+    sum_by-cons (λ c. cond (c == 10) 1 0) b (bs ++ 10 ∷ rest) ∙ rw (not-true (b == 10) s.0) (omega (arith, ended-line bs rest s.1))
 
 ended-unbroken : (xs : List ℕ) → is_unbroken xs ≡ true → ended_lines xs ≡ 0
 ended-unbroken [] h = refl
 ended-unbroken (b ∷ bs) h =
     let s = and_parts (not (b == 10)) (is_unbroken bs) h in
-    sum_by-cons (λ c. cond (c == 10) 1 0) b bs ∙ rw (not_false (b == 10) s.0) (omega (arith, ended-unbroken bs s.1))
+    sum_by-cons (λ c. cond (c == 10) 1 0) b bs ∙ rw (not-true (b == 10) s.0) (omega (arith, ended-unbroken bs s.1))
 
 pub finished_lines-line : (ended : Bool) (xs rest : List ℕ) → is_unbroken xs ≡ true → finished_lines ended (xs ++ 10 ∷ rest) ≡ xs ∷ finished_lines ended rest
 finished_lines-line true xs rest h = split-line xs rest h

@@ -24,10 +24,9 @@ use Rattle.t1_rerun.specs.Renewing.{renewing_runs, IsRunWhereStale}
 use Rattle.t1_held.specs.declared.held.Held.{Held}
 use Rattle.t1_held.specs.Held.{IsHeld}
 use Rattle.t1_held.specs.Edits.{IsPreparedEdit}
-use Rattle.t1_held.proofs.HeldLaws.{checked_well}
+use Rattle.t1_held.proofs.HeldLaws.{checked_well, right_checked}
 use Rattle.t1_session.specs.Reruns.{Renews, Spends}
 use Rattle.t1_session.specs.State.{SessionView}
-use Rattle.t1_session.proofs.StateLaws.{right_checked}
 
 -- an edit of a session's source was prepared
 abbrev pub edit_prepared : (s : SourceParts) (k : List Pair) (held : Held) (edit : Edit) (change : Change) → IsHeld s held

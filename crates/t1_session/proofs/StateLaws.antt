@@ -8,6 +8,7 @@ use Rattle.t1_frac.specs.declared.fault.Refusal.TheVariants as refusals
 use Rattle.t1_frac.specs.declared.fault.Code.TheVariants.{F23}
 use Rattle.t1_frac.specs.declared.fault.Place.TheVariants.{Nowhere}
 use Rattle.t1_frac.specs.Outcome.{fault_at, Refuses, ◌>>=◌}
+use Rattle.t1_frac.proofs.OutcomeLaws.{bind_ok}
 use Rattle.t1_parts.specs.SourceParts.{SourceParts}
 use Rattle.t1_text.specs.Lines.{joined}
 use Rattle.t1_parts.specs.LenIV.{lead}
@@ -33,6 +34,7 @@ use Rattle.t1_cache.specs.declared.records.Records.{Records}
 use Rattle.t1_rerun.specs.Right.{IsRight}
 use Rattle.t1_held.specs.declared.held.Held.{Held}
 use Rattle.t1_held.specs.Held.{IsHeld}
+use Rattle.t1_held.proofs.HeldLaws.{file_checked, right_checked}
 use Rattle.std.specs.List.{list_all}
 use Rattle.t1_source.specs.WellFormed.{is_counted}
 use Rattle.t1_font.proofs.Counted.{counted-source}
@@ -70,31 +72,22 @@ holding_alone s k batch none = ap (λ (b : Option Draft). record { source = s; p
 
 -- ---- its file
 
-first-ok : {A B : Type 0} (a : Result A Fault) (f : A → Result B Fault) (b : B) → (a >>= f) ≡ Ok b → (x : A) × (a ≡ Ok x)
-first-ok (Ok x) f b h = (x, refl)
-first-ok (Err fault) f b h = absurd (cc)
-
-file-checked : (s : SourceParts) (font : MeasuredFont) → measured_source s ≡ Ok font → (u : Unit {0}) × (file_check s ≡ Ok u)
-unfolding measured_source
-file-checked s font e = first-ok (file_check s) (λ checked. measured s.items) font e
-
 length-checked : (s : SourceParts) (u : Unit {0}) → file_check s ≡ Ok u → (v : Unit {0}) × (length_check s ≡ Ok v)
 unfolding file_check
-length-checked s u e = first-ok (length_check s) (λ checked. counts_check s.items) u e
+length-checked s u e = let step = bind_ok (length_check s) (λ checked. counts_check s.items) u e in (step.0, step.1)
 
 file-made : (s : SourceParts) (u : Unit {0}) → length_check s ≡ Ok u → (file : List ℕ) × (source_file whole_file s ≡ Ok file)
 unfolding length_check
-file-made s u e = first-ok (source_file whole_file s) (λ file. Ok tt) u e
+file-made s u e = let step = bind_ok (source_file whole_file s) (λ file. Ok tt) u e in (step.0, step.1)
 
 pub has_file : (s : SourceParts) (font : MeasuredFont) → measured_source s ≡ Ok font → (file : List ℕ) × (source_file whole_file s ≡ Ok file)
 has_file s font e =
-    let checked = file-checked s font e in
-    let long = length-checked s checked.0 checked.1 in
+    let long = length-checked s (tt {0}) (file_checked s (check_passed s font e)) in
     file-made s long.0 long.1
 
 -- its files in other forms: no form has a fault of its own
 checked-metrics : (s : SourceParts) → source_check s ≡ Ok tt → (font : MeasuredFont) × (measured_source s ≡ Ok font)
-checked-metrics s e = first-ok (measured_source s) (λ metrics. Ok (tt {0})) tt (sym (by-source-metrics s).check ∙ e)
+checked-metrics s e = let step = bind_ok (measured_source s) (λ metrics. Ok (tt {0})) tt (sym (by-source-metrics s).check ∙ e) in (step.0, step.1)
 
 blocks-of : (size : ℕ) (clear private trailer file : List ℕ) → pfb_of whole_file clear private trailer ≡ Ok file → (made : List ℕ) × (pfb_of size clear private trailer ≡ Ok made)
 blocks-of size clear private trailer file e =
@@ -113,9 +106,7 @@ pfa-of clear private trailer file e =
 private-made : (s : SourceParts) (file : List ℕ) → source_file whole_file s ≡ Ok file
     → (private : List ℕ) × (private_text (lead s) (operator s) s.items ≡ Ok private) × (pfb_of whole_file (joined s.clear) private (trailer_text s.tail) ≡ Ok file)
 unfolding source_file
-private-made s file e =
-    let text = first-ok (private_text (lead s) (operator s) s.items) (λ private. pfb_of whole_file (joined s.clear) private (trailer_text s.tail)) file e in
-    (text.0, text.1, ap (λ (r : Result (List ℕ) Fault). r >>= λ private. pfb_of whole_file (joined s.clear) private (trailer_text s.tail)) (sym text.1) ∙ e)
+private-made s file e = bind_ok (private_text (lead s) (operator s) s.items) (λ private. pfb_of whole_file (joined s.clear) private (trailer_text s.tail)) file e
 
 pub has_blocks : (s : SourceParts) (size : ℕ) → source_check s ≡ Ok tt → (made : List ℕ) × (source_file size s ≡ Ok made)
 unfolding source_file
@@ -160,20 +151,10 @@ data_pfa s e =
     ap (λ (r : Result (List ℕ) Fault). r >>= λ text. data_of (pfa_of (joined s.clear) text (trailer_text s.tail))) private.1
     ∙ ap data_of made.1 ∙ ap (λ (r : Result (List ℕ) Fault). Ok (answer_text (file_answer r))) (sym is)
 
--- its counts have at most nine digits
-pub counts_short : (s : SourceParts) (font : MeasuredFont) → measured_source s ≡ Ok font → list_all is_counted s.items ≡ true
-counts_short s font e = let checked = file-checked s font e in counted-source s checked.1
-
 -- ---- by right records
-
-pub right_checked : (s : SourceParts) (records : Records) → IsRight s records → source_check s ≡ Ok tt
-right_checked s records right = ap (λ (r : Result (List Told) Fault). r >>= λ glyphs. Ok (tt {0})) right.kept.faultless
 
 pub held_checked : (s : SourceParts) (h : Held) → IsHeld s h → source_check s ≡ Ok tt
 held_checked s h is = right_checked s h.records is.right
-
-pub counts_checked : (s : SourceParts) → source_check s ≡ Ok tt → list_all is_counted s.items ≡ true
-counts_checked s e = let font = checked-metrics s e in counts_short s font.0 font.1
 
 -- a source that is refused
 pub refused_takes : (refusal : Refusal) (old : State) (made : SourceParts × List Pair) → Refuses refusal (source_check made.0) → old.batch ≡ None

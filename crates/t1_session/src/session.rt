@@ -257,7 +257,7 @@ impl Session {
     }
 
     /// The texts of a session read back as what it holds, and its source has no fault.
-    #[tactic(auto, using(crate::proofs::StateLaws::counts_checked, crate::proofs::StateLaws::held_checked))]
+    #[tactic(auto, using(t1_held::proofs::HeldLaws::counts_checked, crate::proofs::StateLaws::held_checked))]
     fn reads_back(&self)
         ensures faultless { source_check self.now.state.source ≡ Ok tt }
         ensures source { reads (text self.now.state.source) ≡ Ok self.now.state.source }

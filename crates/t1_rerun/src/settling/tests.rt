@@ -7,6 +7,7 @@ ghost use Rattle.t1_rerun.specs.Settled.{changed_keys, AreDistinctKeys};
 
 use super::*;
 use crate::bodies::edited_bodies;
+use crate::edit_change::change_alone;
 use crate::judging::rerun as rerun_edited;
 use crate::tests::{sides, three, three_source};
 use indexmap::{IndexMap, IndexSet};
@@ -53,7 +54,7 @@ fn change(
     change: EntryChange,
     renewal: Renewal,
 ) -> Result<(), Fail> {
-    let changes = changes_of(alloc, Some(change))?;
+    let changes = change_alone(alloc, Some(change))?;
     let ready = make_ready(alloc, records, changes, renewal)?;
     let Ready {
         steps,

@@ -1,9 +1,9 @@
 use Rattle.std.proofs.Common.{◌∙◌, ap}
 use Rattle.std.specs.Prelude.{◌||◌}
 use Rattle.std.specs.Str.{bytes_eq}
+use Rattle.std.proofs.Math.Bool.{or_assoc}
 use Rattle.t1_cache.specs.Users.{among, glyph_users, has}
 use Rattle.t1_font.proofs.Naming.{name-inserted}
-use Rattle.t1_cache.proofs.Names.{or_assoc}
 use Rattle.t1_cache.proofs.stale.add_glyph.Goals as goal
 
 pub returns : goal.returns

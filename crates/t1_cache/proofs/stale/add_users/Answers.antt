@@ -1,9 +1,10 @@
 use Rattle.std.proofs.Common.{◌∙◌, ◌++◌, take, ap, sym, append_assoc, arith}
 use Rattle.std.specs.Prelude.{◌||◌}
 use Rattle.std.specs.Str.{bytes_eq}
+use Rattle.std.proofs.Math.Bool.{or_assoc}
 use Rattle.t1_cache.specs.Users.{has}
 use Rattle.t1_font.proofs.Naming.{name-inserted}
-use Rattle.t1_cache.proofs.Names.{or_assoc, one-more, inserted-behind}
+use Rattle.t1_cache.proofs.Names.{one-more, inserted-behind}
 use Rattle.t1_cache.proofs.stale.add_users.Goals as goal
 
 pub loop-name-preserved : goal.loop-name-preserved

@@ -5,7 +5,7 @@ use Rattle.t1_charstrings.specs.declared.entries.Charstrings.{Charstrings}
 use Rattle.t1_charstrings.specs.Entries.{glyph_kept, key_eq}
 use Rattle.t1_charstrings.specs.Kept.{kept_at}
 use Rattle.t1_charstrings.proofs.Gathered.{at-key}
-use Rattle.t1_charstrings.proofs.Putting.{bytes_tell, inserted-at}
+use Rattle.t1_font.proofs.Lookups.{bytes_tell, inserted-at}
 use Rattle.t1_charstrings.proofs.changed.insert_glyph.Goals as goal
 
 pub returns-clause-sets : goal.returns-clause-sets

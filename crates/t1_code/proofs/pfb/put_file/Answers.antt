@@ -1,6 +1,6 @@
 use Rattle.std.proofs.lemmas.Result.{err_from_is_err_and}
 use Rattle.t1_code.specs.Counted.{outlet}
-use Rattle.t1_code.specs.Parts.{private_text}
+use Rattle.t1_code.specs.Parts.{pieces_text}
 use Rattle.t1_code.proofs.Framing.{file_parts}
 use Rattle.t1_code.proofs.Writing.{passing, Written-from, Written-step, Written-fails, Written-last}
 use Rattle.t1_code.proofs.pfb.put_file.Goals as goal
@@ -9,7 +9,7 @@ pub returns-in_err-put_part : goal.returns-in_err-put_part
 returns-in_err-put_part g c =
     let parts = c.args.parts.now in
     let a = outlet c.args.out.now c.args.chunk.now in
-    let start = Written-from (passing g.W.Write.contents) a _ _ (file_parts c.args.size parts.clear.now (private_text parts) parts.trailer.now c.requires.some) in
+    let start = Written-from (passing g.W.Write.contents) a _ _ (file_parts c.args.size parts.clear.now (pieces_text parts) parts.trailer.now c.requires.some) in
     let p = err_from_is_err_and c.from_residual.result c.from_residual.ensures.1 in
     rw p.1 (Written-fails (passing g.W.Write.contents) a a (outlet c.put_part.new.out c.put_part.new.chunk) _ _ _ start c.in_err-put_part.ensures)
 
@@ -17,7 +17,7 @@ pub returns-in_err-segmenter : goal.returns-in_err-segmenter
 returns-in_err-segmenter g c =
     let parts = c.args.parts.now in
     let a = outlet c.args.out.now c.args.chunk.now in
-    let start = Written-from (passing g.W.Write.contents) a _ _ (file_parts c.args.size parts.clear.now (private_text parts) parts.trailer.now c.requires.some) in
+    let start = Written-from (passing g.W.Write.contents) a _ _ (file_parts c.args.size parts.clear.now (pieces_text parts) parts.trailer.now c.requires.some) in
     let b = outlet c.put_part.new.out c.put_part.new.chunk in
     let cleared = Written-step (passing g.W.Write.contents) a a b _ _ _ start c.in_ok-put_part.ensures in
     let p = err_from_is_err_and c.from_residual-in_err-segmenter.result c.from_residual-in_err-segmenter.ensures.1 in
@@ -27,7 +27,7 @@ pub returns-in_err-put_private : goal.returns-in_err-put_private
 returns-in_err-put_private g c =
     let parts = c.args.parts.now in
     let a = outlet c.args.out.now c.args.chunk.now in
-    let start = Written-from (passing g.W.Write.contents) a _ _ (file_parts c.args.size parts.clear.now (private_text parts) parts.trailer.now c.requires.some) in
+    let start = Written-from (passing g.W.Write.contents) a _ _ (file_parts c.args.size parts.clear.now (pieces_text parts) parts.trailer.now c.requires.some) in
     let b = outlet c.put_part.new.out c.put_part.new.chunk in
     let cleared = Written-step (passing g.W.Write.contents) a a b _ _ _ start c.in_ok-put_part.ensures in
     let d = outlet c.begin.new.out c.begin.new.chunk in
@@ -39,7 +39,7 @@ pub returns-in_err-put_part-2 : goal.returns-in_err-put_part-2
 returns-in_err-put_part-2 g c =
     let parts = c.args.parts.now in
     let a = outlet c.args.out.now c.args.chunk.now in
-    let start = Written-from (passing g.W.Write.contents) a _ _ (file_parts c.args.size parts.clear.now (private_text parts) parts.trailer.now c.requires.some) in
+    let start = Written-from (passing g.W.Write.contents) a _ _ (file_parts c.args.size parts.clear.now (pieces_text parts) parts.trailer.now c.requires.some) in
     let b = outlet c.put_part.new.out c.put_part.new.chunk in
     let cleared = Written-step (passing g.W.Write.contents) a a b _ _ _ start c.in_ok-put_part.ensures in
     let d = outlet c.begin.new.out c.begin.new.chunk in
@@ -53,7 +53,7 @@ pub returns : goal.returns
 returns g c =
     let parts = c.args.parts.now in
     let a = outlet c.args.out.now c.args.chunk.now in
-    let start = Written-from (passing g.W.Write.contents) a _ _ (file_parts c.args.size parts.clear.now (private_text parts) parts.trailer.now c.requires.some) in
+    let start = Written-from (passing g.W.Write.contents) a _ _ (file_parts c.args.size parts.clear.now (pieces_text parts) parts.trailer.now c.requires.some) in
     let b = outlet c.put_part.new.out c.put_part.new.chunk in
     let cleared = Written-step (passing g.W.Write.contents) a a b _ _ _ start c.in_ok-put_part.ensures in
     let d = outlet c.begin.new.out c.begin.new.chunk in

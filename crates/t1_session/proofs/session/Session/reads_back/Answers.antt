@@ -2,7 +2,8 @@ use Rattle.std.proofs.Common.{◌≡◌, Ok, subst}
 use Rattle.t1_parts.specs.Printing.{text}
 use Rattle.t1_parts.specs.Reading.{reads}
 use Rattle.t1_session.specs.State.{SessionView}
-use Rattle.t1_session.proofs.StateLaws.{counts_checked, held_checked}
+use Rattle.t1_held.proofs.HeldLaws.{counts_checked}
+use Rattle.t1_session.proofs.StateLaws.{held_checked}
 use Rattle.t1_session.proofs.session.Session.reads_back.Goals as goal
 
 pub returns-clause-source : goal.returns-clause-source
