@@ -43,6 +43,7 @@ impl Words {
         ensures ok { OnOk result (self.new ≡ self.old ++ words line.now) }
         ensures err { OnErr result (self.new ≡ self.old) }
     {
+        self.bytes.reserve(line.len() + 1)?;
         self.bytes.push(b' ')?;
         self.bytes.extend_from_slice(line)?;
         Ok(())
