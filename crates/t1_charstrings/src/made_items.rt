@@ -18,9 +18,7 @@ use crate::raising::{Needed, check_raised, raised_items_len};
 use std::alloc::Global;
 use std::slice;
 use t1_frac::Refusal;
-use t1_parts::{
-    glyphs_needed, holds, lead_of, operator_of, plain_line, says_lead, subrs_needed,
-};
+use t1_parts::{glyphs_needed, holds, lead_of, operator_of, plain_line, says_lead, subrs_needed};
 use t1_source::Item;
 
 /// Items in three parts: those before the place of an edit, those that it puts there, and those after it.
