@@ -40,8 +40,8 @@ item_read earlier n bytes after x some read h =
     ∙ ap (λ m. items_of (earlier ++ (n, x.0) ∷ []) 0 m (drop x.1 ls)) (omega arith)
     ∙ ap (items_of (earlier ++ (n, x.0) ∷ []) 0 (n + (x.1 + 1))) (sym (h.1 ∙ ap (drop (x.1 + 1)) first ∙ behind x.1 l ls))
   where
-  behind : (k : ℕ) (l : List ℕ) (ls : List (List ℕ)) → drop (k + 1) (l ∷ ls) ≡ drop k ls
-  behind k l ls = let size : k + 1 ≡ suc k = omega arith in ap (λ m. drop m (l ∷ ls)) size
+    behind : (k : ℕ) (l : List ℕ) (ls : List (List ℕ)) → drop (k + 1) (l ∷ ls) ≡ drop k ls
+    behind k l ls = let size : k + 1 ≡ suc k = omega arith in ap (λ m. drop m (l ∷ ls)) size
 
 -- the first fault decides
 pub item_fault : (earlier : List NumberedItem) (n : ℕ) (bytes : List ℕ) (f : Fault) → 0 < length bytes

@@ -1,8 +1,8 @@
 -- A body that opens on the first line of some bytes.
-use Rattle.std.proofs.Common.{◌≡◌, ℕ, zero, suc, Bool, true, false, ◌==◌, ◌+◌, ◌<◌, ◌≤◌, if◌then◌else◌, nat_lt, not, List, [], ◌∷◌, length, take, drop, refl, sym, ◌∙◌, ap, subst, inl, inr, arith}
+use Rattle.std.proofs.Common.{◌≡◌, ℕ, zero, suc, Bool, true, false, ◌==◌, ◌+◌, ◌<◌, ◌≤◌, List, [], ◌∷◌, length, take, drop, refl, sym, ◌∙◌, ap, subst, inl, inr, arith}
 use Rattle.std.specs.Prelude.{◌⊎◌, Option, Some, None, Result, Ok, Err, IfOk, IfSome}
 use Rattle.std.specs.List.{after_first, position_or_len}
-use Rattle.std.proofs.lemmas.Bool.{cases_Bool, ltb-true, ltb-false}
+use Rattle.std.proofs.lemmas.Bool.{cases_Bool}
 use Rattle.std.proofs.lemmas.List.{drop_all, length-take-le}
 use Rattle.std.proofs.lemmas.List.Sums.{prefix_len-le-length}
 use Rattle.t1_text.specs.Lines.{lines}
@@ -32,14 +32,14 @@ Opens text first ls = (lines text ≡ first ∷ ls) ⊎ ((text ≡ []) × (first
 opens : (k : ℕ) (bytes : List ℕ) → k ≤ line_len bytes → Opens (drop k bytes) (drop k (take (line_len bytes) bytes)) (lines (after_line bytes))
 opens k bytes h = by (drop k bytes) refl
   where
-  by : (t : List ℕ) → drop k bytes ≡ t → Opens (drop k bytes) (drop k (take (line_len bytes) bytes)) (lines (after_line bytes))
-  by [] e =
-      let on = on_line k bytes h in
-      inr (e, sym on.0 ∙ ap (λ x. take (line_len x) x) e, ap lines (sym on.1 ∙ ap after_line e))
-  by (c ∷ t) e =
-      let on = on_line k bytes h in
-      let some : 0 < length (drop k bytes) = subst (λ x. 0 < length x) (sym e) (omega arith) in
-      inl (first_line_lem (drop k bytes) some ∙ ap (λ x. x ∷ lines (after_line (drop k bytes))) on.0 ∙ ap (λ x. drop k (take (line_len bytes) bytes) ∷ lines x) on.1)
+    by : (t : List ℕ) → drop k bytes ≡ t → Opens (drop k bytes) (drop k (take (line_len bytes) bytes)) (lines (after_line bytes))
+    by [] e =
+        let on = on_line k bytes h in
+        inr (e, sym on.0 ∙ ap (λ x. take (line_len x) x) e, ap lines (sym on.1 ∙ ap after_line e))
+    by (c ∷ t) e =
+        let on = on_line k bytes h in
+        let some : 0 < length (drop k bytes) = subst (λ x. 0 < length x) (sym e) (omega arith) in
+        inl (first_line_lem (drop k bytes) some ∙ ap (λ x. x ∷ lines (after_line (drop k bytes))) on.0 ∙ ap (λ x. drop k (take (line_len bytes) bytes) ∷ lines x) on.1)
 
 -- the body of such a text
 body_of_opened : (text first : List ℕ) (ls : List (List ℕ)) → Opens text first ls → body_of (lines text) ≡ body_of (first ∷ ls)
@@ -53,8 +53,8 @@ after_opened text first line ls bytes after m (inl e) all h =
     let same = ap length all in
     (omega (arith, h.0, size, same), h.1 ∙ ap (drop (m + 1)) e ∙ behind ∙ sym (ap (drop (m + 1)) all))
   where
-  behind : drop (m + 1) (first ∷ ls) ≡ drop (m + 1) (line ∷ ls)
-  behind = let n : m + 1 ≡ suc m = omega arith in ap (λ k. drop k (first ∷ ls)) n ∙ sym (ap (λ k. drop k (line ∷ ls)) n)
+    behind : drop (m + 1) (first ∷ ls) ≡ drop (m + 1) (line ∷ ls)
+    behind = let n : m + 1 ≡ suc m = omega arith in ap (λ k. drop k (first ∷ ls)) n ∙ sym (ap (λ k. drop k (line ∷ ls)) n)
 after_opened text first line ls bytes after m (inr e) all h =
     let none = ap (λ t. length (lines t)) e.0 in
     absurd (omega (arith, h.0, none))
@@ -64,44 +64,37 @@ the_first : (bytes line : List ℕ) (ls : List (List ℕ)) → lines bytes ≡ l
 the_first [] line ls h = absurd (cc)
 the_first (c ∷ bytes) line ls h = parts (sym h ∙ first_line_lem (c ∷ bytes) (omega arith))
   where
-  parts : {x y : List ℕ} {xs ys : List (List ℕ)} → x ∷ xs ≡ y ∷ ys → (x ≡ y) × (xs ≡ ys)
-  parts e = (cc, cc)
+    parts : {x y : List ℕ} {xs ys : List (List ℕ)} → x ∷ xs ≡ y ∷ ys → (x ≡ y) × (xs ≡ ys)
+    parts e = (cc, cc)
 
 abbrev opens_body : ℕ → Bool
 opens_body c = c == 123
 
--- a line after its first brace
-past_brace : (line : List ℕ) (at : ℕ) → at ≡ (if nat_lt (position_or_len opens_body line) (length line) then position_or_len opens_body line + 1 else position_or_len opens_body line)
-    → (at ≤ length line) × (drop at line ≡ after_first opens_body line)
-past_brace line at e = by (nat_lt (position_or_len opens_body line) (length line)) refl e
-  where
-  by : (b : Bool) → nat_lt (position_or_len opens_body line) (length line) ≡ b → at ≡ (if b then position_or_len opens_body line + 1 else position_or_len opens_body line)
-      → (at ≤ length line) × (drop at line ≡ after_first opens_body line)
-  by true h a = (omega (arith, ltb-true _ _ h, a), ap (λ k. drop k line) a)
-  by false h a =
-      let far = ltb-false _ _ h in
-      (omega (arith, prefix_len-le-length (λ c. not (opens_body c)) line, a),
-      ap (λ k. drop k line) a ∙ drop_all (position_or_len opens_body line) line far ∙ sym (drop_all (position_or_len opens_body line + 1) line (omega (arith, far))))
+-- a line after its first brace, and after its end where it has none
+pub past_brace : (line : List ℕ) (start : ℕ) → start ≡ position_or_len opens_body line → drop (start + 1) line ≡ after_first opens_body line
+past_brace line start e = ap (λ k. drop (k + 1) line) e
+
+pub past_line : (line : List ℕ) (start : ℕ) → start ≡ position_or_len opens_body line → length line ≤ start → drop start line ≡ after_first opens_body line
+past_line line start e far =
+    drop_all start line far ∙ sym (drop_all (position_or_len opens_body line + 1) line (omega (arith, far, e)))
 
 pub opened : (bytes line text : List ℕ) (ls : List (List ℕ)) (at : ℕ) → lines bytes ≡ line ∷ ls
-    → at ≡ (if nat_lt (position_or_len opens_body line) (length line) then position_or_len opens_body line + 1 else position_or_len opens_body line) → text ≡ drop at bytes
+    → at ≤ length line → drop at line ≡ after_first opens_body line → text ≡ drop at bytes
     → body_of (lines text) ≡ opened_body line ls
-opened bytes line text ls at h a t =
+opened bytes line text ls at h within past t =
     let first = the_first bytes line ls h in
-    let brace = past_brace line at a in
     let size = ap length first.0 ∙ length-take-le (line_len bytes) bytes (prefix_len-le-length stays bytes) in
-    ap (λ x. body_of (lines x)) t ∙ body_of_opened _ _ _ (opens at bytes (omega (arith, brace.0, size)))
-    ∙ ap (λ x. body_of (drop at x ∷ lines (after_line bytes))) (sym first.0) ∙ ap (λ x. body_of (x ∷ lines (after_line bytes))) brace.1
+    ap (λ x. body_of (lines x)) t ∙ body_of_opened _ _ _ (opens at bytes (omega (arith, within, size)))
+    ∙ ap (λ x. body_of (drop at x ∷ lines (after_line bytes))) (sym first.0) ∙ ap (λ x. body_of (x ∷ lines (after_line bytes))) past
     ∙ ap (λ x. body_of (after_first opens_body line ∷ x)) (sym first.1)
 
 pub opened_after : (bytes line text after : List ℕ) (ls : List (List ℕ)) (at m : ℕ) → lines bytes ≡ line ∷ ls
-    → at ≡ (if nat_lt (position_or_len opens_body line) (length line) then position_or_len opens_body line + 1 else position_or_len opens_body line) → text ≡ drop at bytes
+    → at ≤ length line → drop at line ≡ after_first opens_body line → text ≡ drop at bytes
     → IsAfter (m + 1) text after → IsAfter (m + 1) bytes after
-opened_after bytes line text after ls at m h a t k =
+opened_after bytes line text after ls at m h within past t k =
     let first = the_first bytes line ls h in
-    let brace = past_brace line at a in
     let size = ap length first.0 ∙ length-take-le (line_len bytes) bytes (prefix_len-le-length stays bytes) in
-    after_opened (drop at bytes) _ line (lines (after_line bytes)) bytes after m (opens at bytes (omega (arith, brace.0, size))) (h ∙ ap (λ x. line ∷ x) first.1)
+    after_opened (drop at bytes) _ line (lines (after_line bytes)) bytes after m (opens at bytes (omega (arith, within, size))) (h ∙ ap (λ x. line ∷ x) first.1)
     (subst (λ x. IsAfter (m + 1) x after) t k)
 
 -- what is found has what follows from it

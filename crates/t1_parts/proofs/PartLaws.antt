@@ -107,8 +107,8 @@ pub cut_further : (bytes rest line after : List ℕ) → length rest ≤ length 
 cut_further bytes rest line after within fewer cut h =
     let step : length rest - length after ≡ length rest - length after + 0 = omega arith in
     let further : (j : ℕ) → lines (take (length bytes - length after + j) bytes) ≡ lines (gone bytes rest) ++ (line ∷ lines (take j after)) =
-        λ j. (let size : length bytes - length after + j ≡ length bytes - length rest + (length rest - length after + j) = omega (arith, within, fewer) in
-        ap (λ k. lines (take k bytes)) size ∙ h (length rest - length after + j) ∙ ap (λ ls. lines (gone bytes rest) ++ ls) (cut j)) in
+    λ j. (let size : length bytes - length after + j ≡ length bytes - length rest + (length rest - length after + j) = omega (arith, within, fewer) in
+    ap (λ k. lines (take k bytes)) size ∙ h (length rest - length after + j) ∙ ap (λ ls. lines (gone bytes rest) ++ ls) (cut j)) in
     let none : length bytes - length after ≡ length bytes - length after + 0 = omega arith in
     let now : lines (gone bytes after) ≡ lines (gone bytes rest) ++ line ∷ [] = ap (λ k. lines (take k bytes)) none ∙ further 0 in
     (now, λ j. further j ∙ sym (ap (λ ls. ls ++ lines (take j after)) now ∙ append_assoc (lines (gone bytes rest)) (line ∷ []) (lines (take j after))))

@@ -52,9 +52,9 @@ safe_lines (w ∷ ws) ls h =
 safe_byte : (c : ℕ) → is_safe c ≡ true → (is_brace c ≡ false) × ((c == 37) ≡ false)
 safe_byte c h = parts (is_brace c) (c == 37) (not-true _ h)
   where
-  parts : (x y : Bool) → (x || y) ≡ false → (x ≡ false) × (y ≡ false)
-  parts true y k = cc
-  parts false y k = (refl, k)
+    parts : (x y : Bool) → (x || y) ≡ false → (x ≡ false) × (y ≡ false)
+    parts true y k = cc
+    parts false y k = (refl, k)
 
 comment_after : (l rest : List ℕ) → are_safe l ≡ true → uncommented (l ++ 37 ∷ rest) ≡ l
 comment_after [] rest h = refl
@@ -86,9 +86,9 @@ after_brace l b rest h k =
 closing_brace : (l : List ℕ) (b : ℕ) (rest : List ℕ) → are_safe l ≡ true → is_brace b ≡ true → closes (l ++ b ∷ rest) ≡ (b == 125)
 closing_brace l b rest h k = ap (λ n. slice_index (l ++ b ∷ rest) n == 125) (place_of_brace l b rest h k) ∙ ap (λ c. c == 125) (there l)
   where
-  there : (l : List ℕ) → slice_index (l ++ b ∷ rest) (length l) ≡ b
-  there [] = refl
-  there (c ∷ l) = there l
+    there : (l : List ℕ) → slice_index (l ++ b ∷ rest) (length l) ≡ b
+    there [] = refl
+    there (c ∷ l) = there l
 
 -- ---- safe bytes and the byte after them
 
@@ -119,9 +119,10 @@ after_lines front d rest h k =
     let count = whole_count [] front in
     let size : length (whole [] front) + 1 ≡ line_ends front + 1 = omega (arith, count) in
     let within = longer (whole [] front) line (lines (after_line rest)) in
-    let same = ap length all in
-    (omega (arith, within, same, count),
-    sym (ap (λ n. drop n (lines (front ++ d ∷ rest))) (sym size) ∙ ap (drop (length (whole [] front) + 1)) all ∙ cut_dropped (whole [] front) line (lines (after_line rest))))
+    let same = ap length all in (
+      omega (arith, within, same, count),
+      sym (ap (λ n. drop n (lines (front ++ d ∷ rest))) (sym size) ∙ ap (drop (length (whole [] front) + 1)) all ∙ cut_dropped (whole [] front) line (lines (after_line rest))),
+    )
 
 -- the body of lines that stand over safe bytes and others
 over : (front : List ℕ) (ls : List (List ℕ)) → are_safe front ≡ true → body_of (whole [] front ++ ls) ≡ with_front (flat_map words (whole [] front)) (line_ends front) (body_of ls)
@@ -138,7 +139,7 @@ commented_body front rest h =
     let text = comment_after (left [] front) (take (line_len rest) rest) safe in
     let off : has_brace line ≡ false = ap (list_any is_brace) text ∙ no_brace (left [] front) safe in
     let last : body_of (line ∷ lines (after_line rest)) ≡ with_front (words (left [] front)) 1 (body_of (lines (after_line rest))) =
-        rw off (ap (λ t. with_front (words t) 1 (body_of (lines (after_line rest)))) text) in
+    rw off (ap (λ t. with_front (words t) 1 (body_of (lines (after_line rest)))) text) in
     ap body_of (lines_of front 37 rest refl refl) ∙ over front (line ∷ lines (after_line rest)) h
     ∙ ap (with_front (flat_map words (whole [] front)) (line_ends front)) last
     ∙ front_again (flat_map words (whole [] front)) (words (left [] front)) (line_ends front) 1 (body_of (lines (after_line rest)))
@@ -154,7 +155,7 @@ closed_body front rest h =
     let closing = closing_brace (left [] front) 125 back safe refl in
     let b : EntryBody = record { words = words (left [] front); closing = trimmed back; more = 0 } in
     let last : body_of (line ∷ lines (after_line rest)) ≡ Some b =
-        rw (on, closing) (ap_both (λ w t. Some (record { words = words w; closing = trimmed t; more = 0 })) _ _ _ _ (before_brace (left [] front) 125 back safe refl) (after_brace (left [] front) 125 back safe refl)) in
+    rw (on, closing) (ap_both (λ w t. Some (record { words = words w; closing = trimmed t; more = 0 })) _ _ _ _ (before_brace (left [] front) 125 back safe refl) (after_brace (left [] front) 125 back safe refl)) in
     ap body_of (lines_of front 125 rest refl refl) ∙ over front (line ∷ lines (after_line rest)) h
     ∙ ap (with_front (flat_map words (whole [] front)) (line_ends front)) last
     ∙ ap_both (λ ws n. Some (record { words = ws; closing = trimmed back; more = n })) _ _ _ _ (whole_words [] front) (omega arith)
@@ -198,10 +199,11 @@ pub commented_piece : (bytes front back rest after : List ℕ) (d : ℕ) → fro
     → (body_of (lines bytes) ≡ with_front (words front) (line_ends front + 1) (body_of (lines after))) × IsAfter (line_ends front + 1) bytes after × (length front + 1 + length after ≤ length bytes)
 commented_piece bytes front back rest after d f b is_back is a =
     let parts = bytes_of bytes front back f b in
-    let all : bytes ≡ front ++ 37 ∷ rest = parts.0 ∙ ap (λ x. front ++ x) (is_back ∙ ap (λ x. x ∷ rest) is) in
-    (ap (λ t. body_of (lines t)) all ∙ commented_body front rest parts.1 ∙ ap (λ t. with_front (words front) (line_ends front + 1) (body_of (lines t))) (sym a),
-    subst (λ t. IsAfter (line_ends front + 1) t after) (sym all) (subst (λ t. IsAfter (line_ends front + 1) (front ++ 37 ∷ rest) t) (sym a) (after_lines front 37 rest refl refl)),
-    subst (λ t. length front + 1 + length t ≤ length bytes) (sym a) (size_of bytes front 37 rest all))
+    let all : bytes ≡ front ++ 37 ∷ rest = parts.0 ∙ ap (λ x. front ++ x) (is_back ∙ ap (λ x. x ∷ rest) is) in (
+      ap (λ t. body_of (lines t)) all ∙ commented_body front rest parts.1 ∙ ap (λ t. with_front (words front) (line_ends front + 1) (body_of (lines t))) (sym a),
+      subst (λ t. IsAfter (line_ends front + 1) t after) (sym all) (subst (λ t. IsAfter (line_ends front + 1) (front ++ 37 ∷ rest) t) (sym a) (after_lines front 37 rest refl refl)),
+      subst (λ t. length front + 1 + length t ≤ length bytes) (sym a) (size_of bytes front 37 rest all),
+    )
 
 pub closed_piece : (bytes front back rest after line closing : List ℕ) (d : ℕ) → front ≡ take (prefix_len is_safe bytes) bytes → back ≡ drop (prefix_len is_safe bytes) bytes → back ≡ d ∷ rest → d ≡ 125
     → after ≡ after_line rest → line ≡ take (line_len rest) rest → closing ≡ trimmed line
@@ -209,10 +211,11 @@ pub closed_piece : (bytes front back rest after line closing : List ℕ) (d : �
 closed_piece bytes front back rest after line closing d f b is_back is a l c =
     let parts = bytes_of bytes front back f b in
     let all : bytes ≡ front ++ 125 ∷ rest = parts.0 ∙ ap (λ x. front ++ x) (is_back ∙ ap (λ x. x ∷ rest) is) in
-    let size = size_of bytes front 125 rest all in
-    (ap (λ t. body_of (lines t)) all ∙ closed_body front rest parts.1 ∙ ap (λ t. Some (record { words = words front; closing = t; more = line_ends front })) (sym (c ∙ ap trimmed l)),
-    subst (λ t. IsAfter (line_ends front + 1) t after) (sym all) (subst (λ t. IsAfter (line_ends front + 1) (front ++ 125 ∷ rest) t) (sym a) (after_lines front 125 rest refl refl)),
-    omega (arith, size))
+    let size = size_of bytes front 125 rest all in (
+      ap (λ t. body_of (lines t)) all ∙ closed_body front rest parts.1 ∙ ap (λ t. Some (record { words = words front; closing = t; more = line_ends front })) (sym (c ∙ ap trimmed l)),
+      subst (λ t. IsAfter (line_ends front + 1) t after) (sym all) (subst (λ t. IsAfter (line_ends front + 1) (front ++ 125 ∷ rest) t) (sym a) (after_lines front 125 rest refl refl)),
+      omega (arith, size),
+    )
 
 pub opened_piece : (bytes front back rest : List ℕ) (d : ℕ) → front ≡ take (prefix_len is_safe bytes) bytes → back ≡ drop (prefix_len is_safe bytes) bytes → back ≡ d ∷ rest
     → ¬ (d ≡ 37) → ¬ (d ≡ 125) → body_of (lines bytes) ≡ None
@@ -222,11 +225,11 @@ opened_piece bytes front back rest d f b is_back other closed =
     let is : d ≡ 123 = third d unsafe other closed in
     ap (λ t. body_of (lines t)) (parts.0 ∙ ap (λ x. front ++ x) (is_back ∙ ap (λ x. x ∷ rest) is)) ∙ opened_body front rest parts.1
   where
-  third : (d : ℕ) → is_safe d ≡ false → ¬ (d ≡ 37) → ¬ (d ≡ 125) → d ≡ 123
-  third d h k m = elim (cases_Bool (d == 123)) [
-    | inl e ↦ eqb-true d 123 e
-    | inr e ↦ (let safe : is_safe d ≡ true = rw (e, ne_eqb d 125 m, ne_eqb d 37 k) refl in absurd (cc))
-  ]
+    third : (d : ℕ) → is_safe d ≡ false → ¬ (d ≡ 37) → ¬ (d ≡ 125) → d ≡ 123
+    third d h k m = elim (cases_Bool (d == 123)) [
+      | inl e ↦ eqb-true d 123 e
+      | inr e ↦ (let safe : is_safe d ≡ true = rw (e, ne_eqb d 125 m, ne_eqb d 37 k) refl in absurd (cc))
+    ]
 
 nothing : (l : List ℕ) → length l ≡ 0 → l ≡ []
 nothing [] h = refl
@@ -261,9 +264,10 @@ abbrev pub IsRead : List (List ℕ) → ℕ → List ℕ → Piece → Type 0
 IsRead ws m bytes p = (with_front ws m (body_in p) ≡ body_of (lines bytes)) × IsPlaced m bytes p
 
 pub first_piece : (bytes : List ℕ) (p : Piece) → IsPiece bytes p → IsRead [] 0 bytes p
-first_piece bytes (Commented front after) h =
-    (no_front (body_in (Commented front after)) ∙ sym h.0,
-    (subst (λ n. IsAfter n bytes after.now) (omega arith) h.1, omega (arith, h.2)))
+first_piece bytes (Commented front after) h = (
+  no_front (body_in (Commented front after)) ∙ sym h.0,
+  (subst (λ n. IsAfter n bytes after.now) (omega arith) h.1, omega (arith, h.2)),
+)
 first_piece bytes (Closed front closing after) h =
     (no_front (body_in (Closed front closing after)) ∙ sym h.0, (subst (λ n. IsAfter n bytes after.now) (omega arith) h.1, omega (arith, h.2)))
 first_piece bytes Open h = (sym h, tt)
@@ -288,7 +292,8 @@ pub next_piece : (ws : List (List ℕ)) (m : ℕ) (bytes front after : List ℕ)
     → with_front ws m (with_front (words front) (line_ends front + 1) (body_of (lines after))) ≡ body_of (lines bytes)
     → IsAfter (m + (line_ends front + 1)) bytes after → m + (line_ends front + 1) + length after ≤ length bytes → IsPiece after p
     → IsRead (ws ++ words front) (m + (line_ends front + 1)) bytes p
-next_piece ws m bytes front after p e h size k =
-    (ap (with_front (ws ++ words front) (m + (line_ends front + 1))) (same_body after p k)
-    ∙ sym (front_again ws (words front) m (line_ends front + 1) (body_of (lines after))) ∙ e,
-    next_placed (m + (line_ends front + 1)) bytes after p h size k)
+next_piece ws m bytes front after p e h size k = (
+  ap (with_front (ws ++ words front) (m + (line_ends front + 1))) (same_body after p k)
+      ∙ sym (front_again ws (words front) m (line_ends front + 1) (body_of (lines after))) ∙ e,
+  next_placed (m + (line_ends front + 1)) bytes after p h size k,
+)

@@ -1,7 +1,7 @@
 //! The bodies of entries: words, comments, closing text.
 
-ghost use Rattle.std.specs.Prelude.{◌≡◌, ◌≤◌, ◌+◌, ◌==◌, ◌∷◌, ℕ, List, length, nat_lt, if◌then◌else◌, IfOk, IfSome, option_map};
-ghost use Rattle.std.specs.List.{list_any, position_or_len};
+ghost use Rattle.std.specs.Prelude.{◌≡◌, ◌≤◌, ◌+◌, ◌==◌, ◌∷◌, ℕ, List, length, drop, IfOk, IfSome, option_map};
+ghost use Rattle.std.specs.List.{after_first, list_any, position_or_len};
 ghost use Rattle.t1_frac.specs.Ascii.{open_brace, percent};
 ghost use Rattle.t1_text.specs.Lines.{lines};
 ghost use Rattle.t1_text.specs.Tokens.{uncommented};
@@ -93,10 +93,11 @@ fn opening_start(line: &[u8]) -> usize
     line.iter().take_while(|byte| **byte != b'{').count()
 }
 
-/// How many bytes of a line stand through its first `{`, or its length.
+/// Where the part of a line begins that stands after its first `{`.
+#[tactic(auto, using(crate::proofs::OpeningLaws::past_brace, crate::proofs::OpeningLaws::past_line))]
 fn opening_end(line: &[u8]) -> usize
-    ensures value { result ≡ (if nat_lt (position_or_len (λ c. c == open_brace) line.now) (length line.now) then position_or_len (λ c. c == open_brace) line.now + 1 else position_or_len (λ c. c == open_brace) line.now) }
     ensures within { result ≤ length line.now }
+    ensures value { drop result line.now ≡ after_first (λ c. c == open_brace) line.now }
 {
     let start = opening_start(line);
     if start < line.len() { start + 1 } else { start }

@@ -27,6 +27,7 @@ pub loop-rest-preserved : goal.loop-rest-preserved
 loop-rest-preserved c =
     let after = c.in_ok-taken.ensures.after in
     let read = item_read c.loop-rest.items c.loop-rest.first c.loop-rest.rest.now c.in_ok-taken.taken.after.now (c.in_ok-taken.taken.item, c.in_ok-taken.taken.more) (some_of (length c.loop-rest.rest.now) (sym c.is_empty.ensures ∙ c.loop-rest-test.true)) c.in_ok-taken.ensures.value after in
-    let size = ap length after.1 ∙ length-drop (c.in_ok-taken.taken.more + 1) (lines c.loop-rest.rest.now) in
-    (ap (λ l. items_of l 0 (c.loop-rest.first + (c.in_ok-taken.taken.more + 1)) (lines c.in_ok-taken.taken.after.now)) c.in_ok-items.ensures ∙ sym read ∙ c.loop-rest.invariant.0,
-    omega (arith, size, after.0, c.loop-rest.invariant.1))
+    let size = ap length after.1 ∙ length-drop (c.in_ok-taken.taken.more + 1) (lines c.loop-rest.rest.now) in (
+      ap (λ l. items_of l 0 (c.loop-rest.first + (c.in_ok-taken.taken.more + 1)) (lines c.in_ok-taken.taken.after.now)) c.in_ok-items.ensures ∙ sym read ∙ c.loop-rest.invariant.0,
+      omega (arith, size, after.0, c.loop-rest.invariant.1),
+    )
