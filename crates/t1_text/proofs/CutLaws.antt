@@ -75,9 +75,9 @@ cut_alone c j h =
     let size : 1 + 0 + j ≡ suc j = omega arith in
     rw (longer_len c [] h) (ap (λ k. lines (take k (c ∷ []))) size ∙ longer c (take j []) off.1 off.0 ∙ nothing j)
   where
-  nothing : (j : ℕ) → onto_first c (lines (take j [])) ≡ (c ∷ []) ∷ lines (take j [])
-  nothing zero = refl
-  nothing (suc j) = refl
+    nothing : (j : ℕ) → onto_first c (lines (take j [])) ≡ (c ∷ []) ∷ lines (take j [])
+    nothing zero = refl
+    nothing (suc j) = refl
 
 pub cut_behind : (bytes : List ℕ) (j : ℕ) → 0 < length bytes → Cut bytes j
 cut_behind [] j h = absurd (omega arith)
@@ -192,11 +192,11 @@ after_within bytes =
 pub lines_within : (bytes : List ℕ) → length (lines bytes) ≤ length bytes
 lines_within bytes = within (length bytes) bytes (omega arith)
   where
-  within : (n : ℕ) (bytes : List ℕ) → length bytes ≤ n → length (lines bytes) ≤ length bytes
-  within n [] h = omega arith
-  within zero (c ∷ rest) h = absurd (omega (arith, h))
-  within (suc n) (c ∷ rest) h =
-      let first = ap length (first_line_lem (c ∷ rest) (omega arith)) in
-      let gone = line_gone (c ∷ rest) (omega arith) in
-      let more = within n (after_line (c ∷ rest)) (omega (arith, h, gone)) in
-      omega (arith, first, gone, more)
+    within : (n : ℕ) (bytes : List ℕ) → length bytes ≤ n → length (lines bytes) ≤ length bytes
+    within n [] h = omega arith
+    within zero (c ∷ rest) h = absurd (omega (arith, h))
+    within (suc n) (c ∷ rest) h =
+        let first = ap length (first_line_lem (c ∷ rest) (omega arith)) in
+        let gone = line_gone (c ∷ rest) (omega arith) in
+        let more = within n (after_line (c ∷ rest)) (omega (arith, h, gone)) in
+        omega (arith, first, gone, more)

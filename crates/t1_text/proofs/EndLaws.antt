@@ -18,15 +18,16 @@ ends c rest h = elim (cases_Bool (c == 13)) [
   | inr other ↦ rw (other, is_lf (c == 10) (c == 13) (not-false _ h) other, one-add) refl
 ]
   where
-  is_lf : (x y : Bool) → (x || y) ≡ true → y ≡ false → x ≡ true
-  is_lf true y g off = refl
-  is_lf false y g off = sym off ∙ g
-  both : (rest : List ℕ) → begins_with 10 rest ≡ true → (c == 13) ≡ true → line_ends (c ∷ rest) ≡ 1 + line_ends (after_end (c ∷ rest))
-  both [] lf cr = absurd (cc)
-  both (d ∷ rest) lf cr =
-      let is_lf : d ≡ 10 = sym (eqb-true 10 d lf) in
-      let other : (d == 13) ≡ false = rw is_lf refl in
-      rw (cr, lf, other, eq-eqb d 10 is_lf, one-add) refl
+    is_lf : (x y : Bool) → (x || y) ≡ true → y ≡ false → x ≡ true
+    is_lf true y g off = refl
+    is_lf false y g off = sym off ∙ g
+
+    both : (rest : List ℕ) → begins_with 10 rest ≡ true → (c == 13) ≡ true → line_ends (c ∷ rest) ≡ 1 + line_ends (after_end (c ∷ rest))
+    both [] lf cr = absurd (cc)
+    both (d ∷ rest) lf cr =
+        let is_lf : d ≡ 10 = sym (eqb-true 10 d lf) in
+        let other : (d == 13) ≡ false = rw is_lf refl in
+        rw (cr, lf, other, eq-eqb d 10 is_lf, one-add) refl
 
 pub after_stays : (c : ℕ) (rest : List ℕ) → stays c ≡ true → after_line (c ∷ rest) ≡ after_line rest
 after_stays c rest h = rw (h, one-add) refl

@@ -72,9 +72,9 @@ lines_over line (c ∷ rest) back h k = elim (cases_Bool (c == 13)) [
   ]
 ]
   where
-  still : (rest : List ℕ) → begins_with 10 rest ≡ true → begins_with 10 (rest ++ back) ≡ true
-  still [] lf = absurd (cc)
-  still (d ∷ rest) lf = lf
+    still : (rest : List ℕ) → begins_with 10 rest ≡ true → begins_with 10 (rest ++ back) ≡ true
+    still [] lf = absurd (cc)
+    still (d ∷ rest) lf = lf
 
 -- there are as many as line ends
 pub whole_count : (line rest : List ℕ) → length (whole line rest) ≡ line_ends rest
@@ -108,11 +108,11 @@ whole_words line (c ∷ rest) = elim (cases_Bool (c == 13)) [
   ]
 ]
   where
-  crlf : (line rest : List ℕ) → begins_with 10 rest ≡ true → words (line ++ rest) ≡ words (line ++ 13 ∷ rest)
-  crlf line [] lf = absurd (cc)
-  crlf line (d ∷ rest) lf =
-      let is_lf : d ≡ 10 = sym (eqb-true 10 d lf) in
-      rw is_lf (words_apart line 10 rest refl ∙ sym (words_apart line 13 (10 ∷ rest) refl))
+    crlf : (line rest : List ℕ) → begins_with 10 rest ≡ true → words (line ++ rest) ≡ words (line ++ 13 ∷ rest)
+    crlf line [] lf = absurd (cc)
+    crlf line (d ∷ rest) lf =
+        let is_lf : d ≡ 10 = sym (eqb-true 10 d lf) in
+        rw is_lf (words_apart line 10 rest refl ∙ sym (words_apart line 13 (10 ∷ rest) refl))
 
 further : (test : ℕ → Bool) (line : List ℕ) (c : ℕ) → list_all test line ≡ true → test c ≡ true → list_all test (line ++ c ∷ []) ≡ true
 further test line c h k = list_all-append test line (c ∷ []) ∙ and_from (list_all test line) (list_all test (c ∷ [])) h (and_from (test c) true k refl)

@@ -14,5 +14,5 @@ loop-at-preserved c =
 
 pub returns-clause-value : goal.returns-clause-value
 returns-clause-value c =
-    let all = no_end c.loop-at.rest.now (omega (arith, c.loop-at.invariant.2  , c.loop-at-test.false)) in
+    let all = no_end c.loop-at.rest.now (omega (arith, c.loop-at.invariant.2, c.loop-at-test.false)) in
     omega (arith, all, c.loop-at.invariant.0)
