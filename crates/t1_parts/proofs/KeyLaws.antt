@@ -1,5 +1,6 @@
 -- Sets of keys beside a list of items that grows.
-use Rattle.std.proofs.Common.{◌≡◌, ℕ, Bool, true, false, ◌||◌, ◌==◌, List, [], ◌∷◌, ◌++◌, refl, sym, ◌∙◌, ap, arith, inl, inr}
+use Rattle.std.proofs.Common.{◌≡◌, ℕ, Bool, true, false, ◌||◌, ◌==◌, Some, None, List, [], ◌∷◌, ◌++◌, refl, sym, ◌∙◌, ap, arith, inl, inr}
+use Rattle.std.specs.Borrow.{Bor}
 use Rattle.std.specs.List.{list_any}
 use Rattle.std.specs.Ordering.{nat_cmp, is_eq, match_ordering}
 use Rattle.std.specs.BTreeSet.{insert_key}
@@ -7,14 +8,13 @@ use Rattle.std.specs.Cmp.{nat_cmp_total, alike_right}
 use Rattle.std.specs.Str.{bytes_eq}
 use Rattle.std.specs.declared.cmp.Ordering.{Ordering}
 use Rattle.std.specs.declared.cmp.Ordering.TheVariants.{Less, Equal, Greater}
-use Rattle.std.specs.declared.vec.Vec.{Vec}
 use Rattle.std.proofs.lemmas.Bool.{cases_Bool}
 use Rattle.std.proofs.lemmas.List.Folds.{list_any-append}
 use Rattle.std.proofs.lemmas.Slice.Eq.{bytes_eq-Decides}
 use Rattle.indexmap.specs.IndexSet.{insert_key as put_in}
 use Rattle.t1_parts.specs.declared.item.Item.{Item}
-use Rattle.t1_parts.specs.declared.item.Item.TheVariants.{Subr, Glyph}
-use Rattle.t1_parts.specs.Entries.{NumberedItem, has, is_subr, is_glyph}
+use Rattle.t1_parts.specs.declared.item.Item.TheVariants.{Plain, Section, Subr, Glyph}
+use Rattle.t1_parts.specs.Entries.{NumberedItem, glyph_name, has, is_subr, is_glyph}
 use Rattle.t1_parts.specs.Gathered.{HasNumbers, HasNames}
 
 or_false : (b : Bool) → (b || false) ≡ b
@@ -68,31 +68,44 @@ more_numbers ks new items n k ws closing item is keys h m =
     ∙ sym (has_more (is_subr m) items n item)
 
 -- a name that is put in is among the names
-name-inserted : {A : Type 0} (g : List ℕ) (k : Vec ℕ A) (ks : List (Vec ℕ A))
-    → list_any (λ x. bytes_eq g x.items) (put_in (λ x y. bytes_eq x.items y.items) ks k) ≡ (list_any (λ x. bytes_eq g x.items) ks || bytes_eq g k.items)
+name-inserted : (g : List ℕ) (k : Bor (List ℕ)) (ks : List (Bor (List ℕ)))
+    → list_any (λ x. bytes_eq g x.now) (put_in (λ x y. bytes_eq x.now y.now) ks k) ≡ (list_any (λ x. bytes_eq g x.now) ks || bytes_eq g k.now)
 name-inserted g k ks =
-    elim (cases_Bool (list_any (λ x. bytes_eq k.items x.items) ks)) [
+    elim (cases_Bool (list_any (λ x. bytes_eq k.now x.now) ks)) [
       | inl there ↦
           rw there
-          (elim (cases_Bool (bytes_eq g k.items)) [
-            | inl same ↦ rw (same, (bytes_eq-Decides g k.items).0 same, there) refl
-            | inr other ↦ rw other (sym (or_false (list_any (λ x. bytes_eq g x.items) ks)))
+          (elim (cases_Bool (bytes_eq g k.now)) [
+            | inl same ↦ rw (same, (bytes_eq-Decides g k.now).0 same, there) refl
+            | inr other ↦ rw other (sym (or_false (list_any (λ x. bytes_eq g x.now) ks)))
           ])
       | inr absent ↦
           rw absent (
-          list_any-append (λ x. bytes_eq g x.items) ks (k ∷ [])
-          ∙ ap (λ b. list_any (λ x. bytes_eq g x.items) ks || b) (or_false (bytes_eq g k.items)))
+          list_any-append (λ x. bytes_eq g x.now) ks (k ∷ [])
+          ∙ ap (λ b. list_any (λ x. bytes_eq g x.now) ks || b) (or_false (bytes_eq g k.now)))
     ]
 
+-- an item that has a name is the glyph of this name
+named_glyph : (item : Item) (g h : List ℕ) → glyph_name item ≡ Some h → is_glyph g item ≡ bytes_eq g h
+named_glyph (Glyph k ws closing) g h e = let same : k ≡ h = cc in ap (bytes_eq g) same
+named_glyph (Subr k ws closing) g h e = absurd (cc)
+named_glyph (Plain l) g h e = absurd (cc)
+named_glyph (Section before count after) g h e = absurd (cc)
+
+pub unnamed_item : (item : Item) (g : List ℕ) → glyph_name item ≡ None → is_glyph g item ≡ false
+unnamed_item (Glyph k ws closing) g e = absurd (cc)
+unnamed_item (Subr k ws closing) g e = refl
+unnamed_item (Plain l) g e = refl
+unnamed_item (Section before count after) g e = refl
+
 -- the names, with that of a further glyph
-pub more_names : {A : Type 0} (ks new : List (Vec ℕ A)) (items : List NumberedItem) (n : ℕ) (k : Vec ℕ A) (g : List ℕ) (ws : List (List ℕ)) (closing : List ℕ) (item : Item)
-    → k.items ≡ g → item ≡ Glyph g ws closing → new ≡ put_in (λ x y. bytes_eq x.items y.items) ks k
+pub more_names : (ks new : List (Bor (List ℕ))) (items : List NumberedItem) (n : ℕ) (k : Bor (List ℕ)) (item : Item)
+    → glyph_name item ≡ Some k.now → new ≡ put_in (λ x y. bytes_eq x.now y.now) ks k
     → HasNames ks items → HasNames new (items ++ (n, item) ∷ [])
-more_names ks new items n k g ws closing item named is keys h m =
-    ap (list_any (λ x. bytes_eq m x.items)) keys
+more_names ks new items n k item named keys h m =
+    ap (list_any (λ x. bytes_eq m x.now)) keys
     ∙ name-inserted m k ks
-    ∙ ap (λ b. b || bytes_eq m k.items) (h m)
-    ∙ ap (λ b. has (is_glyph m) items || b) (ap (bytes_eq m) named ∙ sym (ap (is_glyph m) is))
+    ∙ ap (λ b. b || bytes_eq m k.now) (h m)
+    ∙ ap (λ b. has (is_glyph m) items || b) (sym (named_glyph item m k.now named))
     ∙ sym (has_more (is_glyph m) items n item)
 
 -- an item that is of no kind
@@ -108,6 +121,6 @@ pub same_numbers : (ks new : List ℕ) (items : List NumberedItem) (n : ℕ) (it
 same_numbers ks new items n item none keys h m =
     ap (list_any (λ x. is_eq (nat_cmp m x))) keys ∙ h m ∙ same_has (is_subr m) items n item (none m)
 
-pub same_names : {A : Type 0} (ks new : List (Vec ℕ A)) (items : List NumberedItem) (n : ℕ) (item : Item) → ((g : List ℕ) → is_glyph g item ≡ false) → new ≡ ks → HasNames ks items → HasNames new (items ++ (n, item) ∷ [])
+pub same_names : (ks new : List (Bor (List ℕ))) (items : List NumberedItem) (n : ℕ) (item : Item) → ((g : List ℕ) → is_glyph g item ≡ false) → new ≡ ks → HasNames ks items → HasNames new (items ++ (n, item) ∷ [])
 same_names ks new items n item none keys h g =
-    ap (list_any (λ x. bytes_eq g x.items)) keys ∙ h g ∙ same_has (is_glyph g) items n item (none g)
+    ap (list_any (λ x. bytes_eq g x.now)) keys ∙ h g ∙ same_has (is_glyph g) items n item (none g)

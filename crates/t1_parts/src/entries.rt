@@ -6,7 +6,7 @@ ghost use Rattle.t1_frac.specs.declared.fault.Place.TheVariants as places;
 ghost use Rattle.t1_frac.specs.Outcome.{Gives, told_at};
 ghost use Rattle.t1_text.specs.Lines.{begins_with, lines};
 ghost use Rattle.t1_text.specs.Tokens.{tokens};
-ghost use Rattle.t1_parts.specs.Entries.{opens_subr, opens_glyph, opened_body, subr_entry, glyph_entry};
+ghost use Rattle.t1_parts.specs.Entries.{glyph_name, opens_subr, opens_glyph, opened_body, subr_entry, glyph_entry};
 ghost use Rattle.t1_parts.specs.Pieces.{IsAfter};
 
 use crate::body::opened_body;
@@ -51,6 +51,7 @@ pub fn subr_entry<'a>(
         (λ taken. (taken.item, taken.more))
         result
         (told_at (places.Line number) (subr_entry earlier.now token.now (opened_body line.now ls))) }
+    ensures named { IfOk result (λ taken. option_map (λ n. n.now) taken.name ≡ glyph_name taken.item) }
     ensures after { (ls : List (List ℕ)) → lines bytes.now ≡ line.now ∷ ls → IfOk result (λ taken. IsAfter (taken.more + 1) bytes.now taken.after.now) }
 {
     let Some(subr) = decimal_up_to(32000, token) else {
@@ -65,6 +66,7 @@ pub fn subr_entry<'a>(
     };
     Ok(Taken {
         item: Item::Subr(subr, body.words, body.closing),
+        name: None,
         more: body.more,
         after,
     })
@@ -103,7 +105,7 @@ pub fn glyph_entry<'a>(
     alloc: Global,
     earlier: &Gathered,
     number: u64,
-    token: &[u8],
+    token: &'a [u8],
     line: &[u8],
     bytes: &'a [u8],
 ) -> Result<Taken<'a>, Refusal>
@@ -112,6 +114,7 @@ pub fn glyph_entry<'a>(
         (λ taken. (taken.item, taken.more))
         result
         (told_at (places.Line number) (glyph_entry earlier.now token.now (opened_body line.now ls))) }
+    ensures named { IfOk result (λ taken. option_map (λ n. n.now) taken.name ≡ glyph_name taken.item) }
     ensures after { (ls : List (List ℕ)) → lines bytes.now ≡ line.now ∷ ls → IfOk result (λ taken. IsAfter (taken.more + 1) bytes.now taken.after.now) }
 {
     let Some(name) = name_of_token(token) else {
@@ -123,9 +126,10 @@ pub fn glyph_entry<'a>(
     let Some((body, after)) = opened_body(alloc, line, bytes)? else {
         return Err(Refusal::from(fault_on(number, Code::F7)));
     };
-    let name = Bytes::copied(alloc, name)?;
+    let glyph = Bytes::copied(alloc, name)?;
     Ok(Taken {
-        item: Item::Glyph(name, body.words, body.closing),
+        item: Item::Glyph(glyph, body.words, body.closing),
+        name: Some(name),
         more: body.more,
         after,
     })

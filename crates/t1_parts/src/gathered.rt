@@ -1,8 +1,8 @@
 //! The items read so far.
 
-ghost use Rattle.std.specs.Prelude.{◌≡◌, ◌∷◌, [], ◌++◌, IfOk};
+ghost use Rattle.std.specs.Prelude.{◌≡◌, ◌∷◌, [], ◌++◌, IfOk, option_map};
 ghost use Rattle.t1_parts.specs.Sections.{is_subrs_line, is_glyphs_line};
-ghost use Rattle.t1_parts.specs.Entries.{has, is_subr, is_glyph};
+ghost use Rattle.t1_parts.specs.Entries.{glyph_name, has, is_subr, is_glyph};
 ghost use Rattle.t1_parts.specs.Reading.{unnumbered};
 
 use crate::item::Item;
@@ -12,18 +12,18 @@ use std::alloc::{AllocError, Global};
 use std::collections::BTreeSet;
 use std::marker::Model;
 
-/// The items read so far, each with the number of its first line, and what later lines ask of them. Contracts
-/// see the list of the items.
+/// The items read so far, each with the number of its first line, and what later lines ask of them; the glyphs' names are
+/// kept where they stand in the source. Contracts see the list of the items.
 #[derive(Drop)]
-pub struct Gathered {
+pub struct Gathered<'a> {
     items: Vec<(u64, Item)>,
     has_subrs_line: bool,
     has_glyphs_line: bool,
     subrs: BTreeSet<u16>,
-    glyphs: IndexSet<Vec<u8>>,
+    glyphs: IndexSet<&'a [u8]>,
 }
 
-impl Model for Gathered {
+impl<'a> Model for Gathered<'a> {
     ghost use Rattle.std.specs.Prelude.{◌≡◌, ℕ, List};
     ghost use Rattle.t1_parts.specs.Sections.{is_subrs_line, is_glyphs_line};
     ghost use Rattle.t1_parts.specs.Entries.{NumberedItem, has};
@@ -40,7 +40,7 @@ impl Model for Gathered {
         × HasNames g.glyphs.keys g.items.items };
 }
 
-impl Gathered {
+impl<'a> Gathered<'a> {
     /// No items.
     pub fn new(alloc: Global) -> Self
         ensures { result ≡ [] }
@@ -91,7 +91,7 @@ impl Gathered {
 
     /// The items without their numbers.
     pub fn into_items(self, alloc: Global) -> Result<Vec<Item>, AllocError>
-        ensures { IfOk result (λ items. items.items ≡ unnumbered self) }
+        ensures { IfOk result (λ items. items.items ≡ unnumbered self.entry) }
     {
         let mut items = Vec::new(alloc);
         for (_number, item) in self.items {
@@ -100,9 +100,15 @@ impl Gathered {
         Ok(items)
     }
 
-    /// The items and a further one, which begins on the line of this number.
-    pub fn with(self, alloc: Global, number: u64, item: Item) -> Result<Self, AllocError>
-        ensures { IfOk result (λ g. g ≡ self ++ (number, item) ∷ []) }
+    /// The items and a further one, which begins on the line of this number. Where it is a glyph, its name comes with it.
+    pub fn with(
+        self,
+        number: u64,
+        item: Item,
+        name: Option<&'a [u8]>,
+    ) -> Result<Self, AllocError>
+        requires { option_map (λ n. n.now) name ≡ glyph_name item }
+        ensures { IfOk result (λ g. g ≡ self.entry ++ (number, item) ∷ []) }
     {
         let Gathered {
             mut items,
@@ -117,11 +123,12 @@ impl Gathered {
             Item::Subr(subr, _, _) => {
                 subrs.insert(*subr)?;
             }
-            Item::Glyph(name, _, _) => {
-                glyphs.insert(Vec::from_slice(alloc, name.as_slice())?)?;
-            }
+            Item::Glyph(_, _, _) => {}
             Item::Plain(_line) => {}
             Item::Section(_before, _count, _after) => {}
+        }
+        if let Some(name) = name {
+            glyphs.insert(name)?;
         }
         items.push((number, item))?;
         Ok(Gathered {

@@ -18,10 +18,11 @@ pub enum Item {
     Glyph(Bytes, Words, Bytes),
 }
 
-/// An item that was read: how many lines it takes after its first, and the bytes after them.
+/// An item that was read, with its name where it is a glyph: how many lines it takes after its first, and the bytes after them.
 #[derive(Drop)]
 pub struct Taken<'a> {
     pub item: Item,
+    pub name: Option<&'a [u8]>,
     pub more: usize,
     pub after: &'a [u8],
 }

@@ -1,9 +1,10 @@
 //! Reading the private part: plain lines, section lines and entries.
 
-ghost use Rattle.std.specs.Prelude.{◌≡◌, ◌+◌, ◌<◌, ◌^◌, ◌++◌, ◌∷◌, [], ℕ, List, length, IfOk};
+ghost use Rattle.std.specs.Prelude.{◌≡◌, ◌+◌, ◌<◌, ◌^◌, ◌++◌, ◌∷◌, [], ℕ, List, None, length, option_map, IfOk};
 ghost use Rattle.t1_frac.specs.declared.fault.Place.TheVariants as places;
 ghost use Rattle.t1_frac.specs.Outcome.{Gives, told_at};
 ghost use Rattle.t1_text.specs.Lines.{lines};
+ghost use Rattle.t1_parts.specs.Entries.{glyph_name};
 ghost use Rattle.t1_parts.specs.Pieces.{IsAfter};
 ghost use Rattle.t1_parts.specs.Private.{line_at, item_at, items_of, private_items};
 
@@ -18,7 +19,8 @@ use t1_text::{fault_on, first_line};
 /// The section line or the plain line.
 #[tactic(auto, unfolding(crate::specs::Private::line_item))]
 fn line_at(alloc: Global, earlier: &Gathered, number: u64, line: &[u8]) -> Result<Item, Refusal>
-    ensures { Gives (λ item. (item, 0)) result (told_at (places.Line number) (line_at earlier.now line.now)) }
+    ensures value { Gives (λ item. (item, 0)) result (told_at (places.Line number) (line_at earlier.now line.now)) }
+    ensures unnamed { IfOk result (λ item. glyph_name item ≡ None) }
 {
     let subrs = count_between(b"/Subrs", b"array", line);
     let glyphs = count_between(b"/CharStrings", b"dict", line);
@@ -48,6 +50,7 @@ fn item_at<'a>(
         (λ taken. (taken.item, taken.more))
         result
         (told_at (places.Line number) (item_at earlier.now l ls)) }
+    ensures named { IfOk result (λ taken. option_map (λ n. n.now) taken.name ≡ glyph_name taken.item) }
     ensures after { IfOk result (λ taken. IsAfter (taken.more + 1) bytes.now taken.after.now) }
 {
     let (line, after) = first_line(bytes);
@@ -63,6 +66,7 @@ fn item_at<'a>(
     let item = line_at(alloc, earlier, number, line)?;
     Ok(Taken {
         item,
+        name: None,
         more: 0,
         after,
     })
@@ -71,7 +75,7 @@ fn item_at<'a>(
 /// The items of some bytes, of which the first line has this number, each with the number of its first line; and the number
 /// that a further line has.
 #[tactic(auto, using(crate::proofs::ItemLaws::item_read, crate::proofs::ItemLaws::item_fault))]
-fn items_of(alloc: Global, number: u64, bytes: &[u8]) -> Result<(Gathered, u64), Refusal>
+fn items_of(alloc: Global, number: u64, bytes: &[u8]) -> Result<(Gathered<'_>, u64), Refusal>
     requires { number + length bytes.now < 2 ^ 64 }
     ensures value { Gives (λ read. read.0) result (items_of [] 0 number (lines bytes.now)) }
     ensures number { IfOk result (λ read. read.1 ≡ number + length (lines bytes.now)) }
@@ -81,7 +85,7 @@ fn items_of(alloc: Global, number: u64, bytes: &[u8]) -> Result<(Gathered, u64),
     let mut rest = bytes;
     while !rest.is_empty() {
         let taken = item_at(alloc, &items, first, rest)?;
-        items = items.with(alloc, first, taken.item)?;
+        items = items.with(first, taken.item, taken.name)?;
         first += taken.more as u64 + 1;
         rest = taken.after;
     }
@@ -90,16 +94,16 @@ fn items_of(alloc: Global, number: u64, bytes: &[u8]) -> Result<(Gathered, u64),
 
 /// The items of a private part, of which the last line opens nothing. The first of its lines has this number.
 #[tactic(auto, unfolding(crate::specs::Private::private_items), using(crate::proofs::ItemLaws::before_last))]
-pub fn private_items(
+pub fn private_items<'a>(
     alloc: Global,
     number: u64,
-    bytes: &[u8],
+    bytes: &'a [u8],
     last: &[u8],
-) -> Result<Gathered, Refusal>
+) -> Result<Gathered<'a>, Refusal>
     requires { number + length bytes.now < 2 ^ 64 }
     ensures { Gives (λ items. items) result (private_items number (lines bytes.now ++ last.now ∷ [])) }
 {
     let (items, further) = items_of(alloc, number, bytes)?;
     let last = Item::Plain(Bytes::copied(alloc, last)?);
-    Ok(items.with(alloc, further, last)?)
+    Ok(items.with(further, last, None)?)
 }
