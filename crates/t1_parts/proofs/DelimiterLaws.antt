@@ -1,15 +1,11 @@
 -- The bytes of a line before its first brace or comment.
 use Rattle.std.proofs.Common.{◌≡◌, ℕ, Bool, true, false, ◌||◌, ◌==◌, List, [], ◌∷◌, take, drop, refl, sym, ◌∙◌, ap, inl, inr}
 use Rattle.std.specs.List.{list_any, prefix_len}
-use Rattle.std.proofs.lemmas.Bool.{not-true, cases_Bool, eqb-true}
+use Rattle.std.proofs.lemmas.Bool.{not-true, cases_Bool, eqb-true, or_parts}
 use Rattle.std.proofs.Math.Numerals.{one-add}
 use Rattle.t1_text.specs.Tokens.{uncommented}
 use Rattle.t1_text.specs.Delimiters.{is_brace, is_safe}
 use Rattle.t1_parts.specs.Entries.{has_brace}
-
-or_parts : (x y : Bool) → (x || y) ≡ false → (x ≡ false) × (y ≡ false)
-or_parts true y h = cc
-or_parts false y h = (refl, h)
 
 or_false : (x : Bool) → (x || false) ≡ x
 or_false true = refl
