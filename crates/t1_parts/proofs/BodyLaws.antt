@@ -1,7 +1,7 @@
 -- A printed body, read again.
 use Rattle.std.proofs.Common.{◌≡◌, ℕ, Bool, true, false, ◌||◌, ◌==◌, Some, List, [], ◌∷◌, ◌++◌, length, map, refl, ◌∙◌, ap, inl, inr}
 use Rattle.std.specs.List.{onto_first, list_all, list_any, join_with_byte, flat_map}
-use Rattle.std.proofs.lemmas.Bool.{and_parts, and_from, not-true, cases_Bool}
+use Rattle.std.proofs.lemmas.Bool.{and_parts, and_from, not-true, cases_Bool, or_parts}
 use Rattle.std.proofs.Math.Numerals.{one-add}
 use Rattle.t1_frac.specs.Words.{is_blank, words}
 use Rattle.t1_text.specs.Lines.{trimmed}
@@ -10,10 +10,6 @@ use Rattle.t1_frac.specs.Numbers.{is_number_word}
 use Rattle.t1_text.specs.Delimiters.{is_brace, is_safe}
 use Rattle.t1_parts.specs.Entries.{has_brace, body_of, with_front, is_word_byte, is_word}
 use Rattle.t1_parts.specs.Printing.{body_line, last_line, word_groups}
-
-or_parts : (x y : Bool) → (x || y) ≡ false → (x ≡ false) × (y ≡ false)
-or_parts true y h = cc
-or_parts false y h = (refl, h)
 
 unblank : (c : ℕ) → is_word_byte c ≡ true → is_blank c ≡ false
 unblank c h = not-true _ (and_parts _ _ h).0

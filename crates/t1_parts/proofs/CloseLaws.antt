@@ -2,7 +2,7 @@
 use Rattle.std.proofs.Common.{◌≡◌, ℕ, Bool, true, false, not, ◌&&◌, ◌==◌, ◌-◌, List, [], ◌∷◌, ◌++◌, length, take, drop, reverse, codes, refl, sym, ◌∙◌, ap, inl, inr, arith, append_assoc, length-append}
 use Rattle.std.specs.List.{list_all, list_any, prefix_len}
 use Rattle.std.specs.Str.{bytes_eq}
-use Rattle.std.proofs.lemmas.Bool.{and_parts, and_from, cases_Bool, not-true, eq-eqb}
+use Rattle.std.proofs.lemmas.Bool.{and_parts, and_from, cases_Bool, not-true, eq-eqb, both_ways}
 use Rattle.std.proofs.lemmas.List.{reverse-append, reverse-reverse, take-append-drop}
 use Rattle.std.proofs.lemmas.Slice.Eq.{bytes_eq-Decides}
 use Rattle.std.proofs.Math.Numerals.{one-add}
@@ -40,10 +40,7 @@ overlap_byte : (test : ℕ → Bool) (x : List ℕ) (d : ℕ) (y t g : List ℕ)
 overlap_byte test x d y [] g h off e = (x, refl)
 overlap_byte test [] d y (c ∷ t) g h off e =
     let same : d ≡ c = cc in
-    absurd (apart (test c) (and_parts (test c) (list_all test t) h).0 (ap test (sym same) ∙ off))
-  where
-    apart : (b : Bool) → b ≡ true → b ≡ false → ⊥
-    apart b p q = cc
+    absurd (both_ways (test c) (ap test (sym same) ∙ off) (and_parts (test c) (list_all test t) h).0)
 overlap_byte test (a ∷ x) d y (c ∷ t) g h off e =
     let same : a ≡ c = cc in
     let rest : x ++ d ∷ y ≡ t ++ g = cc in
@@ -63,10 +60,7 @@ overlap_blank : (x y t g : List ℕ) → no_blank_end t ≡ true → list_all is
 overlap_blank x y [] g h blank e = (x, refl)
 overlap_blank [] y (c ∷ t) g h blank e =
     let none : list_all is_blank (c ∷ t) ≡ false = not-true (list_all is_blank (c ∷ t)) (and_parts (not (list_all is_blank (c ∷ t))) (no_blank_end t) h).0 in
-    absurd (apart (list_all is_blank (c ∷ t)) (all_front (c ∷ t) g (ap (list_all is_blank) (sym e) ∙ blank)) none)
-  where
-    apart : (b : Bool) → b ≡ true → b ≡ false → ⊥
-    apart b p q = cc
+    absurd (both_ways (list_all is_blank (c ∷ t)) none (all_front (c ∷ t) g (ap (list_all is_blank) (sym e) ∙ blank)))
 overlap_blank (a ∷ x) y (c ∷ t) g h blank e =
     let same : a ≡ c = cc in
     let rest : x ++ y ≡ t ++ g = cc in

@@ -1,7 +1,7 @@
 -- A line, with another run of regular bytes in the place of one of its tokens.
 use Rattle.std.proofs.Common.{◌≡◌, ℕ, Bool, true, false, ◌==◌, ◌+◌, List, [], ◌∷◌, ◌++◌, length, take, drop, refl, sym, ◌∙◌, ap, inl, inr, arith}
 use Rattle.std.specs.List.{list_all, prefix_len}
-use Rattle.std.proofs.lemmas.Bool.{and_parts, cases_Bool}
+use Rattle.std.proofs.lemmas.Bool.{and_parts, cases_Bool, both_ways}
 use Rattle.std.proofs.lemmas.List.{take-append-drop}
 use Rattle.std.proofs.Math.Numerals.{one-add}
 use Rattle.t1_frac.specs.Words.{is_blank}
@@ -65,7 +65,7 @@ around_first i c rest p t qs h word none e =
       | inl bracket ↦
           let same = front_of i p (c ∷ []) t (places_from (i + 1) rest) qs (rw (word, none, bracket) at e) in
           let regular : is_regular c ≡ true = (and_parts (is_regular c) true (ap is_run same.1 ∙ h)).0 in
-          absurd (bool_apart (is_bracket c) bracket (regular_parts c regular).1)
+          absurd (both_ways (is_bracket c) (regular_parts c regular).1 bracket)
       | inr other ↦
           let run : places_from i (c ∷ rest) ≡ (i, c ∷ take k rest) ∷ places_from (i + (1 + k)) (drop k rest) = (rw (word, none, other) (run_place i c rest)) in
           let same = front_of i p (c ∷ take k rest) t (places_from (i + (1 + k)) (drop k rest)) qs (sym run ∙ e) in
@@ -80,9 +80,6 @@ around_first i c rest p t qs h word none e =
             other = λ es regular. run_token i es (drop k rest) regular (stop_here rest) ∙ ap (λ j. (j, es) ∷ places_from (j + length es) (drop k rest)) same.0;
           }
     ]
-  where
-    bool_apart : (b : Bool) → b ≡ true → b ≡ false → ⊥
-    bool_apart b x y = cc
 
 -- whether a line goes on is the same with another run
 same_on : (before es t after : List ℕ) → is_run es ≡ true → is_run t ≡ true → goes_on (before ++ (es ++ after)) ≡ goes_on (before ++ (t ++ after))

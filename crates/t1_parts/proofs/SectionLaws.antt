@@ -1,7 +1,7 @@
 -- A section line, with another count in the place of its count.
 use Rattle.std.proofs.Common.{◌≡◌, ℕ, Bool, true, false, ◌&&◌, ◌||◌, ◌+◌, Some, is_some, List, [], ◌∷◌, ◌++◌, length, refl, sym, ◌∙◌, ap, inl, inr, arith, append_assoc}
 use Rattle.std.specs.Str.{bytes_eq}
-use Rattle.std.proofs.lemmas.Bool.{and_parts, and_from, cases_Bool}
+use Rattle.std.proofs.lemmas.Bool.{and_parts, and_from, cases_Bool, both_ways}
 use Rattle.std.proofs.lemmas.Slice.Eq.{bytes_eq-Decides}
 use Rattle.t1_text.specs.Tokens.{tokens, places_from}
 use Rattle.t1_text.specs.Names.{is_count}
@@ -113,12 +113,9 @@ found_among key word (a ∷ n ∷ b ∷ more) =
 pub not_text : (ds text : List ℕ) → is_count ds ≡ true → is_count text ≡ false → bytes_eq ds text ≡ false
 not_text ds text h plain =
     elim (cases_Bool (bytes_eq ds text)) [
-      | inl same ↦ let both : is_count ds ≡ is_count text = ap is_count ((bytes_eq-Decides ds text).0 same) in absurd (apart (is_count ds) h (both ∙ plain))
+      | inl same ↦ let both : is_count ds ≡ is_count text = ap is_count ((bytes_eq-Decides ds text).0 same) in absurd (both_ways (is_count ds) (both ∙ plain) h)
       | inr other ↦ other
     ]
-  where
-    apart : (b : Bool) → b ≡ true → b ≡ false → ⊥
-    apart b x y = cc
 
 -- another count changes nothing of what else stands in a row
 pub among_other : (key word : List ℕ) (ts us : List (List ℕ)) (d e : List ℕ) → is_count key ≡ false → is_count word ≡ false → is_count d ≡ true → is_count e ≡ true

@@ -1,7 +1,7 @@
 -- Lists around an element at a place that was found.
 use Rattle.std.proofs.Common.{◌≡◌, ◌⊎◌, ℕ, suc, Bool, true, false, ◌||◌, ◌+◌, ◌<◌, ◌≤◌, nat_lt, unwrap_or, Option, None, Some, List, [], ◌∷◌, ◌++◌, length, take, drop, set, get_or, reverse, filter_map, refl, sym, ◌∙◌, ap, inl, inr, arith, append_assoc, length-append}
 use Rattle.std.specs.List.{list_any, position, position_or_len, insert, remove, cons_option}
-use Rattle.std.proofs.lemmas.Bool.{cases_Bool, ltb-true, ltb-false, or_parts}
+use Rattle.std.proofs.lemmas.Bool.{cases_Bool, ltb-true, ltb-false, or_parts, both_ways, or_from}
 use Rattle.std.proofs.lemmas.List.{reverse-append, length-reverse}
 use Rattle.std.proofs.lemmas.List.Folds.{list_any-append}
 use Rattle.std.proofs.Math.Seq.{drop-append_seam, drop-append-add, take-append_seam, set-append_seam, get_or-append_seam}
@@ -21,10 +21,6 @@ pub record First {X : Type 0} (test : X → Bool) (xs : List X) (at : ℕ) : Typ
   pub place : at ≡ length found.before
   pub first : list_any test found.before ≡ false
 
-neither : (a b : Bool) → a ≡ false → b ≡ false → (a || b) ≡ false
-neither true b p q = p
-neither false b p q = q
-
 pub first_at : {X : Type 0} (test : X → Bool) (xs : List X) → position_or_len test xs < length xs → First test xs (position_or_len test xs)
 first_at test [] h = absurd (omega arith)
 first_at test (x ∷ xs) h =
@@ -37,7 +33,7 @@ first_at test (x ∷ xs) h =
           record {
             found = record { before = x ∷ r.found.before; here = r.found.here; after = r.found.after; whole = ap (λ t. x ∷ t) r.found.whole; passes = r.found.passes };
             place = omega (arith, step, r.place);
-            first = neither (test x) (list_any test r.found.before) off r.first;
+            first = or_from (test x) (list_any test r.found.before) off r.first;
           }
     ]
 
@@ -93,11 +89,8 @@ pub passing_first : {X : Type 0} (test : X → Bool) (xs : List X) → list_any 
 passing_first test xs on =
     elim (cases_Bool (nat_lt (position_or_len test xs) (length xs))) [
       | inl within ↦ first_at test xs (ltb-true (position_or_len test xs) (length xs) within)
-      | inr outside ↦ absurd (apart (list_any test xs) on (none_passing test xs (ltb-false (position_or_len test xs) (length xs) outside)))
+      | inr outside ↦ absurd (both_ways (list_any test xs) (none_passing test xs (ltb-false (position_or_len test xs) (length xs) outside)) on)
     ]
-  where
-    apart : (b : Bool) → b ≡ true → b ≡ false → ⊥
-    apart b p q = cc
 
 -- the list with another element there, without it, and its element there
 pub set_there : {X : Type 0} (a : List X) (x : X) (b : List X) (at : ℕ) (y : X) → at ≡ length a → set (a ++ x ∷ b) at y ≡ a ++ y ∷ b
@@ -204,10 +197,7 @@ pub before_last : {X : Type 0} (test : X → Bool) (xs : List X) (last : X) (a :
     → (c : List X) × (b ≡ c ++ last ∷ []) × (xs ≡ a ++ x ∷ c)
 before_last test [] last [] x b off on e =
     let same : last ≡ x = cc in
-    absurd (apart (test last) (ap test same ∙ on) off)
-  where
-    apart : (b : Bool) → b ≡ true → b ≡ false → ⊥
-    apart b p q = cc
+    absurd (both_ways (test last) off (ap test same ∙ on))
 before_last test [] last (c ∷ a) x b off on e = absurd (none_longer a b x (let rest : [] ≡ a ++ x ∷ b = cc in rest))
 before_last test (y ∷ xs) last [] x b off on e =
     let same : y ≡ x = cc in

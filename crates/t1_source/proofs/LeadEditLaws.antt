@@ -2,7 +2,7 @@
 use Rattle.std.proofs.Common.{◌≡◌, ℕ, ℤ, pos, negsuc, Bool, true, false, ◌||◌, ◌≤◌, nat_le, Option, None, Some, is_some, Result, Ok, Err, List, [], ◌∷◌, ◌++◌, length, take, filter_map, codes, refl, sym, ◌∙◌, ap, inl, inr, arith, append_assoc}
 use Rattle.std.specs.Fmt.{decimal}
 use Rattle.std.specs.List.{list_all, list_any, position, position_or_len, insert, slice_set, slice_index_or, cons_option}
-use Rattle.std.proofs.lemmas.Bool.{and_parts, and_from, cases_Bool, leb-true, le-leb, or_parts}
+use Rattle.std.proofs.lemmas.Bool.{and_parts, and_from, cases_Bool, leb-true, le-leb, or_parts, or_left, or_right}
 use Rattle.std.proofs.lemmas.List.{append-nil}
 use Rattle.std.proofs.lemmas.List.Folds.{list_any-append}
 use Rattle.t1_parts.specs.declared.item.Item.{Item}
@@ -23,7 +23,7 @@ use Rattle.t1_source.specs.Editing.{number_up_to, with_items, lead_edited}
 use Rattle.t1_source.specs.Leads.{line_with_lead, lead_line, says_lead, is_section_line, line_of, line_at, lead_put, items_with_lead}
 use Rattle.t1_source.specs.WellFormed.{is_inner, opens_entry, Stands, Stand, says_lead_well, IsPrivate, IsWellFormed}
 use Rattle.t1_frac.proofs.OutcomeLaws.{bind_ok}
-use Rattle.t1_source.proofs.StandLaws.{Serves, serves_itself, serves_further, stand_serves, stand_front, stand_back, stand_both, none_both, or_left}
+use Rattle.t1_source.proofs.StandLaws.{Serves, serves_itself, serves_further, stand_serves, stand_front, stand_back, stand_both, none_both}
 use Rattle.t1_source.proofs.WellFormedEditLaws.{is_not_plain}
 use Rattle.t1_source.proofs.WellFormedEntryLaws.{items_well_formed}
 use Rattle.t1_source.proofs.WellFormedSourceLaws.{private_well_formed}
@@ -231,10 +231,6 @@ glyphs_are_sections (i ∷ items) h =
           let more : list_any is_glyphs_line items ≡ true = rw off at h in
           or_right (is_section_line i) (list_any is_section_line items) (glyphs_are_sections items more)
     ]
-  where
-    or_right : (b c : Bool) → c ≡ true → (b || c) ≡ true
-    or_right true c h = refl
-    or_right false c h = h
 
 -- what stands in the place of the items
 pub record Placed (items : List Item) (n : ℕ) (others : List Item) : Type 0 where

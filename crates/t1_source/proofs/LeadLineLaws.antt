@@ -3,7 +3,7 @@ use Rattle.std.proofs.Common.{◌≡◌, ℕ, Bool, true, false, ◌&&◌, ◌||
 use Rattle.std.specs.Fmt.{decimal}
 use Rattle.std.specs.List.{list_all, list_any}
 use Rattle.std.specs.Str.{bytes_eq}
-use Rattle.std.proofs.lemmas.Bool.{and_parts, and_from, cases_Bool, le-leb, or_parts}
+use Rattle.std.proofs.lemmas.Bool.{and_parts, and_from, cases_Bool, le-leb, or_parts, both_ways}
 use Rattle.std.proofs.lemmas.List.{map-append}
 use Rattle.std.proofs.lemmas.Slice.Eq.{bytes_eq-Decides}
 use Rattle.std.proofs.Math.Seq.{drop-append-add, drop-append_seam, take-append_seam}
@@ -40,12 +40,9 @@ digits_run (d ∷ ds) h = digits_regular (d ∷ ds) (and_parts (nat_le 1 (length
 not_text : (ds text : List ℕ) → is_digits ds ≡ true → is_digits text ≡ false → bytes_eq ds text ≡ false
 not_text ds text h plain =
     elim (cases_Bool (bytes_eq ds text)) [
-      | inl same ↦ let both : is_digits ds ≡ is_digits text = ap is_digits ((bytes_eq-Decides ds text).0 same) in absurd (apart (is_digits ds) h (both ∙ plain))
+      | inl same ↦ let both : is_digits ds ≡ is_digits text = ap is_digits ((bytes_eq-Decides ds text).0 same) in absurd (both_ways (is_digits ds) (both ∙ plain) h)
       | inr other ↦ other
     ]
-  where
-    apart : (b : Bool) → b ≡ true → b ≡ false → ⊥
-    apart b x y = cc
 
 -- ---- where the token stands
 

@@ -2,13 +2,13 @@
 use Rattle.std.proofs.Common.{◌≡◌, true, false, ◌||◌, ℕ, List, [], ◌∷◌, ◌++◌, refl, sym, ◌∙◌}
 use Rattle.std.specs.List.{list_any}
 use Rattle.std.proofs.lemmas.List.Folds.{list_any-append}
+use Rattle.std.proofs.lemmas.Bool.{both_ways, or_left}
 use Rattle.t1_parts.specs.declared.item.Item.{Item}
 use Rattle.t1_parts.specs.declared.item.Item.TheVariants.{Plain, Section, Subr, Glyph}
 use Rattle.t1_parts.specs.Sections.{is_glyphs_line}
 use Rattle.t1_source.specs.Editing.{is_subr_entry}
 use Rattle.t1_source.specs.WellFormed.{Stand, IsPrivate}
-use Rattle.t1_source.proofs.PrintedLaws.{bool_apart}
-use Rattle.t1_source.proofs.StandLaws.{or_left, stand_back}
+use Rattle.t1_source.proofs.StandLaws.{stand_back}
 use Rattle.t1_source.proofs.ItemPlaceLaws.{before_last}
 use Rattle.t1_source.proofs.WellFormedEditLaws.{is_not_plain}
 
@@ -20,7 +20,7 @@ no_subr : (e items : List Item) → Stand e items → list_any is_glyphs_line e 
 no_subr e [] h on = refl
 no_subr e (Plain l ∷ items) h on = no_subr (e ++ Plain l ∷ []) items h.1 (still e (Plain l) on)
 no_subr e (Section before n after ∷ items) h on = no_subr (e ++ Section before n after ∷ []) items h.1 (still e (Section before n after) on)
-no_subr e (Subr n ws closing ∷ items) h on = absurd (bool_apart (list_any is_glyphs_line e) on h.0.0)
+no_subr e (Subr n ws closing ∷ items) h on = absurd (both_ways (list_any is_glyphs_line e) h.0.0 on)
 no_subr e (Glyph g ws closing ∷ items) h on = no_subr (e ++ Glyph g ws closing ∷ []) items h.1 (still e (Glyph g ws closing) on)
 
 no_subr_last : (items : List Item) (last : List ℕ) → list_any is_subr_entry items ≡ false → list_any is_subr_entry (items ++ Plain last ∷ []) ≡ false

@@ -2,7 +2,7 @@
 use Rattle.std.proofs.Common.{◌≡◌, ℕ, zero, suc, Bool, true, false, not, ◌&&◌, ◌==◌, ◌+◌, ◌/◌, ◌%◌, ◌^◌, ◌<◌, ◌≤◌, nat_le, nat_lt, List, [], ◌∷◌, ◌++◌, length, map, reverse, codes, refl, sym, ◌∙◌, ap, inl, inr, arith, append_assoc, length-append}
 use Rattle.std.specs.List.{list_all, list_any, onto_first, join_with_byte}
 use Rattle.std.specs.Fmt.{decimal}
-use Rattle.std.proofs.lemmas.Bool.{and_parts, and_from, cases_Bool, not-true, eqb-true, le-leb, ltb-true}
+use Rattle.std.proofs.lemmas.Bool.{and_parts, and_from, cases_Bool, not-true, eqb-true, le-leb, ltb-true, both_ways}
 use Rattle.std.proofs.lemmas.Fmt.{decimal_by_steps}
 use Rattle.std.proofs.lemmas.List.Folds.{list_all-append}
 use Rattle.t1_frac.specs.Words.{is_blank, trimmed_front}
@@ -42,12 +42,9 @@ decimal_count n h =
     and_from (nat_le 1 (length (decimal n)) && nat_le (length (decimal n)) 9) (list_all is_ascii_digit (decimal n))
     (and_from (nat_le 1 (length (decimal n))) (nat_le (length (decimal n)) 9) (le-leb 1 (length (decimal n)) s.2) (le-leb (length (decimal n)) 9 size)) s.0
 
-pub bool_apart : (b : Bool) → b ≡ true → b ≡ false → ⊥
-bool_apart b p q = cc
-
 -- what doesn't hold since what follows from it doesn't
 pub contra : (b d : Bool) → (d ≡ true → b ≡ true) → b ≡ false → d ≡ false
-contra b true f h = absurd (bool_apart b (f refl) h)
+contra b true f h = absurd (both_ways b h (f refl))
 contra b false f h = refl
 
 -- some digits and the last one
@@ -67,7 +64,7 @@ none_like test d [] h on = refl
 none_like test d (c ∷ t) h on =
     let parts = and_parts (not (test c)) (list_all (λ c. not (test c)) t) h in
     elim (cases_Bool (c == d)) [
-      | inl same ↦ absurd (bool_apart (test c) (ap test (eqb-true c d same) ∙ on) (not-true (test c) parts.0))
+      | inl same ↦ absurd (both_ways (test c) (not-true (test c) parts.0) (ap test (eqb-true c d same) ∙ on))
       | inr other ↦ rw other (none_like test d t parts.1 on)
     ]
 
@@ -93,8 +90,8 @@ digit_line d h = elim (cases_Bool (is_line_end d)) [
     end_digit : (c : ℕ) → is_line_end c ≡ true → is_ascii_digit c ≡ true → ⊥
     end_digit c e k =
         elim (cases_Bool (c == 10)) [
-          | inl lf ↦ bool_apart (is_ascii_digit c) k (ap is_ascii_digit (eqb-true c 10 lf))
-          | inr other ↦ let cr : (c == 13) ≡ true = rw other at e in bool_apart (is_ascii_digit c) k (ap is_ascii_digit (eqb-true c 13 cr))
+          | inl lf ↦ both_ways (is_ascii_digit c) (ap is_ascii_digit (eqb-true c 10 lf)) k
+          | inr other ↦ let cr : (c == 13) ≡ true = rw other at e in both_ways (is_ascii_digit c) (ap is_ascii_digit (eqb-true c 13 cr)) k
         ]
 
 pub digits_line : (ds : List ℕ) → list_all is_ascii_digit ds ≡ true → is_line ds ≡ true
@@ -187,7 +184,7 @@ word_open w h =
           let c = closes_from w on in
           let bytes = all_reverse (λ b. not (is_blank b)) w (full w h) in
           let same : reverse w ≡ reverse closing_bytes ++ c.0 = sym (full_front (reverse w) bytes) ∙ c.1 in
-          absurd (bool_apart (list_all (λ b. not (is_blank b)) (reverse w)) bytes (ap (list_all (λ b. not (is_blank b))) same))
+          absurd (both_ways (list_all (λ b. not (is_blank b)) (reverse w)) (ap (list_all (λ b. not (is_blank b))) same) bytes)
       | inr off ↦ off
     ]
 
@@ -253,7 +250,7 @@ name_line (c ∷ g) h =
 
     name_stays : (c : ℕ) → is_name_byte c ≡ true → not (is_line_end c) ≡ true
     name_stays c h = elim (cases_Bool (is_line_end c)) [
-      | inl on ↦ absurd (bool_apart (is_name_byte c) h (end_name c on))
+      | inl on ↦ absurd (both_ways (is_name_byte c) (end_name c on) h)
       | inr off ↦ rw off refl
     ]
 

@@ -1,7 +1,7 @@
 -- Items that stand after others, and after others in their place.
 use Rattle.std.proofs.Common.{◌≡◌, ℕ, Bool, true, false, ◌&&◌, ◌||◌, ◌==◌, if◌then◌else◌, is_some, List, [], ◌∷◌, ◌++◌, map, refl, sym, ◌∙◌, ap, inl, inr, append_assoc}
 use Rattle.std.specs.List.{list_any}
-use Rattle.std.proofs.lemmas.Bool.{or_parts, eq-eqb}
+use Rattle.std.proofs.lemmas.Bool.{or_parts, eq-eqb, or_from, or_left, or_right}
 use Rattle.std.proofs.lemmas.List.{append-nil}
 use Rattle.std.proofs.lemmas.Slice.Eq.{bytes_eq-Decides}
 use Rattle.std.specs.Str.{bytes_eq}
@@ -22,18 +22,6 @@ pub record Serves (e f items : List Item) : Type 0 where
   pub number : (n : ℕ) → list_any (is_subr n) items ≡ true → list_any (is_subr n) e ≡ false → list_any (is_subr n) f ≡ false
   pub name : (g : List ℕ) → list_any (is_glyph g) items ≡ true → list_any (is_glyph g) e ≡ false → list_any (is_glyph g) f ≡ false
 
-or_false : (a b : Bool) → a ≡ false → b ≡ false → (a || b) ≡ false
-or_false true b p q = p
-or_false false b p q = q
-
-or_right : (a b : Bool) → b ≡ true → (a || b) ≡ true
-or_right true b h = refl
-or_right false b h = h
-
-pub or_left : (a b : Bool) → a ≡ true → (a || b) ≡ true
-or_left true b h = refl
-or_left false b h = cc
-
 -- a test that fails of items and a further one
 pub none_further : (test : Item → Bool) (e : List Item) (i : Item) → list_any test (e ++ i ∷ []) ≡ false → (list_any test e ≡ false) × (test i ≡ false)
 none_further test e i h =
@@ -41,13 +29,13 @@ none_further test e i h =
     (parts.0, (or_parts (test i) false parts.1).0)
 
 pub none_both : (test : Item → Bool) (e f : List Item) → list_any test e ≡ false → list_any test f ≡ false → list_any test (e ++ f) ≡ false
-none_both test e f p q = list_any-append test e f ∙ or_false (list_any test e) (list_any test f) p q
+none_both test e f p q = list_any-append test e f ∙ or_from (list_any test e) (list_any test f) p q
 
 further : (test : Item → Bool) (e f items : List Item) (i j : Item) → test i ≡ test j
     → (list_any test (i ∷ items) ≡ true → list_any test e ≡ false → list_any test f ≡ false) → list_any test items ≡ true → list_any test (e ++ i ∷ []) ≡ false → list_any test (f ++ j ∷ []) ≡ false
 further test e f items i j same serves on none =
     let parts = none_further test e i none in
-    none_both test f (j ∷ []) (serves (or_right (test i) (list_any test items) on) parts.0) (or_false (test j) false (sym same ∙ parts.1) refl)
+    none_both test f (j ∷ []) (serves (or_right (test i) (list_any test items) on) parts.0) (or_from (test j) false (sym same ∙ parts.1) refl)
 
 same_further : (test : Item → Bool) (e f : List Item) (i j : Item) → test i ≡ test j → list_any test e ≡ list_any test f → list_any test (e ++ i ∷ []) ≡ list_any test (f ++ j ∷ [])
 same_further test e f i j same h =

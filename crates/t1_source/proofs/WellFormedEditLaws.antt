@@ -1,7 +1,7 @@
 -- Items that stay private items when an entry is replaced, put in or taken out.
 use Rattle.std.proofs.Common.{◌≡◌, ℕ, Bool, true, false, not, ◌||◌, None, is_some, List, [], ◌∷◌, ◌++◌, take, filter_map, refl, sym, ◌∙◌, ap, inl, inr, append_assoc}
 use Rattle.std.specs.List.{list_any, list_all, flat_map}
-use Rattle.std.proofs.lemmas.Bool.{and_parts, and_from, cases_Bool, or_parts}
+use Rattle.std.proofs.lemmas.Bool.{and_parts, and_from, cases_Bool, or_parts, or_left}
 use Rattle.std.proofs.lemmas.List.{append-nil}
 use Rattle.std.proofs.lemmas.List.Folds.{list_any-append, list_all-append}
 use Rattle.t1_frac.specs.Words.{words}
@@ -16,7 +16,7 @@ use Rattle.t1_parts.specs.Counts.{raised}
 use Rattle.t1_parts.specs.Printing.{last_line}
 use Rattle.t1_source.specs.Editing.{body_words, braced, closing_of, closing_among}
 use Rattle.t1_source.specs.WellFormed.{is_inner, IsEntry, Stands, Stand, says_lead_well, IsPrivate}
-use Rattle.t1_source.proofs.StandLaws.{Serves, serves_itself, serves_further, stand_serves, stand_front, stand_back, stand_both, none_further, none_both, or_left}
+use Rattle.t1_source.proofs.StandLaws.{Serves, serves_itself, serves_further, stand_serves, stand_front, stand_back, stand_both, none_further, none_both}
 use Rattle.t1_source.proofs.WellFormedBodyLaws.{words_are_words, words_bytes, open_safe, all_take}
 use Rattle.t1_source.proofs.WellFormedSourceLaws.{lines_are_lines, private_well_formed}
 use Rattle.t1_source.proofs.ItemPlaceLaws.{before_last, any_middle, said_middle}

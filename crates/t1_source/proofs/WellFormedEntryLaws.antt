@@ -2,7 +2,7 @@
 use Rattle.std.proofs.Common.{◌≡◌, ℕ, Bool, true, false, not, ◌||◌, ◌==◌, ◌≤◌, nat_le, ℤ, pos, negsuc, Option, None, Some, Result, Ok, Err, ok_or, List, [], ◌∷◌, ◌++◌, length, codes, refl, sym, ◌∙◌, ap, inl, inr, append_assoc}
 use Rattle.std.specs.List.{list_any, last_or, position, insert, remove, slice_set, slice_index_or}
 use Rattle.std.specs.Str.{bytes_eq}
-use Rattle.std.proofs.lemmas.Bool.{cases_Bool, or_parts, eqb-true, leb-true, not-true}
+use Rattle.std.proofs.lemmas.Bool.{cases_Bool, or_parts, eqb-true, leb-true, not-true, both_ways, or_left, or_right}
 use Rattle.std.proofs.lemmas.List.Folds.{list_any-append}
 use Rattle.std.proofs.lemmas.Slice.Eq.{bytes_eq-Decides}
 use Rattle.t1_frac.specs.Outcome.{◌>>=◌}
@@ -20,8 +20,6 @@ use Rattle.t1_source.specs.Editing.{keeps, number_up_to, braced, body_words, goo
 use Rattle.t1_source.specs.WellFormed.{Stands, IsPrivate, IsWellFormed}
 use Rattle.t1_frac.proofs.OutcomeLaws.{bind_ok}
 use Rattle.t1_source.proofs.RuleLaws.{kept_ok}
-use Rattle.t1_source.proofs.PrintedLaws.{bool_apart}
-use Rattle.t1_source.proofs.StandLaws.{or_left}
 use Rattle.t1_source.proofs.WellFormedItemsLaws.{given_some}
 use Rattle.t1_source.proofs.ItemPlaceLaws.{position_first, set_there, removed_there, got_there, insert_there, last_of, through_place}
 use Rattle.t1_source.proofs.WellFormedEditLaws.{new_closing, new_entry, is_not_plain, silent_subr, silent_glyph, exchanged, taken_out, put_in}
@@ -153,21 +151,13 @@ any_weaker t u f (i ∷ items) h =
       | inl on ↦ or_left (u i) (list_any u items) (f i on)
       | inr off ↦ or_right (u i) (list_any u items) (any_weaker t u f items (rw off at h))
     ]
-  where
-    or_right : (b c : Bool) → c ≡ true → (b || c) ≡ true
-    or_right true c k = refl
-    or_right false c k = k
 
 any_front : (test : Item → Bool) (items front b : List Item) → items ≡ front ++ b → list_any test items ≡ false → list_any test front ≡ false
 any_front test items front b whole none = (or_parts (list_any test front) (list_any test b) (sym (list_any-append test front b) ∙ ap (list_any test) (sym whole) ∙ none)).0
 
 any_last : (test : Item → Bool) (a : List Item) (x : Item) → test x ≡ true → list_any test (a ++ x ∷ []) ≡ true
 any_last test [] x on = or_left (test x) false on
-any_last test (c ∷ a) x on = behind (test c) (list_any test (a ++ x ∷ [])) (any_last test a x on)
-  where
-    behind : (b d : Bool) → d ≡ true → (b || d) ≡ true
-    behind true d k = refl
-    behind false d k = k
+any_last test (c ∷ a) x on = or_right (test c) (list_any test (a ++ x ∷ [])) (any_last test a x on)
 
 any_first : (test : Item → Bool) (a : List Item) (x : Item) → list_any test a ≡ true → list_any test (a ++ x ∷ []) ≡ true
 any_first test a x on = list_any-append test a (x ∷ []) ∙ or_left (list_any test a) (test x || false) on
@@ -193,7 +183,7 @@ glyph_place (Glyph g ws closing) h = (refl, λ a stands. any_first is_glyphs_lin
 other_name : (g name : List ℕ) (items : List Item) → list_any (is_glyph g) items ≡ false → list_any (is_glyph name) items ≡ true → bytes_eq name g ≡ false
 other_name g name items none on =
     elim (cases_Bool (bytes_eq name g)) [
-      | inl same ↦ absurd (bool_apart (list_any (is_glyph name) items) on (ap (λ t. list_any (is_glyph t) items) ((bytes_eq-Decides name g).0 same) ∙ none))
+      | inl same ↦ absurd (both_ways (list_any (is_glyph name) items) (ap (λ t. list_any (is_glyph t) items) ((bytes_eq-Decides name g).0 same) ∙ none) on)
       | inr off ↦ off
     ]
 
@@ -244,7 +234,7 @@ subr_place (Glyph g ws closing) h = cc
 other_number : (n m : ℕ) (items : List Item) → list_any (is_subr n) items ≡ false → list_any (is_subr m) items ≡ true → (m == n) ≡ false
 other_number n m items none on =
     elim (cases_Bool (m == n)) [
-      | inl same ↦ absurd (bool_apart (list_any (is_subr m) items) on (ap (λ t. list_any (is_subr t) items) (eqb-true m n same) ∙ none))
+      | inl same ↦ absurd (both_ways (list_any (is_subr m) items) (ap (λ t. list_any (is_subr t) items) (eqb-true m n same) ∙ none) on)
       | inr off ↦ off
     ]
 
