@@ -101,12 +101,7 @@ impl<'a> Gathered<'a> {
     }
 
     /// The items and a further one, which begins on the line of this number. Where it is a glyph, its name comes with it.
-    pub fn with(
-        self,
-        number: u64,
-        item: Item,
-        name: Option<&'a [u8]>,
-    ) -> Result<Self, AllocError>
+    pub fn with(self, number: u64, item: Item, name: Option<&'a [u8]>) -> Result<Self, AllocError>
         requires { option_map (λ n. n.now) name ≡ glyph_name item }
         ensures { IfOk result (λ g. g ≡ self.entry ++ (number, item) ∷ []) }
     {
