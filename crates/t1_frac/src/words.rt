@@ -54,7 +54,7 @@ impl Words {
 pub fn is_blank(byte: u8) -> bool
     ensures { result ≡ is_blank byte }
 {
-    matches!(byte, 0 | 9 | 10 | 12 | 13 | 32)
+    byte <= b' ' && matches!(byte, 0 | 9 | 10 | 12 | 13 | 32)
 }
 
 /// How many blanks stand at the front.
