@@ -7,13 +7,13 @@ use t1_source::Source;
 /// The source and the pairs after the edits of a batch so far, and the entries that the edits name, in the order of the
 /// edits.
 #[derive(Drop)]
-pub struct Batch {
-    source: Source,
+pub struct Batch<'a> {
+    source: Source<'a>,
     pairs: Pairs,
     entries: Vec<EditedEntry>,
 }
 
-impl Model for Batch {
+impl<'a> Model for Batch<'a> {
     ghost use Rattle.std.specs.Prelude.{map};
     ghost use Rattle.t1_batch.specs.Batch.{Draft, entry_edit};
 
@@ -42,9 +42,9 @@ fn note(entries: &mut Vec<EditedEntry>, entry: Option<EditedEntry>)
     }
 }
 
-impl Batch {
+impl<'a> Batch<'a> {
     /// A batch without edits, on copies of a source and its pairs.
-    pub fn of(alloc: Global, source: &Source, pairs: &Pairs) -> Result<Batch, AllocError>
+    pub fn of(alloc: Global, source: &Source<'a>, pairs: &Pairs) -> Result<Batch<'a>, AllocError>
         ensures made { IfOk result (λ batch. batch ≡ record { source = source.now; pairs = pairs.now; entries = [] }) }
         ensures draft { IsWellFormed source.now → IfOk result (IsDraftOf source.now) }
     {
@@ -70,17 +70,17 @@ impl Batch {
     }
 
     /// Its source.
-    pub fn source(&self) -> &Source
+    pub fn source(&self) -> &Source<'a>
         ensures { result.now ≡ self.now.source }
     {
         &self.source
     }
 
     /// Its source, its pairs, and the entries that its edits name. It takes no memory.
-    pub fn into_parts(self) -> (Source, Pairs, Vec<EditedEntry>)
-        ensures source { result.0 ≡ self.source }
-        ensures pairs { result.1 ≡ self.pairs }
-        ensures entries { map entry_edit result.2.items ≡ self.entries }
+    pub fn into_parts(self) -> (Source<'a>, Pairs, Vec<EditedEntry>)
+        ensures source { result.0 ≡ self.entry.source }
+        ensures pairs { result.1 ≡ self.entry.pairs }
+        ensures entries { map entry_edit result.2.items ≡ self.entry.entries }
     {
         (self.source, self.pairs, self.entries)
     }

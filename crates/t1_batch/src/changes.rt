@@ -47,18 +47,18 @@ fn subr_change(
 fn glyph_change(
     alloc: Global,
     marks: &mut Marks,
-    name: &Bytes,
+    name: &[u8],
     words: &Words,
 ) -> Result<Option<EntryChange>, Refusal>
     ensures change { Gives (λ change. change) result (put_of (mark_at marks.old (Glyph name.now)) (named.Glyph name.now) (places.Glyph name.now) words.now) }
     ensures others { (k : Key) → mark_at marks.new k ≡ without (Glyph name.now) (mark_at marks.old) k }
 {
-    let Some(moved) = marks.take_glyph(name.as_slice()) else {
+    let Some(moved) = marks.take_glyph(name) else {
         return Ok(None);
     };
-    let body = compiled_glyph(alloc, name.as_slice(), words)?;
+    let body = compiled_glyph(alloc, name, words)?;
     Ok(Some(EntryChange {
-        named: Named::Glyph(Bytes::copied(alloc, name.as_slice())?),
+        named: Named::Glyph(Bytes::copied(alloc, name)?),
         body: Some(body),
         moved,
     }))
@@ -75,7 +75,7 @@ fn item_change(
 {
     match item {
         Item::Subr(number, words, _) => subr_change(alloc, marks, *number, words),
-        Item::Glyph(name, words, _) => glyph_change(alloc, marks, name, words),
+        Item::Glyph(name, words, _) => glyph_change(alloc, marks, name.as_slice(), words),
         Item::Plain(_) => Ok(None),
         Item::Section(_, _, _) => Ok(None),
     }

@@ -63,14 +63,14 @@ fn remove_glyph(alloc: Global, name: &str) -> Result<Edit, Fail> {
 }
 
 /// A batch on the font, without edits.
-fn no_edits(alloc: Global) -> Result<Batch, Fail> {
+fn no_edits(alloc: Global) -> Result<Batch<'static>, Fail> {
     let source = read_source(alloc, THREE.as_bytes())?;
     let pairs = read_pairs(alloc, b"")?;
     Ok(Batch::of(alloc, &source, &pairs)?)
 }
 
 /// A batch on the font, with these edits.
-fn batch(alloc: Global, edits: &[Edit]) -> Result<Batch, Fail> {
+fn batch(alloc: Global, edits: &[Edit]) -> Result<Batch<'static>, Fail> {
     let mut batch = no_edits(alloc)?;
     for edit in edits {
         batch.edit(alloc, edit)?;

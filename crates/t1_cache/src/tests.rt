@@ -26,9 +26,7 @@ const GLYPHS: [(&str, &str, &[&str]); 3] = [
 const SUBR_4: &str = "100 178 rlineto return";
 
 fn body(alloc: Global, words: &str) -> Result<Body, Fail> {
-    let mut list = Words::new(alloc);
-    list.push_line(words.as_bytes())?;
-    Ok(compile(alloc, &list)?)
+    Ok(compile(alloc, &Words::of(words.as_bytes()))?)
 }
 
 fn names(alloc: Global, users: &[&str]) -> Result<Names, Fail> {

@@ -12,16 +12,16 @@ use t1_source::{Change, Item, Source};
 
 /// How the source is known that edits make of another one.
 #[derive(Drop)]
-pub enum Made<'a> {
+pub enum Made<'e, 'a> {
     /// By the change that was prepared for one edit: the edited source isn't there yet.
     Edit {
-        source: &'a Source,
-        change: &'a Change,
+        source: &'e Source<'a>,
+        change: &'e Change<'a>,
     },
     /// As a source of its own, which a batch of edits made.
     Batch {
-        source: &'a Source,
-        made: &'a Source,
+        source: &'e Source<'a>,
+        made: &'e Source<'a>,
     },
 }
 
@@ -57,7 +57,7 @@ fn is_entry_changed(source: &Source, change: &Change) -> bool
 }
 
 /// The clear lines after a change.
-fn clear_after<'a>(source: &'a Source, change: &'a Change) -> &'a [Bytes]
+fn clear_after<'e>(source: &'e Source, change: &'e Change) -> &'e [Bytes]
     ensures { result.now ≡ (changed change.now source.now []).0.clear }
 {
     match change {
@@ -72,7 +72,7 @@ fn clear_after<'a>(source: &'a Source, change: &'a Change) -> &'a [Bytes]
 }
 
 /// The items after a change, before their counts are raised.
-fn items_after<'a>(source: &'a Source, change: &'a Change) -> MadeItems<'a>
+fn items_after<'e, 'a>(source: &'e Source<'a>, change: &'e Change<'a>) -> MadeItems<'e, 'a>
     requires { IsFor change.now source.now }
     ensures { raised (made_items result) ≡ (changed change.now source.now []).0.items }
 {
@@ -88,7 +88,7 @@ fn items_after<'a>(source: &'a Source, change: &'a Change) -> MadeItems<'a>
     }
 }
 
-impl<'a> Made<'a> {
+impl<'e, 'a> Made<'e, 'a> {
     /// Whether the edits may have set lenIV. Of one edit it is known by the kind of the item that it changes.
     pub(crate) fn may_set_lead(&self) -> bool
         requires { IsMade self.now }
@@ -111,7 +111,7 @@ impl<'a> Made<'a> {
     }
 
     /// The items of the private part, before their counts are raised.
-    pub(crate) fn items(&self) -> MadeItems<'_>
+    pub(crate) fn items(&self) -> MadeItems<'_, 'a>
         requires { IsMade self.now }
         ensures { raised (made_items result) ≡ (made_of self.now).items }
     {

@@ -23,10 +23,10 @@ use t1_source::Item;
 
 /// Items in three parts: those before the place of an edit, those that it puts there, and those after it.
 #[derive(Drop)]
-pub(crate) struct MadeItems<'a> {
-    before: &'a [Item],
-    put: &'a [Item],
-    after: &'a [Item],
+pub(crate) struct MadeItems<'e, 'a> {
+    before: &'e [Item<'a>],
+    put: &'e [Item<'a>],
+    after: &'e [Item<'a>],
 }
 
 /// Whether one of the items says lenIV.
@@ -53,9 +53,9 @@ fn read_strings(items: &[Item]) -> bool
     items.iter().any(|item| reads_strings(item))
 }
 
-impl<'a> MadeItems<'a> {
+impl<'e, 'a> MadeItems<'e, 'a> {
     /// All items of a source.
-    pub(crate) fn all(items: &'a [Item]) -> Self
+    pub(crate) fn all(items: &'e [Item<'a>]) -> Self
         ensures { made_items result ≡ items.now }
     {
         MadeItems {
@@ -66,7 +66,7 @@ impl<'a> MadeItems<'a> {
     }
 
     /// An item in the place of another.
-    pub(crate) fn put(items: &'a [Item], at: usize, item: &'a Item) -> Self
+    pub(crate) fn put(items: &'e [Item<'a>], at: usize, item: &'e Item<'a>) -> Self
         requires { at < length items.now }
         ensures { made_items result ≡ slice_set items.now at item.now }
     {
@@ -79,7 +79,7 @@ impl<'a> MadeItems<'a> {
     }
 
     /// An item put in at a place.
-    pub(crate) fn inserted(items: &'a [Item], at: usize, item: &'a Item) -> Self
+    pub(crate) fn inserted(items: &'e [Item<'a>], at: usize, item: &'e Item<'a>) -> Self
         requires { at ≤ length items.now }
         ensures { made_items result ≡ insert items.now at item.now }
     {
@@ -92,14 +92,14 @@ impl<'a> MadeItems<'a> {
     }
 
     /// The item at a place taken out.
-    pub(crate) fn removed(items: &'a [Item], at: usize) -> Self
+    pub(crate) fn removed(items: &'e [Item<'a>], at: usize) -> Self
         requires { at < length items.now }
         ensures { made_items result ≡ remove items.now at }
     {
         let (before, rest) = items.split_at(at);
         MadeItems {
             before,
-            put: &[],
+            put: rest.split_at(0).0,
             after: rest.split_at(1).1,
         }
     }

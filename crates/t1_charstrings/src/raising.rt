@@ -143,12 +143,10 @@ fn is_raised_counted(item: &Item, needed: &Needed) -> bool
 pub(crate) fn check_raised(items: &[Item], needed: &Needed) -> Result<(), Refusal>
     ensures { Gives (λ x. x) result (raised_check needed.now.subrs needed.now.glyphs items.now) }
 {
-    let mut rest = items;
-    while let Some((item, after)) = rest.split_first() {
+    for item in items {
         if !is_raised_counted(item, needed) {
             return Err(Refusal::from(Code::F23));
         }
-        rest = after;
     }
     Ok(())
 }

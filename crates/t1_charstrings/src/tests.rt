@@ -58,7 +58,7 @@ const SPACE: [u8; 9] = [0x10, 0xBF, 0x31, 0x70, 0x79, 0xC7, 0x57, 0xBF, 0x91];
 const BARE_SPACE: [u8; 5] = [0x9B, 0x23, 0xB0, 0xBB, 0x08];
 
 /// A source that is well formed, as each that was read is.
-fn read(alloc: Global, text: &str) -> Result<Source, Fail>
+fn read(alloc: Global, text: &str) -> Result<Source<'_>, Fail>
     ensures { IfOk result IsWellFormed }
 {
     read_source_is_well_formed();
@@ -77,9 +77,7 @@ fn kept_pfb(alloc: Global, text: &str, size: usize) -> Result<Vec<u8>, Fail> {
 
 /// The body of these words.
 fn body(alloc: Global, text: &str) -> Result<Body, Fail> {
-    let mut words = Words::new(alloc);
-    words.push_line(text.as_bytes())?;
-    Ok(compile(alloc, &words)?)
+    Ok(compile(alloc, &Words::of(text.as_bytes()))?)
 }
 
 /// Whether the charstring that is kept of a glyph is this one.

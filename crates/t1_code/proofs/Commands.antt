@@ -1,26 +1,30 @@
 -- The words of commands in the order of the code's table.
-use Rattle.std.proofs.Common.{◌≡◌, ℕ, List, [], ◌∷◌, refl}
+use Rattle.std.proofs.Common.{◌≡◌, ◌<◌, length, arith, ℕ, Bool, true, false, None, List, [], ◌∷◌, filter, refl, sym, ap, ◌∙◌, inl, inr}
+use Rattle.std.proofs.lemmas.Bool.{cases_Bool}
+use Rattle.std.proofs.lemmas.Slice.Eq.{bytes_eq-Decides}
+use Rattle.std.proofs.Math.Numerals.{one-add}
+use Rattle.t1_frac.specs.Words.{is_blank}
 use Rattle.std.specs.Map.{lookup}
 use Rattle.std.specs.Prelude.{codes}
 use Rattle.std.specs.Str.{bytes_eq}
 use Rattle.t1_code.specs.declared.command.Command.{Command}
 use Rattle.t1_code.specs.declared.command.Command.TheVariants.{RRCurveTo, RLineTo, HLineTo, VLineTo, VHCurveTo, HVCurveTo, RMoveTo, HMoveTo, VMoveTo, ClosePath, CallSubr, HStem, VStem, Hsbw, EndChar, Return, CallOtherSubr, Pop, Div, HStem3, VStem3, DotSection, SetCurrentPoint, Seac, Sbw}
-use Rattle.t1_code.specs.Words.{operator_named, operator_words}
+use Rattle.t1_code.specs.Words.{first_word, operator_named, operator_words}
 use Rattle.t1_code.proofs.Tables.{StandIn, same_found}
 
--- those that draw stand first, since a font has most of them
+-- those that draw stand first
 abbrev pub drawing_first : List (List ℕ × Command)
 drawing_first =
+    (codes "closepath", ClosePath) ∷
     (codes "rrcurveto", RRCurveTo) ∷
+    (codes "rmoveto", RMoveTo) ∷
     (codes "rlineto", RLineTo) ∷
     (codes "hlineto", HLineTo) ∷
     (codes "vlineto", VLineTo) ∷
     (codes "vhcurveto", VHCurveTo) ∷
     (codes "hvcurveto", HVCurveTo) ∷
-    (codes "rmoveto", RMoveTo) ∷
     (codes "hmoveto", HMoveTo) ∷
     (codes "vmoveto", VMoveTo) ∷
-    (codes "closepath", ClosePath) ∷
     (codes "callsubr", CallSubr) ∷
     (codes "hstem", HStem) ∷
     (codes "vstem", VStem) ∷
@@ -50,3 +54,38 @@ in_code = (refl, (refl, (refl, (refl, (refl, (refl, (refl, (refl, (refl, (refl, 
 pub named_alike : (word : List ℕ) → lookup (bytes_eq word) drawing_first ≡ operator_named word
 unfolding operator_named
 named_alike word = same_found word drawing_first operator_words in_definition in_code
+
+-- ---- the rows by the first bytes of their words
+
+abbrev starts : (ℕ → Bool) → List ℕ → Bool
+starts test [] = false
+starts test (c ∷ rest) = test c
+
+-- the rows whose words begin with a byte that passes the test
+abbrev pub rows_of : (ℕ → Bool) → List (List ℕ × Command)
+rows_of test = filter (λ row. starts test row.0) drawing_first
+
+kept : (test : ℕ → Bool) (c : ℕ) (word : List ℕ) (table : List (List ℕ × Command)) → test c ≡ true
+    → lookup (bytes_eq (c ∷ word)) (filter (λ row. starts test row.0) table) ≡ lookup (bytes_eq (c ∷ word)) table
+kept test c word [] h = refl
+kept test c word (row ∷ table) h = elim (cases_Bool (bytes_eq (c ∷ word) row.0)) [
+  | inl e ↦ (let on : starts test row.0 ≡ true = sym (ap (starts test) ((bytes_eq-Decides (c ∷ word) row.0).0 e)) ∙ h in rw (on, e) refl)
+  | inr e ↦ elim (cases_Bool (starts test row.0)) [
+    | inl on ↦ rw (on, e) (kept test c word table h)
+    | inr off ↦ rw (off, e) (kept test c word table h)
+  ]
+]
+
+-- a word finds its command among those that begin as it does
+pub named_among : (test : ℕ → Bool) (c : ℕ) (rest : List ℕ) → test c ≡ true → lookup (bytes_eq []) (rows_of test) ≡ None
+    → lookup (bytes_eq (first_word (c ∷ rest))) (rows_of test) ≡ operator_named (first_word (c ∷ rest))
+named_among test c rest h none = elim (cases_Bool (is_blank c)) [
+  | inl blank ↦ rw blank (none ∙ named_alike [])
+  | inr other ↦ rw (other, one-add) (kept test c (first_word rest) drawing_first h ∙ named_alike (c ∷ first_word rest))
+]
+
+-- and no word finds none
+pub nothing_named : (text : List ℕ) → length text < 1 → operator_named (first_word text) ≡ None
+unfolding operator_named operator_words
+nothing_named [] h = refl
+nothing_named (c ∷ text) h = absurd (omega (arith, h))

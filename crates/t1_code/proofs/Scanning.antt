@@ -1,18 +1,20 @@
 -- The digits at the front of a text, and the word that they begin.
-use Rattle.std.proofs.Common.{◌≡◌, ℕ, ◌+◌, ◌<◌, ◌≤◌, Bool, true, false, not, ◌&&◌, ◌==◌, nat_lt, List, [], ◌∷◌, length, zero, suc, Result, Err, min, ◌-◌, ◌^◌, take, drop, take_all, length-take, refl, sym, ap, ◌∙◌, inl, inr, arith}
+use Rattle.std.proofs.Common.{◌≡◌, ℕ, ◌+◌, ◌<◌, ◌≤◌, Bool, true, false, not, ◌&&◌, ◌==◌, nat_lt, List, [], ◌∷◌, length, zero, suc, None, Some, Result, Ok, Err, min, subst, length-take-le, ◌-◌, ◌^◌, take, drop, length-take, refl, sym, ap, ◌∙◌, inl, inr, arith}
 use Rattle.std.specs.List.{list_all, prefix_len, position_or_len}
 use Rattle.std.specs.Char.{is_ascii_digit}
 use Rattle.std.specs.Str.Parse.{starts_with_minus}
-use Rattle.std.proofs.lemmas.Bool.{cases_Bool, eqb-true, not-true, not-false, lt-ltb, le-ltb, cases_lt}
+use Rattle.std.proofs.lemmas.Bool.{cases_Bool, and_parts, eqb-true, not-true, not-false, lt-ltb, le-ltb, cases_lt}
+use Rattle.std.specs.Str.{bytes_eq}
+use Rattle.std.proofs.lemmas.Slice.Eq.{bytes_eq-Decides}
 use Rattle.std.proofs.lemmas.List.Sums.{prefix_len-le-length}
 use Rattle.std.proofs.Math.Numerals.{one-add}
-use Rattle.t1_frac.proofs.WordLaws.{front_stays, no_word_at, word_at}
+use Rattle.t1_frac.proofs.WordLaws.{front_stays, no_word_at, word_at, word_shortens}
 use Rattle.t1_frac.specs.Words.{is_blank, trimmed_front, word_goes_on, words}
-use Rattle.t1_code.specs.Words.{first_word, in_32_bits, number_command, number_of_word, operator_named, or_unknown, command_of_word, command_then, commands_of_words}
+use Rattle.t1_code.specs.Words.{first_word, in_32_bits, number_command, number_of_word, operator_named, operator_words, or_unknown, command_of_word, command_then, commands_of_words}
 use Rattle.t1_frac.specs.Numbers.{digits_of_word, is_number_word, number_written, signed, decimal_value}
 use Rattle.t1_code.specs.declared.command.Command.{Command}
 use Rattle.t1_frac.specs.declared.fault.Code.{Code}
-use Rattle.t1_frac.specs.declared.fault.Code.TheVariants.{F21}
+use Rattle.t1_frac.specs.declared.fault.Code.TheVariants.{F20, F21}
 
 and_false : (b : Bool) → (b && false) ≡ false
 and_false true = refl
@@ -200,3 +202,76 @@ named_line line (c ∷ rest) word after command e other split is =
     let same : first_word (c ∷ rest) ≡ word = cc in
     ap commands_of_words (words_trimmed line (c ∷ rest) e ∙ split)
     ∙ ap (λ x. command_then x (commands_of_words (words after))) (sym (other_word word command (ap is_number_word (sym same) ∙ other) is))
+
+-- ---- the first word of a text against another word
+
+word_stops : (text : List ℕ) → word_goes_on (drop (position_or_len is_blank text) text) ≡ false
+word_stops [] = refl
+word_stops (c ∷ text) = elim (cases_Bool (is_blank c)) [
+  | inl blank ↦ rw blank (ap not blank)
+  | inr other ↦ rw (other, one-add) (word_stops text)
+]
+
+word_within : (text : List ℕ) → position_or_len is_blank text ≤ length text
+word_within [] = omega arith
+word_within (c ∷ text) = elim (cases_Bool (is_blank c)) [
+  | inl blank ↦ rw blank (omega arith)
+  | inr other ↦ (let more = word_within text in rw other (omega (arith, more)))
+]
+
+word_len : (word text : List ℕ) → first_word text ≡ word → position_or_len is_blank text ≡ length word
+word_len word text e = sym (length-take-le (position_or_len is_blank text) text (word_within text)) ∙ ap length e
+
+-- a text that begins with a word, which ends there
+word_begins : (word text : List ℕ) → list_all (λ c. not (is_blank c)) word ≡ true → take (length word) text ≡ word → word_goes_on (drop (length word) text) ≡ false → position_or_len is_blank text ≡ length word
+word_begins [] [] all h ends = refl
+word_begins [] (c ∷ text) all h ends = rw (not-false (is_blank c) ends) refl
+word_begins (b ∷ word) [] all h ends = absurd (cc)
+word_begins (b ∷ word) (c ∷ text) all h ends =
+    let first : c ≡ b = cc in
+    let rest : take (length word) text ≡ word = cc in
+    let parts = and_parts (not (is_blank b)) (list_all (λ d. not (is_blank d)) word) all in
+    let other : is_blank c ≡ false = ap is_blank first ∙ not-true (is_blank b) parts.0 in
+    let more = word_begins word text parts.1 rest ends in
+    rw other (omega (arith, more))
+
+pub word_found : (word text after : List ℕ) → list_all (λ c. not (is_blank c)) word ≡ true → bytes_eq (take (length word) text) word ≡ true → after ≡ drop (length word) text
+    → word_goes_on after ≡ false → (bytes_eq (first_word text) word ≡ true) × (after ≡ drop (position_or_len is_blank text) text)
+word_found word text after all h a ends =
+    let front = (bytes_eq-Decides (take (length word) text) word).0 h in
+    let size = word_begins word text all front (ap word_goes_on (sym a) ∙ ends) in (
+      (bytes_eq-Decides (first_word text) word).1 (ap (λ n. take n text) size ∙ front),
+      a ∙ ap (λ n. drop n text) (sym size),
+    )
+
+pub word_goes_further : (word text after : List ℕ) → after ≡ drop (length word) text → word_goes_on after ≡ true → bytes_eq (first_word text) word ≡ false
+word_goes_further word text after a on = elim (cases_Bool (bytes_eq (first_word text) word)) [
+  | inr other ↦ other
+  | inl same ↦ (let size = word_len word text ((bytes_eq-Decides (first_word text) word).0 same) in
+      let off : true ≡ false = sym on ∙ ap word_goes_on a ∙ ap (λ n. word_goes_on (drop n text)) (sym size) ∙ word_stops text in
+      absurd (cc))
+]
+
+-- ---- a line whose first word is no number
+
+some_word : (rest : List ℕ) (command : Command) → operator_named (first_word rest) ≡ Some command → 0 < length rest
+unfolding operator_named operator_words
+some_word [] command h = absurd (cc)
+some_word (c ∷ rest) command h = omega arith
+
+pub first_named : (line rest after : List ℕ) (command : Command) → rest ≡ trimmed_front line → is_number_word (first_word rest) ≡ false
+    → operator_named (first_word rest) ≡ Some command → after ≡ drop (position_or_len is_blank rest) rest
+    → (commands_of_words (words line) ≡ command_then (Ok command) (commands_of_words (words after))) × (length after < length line)
+first_named line rest after command e other is a =
+    let some = some_word rest command is in (
+      named_line line rest (first_word rest) after (Ok command) e other (word_at rest rest (trimmed_once line rest e) some ∙ ap (λ l. first_word rest ∷ words l) (sym a)) (sym (ap or_unknown is)),
+      subst (λ l. length l < length line) (sym a) (word_shortens line rest e some),
+    )
+
+pub first_unknown : (line rest word after : List ℕ) → rest ≡ trimmed_front line → is_number_word (first_word rest) ≡ false
+    → operator_named (first_word rest) ≡ None → words rest ≡ word ∷ words after → commands_of_words (words line) ≡ command_then (Err F20) (commands_of_words (words after))
+first_unknown line [] word after e other is split = absurd (cc)
+first_unknown line (c ∷ rest) word after e other is split =
+    let first = word_at (c ∷ rest) (c ∷ rest) (trimmed_once line (c ∷ rest) e) (omega arith) in
+    let same : first_word (c ∷ rest) ≡ word = cc in
+    named_line line (c ∷ rest) word after (Err F20) e other split (sym (ap or_unknown (ap operator_named (sym same) ∙ is)))

@@ -24,8 +24,10 @@ fn push_number(code: &mut Vec<u8>, number: i32) -> Result<(), AllocError>
     ensures front { take (length code.old.items) code.new.items ≡ code.old.items }
     ensures value { OnOk result (code.new.items ≡ code.old.items ++ number_bytes number) }
 {
+    if -107 <= number && number <= 107 {
+        return code.extend_from_slice(&[(number + 139) as u8]);
+    }
     match number {
-        -107..=107 => code.extend_from_slice(&[(number + 139) as u8]),
         108..=1131 => code.extend_from_slice(&two_bytes_of(247, number as u16)),
         -1131..=-108 => code.extend_from_slice(&two_bytes_of(251, -number as u16)),
         _ => {
@@ -71,6 +73,19 @@ impl Command {
     }
 }
 
+/// Adds the bytes of an operator, which mostly is one.
+#[inline(always)]
+fn push_operator(code: &mut Vec<u8>, operator: &[u8]) -> Result<(), AllocError>
+    ensures front { take (length code.old.items) code.new.items ≡ code.old.items }
+    ensures value { OnOk result (code.new.items ≡ code.old.items ++ operator.now) }
+{
+    match operator {
+        [byte] => code.push(*byte)?,
+        _ => code.extend_from_slice(operator)?,
+    }
+    Ok(())
+}
+
 /// Adds the bytes of a command.
 #[inline(always)]
 pub(crate) fn push_command(code: &mut Vec<u8>, command: Command) -> Result<(), AllocError>
@@ -79,7 +94,7 @@ pub(crate) fn push_command(code: &mut Vec<u8>, command: Command) -> Result<(), A
 {
     match command {
         Command::Num(number) => push_number(code, number),
-        operator => code.extend_from_slice(operator.operator()),
+        operator => push_operator(code, operator.operator()),
     }
 }
 

@@ -5,18 +5,16 @@ use std::io::{self, ErrorKind, Write};
 use std::test::Fail;
 use t1_frac::Words;
 
-fn body(alloc: Global, text: &str) -> Result<Words, Fail> {
-    let mut words = Words::new(alloc);
-    words.push_line(text.as_bytes())?;
-    Ok(words)
+fn body(text: &str) -> Words<'_> {
+    Words::of(text.as_bytes())
 }
 
 #[test]
 fn assembles(rt: HostRuntime) -> Result<(), Fail> {
     let alloc = rt.alloc();
-    let code = assemble(alloc, &body(alloc, "15 721 hsbw")?)?;
+    let code = assemble(alloc, &body("15 721 hsbw"))?;
     assert_eq!(rt; code.as_slice(), [0x9A, 0xF9, 0x65, 0x0D].as_slice());
-    let compiled = compile(alloc, &body(alloc, "0 250 hsbw endchar")?)?;
+    let compiled = compile(alloc, &body("0 250 hsbw endchar"))?;
     let code = charstring_of(alloc, compiled.commands())?;
     assert_eq!(rt; code.as_slice(), [0x8B, 0xF7, 0x8E, 0x0D, 0x0E].as_slice());
     Ok(())
@@ -29,7 +27,7 @@ fn encrypts(rt: HostRuntime) -> Result<(), Fail> {
     let expected = [0x10, 0xBF, 0x31, 0x70, 0x79, 0xC7, 0x57, 0xBF, 0x91];
     let text = encrypt(alloc, 4330, 4, &plain)?;
     assert_eq!(rt; text.as_slice(), expected.as_slice());
-    let compiled = compile(alloc, &body(alloc, "0 250 hsbw endchar")?)?;
+    let compiled = compile(alloc, &body("0 250 hsbw endchar"))?;
     let bare = encrypted_charstring(alloc, 0, compiled.commands())?;
     assert_eq!(rt; bare.as_slice(), [0x9B, 0x23, 0xB0, 0xBB, 0x08].as_slice());
     Ok(())

@@ -1,9 +1,11 @@
 //! The words of a body, read as commands.
-ghost use Rattle.std.specs.Prelude.{◌≡◌, ◌<◌, ◌≤◌, [], ◌∷◌, false, nat_lt, length, IfSome, MatchOption};
+ghost use Rattle.std.specs.Prelude.{◌≡◌, ◌<◌, ◌≤◌, [], ◌∷◌, true, false, not, nat_lt, drop, length, IfSome, MatchOption};
+ghost use Rattle.std.specs.List.{list_all, position_or_len};
+ghost use Rattle.std.specs.Str.{bytes_eq};
 ghost use Rattle.t1_frac.specs.Outcome.{Gives, told_at};
-ghost use Rattle.t1_frac.specs.Words.{word_goes_on, words};
+ghost use Rattle.t1_frac.specs.Words.{is_blank, word_goes_on, words};
 ghost use Rattle.t1_frac.specs.declared.fault.Place.TheVariants.{Nowhere};
-ghost use Rattle.t1_code.specs.Words.{number_command, in_32_bits, first_word, or_unknown, operator_named, command_of_word, command_then, commands_of_words, commands};
+ghost use Rattle.t1_code.specs.Words.{number_command, in_32_bits, first_word, command_of_word, command_then, commands_of_words, commands};
 ghost use Rattle.t1_frac.specs.Numbers.{signed, is_number_word};
 
 use crate::body::Body;
@@ -20,14 +22,14 @@ const MAX_WORDS: usize = 65_535;
 fn number_command(minus: bool, size: u64) -> Result<Command, Code>
     ensures { result ≡ number_command (in_32_bits (signed minus size)) }
 {
-    if size > 1 << 31 {
-        return Err(Code::F21);
+    if size < 1 << 31 {
+        let number = size as i32;
+        return Ok(Command::Num(if minus { -number } else { number }));
     }
-    let size = size as i64;
-    match i32::try_from(if minus { -size } else { size }) {
-        Ok(number) => Ok(Command::Num(number)),
-        Err(_) => Err(Code::F21),
+    if minus && size == 1 << 31 {
+        return Ok(Command::Num(i32::MIN));
     }
+    Err(Code::F21)
 }
 
 /// Whether a text goes on with a byte of a word.
@@ -38,6 +40,21 @@ fn goes_on(text: &[u8]) -> bool
         [] => false,
         [byte, ..] => !is_blank(*byte),
     }
+}
+
+/// The bytes after the first word of a text, where it is this one.
+#[inline(always)]
+pub(crate) fn after_word<'a>(word: &[u8], text: &'a [u8]) -> Option<&'a [u8]>
+    requires { list_all (λ c. not (is_blank c)) word.now ≡ true }
+    ensures { MatchOption
+        result
+        (bytes_eq (first_word text.now) word.now ≡ false)
+        (λ after. (bytes_eq (first_word text.now) word.now ≡ true) × (after.now ≡ drop (position_or_len is_blank text.now) text.now)) }
+{
+    let Some(after) = text.strip_prefix(word) else {
+        return None;
+    };
+    if goes_on(after) { None } else { Some(after) }
 }
 
 /// The number word that a text begins with, as a command, and the bytes after it; nothing where the text begins with
@@ -61,16 +78,6 @@ fn first_number(text: &[u8]) -> Option<(Result<Command, Code>, &[u8])>
     Some((number_command(digits.len() < text.len(), size), after))
 }
 
-/// The command that a word names.
-fn named(word: &[u8]) -> Result<Command, Code>
-    ensures { result ≡ or_unknown (operator_named word.now) }
-{
-    match Command::named(word) {
-        Some(command) => Ok(command),
-        None => Err(Code::F20),
-    }
-}
-
 /// What the first word of a line says, and the bytes after the word; nothing where the line has no word.
 #[inline(always)]
 pub(crate) fn next_command(line: &[u8]) -> Option<(Result<Command, Code>, &[u8])>
@@ -84,10 +91,13 @@ pub(crate) fn next_command(line: &[u8]) -> Option<(Result<Command, Code>, &[u8])
     if let Some((number, after)) = first_number(rest) {
         return Some((number, after));
     }
-    let Some((word, after)) = next_word(rest) else {
+    if let Some((command, after)) = Command::first(rest) {
+        return Some((Ok(command), after));
+    }
+    let Some((_word, after)) = next_word(rest) else {
         return None;
     };
-    Some((named(word), after))
+    Some((Err(Code::F20), after))
 }
 
 /// How many words a text has.

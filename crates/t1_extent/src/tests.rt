@@ -189,8 +189,7 @@ impl KeptRuns for Font {
 
 /// Adds a glyph's compiled body.
 fn add_body(alloc: Global, bodies: &mut Plain, name: &str, words: &str) -> Result<(), Fail> {
-    let mut list = Words::new(alloc);
-    list.push_line(words.as_bytes())?;
+    let list = Words::of(words.as_bytes());
     let name = Vec::from_slice(alloc, name.as_bytes())?;
     bodies.glyphs.insert(name, compile(alloc, &list)?)?;
     Ok(())

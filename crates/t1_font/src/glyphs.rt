@@ -59,7 +59,7 @@ impl MeasuredGlyphs {
 }
 
 /// The name of an item that is a glyph.
-fn name_of(item: &Item) -> Option<&[u8]>
+fn name_of<'i>(item: &'i Item) -> Option<&'i [u8]>
     ensures { option_to_list (option_map (λ name. name.now) result) ≡ name_in item.now }
 {
     match item {

@@ -4,4 +4,5 @@ pub mod Limits
 pub mod Numbers
 pub mod Outcome
 pub mod Rounding
+pub mod Runs
 pub mod Words

@@ -8,6 +8,7 @@ mod frac;
 mod gcd;
 pub mod laws;
 mod number;
+mod source_text;
 mod words;
 
 pub use bytes::Bytes;
@@ -16,7 +17,8 @@ pub use frac::Frac;
 pub use number::{
     are_digits, digits_of_word, is_number_word, leading_number, magnitude, number_word,
 };
-pub use words::{Words, blank_len, is_blank, next_word, skip_blanks};
+pub use source_text::SourceText;
+pub use words::{OwnedWords, Words, blank_len, is_blank, next_word, skip_blanks};
 
 #[cfg(test)]
 mod tests;

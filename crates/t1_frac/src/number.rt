@@ -35,11 +35,31 @@ fn with_digit(value: u64, digit: u8) -> u64
     requires { digit ≤ 9 }
     ensures { result ≡ min (10 * value + digit) (2 ^ 64 - 1) }
 {
-    if value < 1 << 60 {
-        return value * 10 + u64::from(digit);
-    }
     value.saturating_mul(10).saturating_add(u64::from(digit))
 }
+
+/// The same as `leading_number`, for digits that may write more than 64 bits hold.
+#[cold]
+#[inline(never)]
+fn leading_large_number(text: &[u8]) -> (u64, usize)
+    ensures within { result.1 ≤ length text.now }
+    ensures count { result.1 ≡ prefix_len is_ascii_digit text.now }
+    ensures value { result.0 ≡ min (decimal_value (take result.1 text.now)) (2 ^ 64 - 1) }
+{
+    let mut value: u64 = 0;
+    let mut count = 0;
+    for byte in text {
+        if !byte.is_ascii_digit() {
+            return (value, count);
+        }
+        value = with_digit(value, *byte - b'0');
+        count += 1;
+    }
+    (value, count)
+}
+
+/// From this number on, which few words reach, digits are read with an eye on the end of 64 bits.
+const LARGE: u64 = 1 << 30;
 
 /// The number that the digits at the front of a text write, or 2^64 - 1 where it is more, and how many digits there
 /// are.
@@ -54,7 +74,10 @@ pub fn leading_number(text: &[u8]) -> (u64, usize)
         if !byte.is_ascii_digit() {
             return (value, count);
         }
-        value = with_digit(value, *byte - b'0');
+        if value >= LARGE {
+            return leading_large_number(text);
+        }
+        value = value * 10 + u64::from(*byte - b'0');
         count += 1;
     }
     (value, count)

@@ -1,6 +1,7 @@
 //! Worked rows.
 
 use super::*;
+use std::alloc::Global;
 use std::test::Fail;
 
 fn ratio(num: i32, den: i32) -> Option<Frac> {
@@ -56,5 +57,45 @@ fn reads_number_words(rt: HostRuntime) -> Result<(), Fail> {
     assert_eq!(rt; number_word(b"9223372036854775808"), Some(i64::MAX));
     assert_eq!(rt; number_word(b"-"), None);
     assert_eq!(rt; number_word(b"1.5"), None);
+    Ok(())
+}
+
+/// Whether a copy has the bytes of a text, as they are and in memory of its own.
+fn copies(alloc: Global, bytes: &[u8]) -> Result<bool, Fail> {
+    let text = SourceText::copy_of(alloc, bytes)?;
+    let copy = text.copied(alloc)?;
+    let borrowed = SourceText::borrowed(bytes).copied(alloc)?;
+    Ok(copy.as_slice() == bytes && borrowed.as_slice() == bytes)
+}
+
+#[test]
+fn copies_texts(rt: HostRuntime) -> Result<(), Fail> {
+    let are_same = copies(rt.alloc(), b"noaccess def")?;
+    assert!(rt; are_same);
+    Ok(())
+}
+
+/// Whether this is the first of some words.
+fn begins(words: &Words, first: &[u8]) -> bool {
+    match next_word(words.as_bytes()) {
+        Some((word, _)) => word == first,
+        None => false,
+    }
+}
+
+/// Words that were put together of two lines, and copied.
+fn of_two_lines(alloc: Global) -> Result<bool, Fail> {
+    let mut words = OwnedWords::new(alloc);
+    words.push_line(b"0 250 hsbw")?;
+    words.push_line(b"endchar")?;
+    let copy = words.into_words().copied(alloc)?;
+    Ok(begins(&copy, b"0"))
+}
+
+#[test]
+fn puts_words_together(rt: HostRuntime) -> Result<(), Fail> {
+    let are_together = of_two_lines(rt.alloc())?;
+    assert!(rt; are_together);
+    assert!(rt; begins(&Words::of(b"\n12 hsbw"), b"12"));
     Ok(())
 }

@@ -1,18 +1,61 @@
-ghost use Rattle.std.specs.Prelude.{◌≡◌, ◌≤◌, ◌<◌, [], ◌∷◌, ◌++◌, length, IfSome, MatchOption, OnOk, OnErr};
+ghost use Rattle.std.specs.Prelude.{◌≡◌, ◌≤◌, ◌<◌, [], ◌∷◌, ◌++◌, length, IfSome, MatchOption, IfOk, OnOk, OnErr};
 ghost use Rattle.std.specs.List.{prefix_len, position_or_len};
 ghost use Rattle.t1_frac.specs.Words.{is_blank, trimmed_front, words};
 
+use crate::source_text::SourceText;
 use std::alloc::{AllocError, Global};
 use std::marker::Model;
 
-/// The words of an entry's body, kept as one run of bytes with blanks between them. Contracts see the list of
-/// the words.
+/// The words of an entry's body, kept as one run of bytes with blanks between them: those between its braces, where they stand
+/// in the source that was read, or bytes of their own. Contracts see the list of the words.
 #[derive(Debug, Drop)]
-pub struct Words {
+pub struct Words<'a> {
+    text: SourceText<'a>,
+}
+
+impl<'a> Model for Words<'a> {
+    ghost use Rattle.std.specs.Prelude.{List, ℕ};
+    ghost use Rattle.t1_frac.specs.Words.{words};
+
+    ghost Value = { List (List ℕ) };
+
+    ghost view = { λ run. words run.text };
+}
+
+impl<'a> Words<'a> {
+    /// The words of these bytes, where they stand. It takes no memory.
+    pub fn of(bytes: &'a [u8]) -> Self
+        ensures { result ≡ words bytes.now }
+    {
+        Words {
+            text: SourceText::borrowed(bytes),
+        }
+    }
+
+    /// Bytes whose words these are, with blanks between them.
+    pub fn as_bytes(&self) -> &[u8]
+        ensures { words result.now ≡ self.now }
+    {
+        self.text.as_slice()
+    }
+
+    /// A copy. It takes no memory where the bytes are borrowed.
+    pub fn copied(&self, alloc: Global) -> Result<Words<'a>, AllocError>
+        ensures { IfOk result (λ copy. copy ≡ self.now) }
+    {
+        Ok(Words {
+            text: self.text.copied(alloc)?,
+        })
+    }
+}
+
+/// Words that are put together line by line, in memory of their own. Contracts see the list of the words.
+#[derive(Drop)]
+pub struct OwnedWords {
     bytes: Vec<u8>,
 }
 
-impl Model for Words {
+impl Model for OwnedWords {
     ghost use Rattle.std.specs.Prelude.{List, ℕ};
     ghost use Rattle.t1_frac.specs.Words.{words};
 
@@ -21,21 +64,14 @@ impl Model for Words {
     ghost view = { λ run. words run.bytes.items };
 }
 
-impl Words {
+impl OwnedWords {
     /// No words.
     pub fn new(alloc: Global) -> Self
         ensures { result ≡ [] }
     {
-        Words {
+        OwnedWords {
             bytes: Vec::new(alloc),
         }
-    }
-
-    /// Bytes whose words these are, with blanks between them.
-    pub fn as_bytes(&self) -> &[u8]
-        ensures { words result.now ≡ self.now }
-    {
-        self.bytes.as_slice()
     }
 
     /// Adds the words of a line. Where memory runs out, they are the words as before.
@@ -47,6 +83,15 @@ impl Words {
         self.bytes.push(b' ')?;
         self.bytes.extend_from_slice(line)?;
         Ok(())
+    }
+
+    /// These words. It takes no memory.
+    pub fn into_words<'a>(self) -> Words<'a>
+        ensures { result ≡ self }
+    {
+        Words {
+            text: SourceText::owned(self.bytes),
+        }
     }
 }
 

@@ -23,18 +23,18 @@ use t1_source::{Change, Edit, Source};
 
 /// Edits of a source that keep the edit rules, and how the source is known that they make. A single edit is a batch of one.
 #[derive(Drop)]
-pub enum Edits<'a> {
+pub enum Edits<'e, 'a> {
     /// One edit of a source and its pairs, and the change that was prepared for it: the edited source isn't there yet.
     One {
-        source: &'a Source,
-        pairs: &'a Pairs,
-        edit: &'a Edit,
-        change: &'a Change,
+        source: &'e Source<'a>,
+        pairs: &'e Pairs,
+        edit: &'e Edit,
+        change: &'e Change<'a>,
     },
     /// The source that the edits of a batch made, and the entries that they name.
     Batch {
-        source: &'a Source,
-        made: &'a Source,
+        source: &'e Source<'a>,
+        made: &'e Source<'a>,
         entries: Vec<EditedEntry>,
     },
 }
@@ -60,9 +60,9 @@ fn changes_of_batch(
     batch_changes(alloc, made, entries)
 }
 
-impl<'a> Edits<'a> {
+impl<'e, 'a> Edits<'e, 'a> {
     /// How the source is known that the edits make.
-    pub(crate) fn made(&self) -> Made<'a>
+    pub(crate) fn made(&self) -> Made<'e, 'a>
         ensures { result ≡ made_by self.now }
     {
         match self {
@@ -81,7 +81,7 @@ impl<'a> Edits<'a> {
     }
 
     /// The source that is edited.
-    pub(crate) fn source(&self) -> &'a Source
+    pub(crate) fn source(&self) -> &'e Source<'a>
         ensures { result.now ≡ source_of self.now }
     {
         match self {

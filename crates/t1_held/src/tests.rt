@@ -51,7 +51,7 @@ const THREE: &str = "\
     mark currentfile closefile\n";
 
 /// A source that is well formed, as each that was read is.
-fn read(alloc: Global, text: &str) -> Result<Source, Fail>
+fn read(alloc: Global, text: &str) -> Result<Source<'_>, Fail>
     ensures { IfOk result IsWellFormed }
 {
     read_source_is_well_formed();
@@ -59,7 +59,7 @@ fn read(alloc: Global, text: &str) -> Result<Source, Fail>
 }
 
 /// A font after an edit, what is held of it then, and how many runs were counted.
-fn edited(alloc: Global, text: &str, edit: &Edit) -> Result<(Source, Held, u64), Fail>
+fn edited<'a>(alloc: Global, text: &'a str, edit: &Edit) -> Result<(Source<'a>, Held, u64), Fail>
     ensures { IfOk result (λ made. IsHeld made.0 made.1) }
 {
     let mut source = read(alloc, text)?;
@@ -152,12 +152,12 @@ fn writes_in_hexadecimal(rt: HostRuntime) -> Result<(), Fail> {
 }
 
 /// A font after a batch of two edits, what is held of it then, and how many runs were counted.
-fn committed(
+fn committed<'a>(
     alloc: Global,
-    text: &str,
+    text: &'a str,
     first: &Edit,
     second: &Edit,
-) -> Result<(Source, Held, u64), Fail>
+) -> Result<(Source<'a>, Held, u64), Fail>
     ensures { IfOk result (λ made. IsHeld made.0 made.1) }
 {
     let source = read(alloc, text)?;

@@ -13,6 +13,7 @@ pub mod PartLaws
 pub mod PieceLaws
 pub mod ReadingRows
 pub mod RunLaws
+pub mod SearchLaws
 pub mod SectionLaws
 pub mod TailLaws
 pub mod TextPlaceLaws

@@ -1,5 +1,5 @@
 -- Sources cut into their parts.
-use Rattle.std.proofs.Common.{◌≡◌, ◌≤◌, ◌<◌, ◌+◌, ◌-◌, ◌||◌, Bool, true, false, suc, if◌then◌else◌, ℕ, None, Some, Ok, Err, List, [], ◌∷◌, ◌++◌, length, take, drop, codes, nat_lt, refl, sym, ◌∙◌, inl, inr, ap, subst, arith}
+use Rattle.std.proofs.Common.{◌≡◌, ◌≤◌, ◌<◌, ◌+◌, ◌-◌, Bool, true, false, suc, if◌then◌else◌, ℕ, None, Some, Ok, Err, List, [], ◌∷◌, ◌++◌, length, take, drop, nat_lt, refl, sym, ◌∙◌, inl, inr, ap, arith}
 use Rattle.std.specs.List.{list_any, position, position_or_len}
 use Rattle.std.proofs.lemmas.Bool.{cases_Bool, le-ltb, lt-ltb}
 use Rattle.std.proofs.lemmas.List.{append_assoc, append-nil, take_all}
@@ -8,7 +8,7 @@ use Rattle.t1_frac.specs.declared.fault.Code.TheVariants.{F1, F2}
 use Rattle.t1_frac.specs.declared.fault.Place.TheVariants.{Nowhere}
 use Rattle.t1_frac.specs.Outcome.{fault_at}
 use Rattle.t1_text.specs.Lines.{lines}
-use Rattle.t1_parts.specs.Parts.{ends_in, is_eexec, is_closefile, parts_of, IsCut}
+use Rattle.t1_parts.specs.Parts.{is_eexec, is_closefile, parts_of, IsCut, gone, AreCutAfter, NoneGone}
 
 -- a function of two that are each the same
 pub ap_both : {A B C : Type 0} (f : A → B → C) (x y : A) (u v : B) → x ≡ y → u ≡ v → f x u ≡ f y v
@@ -85,21 +85,6 @@ parts_cut ls clear eexec rest private closefile tail cut next =
 
 -- ---- bytes cut after whole lines
 
--- the bytes before the rest of some bytes
-abbrev pub gone : List ℕ → List ℕ → List ℕ
-gone bytes rest = take (length bytes - length rest) bytes
-
--- the lines of more of the bytes are those before the rest, and those of the rest's front
-abbrev pub AreCutAfter : List ℕ → List ℕ → Type 0
-AreCutAfter bytes rest = (j : ℕ) → lines (take (length bytes - length rest + j) bytes) ≡ lines (gone bytes rest) ++ lines (take j rest)
-
--- nothing is before the bytes themselves
-pub uncut : (bytes : List ℕ) → AreCutAfter bytes bytes
-uncut bytes j =
-    let size : length bytes - length bytes ≡ 0 = omega arith in
-    let more : length bytes - length bytes + j ≡ j = omega arith in
-    ap (λ k. lines (take k bytes)) more ∙ sym (ap (λ k. lines (take k bytes) ++ lines (take j bytes)) size)
-
 -- a line further
 pub cut_further : (bytes rest line after : List ℕ) → length rest ≤ length bytes → length after < length rest
     → ((j : ℕ) → lines (take (length rest - length after + j) rest) ≡ line ∷ lines (take j after)) → AreCutAfter bytes rest
@@ -121,5 +106,25 @@ lines_cut bytes rest within h =
     ∙ ap (λ l. lines (gone bytes rest) ++ lines l) (take_all (length rest) rest (omega arith))
 
 -- none of the lines before passes the test, nor does one more
-pub none_further : (test : List ℕ → Bool) (ls more : List (List ℕ)) (line : List ℕ) → list_any test ls ≡ false → test line ≡ false → more ≡ ls ++ line ∷ [] → list_any test more ≡ false
-none_further test ls more line h k e = ap (list_any test) e ∙ list_any-append test ls (line ∷ []) ∙ (rw (h, k) refl)
+pub none_further : (test : List ℕ → Bool) (bytes rest line after : List ℕ) → length after < length rest
+    → ((j : ℕ) → lines (take (length rest - length after + j) rest) ≡ line ∷ lines (take j after)) → test line ≡ false → NoneGone test bytes rest → NoneGone test bytes after
+none_further test bytes rest line after fewer cut off h =
+    let further = cut_further bytes rest line after h.0 fewer cut h.1 in (
+      omega (arith, h.0, fewer),
+      further.1,
+      ap (list_any test) further.0 ∙ list_any-append test (lines (gone bytes rest)) (line ∷ []) ∙ (rw (h.2, off) refl),
+    )
+
+-- nor does one of those that are gone then
+pub none_over : (test : List ℕ → Bool) (bytes rest after : List ℕ) → NoneGone test bytes rest → NoneGone test rest after → NoneGone test bytes after
+none_over test bytes rest after h k =
+    let all : (j : ℕ) → lines (take (length bytes - length after + j) bytes) ≡ lines (gone bytes rest) ++ (lines (gone rest after) ++ lines (take j after)) =
+    λ j. (let size : length bytes - length after + j ≡ length bytes - length rest + (length rest - length after + j) = omega (arith, h.0, k.0) in
+    ap (λ n. lines (take n bytes)) size ∙ h.1 (length rest - length after + j) ∙ ap (λ ls. lines (gone bytes rest) ++ ls) (k.1 j)) in
+    let none : length bytes - length after ≡ length bytes - length after + 0 = omega arith in
+    let now : lines (gone bytes after) ≡ lines (gone bytes rest) ++ lines (gone rest after) =
+    ap (λ n. lines (take n bytes)) none ∙ all 0 ∙ ap (λ ls. lines (gone bytes rest) ++ ls) (append-nil (lines (gone rest after))) in (
+      omega (arith, h.0, k.0),
+      λ j. all j ∙ sym (ap (λ ls. ls ++ lines (take j after)) now ∙ append_assoc (lines (gone bytes rest)) (lines (gone rest after)) (lines (take j after))),
+      ap (list_any test) now ∙ list_any-append test (lines (gone bytes rest)) (lines (gone rest after)) ∙ (rw (h.2, k.2) refl),
+    )

@@ -11,14 +11,14 @@ ghost use Rattle.t1_parts.specs.Pieces.{IsAfter};
 
 use crate::piece::{Piece, piece_of};
 use std::alloc::{AllocError, Global};
-use t1_frac::{Bytes, Words};
+use t1_frac::{OwnedWords, SourceText, Words};
 use t1_text::line_ends;
 
 /// The words of an entry, its closing text, and how many lines it takes after its first.
 #[derive(Drop)]
-pub struct EntryBody {
-    pub words: Words,
-    pub closing: Bytes,
+pub struct EntryBody<'a> {
+    pub words: Words<'a>,
+    pub closing: SourceText<'a>,
     pub more: usize,
 }
 
@@ -58,12 +58,12 @@ fn has_any_brace(line: &[u8]) -> bool
     line.iter().any(|byte| is_brace(*byte))
 }
 
-/// The body at the front of some bytes, and the bytes after the line on which it ends; nothing where it isn't ended.
-pub fn body_of(alloc: Global, bytes: &[u8]) -> Result<Option<(EntryBody, &[u8])>, AllocError>
+/// The body at the front of some bytes, of which the first piece has a comment after it, with words in memory of its own.
+fn commented_body(alloc: Global, bytes: &[u8]) -> Result<Option<(EntryBody<'_>, &[u8])>, AllocError>
     ensures value { IfOk result (λ found. option_map (λ f. f.0) found ≡ body_of (lines bytes.now)) }
     ensures after { IfOk result (λ found. IfSome found (λ f. IsAfter (f.0.more + 1) bytes.now f.1.now)) }
 {
-    let mut words = Words::new(alloc);
+    let mut words = OwnedWords::new(alloc);
     let mut more = 0;
     let mut piece = piece_of(bytes);
     while let Piece::Commented(front, after) = piece {
@@ -76,13 +76,32 @@ pub fn body_of(alloc: Global, bytes: &[u8]) -> Result<Option<(EntryBody, &[u8])>
     };
     words.push_line(front)?;
     more += line_ends(front);
-    let closing = Bytes::copied(alloc, closing)?;
     let body = EntryBody {
-        words,
-        closing,
+        words: words.into_words(),
+        closing: SourceText::borrowed(closing),
         more,
     };
     Ok(Some((body, after)))
+}
+
+/// The body at the front of some bytes, and the bytes after the line on which it ends; nothing where it isn't ended. Its words
+/// stay where they stand, unless there is a comment among them.
+pub fn body_of(alloc: Global, bytes: &[u8]) -> Result<Option<(EntryBody<'_>, &[u8])>, AllocError>
+    ensures value { IfOk result (λ found. option_map (λ f. f.0) found ≡ body_of (lines bytes.now)) }
+    ensures after { IfOk result (λ found. IfSome found (λ f. IsAfter (f.0.more + 1) bytes.now f.1.now)) }
+{
+    match piece_of(bytes) {
+        Piece::Closed(front, closing, after) => {
+            let body = EntryBody {
+                words: Words::of(front),
+                closing: SourceText::borrowed(closing),
+                more: line_ends(front),
+            };
+            Ok(Some((body, after)))
+        }
+        Piece::Commented(_, _) => commented_body(alloc, bytes),
+        Piece::Open => Ok(None),
+    }
 }
 
 /// Where the first `{` of a line stands, or its length.
@@ -109,7 +128,7 @@ pub fn opened_body<'a>(
     alloc: Global,
     line: &[u8],
     bytes: &'a [u8],
-) -> Result<Option<(EntryBody, &'a [u8])>, AllocError>
+) -> Result<Option<(EntryBody<'a>, &'a [u8])>, AllocError>
     requires { length line.now ≤ length bytes.now }
     ensures value { (ls : List (List ℕ)) → lines bytes.now ≡ line.now ∷ ls → IfOk result (λ found. option_map (λ f. f.0) found ≡ opened_body line.now ls) }
     ensures after { (ls : List (List ℕ)) → lines bytes.now ≡ line.now ∷ ls → IfOk result (λ found. IfSome found (λ f. IsAfter (f.0.more + 1) bytes.now f.1.now)) }

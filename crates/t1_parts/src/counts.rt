@@ -4,19 +4,17 @@ ghost use Rattle.std.specs.Prelude.{◌≡◌, ◌≤◌, length};
 ghost use Rattle.t1_parts.specs.Counts.{subrs_needed, glyphs_needed, raised, raised_item};
 
 use crate::item::Item;
-use t1_text::last_is;
+use crate::sections::is_glyphs_line;
 
 /// What the Subrs of these items ask of the section's count: the highest number plus one, 0 where there is none.
 pub fn subrs_needed(items: &[Item]) -> u64
     ensures { result ≡ subrs_needed items.now }
 {
     let mut needed = 0;
-    let mut rest = items;
-    while let Some((item, after)) = rest.split_first() {
+    for item in items {
         if let Item::Subr(number, _, _) = item {
             needed = (u64::from(*number) + 1).max(needed);
         }
-        rest = after;
     }
     needed
 }
@@ -27,12 +25,10 @@ pub fn glyphs_needed(items: &[Item]) -> u64
     ensures within { result ≤ length items.now }
 {
     let mut needed = 0;
-    let mut rest = items;
-    while let Some((item, after)) = rest.split_first() {
+    for item in items {
         if let Item::Glyph(_, _, _) = item {
             needed += 1;
         }
-        rest = after;
     }
     needed
 }
@@ -41,12 +37,8 @@ pub fn glyphs_needed(items: &[Item]) -> u64
 fn raise_item(item: &mut Item, subrs: u64, glyphs: u64)
     ensures { item.new ≡ raised_item subrs glyphs item.old }
 {
-    if let Item::Section(before, count, _after) = item {
-        let needed = if last_is(b"/CharStrings", before.as_slice()) {
-            glyphs
-        } else {
-            subrs
-        };
+    let needed = if is_glyphs_line(item) { glyphs } else { subrs };
+    if let Item::Section(_, count, _) = item {
         *count = (*count).max(needed);
     }
 }

@@ -13,7 +13,7 @@ use crate::body::opened_body;
 use crate::gathered::Gathered;
 use crate::item::{Item, Taken};
 use std::alloc::Global;
-use t1_frac::{Bytes, Code, Refusal};
+use t1_frac::{Code, Refusal, SourceText};
 use t1_text::{decimal_up_to, fault_on, name_of_token, next_token, same};
 
 /// The token between `dup` and `{`, where the line begins so.
@@ -126,7 +126,7 @@ pub fn glyph_entry<'a>(
     let Some((body, after)) = opened_body(alloc, line, bytes)? else {
         return Err(Refusal::from(fault_on(number, Code::F7)));
     };
-    let glyph = Bytes::copied(alloc, name)?;
+    let glyph = SourceText::borrowed(name);
     Ok(Taken {
         item: Item::Glyph(glyph, body.words, body.closing),
         name: Some(name),

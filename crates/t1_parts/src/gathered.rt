@@ -16,7 +16,7 @@ use std::marker::Model;
 /// kept where they stand in the source. Contracts see the list of the items.
 #[derive(Drop)]
 pub struct Gathered<'a> {
-    items: Vec<(u64, Item)>,
+    items: Vec<(u64, Item<'a>)>,
     has_subrs_line: bool,
     has_glyphs_line: bool,
     subrs: BTreeSet<u16>,
@@ -83,14 +83,14 @@ impl<'a> Gathered<'a> {
     }
 
     /// The items as a slice.
-    pub fn as_slice(&self) -> &[(u64, Item)]
+    pub fn as_slice(&self) -> &[(u64, Item<'a>)]
         ensures { result.now ≡ self.now }
     {
         self.items.as_slice()
     }
 
     /// The items without their numbers.
-    pub fn into_items(self, alloc: Global) -> Result<Vec<Item>, AllocError>
+    pub fn into_items(self, alloc: Global) -> Result<Vec<Item<'a>>, AllocError>
         ensures { IfOk result (λ items. items.items ≡ unnumbered self.entry) }
     {
         let mut items = Vec::new(alloc);
@@ -101,9 +101,14 @@ impl<'a> Gathered<'a> {
     }
 
     /// The items and a further one, which begins on the line of this number. Where it is a glyph, its name comes with it.
-    pub fn with(self, number: u64, item: Item, name: Option<&'a [u8]>) -> Result<Self, AllocError>
+    pub fn with(
+        self,
+        number: u64,
+        item: Item<'a>,
+        name: Option<&'a [u8]>,
+    ) -> Result<Self, AllocError>
         requires { option_map (λ n. n.now) name ≡ glyph_name item }
-        ensures { IfOk result (λ g. g ≡ self.entry ++ (number, item) ∷ []) }
+        ensures { IfOk result (λ g. g ≡ self.entry ++ (number, item.entry) ∷ []) }
     {
         let Gathered {
             mut items,

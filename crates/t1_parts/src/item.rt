@@ -3,66 +3,56 @@
 ghost use Rattle.std.specs.Prelude.{◌≡◌, IfOk};
 
 use std::alloc::{AllocError, Global};
-use t1_frac::{Bytes, Words, skip_blanks};
+use t1_frac::{SourceText, Words};
 
-/// One item of the private part.
+/// One item of the private part; its texts stand in the source that was read, or in memory of their own.
 #[derive(Debug, Drop)]
-pub enum Item {
+pub enum Item<'a> {
     /// A line that is kept as it stands.
-    Plain(Bytes),
+    Plain(SourceText<'a>),
     /// The line of a section: the bytes before its count, the count, the bytes after it.
-    Section(Bytes, u64, Bytes),
+    Section(SourceText<'a>, u64, SourceText<'a>),
     /// A Subr: its number, its words, and the text after its closing brace.
-    Subr(u16, Words, Bytes),
+    Subr(u16, Words<'a>, SourceText<'a>),
     /// A glyph: its name, its words, and the text after its closing brace.
-    Glyph(Bytes, Words, Bytes),
+    Glyph(SourceText<'a>, Words<'a>, SourceText<'a>),
 }
 
 /// An item that was read, with its name where it is a glyph: how many lines it takes after its first, and the bytes after them.
 #[derive(Drop)]
 pub struct Taken<'a> {
-    pub item: Item,
+    pub item: Item<'a>,
     pub name: Option<&'a [u8]>,
     pub more: usize,
     pub after: &'a [u8],
 }
 
-/// A copy of the words of an entry.
-#[tactic(auto, using(t1_text::proofs::WordLaws::words_skip))]
-fn copied_words(alloc: Global, words: &Words) -> Result<Words, AllocError>
-    ensures { IfOk result (λ copy. copy ≡ words.now) }
-{
-    let mut copy = Words::new(alloc);
-    copy.push_line(skip_blanks(words.as_bytes()))?;
-    Ok(copy)
-}
-
-impl Item {
-    /// A copy.
-    pub fn copied(&self, alloc: Global) -> Result<Item, AllocError>
+impl<'a> Item<'a> {
+    /// A copy. It takes no memory where the texts stand in a source.
+    pub fn copied(&self, alloc: Global) -> Result<Item<'a>, AllocError>
         ensures { IfOk result (λ copy. copy ≡ self.now) }
     {
         Ok(match self {
-            Item::Plain(line) => Item::Plain(Bytes::copied(alloc, line.as_slice())?),
+            Item::Plain(line) => Item::Plain(line.copied(alloc)?),
             Item::Section(before, count, after) => {
-                let before = Bytes::copied(alloc, before.as_slice())?;
-                Item::Section(before, *count, Bytes::copied(alloc, after.as_slice())?)
+                let before = before.copied(alloc)?;
+                Item::Section(before, *count, after.copied(alloc)?)
             }
             Item::Subr(number, words, closing) => {
-                let words = copied_words(alloc, words)?;
-                Item::Subr(*number, words, Bytes::copied(alloc, closing.as_slice())?)
+                let words = words.copied(alloc)?;
+                Item::Subr(*number, words, closing.copied(alloc)?)
             }
             Item::Glyph(name, words, closing) => {
-                let name = Bytes::copied(alloc, name.as_slice())?;
-                let words = copied_words(alloc, words)?;
-                Item::Glyph(name, words, Bytes::copied(alloc, closing.as_slice())?)
+                let name = name.copied(alloc)?;
+                let words = words.copied(alloc)?;
+                Item::Glyph(name, words, closing.copied(alloc)?)
             }
         })
     }
 }
 
 /// Copies of some items.
-pub fn copied_items(alloc: Global, items: &[Item]) -> Result<Vec<Item>, AllocError>
+pub fn copied_items<'a>(alloc: Global, items: &[Item<'a>]) -> Result<Vec<Item<'a>>, AllocError>
     ensures { IfOk result (λ copies. copies.items ≡ items.now) }
 {
     let mut copies = Vec::new(alloc);

@@ -9,7 +9,7 @@ use t1_frac::{Code, Fault};
 use t1_text::{after_token, decimal_up_to, fault_on};
 
 /// The bytes of a plain line.
-pub fn plain_line(item: &Item) -> Option<&[u8]>
+pub fn plain_line<'i>(item: &'i Item) -> Option<&'i [u8]>
     ensures { option_map (λ line. line.now) result ≡ plain_line item.now }
 {
     match item {
@@ -19,7 +19,7 @@ pub fn plain_line(item: &Item) -> Option<&[u8]>
 }
 
 /// What an item says of lenIV: the token after `/lenIV` on a plain line, or that there is none.
-fn said_lead(item: &Item) -> Option<Option<&[u8]>>
+fn said_lead<'i>(item: &'i Item) -> Option<Option<&'i [u8]>>
     ensures { option_map (λ said. option_map (λ token. token.now) said) result ≡ said_lead item.now }
 {
     match plain_line(item) {
@@ -49,7 +49,7 @@ fn lead_on(item: &Item) -> Option<u8>
 }
 
 /// The first item with its line that says lenIV.
-fn first_with_line(items: &[(u64, Item)]) -> Option<&(u64, Item)>
+fn first_with_line<'i, 'a>(items: &'i [(u64, Item<'a>)]) -> Option<&'i (u64, Item<'a>)>
     ensures { option_map (λ item. item.now) result ≡ find (λ i. says_lead i.1) items.now }
 {
     items.iter().find(|item| says_lead(&item.1))
@@ -70,7 +70,7 @@ pub fn check_lead(items: &[(u64, Item)]) -> Result<u8, Fault>
 }
 
 /// The first item that says lenIV.
-fn first_saying(items: &[Item]) -> Option<&Item>
+fn first_saying<'i, 'a>(items: &'i [Item<'a>]) -> Option<&'i Item<'a>>
     ensures { option_map (λ item. item.now) result ≡ find says_lead items.now }
 {
     items.iter().find(|item| says_lead(item))

@@ -67,11 +67,10 @@ fn operator_on(line: &[u8]) -> Option<&[u8]>
 }
 
 /// The reading operator of some items.
-pub fn operator_of(items: &[Item]) -> &[u8]
+pub fn operator_of<'i>(items: &'i [Item]) -> &'i [u8]
     ensures { result.now ≡ operator_among items.now }
 {
-    let mut rest = items;
-    while let Some((item, after)) = rest.split_first() {
+    for item in items {
         if let Some(line) = plain_line(item) {
             if holds(b"string currentfile", line) {
                 return match operator_on(line) {
@@ -80,7 +79,6 @@ pub fn operator_of(items: &[Item]) -> &[u8]
                 };
             }
         }
-        rest = after;
     }
     b"RD"
 }

@@ -1,14 +1,15 @@
 //! Cutting a source into its parts.
 
-ghost use Rattle.std.specs.Prelude.{◌≡◌, ◌==◌, ◌++◌, ◌∷◌, [], false, IfOk, MatchOption, codes, if◌then◌else◌, Some, None, Ok, Err, MatchResult, filter_map};
+ghost use Rattle.std.specs.Prelude.{◌≡◌, ◌==◌, ◌++◌, ◌∷◌, ◌<◌, [], false, true, length, IfOk, MatchOption, codes, if◌then◌else◌, Some, None, Ok, Err, MatchResult, filter_map};
 ghost use Rattle.std.specs.List.{list_any, list_all};
 ghost use Rattle.t1_frac.specs.Ascii.{digit_zero};
-ghost use Rattle.t1_text.specs.Lines.{lines};
-ghost use Rattle.t1_parts.specs.Parts.{parts_of, ends_in, holds, is_zeros, tail_of, IsCut};
+ghost use Rattle.t1_text.specs.Lines.{is_line, lines};
+ghost use Rattle.t1_parts.specs.Parts.{parts_of, ends_in, holds, is_zeros, tail_of, IsCut, NoneGone};
 
+use memchr::memmem::Finder;
 use std::alloc::{AllocError, Global};
 use t1_frac::{Bytes, Code, Fault};
-use t1_text::{first_line, trimmed};
+use t1_text::{first_line, last_line_start, trimmed};
 
 /// Whether a line, trimmed, ends in this text.
 fn ends_in(text: &[u8], line: &[u8]) -> bool
@@ -25,14 +26,30 @@ struct Cut<'a> {
     after: &'a [u8],
 }
 
+/// The bytes from the line on in which a text stands first; none where it stands nowhere.
+fn from_line_with<'a>(text: &Finder, bytes: &'a [u8]) -> &'a [u8]
+    requires some { 0 < length text.now }
+    requires line { is_line text.now ≡ true }
+    ensures { NoneGone (ends_in text.now) bytes.now result.now }
+{
+    let Some(place) = text.find(bytes) else {
+        return &[];
+    };
+    let start = last_line_start(bytes.split_at(place).0);
+    bytes.split_at(start).1
+}
+
 /// Some bytes cut at their first line that, trimmed, ends in a text.
 fn cut_at<'a>(text: &[u8], bytes: &'a [u8]) -> Option<Cut<'a>>
+    requires some { 0 < length text.now }
+    requires line { is_line text.now ≡ true }
     ensures { MatchOption
         result
         (list_any (ends_in text.now) (lines bytes.now) ≡ false)
         (λ cut. IsCut (ends_in text.now) (lines bytes.now) (lines cut.before.now) cut.line.now (lines cut.after.now)) }
 {
-    let mut rest = bytes;
+    let finder = Finder::new(text);
+    let mut rest = from_line_with(&finder, bytes);
     while !rest.is_empty() {
         let (line, after) = first_line(rest);
         if ends_in(text, line) {
@@ -43,7 +60,7 @@ fn cut_at<'a>(text: &[u8], bytes: &'a [u8]) -> Option<Cut<'a>>
                 after,
             });
         }
-        rest = after;
+        rest = from_line_with(&finder, after);
     }
     None
 }

@@ -121,10 +121,8 @@ fn push_item(text: &mut Vec<u8>, item: &Item) -> Result<(), AllocError>
 pub fn push_items(text: &mut Vec<u8>, items: &[Item]) -> Result<(), AllocError>
     ensures { OnOk result (text.new.items ≡ text.old.items ++ joined (flat_map item_lines items.now)) }
 {
-    let mut rest = items;
-    while let Some((item, after)) = rest.split_first() {
+    for item in items {
         push_item(text, item)?;
-        rest = after;
     }
     Ok(())
 }

@@ -1,6 +1,6 @@
 //! Reading the private part: plain lines, section lines and entries.
 
-ghost use Rattle.std.specs.Prelude.{◌≡◌, ◌+◌, ◌<◌, ◌^◌, ◌++◌, ◌∷◌, [], ℕ, List, None, length, option_map, IfOk};
+ghost use Rattle.std.specs.Prelude.{◌≡◌, ◌+◌, ◌<◌, ◌^◌, ◌++◌, ◌∷◌, [], ℕ, List, None, Ok, Err, length, option_map, IfOk, MatchResult};
 ghost use Rattle.t1_frac.specs.declared.fault.Place.TheVariants as places;
 ghost use Rattle.t1_frac.specs.Outcome.{Gives, told_at};
 ghost use Rattle.t1_text.specs.Lines.{lines};
@@ -13,26 +13,27 @@ use crate::gathered::Gathered;
 use crate::item::{Item, Taken};
 use crate::sections::{count_between, section_at};
 use std::alloc::Global;
-use t1_frac::{Bytes, Code, Refusal};
+use t1_frac::{Code, Fault, Refusal, SourceText};
 use t1_text::{fault_on, first_line};
 
 /// The section line or the plain line.
 #[tactic(auto, unfolding(crate::specs::Private::line_item))]
-fn line_at(alloc: Global, earlier: &Gathered, number: u64, line: &[u8]) -> Result<Item, Refusal>
-    ensures value { Gives (λ item. (item, 0)) result (told_at (places.Line number) (line_at earlier.now line.now)) }
+fn line_at<'a>(earlier: &Gathered, number: u64, line: &'a [u8]) -> Result<Item<'a>, Fault>
+    ensures value { MatchResult
+        result
+        (λ item. told_at (places.Line number) (line_at earlier.now line.now) ≡ Ok (item, 0))
+        (λ fault. told_at (places.Line number) (line_at earlier.now line.now) ≡ Err fault) }
     ensures unnamed { IfOk result (λ item. glyph_name item ≡ None) }
 {
     let subrs = count_between(b"/Subrs", b"array", line);
     let glyphs = count_between(b"/CharStrings", b"dict", line);
     let item = match (subrs, glyphs) {
-        (None, None) => Item::Plain(Bytes::copied(alloc, line)?),
+        (None, None) => Item::Plain(SourceText::borrowed(line)),
         (Some((at, count)), None) if !earlier.has_subrs_line() && !earlier.has_glyphs_line() => {
-            section_at(alloc, line, at, count)?
+            section_at(line, at, count)
         }
-        (None, Some((at, count))) if !earlier.has_glyphs_line() => {
-            section_at(alloc, line, at, count)?
-        }
-        _ => return Err(Refusal::from(fault_on(number, Code::F4))),
+        (None, Some((at, count))) if !earlier.has_glyphs_line() => section_at(line, at, count),
+        _ => return Err(fault_on(number, Code::F4)),
     };
     Ok(item)
 }
@@ -63,7 +64,7 @@ fn item_at<'a>(
             return subr_entry(alloc, earlier, number, token, line, bytes);
         }
     }
-    let item = line_at(alloc, earlier, number, line)?;
+    let item = line_at(earlier, number, line)?;
     Ok(Taken {
         item,
         name: None,
@@ -98,12 +99,12 @@ pub fn private_items<'a>(
     alloc: Global,
     number: u64,
     bytes: &'a [u8],
-    last: &[u8],
+    last: &'a [u8],
 ) -> Result<Gathered<'a>, Refusal>
     requires { number + length bytes.now < 2 ^ 64 }
     ensures { Gives (λ items. items) result (private_items number (lines bytes.now ++ last.now ∷ [])) }
 {
     let (items, further) = items_of(alloc, number, bytes)?;
-    let last = Item::Plain(Bytes::copied(alloc, last)?);
+    let last = Item::Plain(SourceText::borrowed(last));
     Ok(items.with(further, last, None)?)
 }

@@ -1,13 +1,12 @@
 //! Section lines: their count and their kind.
 
-ghost use Rattle.std.specs.Prelude.{◌≡◌, ◌+◌, ◌≤◌, ◌<◌, ◌^◌, IfOk, IfSome, IsTrue, length, option_map};
+ghost use Rattle.std.specs.Prelude.{◌≡◌, ◌+◌, ◌≤◌, ◌<◌, ◌^◌, IfSome, IsTrue, length, option_map};
 ghost use Rattle.t1_text.specs.Tokens.{places_from};
 ghost use Rattle.t1_text.specs.Names.{is_count};
 ghost use Rattle.t1_parts.specs.Sections.{count_between, section_at, is_subrs_line, is_glyphs_line};
 
 use crate::item::Item;
-use std::alloc::{AllocError, Global};
-use t1_frac::Bytes;
+use t1_frac::SourceText;
 use t1_text::{count_of, is_count, last_is, next_place, same};
 
 /// The count of the first key, count and word in a row on a line, with its place.
@@ -45,14 +44,14 @@ pub fn count_between<'a>(key: &[u8], word: &[u8], line: &'a [u8]) -> Option<(usi
 }
 
 /// The item of a section line whose count stands there.
-pub fn section_at(alloc: Global, line: &[u8], at: usize, count: &[u8]) -> Result<Item, AllocError>
+pub fn section_at<'a>(line: &'a [u8], at: usize, count: &[u8]) -> Item<'a>
     requires within { at + length count.now ≤ length line.now }
     requires digits { IsTrue (is_count count.now) }
-    ensures { IfOk result (λ item. item ≡ section_at line.now (at, count.now)) }
+    ensures { result ≡ section_at line.now (at, count.now) }
 {
-    let before = Bytes::copied(alloc, line.split_at(at).0)?;
-    let after = Bytes::copied(alloc, line.split_at(at + count.len()).1)?;
-    Ok(Item::Section(before, count_of(count), after))
+    let before = SourceText::borrowed(line.split_at(at).0);
+    let after = SourceText::borrowed(line.split_at(at + count.len()).1);
+    Item::Section(before, count_of(count), after)
 }
 
 /// Whether an item is the Subrs line.

@@ -14,7 +14,7 @@ pub trait GlyphOrder {
         ensures { IfOk result (λ names. map (λ name. name.now) names.items ≡ ordered self.now) };
 }
 
-impl GlyphOrder for Source {
+impl<'a> GlyphOrder for Source<'a> {
     ghost use Rattle.t1_font.specs.Glyphs.{glyph_names};
 
     ghost ordered = { λ s. glyph_names s.items };

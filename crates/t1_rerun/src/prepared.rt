@@ -12,13 +12,13 @@ use t1_source::{Change, Item, Source};
 
 /// A source, and a change that was prepared for it.
 #[derive(Drop)]
-pub struct Prepared<'a> {
-    pub source: &'a Source,
-    pub change: &'a Change,
+pub struct Prepared<'e, 'a> {
+    pub source: &'e Source<'a>,
+    pub change: &'e Change<'a>,
 }
 
 /// Adds the names of the glyphs among items, in their order.
-fn push_names<'a>(names: &mut Vec<&'a [u8]>, items: &'a [Item]) -> Result<(), AllocError>
+fn push_names<'i>(names: &mut Vec<&'i [u8]>, items: &'i [Item]) -> Result<(), AllocError>
     ensures { OnOk result (map (λ name. name.now) names.new.items ≡ map (λ name. name.now) names.old.items ++ glyph_names items.now) }
 {
     for item in items {
@@ -31,12 +31,12 @@ fn push_names<'a>(names: &mut Vec<&'a [u8]>, items: &'a [Item]) -> Result<(), Al
 }
 
 /// The names of the glyphs of three lists of items, one after another.
-fn names_of_three<'a>(
+fn names_of_three<'i>(
     alloc: Global,
-    front: &'a [Item],
-    middle: &'a [Item],
-    back: &'a [Item],
-) -> Result<Vec<&'a [u8]>, AllocError>
+    front: &'i [Item],
+    middle: &'i [Item],
+    back: &'i [Item],
+) -> Result<Vec<&'i [u8]>, AllocError>
     ensures { IfOk result (λ names. map (λ name. name.now) names.items ≡ glyph_names front.now ++ (glyph_names middle.now ++ glyph_names back.now)) }
 {
     let mut names = Vec::new(alloc);
@@ -47,12 +47,12 @@ fn names_of_three<'a>(
 }
 
 /// The names of the glyphs where an item comes in the place of another.
-fn names_put<'a>(
+fn names_put<'i>(
     alloc: Global,
-    items: &'a [Item],
+    items: &'i [Item],
     at: usize,
-    item: &'a Item,
-) -> Result<Vec<&'a [u8]>, AllocError>
+    item: &'i Item,
+) -> Result<Vec<&'i [u8]>, AllocError>
     ensures { IfOk result (λ names. map (λ name. name.now) names.items ≡ glyph_names (slice_set items.now at item.now)) }
 {
     if items.len() <= at {
@@ -63,12 +63,12 @@ fn names_put<'a>(
 }
 
 /// The names of the glyphs where an item comes to stand at a place.
-fn names_inserted<'a>(
+fn names_inserted<'i>(
     alloc: Global,
-    items: &'a [Item],
+    items: &'i [Item],
     at: usize,
-    item: &'a Item,
-) -> Result<Vec<&'a [u8]>, AllocError>
+    item: &'i Item,
+) -> Result<Vec<&'i [u8]>, AllocError>
     ensures { IfOk result (λ names. map (λ name. name.now) names.items ≡ glyph_names (insert items.now at item.now)) }
 {
     let (front, back) = items.split_at(cmp::min(at, items.len()));
@@ -76,11 +76,11 @@ fn names_inserted<'a>(
 }
 
 /// The names of the glyphs where an item is taken out.
-fn names_removed<'a>(
+fn names_removed<'i>(
     alloc: Global,
-    items: &'a [Item],
+    items: &'i [Item],
     at: usize,
-) -> Result<Vec<&'a [u8]>, AllocError>
+) -> Result<Vec<&'i [u8]>, AllocError>
     ensures { IfOk result (λ names. map (λ name. name.now) names.items ≡ glyph_names (remove items.now at)) }
 {
     if items.len() <= at {
@@ -91,11 +91,11 @@ fn names_removed<'a>(
 }
 
 /// The names of the glyphs of a source after a change, in the order of their entries.
-fn names_after<'a>(
+fn names_after<'i>(
     alloc: Global,
-    source: &'a Source,
-    change: &'a Change,
-) -> Result<Vec<&'a [u8]>, AllocError>
+    source: &'i Source,
+    change: &'i Change,
+) -> Result<Vec<&'i [u8]>, AllocError>
     ensures { IfOk result (λ names. map (λ name. name.now) names.items ≡ glyph_names (changed change.now source.now []).0.items) }
 {
     let items = source.items();
@@ -110,7 +110,7 @@ fn names_after<'a>(
     }
 }
 
-impl<'a> GlyphOrder for Prepared<'a> {
+impl<'e, 'a> GlyphOrder for Prepared<'e, 'a> {
     ghost use Rattle.std.specs.Prelude.{[]};
     ghost use Rattle.t1_source.specs.Changes.{changed};
     ghost use Rattle.t1_font.specs.Glyphs.{glyph_names};

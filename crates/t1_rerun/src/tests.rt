@@ -48,7 +48,7 @@ const THREE: &str = "\
     mark currentfile closefile\n";
 
 /// The source of the three glyphs.
-pub(crate) fn three_source(alloc: Global) -> Result<Source, Fail>
+pub(crate) fn three_source(alloc: Global) -> Result<Source<'static>, Fail>
     ensures { IfOk result IsWellFormed }
 {
     Ok(read_source(alloc, THREE.as_bytes())?)

@@ -4,17 +4,17 @@ use indexmap::IndexMap;
 use std::alloc::Global;
 use std::test::Fail;
 use t1_code::{Body, compile};
-use t1_frac::{Code, Frac, Refusal, Words};
+use t1_frac::{Code, Frac, OwnedWords, Refusal};
 
 /// The body of some words so many times, after the first ones and before the last ones.
 fn body(alloc: Global, first: &str, count: usize, words: &str, last: &str) -> Result<Body, Fail> {
-    let mut list = Words::new(alloc);
+    let mut list = OwnedWords::new(alloc);
     list.push_line(first.as_bytes())?;
     for _ in 0..count {
         list.push_line(words.as_bytes())?;
     }
     list.push_line(last.as_bytes())?;
-    Ok(compile(alloc, &list)?)
+    Ok(compile(alloc, &list.into_words())?)
 }
 
 fn bodies(alloc: Global) -> Plain {

@@ -66,19 +66,23 @@ fn put_prints<W: Write>(alloc: Global, session: &Session, out: &mut W) -> Result
 }
 
 /// The session of the bytes of a source and of a kerning file that are read, or why it isn't opened.
-fn opened(alloc: Global, source: &[u8], pairs: &[u8]) -> Result<Result<Session, Refusal>, Refusal> {
+fn opened<'a>(
+    alloc: Global,
+    source: &'a [u8],
+    pairs: &[u8],
+) -> Result<Result<Session<'a>, Refusal>, Refusal> {
     let source = read_source(alloc, source)?;
     let pairs = read_pairs(alloc, pairs)?;
     Ok(Session::open(alloc, source, pairs))
 }
 
 /// The same, read and opened again where memory ran out in the opening.
-fn session_of<W: Write>(
+fn session_of<'a, W: Write>(
     alloc: Global,
-    source: &[u8],
+    source: &'a [u8],
     pairs: &[u8],
     out: &mut W,
-) -> Result<Session, Stop> {
+) -> Result<Session<'a>, Stop> {
     match opened(alloc, source, pairs)? {
         Err(Refusal::Memory) => {
             out.write_all(WANTED)?;

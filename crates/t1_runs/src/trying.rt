@@ -21,7 +21,11 @@ pub fn put_text<W: Write>(name: &str, text: &[u8], out: &mut W) -> Result<(), St
 }
 
 /// The source of some bytes, read again where memory ran out.
-fn source_of<W: Write>(alloc: Global, bytes: &[u8], out: &mut W) -> Result<Source, Stop> {
+fn source_of<'a, W: Write>(
+    alloc: Global,
+    bytes: &'a [u8],
+    out: &mut W,
+) -> Result<Source<'a>, Stop> {
     match read_source(alloc, bytes) {
         Err(Refusal::Memory) => {
             out.write_all(WANTED)?;

@@ -21,8 +21,8 @@ struct Opened {
 
 /// A session in the midst of its input: fed pieces of it, it answers each command as soon as its last line ends.
 #[derive(Drop)]
-pub struct Dialogue {
-    session: Performer,
+pub struct Dialogue<'a> {
+    session: Performer<'a>,
     opening: Option<Opened>,
     line: Vec<u8>,
     after_return: bool,
@@ -36,13 +36,13 @@ fn ends_line(after_return: bool, byte: u8) -> bool
     byte == b'\r' || (byte == b'\n' && !after_return)
 }
 
-impl Dialogue {
+impl<'a> Dialogue<'a> {
     ghost use Rattle.t1_session.specs.Conversation.{fresh, EndsCommandLine, EndsLine, Feeds, Ends};
     ghost use Rattle.t1_session.specs.Dialogues.{conversation_of, opening_of};
 
     /// A session before its first byte.
-    pub fn new(alloc: Global, session: Performer) -> Dialogue
-        ensures { conversation_of result ≡ fresh session }
+    pub fn new(alloc: Global, session: Performer<'a>) -> Dialogue<'a>
+        ensures { conversation_of result ≡ fresh session.entry }
     {
         Dialogue {
             session,
@@ -156,7 +156,7 @@ impl Dialogue {
         alloc: Global,
         writer: &mut Counted<W>,
     ) -> Result<(), ServeError>
-        ensures { Ends W.contents (conversation_of self) writer.old writer.new result }
+        ensures { Ends W.contents (conversation_of self.entry) writer.old writer.new result }
     {
         match self.opening.take() {
             None => self.finish_command_line(alloc, writer),

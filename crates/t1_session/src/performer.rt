@@ -4,11 +4,11 @@ use std::marker::Model;
 
 /// A session that commands are performed on. Contracts see its source, its pairs and the batch that is open.
 #[derive(Drop)]
-pub struct Performer {
-    session: Session,
+pub struct Performer<'a> {
+    session: Session<'a>,
 }
 
-impl Model for Performer {
+impl<'a> Model for Performer<'a> {
     ghost use Rattle.t1_session.specs.State.{State};
 
     ghost Value = { State };
@@ -34,9 +34,9 @@ fn report<W: Write>(performed: Result<(), Cause>, out: &mut Counted<W>) -> Resul
     Ok(())
 }
 
-impl Performer {
-    pub fn of(session: Session) -> Performer
-        ensures { result ≡ session.state }
+impl<'a> Performer<'a> {
+    pub fn of(session: Session<'a>) -> Performer<'a>
+        ensures { result ≡ session.entry.state }
     {
         Performer { session }
     }

@@ -18,7 +18,7 @@ use t1_source::read_source;
 /// The session of the bytes of a source and of a kerning file, or the first fault: of reading the source, of the pairs, of
 /// the source.
 #[tactic(auto, unfolding(crate::specs::Machine::scratch))]
-fn loaded(alloc: Global, source: &[u8], pairs: &[u8]) -> Result<Performer, Refusal>
+fn loaded<'a>(alloc: Global, source: &'a [u8], pairs: &[u8]) -> Result<Performer<'a>, Refusal>
     ensures { Gives (λ session. session) result (scratch source.now pairs.now) }
 {
     let source = read_source(alloc, source)?;
@@ -51,7 +51,7 @@ fn converse<R: Read, W: Write>(
     reader: &mut Counted<R>,
     writer: &mut Counted<W>,
 ) -> Result<(), ServeError>
-    ensures { Converses R.remaining W.contents session (streams reader.old writer.old) (streams reader.new writer.new) result }
+    ensures { Converses R.remaining W.contents session.entry (streams reader.old writer.old) (streams reader.new writer.new) result }
 {
     let mut dialogue = Dialogue::new(alloc, session);
     let mut buffer = [0; 4096];

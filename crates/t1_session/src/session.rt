@@ -11,16 +11,16 @@ use t1_source::Source;
 /// of runs. The source has no fault, what is held is that of the source from scratch, and the batch's source is what its edits
 /// made of the session's.
 #[derive(Drop)]
-pub struct Session {
+pub struct Session<'a> {
     alloc: Global,
-    source: Source,
+    source: Source<'a>,
     pairs: Pairs,
     held: Held,
     meter: Meter,
-    batch: Option<Batch>,
+    batch: Option<Batch<'a>>,
 }
 
-impl Model for Session {
+impl<'a> Model for Session<'a> {
     ghost use Rattle.std.specs.Prelude.{map};
     ghost use Rattle.t1_cache.specs.Renewed.{kept_of};
     ghost use Rattle.t1_held.specs.Held.{IsHeld};
@@ -60,6 +60,7 @@ ghost use Rattle.t1_session.specs.Reruns.{edition, AreKept, Reruns, RerunsOrRetu
 
 use std::alloc::AllocError;
 use std::io::Write;
+use std::mem;
 use t1_batch::EditedEntry;
 use t1_code::{Counted, OutError, Pfa, Pfb, WHOLE_PARTS};
 use t1_commands::{Answer, PfaData, PfbData, Print, block_size, put_answer};
@@ -80,14 +81,14 @@ fn cause_of(refusal: Refusal) -> Cause
     }
 }
 
-impl Session {
+impl<'a> Session<'a> {
     /// The session of a source and its pairs, or the source's first fault: of a body, F23, or of a glyph, in the order of
     /// the source. A refusal drops both.
     #[tactic(auto, using(crate::proofs::StateLaws::check_refused, crate::proofs::StateLaws::check_passed))]
-    pub fn open(alloc: Global, source: Source, pairs: Pairs) -> Result<Session, Refusal>
-        ensures checked { Gives (λ session. session.state) result (opened source pairs) }
+    pub fn open(alloc: Global, source: Source<'a>, pairs: Pairs) -> Result<Session<'a>, Refusal>
+        ensures checked { Gives (λ session. session.state) result (opened source.entry pairs) }
         ensures right { IfOk result (λ session. KeepsAll session.state.source session.kept) }
-        ensures runs { IfOk result (λ session. session.runs ≡ counted 0 (length (glyph_names source.items))) }
+        ensures runs { IfOk result (λ session. session.runs ≡ counted 0 (length (glyph_names source.entry.items))) }
     {
         let mut meter = Meter::new();
         let held = held_of(alloc, &source, &mut meter)?;
@@ -198,13 +199,13 @@ impl Session {
 
     /// Makes the change that was prepared for an edit, unless the edited source has a fault. The glyphs that the edit makes
     /// stale are run, and no others.
-    fn make(&mut self, edit: &Edit, change: Change) -> Result<(), Cause>
+    fn make(&mut self, edit: &Edit, change: Change<'a>) -> Result<(), Cause>
         requires none { self.old.state.batch ≡ None }
         requires serves { Serves change self.old.state.source self.old.state.pairs }
         requires made { edited self.old.state.source self.old.state.pairs edit.now ≡ Ok (changed change self.old.state.source self.old.state.pairs) }
-        ensures took { Took self.old.state (judged self.old.state (changed change self.old.state.source self.old.state.pairs) (source_check (changed change self.old.state.source self.old.state.pairs).0)) true self.old.state result self.new.state }
+        ensures took { Took self.old.state (judged self.old.state (changed change.entry self.old.state.source self.old.state.pairs) (source_check (changed change.entry self.old.state.source self.old.state.pairs).0)) true self.old.state result self.new.state }
         ensures right { KeepsAll self.new.state.source self.new.kept }
-        ensures runs { Reruns (Some (record { keys = named edit.now; source = (changed change self.old.state.source self.old.state.pairs).0 })) self.old result self.new }
+        ensures runs { Reruns (Some (record { keys = named edit.now; source = (changed change.entry self.old.state.source self.old.state.pairs).0 })) self.old result self.new }
     {
         text_of_source_read(&self.source);
         let edits = Edits::One {
@@ -230,15 +231,15 @@ impl Session {
     /// edits make stale are run, and no others.
     fn accept(
         &mut self,
-        source: Source,
+        source: Source<'a>,
         pairs: Pairs,
         entries: Vec<EditedEntry>,
     ) -> Result<(), Cause>
         requires none { self.old.state.batch ≡ None }
         requires edited { IsEditedBy (map entry_edit entries.items) self.old.state.source source }
-        ensures took { Took self.old.state (judged self.old.state (source, pairs) (source_check source)) true self.old.state result self.new.state }
+        ensures took { Took self.old.state (judged self.old.state (source.entry, pairs) (source_check source.entry)) true self.old.state result self.new.state }
         ensures right { KeepsAll self.new.state.source self.new.kept }
-        ensures runs { Reruns (Some (record { keys = keys (map entry_edit entries.items); source = source })) self.old result self.new }
+        ensures runs { Reruns (Some (record { keys = keys (map entry_edit entries.items); source = source.entry })) self.old result self.new }
     {
         let edits = Edits::Batch {
             source: &self.source,
@@ -248,9 +249,12 @@ impl Session {
         let prepared = prepare_edits(self.alloc, &mut self.held, edits, &mut self.meter);
         let ready = match prepared {
             Ok(ready) => ready,
-            Err(refusal) => return Err(cause_of(refusal)),
+            Err(refusal) => {
+                drop(source);
+                return Err(cause_of(refusal));
+            }
         };
-        self.source = source;
+        let _source = mem::replace(&mut self.source, source);
         self.pairs = pairs;
         settle(&mut self.held, ready);
         Ok(())

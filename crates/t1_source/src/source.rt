@@ -12,14 +12,14 @@ use t1_text::{copied_bytes, copied_lines, same};
 
 /// The readable source of a font: its clear lines, the items of its private part and its tail.
 #[derive(Debug, Drop)]
-pub struct Source {
+pub struct Source<'a> {
     alloc: Global,
     clear: Vec<Bytes>,
-    items: Vec<Item>,
+    items: Vec<Item<'a>>,
     tail: Vec<Bytes>,
 }
 
-impl Model for Source {
+impl<'a> Model for Source<'a> {
     ghost use Rattle.t1_parts.specs.SourceParts.{SourceParts};
 
     ghost Value = { SourceParts };
@@ -71,7 +71,7 @@ fn clear_lines(alloc: Global, parts: &Parts) -> Result<Vec<Bytes>, AllocError>
 /// private part, then F5 and F6 of the clear lines, F4 and F7 to F10 of the private lines, each from the top and
 /// with its line, then F3 and F11. No table of the lines is made.
 #[tactic(auto, unfolding(t1_parts::specs::Reading::reads, t1_parts::specs::Reading::reads_lines))]
-pub fn read_source(alloc: Global, bytes: &[u8]) -> Result<Source, Refusal>
+pub fn read_source(alloc: Global, bytes: &[u8]) -> Result<Source<'_>, Refusal>
     ensures { Gives (λ source. source) result (reads bytes.now) }
 {
     let parts = parts_of(bytes)?;
@@ -92,9 +92,9 @@ pub fn read_source(alloc: Global, bytes: &[u8]) -> Result<Source, Refusal>
 }
 
 /// Puts an item in the place of another.
-fn put(items: &mut Vec<Item>, at: usize, item: Item)
+fn put<'a>(items: &mut Vec<Item<'a>>, at: usize, item: Item<'a>)
     requires { at < length items.old.items }
-    ensures { items.new.items ≡ slice_set items.old.items at item }
+    ensures { items.new.items ≡ slice_set items.old.items at item.entry }
 {
     items[at] = item;
 }
@@ -107,14 +107,14 @@ fn take_out(items: &mut Vec<Item>, at: usize)
     let _item = items.remove(at);
 }
 
-impl Source {
+impl<'a> Source<'a> {
     /// The allocator of the call that made it.
     pub(crate) fn alloc(&self) -> Global {
         self.alloc
     }
 
-    /// A copy.
-    pub fn copied(&self) -> Result<Source, AllocError>
+    /// A copy. What the source's own bytes hold of it takes no memory.
+    pub fn copied(&self) -> Result<Source<'a>, AllocError>
         ensures { IfOk result (λ copy. copy ≡ self.now) }
     {
         Ok(Source {
@@ -126,7 +126,7 @@ impl Source {
     }
 
     /// The items, of a source that was read or edited.
-    pub(crate) fn kept_items(&self) -> &[Item]
+    pub(crate) fn kept_items(&self) -> &[Item<'a>]
         ensures value { result.now ≡ self.now.items }
         ensures kept { IsWellFormed self.now }
     {
@@ -141,7 +141,7 @@ impl Source {
     }
 
     /// The items of the private part.
-    pub fn items(&self) -> &[Item]
+    pub fn items(&self) -> &[Item<'a>]
         ensures { result.now ≡ self.now.items }
     {
         self.items.as_slice()
@@ -218,21 +218,21 @@ impl Source {
     }
 
     /// Puts an item in the place of one of its kind and key.
-    pub(crate) fn put_item(&mut self, at: usize, item: Item)
+    pub(crate) fn put_item(&mut self, at: usize, item: Item<'a>)
         requires within { at < length self.old.items }
         requires kind { IsInPlaceOf (slice_index_or self.old.items at (variants.Plain [])) item }
         requires made { IsWellFormed (with_items self.old (slice_set self.old.items at item)) }
-        ensures { self.new ≡ with_items self.old (slice_set self.old.items at item) }
+        ensures { self.new ≡ with_items self.old (slice_set self.old.items at item.entry) }
     {
         let _items = self.kept_items();
         put(&mut self.items, at, item);
     }
 
     /// Puts a new item in and raises the counts. Where memory runs out, nothing has changed.
-    pub(crate) fn insert_item(&mut self, at: usize, item: Item) -> Result<(), AllocError>
+    pub(crate) fn insert_item(&mut self, at: usize, item: Item<'a>) -> Result<(), AllocError>
         requires within { at ≤ length self.old.items }
         requires made { IsWellFormed (with_items self.old (insert self.old.items at item)) }
-        ensures ok { OnOk result (self.new ≡ with_items self.old (insert self.old.items at item)) }
+        ensures ok { OnOk result (self.new ≡ with_items self.old (insert self.old.items at item.entry)) }
         ensures err { OnErr result (self.new ≡ self.old) }
     {
         self.items.insert(at, item)?;

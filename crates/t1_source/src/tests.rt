@@ -2,7 +2,7 @@
 use super::*;
 use std::alloc::Global;
 use std::test::Fail;
-use t1_frac::{Bytes, Words};
+use t1_frac::{Bytes, SourceText, Words};
 use t1_pairs::{Pairs, read_pairs};
 
 const SMALL: &[u8] = b"%!
@@ -21,12 +21,12 @@ mark currentfile closefile
 cleartomark
 ";
 
-fn small(alloc: Global) -> Result<Source, Fail> {
+fn small(alloc: Global) -> Result<Source<'static>, Fail> {
     Ok(read_source(alloc, SMALL)?)
 }
 
 /// A font with slots for the codes 65, 32 and 66.
-fn slotted(alloc: Global) -> Result<Source, Fail> {
+fn slotted(alloc: Global) -> Result<Source<'static>, Fail> {
     Ok(read_source(
         alloc,
         b"/Encoding 256 array
@@ -148,8 +148,8 @@ fn tells_items(rt: HostRuntime) -> Result<(), Fail> {
 
 #[test]
 fn copies_an_item(rt: HostRuntime) -> Result<(), Fail> {
-    let closing = Bytes::copied(rt.alloc(), b"NP")?;
-    let subr = Item::Subr(4, Words::new(rt.alloc()), closing);
+    let closing = SourceText::copy_of(rt.alloc(), b"NP")?;
+    let subr = Item::Subr(4, Words::of(b""), closing);
     let copy = subr.copied(rt.alloc())?;
     assert!(rt;
         matches!(&copy, Item::Subr(4, _, closing) if closing.as_slice() == b"NP".as_slice())
@@ -214,7 +214,11 @@ fn bytes(alloc: Global, text: &[u8]) -> Result<Bytes, Fail> {
 }
 
 /// The source and the pairs after an edit that was committed in place.
-fn committed(source: Source, pairs: Pairs, edit: &Edit) -> Result<(Source, Pairs), Fail> {
+fn committed<'a>(
+    source: Source<'a>,
+    pairs: Pairs,
+    edit: &Edit,
+) -> Result<(Source<'a>, Pairs), Fail> {
     let mut source = source;
     let mut pairs = pairs;
     let change = source.prepared(&pairs, edit)?;

@@ -1,10 +1,13 @@
 -- The line ends of a text, counted one by one.
-use Rattle.std.proofs.Common.{◌≡◌, ℕ, Bool, true, false, ◌||◌, suc, ◌+◌, ◌==◌, ◌<◌, ◌≤◌, List, [], ◌∷◌, length, drop, refl, sym, ◌∙◌, ap, inl, inr, arith}
-use Rattle.std.proofs.lemmas.Bool.{cases_Bool, not-false, eqb-true, eq-eqb}
+use Rattle.std.proofs.Common.{◌≡◌, ℕ, Bool, true, false, ◌||◌, suc, ◌+◌, ◌==◌, ◌<◌, ◌≤◌, None, List, [], ◌∷◌, count_by, filter, length, drop, refl, sym, ◌∙◌, ap, inl, inr, arith}
+use Rattle.std.proofs.lemmas.Bool.{cases_Bool, not-true, not-false, eqb-true, eq-eqb}
 use Rattle.std.proofs.lemmas.List.{length-drop}
+use Rattle.std.proofs.lemmas.List.Sums.{length-filter}
 use Rattle.std.proofs.Math.Numerals.{one-add}
-use Rattle.t1_text.specs.Lines.{begins_with, line_ends, is_line_end, after_end}
+use Rattle.t1_text.specs.Lines.{begins_with, unified, line_ends, after_end}
 use Rattle.t1_text.proofs.LineLaws.{line_len, stays, not_ended, after_line}
+use Rattle.t1_text.proofs.ScanLaws.{fails}
+use Rattle.memchr.specs.Find.{IsFirstByte, is_byte}
 
 goes_on : (c : ℕ) (rest : List ℕ) → stays c ≡ true → line_ends (c ∷ rest) ≡ line_ends rest
 goes_on c rest h = let off = not_ended c h in rw (off.1, off.0) refl
@@ -72,3 +75,15 @@ end_gone text at h =
     let size = length-drop at text in
     let fewer = end_shortens (drop at text) (omega (arith, h, size)) in
     omega (arith, fewer, size)
+
+-- ---- a text without CR
+
+no_return : (text : List ℕ) → IsFirstByte (is_byte 13) text None → unified text ≡ text
+no_return [] h = refl
+no_return (c ∷ rest) h =
+    let off : (c == 13) ≡ false = not-true _ (fails _ (h 0 (omega arith) (omega arith))) in
+    rw off (ap (λ t. c ∷ t) (no_return rest (λ k low small. h (suc k) (omega arith) (omega (arith, small)))))
+
+-- its line ends are its LF
+pub feeds_alone : (text : List ℕ) → IsFirstByte (is_byte 13) text None → count_by (λ c. c == 10) text ≡ line_ends text
+feeds_alone text h = sym (ap (λ t. length (filter (λ c. c == 10) t)) (no_return text h) ∙ length-filter (λ c. c == 10) text)

@@ -6,7 +6,7 @@ use Rattle.std.proofs.lemmas.List.Sums.{prefix_len_is}
 use Rattle.std.proofs.lemmas.Bool.{cases_Bool}
 use Rattle.memchr.specs.Find.{IsFirstByte}
 
-fails : (b : Bool) → ¬ (b ≡ true) → not b ≡ true
+pub fails : (b : Bool) → ¬ (b ≡ true) → not b ≡ true
 fails true h = absurd (h refl)
 fails false h = refl
 

@@ -1,5 +1,5 @@
 -- The lines of bytes in two parts, of which the second doesn't begin with LF.
-use Rattle.std.proofs.Common.{◌≡◌, ℕ, Bool, true, false, suc, if◌then◌else◌, ◌+◌, ◌==◌, List, [], ◌∷◌, ◌++◌, length, take, refl, sym, ◌∙◌, ap, inl, inr, arith, append_assoc}
+use Rattle.std.proofs.Common.{◌≡◌, ℕ, Bool, true, false, zero, suc, if◌then◌else◌, ◌||◌, ◌+◌, ◌==◌, ◌<◌, List, [], ◌∷◌, ◌++◌, length, take, drop, slice_index, refl, sym, ◌∙◌, ap, inl, inr, arith, append_assoc}
 use Rattle.std.specs.List.{flat_map, list_all, onto_first}
 use Rattle.std.proofs.lemmas.Bool.{cases_Bool, and_parts, and_from, eqb-true, eq-eqb}
 use Rattle.std.proofs.lemmas.List.{append-nil}
@@ -9,6 +9,8 @@ use Rattle.t1_frac.specs.Words.{is_blank, words}
 use Rattle.t1_frac.proofs.AppendLaws.{words_apart}
 use Rattle.t1_text.specs.Lines.{begins_with, lines, line_ends, is_line, is_line_end}
 use Rattle.t1_text.proofs.LineLaws.{line_len, stays, longer, cr_alone, lf_ends, not_ended, after_line, first_line_lem}
+use Rattle.t1_text.proofs.ScanLaws.{fails}
+use Rattle.memchr.specs.Find.{Nowhere, Passes}
 
 -- the whole lines of some bytes that stand after a line's front
 abbrev pub whole : List ℕ → List ℕ → List (List ℕ)
@@ -172,3 +174,49 @@ single_line c [] h = onto c [] (and_parts (stays c) true h).0
 single_line c (d ∷ line) h =
     let parts = and_parts (stays c) (is_line (d ∷ line)) h in
     onto c (d ∷ line) parts.0 ∙ ap (onto_first c) (single_line d line parts.1)
+
+-- ---- bytes cut at the beginning of a line
+
+-- nothing is left where the bytes end with a line end
+nothing_left : (line bytes : List ℕ) (i : ℕ) → i < length bytes → is_line_end (slice_index bytes i) ≡ true → left line (take (suc i) bytes) ≡ []
+nothing_left line [] i within h = absurd (omega (arith, within))
+nothing_left line (c ∷ rest) zero within h = elim (cases_Bool (c == 13)) [
+  | inl cr ↦ rw cr refl
+  | inr other ↦ (let lf : (c == 10) ≡ true = ended_by_lf (c == 10) (c == 13) h other in rw (other, lf) refl)
+]
+  where
+    ended_by_lf : (x y : Bool) → (x || y) ≡ true → y ≡ false → x ≡ true
+    ended_by_lf true y g off = refl
+    ended_by_lf false y g off = sym off ∙ g
+nothing_left line (c ∷ rest) (suc i) within h = elim (cases_Bool (c == 13)) [
+  | inl cr ↦ elim (cases_Bool (begins_with 10 (take (suc i) rest))) [
+    | inl lf ↦ rw (cr, lf) (nothing_left line rest i (omega (arith, within)) h)
+    | inr alone ↦ rw (cr, alone) (nothing_left [] rest i (omega (arith, within)) h)
+  ]
+  | inr no_cr ↦ elim (cases_Bool (c == 10)) [
+    | inl lf ↦ rw (no_cr, lf) (nothing_left [] rest i (omega (arith, within)) h)
+    | inr no_lf ↦ rw (no_cr, no_lf) (nothing_left (line ++ c ∷ []) rest i (omega (arith, within)) h)
+  ]
+]
+
+-- whether bytes end a line, so that the lines of bytes after them are lines of their own
+abbrev pub IsCutAt : ℕ → List ℕ → Type 0
+IsCutAt n bytes = (back : List ℕ) → begins_with 10 back ≡ false → lines (take n bytes ++ back) ≡ lines (take n bytes) ++ lines back
+
+cut_where : (front back : List ℕ) → left [] front ≡ [] → begins_with 10 back ≡ false → lines (front ++ back) ≡ lines front ++ lines back
+cut_where front back h k =
+    let alone : lines front ≡ whole [] front =
+    ap lines (sym (append-nil front)) ∙ lines_over [] front [] refl refl ∙ ap (λ l. whole [] front ++ lines (l ++ [])) h ∙ append-nil (whole [] front) in
+    lines_over [] front back refl k ∙ ap (λ l. whole [] front ++ lines (l ++ back)) h ∙ ap (λ ls. ls ++ lines back) (sym alone)
+
+pub cut_behind_end : (bytes : List ℕ) (end : ℕ) → end < length bytes → is_line_end (slice_index bytes end) ≡ true → IsCutAt (end + 1) bytes
+cut_behind_end bytes end within h back k =
+    let size : suc end ≡ end + 1 = omega arith in
+    cut_where (take (end + 1) bytes) back (ap (λ n. left [] (take n bytes)) (sym size) ∙ nothing_left [] bytes end within h) k
+
+-- bytes without a line end from a place on
+pub line_from : (i : ℕ) (bytes : List ℕ) → Nowhere (Passes is_line_end bytes) i (length bytes) → is_line (drop i bytes) ≡ true
+line_from zero [] h = refl
+line_from zero (c ∷ rest) h = and_from (stays c) (is_line rest) (fails _ (h 0 (omega arith) (omega arith))) (line_from zero rest (λ k low small. h (suc k) (omega arith) (omega (arith, small))))
+line_from (suc i) [] h = refl
+line_from (suc i) (c ∷ rest) h = line_from i rest (λ k low small. h (suc k) (omega (arith, low)) (omega (arith, small)))

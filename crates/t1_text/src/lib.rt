@@ -6,7 +6,8 @@ mod names;
 mod tokens;
 
 pub use lines::{
-    copied_bytes, copied_lines, cut_line, fault_on, first_delimiter, first_line, line_ends, trimmed,
+    copied_bytes, copied_lines, cut_line, fault_on, first_delimiter, first_line, last_line_start,
+    line_ends, trimmed,
 };
 pub use names::{count_of, decimal_up_to, is_count, is_decimal, is_name, name_of_token};
 pub use tokens::{

@@ -1,14 +1,15 @@
 //! Cutting a text into lines.
 
-ghost use Rattle.std.specs.Prelude.{◌≡◌, ◌<◌, ◌≤◌, ◌-◌, ◌+◌, ℕ, ◌∷◌, length, take, drop, IfOk, reverse};
+ghost use Rattle.std.specs.Prelude.{◌≡◌, ◌<◌, ◌≤◌, ◌-◌, ◌+◌, ℕ, true, false, List, ◌∷◌, ◌++◌, ◌==◌, count_by, length, take, drop, IfOk, reverse};
 ghost use Rattle.std.specs.List.{prefix_len, position_or_len};
 ghost use Rattle.t1_frac.specs.declared.fault.Place.TheVariants as places;
+ghost use Rattle.t1_frac.specs.Ascii.{line_feed};
 ghost use Rattle.t1_frac.specs.Outcome.{fault_at};
 ghost use Rattle.t1_frac.specs.Words.{is_blank};
 ghost use Rattle.t1_text.specs.Delimiters.{is_safe};
-ghost use Rattle.t1_text.specs.Lines.{lines, line_ends, is_line_end, after_end, trimmed};
+ghost use Rattle.t1_text.specs.Lines.{begins_with, lines, line_ends, is_line, is_line_end, after_end, trimmed};
 
-use memchr::{memchr2, memchr3};
+use memchr::{memchr, memchr_iter, memchr2, memchr3, memrchr2};
 use std::alloc::{AllocError, Global};
 use t1_frac::{Bytes, Code, Fault, Place, is_blank, skip_blanks};
 
@@ -73,6 +74,18 @@ pub fn first_line(bytes: &[u8]) -> (&[u8], &[u8])
     cut_line(bytes)
 }
 
+/// Where the last line of some bytes begins, whose end doesn't stand there.
+pub fn last_line_start(bytes: &[u8]) -> usize
+    ensures within { result ≤ length bytes.now }
+    ensures line { is_line (drop result bytes.now) ≡ true }
+    ensures cut { (back : List ℕ) → begins_with line_feed back ≡ false → lines (take result bytes.now ++ back) ≡ lines (take result bytes.now) ++ lines back }
+{
+    match memrchr2(b'\n', b'\r', bytes) {
+        Some(end) => end + 1,
+        None => 0,
+    }
+}
+
 /// Where the first brace of some bytes stands or a comment begins, or their length.
 pub fn first_delimiter(bytes: &[u8]) -> usize
     ensures within { result ≤ length bytes.now }
@@ -97,6 +110,24 @@ pub fn copied_lines(alloc: Global, text: &[u8]) -> Result<Vec<Bytes>, AllocError
 
 /// How many line ends stand in a text, of which CR LF is one.
 pub fn line_ends(text: &[u8]) -> usize
+    ensures value { result ≡ line_ends text.now }
+    ensures within { result ≤ length text.now }
+{
+    match memchr(b'\r', text) {
+        None => line_feeds(text),
+        Some(_) => mixed_line_ends(text),
+    }
+}
+
+/// How many LF stand in a text.
+fn line_feeds(text: &[u8]) -> usize
+    ensures { result ≡ count_by (λ c. c == line_feed) text.now }
+{
+    memchr_iter(b'\n', text).count()
+}
+
+/// How many line ends stand in a text, counted one by one.
+fn mixed_line_ends(text: &[u8]) -> usize
     ensures value { result ≡ line_ends text.now }
     ensures within { result ≤ length text.now }
 {

@@ -20,9 +20,7 @@ use t1_frac::{Bytes, Words};
 use t1_run::{Bodies, Meter, run};
 
 fn body(alloc: Global, words: &str) -> Result<Body, Fail> {
-    let mut list = Words::new(alloc);
-    list.push_line(words.as_bytes())?;
-    Ok(compile(alloc, &list)?)
+    Ok(compile(alloc, &Words::of(words.as_bytes()))?)
 }
 
 /// The records of a font with Subr 4 alone, which a glyph uses.

@@ -142,8 +142,8 @@ const FOUR_DEEP: [(&[u8], &[u8]); 4] = [
 ];
 
 /// A session with these glyphs and space.
-fn four_deep(alloc: Global) -> Result<Session, Fail> {
-    let source = read_source(alloc, font(alloc)?.as_slice())?;
+fn four_deep(alloc: Global, font: &[u8]) -> Result<Session<'_>, Fail> {
+    let source = read_source(alloc, font)?;
     let mut session = Session::open(alloc, source, read_pairs(alloc, b"")?)?;
     for (name, body) in &FOUR_DEEP {
         session.apply(new_glyph(alloc, name, body)?)?;
@@ -153,7 +153,8 @@ fn four_deep(alloc: Global) -> Result<Session, Fail> {
 
 /// How many runs an edit of space makes under four composites.
 fn runs_four_deep(alloc: Global) -> Result<u64, Fail> {
-    let mut session = four_deep(alloc)?;
+    let font = font(alloc)?;
+    let mut session = four_deep(alloc, &font)?;
     let before = session.runs();
     session.apply(glyph_edit(alloc, b"space", b"0 250 hsbw 10 hlineto endchar")?)?;
     Ok(session.runs().saturating_sub(before))
@@ -179,7 +180,8 @@ fn is_too_deep(answer: &Result<(), Cause>, name: &[u8]) -> bool {
 
 /// Whether a fifth level is refused, above the four and below them.
 fn refuses_a_fifth(alloc: Global) -> Result<[bool; 2], Fail> {
-    let mut session = four_deep(alloc)?;
+    let font = font(alloc)?;
+    let mut session = four_deep(alloc, &font)?;
     let above = session.apply(new_glyph(alloc, b"e", b"0 100 hsbw 0 0 0 100 32 seac")?);
     let below = session.apply(glyph_edit(alloc, b"space", b"0 250 hsbw 0 0 0 97 97 seac")?);
     Ok([is_too_deep(&above, b"e"), is_too_deep(&below, b"space")])

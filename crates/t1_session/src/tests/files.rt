@@ -43,8 +43,8 @@ fn whole(alloc: Global) -> Result<Vec<u8>, Fail> {
 }
 
 /// A session of the font after an edit of its lenIV.
-fn with_lead(alloc: Global, lead: i64) -> Result<Session, Fail> {
-    let source = read_source(alloc, &font(alloc)?)?;
+fn with_lead(alloc: Global, font: &[u8], lead: i64) -> Result<Session<'_>, Fail> {
+    let source = read_source(alloc, font)?;
     let mut session = Session::open(alloc, source, read_pairs(alloc, b"")?)?;
     session.apply(Edit::LenIv(lead))?;
     Ok(session)
@@ -124,7 +124,8 @@ fn stops_at_a_write_of_a_pfa(rt: HostRuntime) -> Result<(), Fail> {
 #[test]
 fn prints_blocks_and_a_pfa(rt: HostRuntime) -> Result<(), Fail> {
     let alloc = rt.alloc();
-    let session = with_lead(alloc, 4)?;
+    let font = font(alloc)?;
+    let session = with_lead(alloc, &font, 4)?;
     let mut out = Counted::new(Vec::new(alloc));
     session.print_pfb_blocks(40, &mut out)?;
     // (the line of lenIV has 13 bytes)
@@ -138,7 +139,8 @@ fn prints_blocks_and_a_pfa(rt: HostRuntime) -> Result<(), Fail> {
 #[test]
 fn sets_leniv(rt: HostRuntime) -> Result<(), Fail> {
     let alloc = rt.alloc();
-    let session = with_lead(alloc, 0)?;
+    let font = font(alloc)?;
+    let session = with_lead(alloc, &font, 0)?;
     let mut out = Counted::new(Vec::new(alloc));
     session.print_pfb(&mut out)?;
     assert_eq!(rt; out.into_inner().len(), 703);
@@ -151,7 +153,8 @@ fn sets_leniv(rt: HostRuntime) -> Result<(), Fail> {
 #[test]
 fn refuses_leniv_65(rt: HostRuntime) -> Result<(), Fail> {
     let alloc = rt.alloc();
-    let mut session = with_lead(alloc, 4)?;
+    let font = font(alloc)?;
+    let mut session = with_lead(alloc, &font, 4)?;
     let refused = session.apply(Edit::LenIv(65));
     assert!(rt; matches!(refused, Err(Cause::Rule(Rule::E4))));
     Ok(())

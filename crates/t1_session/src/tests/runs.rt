@@ -85,7 +85,7 @@ const DEMO: &str = "\
     ";
 
 /// A session of the demo font.
-pub(super) fn demo(alloc: Global) -> Result<Session, Fail> {
+pub(super) fn demo(alloc: Global) -> Result<Session<'static>, Fail> {
     let source = read_source(alloc, DEMO.as_bytes())?;
     Ok(Session::open(alloc, source, read_pairs(alloc, b"")?)?)
 }
@@ -109,7 +109,7 @@ pub(super) fn uses(alloc: Global, session: &Session) -> Result<Vec<u8>, Fail> {
 }
 
 /// The demo font after its glyphs A and V enter Subr 4, then Subr 4 is another.
-fn edited(alloc: Global) -> Result<(Session, [u64; 4]), Fail> {
+fn edited(alloc: Global) -> Result<(Session<'static>, [u64; 4]), Fail> {
     let mut session = demo(alloc)?;
     let opened = session.runs();
     session.apply(glyph_edit(

@@ -6,11 +6,11 @@ use t1_parts::Item;
 
 /// What an edit changes of a source or of its pairs.
 #[derive(Debug, Drop)]
-pub enum Change {
+pub enum Change<'a> {
     /// The item at a place is replaced by one of its kind and key.
-    PutItem(usize, Item),
+    PutItem(usize, Item<'a>),
     /// A new item comes to stand at a place, and the counts are raised.
-    InsertItem(usize, Item),
+    InsertItem(usize, Item<'a>),
     /// The item at a place is taken out.
     RemoveItem(usize),
     /// The clear part gets other lines.

@@ -6,7 +6,7 @@ ghost use Rattle.t1_source.specs.Editing.{closing_of, closing_at};
 use t1_parts::Item;
 
 /// The closing text of an entry.
-pub fn closing_of(item: &Item) -> &[u8]
+pub fn closing_of<'i>(item: &'i Item) -> &'i [u8]
     ensures { result.now ≡ closing_of item.now }
 {
     match item {
@@ -17,7 +17,7 @@ pub fn closing_of(item: &Item) -> &[u8]
 }
 
 /// The closing text of the item at a place.
-pub fn closing_at(at: usize, items: &[Item]) -> &[u8]
+pub fn closing_at<'i>(at: usize, items: &'i [Item]) -> &'i [u8]
     requires { at < length items.now }
     ensures { result.now ≡ closing_at at items.now }
 {

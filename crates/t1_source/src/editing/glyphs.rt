@@ -13,7 +13,7 @@ use crate::editing::change::Change;
 use crate::editing::entries::{closing_at, closing_of};
 use crate::editing::rules::{body_words, good_body, good_name, keeps};
 use crate::source::Source;
-use t1_frac::Bytes;
+use t1_frac::SourceText;
 use t1_parts::{Item, is_glyphs_line};
 use t1_text::same;
 
@@ -53,7 +53,7 @@ fn is_glyph_entry(item: &Item) -> bool
 }
 
 /// The closing text of a new glyph.
-fn glyph_closing(items: &[Item]) -> &[u8]
+fn glyph_closing<'i>(items: &'i [Item]) -> &'i [u8]
     ensures { result.now ≡ closing_among is_glyph_entry (codes "noaccess def") items.now }
 {
     match items.iter().find(|item| is_glyph_entry(item)) {
@@ -92,7 +92,11 @@ fn through_glyphs(items: &[Item]) -> usize
 
 /// A glyph with another body.
 #[tactic(auto, unfolding(crate::specs::Editing::replaced_glyph))]
-pub fn replacing_glyph(source: &Source, name: &[u8], body: &[u8]) -> Result<Change, Cause>
+pub fn replacing_glyph<'a>(
+    source: &Source<'a>,
+    name: &[u8],
+    body: &[u8],
+) -> Result<Change<'a>, Cause>
     ensures change { (k : List Pair) → Edits (λ change. changed change source.now k) result (beside_pairs k (replaced_glyph source.now name.now body.now)) }
     ensures fits { (k : List Pair) → IfOk result (λ change. Fits change source.now k) }
 {
@@ -103,13 +107,16 @@ pub fn replacing_glyph(source: &Source, name: &[u8], body: &[u8]) -> Result<Chan
     };
     let alloc = source.alloc();
     let words = body_words(alloc, body)?;
-    let closing = Bytes::copied(alloc, closing_at(at, source.items()))?;
-    Ok(Change::PutItem(at, Item::Glyph(Bytes::copied(alloc, name)?, words, closing)))
+    let closing = SourceText::copy_of(alloc, closing_at(at, source.items()))?;
+    Ok(Change::PutItem(
+        at,
+        Item::Glyph(SourceText::copy_of(alloc, name)?, words, closing),
+    ))
 }
 
 /// A new glyph.
 #[tactic(auto, unfolding(crate::specs::Editing::added_glyph))]
-pub fn adding_glyph(source: &Source, name: &[u8], body: &[u8]) -> Result<Change, Cause>
+pub fn adding_glyph<'a>(source: &Source<'a>, name: &[u8], body: &[u8]) -> Result<Change<'a>, Cause>
     ensures change { (k : List Pair) → Edits (λ change. changed change source.now k) result (beside_pairs k (added_glyph source.now name.now body.now)) }
     ensures fits { (k : List Pair) → IfOk result (λ change. Fits change source.now k) }
 {
@@ -118,14 +125,14 @@ pub fn adding_glyph(source: &Source, name: &[u8], body: &[u8]) -> Result<Change,
     keeps(Rule::E2, !has_glyph(source.items(), name))?;
     let alloc = source.alloc();
     let words = body_words(alloc, body)?;
-    let closing = Bytes::copied(alloc, glyph_closing(source.items()))?;
-    let glyph = Item::Glyph(Bytes::copied(alloc, name)?, words, closing);
+    let closing = SourceText::copy_of(alloc, glyph_closing(source.items()))?;
+    let glyph = Item::Glyph(SourceText::copy_of(alloc, name)?, words, closing);
     Ok(Change::InsertItem(through_glyphs(source.items()), glyph))
 }
 
 /// A glyph taken out.
 #[tactic(auto, unfolding(crate::specs::Editing::removed_glyph))]
-pub fn removing_glyph(source: &Source, name: &[u8]) -> Result<Change, Cause>
+pub fn removing_glyph<'a>(source: &Source<'a>, name: &[u8]) -> Result<Change<'a>, Cause>
     ensures change { (k : List Pair) → Edits (λ change. changed change source.now k) result (beside_pairs k (removed_glyph source.now name.now)) }
     ensures fits { (k : List Pair) → IfOk result (λ change. Fits change source.now k) }
 {

@@ -13,7 +13,12 @@ use t1_pairs::{Pair, Pairs};
 
 /// A pair put in, or given another value.
 #[tactic(auto, unfolding(crate::specs::Editing::kerned))]
-pub fn kerning_pair(pairs: &Pairs, left: &[u8], right: &[u8], value: i64) -> Result<Change, Cause>
+pub fn kerning_pair<'a>(
+    pairs: &Pairs,
+    left: &[u8],
+    right: &[u8],
+    value: i64,
+) -> Result<Change<'a>, Cause>
     ensures change { (s : SourceParts) → Edits (λ change. changed change s pairs.now) result (beside_source s (kerned pairs.now left.now right.now value)) }
     ensures fits { (s : SourceParts) → IfOk result (λ change. Fits change s pairs.now) }
 {
@@ -32,7 +37,7 @@ pub fn kerning_pair(pairs: &Pairs, left: &[u8], right: &[u8], value: i64) -> Res
 
 /// A pair taken out.
 #[tactic(auto, unfolding(crate::specs::Editing::unkerned))]
-pub fn unkerning_pair(pairs: &Pairs, left: &[u8], right: &[u8]) -> Result<Change, Cause>
+pub fn unkerning_pair<'a>(pairs: &Pairs, left: &[u8], right: &[u8]) -> Result<Change<'a>, Cause>
     ensures change { (s : SourceParts) → Edits (λ change. changed change s pairs.now) result (beside_source s (unkerned pairs.now left.now right.now)) }
     ensures fits { (s : SourceParts) → IfOk result (λ change. Fits change s pairs.now) }
 {

@@ -13,7 +13,7 @@ use crate::editing::change::Change;
 use crate::editing::rules::number_up_to;
 use crate::source::Source;
 use std::alloc::{AllocError, Global};
-use t1_frac::Bytes;
+use t1_frac::SourceText;
 use t1_parts::{Item, is_glyphs_line, is_subrs_line, push_decimal, says_lead};
 use t1_text::{next_place, same};
 
@@ -49,7 +49,7 @@ fn before_sections(items: &[Item]) -> usize
 }
 
 /// The bytes of a plain line.
-fn line_of(item: &Item) -> &[u8]
+fn line_of<'i>(item: &'i Item) -> &'i [u8]
     ensures { result.now ≡ line_of item.now }
 {
     match item {
@@ -59,7 +59,7 @@ fn line_of(item: &Item) -> &[u8]
 }
 
 /// The line at a place.
-fn line_at(at: usize, items: &[Item]) -> &[u8]
+fn line_at<'i>(at: usize, items: &'i [Item]) -> &'i [u8]
     requires { at < length items.now }
     ensures { result.now ≡ line_at at items.now }
 {
@@ -98,33 +98,33 @@ fn place_after<'a>(key: &[u8], line: &'a [u8]) -> Option<(usize, &'a [u8])>
 
 /// A line with a number in the place of the token after its first `/lenIV`.
 #[tactic(auto, unfolding(crate::specs::Leads::line_with_lead))]
-fn line_with_lead(alloc: Global, lead: u16, line: &[u8]) -> Result<Bytes, AllocError>
+fn line_with_lead<'a>(alloc: Global, lead: u16, line: &[u8]) -> Result<SourceText<'a>, AllocError>
     ensures { IfOk result (λ made. made ≡ line_with_lead lead line.now) }
 {
     let Some((at, token)) = place_after(b"/lenIV", line) else {
-        return Bytes::copied(alloc, line);
+        return SourceText::copy_of(alloc, line);
     };
     let mut made = Vec::new(alloc);
     made.extend_from_slice(line.split_at(at).0)?;
     push_decimal(&mut made, u64::from(lead))?;
     made.extend_from_slice(line.split_at(at + token.len()).1)?;
-    Ok(Bytes::new(made))
+    Ok(SourceText::owned(made))
 }
 
 /// The line of a new lenIV.
-fn lead_line(alloc: Global, lead: u16) -> Result<Bytes, AllocError>
+fn lead_line<'a>(alloc: Global, lead: u16) -> Result<SourceText<'a>, AllocError>
     ensures { IfOk result (λ line. line ≡ lead_line lead) }
 {
     let mut line = Vec::new(alloc);
     line.extend_from_slice(b"/lenIV ")?;
     push_decimal(&mut line, u64::from(lead))?;
     line.extend_from_slice(b" def")?;
-    Ok(Bytes::new(line))
+    Ok(SourceText::owned(line))
 }
 
 /// lenIV put into the line that says it, or into a new one.
 #[tactic(auto, unfolding(crate::specs::Editing::lead_edited, crate::specs::Leads::items_with_lead))]
-pub fn putting_lead(source: &Source, number: i64) -> Result<Change, Cause>
+pub fn putting_lead<'a>(source: &Source<'a>, number: i64) -> Result<Change<'a>, Cause>
     ensures change { (k : List Pair) → Edits (λ change. changed change source.now k) result (beside_pairs k (lead_edited source.now number)) }
     ensures fits { (k : List Pair) → IfOk result (λ change. Fits change source.now k) }
 {

@@ -25,10 +25,10 @@ pub use rules::body_words;
 use std::alloc::AllocError;
 use t1_pairs::Pairs;
 
-impl Source {
+impl<'a> Source<'a> {
     /// What an edit changes, or the first rule that it breaks.
     #[tactic(auto, unfolding(crate::specs::Editing::edited))]
-    fn found_change(&self, pairs: &Pairs, edit: &Edit) -> Result<Change, Cause>
+    fn found_change(&self, pairs: &Pairs, edit: &Edit) -> Result<Change<'a>, Cause>
         ensures change { Edits (λ change. changed change self.now pairs.now) result (edited self.now pairs.now edit.now) }
         ensures fits { IfOk result (λ change. Fits change self.now pairs.now) }
     {
@@ -53,7 +53,7 @@ impl Source {
 
     /// What an edit changes, or the first rule that it breaks. Nothing is changed, and nothing that stays is copied but
     /// the clear part, where the encoding is edited.
-    pub fn prepared(&self, pairs: &Pairs, edit: &Edit) -> Result<Change, Cause>
+    pub fn prepared(&self, pairs: &Pairs, edit: &Edit) -> Result<Change<'a>, Cause>
         ensures change { Edits (λ change. changed change self.now pairs.now) result (edited self.now pairs.now edit.now) }
         ensures serves { IfOk result (λ change. Serves change self.now pairs.now) }
     {
@@ -65,12 +65,12 @@ impl Source {
 
     /// Makes a change that was prepared for this source and these pairs. Only an item or a pair that is put in takes
     /// memory: where it runs out, nothing has changed.
-    pub fn commit(&mut self, pairs: &mut Pairs, change: Change) -> Result<(), AllocError>
+    pub fn commit(&mut self, pairs: &mut Pairs, change: Change<'a>) -> Result<(), AllocError>
         requires { Serves change self.old pairs.old }
-        ensures source { OnOk result (self.new ≡ (changed change self.old pairs.old).0) }
-        ensures pairs { OnOk result (pairs.new ≡ (changed change self.old pairs.old).1) }
+        ensures source { OnOk result (self.new ≡ (changed change.entry self.old pairs.old).0) }
+        ensures pairs { OnOk result (pairs.new ≡ (changed change.entry self.old pairs.old).1) }
         ensures err { OnErr result ((self.new ≡ self.old) × (pairs.new ≡ pairs.old)) }
-        ensures still { takes_room change ≡ false → IsOk result }
+        ensures still { takes_room change.entry ≡ false → IsOk result }
     {
         match change {
             Change::PutItem(at, item) => self.put_item(at, item),
@@ -85,7 +85,7 @@ impl Source {
     }
 
     /// The source and the pairs after an edit, or the first rule that it breaks. Nothing handed in is changed.
-    pub fn edited(&self, pairs: &Pairs, edit: &Edit) -> Result<(Source, Pairs), Cause>
+    pub fn edited(&self, pairs: &Pairs, edit: &Edit) -> Result<(Source<'a>, Pairs), Cause>
         ensures { Edits (λ made. made) result (edited self.now pairs.now edit.now) }
     {
         let change = self.prepared(pairs, edit)?;

@@ -5,7 +5,7 @@ ghost use Rattle.t1_source.specs.Editing.{keeps, number_up_to, kerning_number, g
 
 use crate::edit::Rule;
 use std::alloc::{AllocError, Global};
-use t1_frac::Words;
+use t1_frac::{OwnedWords, Words};
 use t1_parts::{has_brace, uncommented};
 use t1_text::{first_line, is_name};
 
@@ -68,15 +68,15 @@ pub fn good_body(body: &[u8]) -> Result<(), Rule>
 }
 
 /// The words of a body without its comments.
-pub fn body_words(alloc: Global, body: &[u8]) -> Result<Words, AllocError>
+pub fn body_words<'a>(alloc: Global, body: &[u8]) -> Result<Words<'a>, AllocError>
     ensures { IfOk result (λ found. found ≡ body_words body.now) }
 {
-    let mut found = Words::new(alloc);
+    let mut found = OwnedWords::new(alloc);
     let mut rest = body;
     while !rest.is_empty() {
         let (line, after) = first_line(rest);
         found.push_line(uncommented(line))?;
         rest = after;
     }
-    Ok(found)
+    Ok(found.into_words())
 }

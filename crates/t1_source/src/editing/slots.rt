@@ -150,7 +150,7 @@ fn encoded_lines(
 
 /// A code encoded.
 #[tactic(auto, unfolding(crate::specs::Editing::encoded))]
-pub fn encoding_code(source: &Source, code: i64, name: &[u8]) -> Result<Change, Cause>
+pub fn encoding_code<'a>(source: &Source<'a>, code: i64, name: &[u8]) -> Result<Change<'a>, Cause>
     ensures change { (k : List Pair) → Edits (λ change. changed change source.now k) result (beside_pairs k (encoded source.now code name.now)) }
     ensures fits { (k : List Pair) → IfOk result (λ change. Fits change source.now k) }
 {
@@ -183,7 +183,7 @@ fn unencoded_lines(alloc: Global, code: u16, lines: &[Bytes]) -> Result<Vec<Byte
 
 /// The slots of a code taken out.
 #[tactic(auto, unfolding(crate::specs::Editing::unencoded))]
-pub fn unencoding_code(source: &Source, code: i64) -> Result<Change, Cause>
+pub fn unencoding_code<'a>(source: &Source<'a>, code: i64) -> Result<Change<'a>, Cause>
     ensures change { (k : List Pair) → Edits (λ change. changed change source.now k) result (beside_pairs k (unencoded source.now code)) }
     ensures fits { (k : List Pair) → IfOk result (λ change. Fits change source.now k) }
 {

@@ -13,7 +13,7 @@ use crate::editing::change::Change;
 use crate::editing::entries::{closing_at, closing_of};
 use crate::editing::rules::{body_words, good_body, keeps, number_up_to};
 use crate::source::Source;
-use t1_frac::Bytes;
+use t1_frac::SourceText;
 use t1_parts::{Item, is_subrs_line};
 
 /// Whether an item is the Subr of this number.
@@ -52,7 +52,7 @@ fn is_subr_entry(item: &Item) -> bool
 }
 
 /// The closing text of a new Subr.
-fn subr_closing(items: &[Item]) -> &[u8]
+fn subr_closing<'i>(items: &'i [Item]) -> &'i [u8]
     ensures { result.now ≡ closing_among is_subr_entry (codes "noaccess put") items.now }
 {
     match items.iter().find(|item| is_subr_entry(item)) {
@@ -105,7 +105,11 @@ fn has_section(source: &Source) -> Result<(), Rule>
 
 /// A Subr with another body.
 #[tactic(auto, unfolding(crate::specs::Editing::replaced_subr))]
-pub fn replacing_subr(source: &Source, number: i64, body: &[u8]) -> Result<Change, Cause>
+pub fn replacing_subr<'a>(
+    source: &Source<'a>,
+    number: i64,
+    body: &[u8],
+) -> Result<Change<'a>, Cause>
     ensures change { (k : List Pair) → Edits (λ change. changed change source.now k) result (beside_pairs k (replaced_subr source.now number body.now)) }
     ensures fits { (k : List Pair) → IfOk result (λ change. Fits change source.now k) }
 {
@@ -117,13 +121,13 @@ pub fn replacing_subr(source: &Source, number: i64, body: &[u8]) -> Result<Chang
     };
     let alloc = source.alloc();
     let words = body_words(alloc, body)?;
-    let closing = Bytes::copied(alloc, closing_at(at, source.items()))?;
+    let closing = SourceText::copy_of(alloc, closing_at(at, source.items()))?;
     Ok(Change::PutItem(at, Item::Subr(number, words, closing)))
 }
 
 /// A new Subr.
 #[tactic(auto, unfolding(crate::specs::Editing::added_subr))]
-pub fn adding_subr(source: &Source, number: i64, body: &[u8]) -> Result<Change, Cause>
+pub fn adding_subr<'a>(source: &Source<'a>, number: i64, body: &[u8]) -> Result<Change<'a>, Cause>
     ensures change { (k : List Pair) → Edits (λ change. changed change source.now k) result (beside_pairs k (added_subr source.now number body.now)) }
     ensures fits { (k : List Pair) → IfOk result (λ change. Fits change source.now k) }
 {
@@ -133,14 +137,14 @@ pub fn adding_subr(source: &Source, number: i64, body: &[u8]) -> Result<Change, 
     keeps(Rule::E2, !has_subr(source.items(), number))?;
     let alloc = source.alloc();
     let words = body_words(alloc, body)?;
-    let closing = Bytes::copied(alloc, subr_closing(source.items()))?;
+    let closing = SourceText::copy_of(alloc, subr_closing(source.items()))?;
     let subr = Item::Subr(number, words, closing);
     Ok(Change::InsertItem(through_subrs(source.items()), subr))
 }
 
 /// A Subr taken out.
 #[tactic(auto, unfolding(crate::specs::Editing::removed_subr))]
-pub fn removing_subr(source: &Source, number: i64) -> Result<Change, Cause>
+pub fn removing_subr<'a>(source: &Source<'a>, number: i64) -> Result<Change<'a>, Cause>
     ensures change { (k : List Pair) → Edits (λ change. changed change source.now k) result (beside_pairs k (removed_subr source.now number)) }
     ensures fits { (k : List Pair) → IfOk result (λ change. Fits change source.now k) }
 {

@@ -1,8 +1,8 @@
-use Rattle.std.proofs.Common.{◌≡◌, ◌++◌, ◌∷◌, length, take, sym, ◌∙◌, ap, arith}
+use Rattle.std.proofs.Common.{◌≡◌, ◌++◌, ◌∷◌, subst, sym, ◌∙◌, ap}
 use Rattle.std.specs.List.{list_any}
 use Rattle.t1_text.specs.Lines.{lines}
-use Rattle.t1_parts.specs.Parts.{ends_in}
-use Rattle.t1_parts.proofs.PartLaws.{cut_further, gone, lines_cut, none_further}
+use Rattle.t1_parts.specs.Parts.{ends_in, gone, NoneGone}
+use Rattle.t1_parts.proofs.PartLaws.{lines_cut, none_further, none_over}
 use Rattle.t1_parts.proofs.parts.cut_at.Goals as goal
 
 pub returns-then-ends_in : goal.returns-then-ends_in
@@ -18,10 +18,9 @@ returns-then-ends_in c =
 
 pub loop-rest-preserved : goal.loop-rest-preserved
 loop-rest-preserved c =
+    let test = ends_in c.args.text.now in
     let bytes = c.args.bytes.now in
-    let rest = c.loop-rest.rest.now in
-    let further = cut_further bytes rest c.first_line.result.0.now c.first_line.result.1.now c.loop-rest.invariant.0 c.first_line.ensures.shorter c.first_line.ensures.cut c.loop-rest.invariant.1 in (
-      omega (arith, c.loop-rest.invariant.0, c.first_line.ensures.shorter),
-      further.1,
-      none_further (ends_in c.args.text.now) (lines (gone bytes rest)) (lines (gone bytes c.first_line.result.1.now)) c.first_line.result.0.now c.loop-rest.invariant.2 (sym c.ends_in.ensures ∙ c.if-ends_in.false) further.0,
-    )
+    let after = c.first_line.result.1.now in
+    let rest = c.from_line_with-rest-in-loop-rest.result.now in
+    let further = none_further test bytes c.loop-rest.rest.now c.first_line.result.0.now after c.first_line.ensures.shorter c.first_line.ensures.cut (sym c.ends_in.ensures ∙ c.if-ends_in.false) c.loop-rest.invariant in
+    none_over test bytes after rest further (subst (λ t. NoneGone (ends_in t) after rest) c.new-finder.ensures c.from_line_with-rest-in-loop-rest.ensures)

@@ -10,5 +10,5 @@ returns-clause-fits c k =
     let at = c.in-Some.at in
     let within : at < length items = search rules in
     let there : position (is_glyph c.args.name.now) items ≡ Some at = search rules in
-    let name : c.in_ok-copied.field-0 ≡ c.args.name.now = search rules in
-    (within, glyph_fits items c.args.name.now c.in_ok-copied.field-0 at _ _ name there)
+    let name : c.in_ok-copy_of.field-0 ≡ c.args.name.now = search rules in
+    (within, glyph_fits items c.args.name.now c.in_ok-copy_of.field-0 at _ _ name there)

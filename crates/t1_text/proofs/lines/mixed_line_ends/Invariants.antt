@@ -1,7 +1,7 @@
 use Rattle.std.proofs.Common.{◌≡◌, ◌+◌, ◌≤◌, length}
 use Rattle.t1_text.specs.Lines.{line_ends}
 use Rattle.t1_text.proofs.LineLaws.{line_len}
-use Rattle.t1_text.proofs.lines.line_ends.Given as goal
+use Rattle.t1_text.proofs.lines.mixed_line_ends.Given as goal
 
 -- the line ends counted so far, and those of the rest
 abbrev pub invariant-loop-at : goal.invariant-loop-at

@@ -2,7 +2,7 @@ use Rattle.std.proofs.Common.{[], ◌∷◌, ◌++◌, ◌∙◌, ap, append_ass
 use Rattle.t1_frac.specs.Words.{words}
 use Rattle.t1_frac.proofs.AppendLaws.{words_append}
 use Rattle.t1_frac.proofs.OutcomeLaws.{on_err}
-use Rattle.t1_frac.proofs.words.Words.push_line.Goals as goal
+use Rattle.t1_frac.proofs.words.OwnedWords.push_line.Goals as goal
 
 pub returns-clause-ok : goal.returns-clause-ok
 returns-clause-ok c =

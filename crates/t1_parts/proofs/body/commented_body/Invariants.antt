@@ -1,5 +1,5 @@
 use Rattle.t1_parts.proofs.PieceLaws.{left_after, IsRead}
-use Rattle.t1_parts.proofs.body.body_of.Given as goal
+use Rattle.t1_parts.proofs.body.commented_body.Given as goal
 
 -- the body is the words so far, and that of the piece and of the bytes after it
 abbrev pub invariant-loop-piece : goal.invariant-loop-piece
