@@ -14,6 +14,3 @@ mod marks;
 pub use batch::Batch;
 pub use changes::batch_changes;
 pub use entries::EditedEntry;
-
-#[cfg(test)]
-mod tests;

@@ -26,6 +26,3 @@ pub use room::{Counts, count_joins, make_room, users_of_glyph, users_of_subr};
 pub use stale::found;
 pub use users::move_users;
 pub use uses::{joins_of, leaves_of};
-
-#[cfg(test)]
-mod tests;

@@ -36,6 +36,3 @@ pub use lengths::{check_length, entry_line_len, line_len, private_len, sections_
 pub use made::Made;
 pub use preparing::prepare_lines;
 pub use settling::{EditedEntries, Gone, ReadyCharstrings, ReadyLines, settle_lines};
-
-#[cfg(test)]
-mod tests;

@@ -37,6 +37,3 @@ pub use pfa::{Pfa, write_pfa};
 pub use pfb::{Pfb, WHOLE_PARTS, write_pfb};
 pub use pieces::MAX_PART;
 pub use words::compile;
-
-#[cfg(test)]
-mod tests;

@@ -7,8 +7,6 @@
 mod command_line;
 mod help;
 mod table;
-#[cfg(test)]
-mod tests;
 mod topic;
 
 pub use command_line::command;

@@ -17,6 +17,3 @@ pub use command::{
 pub use data::{PfaData, PfbData};
 pub use numbers::{block_size, block_size_of_word};
 pub use print::Print;
-
-#[cfg(test)]
-mod tests;

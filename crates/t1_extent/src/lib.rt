@@ -33,6 +33,3 @@ pub use reach::{Reach, cubic_reach};
 pub use reached::{Drawn, Reached};
 pub use sides::Sides;
 pub use wholes::{is_whole, is_whole_outline};
-
-#[cfg(test)]
-mod tests;

@@ -35,6 +35,3 @@ pub use lengths::{TEN_DIGITS, check_counts, check_parts, checked_bodies};
 pub use numbers::SubrNumbers;
 pub use runs::{Runs, runs_of};
 pub use usage::usage_text;
-
-#[cfg(test)]
-mod tests;

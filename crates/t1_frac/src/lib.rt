@@ -19,6 +19,3 @@ pub use number::{
 };
 pub use source_text::SourceText;
 pub use words::{OwnedWords, Words, blank_len, is_blank, next_word, skip_blanks};
-
-#[cfg(test)]
-mod tests;

@@ -17,6 +17,3 @@ pub use edits::Edits;
 pub use files::write_held_file;
 pub use held::{Held, ReadyHeld, held_metrics, held_of, settle};
 pub use preparing::prepare_edits;
-
-#[cfg(test)]
-mod tests;

@@ -10,6 +10,3 @@ mod pairs;
 mod search;
 
 pub use pairs::{Pair, Pairs, read_pairs};
-
-#[cfg(test)]
-mod tests;

@@ -36,6 +36,3 @@ pub use order::GlyphOrder;
 pub use prepared::Prepared;
 pub use renewal::Renewal;
 pub use settling::{EntryChange, Ready, make_ready, settle};
-
-#[cfg(test)]
-mod tests;

@@ -101,6 +101,3 @@ pub fn settle(records: &mut Records, ready: Ready)
     move_users(records, leaves, joins);
     renew_by_name(&mut records.glyphs, runs);
 }
-
-#[cfg(test)]
-mod tests;

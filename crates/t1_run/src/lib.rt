@@ -30,6 +30,3 @@ pub use outcome::Run;
 pub use outline::{Composite, Point, Segment};
 pub use plain::Plain;
 pub use runner::run;
-
-#[cfg(test)]
-mod tests;

@@ -11,8 +11,6 @@ mod measuring;
 mod performer;
 mod serving;
 mod session;
-#[cfg(test)]
-mod tests;
 
 pub use assembling::{assemble_blocks, assemble_pfa, assemble_source};
 pub use error::ServeError;

@@ -15,6 +15,3 @@ pub use edit::{Cause, Edit, Rule};
 pub use editing::{Change, body_words};
 pub use source::{Source, read_source};
 pub use t1_parts::Item;
-
-#[cfg(test)]
-mod tests;

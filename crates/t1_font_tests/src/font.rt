@@ -1,0 +1,261 @@
+//! Whole fonts from their text to their AFM, and their first faults, with memory that doesn't run out.
+use std::alloc::Global;
+use std::test::Fail;
+use t1_afm::write_afm;
+use t1_code::Counted;
+use t1_font::{
+    MeasuredGlyphs, compiled, measured, measured_source, metrics, pfa_of_source, pfb_of_source,
+    usage_text,
+};
+use t1_frac::{Code, Fault, Place, Refusal};
+use t1_pairs::read_pairs;
+use t1_run::Meter;
+use t1_source::{Source, read_source};
+
+/// The demo font.
+const DEMO: &str = "\
+    %!PS-AdobeFont-1.0: Demo 001.000\n\
+    /FontInfo 5 dict dup begin\n\
+    /version (001.000) readonly def\n\
+    /FullName (Demo Roman) readonly def\n\
+    /Weight (Medium) readonly def\n\
+    /ItalicAngle 0 def\n\
+    /isFixedPitch false def\n\
+    end readonly def\n\
+    /FontName /Demo def\n\
+    /Encoding StandardEncoding def\n\
+    /FontBBox{0 0 0 0}readonly def\n\
+    currentfile eexec\n\
+    dup /Private 8 dict dup begin\n\
+    /RD {string currentfile exch readstring pop} executeonly def\n\
+    /Subrs 5 array\n\
+    dup 0 {\n\
+    \t3 0 callothersubr\n\
+    \tpop\n\
+    \tpop\n\
+    \tsetcurrentpoint\n\
+    \treturn\n\
+    \t} NP\n\
+    dup 1 {\n\
+    \t0 1 callothersubr\n\
+    \treturn\n\
+    \t} NP\n\
+    dup 2 {\n\
+    \t0 2 callothersubr\n\
+    \treturn\n\
+    \t} NP\n\
+    dup 3 {\n\
+    \treturn\n\
+    \t} NP\n\
+    dup 4 {\n\
+    \t100 178 rlineto\n\
+    \treturn\n\
+    \t} NP\n\
+    ND\n\
+    2 index /CharStrings 6 dict dup begin\n\
+    /.notdef {\n\
+    \t0 250 hsbw\n\
+    \tendchar\n\
+    \t} ND\n\
+    /Aacute {\n\
+    \t10 600 hsbw\n\
+    \t93 170 214 65 194 seac\n\
+    \t} ND\n\
+    /A {\n\
+    \t10 600 hsbw\n\
+    \t300 hlineto\n\
+    \t700 vlineto\n\
+    \tclosepath\n\
+    \tendchar\n\
+    \t} ND\n\
+    /acute {\n\
+    \t93 333 hsbw\n\
+    \t500 vmoveto\n\
+    \t4 callsubr\n\
+    \tclosepath\n\
+    \tendchar\n\
+    \t} ND\n\
+    /V {\n\
+    \t15 722 hsbw\n\
+    \t0 700 rmoveto\n\
+    \t100 -700 rlineto\n\
+    \tclosepath\n\
+    \tendchar\n\
+    \t} ND\n\
+    /space {\n\
+    \t0 250 hsbw\n\
+    \tendchar\n\
+    \t} ND\n\
+    end\n\
+    end\n\
+    mark currentfile closefile\n\
+    cleartomark\n\
+    ";
+
+const AFM: &str = "\
+    StartFontMetrics 4.1\n\
+    FontName Demo\n\
+    FullName Demo Roman\n\
+    Weight Medium\n\
+    ItalicAngle 0\n\
+    IsFixedPitch false\n\
+    FontBBox 10 0 310 892\n\
+    Version 001.000\n\
+    EncodingScheme AdobeStandardEncoding\n\
+    StartCharMetrics 6\n\
+    C 32 ; WX 250 ; N space ; B 0 0 0 0 ;\n\
+    C 65 ; WX 600 ; N A ; B 10 0 310 700 ;\n\
+    C 86 ; WX 722 ; N V ; B 15 0 115 700 ;\n\
+    C 194 ; WX 333 ; N acute ; B 93 500 193 678 ;\n\
+    C -1 ; WX 250 ; N .notdef ; B 0 0 0 0 ;\n\
+    C -1 ; WX 600 ; N Aacute ; B 10 0 310 892 ;\n\
+    EndCharMetrics\n\
+    StartKernData\n\
+    StartKernPairs 1\n\
+    KPX A V -92\n\
+    EndKernPairs\n\
+    EndKernData\n\
+    StartComposites 1\n\
+    CC Aacute 2 ; PCC A 0 0 ; PCC acute 87 214 ;\n\
+    EndComposites\n\
+    EndFontMetrics\n";
+
+/// The glyphs of a source.
+fn glyphs_of(alloc: Global, source: &Source, meter: &mut Meter) -> Result<MeasuredGlyphs, Refusal> {
+    let bodies = compiled(alloc, source.items())?;
+    measured(alloc, source.items(), &bodies, meter)
+}
+
+#[test]
+fn measures_the_demo_font(rt: HostRuntime) -> Result<(), Fail> {
+    let alloc = rt.alloc();
+    let source = read_source(alloc, DEMO.as_bytes())?;
+    let pairs = read_pairs(alloc, b"KPX A V -92\nKPX A B 5\n")?;
+    let glyphs = glyphs_of(alloc, &source, &mut Meter::new())?;
+    let metrics = metrics(alloc, &source, &pairs, &glyphs)?;
+    let mut out = Counted::new(Vec::new(alloc));
+    write_afm(&metrics, &mut out)?;
+    assert_eq!(rt; out.into_inner().as_slice(), AFM.as_bytes());
+    Ok(())
+}
+
+#[test]
+fn counts_runs(rt: HostRuntime) -> Result<(), Fail> {
+    let alloc = rt.alloc();
+    let source = read_source(alloc, DEMO.as_bytes())?;
+    let mut meter = Meter::new();
+    let glyphs = glyphs_of(alloc, &source, &mut meter)?;
+    assert_eq!(rt; (meter.count(), glyphs.metrics().len()), (6, 6));
+    Ok(())
+}
+
+/// The first fault of a private part of these lines, and the glyph that it is reported at.
+fn first_fault(alloc: Global, glyphs: &str) -> Result<Option<(Code, Vec<u8>)>, Fail> {
+    let mut text = Vec::from_slice(
+        alloc,
+        b"/Encoding StandardEncoding def\ncurrentfile eexec\n/CharStrings 1 dict dup begin\n",
+    )?;
+    text.extend_from_slice(glyphs.as_bytes())?;
+    text.extend_from_slice(b"end\nmark currentfile closefile\n")?;
+    let source = read_source(alloc, &text)?;
+    let Fault { code, place } = match glyphs_of(alloc, &source, &mut Meter::new()) {
+        Err(Refusal::Fault(fault)) => fault,
+        Err(Refusal::Memory) => return Err(Fail::new("memory")),
+        Ok(_) => return Ok(None),
+    };
+    match place {
+        Place::Glyph(name) => Ok(Some((code, name.into_vec()))),
+        _ => Err(Fail::new("no glyph")),
+    }
+}
+
+#[test]
+fn tells_the_fault_of_a_part_at_the_composite(rt: HostRuntime) -> Result<(), Fail> {
+    let glyphs = "/Aacute {\n0 600 hsbw 0 0 0 65 65 seac\n}\n/A {\n0 600 hsbw 1 0 div endchar\n}\n";
+    let Some((code, name)) = first_fault(rt.alloc(), glyphs)? else {
+        return Err(Fail::new("no fault"));
+    };
+    assert_eq!(rt; code, Code::F38);
+    assert_eq!(rt; name.as_slice(), b"Aacute".as_slice());
+    Ok(())
+}
+
+/// The usage table of the demo font.
+const USES: &str = "\
+    U .notdef ;\n\
+    U Aacute ; P A ; P acute ;\n\
+    U A ;\n\
+    U acute ; S 4 ;\n\
+    U V ;\n\
+    U space ;\n";
+
+#[test]
+fn tells_the_uses_of_the_demo_font(rt: HostRuntime) -> Result<(), Fail> {
+    let alloc = rt.alloc();
+    let source = read_source(alloc, DEMO.as_bytes())?;
+    let glyphs = measured_source(alloc, &source, &mut Meter::new())?;
+    assert_eq!(rt;
+        usage_text(alloc, glyphs.metrics())?.as_slice(),
+        USES.as_bytes()
+    );
+    Ok(())
+}
+
+/// The small font.
+const SMALL: &str = "\
+    %!\n\
+    /Encoding StandardEncoding def\n\
+    currentfile eexec\n\
+    /CharStrings 1 dict dup begin\n\
+    /space {\n\
+    \t0 250 hsbw\n\
+    \tendchar\n\
+    \t} ND\n\
+    end\n\
+    mark currentfile closefile\n";
+
+#[test]
+fn writes_the_small_font_in_hexadecimal(rt: HostRuntime) -> Result<(), Fail> {
+    let source = read_source(rt.alloc(), SMALL.as_bytes())?;
+    let file = pfa_of_source(rt.alloc(), &source)?;
+    assert_eq!(rt; file.len(), 767);
+    assert_eq!(rt;
+        file.as_slice().split_at(52).1.split_at(12).0,
+        b"d9d66f6370ee".as_slice()
+    );
+    Ok(())
+}
+
+#[test]
+fn writes_the_small_font_in_blocks(rt: HostRuntime) -> Result<(), Fail> {
+    let source = read_source(rt.alloc(), SMALL.as_bytes())?;
+    assert_eq!(rt; pfb_of_source(rt.alloc(), &source, 40)?.len(), 790);
+    assert_eq!(rt; pfb_of_source(rt.alloc(), &source, 532)?.len(), 694);
+    Ok(())
+}
+
+/// A font whose glyphs both have a faulty body.
+const FAULTY: &str = "\
+    %!\n\
+    /Encoding StandardEncoding def\n\
+    currentfile eexec\n\
+    /CharStrings 2 dict dup begin\n\
+    /A {\n\
+    \t0 250 hsbw\n\
+    \t99999999999\n\
+    \t} ND\n\
+    /B {\n\
+    \tnothing\n\
+    \t} ND\n\
+    end\n\
+    mark currentfile closefile\n";
+
+#[test]
+fn tells_the_first_fault_of_the_bodies(rt: HostRuntime) -> Result<(), Fail> {
+    let source = read_source(rt.alloc(), FAULTY.as_bytes())?;
+    let Err(Refusal::Fault(fault)) = pfb_of_source(rt.alloc(), &source, 40) else {
+        return Err(Fail::new("no fault"));
+    };
+    assert_eq!(rt; fault.code, Code::F21);
+    Ok(())
+}

@@ -1,0 +1,133 @@
+//! The charstrings of two fonts, with memory that doesn't run out.
+ghost use Rattle.std.specs.Prelude.{IfOk};
+ghost use Rattle.t1_source.specs.WellFormed.{IsWellFormed};
+
+mod batch;
+
+use std::alloc::Global;
+use std::test::Fail;
+use t1_charstrings::{
+    Charstrings, batch_len, charstrings_of, check_length, no_charstrings, private_len,
+    put_fresh_glyph, put_fresh_subr, sections_len, write_kept_file,
+};
+use t1_code::{Body, Counted, Pfa, Pfb, WHOLE_PARTS, compile};
+use t1_font::pfb_of_source;
+use t1_frac::Words;
+use t1_source::laws::read_source_is_well_formed;
+use t1_source::{Source, read_source};
+
+/// The small font.
+const SMALL: &str = "\
+    %!\n\
+    /Encoding StandardEncoding def\n\
+    currentfile eexec\n\
+    /CharStrings 1 dict dup begin\n\
+    /space {\n\
+    \t0 250 hsbw\n\
+    \tendchar\n\
+    \t} ND\n\
+    end\n\
+    mark currentfile closefile\n";
+
+/// A font with a Subr, with two bytes in front of each charstring.
+const SUBR: &str = "\
+    /Encoding StandardEncoding def\n\
+    currentfile eexec\n\
+    /lenIV 2 def\n\
+    /Subrs 5 array\n\
+    dup 4 {\n\
+    \t100 178 rlineto\n\
+    \treturn\n\
+    \t}\n\
+    ND\n\
+    2 index /CharStrings 2 dict dup begin\n\
+    /A {\n\
+    \t10 600 hsbw\n\
+    \t300 hlineto\n\
+    \t4 callsubr\n\
+    \tclosepath\n\
+    \tendchar\n\
+    \t} ND\n\
+    /space {\n\
+    \t0 250 hsbw\n\
+    \tendchar\n\
+    \t} ND\n\
+    end\n\
+    mark currentfile closefile\n";
+
+/// The charstring of space with four leading bytes, and with none.
+const SPACE: [u8; 9] = [0x10, 0xBF, 0x31, 0x70, 0x79, 0xC7, 0x57, 0xBF, 0x91];
+
+const BARE_SPACE: [u8; 5] = [0x9B, 0x23, 0xB0, 0xBB, 0x08];
+
+/// A source that is well formed, as each that was read is.
+fn read(alloc: Global, text: &str) -> Result<Source<'_>, Fail>
+    ensures { IfOk result IsWellFormed }
+{
+    read_source_is_well_formed();
+    Ok(read_source(alloc, text.as_bytes())?)
+}
+
+/// The PFB file of a source, with its kept charstrings.
+fn kept_pfb(alloc: Global, text: &str, size: usize) -> Result<Vec<u8>, Fail> {
+    let source = read(alloc, text)?;
+    let charstrings = charstrings_of(alloc, &source)?;
+    let mut out = Counted::new(Vec::new(alloc));
+    let form = Pfb::in_blocks(size.max(1).min(WHOLE_PARTS));
+    write_kept_file(alloc, &charstrings, &source, &form, &mut out)?;
+    Ok(out.into_inner())
+}
+
+/// The body of these words.
+fn body(alloc: Global, text: &str) -> Result<Body, Fail> {
+    Ok(compile(alloc, &Words::of(text.as_bytes()))?)
+}
+
+/// Whether the charstring that is kept of a glyph is this one.
+fn keeps(charstrings: &Charstrings, name: &str, charstring: &[u8]) -> bool {
+    match charstrings.glyphs.get(name.as_bytes()) {
+        None => false,
+        Some(entry) => entry.charstring() == charstring,
+    }
+}
+
+#[test]
+fn writes_the_small_font(rt: HostRuntime) -> Result<(), Fail> {
+    assert_eq!(rt; kept_pfb(rt.alloc(), SMALL, 40)?.len(), 790);
+    Ok(())
+}
+
+#[test]
+fn writes_what_is_assembled(rt: HostRuntime) -> Result<(), Fail> {
+    let alloc = rt.alloc();
+    let whole = pfb_of_source(alloc, &read(alloc, SUBR)?, WHOLE_PARTS)?;
+    assert_eq!(rt;
+        kept_pfb(alloc, SUBR, WHOLE_PARTS)?.as_slice(),
+        whole.as_slice()
+    );
+    Ok(())
+}
+
+#[test]
+fn writes_the_small_font_in_hexadecimal(rt: HostRuntime) -> Result<(), Fail> {
+    let alloc = rt.alloc();
+    let source = read(alloc, SMALL)?;
+    let charstrings = charstrings_of(alloc, &source)?;
+    let mut out = Counted::new(Vec::new(alloc));
+    write_kept_file(alloc, &charstrings, &source, &Pfa, &mut out)?;
+    assert_eq!(rt; out.into_inner().len(), 767);
+    Ok(())
+}
+
+#[test]
+fn sums_lengths(rt: HostRuntime) -> Result<(), Fail> {
+    let alloc = rt.alloc();
+    let source = read(alloc, SMALL)?;
+    let charstrings = charstrings_of(alloc, &source)?;
+    let len = private_len(&charstrings, &source);
+    // The file has 694 bytes: 20 of heads and its end, 52 and 532 of its texts, and 4 before the private text.
+    assert_eq!(rt; len, 86);
+    assert_eq!(rt; sections_len(source.items()), 30);
+    assert_eq!(rt; check_length(&source, len).is_ok(), true);
+    Ok(())
+}

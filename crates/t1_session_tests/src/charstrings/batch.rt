@@ -1,0 +1,60 @@
+//! Fresh charstrings of a batch of edits.
+
+use super::*;
+
+/// The font with a Subr after three edits: A is replaced, B is added, and space is removed.
+const EDITED: &str = "\
+    /Encoding StandardEncoding def\n\
+    currentfile eexec\n\
+    /lenIV 2 def\n\
+    /Subrs 5 array\n\
+    dup 4 {\n\
+    \t100 178 rlineto\n\
+    \treturn\n\
+    \t}\n\
+    ND\n\
+    2 index /CharStrings 2 dict dup begin\n\
+    /A {\n\
+    \t20 700 hsbw\n\
+    \tendchar\n\
+    \t} ND\n\
+    /B {\n\
+    \t30 800 hsbw\n\
+    \t4 callsubr\n\
+    \tendchar\n\
+    \t} ND\n\
+    end\n\
+    mark currentfile closefile\n";
+
+/// The charstrings of the glyphs that are replaced and added.
+fn fresh(alloc: Global) -> Result<Charstrings, Fail> {
+    let mut fresh = no_charstrings(alloc);
+    let replaced = body(alloc, "20 700 hsbw endchar")?;
+    put_fresh_glyph(alloc, 2, &mut fresh, b"A", &replaced)?;
+    let added = body(alloc, "30 800 hsbw 4 callsubr endchar")?;
+    put_fresh_glyph(alloc, 2, &mut fresh, b"B", &added)?;
+    Ok(fresh)
+}
+
+#[test]
+fn counts_fresh_lines(rt: HostRuntime) -> Result<(), Fail> {
+    let alloc = rt.alloc();
+    let charstrings = charstrings_of(alloc, &read(alloc, SUBR)?)?;
+    let len = batch_len(&charstrings, &fresh(alloc)?, &read(alloc, EDITED)?);
+    // 97 bytes of five lines, 22 of the Subr's, and 19 and 21 of the glyphs'.
+    assert_eq!(rt; len, 159);
+    Ok(())
+}
+
+#[test]
+fn puts_a_fresh_subr(rt: HostRuntime) -> Result<(), Fail> {
+    let alloc = rt.alloc();
+    let mut fresh = no_charstrings(alloc);
+    put_fresh_subr(alloc, 4, &mut fresh, 3, &body(alloc, "0 250 hsbw endchar")?)?;
+    let kept = match fresh.subrs.get(&3) {
+        None => false,
+        Some(entry) => entry.charstring() == SPACE.as_slice(),
+    };
+    assert_eq!(rt; kept, true);
+    Ok(())
+}

@@ -1,0 +1,270 @@
+//! The records of a font of three glyphs, with memory that doesn't run out.
+ghost use Rattle.std.specs.Prelude.{◌≡◌, true, IfOk};
+ghost use Rattle.t1_source.specs.WellFormed.{IsWellFormed};
+ghost use Rattle.t1_cache.specs.Kept.{keep_traces};
+ghost use Rattle.t1_rerun.specs.Renewing.{IsEdited};
+
+use std::alloc::Global;
+use std::test::Fail;
+use t1_afm::BBox;
+use t1_cache::{Named, Names, Records};
+use t1_font::checked_bodies;
+use t1_frac::{Bytes, Fault, Place, Refusal};
+use t1_pairs::read_pairs;
+use t1_rerun::{
+    EntryChange, GlyphOrder, Prepared, change_alone, change_of_edit, measured_records,
+    opened_records, prepare_changes, rerun, settle_ready,
+};
+use t1_run::Meter;
+use t1_source::{Change, Edit, Source, read_source};
+
+/// Three glyphs of the demo font: acute enters Subr 4, and Aacute is composed of A and acute.
+const THREE: &str = "\
+    /Encoding StandardEncoding def\n\
+    currentfile eexec\n\
+    /Subrs 5 array\n\
+    dup 4 {\n\
+    \t100 178 rlineto\n\
+    \treturn\n\
+    \t} NP\n\
+    ND\n\
+    2 index /CharStrings 3 dict dup begin\n\
+    /Aacute {\n\
+    \t10 600 hsbw\n\
+    \t93 170 214 65 194 seac\n\
+    \t} ND\n\
+    /A {\n\
+    \t10 600 hsbw\n\
+    \t300 hlineto\n\
+    \t700 vlineto\n\
+    \tclosepath\n\
+    \tendchar\n\
+    \t} ND\n\
+    /acute {\n\
+    \t93 333 hsbw\n\
+    \t500 vmoveto\n\
+    \t4 callsubr\n\
+    \tclosepath\n\
+    \tendchar\n\
+    \t} ND\n\
+    end\n\
+    mark currentfile closefile\n";
+
+/// The source of the three glyphs.
+pub(crate) fn three_source(alloc: Global) -> Result<Source<'static>, Fail>
+    ensures { IfOk result IsWellFormed }
+{
+    Ok(read_source(alloc, THREE.as_bytes())?)
+}
+
+/// The records of the three glyphs, in the order Aacute, A, acute.
+pub(crate) fn three(alloc: Global, meter: &mut Meter) -> Result<Records, Fail>
+    ensures { IfOk result (λ records. keep_traces records ≡ true) }
+{
+    let source = read_source(alloc, THREE.as_bytes())?;
+    let records = opened_records(alloc, &source, meter)?;
+    Ok(records)
+}
+
+/// Whether these are the users, in this order.
+fn are(users: &Names, wanted: &[&str]) -> bool {
+    users.len() == wanted.len()
+        && users
+            .iter()
+            .zip(wanted)
+            .all(|(user, name)| user.as_slice() == name.as_bytes())
+}
+
+/// Whether the record of a glyph has this box and these users.
+fn has(records: &Records, name: &str, bbox: BBox, users: &[&str]) -> bool {
+    match records.glyphs.get(name.as_bytes()) {
+        None => false,
+        Some(record) => record.bbox == Some(bbox) && are(&record.users, users),
+    }
+}
+
+/// The box with these sides.
+pub(crate) fn sides(left: i32, bottom: i32, right: i32, top: i32) -> BBox {
+    BBox {
+        left,
+        bottom,
+        right,
+        top,
+    }
+}
+
+#[test]
+fn opens_records_by_one_run_of_each_glyph(rt: HostRuntime) -> Result<(), Fail> {
+    let mut meter = Meter::new();
+    let records = three(rt.alloc(), &mut meter)?;
+    assert_eq!(rt; (meter.count(), records.glyphs.len()), (3, 3));
+    Ok(())
+}
+
+#[test]
+fn opens_records_with_boxes_and_users(rt: HostRuntime) -> Result<(), Fail> {
+    let records = three(rt.alloc(), &mut Meter::new())?;
+    let composite = has(&records, "Aacute", sides(10, 0, 310, 892), &[]);
+    let base = has(&records, "A", sides(10, 0, 310, 700), &["Aacute"]);
+    let accent = has(&records, "acute", sides(93, 500, 193, 678), &["Aacute"]);
+    assert!(rt; composite && base && accent);
+    Ok(())
+}
+
+#[test]
+fn opens_records_with_users_of_subrs(rt: HostRuntime) -> Result<(), Fail> {
+    let records = three(rt.alloc(), &mut Meter::new())?;
+    let entered = match records.subrs.get(&4) {
+        None => false,
+        Some(record) => are(&record.users, &["acute"]),
+    };
+    assert!(rt; entered);
+    Ok(())
+}
+
+/// What is measured of the three glyphs by their records.
+fn measured(alloc: Global) -> Result<(usize, BBox), Fail> {
+    let records = three(alloc, &mut Meter::new())?;
+    let measured = measured_records(alloc, &records)?;
+    Ok((measured.metrics().len(), measured.font_box()))
+}
+
+#[test]
+fn measures_records(rt: HostRuntime) -> Result<(), Fail> {
+    let measured = measured(rt.alloc())?;
+    assert!(rt; measured == (3, sides(10, 0, 310, 892)));
+    Ok(())
+}
+
+/// How many glyphs are run again where Subr 4 is edited, and how many runs are counted with the first three.
+fn reruns(alloc: Global) -> Result<(usize, u64), Fail> {
+    let source = three_source(alloc)?;
+    let mut meter = Meter::new();
+    let records = three(alloc, &mut meter)?;
+    let edits = [Named::Subr(4)];
+    let renewal = rerun(alloc, &records, &records, &source, &edits, &mut meter)?;
+    Ok((renewal.reruns.len(), meter.count()))
+}
+
+#[test]
+fn runs_stale_glyphs_again(rt: HostRuntime) -> Result<(), Fail> {
+    let reruns = reruns(rt.alloc())?;
+    assert!(rt; reruns == (2, 5));
+    Ok(())
+}
+
+/// Subr 4 with another body.
+fn subr_4(alloc: Global, body: &[u8]) -> Result<Edit, Fail> {
+    Ok(Edit::ReplaceSubr(4, Bytes::copied(alloc, body)?))
+}
+
+/// How many commands Subr 4 has after an edit of it.
+fn changed_len(alloc: Global, body: &[u8]) -> Result<Option<usize>, Fail> {
+    let Some(EntryChange { body, .. }) = change_of_edit(alloc, &subr_4(alloc, body)?)? else {
+        return Err(Fail::new("no change"));
+    };
+    match body {
+        None => Ok(None),
+        Some(body) => Ok(Some(body.commands().len())),
+    }
+}
+
+#[test]
+fn compiles_the_body_of_an_edit(rt: HostRuntime) -> Result<(), Fail> {
+    let len = changed_len(rt.alloc(), b"100 278 rlineto % up\nreturn")?;
+    assert!(rt; len == Some(4));
+    Ok(())
+}
+
+/// Whether the body of an edit of Subr 4 has a fault, reported at the Subr.
+fn has_fault_at_4(alloc: Global, body: &[u8]) -> Result<bool, Fail> {
+    let edit = subr_4(alloc, body)?;
+    match change_of_edit(alloc, &edit) {
+        Err(
+            Refusal::Fault(
+                Fault {
+                    place: Place::Subr(number),
+                    ..
+                },
+            ),
+        ) => Ok(number == 4),
+        _ => Ok(false),
+    }
+}
+
+#[test]
+fn tells_the_fault_of_an_edit_at_its_entry(rt: HostRuntime) -> Result<(), Fail> {
+    let told = has_fault_at_4(rt.alloc(), b"100 178 nonsense return")?;
+    assert!(rt; told);
+    Ok(())
+}
+
+/// How many glyphs stand in order where A is removed.
+fn names_without_a(alloc: Global) -> Result<usize, Fail> {
+    let source = read_source(alloc, THREE.as_bytes())?;
+    let pairs = read_pairs(alloc, b"")?;
+    let change: Change = source.prepared(&pairs, &Edit::RemoveGlyph(Bytes::copied(alloc, b"A")?))?;
+    let order = Prepared {
+        source: &source,
+        change: &change,
+    };
+    let names = order.names(alloc)?;
+    Ok(names.len())
+}
+
+#[test]
+fn orders_glyphs_with_a_change(rt: HostRuntime) -> Result<(), Fail> {
+    let names = names_without_a(rt.alloc())?;
+    assert!(rt; names == 2);
+    Ok(())
+}
+
+/// The records of the three glyphs after an edit, and how many runs were counted in all.
+fn renewed(alloc: Global, edit: &Edit) -> Result<(Records, u64), Fail> {
+    let source = read_source(alloc, THREE.as_bytes())?;
+    let pairs = read_pairs(alloc, b"")?;
+    let mut meter = Meter::new();
+    let mut records = opened_records(alloc, &source, &mut meter)?;
+    let (made, _) = source.edited(&pairs, edit)?;
+    renew(alloc, &mut records, edit, &made, &mut meter)?;
+    Ok((records, meter.count()))
+}
+
+/// Brings records to those of a source that an edit made, by the entry that it changes.
+fn renew(
+    alloc: Global,
+    records: &mut Records,
+    edit: &Edit,
+    made: &Source,
+    meter: &mut Meter,
+) -> Result<(), Fail>
+    requires { IsEdited records.old edit.now made.now }
+{
+    checked_bodies(alloc, made)?;
+    let change = change_of_edit(alloc, edit)?;
+    let changes = change_alone(alloc, change)?;
+    let ready = prepare_changes(alloc, records, changes, made, meter)?;
+    settle_ready(records, ready);
+    Ok(())
+}
+
+/// Whether the boxes of acute and of the composite on it are those of a Subr 4 that rises by 100.
+fn are_raised(records: &Records) -> bool {
+    let accent = has(records, "acute", sides(93, 500, 193, 778), &["Aacute"]);
+    let composite = has(records, "Aacute", sides(10, 0, 310, 992), &[]);
+    accent && composite
+}
+
+/// Whether the boxes rise with Subr 4, for which two glyphs are run again.
+fn rises(alloc: Global) -> Result<bool, Fail> {
+    let edit = subr_4(alloc, b"100 278 rlineto return")?;
+    let (records, runs) = renewed(alloc, &edit)?;
+    Ok(are_raised(&records) && runs == 5)
+}
+
+#[test]
+fn renews_stale_glyphs(rt: HostRuntime) -> Result<(), Fail> {
+    let rises = rises(rt.alloc())?;
+    assert!(rt; rises);
+    Ok(())
+}
