@@ -20,3 +20,5 @@ mod pairs;
 mod run;
 #[cfg(test)]
 mod source;
+#[cfg(test)]
+mod text;

@@ -10,6 +10,7 @@ use t1_session::{
 
 mod batches;
 mod files;
+mod prints;
 mod runs;
 
 /// A font of one glyph, in two parts.

@@ -1,0 +1,78 @@
+//! Every print of a session after a kern.
+use super::runs::{demo, uses};
+use super::*;
+use t1_frac::Bytes;
+use t1_source::Edit;
+
+/// The AFM file of the demo font with one kerning pair.
+const METRICS: &str = "\
+    StartFontMetrics 4.1\n\
+    FontName Demo\n\
+    FullName Demo Roman\n\
+    Weight Medium\n\
+    ItalicAngle 0\n\
+    IsFixedPitch false\n\
+    FontBBox 10 0 310 892\n\
+    Version 001.000\n\
+    EncodingScheme AdobeStandardEncoding\n\
+    StartCharMetrics 6\n\
+    C 32 ; WX 250 ; N space ; B 0 0 0 0 ;\n\
+    C 65 ; WX 600 ; N A ; B 10 0 310 700 ;\n\
+    C 86 ; WX 722 ; N V ; B 15 0 115 700 ;\n\
+    C 194 ; WX 333 ; N acute ; B 93 500 193 678 ;\n\
+    C -1 ; WX 250 ; N .notdef ; B 0 0 0 0 ;\n\
+    C -1 ; WX 600 ; N Aacute ; B 10 0 310 892 ;\n\
+    EndCharMetrics\n\
+    StartKernData\n\
+    StartKernPairs 1\n\
+    KPX A V -92\n\
+    EndKernPairs\n\
+    EndKernData\n\
+    StartComposites 1\n\
+    CC Aacute 2 ; PCC A 0 0 ; PCC acute 87 214 ;\n\
+    EndComposites\n\
+    EndFontMetrics\n\
+    ";
+
+/// A session of the demo font after a kern.
+fn kerned(alloc: Global) -> Result<Session<'static>, Fail> {
+    let mut session = demo(alloc)?;
+    let left = Bytes::copied(alloc, b"A")?;
+    session.apply(Edit::Kern(left, Bytes::copied(alloc, b"V")?, -92))?;
+    Ok(session)
+}
+
+/// The prints that a kern leaves as they are, one after another: usage table, source, and font files in each form.
+fn other_prints(alloc: Global, session: &Session) -> Result<Vec<u8>, Fail> {
+    let mut out = Counted::new(uses(alloc, session)?);
+    session.print_source(&mut out)?;
+    session.print_pfb(&mut out)?;
+    session.print_pfb_blocks(40, &mut out)?;
+    session.print_pfa(&mut out)?;
+    Ok(out.into_inner())
+}
+
+#[test]
+fn a_kern_leaves_the_other_prints(rt: HostRuntime) -> Result<(), Fail> {
+    let alloc = rt.alloc();
+    let before = other_prints(alloc, &demo(alloc)?)?;
+    let after = other_prints(alloc, &kerned(alloc)?)?;
+    assert!(rt; before.as_slice() == after.as_slice());
+    Ok(())
+}
+
+#[test]
+fn a_kern_is_among_the_pairs(rt: HostRuntime) -> Result<(), Fail> {
+    let mut out = Counted::new(Vec::new(rt.alloc()));
+    kerned(rt.alloc())?.print_kern(&mut out)?;
+    assert_eq!(rt; out.into_inner().as_slice(), b"KPX A V -92\n".as_slice());
+    Ok(())
+}
+
+#[test]
+fn a_kern_is_in_the_metrics(rt: HostRuntime) -> Result<(), Fail> {
+    let mut out = Counted::new(Vec::new(rt.alloc()));
+    kerned(rt.alloc())?.print_afm(&mut out)?;
+    assert!(rt; out.into_inner().as_slice() == METRICS.as_bytes());
+    Ok(())
+}
