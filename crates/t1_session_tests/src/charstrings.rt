@@ -55,10 +55,8 @@ const SUBR: &str = "\
     end\n\
     mark currentfile closefile\n";
 
-/// The charstring of space with four leading bytes, and with none.
+/// The charstring of space with four leading bytes.
 const SPACE: [u8; 9] = [0x10, 0xBF, 0x31, 0x70, 0x79, 0xC7, 0x57, 0xBF, 0x91];
-
-const BARE_SPACE: [u8; 5] = [0x9B, 0x23, 0xB0, 0xBB, 0x08];
 
 /// A source that is well formed, as each that was read is.
 fn read(alloc: Global, text: &str) -> Result<Source<'_>, Fail>
@@ -81,14 +79,6 @@ fn kept_pfb(alloc: Global, text: &str, size: usize) -> Result<Vec<u8>, Fail> {
 /// The body of these words.
 fn body(alloc: Global, text: &str) -> Result<Body, Fail> {
     Ok(compile(alloc, &Words::of(text.as_bytes()))?)
-}
-
-/// Whether the charstring that is kept of a glyph is this one.
-fn keeps(charstrings: &Charstrings, name: &str, charstring: &[u8]) -> bool {
-    match charstrings.glyphs.get(name.as_bytes()) {
-        None => false,
-        Some(entry) => entry.charstring() == charstring,
-    }
 }
 
 #[test]

@@ -51,14 +51,14 @@ const THREE: &str = "\
     mark currentfile closefile\n";
 
 /// The source of the three glyphs.
-pub(crate) fn three_source(alloc: Global) -> Result<Source<'static>, Fail>
+fn three_source(alloc: Global) -> Result<Source<'static>, Fail>
     ensures { IfOk result IsWellFormed }
 {
     Ok(read_source(alloc, THREE.as_bytes())?)
 }
 
 /// The records of the three glyphs, in the order Aacute, A, acute.
-pub(crate) fn three(alloc: Global, meter: &mut Meter) -> Result<Records, Fail>
+fn three(alloc: Global, meter: &mut Meter) -> Result<Records, Fail>
     ensures { IfOk result (λ records. keep_traces records ≡ true) }
 {
     let source = read_source(alloc, THREE.as_bytes())?;
@@ -84,7 +84,7 @@ fn has(records: &Records, name: &str, bbox: BBox, users: &[&str]) -> bool {
 }
 
 /// The box with these sides.
-pub(crate) fn sides(left: i32, bottom: i32, right: i32, top: i32) -> BBox {
+fn sides(left: i32, bottom: i32, right: i32, top: i32) -> BBox {
     BBox {
         left,
         bottom,
