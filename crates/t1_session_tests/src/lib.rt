@@ -1,17 +1,6 @@
-//! Tests of a session and of the crates that it stands on above a font: each public function on its happy path, with expected
-//! values from outside. They stand in a crate of their own, so that those crates are proved once and not a second time with
-//! their tests.
+//! Tests of a session and of whole files: each public function on its happy path, with expected values from outside. They stand
+//! in a crate of their own, so that `t1_session` is proved once and not a second time with its tests.
 #![tactic(auto)]
 
-#[cfg(test)]
-mod batch;
-#[cfg(test)]
-mod cache;
-#[cfg(test)]
-mod charstrings;
-#[cfg(test)]
-mod held;
-#[cfg(test)]
-mod rerun;
 #[cfg(test)]
 mod session;
