@@ -1,4 +1,5 @@
 //! Batches on a font of a Subr and three glyphs, with memory that doesn't run out.
+use crate::fonts::THREE;
 use std::alloc::Global;
 use std::test::Fail;
 use t1_batch::{Batch, batch_changes};
@@ -8,38 +9,6 @@ use t1_frac::{Bytes, Fault, Place, Refusal};
 use t1_pairs::read_pairs;
 use t1_rerun::EntryChange;
 use t1_source::{Cause, Edit, Rule, read_source};
-
-/// Three glyphs of the demo font: acute enters Subr 4, and Aacute is composed of A and acute.
-const THREE: &str = "\
-    /Encoding StandardEncoding def\n\
-    currentfile eexec\n\
-    /Subrs 5 array\n\
-    dup 4 {\n\
-    \t100 178 rlineto\n\
-    \treturn\n\
-    \t} NP\n\
-    ND\n\
-    2 index /CharStrings 3 dict dup begin\n\
-    /Aacute {\n\
-    \t10 600 hsbw\n\
-    \t93 170 214 65 194 seac\n\
-    \t} ND\n\
-    /A {\n\
-    \t10 600 hsbw\n\
-    \t300 hlineto\n\
-    \t700 vlineto\n\
-    \tclosepath\n\
-    \tendchar\n\
-    \t} ND\n\
-    /acute {\n\
-    \t93 333 hsbw\n\
-    \t500 vmoveto\n\
-    \t4 callsubr\n\
-    \tclosepath\n\
-    \tendchar\n\
-    \t} ND\n\
-    end\n\
-    mark currentfile closefile\n";
 
 fn bytes(alloc: Global, text: &str) -> Result<Bytes, Fail> {
     Ok(Bytes::copied(alloc, text.as_bytes())?)

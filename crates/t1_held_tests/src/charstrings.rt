@@ -1,9 +1,8 @@
 //! The charstrings of two fonts, with memory that doesn't run out.
-ghost use Rattle.std.specs.Prelude.{IfOk};
-ghost use Rattle.t1_source.specs.WellFormed.{IsWellFormed};
 
 mod batch;
 
+use crate::fonts::{SMALL, SPACE, read};
 use std::alloc::Global;
 use std::test::Fail;
 use t1_charstrings::{
@@ -13,21 +12,6 @@ use t1_charstrings::{
 use t1_code::{Body, Counted, Pfa, Pfb, WHOLE_PARTS, compile};
 use t1_font::pfb_of_source;
 use t1_frac::Words;
-use t1_source::laws::read_source_is_well_formed;
-use t1_source::{Source, read_source};
-
-/// The small font.
-const SMALL: &str = "\
-    %!\n\
-    /Encoding StandardEncoding def\n\
-    currentfile eexec\n\
-    /CharStrings 1 dict dup begin\n\
-    /space {\n\
-    \t0 250 hsbw\n\
-    \tendchar\n\
-    \t} ND\n\
-    end\n\
-    mark currentfile closefile\n";
 
 /// A font with a Subr, with two bytes in front of each charstring.
 const SUBR: &str = "\
@@ -54,17 +38,6 @@ const SUBR: &str = "\
     \t} ND\n\
     end\n\
     mark currentfile closefile\n";
-
-/// The charstring of space with four leading bytes.
-const SPACE: [u8; 9] = [0x10, 0xBF, 0x31, 0x70, 0x79, 0xC7, 0x57, 0xBF, 0x91];
-
-/// A source that is well formed, as each that was read is.
-fn read(alloc: Global, text: &str) -> Result<Source<'_>, Fail>
-    ensures { IfOk result IsWellFormed }
-{
-    read_source_is_well_formed();
-    Ok(read_source(alloc, text.as_bytes())?)
-}
 
 /// The PFB file of a source, with its kept charstrings.
 fn kept_pfb(alloc: Global, text: &str, size: usize) -> Result<Vec<u8>, Fail> {

@@ -1,10 +1,10 @@
 //! What is held of a font of three glyphs, with memory that doesn't run out.
 ghost use Rattle.std.specs.Prelude.{IfOk};
-ghost use Rattle.t1_source.specs.WellFormed.{IsWellFormed};
 ghost use Rattle.t1_held.specs.Held.{IsHeld};
 
 mod edits;
 
+use crate::fonts::{SMALL, SPACE, THREE, read};
 use std::alloc::Global;
 use std::test::Fail;
 use t1_afm::BBox;
@@ -15,48 +15,7 @@ use t1_frac::Bytes;
 use t1_held::{Edits, Held, held_metrics, held_of, prepare_edits, settle, write_held_file};
 use t1_pairs::read_pairs;
 use t1_run::Meter;
-use t1_source::laws::read_source_is_well_formed;
-use t1_source::{Edit, Source, read_source};
-
-/// Three glyphs of the demo font: acute enters Subr 4, and Aacute is composed of A and acute.
-const THREE: &str = "\
-    /Encoding StandardEncoding def\n\
-    currentfile eexec\n\
-    /Subrs 5 array\n\
-    dup 4 {\n\
-    \t100 178 rlineto\n\
-    \treturn\n\
-    \t} NP\n\
-    ND\n\
-    2 index /CharStrings 3 dict dup begin\n\
-    /Aacute {\n\
-    \t10 600 hsbw\n\
-    \t93 170 214 65 194 seac\n\
-    \t} ND\n\
-    /A {\n\
-    \t10 600 hsbw\n\
-    \t300 hlineto\n\
-    \t700 vlineto\n\
-    \tclosepath\n\
-    \tendchar\n\
-    \t} ND\n\
-    /acute {\n\
-    \t93 333 hsbw\n\
-    \t500 vmoveto\n\
-    \t4 callsubr\n\
-    \tclosepath\n\
-    \tendchar\n\
-    \t} ND\n\
-    end\n\
-    mark currentfile closefile\n";
-
-/// A source that is well formed, as each that was read is.
-fn read(alloc: Global, text: &str) -> Result<Source<'_>, Fail>
-    ensures { IfOk result IsWellFormed }
-{
-    read_source_is_well_formed();
-    Ok(read_source(alloc, text.as_bytes())?)
-}
+use t1_source::{Edit, Source};
 
 /// A font after an edit, what is held of it then, and how many runs were counted.
 fn edited<'a>(alloc: Global, text: &'a str, edit: &Edit) -> Result<(Source<'a>, Held, u64), Fail>

@@ -9,6 +9,8 @@ mod cache;
 #[cfg(test)]
 mod charstrings;
 #[cfg(test)]
+mod fonts;
+#[cfg(test)]
 mod held;
 #[cfg(test)]
 mod rerun;

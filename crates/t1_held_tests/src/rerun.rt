@@ -4,6 +4,7 @@ ghost use Rattle.t1_source.specs.WellFormed.{IsWellFormed};
 ghost use Rattle.t1_cache.specs.Kept.{keep_traces};
 ghost use Rattle.t1_rerun.specs.Renewing.{IsEdited};
 
+use crate::fonts::THREE;
 use std::alloc::Global;
 use std::test::Fail;
 use t1_afm::BBox;
@@ -17,38 +18,6 @@ use t1_rerun::{
 };
 use t1_run::Meter;
 use t1_source::{Change, Edit, Source, read_source};
-
-/// Three glyphs of the demo font: acute enters Subr 4, and Aacute is composed of A and acute.
-const THREE: &str = "\
-    /Encoding StandardEncoding def\n\
-    currentfile eexec\n\
-    /Subrs 5 array\n\
-    dup 4 {\n\
-    \t100 178 rlineto\n\
-    \treturn\n\
-    \t} NP\n\
-    ND\n\
-    2 index /CharStrings 3 dict dup begin\n\
-    /Aacute {\n\
-    \t10 600 hsbw\n\
-    \t93 170 214 65 194 seac\n\
-    \t} ND\n\
-    /A {\n\
-    \t10 600 hsbw\n\
-    \t300 hlineto\n\
-    \t700 vlineto\n\
-    \tclosepath\n\
-    \tendchar\n\
-    \t} ND\n\
-    /acute {\n\
-    \t93 333 hsbw\n\
-    \t500 vmoveto\n\
-    \t4 callsubr\n\
-    \tclosepath\n\
-    \tendchar\n\
-    \t} ND\n\
-    end\n\
-    mark currentfile closefile\n";
 
 /// The source of the three glyphs.
 fn three_source(alloc: Global) -> Result<Source<'static>, Fail>

@@ -2,19 +2,6 @@
 
 use super::*;
 
-/// The small font.
-const SMALL: &str = "\
-    %!\n\
-    /Encoding StandardEncoding def\n\
-    currentfile eexec\n\
-    /CharStrings 1 dict dup begin\n\
-    /space {\n\
-    \t0 250 hsbw\n\
-    \tendchar\n\
-    \t} ND\n\
-    end\n\
-    mark currentfile closefile\n";
-
 /// A font with a Subr that no glyph enters, with two bytes in front of each charstring.
 const SUBR: &str = "\
     /Encoding StandardEncoding def\n\
@@ -40,9 +27,7 @@ const SUBR: &str = "\
     end\n\
     mark currentfile closefile\n";
 
-/// The charstring of space with four leading bytes, and with none.
-const SPACE: [u8; 9] = [0x10, 0xBF, 0x31, 0x70, 0x79, 0xC7, 0x57, 0xBF, 0x91];
-
+/// The charstring of space without leading bytes.
 const BARE_SPACE: [u8; 5] = [0x9B, 0x23, 0xB0, 0xBB, 0x08];
 
 /// What is held of a font after an edit.
