@@ -7,6 +7,7 @@ import subprocess
 from chance.recount import Recount
 from chance.sessions import Chooser
 from chance.unjudged import Unjudged
+from edits import form_of
 from session import commands
 from source import kern_text
 
@@ -39,6 +40,7 @@ class Driver:
 
     def __init__(self, program, counter, source, room, chance):
         self.program, self.counter, self.room, self.failures, self.counts = program, counter, room, [], {}
+        self.edited = 0
         self.model, self.recount = Unjudged(source, {}), Recount(source)
         self.chooser = Chooser(chance, self.model)
         self.write("font.t1", source.text())
@@ -60,13 +62,11 @@ class Driver:
         return self.made("measure", "--kern", os.path.join(self.room, "edited.kern"))
 
     def edits(self, count):
-        for _ in range(count):
-            text = b"print"
-            while text.startswith(b"print"):
-                text = self.chooser.command()
-            self.edit(text, *commands(text)[0])
-            if self.failures:
-                break
+        """Goes on until so many edits were answered, with batches opened and ended between them."""
+        while self.edited < count and not self.failures:
+            text = self.chooser.command()
+            if not text.startswith(b"print"):
+                self.edit(text, *commands(text)[0])
         if self.model.batch is not None:
             self.edit(b"abort\n", (b"abort",), b"", False)
         status, complaint = self.session.close()
@@ -75,7 +75,9 @@ class Driver:
         self.failures += self.recount.differences(self.counter, os.path.join(self.room, "font.t1"))
 
     def edit(self, text, words, body, is_open):
-        before = self.model.state()
+        """Compares what is printed after each edit, accepted or refused, in a batch too, and after a commit."""
+        before, is_edit = self.model.state(), form_of(words) is not None
+        self.edited += is_edit
         wanted = self.model.answer(words, body, is_open).rstrip()
         found = self.session.ask(text)
         kind = found.split()[0].decode() if found else "none"
@@ -85,7 +87,7 @@ class Driver:
             self.refused_by_fault(text, words, found, before)
         elif found != wanted:
             self.failures.append(f"{text!r} is answered {found!r}, and not {wanted!r}")
-        elif wanted == b"ok" and self.model.batch is None:
+        elif is_edit or words == (b"commit",):
             self.compare(text)
 
     def refused_by_fault(self, text, words, found, before):
