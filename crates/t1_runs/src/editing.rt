@@ -164,7 +164,7 @@ fn try_step<W: Write>(
 }
 
 /// Opens a session on a source and its pairs, performs the steps of a script, and writes all prints after the opening and
-/// after each step, behind its answer.
+/// after each step, after its answer.
 pub fn try_editing<W: Write>(
     alloc: Global,
     source: &[u8],

@@ -11,7 +11,7 @@ use t1_source::{Source, read_source};
 /// The line that says that a call met want of memory.
 pub const WANTED: &[u8] = b"wanted memory\n";
 
-/// Writes a text behind its name and its length, and a line end.
+/// Writes a text after its name and its length, and a line end.
 pub fn put_text<W: Write>(name: &str, text: &[u8], out: &mut W) -> Result<(), Stop> {
     let length = text.len();
     write!(out, "{name} {length}\n")?;

@@ -2,6 +2,7 @@
 -- a whole input; what a session answers is defined without them.
 use Rattle.std.specs.Prelude.{◌≡◌, ℕ, Bool, true, false, not, ◌==◌, ◌&&◌, ◌||◌, if◌then◌else◌, List, [], ◌∷◌, ◌++◌, drop, Option, Some, None, Result, Ok, Err}
 use Rattle.std.specs.List.{list_all}
+use Rattle.t1_frac.specs.Ascii.{carriage_return, line_feed}
 use Rattle.t1_code.specs.Counted.{Tally, WritesAll, WritesFront}
 use Rattle.t1_code.specs.declared.parts.OutError.{OutError}
 use Rattle.t1_code.specs.declared.parts.OutError.TheVariants as out
@@ -30,15 +31,15 @@ fresh s = record { state = s; opening = None; line = []; after_return = false }
 
 -- profile: an LF directly after a CR belongs to it
 abbrev pub input_after : Bool → List ℕ → List ℕ
-input_after after_return input = if after_return && begins_with 10 input then drop 1 input else input
+input_after after_return input = if after_return && begins_with line_feed input then drop 1 input else input
 
 -- profile: a CR ends its line at once, and so does an LF that belongs to no CR
 abbrev pub ends_line : Bool → ℕ → Bool
-ends_line after_return b = b == 13 || (b == 10 && not after_return)
+ends_line after_return b = b == carriage_return || (b == line_feed && not after_return)
 
 -- profile: no line of the text has its end
 abbrev pub is_unbroken : List ℕ → Bool
-is_unbroken text = list_all (λ c. not (c == 10)) text
+is_unbroken text = list_all (λ c. not (c == line_feed)) text
 
 -- profile: the commands that the rest of the input finishes
 unfoldable pub commands_from : Conversation → List ℕ → Bool → List Command
