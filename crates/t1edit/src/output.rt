@@ -13,35 +13,35 @@ const DRAFT_NAMES: u32 = 100;
 
 /// What takes the bytes.
 #[derive(Drop)]
-pub enum Sheet {
+pub enum Destination {
     Standard(Stdout),
     File(File),
 }
 
-impl Sheet {
+impl Destination {
     /// Puts what was written to a file on the disk.
     fn settle(&self) -> io::Result<()> {
         match self {
-            Sheet::Standard(_) => Ok(()),
-            Sheet::File(file) => file.sync_all(),
+            Destination::Standard(_) => Ok(()),
+            Destination::File(file) => file.sync_all(),
         }
     }
 }
 
-impl Write for Sheet {
+impl Write for Destination {
     fn write(&mut self, buf: &[u8]) -> io::Result<usize>
         ensures bound { WritesAtMost result buf.now }
     {
         match self {
-            Sheet::Standard(out) => out.write(buf),
-            Sheet::File(file) => file.write(buf),
+            Destination::Standard(out) => out.write(buf),
+            Destination::File(file) => file.write(buf),
         }
     }
 
     fn flush(&mut self) -> io::Result<()> {
         match self {
-            Sheet::Standard(out) => out.flush(),
-            Sheet::File(file) => file.flush(),
+            Destination::Standard(out) => out.flush(),
+            Destination::File(file) => file.flush(),
         }
     }
 }
@@ -55,10 +55,10 @@ struct Draft {
 
 impl Draft {
     /// Takes its place, once what was written is on the disk.
-    fn stand(&self, rt: &HostRuntime, sheet: &Sheet) -> Result<(), ServeError>
+    fn stand(&self, rt: &HostRuntime, destination: &Destination) -> Result<(), ServeError>
         ensures { IfErr result FailsToWrite }
     {
-        if sheet.settle().is_err() {
+        if destination.settle().is_err() {
             return Err(ServeError::Write);
         }
         match fs::rename(rt, &self.path, &self.place) {
@@ -71,7 +71,7 @@ impl Draft {
 /// An output that is open.
 #[derive(Drop)]
 pub struct Output {
-    pub out: Counted<Sheet>,
+    pub out: Counted<Destination>,
     draft: Option<Draft>,
 }
 
@@ -83,7 +83,7 @@ impl Output {
         match path {
             Some(path) => at_path(rt, path),
             None => Ok(Output {
-                out: Counted::new(Sheet::Standard(rt.stdout())),
+                out: Counted::new(Destination::Standard(rt.stdout())),
                 draft: None,
             }),
         }
@@ -130,7 +130,7 @@ fn as_it_stands(rt: &HostRuntime, path: &str) -> Result<Output, ServeError>
 {
     match OpenOptions::new().write(true).open(rt, path) {
         Ok(file) => Ok(Output {
-            out: Counted::new(Sheet::File(file)),
+            out: Counted::new(Destination::File(file)),
             draft: None,
         }),
         Err(_) => Err(ServeError::Write),
@@ -198,7 +198,7 @@ fn with_permissions(
     };
     if has_them {
         return Ok(Output {
-            out: Counted::new(Sheet::File(file)),
+            out: Counted::new(Destination::File(file)),
             draft: Some(draft),
         });
     }
