@@ -1,5 +1,5 @@
 -- How a conversation goes on, by one byte, by one line and by one piece.
-use Rattle.std.proofs.Common.{◌≡◌, ◌∙◌, ℕ, Bool, true, false, List, [], ◌∷◌, ◌++◌, append_assoc, append-nil, refl, sym, ap}
+use Rattle.std.proofs.Common.{◌≡◌, ◌∙◌, inr, ℕ, Bool, true, false, List, [], ◌∷◌, ◌++◌, append_assoc, append-nil, refl, sym, ap}
 use Rattle.std.specs.Prelude.{Option, Some, None, ◌==◌, Result, Ok, Err}
 use Rattle.t1_code.specs.Counted.{Tally, WritesAll}
 use Rattle.t1_code.proofs.Writing.{writing, WritesAll-append, WritesFront-append}
@@ -14,7 +14,8 @@ use Rattle.t1_commands.specs.AnswerTexts.{answer_text}
 use Rattle.t1_commands.specs.Answers.{answers, answer_to}
 use Rattle.t1_session.specs.Machine.{machine}
 use Rattle.t1_session.specs.State.{State}
-use Rattle.t1_session.specs.Conversation.{Conversation, commands_from, input_after, is_unbroken, ends_line, Performs, Goes, IsQuiet, AnswersCommand, LineGoes, EndsCommandLine, IsBodyLine, EndsLine, Answered, StopsForMemory, Feeds, Ends}
+use Rattle.t1_session.specs.Conversation.{Conversation, commands_from, input_after, is_unbroken, Performs, Goes, Grows, IsQuiet, AnswersCommand, LineGoes, EndsCommandLine, IsBodyLine, EndsLine, Answered, StopsForMemory, Feeds, Ends}
+use Rattle.t1_session.specs.LineEnds.{ends_line, ends_in_return}
 use Rattle.t1_session.proofs.LineLaws.{finished_lines-line, finished_lines-unbroken, finished_lines-last, last_line, unified-byte, unified-end, is_unbroken-push}
 
 -- a body that is open is no command before the input ends
@@ -44,8 +45,12 @@ Performs-both a b c made others t u p q = record {
       (p.on (others ++ rest) (q.marks ++ more) ∙ ap (λ s. t ++ s) (q.on rest more) ∙ sym (append_assoc t u (answers machine c rest more)));
 }
 
+ends_in_return-append : (before : Bool) (xs ys : List ℕ) → ends_in_return before (xs ++ ys) ≡ ends_in_return (ends_in_return before xs) ys
+ends_in_return-append before [] ys = refl
+ends_in_return-append before (x ∷ xs) ys = ends_in_return-append (x == 13) xs ys
+
 pub Goes-none : (c : Conversation) → Goes c c [] []
-Goes-none c = record { made = []; spells = λ rest ended. refl; performs = Performs-none c.state }
+Goes-none c = record { made = []; spells = λ rest ended. refl; performs = Performs-none c.state; returned = refl }
 
 pub Goes-both : (a b c : Conversation) (x y t u : List ℕ) → Goes a b x t → Goes b c y u → Goes a c (x ++ y) (t ++ u)
 Goes-both a b c x y t u p q = record {
@@ -54,6 +59,7 @@ Goes-both a b c x y t u p q = record {
       rw (append_assoc x y rest)
       (p.spells (y ++ rest) ended ∙ ap (λ l. p.made ++ l) (q.spells rest ended) ∙ sym (append_assoc p.made q.made (commands_from c rest ended)));
   performs = Performs-both a.state b.state c.state p.made q.made t u p.performs q.performs;
+  returned = q.returned ∙ ap (λ r. ends_in_return r y) p.returned ∙ sym (ends_in_return-append a.after_return x y);
 }
 
 -- a byte of a line
@@ -64,6 +70,7 @@ Goes-byte c b n13 n10 = record {
   made = [];
   spells = λ rest ended. rw (unified-byte c.after_return b rest n13 n10, append_assoc c.line (b ∷ []) (unified rest)) refl;
   performs = Performs-none c.state;
+  returned = sym n13;
 }
 
 -- it finishes no command
@@ -75,7 +82,7 @@ byte_alone c b h n13 n10 =
 -- an LF after a CR
 pub Goes-line_feed : (c : Conversation) → c.after_return ≡ true → Goes c (record c { after_return = false }) (10 ∷ []) []
 unfolding commands_from
-Goes-line_feed c h = record { made = []; spells = λ rest ended. rw h refl; performs = Performs-none c.state }
+Goes-line_feed c h = record { made = []; spells = λ rest ended. rw h refl; performs = Performs-none c.state; returned = refl }
 
 -- the end of a line
 Goes-line : (c new : Conversation) (b : ℕ) (text : List ℕ) → is_unbroken c.line ≡ true → ends_line c.after_return b ≡ true
@@ -87,6 +94,7 @@ Goes-line c new b text h ends goes = record {
       rw (unified-end c.after_return b rest ends, finished_lines-line ended c.line (unified (input_after (b == 13) rest)) h)
       (goes.spells (finished_lines ended (unified (input_after (b == 13) rest))) ended ∙ rw (goes.no_line, goes.same) refl);
   performs = goes.performs;
+  returned = goes.same;
 }
 
 -- that of a line that goes into a body finishes no command
@@ -94,6 +102,13 @@ line_alone : (c : Conversation) (b : ℕ) → is_unbroken c.line ≡ true → en
 unfolding commands_from
 line_alone c b h ends body =
     rw (unified-end c.after_return b [] ends, finished_lines-line false c.line (unified (input_after (b == 13) [])) h, silent (b == 13), body.is, body.goes_on) refl
+
+-- and leaves a command open
+line_opens : (c : Conversation) (b : ℕ) → is_unbroken c.line ≡ true → ends_line c.after_return b ≡ true → (body : IsBodyLine c.opening c.line)
+    → commands_from c (b ∷ []) true ≡ open_command (words body.opened.heading) ∷ []
+unfolding commands_from
+line_opens c b h ends body =
+    rw (unified-end c.after_return b [] ends, finished_lines-line true c.line (unified (input_after (b == 13) [])) h, silent (b == 13), body.is, body.goes_on) refl
 
 -- a line that only changes which body is being read
 pub LineGoes-silent : (c new : Conversation) → ((lines : List (List ℕ)) (ended : Bool) → commands_of ended c.opening (c.line ∷ lines) ≡ commands_of ended new.opening lines)
@@ -164,8 +179,9 @@ module _ {W : Type 0} (contents : W → Option (List ℕ)) where
   Answered-none c sink = record { text = []; goes = Goes-none c; written = (writing contents).none sink }
 
   -- memory was wanted for the first byte
-  pub stopped_at_once : (c : Conversation) (sink : Tally W) (b : ℕ) → is_unbroken c.line ≡ true → commands_from c (b ∷ []) false ≡ [] → StopsForMemory contents c sink sink (b ∷ [])
-  stopped_at_once c sink b h alone = record {
+  pub stopped_at_once : (c : Conversation) (sink : Tally W) (b : ℕ) → is_unbroken c.line ≡ true → commands_from c (b ∷ []) false ≡ [] → Grows c b
+      → StopsForMemory contents c sink sink (b ∷ [])
+  stopped_at_once c sink b h alone grows = record {
     front = [];
     byte = b;
     rest = [];
@@ -174,13 +190,15 @@ module _ {W : Type 0} (contents : W → Option (List ℕ)) where
     answered = Answered-none c sink;
     quiet = quiet c h;
     finishes_none = alone;
+    grows = grows;
   }
 
   -- a byte that ends a line
   pub Feeds-ended : {T : Type 0} (c new : Conversation) (before after : Tally W) (b : ℕ) (r : Result T ServeError) → is_unbroken c.line ≡ true → ends_line c.after_return b ≡ true
       → EndsLine contents (record c { after_return = b == 13 }) new before after r → Feeds contents c new before after (b ∷ []) r
   Feeds-ended c new before after b (Ok done) h ends e = record { text = e.text; goes = Goes-line c new b e.text h ends e.goes; written = e.written }
-  Feeds-ended c new before after b (Err errors.Memory) h ends e = rw e.0 (stopped_at_once c before b h (line_alone c b h ends e.1))
+  Feeds-ended c new before after b (Err errors.Memory) h ends e =
+      rw e.0 (stopped_at_once c before b h (line_alone c b h ends e.1) (inr (ends, open_command (words e.1.opened.heading), line_opens c b h ends e.1)))
   Feeds-ended c new before after b (Err errors.Write) h ends e = record {
     front = b ∷ [];
     rest = [];
@@ -248,6 +266,7 @@ module _ {W : Type 0} (contents : W → Option (List ℕ)) where
     };
     quiet = e.quiet;
     finishes_none = e.finishes_none;
+    grows = e.grows;
   }
   Feeds-after T a b new first mid last front piece rest whole text errors.Write goes wrote parts e = record {
     front = front ++ e.front;

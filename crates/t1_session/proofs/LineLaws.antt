@@ -1,12 +1,13 @@
 -- How the lines of an input grow, byte by byte.
-use Rattle.std.proofs.Common.{◌≡◌, ◌∙◌, ℕ, suc, Bool, true, false, cond, List, [], ◌∷◌, ◌++◌, length, refl, ap, ◌&&◌, arith}
+use Rattle.std.proofs.Common.{◌≡◌, ◌∙◌, ℕ, suc, Bool, true, false, cond, List, [], ◌∷◌, ◌++◌, refl, ap, ◌&&◌, arith}
 use Rattle.std.specs.Prelude.{◌==◌, ◌||◌, not}
 use Rattle.std.specs.List.{onto_first}
 use Rattle.std.proofs.lemmas.Bool.{and_parts, eqb-true, false_from_ne_true, not-true}
 use Rattle.std.proofs.lemmas.List.Sums.{sum_by-cons}
 use Rattle.t1_text.specs.Lines.{unified, split_lines}
 use Rattle.t1_commands.specs.Lines.{ended_lines, finished_lines}
-use Rattle.t1_session.specs.Conversation.{input_after, ends_line, is_unbroken}
+use Rattle.t1_session.specs.Conversation.{input_after, is_unbroken}
+use Rattle.t1_session.specs.LineEnds.{ends_line}
 
 -- two numbers that differ don't compare as equal
 pub differs : (a b : ℕ) → (a ≡ b → ⊥) → (a == b) ≡ false

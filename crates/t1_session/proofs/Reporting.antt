@@ -1,15 +1,14 @@
 -- Commands that were performed, and what was written of them.
-use Rattle.std.proofs.Common.{◌≡◌, ℕ, List, Option, Result, Ok, Err, refl, sym, ◌∙◌, subst}
+use Rattle.std.proofs.Common.{◌≡◌, ℕ, List, Option, Result, Ok, Err, refl, sym, subst}
 use Rattle.t1_frac.specs.declared.fault.Fault.{Fault}
 use Rattle.t1_code.specs.declared.parts.OutError.{OutError}
 use Rattle.t1_code.specs.declared.parts.OutError.TheVariants as out
 use Rattle.t1_code.specs.Counted.{Tally, WritesAll, WritesFront}
 use Rattle.t1_code.specs.Parts.{Prints}
-use Rattle.t1_source.specs.declared.edit.Cause.{Cause}
 use Rattle.t1_source.specs.declared.edit.Cause.TheVariants as causes
 use Rattle.t1_source.specs.declared.edit.Rule.{Rule}
 use Rattle.t1_commands.specs.declared.answer.Answer.{Answer}
-use Rattle.t1_commands.specs.declared.answer.Answer.TheVariants.{Accepted, Broken, Faulty}
+use Rattle.t1_commands.specs.declared.answer.Answer.TheVariants.{Broken}
 use Rattle.t1_commands.specs.declared.command.Command.{Command}
 use Rattle.t1_commands.specs.declared.command.Command.TheVariants as commands
 use Rattle.t1_commands.specs.declared.print.Print.{Print}
@@ -17,7 +16,6 @@ use Rattle.t1_commands.specs.AnswerTexts.{answer_text}
 use Rattle.t1_commands.specs.Answering.{Reports, SendsText}
 use Rattle.t1_session.specs.Conversation.{IsPerformed}
 use Rattle.t1_session.specs.Machine.{perform, printed}
-use Rattle.t1_session.specs.Outcomes.{Takes}
 use Rattle.t1_session.specs.State.{State}
 
 module _ {W : Type 0} (contents : W → Option (List ℕ)) (old new : State) (before after : Tally W) where

@@ -1,6 +1,6 @@
 -- What an edit leaves of what a session keeps.
 use Rattle.std.proofs.Common.{◌≡◌, ◌≤◌, ℕ, true, length, List, Result, Ok, Err, ap, sym, ◌∙◌, subst, arith}
-use Rattle.std.specs.List.{list_all, AllByRecursion}
+use Rattle.std.specs.List.{list_all}
 use Rattle.t1_frac.specs.declared.fault.Fault.{Fault}
 use Rattle.t1_frac.specs.declared.fault.Refusal.{Refusal}
 use Rattle.t1_frac.specs.declared.fault.Refusal.TheVariants as refusals
@@ -20,12 +20,12 @@ use Rattle.t1_font.specs.SourceChecks.{source_check}
 use Rattle.t1_cache.specs.Edited.{named, stale}
 use Rattle.t1_cache.specs.Renewed.{Kept}
 use Rattle.t1_rerun.specs.Opened.{runs_where}
-use Rattle.t1_rerun.specs.Renewing.{renewing_runs, IsRunWhereStale}
+use Rattle.t1_rerun.specs.Renewing.{renewing_runs}
 use Rattle.t1_held.specs.declared.held.Held.{Held}
 use Rattle.t1_held.specs.Held.{IsHeld}
 use Rattle.t1_held.specs.Edits.{IsPreparedEdit}
 use Rattle.t1_held.proofs.HeldLaws.{checked_well, right_checked}
-use Rattle.t1_session.specs.Reruns.{Renews, Spends}
+use Rattle.t1_session.specs.Reruns.{Spends}
 use Rattle.t1_session.specs.State.{SessionView}
 
 -- an edit of a session's source was prepared

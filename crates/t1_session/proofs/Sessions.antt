@@ -11,8 +11,9 @@ use Rattle.t1_commands.specs.Commands.{input_commands}
 use Rattle.t1_commands.specs.Answers.{answers, session_answers}
 use Rattle.t1_session.specs.Machine.{machine}
 use Rattle.t1_session.specs.State.{State}
-use Rattle.t1_session.specs.Conversation.{Conversation, fresh, commands_from, Goes, IsQuiet, Feeds, Ends}
-use Rattle.t1_session.specs.Serving.{Streams, Reads, ReadsAndFails, StopsAtRead, Converses, Serves}
+use Rattle.t1_session.specs.Conversation.{Conversation, fresh, commands_from, Goes, Grows, IsQuiet, Feeds, Ends}
+use Rattle.t1_session.specs.LineEnds.{ends_line}
+use Rattle.t1_session.specs.Serving.{Streams, Reads, ReadsAndFails, StopsAtRead, WantsRoom, Converses, Serves}
 use Rattle.t1_session.proofs.Conversations.{Goes-both}
 
 -- before the first byte all commands of the input are to come
@@ -45,6 +46,18 @@ module _ (s : State) (c : Conversation) (input text : List ℕ) (goes : Goes (fr
   -- a byte that finishes no command
   unfinished : (b : ℕ) → IsQuiet c → commands_from c (b ∷ []) false ≡ [] → input_commands false (input ++ b ∷ []) ≡ input_commands false input
   unfinished b q alone = spelled (b ∷ []) false ∙ ap (λ cs. goes.made ++ cs) (alone ∙ sym q) ∙ sym (spelled_alone false)
+
+  -- a byte for which memory is wanted
+  room : (b : ℕ) → commands_from c (b ∷ []) false ≡ [] → Grows c b → WantsRoom input b
+  room b alone (inl other) = inl other
+  room b alone (inr e) = inr (
+    ap (λ r. ends_line r b) (sym goes.returned) ∙ e.0,
+    record {
+      left = e.1;
+      more = spelled (b ∷ []) true ∙ ap (λ cs. goes.made ++ cs) e.2
+          ∙ sym (ap (λ cs. cs ++ e.1 ∷ []) (spelled (b ∷ []) false ∙ ap (λ cs. goes.made ++ cs) alone ∙ append-nil goes.made));
+    },
+  )
 
 module _ {R W : Type 0} (remaining : R → Option (List ℕ)) (contents : W → Option (List ℕ)) where
   pub stopped_at_read : (s : State) (c : Conversation) (old new : Streams R W) (input text : List ℕ) → Goes (fresh s) c input text → IsQuiet c
@@ -94,6 +107,7 @@ module _ {R W : Type 0} (remaining : R → Option (List ℕ)) (contents : W → 
         rest = e.rest;
         marks = far.performs.marks ++ [];
         reads = rw whole read;
+        wants_room = room s e.reached (input ++ front) (text ++ did.text) far e.byte e.finishes_none e.grows;
         finishes_none = unfinished s e.reached (input ++ front) (text ++ did.text) far e.byte e.quiet e.finishes_none;
         writes = rw (answered_so_far s e.reached (input ++ front) (text ++ did.text) far e.quiet) (WritesAll-append contents old.writer mid new.writer text did.text wrote did.written);
       }

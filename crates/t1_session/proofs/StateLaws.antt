@@ -25,21 +25,15 @@ use Rattle.t1_code.specs.Pfb.{has_long_part, pfb, pfb_of, whole_file}
 use Rattle.t1_afm.specs.Afm.{afm}
 use Rattle.t1_font.specs.Assembly.{counts_check, file_check, length_check, private_text, source_file, source_pfa, trailer_text}
 use Rattle.t1_font.specs.FontMetrics.{metrics_of}
-use Rattle.t1_font.specs.MeasuredGlyphs.{MeasuredFont, measured}
+use Rattle.t1_font.specs.MeasuredGlyphs.{MeasuredFont}
 use Rattle.t1_font.specs.SourceChecks.{measured_source, source_check, source_usage}
 use Rattle.t1_font.specs.Usage.{usage_table}
-use Rattle.t1_font.specs.Glyphs.{Glyph as Told}
 use Rattle.t1_charstrings.specs.Files.{file_in}
-use Rattle.t1_cache.specs.declared.records.Records.{Records}
-use Rattle.t1_rerun.specs.Right.{IsRight}
 use Rattle.t1_held.specs.declared.held.Held.{Held}
 use Rattle.t1_held.specs.Held.{IsHeld}
 use Rattle.t1_held.proofs.HeldLaws.{file_checked, right_checked}
-use Rattle.std.specs.List.{list_all}
-use Rattle.t1_source.specs.WellFormed.{is_counted}
-use Rattle.t1_font.proofs.Counted.{counted-source}
 use Rattle.t1_font.proofs.SourceMetrics.{by-source-metrics}
-use Rattle.t1_commands.specs.declared.answer.Answer.TheVariants.{Accepted, Faulty, Data}
+use Rattle.t1_commands.specs.declared.answer.Answer.TheVariants.{Data}
 use Rattle.t1_commands.specs.declared.print.Print.TheVariants as prints
 use Rattle.std.specs.declared.vec.Vec.{Vec}
 use Rattle.t1_commands.specs.AnswerTexts.{answer_text, data_of}

@@ -1,8 +1,8 @@
 -- The loop of a session in the midst of its input. The functions of the loop are stated in these words, each on the way of
 -- a whole input; what a session answers is defined without them.
-use Rattle.std.specs.Prelude.{◌≡◌, ℕ, Bool, true, false, not, ◌==◌, ◌&&◌, ◌||◌, if◌then◌else◌, List, [], ◌∷◌, ◌++◌, drop, Option, Some, None, Result, Ok, Err}
+use Rattle.std.specs.Prelude.{◌≡◌, ◌⊎◌, ℕ, Bool, true, false, not, ◌==◌, ◌&&◌, if◌then◌else◌, List, [], ◌∷◌, ◌++◌, drop, Option, Some, None, Result, Ok, Err}
 use Rattle.std.specs.List.{list_all}
-use Rattle.t1_frac.specs.Ascii.{carriage_return, line_feed}
+use Rattle.t1_frac.specs.Ascii.{line_feed}
 use Rattle.t1_code.specs.Counted.{Tally, WritesAll, WritesFront}
 use Rattle.t1_code.specs.declared.parts.OutError.{OutError}
 use Rattle.t1_code.specs.declared.parts.OutError.TheVariants as out
@@ -14,6 +14,7 @@ use Rattle.t1_commands.specs.Lines.{finished_lines}
 use Rattle.t1_commands.specs.Commands.{Opening, commands_of, ends_body}
 use Rattle.t1_commands.specs.AnswerTexts.{answer_text}
 use Rattle.t1_commands.specs.Answers.{answers, answer_to}
+use Rattle.t1_session.specs.LineEnds.{is_line_end, ends_line, ends_in_return}
 use Rattle.t1_session.specs.Machine.{machine, may_want_memory, after_want}
 use Rattle.t1_session.specs.State.{State}
 
@@ -32,10 +33,6 @@ fresh s = record { state = s; opening = None; line = []; after_return = false }
 -- profile: an LF directly after a CR belongs to it
 abbrev pub input_after : Bool → List ℕ → List ℕ
 input_after after_return input = if after_return && begins_with line_feed input then drop 1 input else input
-
--- profile: a CR ends its line at once, and so does an LF that belongs to no CR
-abbrev pub ends_line : Bool → ℕ → Bool
-ends_line after_return b = b == carriage_return || (b == line_feed && not after_return)
 
 -- profile: no line of the text has its end
 abbrev pub is_unbroken : List ℕ → Bool
@@ -56,6 +53,7 @@ pub record Goes (old new : Conversation) (input text : List ℕ) : Type 0 where
   pub made : List Command
   pub spells : (rest : List ℕ) (ended : Bool) → commands_from old (input ++ rest) ended ≡ made ++ commands_from new rest ended
   pub performs : Performs old.state new.state made text
+  pub returned : new.after_return ≡ ends_in_return old.after_return input
 
 -- profile: without further input no command is finished
 abbrev pub IsQuiet : Conversation → Type 0
@@ -135,7 +133,13 @@ pub record Answered {W : Type 0} (contents : W → Option (List ℕ)) (old new :
   pub goes : Goes old new piece text
   pub written : WritesAll contents before after text
 
--- profile: memory was wanted for a byte of the piece, which finishes no command; those before it were answered
+-- profile: a byte that makes what is kept of the input longer: one of a line, or the end of a line that goes into a body,
+-- so that a command would be open if the input ended there
+abbrev pub Grows : Conversation → ℕ → Type 0
+Grows c b = (is_line_end b ≡ false) ⊎ ((ends_line c.after_return b ≡ true) × (command : Command) × (commands_from c (b ∷ []) true ≡ command ∷ []))
+
+-- profile: memory was wanted for a byte of the piece that makes longer what is kept, and finishes no command; those before
+-- it were answered
 pub record StopsForMemory {W : Type 0} (contents : W → Option (List ℕ)) (old : Conversation) (before after : Tally W) (piece : List ℕ) : Type 0 where
   pub front : List ℕ
   pub byte : ℕ
@@ -145,6 +149,7 @@ pub record StopsForMemory {W : Type 0} (contents : W → Option (List ℕ)) (old
   pub answered : Answered contents old reached before after front
   pub quiet : IsQuiet reached
   pub finishes_none : commands_from reached (byte ∷ []) false ≡ []
+  pub grows : Grows reached byte
 
 -- profile: a write failed: the answers to a beginning of the piece went out in part
 pub record StopsForWrite {W : Type 0} (contents : W → Option (List ℕ)) (old : Conversation) (before after : Tally W) (piece : List ℕ) : Type 0 where

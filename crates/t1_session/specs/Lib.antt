@@ -3,6 +3,7 @@ pub mod Delivery
 pub mod Dialogues
 pub mod Files
 pub mod FromScratch
+pub mod LineEnds
 pub mod Machine
 pub mod Outcomes
 pub mod Reruns

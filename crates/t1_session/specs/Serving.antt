@@ -7,6 +7,8 @@ use Rattle.t1_session.specs.declared.error.ServeError.{ServeError}
 use Rattle.t1_session.specs.declared.error.ServeError.TheVariants as errors
 use Rattle.t1_commands.specs.Answers.{session_answers}
 use Rattle.t1_commands.specs.Commands.{input_commands}
+use Rattle.t1_commands.specs.declared.command.Command.{Command}
+use Rattle.t1_session.specs.LineEnds.{is_line_end, ends_line, ends_in_return}
 use Rattle.t1_session.specs.Machine.{machine}
 use Rattle.t1_session.specs.State.{State}
 
@@ -18,6 +20,15 @@ pub record Streams (R W : Type 0) : Type 0 where
 -- profile: these two, as streams
 abbrev pub streams : {R W : Type 0} → Tally R → Tally W → Streams R W
 streams reader writer = record { reader = reader; writer = writer }
+
+-- profile: a body is open after this input: if it ended there, there would be a command more
+pub record IsInBody (input : List ℕ) : Type 0 where
+  pub left : Command
+  pub more : input_commands true input ≡ input_commands false input ++ left ∷ []
+
+-- profile: a byte that makes longer what a session keeps of its input: one of a line, or the end of a line of a body
+abbrev pub WantsRoom : List ℕ → ℕ → Type 0
+WantsRoom front byte = (is_line_end byte ≡ false) ⊎ ((ends_line (ends_in_return false front) byte ≡ true) × IsInBody (front ++ byte ∷ []))
 
 module _ {R : Type 0} (remaining : R → Option (List ℕ)) where
   -- profile: this input was read, and no read failed
@@ -47,13 +58,14 @@ module _ {R W : Type 0} (remaining : R → Option (List ℕ)) (contents : W → 
     pub writes : WritesAll contents old.writer new.writer (session_answers machine state input false marks)
 
   -- profile: at Memory, the answer to a beginning of what was read, as input that goes on, was written; the next byte,
-  -- for which there was no memory, finishes no command
+  -- for which there was no memory, goes into a line or a body, and finishes no command
   pub record StopsForMemory (state : State) (old new : Streams R W) : Type 0 where
     pub front : List ℕ
     pub byte : ℕ
     pub rest : List ℕ
     pub marks : List Bool
     pub reads : Reads remaining old.reader new.reader (front ++ byte ∷ rest)
+    pub wants_room : WantsRoom front byte
     pub finishes_none : input_commands false (front ++ byte ∷ []) ≡ input_commands false front
     pub writes : WritesAll contents old.writer new.writer (session_answers machine state front false marks)
 

@@ -1,6 +1,7 @@
 //! A session in the midst of its input.
 ghost use Rattle.std.specs.Prelude.{◌≡◌, true, ◌∷◌, [], None, Some};
-ghost use Rattle.t1_session.specs.Conversation.{is_unbroken, ends_line};
+ghost use Rattle.t1_session.specs.Conversation.{is_unbroken};
+ghost use Rattle.t1_session.specs.LineEnds.{ends_line};
 
 use crate::answering::answer_command;
 use crate::error::ServeError;

@@ -1,8 +1,8 @@
-use Rattle.std.proofs.Common.{◌≡◌, ◌∙◌, sym, [], ap}
+use Rattle.std.proofs.Common.{◌≡◌, ◌∙◌, sym, [], ap, inl, refl}
 use Rattle.std.specs.Prelude.{is_ok}
 use Rattle.std.proofs.lemmas.Result.{err_from_is_err_and}
 use Rattle.t1_code.proofs.Writing.{writing}
-use Rattle.t1_session.specs.Conversation.{ends_line}
+use Rattle.t1_session.specs.LineEnds.{ends_line}
 use Rattle.t1_session.specs.Dialogues.{conversation_of}
 use Rattle.t1_session.proofs.LineLaws.{unbroken_pushed, differs, not_return, after_a_return}
 use Rattle.t1_session.proofs.Conversations.{Feeds-ended, stopped_at_once, byte_alone, Goes-byte, Goes-line_feed}
@@ -23,7 +23,7 @@ returns-in_err-push g c =
     let old = conversation_of c.args.self.now in
     let n10 = differs c.args.byte 10 c.if-byte-eq10.false in
     let n13 = not_return c.args.self.now.after_return c.args.byte (sym c.ends_line-is_end.ensures ∙ c.if-is_end.false) n10 in
-    rw (p.1, p.2) (stopped_at_once g.W.Write.contents old c.args.writer.now c.args.byte c.args.self.now.unbroken (byte_alone old c.args.byte c.args.self.now.unbroken n13 n10))
+    rw (p.1, p.2) (stopped_at_once g.W.Write.contents old c.args.writer.now c.args.byte c.args.self.now.unbroken (byte_alone old c.args.byte c.args.self.now.unbroken n13 n10) (inl (rw (n13, n10) refl)))
 
 pub returns : goal.returns
 returns g c =
