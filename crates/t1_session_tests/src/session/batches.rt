@@ -1,6 +1,5 @@
 //! How many runs the commits of batches make, and edits under nested accents, on the demo font. The counts are those of the
 //! dependents of all edits together, by hand.
-use super::prints::{metrics, other_prints};
 use super::runs::{demo, glyph_edit, subr_edit, uses};
 use super::*;
 use t1_frac::Bytes;
@@ -58,40 +57,23 @@ fn a_glyph_that_was_added_again_is_last(rt: HostRuntime) -> Result<(), Fail> {
     Ok(())
 }
 
-/// A session after a commit that takes a glyph from under a composite, and what the commit is answered.
-fn refused(alloc: Global) -> Result<(Session<'static>, Result<(), Cause>), Fail> {
+/// What a commit is answered that takes a glyph from under a composite, and the usage table after it.
+fn refused(alloc: Global) -> Result<(Result<(), Cause>, Vec<u8>), Fail> {
     let mut session = demo(alloc)?;
     session.begin()?;
     session.apply(no_glyph(alloc, b"acute")?)?;
     let answer = session.commit();
-    Ok((session, answer))
+    Ok((answer, uses(alloc, &session)?))
 }
 
 #[test]
-fn a_commit_is_refused_for_the_first_fault_of_its_source(rt: HostRuntime) -> Result<(), Fail> {
-    let (_session, answer) = refused(rt.alloc())?;
-    let is_refused = is_fault_of(&answer, Code::F45, b"Aacute");
-    assert!(rt; is_refused);
-    Ok(())
-}
-
-#[test]
-fn a_refused_commit_leaves_the_prints(rt: HostRuntime) -> Result<(), Fail> {
-    let alloc = rt.alloc();
-    let before = other_prints(alloc, &demo(alloc)?)?;
-    let (session, _answer) = refused(alloc)?;
-    let after = other_prints(alloc, &session)?;
-    assert!(rt; before.as_slice() == after.as_slice());
-    Ok(())
-}
-
-#[test]
-fn a_refused_commit_leaves_the_metrics(rt: HostRuntime) -> Result<(), Fail> {
-    let alloc = rt.alloc();
-    let before = metrics(alloc, &demo(alloc)?)?;
-    let (session, _answer) = refused(alloc)?;
-    let after = metrics(alloc, &session)?;
-    assert!(rt; before.as_slice() == after.as_slice());
+fn a_refused_commit_leaves_all_as_before(rt: HostRuntime) -> Result<(), Fail> {
+    let (answer, table) = refused(rt.alloc())?;
+    assert!(rt; matches!(answer, Err(Cause::Fault(_))));
+    assert_eq!(rt;
+        table.as_slice(),
+        b"U .notdef ;\nU Aacute ; P A ; P acute ;\nU A ;\nU acute ; S 4 ;\nU V ;\nU space ;\n".as_slice()
+    );
     Ok(())
 }
 
@@ -185,13 +167,13 @@ fn an_edit_runs_composites_four_levels_up(rt: HostRuntime) -> Result<(), Fail> {
     Ok(())
 }
 
-/// Whether a call was refused for a fault of a glyph.
-fn is_fault_of(answer: &Result<(), Cause>, code: Code, name: &[u8]) -> bool {
+/// Whether a glyph was refused since composites would stand too deep.
+fn is_too_deep(answer: &Result<(), Cause>, name: &[u8]) -> bool {
     let Err(Cause::Fault(fault)) = answer else {
         return false;
     };
     match &fault.place {
-        Place::Glyph(glyph) => fault.code == code && glyph.as_slice() == name,
+        Place::Glyph(glyph) => fault.code == Code::F46 && glyph.as_slice() == name,
         _ => false,
     }
 }
@@ -202,10 +184,7 @@ fn refuses_a_fifth(alloc: Global) -> Result<[bool; 2], Fail> {
     let mut session = four_deep(alloc, &font)?;
     let above = session.apply(new_glyph(alloc, b"e", b"0 100 hsbw 0 0 0 100 32 seac")?);
     let below = session.apply(glyph_edit(alloc, b"space", b"0 250 hsbw 0 0 0 97 97 seac")?);
-    Ok([
-        is_fault_of(&above, Code::F46, b"e"),
-        is_fault_of(&below, Code::F46, b"space"),
-    ])
+    Ok([is_too_deep(&above, b"e"), is_too_deep(&below, b"space")])
 }
 
 #[test]

@@ -43,19 +43,12 @@ fn kerned(alloc: Global) -> Result<Session<'static>, Fail> {
 }
 
 /// The prints that a kern leaves as they are, one after another: usage table, source, and font files in each form.
-pub(super) fn other_prints(alloc: Global, session: &Session) -> Result<Vec<u8>, Fail> {
+fn other_prints(alloc: Global, session: &Session) -> Result<Vec<u8>, Fail> {
     let mut out = Counted::new(uses(alloc, session)?);
     session.print_source(&mut out)?;
     session.print_pfb(&mut out)?;
     session.print_pfb_blocks(40, &mut out)?;
     session.print_pfa(&mut out)?;
-    Ok(out.into_inner())
-}
-
-/// The AFM file of a session.
-pub(super) fn metrics(alloc: Global, session: &Session) -> Result<Vec<u8>, Fail> {
-    let mut out = Counted::new(Vec::new(alloc));
-    session.print_afm(&mut out)?;
     Ok(out.into_inner())
 }
 
@@ -78,18 +71,8 @@ fn a_kern_is_among_the_pairs(rt: HostRuntime) -> Result<(), Fail> {
 
 #[test]
 fn a_kern_is_in_the_metrics(rt: HostRuntime) -> Result<(), Fail> {
-    let text = metrics(rt.alloc(), &kerned(rt.alloc())?)?;
-    assert!(rt; text.as_slice() == METRICS.as_bytes());
-    Ok(())
-}
-
-#[test]
-fn prints_after_a_kern_run_nothing(rt: HostRuntime) -> Result<(), Fail> {
-    let alloc = rt.alloc();
-    let session = kerned(alloc)?;
-    let mut out = Counted::new(other_prints(alloc, &session)?);
-    session.print_kern(&mut out)?;
-    session.print_afm(&mut out)?;
-    assert_eq!(rt; session.runs(), 6);
+    let mut out = Counted::new(Vec::new(rt.alloc()));
+    kerned(rt.alloc())?.print_afm(&mut out)?;
+    assert!(rt; out.into_inner().as_slice() == METRICS.as_bytes());
     Ok(())
 }
