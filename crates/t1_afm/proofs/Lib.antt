@@ -8,7 +8,7 @@ pub mod Longs
 pub mod Rows
 pub mod Sampling
 pub mod Sections
-pub mod Sheets
 pub mod Spans
 pub mod TextRows
 pub mod Wholes
+pub mod WrittenLines

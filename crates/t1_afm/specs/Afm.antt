@@ -3,6 +3,7 @@ use Rattle.std.specs.Prelude.{ℕ, zero, Bool, true, false, List, [], ◌∷◌,
 use Rattle.std.specs.Fmt.{signed_decimal}
 use Rattle.std.specs.List.{find}
 use Rattle.std.specs.Str.{bytes_eq}
+use Rattle.t1_frac.specs.Ascii.{line_feed, space}
 use Rattle.t1_afm.specs.declared.bbox.BBox.{BBox}
 use Rattle.t1_afm.specs.declared.metrics.Header.{Header}
 use Rattle.t1_afm.specs.declared.metrics.CharMetric.{CharMetric}
@@ -25,12 +26,12 @@ Line = List (List ℕ)
 
 -- AFM 4.1, file format: the words that follow, each after a space, and the line's end
 abbrev pub rest_text : Line → List ℕ
-rest_text [] = 10 ∷ []
-rest_text (word ∷ words) = 32 ∷ word ++ rest_text words
+rest_text [] = line_feed ∷ []
+rest_text (word ∷ words) = space ∷ word ++ rest_text words
 
 -- AFM 4.1, file format: the words with a space between each two, and the line's end
 abbrev pub line_text : Line → List ℕ
-line_text [] = 10 ∷ []
+line_text [] = line_feed ∷ []
 line_text (word ∷ words) = word ++ rest_text words
 
 -- AFM 4.1, file format: the lines, one after another

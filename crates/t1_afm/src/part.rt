@@ -118,7 +118,7 @@ fn box_end(bbox: &BBox) -> LineEnd
 
 impl<'a> CharMetric<'a> {
     /// Puts the line with the width along x alone.
-    #[tactic(auto, using(crate::proofs::Sheets::glyph_line))]
+    #[tactic(auto, using(crate::proofs::WrittenLines::glyph_line))]
     fn put_across<W: Write>(&self, out: &mut Counted<W>, chunk: &mut Chunk) -> io::Result<()>
         ensures { Puts W.contents (outlet out.old chunk.old) (outlet out.new chunk.new)
             (line_text (codes "C" ∷ entries (codes "WX" ∷ signed_decimal self.now.wx ∷ []) self.now)) result }

@@ -9,7 +9,7 @@ use Rattle.t1_frac.specs.Outcome.{◌>>=◌, Refuses}
 use Rattle.t1_parts.specs.declared.item.Item.{Item}
 use Rattle.t1_run.specs.Run.{Key}
 use Rattle.t1_cache.specs.Users.{key_of}
-use Rattle.t1_rerun.specs.declared.settling.EntryChange.{EntryChange}
+use Rattle.t1_rerun.specs.declared.entry_change.EntryChange.{EntryChange}
 use Rattle.t1_batch.specs.declared.entries.EditedEntry.{EditedEntry}
 use Rattle.t1_batch.specs.Passing.{all_marked, all_removed, behind_item, behind_items, changes_by, item_put, items_put, none_sought, removed_at, without, Sought}
 

@@ -27,7 +27,7 @@ use Rattle.t1_cache.specs.Overlay.{body_at}
 use Rattle.t1_cache.specs.Users.{key_eq, key_of}
 use Rattle.t1_cache.proofs.Adding.{key-itself, key-same}
 use Rattle.t1_cache.proofs.Lists.{all-weaken}
-use Rattle.t1_rerun.specs.declared.settling.EntryChange.{EntryChange}
+use Rattle.t1_rerun.specs.declared.entry_change.EntryChange.{EntryChange}
 use Rattle.t1_rerun.specs.Settled.{changed_keys, AreDistinctKeys}
 use Rattle.t1_rerun.specs.Steps.{changed}
 use Rattle.t1_batch.specs.declared.entries.EditedEntry.{EditedEntry}

@@ -21,7 +21,7 @@ use Rattle.t1_font.proofs.LengthLaws.{body_fault_told}
 use Rattle.t1_cache.specs.Users.{key_eq, key_of}
 use Rattle.t1_cache.proofs.Distinct.{names_distinct}
 use Rattle.t1_cache.proofs.Lists.{all-weaken}
-use Rattle.t1_rerun.specs.declared.settling.EntryChange.{EntryChange}
+use Rattle.t1_rerun.specs.declared.entry_change.EntryChange.{EntryChange}
 use Rattle.t1_rerun.specs.Right.{has_glyph, IsInOrder}
 use Rattle.t1_rerun.specs.Settled.{changed_keys, last_glyphs, was_moved, AreDistinctKeys, HasBody}
 use Rattle.t1_rerun.proofs.Changes.{filter-as}

@@ -17,7 +17,7 @@ use Rattle.t1_font.specs.Glyphs.{glyph_names}
 use Rattle.t1_cache.specs.Edited.{named, IsEditedAt}
 use Rattle.t1_cache.specs.Laws.{IsAmong}
 use Rattle.t1_cache.specs.Users.{key_eq, key_of}
-use Rattle.t1_rerun.specs.declared.settling.EntryChange.{EntryChange}
+use Rattle.t1_rerun.specs.declared.entry_change.EntryChange.{EntryChange}
 use Rattle.t1_rerun.specs.Right.{has_glyph, IsInOrder}
 use Rattle.t1_rerun.specs.Settled.{changed_keys, last_glyphs, was_moved, AreDistinctKeys, HasBody}
 use Rattle.t1_batch.specs.declared.entries.EditedEntry.{EditedEntry}

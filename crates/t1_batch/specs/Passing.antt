@@ -16,7 +16,7 @@ use Rattle.t1_run.specs.Run.{Key, Subr, Glyph}
 use Rattle.t1_cache.specs.declared.records.Named.{Named}
 use Rattle.t1_cache.specs.declared.records.Named.TheVariants as named
 use Rattle.t1_cache.specs.Users.{key_eq, key_of}
-use Rattle.t1_rerun.specs.declared.settling.EntryChange.{EntryChange}
+use Rattle.t1_rerun.specs.declared.entry_change.EntryChange.{EntryChange}
 use Rattle.t1_rerun.specs.Steps.{changed}
 use Rattle.t1_batch.specs.declared.entries.EditedEntry.{EditedEntry}
 use Rattle.t1_batch.specs.declared.marks.Marks.{Marks}

@@ -22,7 +22,7 @@ impl<'a> Model for Batch<'a> {
     ghost view = { λ b. record { source = b.source; pairs = b.pairs; entries = map entry_edit b.entries.items } };
 }
 
-ghost use Rattle.std.specs.Prelude.{◌≡◌, ◌<◌, ◌++◌, [], vec_capacity, vec_len, IfOk, OnOk, map};
+ghost use Rattle.std.specs.Prelude.{◌≡◌, ◌<◌, ◌++◌, [], vec_capacity, vec_len, IfOk, map};
 ghost use Rattle.std.specs.Option.{option_to_list};
 ghost use Rattle.t1_parts.specs.SourceParts.{SourceParts};
 ghost use Rattle.t1_source.specs.WellFormed.{IsWellFormed};

@@ -1,5 +1,5 @@
 //! The entries that edits name.
-ghost use Rattle.std.specs.Prelude.{◌≡◌, IfOk, map};
+ghost use Rattle.std.specs.Prelude.{◌≡◌, IfOk};
 ghost use Rattle.std.specs.Option.{option_map};
 ghost use Rattle.t1_run.specs.Run.{Glyph};
 ghost use Rattle.t1_cache.specs.Users.{key_of};

@@ -1,6 +1,5 @@
 //! Records changed at one Subr or one glyph.
-ghost use Rattle.std.specs.Prelude.{◌≡◌, ◌<◌, ◌&&◌, ◌++◌, [], ◌∷◌, ℕ, List, None, Some, IsOk, OnErr, OnOk, filter, map, not, if◌then◌else◌};
-ghost use Rattle.std.specs.Option.{option_map};
+ghost use Rattle.std.specs.Prelude.{◌≡◌, ◌<◌, ◌++◌, [], ◌∷◌, ℕ, List, None, Some, IsOk, OnErr, OnOk, filter, map, not, if◌then◌else◌};
 ghost use Rattle.std.specs.Str.{bytes_eq};
 ghost use Rattle.indexmap.specs.IndexMap.{spare};
 ghost use Rattle.t1_run.specs.Run.{Key, Subr, Glyph};
@@ -8,7 +7,7 @@ ghost use Rattle.t1_cache.specs.Bodies.{record_bodies};
 ghost use Rattle.t1_cache.specs.Changed.{AreUnchanged, PutsBody, SetsBody, SetsUsers, UsesUp};
 ghost use Rattle.t1_cache.specs.Overlay.{body_at};
 ghost use Rattle.t1_cache.specs.Renewed.{kept, kept_of};
-ghost use Rattle.t1_cache.specs.Users.{has, is_key_among, key_eq, lists, users_at, users_of, HasRoom};
+ghost use Rattle.t1_cache.specs.Users.{has, is_key_among, lists, users_at, users_of, HasRoom};
 
 use crate::records::{GlyphRecord, Names, Records, SubrRecord};
 use indexmap::IndexSet;

@@ -1,7 +1,6 @@
 //! What is kept of a font's entries.
 
-ghost use Rattle.std.specs.Prelude.{◌≡◌, ℕ, List, Option};
-ghost use Rattle.t1_code.specs.declared.command.Command.{Command};
+ghost use Rattle.std.specs.Prelude.{Option};
 
 use indexmap::{IndexMap, IndexSet};
 use t1_afm::BBox;

@@ -14,7 +14,7 @@ use Rattle.t1_run.specs.Footprint.{Includes}
 use Rattle.t1_run.specs.Run.{Key}
 use Rattle.t1_font.specs.Bodies.{bodies}
 use Rattle.t1_font.proofs.Keeping.{lookup-taken}
-use Rattle.t1_charstrings.specs.declared.settling.EditedEntries.{EditedEntries}
+use Rattle.t1_charstrings.specs.declared.edited.EditedEntries.{EditedEntries}
 use Rattle.t1_charstrings.specs.declared.settling.ReadyCharstrings.TheVariants as ready
 use Rattle.t1_charstrings.specs.declared.settling.ReadyLines.{ReadyLines}
 use Rattle.t1_charstrings.specs.declared.entries.Charstrings.{Charstrings}

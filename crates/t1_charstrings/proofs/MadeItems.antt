@@ -33,7 +33,7 @@ use Rattle.t1_source.specs.declared.editing.change.Change.{Change}
 use Rattle.t1_source.specs.declared.editing.change.Change.TheVariants as changes
 use Rattle.t1_charstrings.specs.declared.made.Made.{Made}
 use Rattle.t1_charstrings.specs.declared.made.Made.TheVariants as made
-use Rattle.t1_charstrings.specs.declared.settling.EditedEntries.{EditedEntries}
+use Rattle.t1_charstrings.specs.declared.edited.EditedEntries.{EditedEntries}
 use Rattle.t1_charstrings.specs.Batch.{AreEdits, IsEditOf}
 use Rattle.t1_charstrings.specs.Made.{is_entry_changed, made_after, made_of, may_set_lead, source_of, IsFor, IsPrepared}
 use Rattle.t1_charstrings.proofs.Entered.{left_front, put_front}

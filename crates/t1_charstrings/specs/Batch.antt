@@ -2,6 +2,7 @@
 use Rattle.std.specs.Prelude.{◌≡◌, ◌&&◌, if◌then◌else◌, ℕ, Bool, List, [], ◌∷◌, ◌++◌, Option, None, Ok, decimal, false, is_none, is_some}
 use Rattle.std.specs.List.{flat_map, list_any}
 use Rattle.std.specs.Option.{option_map, option_or}
+use Rattle.t1_frac.specs.Ascii.{line_feed}
 use Rattle.t1_parts.specs.declared.item.Item.{Item}
 use Rattle.t1_parts.specs.declared.item.Item.TheVariants as items
 use Rattle.t1_parts.specs.LenIV.{lead}
@@ -10,9 +11,9 @@ use Rattle.t1_source.specs.WellFormed.{IsWellFormed}
 use Rattle.t1_run.specs.Run.{Key, Subr, Glyph}
 use Rattle.t1_run.specs.Touched.{SameBut}
 use Rattle.t1_font.specs.Bodies.{bodies, bodies_check}
-use Rattle.t1_charstrings.specs.declared.settling.EditedEntries.{EditedEntries}
-use Rattle.t1_charstrings.specs.declared.settling.Gone.{Gone}
-use Rattle.t1_charstrings.specs.declared.settling.Gone.TheVariants as gone
+use Rattle.t1_charstrings.specs.declared.edited.EditedEntries.{EditedEntries}
+use Rattle.t1_charstrings.specs.declared.edited.Gone.{Gone}
+use Rattle.t1_charstrings.specs.declared.edited.Gone.TheVariants as gone
 use Rattle.t1_charstrings.specs.declared.entries.Charstrings.{Charstrings}
 use Rattle.t1_charstrings.specs.Entries.{Kept, body_at, encrypted, key_eq}
 use Rattle.t1_charstrings.specs.Kept.{AreEncrypted, kept_at}
@@ -24,8 +25,8 @@ over fresh old k = option_or (kept_at fresh k) (kept_at old k)
 
 -- Type 1 Font Format, Chapter 2: the line of an item of the private part, by what is kept at each key
 abbrev pub line_by : (Key → Option Kept) → List ℕ → Item → List ℕ
-line_by at operator (items.Plain line) = line ++ 10 ∷ []
-line_by at operator (items.Section before count after) = before ++ decimal count ++ after ++ 10 ∷ []
+line_by at operator (items.Plain line) = line ++ line_feed ∷ []
+line_by at operator (items.Section before count after) = before ++ decimal count ++ after ++ line_feed ∷ []
 line_by at operator (items.Subr number words closing) = entry_line operator closing (at (Subr number))
 line_by at operator (items.Glyph name words closing) = entry_line operator closing (at (Glyph name))
 

@@ -4,6 +4,7 @@ use Rattle.std.specs.Map.{lookup}
 use Rattle.std.specs.Str.{bytes_eq}
 use Rattle.std.specs.declared.alloc.Global.{Global}
 use Rattle.std.specs.declared.vec.Vec.{Vec}
+use Rattle.t1_frac.specs.Ascii.{slash}
 use Rattle.t1_code.specs.declared.command.Command.{Command}
 use Rattle.t1_code.specs.Charstring.{charstring}
 use Rattle.t1_code.specs.Cipher.{encrypted_charstring}
@@ -17,7 +18,7 @@ pub record Kept : Type 0 where
 -- Type 1 Font Format, Chapter 2: what the line of an entry begins with
 abbrev pub head_of : Key → List ℕ
 head_of (Subr n) = codes "dup " ++ decimal n
-head_of (Glyph g) = 47 ∷ g
+head_of (Glyph g) = slash ∷ g
 
 -- Type 1 Font Format, Chapter 7: a body, encrypted with so many leading bytes
 abbrev pub encrypted : ℕ → Key → List Command → Kept

@@ -1,6 +1,7 @@
 -- The lines of a private text, made of the charstrings that are kept.
 use Rattle.std.specs.Prelude.{ℕ, List, [], ◌∷◌, ◌++◌, Option, Some, None, decimal}
 use Rattle.std.specs.List.{flat_map}
+use Rattle.t1_frac.specs.Ascii.{line_feed}
 use Rattle.t1_parts.specs.declared.item.Item.{Item}
 use Rattle.t1_parts.specs.declared.item.Item.TheVariants.{Plain, Section, Subr, Glyph}
 use Rattle.t1_code.specs.Pfb.{entry_text}
@@ -16,8 +17,8 @@ entry_line operator closing (Some kept) = entry_text kept.head operator kept.cha
 
 -- Type 1 Font Format, Chapter 2: the line of an item of the private part
 abbrev pub kept_line : Charstrings → List ℕ → Item → List ℕ
-kept_line c operator (Plain line) = line ++ 10 ∷ []
-kept_line c operator (Section before count after) = before ++ decimal count ++ after ++ 10 ∷ []
+kept_line c operator (Plain line) = line ++ line_feed ∷ []
+kept_line c operator (Section before count after) = before ++ decimal count ++ after ++ line_feed ∷ []
 kept_line c operator (Subr number words closing) = entry_line operator closing (subr_kept c.subrs.entries number)
 kept_line c operator (Glyph name words closing) = entry_line operator closing (glyph_kept c.glyphs.entries name)
 
@@ -27,6 +28,6 @@ kept_text c operator items = flat_map (kept_line c operator) items
 
 -- profile: the bytes of a line that is ready to be written
 abbrev pub line_text : KeptLine → List ℕ
-line_text (lines.Plain bytes) = bytes.now ++ 10 ∷ []
+line_text (lines.Plain bytes) = bytes.now ++ line_feed ∷ []
 line_text (lines.Text bytes) = bytes.items
 line_text (lines.Entry entry operator closing) = entry_text entry.now.head operator.now entry.now.charstring closing.now

@@ -1,6 +1,7 @@
 -- How long the private text is after an entry was put in the place of another, put in or taken out.
 use Rattle.std.specs.Prelude.{◌≡◌, ◌+◌, ◌-◌, ◌^◌, ◌<◌, ◌≤◌, min, ℕ, Bool, true, false, List, [], ◌∷◌, ◌++◌, Option, decimal, length, flat_map}
 use Rattle.std.specs.List.{insert, list_any, remove, slice_set, slice_index_or}
+use Rattle.t1_frac.specs.Ascii.{line_feed}
 use Rattle.t1_parts.specs.declared.item.Item.{Item}
 use Rattle.t1_parts.specs.declared.item.Item.TheVariants.{Plain, Section}
 use Rattle.t1_parts.specs.Counts.{raised}
@@ -28,7 +29,7 @@ item_at items at = slice_index_or items at (Plain [])
 
 -- profile: the line of a section, and nothing of another item
 abbrev pub section_line : Item → List ℕ
-section_line (Section before count after) = before ++ decimal count ++ after ++ 10 ∷ []
+section_line (Section before count after) = before ++ decimal count ++ after ++ line_feed ∷ []
 section_line _ = []
 
 -- profile: the section lines

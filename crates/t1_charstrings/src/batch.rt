@@ -10,9 +10,9 @@ mod fresh;
 mod lengths;
 mod settling;
 
+use crate::edited::EditedEntries;
 use crate::entries::Charstrings;
-use crate::settling::EditedEntries;
-pub use fresh::{no_charstrings, put_fresh_glyph, put_fresh_subr};
+pub use fresh::{put_fresh_glyph, put_fresh_subr};
 pub use lengths::batch_len;
 pub(crate) use lengths::batch_line_len;
 pub(crate) use settling::{put_in, take_out};

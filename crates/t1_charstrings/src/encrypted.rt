@@ -11,8 +11,7 @@ ghost use Rattle.t1_font.specs.Bodies.{bodies, bodies_check, body_check, glyph_i
 ghost use Rattle.t1_charstrings.specs.Entries.{body_at, encrypted, glyph_kept, subr_kept};
 ghost use Rattle.t1_charstrings.specs.Kept.{kept_at, AreEncrypted};
 
-use crate::batch::no_charstrings;
-use crate::entries::{Charstrings, Entry};
+use crate::entries::{Charstrings, Entry, no_charstrings};
 use indexmap::IndexMap;
 use itoa::Buffer;
 use std::alloc::{AllocError, Global};

@@ -1,6 +1,7 @@
 //! What is kept of a font's entries.
 
 use indexmap::IndexMap;
+use std::alloc::Global;
 use std::marker::Model;
 
 /// What is kept of an entry: the beginning of its line, and its encrypted charstring.
@@ -18,7 +19,9 @@ impl Model for Entry {
     ghost view = { λ entry. record { head = entry.head.items; charstring = entry.charstring.items } };
 }
 
-ghost use Rattle.std.specs.Prelude.{◌≡◌};
+ghost use Rattle.std.specs.Prelude.{◌≡◌, None};
+ghost use Rattle.t1_run.specs.Run.{Key};
+ghost use Rattle.t1_charstrings.specs.Kept.{kept_at};
 
 impl Entry {
     /// An entry of its two parts.
@@ -49,4 +52,14 @@ impl Entry {
 pub struct Charstrings {
     pub subrs: IndexMap<u16, Entry>,
     pub glyphs: IndexMap<Vec<u8>, Entry>,
+}
+
+/// No charstrings.
+pub fn no_charstrings(alloc: Global) -> Charstrings
+    ensures { (k : Key) → kept_at result k ≡ None }
+{
+    Charstrings {
+        subrs: IndexMap::new(alloc),
+        glyphs: IndexMap::new(alloc),
+    }
 }

@@ -14,6 +14,7 @@
 mod anew;
 mod batch;
 mod changed;
+mod edited;
 mod encrypted;
 mod entries;
 mod files;
@@ -27,12 +28,13 @@ mod raising;
 mod replacing;
 mod settling;
 
-pub use batch::{batch_len, no_charstrings, put_fresh_glyph, put_fresh_subr};
+pub use batch::{batch_len, put_fresh_glyph, put_fresh_subr};
 pub use changed::{insert_glyph, insert_subr, make_room};
+pub use edited::{EditedEntries, Gone};
 pub use encrypted::{charstrings_of, encrypted_glyph, encrypted_subr};
-pub use entries::{Charstrings, Entry};
+pub use entries::{Charstrings, Entry, no_charstrings};
 pub use files::write_kept_file;
 pub use lengths::{check_length, entry_line_len, line_len, private_len, sections_len};
 pub use made::Made;
 pub use preparing::prepare_lines;
-pub use settling::{EditedEntries, Gone, ReadyCharstrings, ReadyLines, settle_lines};
+pub use settling::{ReadyCharstrings, ReadyLines, settle_lines};

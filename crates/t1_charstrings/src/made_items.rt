@@ -11,9 +11,8 @@ ghost use Rattle.t1_charstrings.specs.Lines.{kept_text};
 ghost use Rattle.t1_charstrings.specs.Made.{made_items};
 ghost use Rattle.t1_charstrings.specs.Raising.{raised_check};
 
-use crate::batch::no_charstrings;
 use crate::encrypted::add_items;
-use crate::entries::Charstrings;
+use crate::entries::{Charstrings, no_charstrings};
 use crate::raising::{Needed, check_raised, raised_items_len};
 use std::alloc::Global;
 use std::slice;

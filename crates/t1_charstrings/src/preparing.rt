@@ -1,21 +1,21 @@
 //! What edits make of the charstrings, before anything is changed.
 ghost use Rattle.std.specs.Prelude.{◌≡◌, Ok, IfOk, false, true};
 ghost use Rattle.t1_frac.specs.Outcome.{Gives};
-ghost use Rattle.t1_source.specs.Changes.{changed};
 ghost use Rattle.t1_source.specs.Editing.{with_clear};
 ghost use Rattle.t1_font.specs.Assembly.{file_check};
 ghost use Rattle.t1_font.specs.Lengths.{IsPrivateLen};
 ghost use Rattle.t1_charstrings.specs.Batch.{AreEdits};
 ghost use Rattle.t1_charstrings.specs.Changed.{AreUnchanged};
-ghost use Rattle.t1_charstrings.specs.Made.{is_entry_changed, made_after, made_of, may_set_lead, source_of, IsFor, IsPrepared, IsPreparedFor};
+ghost use Rattle.t1_charstrings.specs.Made.{is_entry_changed, made_after, made_of, may_set_lead, source_of, IsPrepared, IsPreparedFor};
 ghost use Rattle.t1_charstrings.specs.Ready.{IsReadyLines};
 
 use crate::anew::prepare_anew;
 use crate::batch::len_of_batch;
+use crate::edited::EditedEntries;
 use crate::entries::Charstrings;
 use crate::made::Made;
 use crate::replacing::{len_inserted, len_put, len_removed};
-use crate::settling::{EditedEntries, ReadyLines, ready_entries};
+use crate::settling::{ReadyLines, ready_entries};
 use std::alloc::Global;
 use t1_font::check_parts;
 use t1_frac::{Bytes, Refusal};

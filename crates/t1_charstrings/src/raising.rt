@@ -1,10 +1,8 @@
 //! The counts of section lines, as they are raised where an entry is put in.
-ghost use Rattle.std.specs.Prelude.{◌≡◌, ◌≤◌, ◌^◌, ◌-◌, ◌∷◌, codes, if◌then◌else◌, length, map, max, min};
-ghost use Rattle.std.specs.List.{list_all};
+ghost use Rattle.std.specs.Prelude.{◌≡◌, ◌^◌, ◌-◌, ◌∷◌, codes, if◌then◌else◌, length, map, max, min};
 ghost use Rattle.t1_frac.specs.Outcome.{Gives};
 ghost use Rattle.t1_text.specs.Tokens.{last_is, tokens};
 ghost use Rattle.t1_parts.specs.Counts.{glyphs_needed, raised_item, subrs_needed};
-ghost use Rattle.t1_source.specs.WellFormed.{is_counted};
 ghost use Rattle.t1_charstrings.specs.Lines.{kept_line, kept_text};
 ghost use Rattle.t1_charstrings.specs.Raising.{is_raised_counted, raised_check, raised_text};
 ghost use Rattle.t1_charstrings.specs.Sums.{section_line};

@@ -12,10 +12,10 @@ ghost use Rattle.t1_charstrings.specs.Ready.{inserted_len, is_entry, new_len, ol
 ghost use Rattle.t1_charstrings.specs.Sums.{item_at};
 
 use crate::batch::batch_line_len;
+use crate::edited::EditedEntries;
 use crate::entries::Charstrings;
 use crate::lengths::{line_len, sections_len};
 use crate::raising::{Needed, check_raised, needed_with, raised_sections_len};
-use crate::settling::EditedEntries;
 use t1_font::check_parts;
 use t1_frac::Refusal;
 use t1_source::{Item, Source};

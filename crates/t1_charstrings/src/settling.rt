@@ -9,24 +9,9 @@ ghost use Rattle.t1_charstrings.specs.Ready.{HasRoom, IsReadyLines, SettlesTo};
 
 use crate::batch::{put_in, take_out};
 use crate::changed::make_room;
+use crate::edited::EditedEntries;
 use crate::entries::Charstrings;
 use std::alloc::AllocError;
-
-/// An entry that edits remove.
-#[derive(Drop)]
-pub enum Gone {
-    Subr(u16),
-    Glyph(Vec<u8>),
-}
-
-/// What edits make of the entries that they name.
-#[derive(Drop)]
-pub struct EditedEntries {
-    /// The charstrings of the entries that were replaced or added.
-    pub fresh: Charstrings,
-    /// The entries that are removed.
-    pub gone: Vec<Gone>,
-}
 
 /// What edits make of the charstrings.
 #[derive(Drop)]

@@ -1,5 +1,6 @@
 -- What commands are answered.
 use Rattle.std.specs.Prelude.{ℕ, List, [], ◌∷◌, ◌++◌, Result, Ok, codes, decimal, length}
+use Rattle.t1_frac.specs.Ascii.{line_feed}
 use Rattle.t1_frac.specs.declared.fault.Code.{Code}
 use Rattle.t1_frac.specs.declared.fault.Code.TheVariants.{F1, F2, F3, F4, F5, F6, F7, F8, F9, F10, F11, F12, F13, F20, F21, F22, F23, F30, F31, F32, F33, F34, F35, F36, F37, F38, F39, F40, F41, F42, F43, F44, F45, F46, F47, F48}
 use Rattle.t1_frac.specs.declared.fault.Fault.{Fault}
@@ -85,11 +86,11 @@ fault_text fault = code_name fault.code ++ place_text fault.place
 
 -- profile, answers: the line that says how many bytes follow
 abbrev pub data_head : ℕ → List ℕ
-data_head len = codes "data " ++ decimal len ++ 10 ∷ []
+data_head len = codes "data " ++ decimal len ++ line_feed ∷ []
 
 -- profile, answers: what a print shows, after its length
 abbrev pub data_text : List ℕ → List ℕ
-data_text bytes = codes "data " ++ decimal (length bytes) ++ 10 ∷ bytes ++ 10 ∷ []
+data_text bytes = codes "data " ++ decimal (length bytes) ++ line_feed ∷ bytes ++ line_feed ∷ []
 
 -- profile, answers: a file as data
 abbrev pub data_of : Result (List ℕ) Fault → Result (List ℕ) Fault
@@ -97,8 +98,8 @@ data_of file = file >>= λ bytes. Ok (data_text bytes)
 
 -- profile, answers: the bytes of an answer
 unfoldable pub answer_text : Answer → List ℕ
-answer_text Accepted = codes "ok" ++ 10 ∷ []
-answer_text (Broken rule) = codes "refused " ++ rule_name rule ++ 10 ∷ []
-answer_text (Faulty fault) = codes "refused " ++ fault_text fault ++ 10 ∷ []
-answer_text OutOfMemory = codes "refused memory" ++ 10 ∷ []
+answer_text Accepted = codes "ok" ++ line_feed ∷ []
+answer_text (Broken rule) = codes "refused " ++ rule_name rule ++ line_feed ∷ []
+answer_text (Faulty fault) = codes "refused " ++ fault_text fault ++ line_feed ∷ []
+answer_text OutOfMemory = codes "refused memory" ++ line_feed ∷ []
 answer_text (Data bytes) = data_text bytes

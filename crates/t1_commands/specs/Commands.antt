@@ -1,6 +1,7 @@
 -- The commands that the lines of a session spell.
 use Rattle.std.specs.Prelude.{unwrap_or, ℕ, ℤ, pos, ◌-◌, ◌^◌, Bool, true, false, ◌&&◌, ◌||◌, if◌then◌else◌, List, [], ◌∷◌, ◌++◌, Option, Some, None, Result, Ok, Err, ◌≡◌, codes}
 use Rattle.std.specs.Str.{bytes_eq}
+use Rattle.t1_frac.specs.Ascii.{line_feed}
 use Rattle.t1_frac.specs.Words.{words}
 use Rattle.t1_text.specs.Lines.{unified}
 use Rattle.t1_frac.specs.Numbers.{number_word}
@@ -158,7 +159,7 @@ commands_of ended None (line ∷ lines) =
     else alone (words line) ++ commands_of ended None lines
 commands_of ended (Some o) (line ∷ lines) =
     if ends_body line then body_command (words o.heading) o.body ∷ commands_of ended None lines
-    else commands_of ended (Some (record { heading = o.heading; body = o.body ++ line ++ 10 ∷ [] })) lines
+    else commands_of ended (Some (record { heading = o.heading; body = o.body ++ line ++ line_feed ∷ [] })) lines
 
 -- profile, session commands: the commands of an input; once it has ended, those of all its lines and of a body that it
 -- leaves open, until then those of the lines that have their end

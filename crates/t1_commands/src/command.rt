@@ -1,6 +1,6 @@
 //! The commands of a session, by the words of their lines.
 ghost use Rattle.std.specs.Str.{bytes_eq};
-ghost use Rattle.std.specs.Prelude.{◌≡◌, ◌||◌, option_map, length, ◌<◌, IfOk, IfSome, MatchOption, ◌∷◌, []};
+ghost use Rattle.std.specs.Prelude.{◌≡◌, ◌||◌, option_map, ◌<◌, IfOk};
 ghost use Rattle.t1_frac.specs.Words.{words};
 ghost use Rattle.t1_commands.specs.Commands.{one_word, two_words, three_words, removal, setting, whole_print, blocks_print, print_of, line_command, body_command, bodied_edit, open_command, takes_body, ends_body, edit_of, lone, is_wordless, number_of, Makes};
 ghost use Rattle.t1_source.specs.declared.edit.Edit.TheVariants as edits;

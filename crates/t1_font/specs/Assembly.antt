@@ -1,6 +1,7 @@
 -- The PFB file of a source.
 use Rattle.std.specs.Prelude.{ℕ, if◌then◌else◌, List, [], ◌∷◌, ◌++◌, Result, Ok, Err, codes, decimal, replicate}
 use Rattle.std.specs.List.{list_all}
+use Rattle.t1_frac.specs.Ascii.{line_feed, slash}
 use Rattle.t1_frac.specs.declared.fault.Code.TheVariants.{F23}
 use Rattle.t1_frac.specs.declared.fault.Fault.{Fault}
 use Rattle.t1_frac.specs.declared.fault.Place.{Place}
@@ -26,10 +27,10 @@ entry_line lead operator place head words closing =
 
 -- Type 1 Font Format, Chapter 2: the line of an item of the private part
 abbrev pub item_line : ℕ → List ℕ → Item → Result (List ℕ) Fault
-item_line lead operator (Plain line) = Ok (line ++ 10 ∷ [])
-item_line lead operator (Section before count after) = Ok (before ++ decimal count ++ after ++ 10 ∷ [])
+item_line lead operator (Plain line) = Ok (line ++ line_feed ∷ [])
+item_line lead operator (Section before count after) = Ok (before ++ decimal count ++ after ++ line_feed ∷ [])
 item_line lead operator (Subr number words closing) = entry_line lead operator (places.Subr number) (codes "dup " ++ decimal number) words closing
-item_line lead operator (Glyph name words closing) = entry_line lead operator (places.Glyph name) (47 ∷ name) words closing
+item_line lead operator (Glyph name words closing) = entry_line lead operator (places.Glyph name) (slash ∷ name) words closing
 
 -- profile: the private text of the items, or the first fault of their bodies; in a source the Subrs stand before the glyphs
 abbrev pub private_text : ℕ → List ℕ → List Item → Result (List ℕ) Fault

@@ -1,23 +1,21 @@
 //! The glyphs of a source.
-ghost use Rattle.std.specs.Prelude.{◌≡◌, length, map, option_map, Ok, IfOk, OnOk};
+ghost use Rattle.std.specs.Prelude.{◌≡◌, length, map, option_map, Ok, IfOk};
 ghost use Rattle.std.specs.Option.{option_to_list};
 ghost use Rattle.t1_frac.specs.Outcome.{Gives};
 ghost use Rattle.t1_afm.specs.Box.{united};
 ghost use Rattle.t1_font.specs.Bodies.{bodies as bodies_of, bodies_check, plain_bodies, SameBodies};
 ghost use Rattle.t1_font.specs.Glyphs.{glyph_names, name_in};
 ghost use Rattle.t1_font.specs.Runs.{Counts};
-ghost use Rattle.t1_font.specs.SourceChecks.{measured_source};
 ghost use Rattle.t1_font.specs.MeasuredGlyphs.{measured};
 
 use crate::glyph_metrics::{GlyphMetrics, font_box, glyph_metrics_of};
-use crate::lengths::checked_bodies;
 use crate::runs::runs_of;
 use std::alloc::{AllocError, Global};
 use std::marker::Model;
 use t1_afm::BBox;
 use t1_frac::Refusal;
 use t1_run::{Meter, Plain};
-use t1_source::{Item, Source};
+use t1_source::Item;
 
 /// What is measured of the glyphs of a source, in the order of their entries, and the box around all that draw.
 #[derive(Debug, Drop)]
@@ -100,18 +98,4 @@ pub fn measured(
     let runs = runs_of(alloc, bodies, &names, meter)?;
     let metrics = glyph_metrics_of(alloc, &runs, &names)?;
     Ok(MeasuredGlyphs::of(metrics))
-}
-
-/// The metrics of the glyphs of a source, or its first fault: of the bodies, at its entry; F23; of a glyph, at the glyph.
-/// Each glyph is run once, and the meter counts it.
-#[tactic(auto, unfolding(crate::specs::SourceChecks::measured_source))]
-pub fn measured_source(
-    alloc: Global,
-    source: &Source,
-    meter: &mut Meter,
-) -> Result<MeasuredGlyphs, Refusal>
-    ensures { Gives (λ glyphs. glyphs) result (measured_source source.now) }
-{
-    let bodies = checked_bodies(alloc, source)?;
-    measured(alloc, source.items(), &bodies, meter)
 }

@@ -30,7 +30,7 @@ pub use assembly::{
 pub use bodies::{compiled, compiled_glyph, compiled_subr};
 pub use font_metrics::metrics;
 pub use glyph_metrics::{GlyphMetrics, PlacedParts, glyph_metrics_of, metrics_of_run};
-pub use glyphs::{MeasuredGlyphs, glyph_names, measured, measured_source};
+pub use glyphs::{MeasuredGlyphs, glyph_names, measured};
 pub use lengths::{TEN_DIGITS, check_counts, check_parts, checked_bodies};
 pub use numbers::SubrNumbers;
 pub use runs::{Runs, runs_of};

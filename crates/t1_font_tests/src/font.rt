@@ -4,8 +4,7 @@ use std::test::Fail;
 use t1_afm::write_afm;
 use t1_code::Counted;
 use t1_font::{
-    MeasuredGlyphs, compiled, measured, measured_source, metrics, pfa_of_source, pfb_of_source,
-    usage_text,
+    MeasuredGlyphs, compiled, measured, metrics, pfa_of_source, pfb_of_source, usage_text,
 };
 use t1_frac::{Code, Fault, Place, Refusal};
 use t1_pairs::read_pairs;
@@ -193,7 +192,7 @@ const USES: &str = "\
 fn tells_the_uses_of_the_demo_font(rt: HostRuntime) -> Result<(), Fail> {
     let alloc = rt.alloc();
     let source = read_source(alloc, DEMO.as_bytes())?;
-    let glyphs = measured_source(alloc, &source, &mut Meter::new())?;
+    let glyphs = glyphs_of(alloc, &source, &mut Meter::new())?;
     assert_eq!(rt;
         usage_text(alloc, glyphs.metrics())?.as_slice(),
         USES.as_bytes()

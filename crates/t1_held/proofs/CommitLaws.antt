@@ -8,16 +8,16 @@ use Rattle.t1_parts.specs.SourceParts.{SourceParts}
 use Rattle.t1_run.specs.Run.{FontBodies, Key, Subr, Glyph}
 use Rattle.t1_font.specs.Bodies.{bodies, bodies_check}
 use Rattle.t1_font.proofs.Compiling.{or-assoc, or-none}
-use Rattle.t1_charstrings.specs.declared.settling.Gone.{Gone}
+use Rattle.t1_charstrings.specs.declared.edited.Gone.{Gone}
 use Rattle.t1_charstrings.specs.declared.entries.Charstrings.{Charstrings}
-use Rattle.t1_charstrings.specs.declared.settling.EditedEntries.{EditedEntries}
+use Rattle.t1_charstrings.specs.declared.edited.EditedEntries.{EditedEntries}
 use Rattle.t1_charstrings.specs.Batch.{gone_key, is_gone, AreEdits, AreFresh, AreGone}
 use Rattle.t1_charstrings.specs.Entries.{Kept, encrypted, body_at as kept_body_at, key_eq as same_key}
 use Rattle.t1_charstrings.specs.Kept.{kept_at}
 use Rattle.t1_cache.specs.Overlay.{body_at}
 use Rattle.t1_cache.specs.Users.{key_eq, key_of}
 use Rattle.t1_cache.proofs.Adding.{key-same}
-use Rattle.t1_rerun.specs.declared.settling.EntryChange.{EntryChange}
+use Rattle.t1_rerun.specs.declared.entry_change.EntryChange.{EntryChange}
 use Rattle.t1_rerun.specs.Settled.{changed_keys, AreDistinctKeys, HasBody}
 use Rattle.t1_source.specs.WellFormed.{IsWellFormed}
 use Rattle.t1_source.specs.declared.editing.change.Change.{Change}

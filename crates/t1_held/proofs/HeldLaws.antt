@@ -35,7 +35,7 @@ use Rattle.t1_charstrings.specs.Made.{IsPrepared}
 use Rattle.t1_cache.specs.Edited.{named, IsEditedAt}
 use Rattle.t1_cache.specs.Users.{key_eq}
 use Rattle.t1_cache.proofs.Distinct.{names_distinct}
-use Rattle.t1_rerun.specs.declared.settling.EntryChange.{EntryChange}
+use Rattle.t1_rerun.specs.declared.entry_change.EntryChange.{EntryChange}
 use Rattle.t1_rerun.specs.Changing.{IsChangeOf}
 use Rattle.t1_rerun.specs.EntryChanges.{IsChanged, IsMade}
 use Rattle.t1_rerun.specs.Opened.{runs_where}

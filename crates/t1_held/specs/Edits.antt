@@ -16,7 +16,7 @@ use Rattle.t1_charstrings.specs.declared.made.Made.{Made}
 use Rattle.t1_charstrings.specs.declared.made.Made.TheVariants as ways
 use Rattle.t1_cache.specs.Edited.{named, IsEditedAt}
 use Rattle.t1_cache.specs.Users.{key_eq}
-use Rattle.t1_rerun.specs.declared.settling.EntryChange.{EntryChange}
+use Rattle.t1_rerun.specs.declared.entry_change.EntryChange.{EntryChange}
 use Rattle.t1_rerun.specs.Changing.{AreChangesOf}
 use Rattle.t1_rerun.specs.Settled.{changed_keys, AreDistinctKeys, HasBody}
 use Rattle.t1_batch.specs.Batch.{entry_edit, keys, IsEditedBy}

@@ -4,7 +4,7 @@ use Rattle.std.specs.Option.{option_map, option_or}
 use Rattle.t1_run.specs.Run.{Key}
 use Rattle.t1_charstrings.specs.Entries.{Kept, encrypted}
 use Rattle.t1_cache.specs.Users.{key_eq, key_of}
-use Rattle.t1_rerun.specs.declared.settling.EntryChange.{EntryChange}
+use Rattle.t1_rerun.specs.declared.entry_change.EntryChange.{EntryChange}
 use Rattle.t1_rerun.specs.Settled.{changed_keys}
 
 -- profile: the encrypted charstring of a change, at its key

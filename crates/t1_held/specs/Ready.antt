@@ -7,7 +7,7 @@ use Rattle.t1_font.specs.Assembly.{file_check}
 use Rattle.t1_charstrings.specs.Ready.{IsReadyLines}
 use Rattle.t1_cache.specs.Edited.{stale}
 use Rattle.t1_cache.specs.Users.{key_eq}
-use Rattle.t1_rerun.specs.declared.settling.EntryChange.{EntryChange}
+use Rattle.t1_rerun.specs.declared.entry_change.EntryChange.{EntryChange}
 use Rattle.t1_rerun.specs.Changing.{IsReadyFor}
 use Rattle.t1_rerun.specs.Opened.{runs_where}
 use Rattle.t1_rerun.specs.Settled.{changed_keys}

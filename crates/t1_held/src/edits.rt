@@ -1,5 +1,5 @@
 //! Edits of a source, and what they make of it.
-ghost use Rattle.std.specs.Prelude.{◌≡◌, IfOk, List, MatchResult, map};
+ghost use Rattle.std.specs.Prelude.{◌≡◌, List, MatchResult, map};
 ghost use Rattle.t1_frac.specs.Outcome.{Refuses};
 ghost use Rattle.t1_parts.specs.SourceParts.{SourceParts};
 ghost use Rattle.t1_pairs.specs.declared.pairs.Pair.{Pair};

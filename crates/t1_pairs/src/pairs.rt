@@ -52,8 +52,8 @@ impl Model for Sorted {
     ghost view = { λ s. pairs_of_entries s.values.entries };
 }
 
-ghost use Rattle.std.specs.Prelude.{◌≡◌, ◌∷◌, ◌+◌, ◌<◌, ◌≤◌, ◌^◌, [], ◌++◌, IfOk, OnOk, OnErr, length, slice_set, option_to_list, true, None, MatchOption};
-ghost use Rattle.std.specs.List.{insert, list_any, remove};
+ghost use Rattle.std.specs.Prelude.{◌≡◌, ◌∷◌, ◌+◌, ◌<◌, ◌≤◌, [], ◌++◌, IfOk, OnOk, OnErr, length, slice_set, option_to_list, true, None, MatchOption};
+ghost use Rattle.std.specs.List.{insert, remove};
 ghost use Rattle.t1_frac.specs.Ascii.{line_feed};
 ghost use Rattle.t1_frac.specs.declared.fault.Place.TheVariants as places;
 ghost use Rattle.t1_frac.specs.Outcome.{Gives, told_at};

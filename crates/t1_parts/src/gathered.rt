@@ -24,7 +24,7 @@ pub struct Gathered<'a> {
 }
 
 impl<'a> Model for Gathered<'a> {
-    ghost use Rattle.std.specs.Prelude.{◌≡◌, ℕ, List};
+    ghost use Rattle.std.specs.Prelude.{◌≡◌, List};
     ghost use Rattle.t1_parts.specs.Sections.{is_subrs_line, is_glyphs_line};
     ghost use Rattle.t1_parts.specs.Entries.{NumberedItem, has};
     ghost use Rattle.t1_parts.specs.Gathered.{HasNumbers, HasNames};

@@ -1,11 +1,11 @@
 //! Header values of a clear part.
 
-ghost use Rattle.std.specs.Prelude.{◌≡◌, ◌≤◌, ◌<◌, ◌+◌, ◌^◌, not, false, length, option_map};
-ghost use Rattle.std.specs.List.{list_any, find};
+ghost use Rattle.std.specs.Prelude.{◌≡◌, ◌≤◌, ◌<◌, ◌+◌, false, length, option_map};
+ghost use Rattle.std.specs.List.{list_any};
 ghost use Rattle.std.specs.Str.{bytes_eq};
 ghost use Rattle.t1_frac.specs.Words.{trimmed_front};
 ghost use Rattle.t1_text.specs.Tokens.{goes_on};
-ghost use Rattle.t1_parts.specs.Header.{before_balance, name_value, text_value, token_value, after_key, keyed, text_keys, token_keys, header_among};
+ghost use Rattle.t1_parts.specs.Header.{before_balance, name_value, text_value, after_key, keyed, text_keys, token_keys, header_among};
 
 use t1_frac::{Bytes, skip_blanks};
 use t1_text::{first_token, is_regular, name_of_token, same};

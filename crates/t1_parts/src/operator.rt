@@ -1,6 +1,6 @@
 //! The operator that reads a charstring.
 
-ghost use Rattle.std.specs.Prelude.{◌≡◌, ◌≤◌, ◌<◌, ◌+◌, ◌^◌, None, length, codes, option_map, filter_map};
+ghost use Rattle.std.specs.Prelude.{◌≡◌, ◌≤◌, ◌<◌, ◌+◌, ◌^◌, None, length, option_map, filter_map};
 ghost use Rattle.std.specs.List.{last_or};
 ghost use Rattle.t1_text.specs.Tokens.{places_from};
 ghost use Rattle.t1_parts.specs.Operator.{text_place, name_within, operator_on, operator_among};

@@ -26,7 +26,7 @@ use Rattle.t1_cache.specs.Users.{key_eq, key_of}
 use Rattle.t1_cache.proofs.Adding.{key-itself, key-same}
 use Rattle.t1_cache.proofs.Distinct.{names_distinct}
 use Rattle.t1_rerun.specs.declared.renewal.Renewal.{Renewal}
-use Rattle.t1_rerun.specs.declared.settling.EntryChange.{EntryChange}
+use Rattle.t1_rerun.specs.declared.entry_change.EntryChange.{EntryChange}
 use Rattle.t1_rerun.specs.declared.settling.Ready.{Ready}
 use Rattle.t1_rerun.specs.Changing.{body_changed, AreChangesOf, IsChangeOf, IsReadyFor, MayBePrepared}
 use Rattle.t1_rerun.specs.EntryChanges.{IsChanged, IsMade}

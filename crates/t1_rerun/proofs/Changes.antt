@@ -31,7 +31,7 @@ use Rattle.t1_cache.proofs.Judging.{unnamed}
 use Rattle.t1_font.proofs.Lookups.{bytes_tell}
 use Rattle.t1_cache.proofs.Rooming.{room_for_joins}
 use Rattle.t1_rerun.specs.declared.renewal.Renewal.{Renewal}
-use Rattle.t1_rerun.specs.declared.settling.EntryChange.{EntryChange}
+use Rattle.t1_rerun.specs.declared.entry_change.EntryChange.{EntryChange}
 use Rattle.t1_rerun.specs.declared.settling.Ready.{Ready}
 use Rattle.t1_rerun.specs.declared.settling.steps.Step.{Step}
 use Rattle.t1_rerun.specs.Renewals.{rerun_kept}

@@ -41,7 +41,7 @@ use Rattle.t1_cache.specs.Users.{key_of}
 use Rattle.t1_cache.proofs.Accepted.{glyph_at, last_glyph, last_subr, new_glyph, new_subr, subr_at, added_glyph-made, added_subr-made, encoded-made, lead-made, removed_glyph-made, removed_subr-made, replaced_glyph-made, replaced_subr-made, unencoded-made, IsLeadMade, IsOut, IsPut, LeadIn, LeadPut}
 use Rattle.t1_cache.proofs.EditedBodies.{body_edited}
 use Rattle.t1_cache.proofs.Edits.{edits_named}
-use Rattle.t1_rerun.specs.declared.settling.EntryChange.{EntryChange}
+use Rattle.t1_rerun.specs.declared.entry_change.EntryChange.{EntryChange}
 use Rattle.t1_rerun.specs.EntryChanges.{edit_change, key_change, number_within, put_key, put_number, removed_number, KeyChange, IsChanged, IsMade}
 use Rattle.t1_rerun.specs.Renewing.{entry_key, number_key}
 use Rattle.t1_rerun.specs.Settled.{changed_keys, was_moved, HasBody}

@@ -25,7 +25,7 @@ use Rattle.t1_cache.specs.Users.{among, has, key_eq, key_of, users_of, UserSet}
 use Rattle.t1_cache.proofs.Adding.{key-same}
 use Rattle.t1_cache.proofs.Lists.{all-weaken}
 use Rattle.t1_font.proofs.Lookups.{bytes_tell}
-use Rattle.t1_rerun.specs.declared.settling.EntryChange.{EntryChange}
+use Rattle.t1_rerun.specs.declared.entry_change.EntryChange.{EntryChange}
 use Rattle.t1_rerun.specs.declared.settling.steps.Step.{Step}
 use Rattle.t1_rerun.specs.declared.settling.steps.Step.TheVariants as steps
 use Rattle.t1_rerun.specs.Right.{has_glyph}

@@ -18,7 +18,7 @@ use Rattle.t1_cache.specs.Laws.{AreDistinct}
 use Rattle.t1_cache.specs.Users.{key_eq, key_of}
 use Rattle.t1_rerun.specs.declared.bodies.EditedBodies.{EditedBodies}
 use Rattle.t1_rerun.specs.declared.renewal.Renewal.{Renewal}
-use Rattle.t1_rerun.specs.declared.settling.EntryChange.{EntryChange}
+use Rattle.t1_rerun.specs.declared.entry_change.EntryChange.{EntryChange}
 use Rattle.t1_rerun.specs.declared.settling.Ready.{Ready}
 use Rattle.t1_rerun.specs.Renewals.{IsLater}
 use Rattle.t1_rerun.specs.Right.{has_glyph, IsInOrder, IsRight}

@@ -22,7 +22,7 @@ use Rattle.t1_cache.specs.Renewed.{Kept, kept_of, reruns_by_name}
 use Rattle.t1_cache.specs.Room.{MayJoin}
 use Rattle.t1_cache.specs.Users.{has_pair, key_eq, key_of, lists, users_at, wanted}
 use Rattle.t1_rerun.specs.declared.renewal.Renewal.{Renewal}
-use Rattle.t1_rerun.specs.declared.settling.EntryChange.{EntryChange}
+use Rattle.t1_rerun.specs.declared.entry_change.EntryChange.{EntryChange}
 use Rattle.t1_rerun.specs.declared.settling.Ready.{Ready}
 use Rattle.t1_rerun.specs.Renewals.{rerun_kept, IsRenewal}
 use Rattle.t1_rerun.specs.Right.{has_glyph, IsInOrder, IsRight}

@@ -8,7 +8,7 @@ ghost use Rattle.t1_cache.specs.Bodies.{record_bodies};
 ghost use Rattle.t1_cache.specs.Overlay.{body_at};
 ghost use Rattle.t1_rerun.specs.Changing.{body_changed, edited_font, glyph_set, subr_set};
 
-use crate::settling::EntryChange;
+use crate::entry_change::EntryChange;
 use indexmap::IndexMap;
 use std::alloc::{AllocError, Global};
 use t1_cache::{Named, Records};

@@ -1,5 +1,5 @@
 //! Records brought to those of a source that is edited at some entries.
-ghost use Rattle.std.specs.Prelude.{◌≡◌, ℕ, true, IfOk, List, OnErr, OnOk, length, map};
+ghost use Rattle.std.specs.Prelude.{◌≡◌, ℕ, true, IfOk, List, length, map};
 ghost use Rattle.std.specs.List.{AllByRecursion};
 ghost use Rattle.t1_frac.specs.Outcome.{Gives};
 ghost use Rattle.t1_parts.specs.SourceParts.{SourceParts};
@@ -16,10 +16,11 @@ ghost use Rattle.t1_rerun.specs.Right.{IsRight};
 ghost use Rattle.t1_rerun.specs.Settled.{changed_keys, AreAsBefore};
 
 use crate::bodies::edited_bodies;
+use crate::entry_change::EntryChange;
 use crate::judging::rerun;
 use crate::order::GlyphOrder;
 use crate::renewal::Renewal;
-use crate::settling::{EntryChange, Ready, make_ready, settle};
+use crate::settling::{Ready, make_ready, settle};
 use std::alloc::{AllocError, Global};
 use t1_cache::{Named, Records};
 use t1_frac::{Bytes, Refusal};

@@ -9,7 +9,7 @@ ghost use Rattle.t1_run.specs.Run.{Glyph};
 ghost use Rattle.t1_font.specs.Assembly.{file_check};
 ghost use Rattle.t1_rerun.specs.EntryChanges.{edit_change, key_change, number_within, put_key, put_number, removed_number, IsChanged, IsMade};
 
-use crate::settling::EntryChange;
+use crate::entry_change::EntryChange;
 use std::alloc::{AllocError, Global};
 use t1_cache::Named;
 use t1_font::{compiled_glyph, compiled_subr};

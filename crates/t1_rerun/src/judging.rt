@@ -1,7 +1,7 @@
 //! An edited font judged.
 ghost use Rattle.std.specs.Prelude.{◌≡◌, true, All, IsSome, IfOk, List, ℕ, filter, length, map};
 ghost use Rattle.std.specs.List.{AllByRecursion};
-ghost use Rattle.t1_frac.specs.Outcome.{Gives, Refuses};
+ghost use Rattle.t1_frac.specs.Outcome.{Gives};
 ghost use Rattle.t1_parts.specs.SourceParts.{SourceParts};
 ghost use Rattle.t1_run.specs.Run.{font};
 ghost use Rattle.t1_font.specs.MeasuredGlyphs.{glyph_metrics_among};

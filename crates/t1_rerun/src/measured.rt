@@ -1,5 +1,5 @@
 //! The metrics of a font whose records are kept.
-ghost use Rattle.std.specs.Prelude.{◌≡◌, map};
+ghost use Rattle.std.specs.Prelude.{map};
 ghost use Rattle.t1_frac.specs.Outcome.{Gives, told_at};
 ghost use Rattle.t1_frac.specs.declared.fault.Place.TheVariants.{Nowhere};
 ghost use Rattle.t1_parts.specs.SourceParts.{SourceParts};

@@ -1,32 +1,23 @@
 //! The records of a source, brought to those of the source after edits, in two steps: all growths first, which may fail, and
 //! then the change, which takes no memory and can't fail.
-ghost use Rattle.std.specs.Prelude.{◌≡◌, ◌≤◌, List, IfOk, OnErr, OnOk, map};
+ghost use Rattle.std.specs.Prelude.{◌≤◌, List, IfOk, OnOk, map};
 ghost use Rattle.std.specs.List.{AllByRecursion};
 ghost use Rattle.indexmap.specs.IndexMap.{spare};
 ghost use Rattle.t1_cache.specs.Changed.{AreUnchanged};
 ghost use Rattle.t1_cache.specs.Renewed.{kept_of};
 ghost use Rattle.t1_parts.specs.SourceParts.{SourceParts};
 ghost use Rattle.t1_rerun.specs.Right.{IsRight};
-ghost use Rattle.t1_rerun.specs.Settled.{changed_keys, AreAsBefore, AreDistinctKeys, IsJudged, IsReady, IsRenewedBy, MayBeJudged, MayBeSettled};
+ghost use Rattle.t1_rerun.specs.Settled.{changed_keys, AreAsBefore, AreDistinctKeys, IsJudged, IsReady, IsRenewedBy, MayBeSettled};
 
 mod preparing;
 mod steps;
 
+use crate::entry_change::EntryChange;
 use crate::renewal::Renewal;
 use preparing::{runs_by_name, steps_with_room, taken_out};
 use std::alloc::{AllocError, Global};
 use steps::{Step, change_all};
 use t1_cache::{Named, Names, NewRuns, Records, make_room, move_users, renew_by_name};
-use t1_code::Body;
-
-/// An entry that edits name, and its body in the edited font; `None` where it was removed. A glyph that was removed and added
-/// again has moved: it stands after the others.
-#[derive(Drop)]
-pub struct EntryChange {
-    pub named: Named,
-    pub body: Option<Body>,
-    pub moved: bool,
-}
 
 /// The changes of records, with all the memory that they take.
 #[derive(Drop)]

@@ -1,5 +1,4 @@
 //! Commands performed and answered.
-ghost use Rattle.std.specs.Prelude.{◌≡◌};
 ghost use Rattle.t1_commands.specs.AnswerTexts.{answer_text};
 ghost use Rattle.t1_commands.specs.Commands.{Makes};
 ghost use Rattle.t1_session.specs.Conversation.{Sends, AnswersCommand, IsPerformed};

@@ -1,5 +1,4 @@
 //! A whole session, over a reader and a writer.
-ghost use Rattle.std.specs.Prelude.{◌≡◌};
 ghost use Rattle.t1_frac.specs.Outcome.{Gives};
 ghost use Rattle.t1_session.specs.Serving.{streams, Serves, Converses};
 ghost use Rattle.t1_session.specs.Machine.{scratch};

@@ -1,6 +1,6 @@
 //! The codes that an encoding gives to names.
 
-ghost use Rattle.std.specs.Prelude.{◌≡◌, ℕ, ◌<◌, false, length, get_or, filter_map, option_map};
+ghost use Rattle.std.specs.Prelude.{◌≡◌, ℕ, ◌<◌, false, get_or, filter_map, option_map};
 ghost use Rattle.t1_code.specs.Encoding.{standard_name as name_of};
 ghost use Rattle.t1_text.specs.Tokens.{tokens, is_token};
 ghost use Rattle.t1_parts.specs.Encoding.{slot_of_tokens, slots};

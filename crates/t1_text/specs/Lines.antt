@@ -30,7 +30,7 @@ lines bytes = split_lines (unified bytes)
 
 -- profile, lines: how many line ends a text has
 abbrev pub line_ends : List ℕ → ℕ
-line_ends bytes = length (filter (λ c. c == 10) (unified bytes))
+line_ends bytes = length (filter (λ c. c == line_feed) (unified bytes))
 
 -- profile, lines: the bytes after a line end, of which CR LF is one
 abbrev pub after_end : List ℕ → List ℕ

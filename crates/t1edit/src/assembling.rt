@@ -28,7 +28,7 @@ pub enum Form {
     Pfa,
 }
 
-ghost use Rattle.std.specs.Prelude.{◌≡◌, option_map, MatchResult};
+ghost use Rattle.std.specs.Prelude.{option_map};
 ghost use Rattle.t1_session.specs.Delivery.{Delivers};
 ghost use Rattle.t1edit.specs.Assembling.{FormIs, file_in_form};
 

@@ -1,26 +1,14 @@
 //! The charstrings of the entries that edits replace or add.
-ghost use Rattle.std.specs.Prelude.{◌≡◌, None, Some, OnErr, OnOk};
-ghost use Rattle.t1_run.specs.Run.{Key, Subr, Glyph};
+ghost use Rattle.std.specs.Prelude.{Some, OnErr, OnOk};
+ghost use Rattle.t1_run.specs.Run.{Subr, Glyph};
 ghost use Rattle.t1_charstrings.specs.Changed.{AreUnchanged, Sets};
 ghost use Rattle.t1_charstrings.specs.Entries.{encrypted};
-ghost use Rattle.t1_charstrings.specs.Kept.{kept_at};
 
 use crate::changed::{insert_glyph, insert_subr};
 use crate::encrypted::{encrypted_glyph, encrypted_subr};
 use crate::entries::Charstrings;
-use indexmap::IndexMap;
 use std::alloc::{AllocError, Global};
 use t1_code::Body;
-
-/// No charstrings.
-pub fn no_charstrings(alloc: Global) -> Charstrings
-    ensures { (k : Key) → kept_at result k ≡ None }
-{
-    Charstrings {
-        subrs: IndexMap::new(alloc),
-        glyphs: IndexMap::new(alloc),
-    }
-}
 
 /// Keeps a Subr, encrypted with so many leading bytes, in the place of what was kept of it. Where memory runs out all stays
 /// as it was.

@@ -9,8 +9,8 @@ ghost use Rattle.t1_charstrings.specs.Entries.{glyph_kept, subr_kept};
 ghost use Rattle.t1_charstrings.specs.Kept.{kept_at};
 
 use crate::changed::{insert_glyph, insert_subr};
+use crate::edited::Gone;
 use crate::entries::{Charstrings, Entry};
-use crate::settling::Gone;
 use indexmap::IndexMap;
 
 /// Takes the charstring of an entry out.

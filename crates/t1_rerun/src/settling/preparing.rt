@@ -13,8 +13,8 @@ ghost use Rattle.t1_cache.specs.Users.{wanted};
 ghost use Rattle.t1_rerun.specs.Settled.{changed_keys, AreDistinctKeys};
 ghost use Rattle.t1_rerun.specs.Steps.{changed, inserts, new_run, new_run_of, some_inserts, takes_out, AreStepsOf, AreTakenOut, IsStepOf};
 
-use super::EntryChange;
 use super::steps::Step;
+use crate::entry_change::EntryChange;
 use indexmap::{IndexMap, IndexSet};
 use std::alloc::{AllocError, Global};
 use t1_cache::{

@@ -1,5 +1,5 @@
 //! The changes of records, one after another.
-ghost use Rattle.std.specs.Prelude.{◌≡◌, ◌<◌, ◌≤◌, List, None, filter, length, map, not};
+ghost use Rattle.std.specs.Prelude.{◌≡◌, ◌<◌, ◌≤◌, None, filter, length, map, not};
 ghost use Rattle.indexmap.specs.IndexMap.{spare};
 ghost use Rattle.t1_run.specs.Touched.{is_key_of};
 ghost use Rattle.t1_cache.specs.Changed.{PutsBody, SetsBody, SetsUsers, UsesUp};

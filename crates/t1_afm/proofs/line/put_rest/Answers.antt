@@ -4,7 +4,7 @@ use Rattle.std.proofs.lemmas.Result.{err_from_is_err_and}
 use Rattle.t1_code.specs.Counted.{outlet}
 use Rattle.t1_code.proofs.Writing.{passing, Written-step, Written-fails, Written-last}
 use Rattle.t1_afm.specs.Lines.{word_text}
-use Rattle.t1_afm.proofs.Sheets.{rest_is, no_word}
+use Rattle.t1_afm.proofs.WrittenLines.{rest_is, no_word}
 use Rattle.t1_afm.proofs.line.put_rest.Goals as goal
 
 pub returns-in_err-put_plain : goal.returns-in_err-put_plain

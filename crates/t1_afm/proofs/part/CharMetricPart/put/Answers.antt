@@ -1,4 +1,4 @@
-use Rattle.t1_afm.proofs.Sheets.{width_both}
+use Rattle.t1_afm.proofs.WrittenLines.{width_both}
 use Rattle.t1_afm.proofs.part.CharMetricPart.put.Goals as goal
 
 pub returns-else-self-eq0 : goal.returns-else-self-eq0
