@@ -72,9 +72,17 @@ gcd_one n =
     let above : 0 < gcd n 1 = gcd_above n 1 (omega arith) in
     omega arith
 
+pub IsGcd-one : (n d : ℕ) → d ≡ 1 → IsGcd n d 1
+IsGcd-one n d e = subst (λ k. IsGcd n k 1) (sym e) (subst (λ g. IsGcd n 1 g) (gcd_one n) (IsGcd-gcd n 1))
+
 pub lowest_whole : (n : ℤ) → lowest (record { num = n; den = 1 }) ≡ record { num = n; den = 1 }
 unfolding lowest
 lowest_whole n = rw (gcd_one (unsigned_abs n)) (rw (div_one_abs n) refl)
+
+-- neither has a fraction that is in lowest terms
+pub lowest_coprime_terms : (n : ℤ) (d : ℕ) → gcd (unsigned_abs n) d ≡ 1 → lowest (record { num = n; den = d }) ≡ record { num = n; den = d }
+unfolding lowest
+lowest_coprime_terms n d e = rw e (rw (div_one_abs n, div-one d) refl)
 
 -- two numbers with the greatest common divisor 1
 coprime_terms_at : (a : Fraction) → IsLowest a → gcd (unsigned_abs a.num) a.den ≡ 1

@@ -1,7 +1,8 @@
--- A sum over one denominator.
-use Rattle.std.proofs.Common.{◌≡◌, ℕ, ◌+◌, ◌*◌, ◌<◌, ℤ, pos, ◌+ℤ◌, ◌*ℤ◌, ◌∙◌, arith, ap, subst, mul-pos}
+-- A sum over one denominator, and over none.
+use Rattle.std.proofs.Common.{◌≡◌, ℕ, ◌+◌, ◌*◌, ◌<◌, ℤ, pos, ◌+ℤ◌, ◌*ℤ◌, ◌∙◌, arith, sym, ap, subst, mul-pos}
 use borrow.Author.Differences.{up, down, sum_is_lem, product_is, same_in}
-use Rattle.t1_frac.specs.Fraction.{Fraction, IsSame, lowest, plus}
+use Rattle.t1_frac.specs.Fraction.{Fraction, IsSame, lowest, plus, whole}
+use Rattle.t1_frac.proofs.Exact.{lowest_whole}
 use Rattle.t1_frac.proofs.SameLowest.{same_lowest}
 
 joined : (a b : ℤ) (d : ℕ) → (a +ℤ b) *ℤ pos d ≡ a *ℤ pos d +ℤ b *ℤ pos d
@@ -34,3 +35,9 @@ alike_same a b alike =
 pub sum_alike : (a b : Fraction) → 0 < a.den → a.den ≡ b.den → lowest (record { num = a.num +ℤ b.num; den = a.den }) ≡ lowest (plus a b)
 sum_alike a b some alike =
     same_lowest (record { num = a.num +ℤ b.num; den = a.den }) (plus a b) some (mul-pos some (rw (← alike) some)) (alike_same a b alike)
+
+-- the sum of two whole numbers
+pub sum_whole : (a b : Fraction) → a.den ≡ 1 → b.den ≡ 1 → lowest (plus a b) ≡ whole (a.num +ℤ b.num)
+sum_whole a b e f =
+    let alike : a.den ≡ b.den = omega arith in
+    sym (sum_alike a b (omega arith) alike) ∙ ap (λ d. lowest (record { num = a.num +ℤ b.num; den = d })) e ∙ lowest_whole (a.num +ℤ b.num)

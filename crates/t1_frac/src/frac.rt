@@ -4,6 +4,7 @@ ghost use Rattle.std.specs.Prelude.{◌≡◌, ◌≢◌, ◌+ℤ◌, ◌*ℤ◌
 ghost use Rattle.std.specs.Int.RustNames.{unsigned_abs};
 ghost use Rattle.t1_frac.specs.Fraction.{whole as whole_of, gcd as gcd_of, IsLowest, lowest, plus, negated as negated_of, over, compared, floor_of, ceiling_of, nearest_of};
 ghost use Rattle.t1_frac.specs.Limits.{IsCoordinate, coordinate_sum, coordinate_difference, quotient, within};
+ghost use Rattle.t1_frac.specs.declared.fault.Code.TheVariants.{F40};
 
 use crate::fault::Code;
 use crate::gcd::{gcd, gcd_64};
@@ -32,48 +33,39 @@ impl Model for Frac {
     ghost inverse = { λ v. record { num = v.num; den = v.den } };
 }
 
-/// Whether 63 bits hold both a numerator and a denominator.
-fn is_short(num: i128, den: u128) -> bool
-    ensures num { result ≡ true → unsigned_abs num < 2 ^ 63 }
-    ensures den { result ≡ true → den < 2 ^ 63 }
-{
-    num.unsigned_abs() < 1 << 63 && den < 1 << 63
-}
-
-/// A numerator and a denominator over their greatest common divisor, in 64 bits.
-#[tactic(auto, using(crate::proofs::Divisors::gcd_above, crate::proofs::Divisors::gcd_below), unfolding(crate::specs::Fraction::lowest))]
-fn in_lowest_terms_64(num: i64, den: u64) -> (i64, u64)
+/// A short numerator and denominator over their greatest common divisor.
+#[tactic(auto, using(crate::proofs::Divisors::gcd_above, crate::proofs::Divisors::gcd_below, crate::proofs::Exact::lowest_coprime_terms), unfolding(crate::specs::Fraction::lowest))]
+#[inline(always)]
+fn in_lowest_terms(num: i64, den: u64) -> (i64, u64)
     requires num { unsigned_abs num < 2 ^ 63 }
     requires den_above { 0 < den }
     requires den_below { den < 2 ^ 63 }
-    ensures { record { num = result.0; den = result.1 } ≡ lowest (record { num = num; den = den }) }
+    ensures lowest { record { num = result.0; den = result.1 } ≡ lowest (record { num = num; den = den }) }
+    ensures den_above { 0 < result.1 }
+    ensures den_below { result.1 ≤ den }
 {
     let divisor = gcd_64(num.unsigned_abs(), den);
+    if divisor == 1 {
+        return (num, den);
+    }
     (num / divisor as i64, den / divisor)
 }
 
-/// A numerator and a denominator over their greatest common divisor. A whole number has nothing to divide, and 128
-/// bits are divided only where 63 don't hold them.
-#[tactic(auto, using(crate::proofs::Divisors::gcd_above, crate::proofs::Divisors::gcd_below, crate::proofs::Exact::lowest_whole), unfolding(crate::specs::Fraction::lowest))]
-fn in_lowest_terms(num: i128, den: u128) -> (i128, u128)
+/// The same in 128 bits.
+#[tactic(auto, using(crate::proofs::Divisors::gcd_above, crate::proofs::Divisors::gcd_below), unfolding(crate::specs::Fraction::lowest))]
+fn long_in_lowest_terms(num: i128, den: u128) -> (i128, u128)
     requires den_above { 0 < den }
     requires den_below { den ≤ 2 ^ 72 }
     ensures lowest { record { num = result.0; den = result.1 } ≡ lowest (record { num = num; den = den }) }
     ensures den_above { 0 < result.1 }
     ensures den_below { result.1 ≤ den }
 {
-    if den == 1 {
-        return (num, den);
-    }
-    if is_short(num, den) {
-        let (num, den) = in_lowest_terms_64(num as i64, den as u64);
-        return (i128::from(num), u128::from(den));
-    }
     let divisor = gcd(num.unsigned_abs(), den);
     (num / divisor as i128, den / divisor)
 }
 
 /// The fraction, or this fault where its size is past the limit, or F39 where it is too fine.
+#[inline(always)]
 fn limited(fault: Code, limit: u64, num: i128, den: u128) -> Result<Frac, Code>
     requires limit { limit ≤ 2 ^ 31 }
     requires den_above { 0 < den }
@@ -93,20 +85,56 @@ fn limited(fault: Code, limit: u64, num: i128, den: u128) -> Result<Frac, Code>
     })
 }
 
-/// The fraction in lowest terms, or this fault where its size is past the limit, or F39 where it is too fine.
+/// The short fraction in lowest terms, or this fault where its size is past the limit, or F39 where it is too fine.
 #[tactic(auto, using(crate::proofs::Exact::coprime_lowest))]
-fn reduced(fault: Code, limit: u64, num: i128, den: u128) -> Result<Frac, Code>
+#[inline(always)]
+fn reduced(fault: Code, limit: u64, num: i64, den: u64) -> Result<Frac, Code>
+    requires limit { limit ≤ 2 ^ 31 }
+    requires num { unsigned_abs num < 2 ^ 63 }
+    requires den_above { 0 < den }
+    requires den_below { den < 2 ^ 63 }
+    ensures { result ≡ within fault limit (lowest (record { num = num; den = den })) }
+{
+    let (num, den) = in_lowest_terms(num, den);
+    limited(fault, limit, i128::from(num), u128::from(den))
+}
+
+/// The same in 128 bits.
+#[tactic(auto, using(crate::proofs::Exact::coprime_lowest))]
+fn long_reduced(fault: Code, limit: u64, num: i128, den: u128) -> Result<Frac, Code>
     requires limit { limit ≤ 2 ^ 31 }
     requires den_above { 0 < den }
     requires den_below { den ≤ 2 ^ 72 }
     ensures { result ≡ within fault limit (lowest (record { num = num; den = den })) }
 {
-    let (num, den) = in_lowest_terms(num, den);
+    let (num, den) = long_in_lowest_terms(num, den);
     limited(fault, limit, num, den)
 }
 
-/// A numerator over a denominator's multiple.
-fn scaled(num: i64, den: u32) -> i128
+/// A whole number that is a sum of coordinates, or F40 past 1,048,576 in size.
+#[tactic(auto, using(crate::proofs::Exact::gcd_one))]
+#[inline(always)]
+fn whole_coordinate(num: i64) -> Result<Frac, Code>
+    ensures { result ≡ within F40 (2 ^ 20) (whole_of num) }
+{
+    if num.unsigned_abs() > 1 << 20 {
+        return Err(Code::F40);
+    }
+    Ok(Frac { num, den: 1 })
+}
+
+/// A short numerator over a denominator's multiple.
+fn scaled(num: i64, den: u32) -> i64
+    requires num { unsigned_abs num ≤ 2 ^ 40 }
+    requires den { den ≤ 2 ^ 20 }
+    ensures value { result ≡ num *ℤ pos den }
+    ensures size { unsigned_abs result ≤ 2 ^ 60 }
+{
+    num * i64::from(den)
+}
+
+/// The same in 128 bits.
+fn long_scaled(num: i64, den: u32) -> i128
     requires num { unsigned_abs num ≤ 2 ^ 51 }
     requires den { den ≤ 2 ^ 31 }
     ensures value { result ≡ num *ℤ pos den }
@@ -151,46 +179,91 @@ impl Frac {
         self.den == 1
     }
 
+    /// Whether its products with denominators are sure to fit 64 bits, as those of all coordinates do.
+    fn is_short(&self) -> bool
+        ensures { result ≡ true → unsigned_abs self.now.num ≤ 2 ^ 40 }
+    {
+        self.num.unsigned_abs() <= 1 << 40
+    }
+
     /// The sum's numerator and denominator over the product of both denominators.
-    fn crossed_terms(&self, other: &Frac) -> (i128, u128)
+    fn crossed_terms(&self, other: &Frac) -> (i64, u64)
+        requires left_short { unsigned_abs self.now.num ≤ 2 ^ 40 }
+        requires right_short { unsigned_abs other.now.num ≤ 2 ^ 40 }
+        ensures sum { record { num = result.0; den = result.1 } ≡ plus self.now other.now }
+        ensures num_below { unsigned_abs result.0 < 2 ^ 63 }
+        ensures den_above { 0 < result.1 }
+        ensures den_below { result.1 < 2 ^ 63 }
+    {
+        let left = scaled(self.num, other.den);
+        let right = scaled(other.num, self.den);
+        let den = u64::from(self.den) * u64::from(other.den);
+        (left + right, den)
+    }
+
+    /// The same in 128 bits.
+    fn long_crossed_terms(&self, other: &Frac) -> (i128, u128)
         ensures sum { record { num = result.0; den = result.1 } ≡ plus self.now other.now }
         ensures den_above { 0 < result.1 }
         ensures den_below { result.1 ≤ 2 ^ 72 }
     {
-        let left = scaled(self.num, other.den);
-        let right = scaled(other.num, self.den);
+        let left = long_scaled(self.num, other.den);
+        let right = long_scaled(other.num, self.den);
         let den = u128::from(self.den) * u128::from(other.den);
         (left + right, den)
     }
 
-    /// The sum of both numerators, over the same denominator.
-    fn sum_num(&self, other: &Frac) -> i128
-        ensures { result ≡ self.now.num +ℤ other.now.num }
+    /// The sum of both numerators.
+    fn sum_num(&self, other: &Frac) -> i64
+        ensures value { result ≡ self.now.num +ℤ other.now.num }
+        ensures size { unsigned_abs result < 2 ^ 63 }
     {
-        i128::from(self.num + other.num)
+        self.num + other.num
     }
 
     /// The sum's numerator and denominator, not in lowest terms. Over one denominator the numerators are added.
     #[tactic(auto, using(crate::proofs::Sums::sum_alike))]
-    fn sum_terms(&self, other: &Frac) -> (i128, u128)
+    fn sum_terms(&self, other: &Frac) -> (i64, u64)
+        requires left_short { unsigned_abs self.now.num ≤ 2 ^ 40 }
+        requires right_short { unsigned_abs other.now.num ≤ 2 ^ 40 }
         ensures sum { lowest (record { num = result.0; den = result.1 }) ≡ lowest (plus self.now other.now) }
+        ensures num_below { unsigned_abs result.0 < 2 ^ 63 }
         ensures den_above { 0 < result.1 }
-        ensures den_below { result.1 ≤ 2 ^ 72 }
+        ensures den_below { result.1 < 2 ^ 63 }
     {
         if self.den == other.den {
-            return (self.sum_num(other), u128::from(self.den));
+            return (self.sum_num(other), u64::from(self.den));
         }
         self.crossed_terms(other)
     }
 
     /// The quotient's numerator and denominator, not in lowest terms.
-    fn quotient_terms(&self, other: &Frac) -> (i128, u128)
+    fn quotient_terms(&self, other: &Frac) -> (i64, u64)
+        requires some { unsigned_abs other.now.num ≢ 0 }
+        requires left_short { unsigned_abs self.now.num ≤ 2 ^ 40 }
+        requires right_short { unsigned_abs other.now.num ≤ 2 ^ 40 }
+        ensures quotient { record { num = result.0; den = result.1 } ≡ over self.now other.now }
+        ensures num_below { unsigned_abs result.0 < 2 ^ 63 }
+        ensures den_above { 0 < result.1 }
+        ensures den_below { result.1 < 2 ^ 63 }
+    {
+        let num = scaled(self.num, other.den);
+        let den = u64::from(self.den) * other.num.unsigned_abs();
+        if other.num < 0 {
+            (-num, den)
+        } else {
+            (num, den)
+        }
+    }
+
+    /// The same in 128 bits.
+    fn long_quotient_terms(&self, other: &Frac) -> (i128, u128)
         requires { unsigned_abs other.now.num ≢ 0 }
         ensures quotient { record { num = result.0; den = result.1 } ≡ over self.now other.now }
         ensures den_above { 0 < result.1 }
         ensures den_below { result.1 ≤ 2 ^ 72 }
     {
-        let num = scaled(self.num, other.den);
+        let num = long_scaled(self.num, other.den);
         let den = u128::from(self.den) * u128::from(other.num.unsigned_abs());
         if other.num < 0 {
             (-num, den)
@@ -209,25 +282,63 @@ impl Frac {
         }
     }
 
+    /// The sum in 128 bits.
+    #[tactic(auto, unfolding(crate::specs::Limits::coordinate_sum))]
+    #[cold]
+    #[inline(never)]
+    fn add_long(&self, other: &Frac) -> Result<Frac, Code>
+        ensures { result ≡ coordinate_sum self.now other.now }
+    {
+        let (num, den) = self.long_crossed_terms(other);
+        long_reduced(Code::F40, 1 << 20, num, den)
+    }
+
+    /// The sum, where both may have fractions.
+    #[tactic(auto, unfolding(crate::specs::Limits::coordinate_sum))]
+    #[inline(never)]
+    fn add_fraction(&self, other: &Frac) -> Result<Frac, Code>
+        ensures { result ≡ coordinate_sum self.now other.now }
+    {
+        if self.is_short() && other.is_short() {
+            let (num, den) = self.sum_terms(other);
+            return reduced(Code::F40, 1 << 20, num, den);
+        }
+        self.add_long(other)
+    }
+
     /// The sum of two coordinates. It is F40 past 1,048,576 in size, and then F39 where its denominator is past
     /// 1,048,576.
-    #[tactic(auto, unfolding(crate::specs::Limits::coordinate_sum))]
+    #[inline(always)]
     pub fn add(&self, other: &Frac) -> Result<Frac, Code>
         ensures sum { result ≡ coordinate_sum self.now other.now }
         ensures within { IfOk result IsCoordinate }
     {
-        let (num, den) = self.sum_terms(other);
-        reduced(Code::F40, 1 << 20, num, den)
+        if self.den == 1 && other.den == 1 {
+            return whole_coordinate(self.sum_num(other));
+        }
+        self.add_fraction(other)
     }
 
     /// The difference of two coordinates, refused as their sum is.
-    #[tactic(auto, unfolding(crate::specs::Limits::coordinate_difference))]
+    #[tactic(auto, unfolding(crate::specs::Limits::coordinate_sum, crate::specs::Limits::coordinate_difference))]
+    #[inline(always)]
     pub fn sub(&self, other: &Frac) -> Result<Frac, Code>
         ensures difference { result ≡ coordinate_difference self.now other.now }
         ensures within { IfOk result IsCoordinate }
     {
-        let (num, den) = self.sum_terms(&other.negated());
-        reduced(Code::F40, 1 << 20, num, den)
+        self.add(&other.negated())
+    }
+
+    /// The quotient in 128 bits.
+    #[tactic(auto, unfolding(crate::specs::Limits::quotient))]
+    #[cold]
+    #[inline(never)]
+    fn div_long(&self, other: &Frac) -> Result<Frac, Code>
+        requires { unsigned_abs other.now.num ≢ 0 }
+        ensures { result ≡ quotient self.now other.now }
+    {
+        let (num, den) = self.long_quotient_terms(other);
+        long_reduced(Code::F37, 1 << 31, num, den)
     }
 
     /// The quotient. It is F38 by 0, F37 past 2^31 in size, and then F39 where its denominator is past 1,048,576.
@@ -238,8 +349,11 @@ impl Frac {
         if other.num == 0 {
             return Err(Code::F38);
         }
-        let (num, den) = self.quotient_terms(other);
-        reduced(Code::F37, 1 << 31, num, den)
+        if self.is_short() && other.is_short() {
+            let (num, den) = self.quotient_terms(other);
+            return reduced(Code::F37, 1 << 31, num, den);
+        }
+        self.div_long(other)
     }
 
     /// The greatest whole number that isn't above it.
@@ -268,6 +382,6 @@ impl Frac {
     pub fn cmp(&self, other: &Frac) -> Ordering
         ensures { result ≡ compared self.now other.now }
     {
-        scaled(self.num, other.den).cmp(&scaled(other.num, self.den))
+        long_scaled(self.num, other.den).cmp(&long_scaled(other.num, self.den))
     }
 }

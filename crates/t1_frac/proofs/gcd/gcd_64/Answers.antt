@@ -1,10 +1,14 @@
 use Rattle.std.proofs.Common.{arith}
 use Rattle.std.proofs.lemmas.Nat.Gcd.{IsGcd-from_zero, IsGcd-from_mod}
 use Rattle.t1_frac.proofs.Divisors.{gcd_is}
+use Rattle.t1_frac.proofs.Exact.{IsGcd-one}
 use Rattle.t1_frac.proofs.gcd.gcd_64.Goals as goal
 
 pub loop-y-preserved : goal.loop-y-preserved
 loop-y-preserved c g h = c.loop-y.invariant g (IsGcd-from_mod _ _ g h)
 
-pub returns : goal.returns
-returns c = gcd_is _ _ _ (c.loop-y.invariant _ (IsGcd-from_zero _ _ (omega arith)))
+pub returns-then-y-eq1 : goal.returns-then-y-eq1
+returns-then-y-eq1 c = gcd_is _ _ _ (c.loop-y.invariant _ (IsGcd-one _ _ (omega arith)))
+
+pub returns-else-y-eq1 : goal.returns-else-y-eq1
+returns-else-y-eq1 c = gcd_is _ _ _ (c.loop-y.invariant _ (IsGcd-from_zero _ _ (omega arith)))

@@ -1,5 +1,14 @@
-use Rattle.t1_frac.proofs.Coordinates.{lowest_within}
+use Rattle.std.proofs.Common.{sym, ◌∙◌, ap}
+use Rattle.t1_frac.specs.Fraction.{Fraction}
+use Rattle.t1_frac.proofs.Coordinates.{read_again, sum_within, whole_sum}
 use Rattle.t1_frac.proofs.frac.Frac.add.Goals as goal
 
+pub returns-then-other-eq1-clause-sum : goal.returns-then-other-eq1-clause-sum
+returns-then-other-eq1-clause-sum c =
+    let own = ap (λ (a : Fraction). a.den) (sym c.self.view_is) in
+    let others = ap (λ (a : Fraction). a.den) (sym c.other.view_is) in
+    c.whole_coordinate.ensures
+    ∙ whole_sum c.args.self.now c.args.other.now _ (read_again _ c.sum_num.ensures.size ∙ c.sum_num.ensures.value) (own ∙ c.if-self-eq1.true) (others ∙ c.if-other-eq1.true)
+
 pub returns-clause-within : goal.returns-clause-within
-returns-clause-within c = rw c.reduced.ensures (lowest_within _ _ c.sum_terms-num.ensures.den_above)
+returns-clause-within c = rw c.add_fraction.ensures (rw (← c.self.view_is, ← c.other.view_is) (sum_within _ _ c.self.invariant.0 c.other.invariant.0))
