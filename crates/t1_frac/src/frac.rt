@@ -117,7 +117,7 @@ fn long_reduced(fault: Code, limit: u64, num: i128, den: u128) -> Result<Frac, C
 fn whole_coordinate(num: i64) -> Result<Frac, Code>
     ensures { result ≡ within F40 (2 ^ 20) (whole_of num) }
 {
-    if num.unsigned_abs() > 1 << 20 {
+    if num < -(1 << 20) || num > 1 << 20 {
         return Err(Code::F40);
     }
     Ok(Frac { num, den: 1 })
@@ -286,21 +286,21 @@ impl Frac {
     #[tactic(auto, unfolding(crate::specs::Limits::coordinate_sum))]
     #[cold]
     #[inline(never)]
-    fn add_long(&self, other: &Frac) -> Result<Frac, Code>
-        ensures { result ≡ coordinate_sum self.now other.now }
+    fn add_long(self, other: Frac) -> Result<Frac, Code>
+        ensures { result ≡ coordinate_sum self other }
     {
-        let (num, den) = self.long_crossed_terms(other);
+        let (num, den) = self.long_crossed_terms(&other);
         long_reduced(Code::F40, 1 << 20, num, den)
     }
 
     /// The sum, where both may have fractions.
     #[tactic(auto, unfolding(crate::specs::Limits::coordinate_sum))]
     #[inline(never)]
-    fn add_fraction(&self, other: &Frac) -> Result<Frac, Code>
-        ensures { result ≡ coordinate_sum self.now other.now }
+    fn add_fraction(self, other: Frac) -> Result<Frac, Code>
+        ensures { result ≡ coordinate_sum self other }
     {
         if self.is_short() && other.is_short() {
-            let (num, den) = self.sum_terms(other);
+            let (num, den) = self.sum_terms(&other);
             return reduced(Code::F40, 1 << 20, num, den);
         }
         self.add_long(other)
@@ -316,7 +316,7 @@ impl Frac {
         if self.den == 1 && other.den == 1 {
             return whole_coordinate(self.sum_num(other));
         }
-        self.add_fraction(other)
+        Ok(self.add_fraction(*other)?)
     }
 
     /// The difference of two coordinates, refused as their sum is.

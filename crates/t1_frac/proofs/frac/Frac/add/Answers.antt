@@ -1,5 +1,8 @@
-use Rattle.std.proofs.Common.{sym, ◌∙◌, ap}
+use Rattle.std.proofs.Common.{sym, ◌∙◌, ap, subst}
+use Rattle.std.specs.Prelude.{IfOk, Result}
 use Rattle.t1_frac.specs.Fraction.{Fraction}
+use Rattle.t1_frac.specs.Limits.{IsCoordinate}
+use Rattle.t1_frac.specs.declared.fault.Code.{Code}
 use Rattle.t1_frac.proofs.Coordinates.{read_again, sum_within, whole_sum}
 use Rattle.t1_frac.proofs.frac.Frac.add.Goals as goal
 
@@ -11,4 +14,6 @@ returns-then-other-eq1-clause-sum c =
     ∙ whole_sum c.args.self.now c.args.other.now _ (read_again _ c.sum_num.ensures.size ∙ c.sum_num.ensures.value) (own ∙ c.if-self-eq1.true) (others ∙ c.if-other-eq1.true)
 
 pub returns-clause-within : goal.returns-clause-within
-returns-clause-within c = rw c.add_fraction.ensures (rw (← c.self.view_is, ← c.other.view_is) (sum_within _ _ c.self.invariant.0 c.other.invariant.0))
+returns-clause-within c =
+    subst (λ (r : Result Fraction Code). IfOk r IsCoordinate) (sym c.in_ok-add_fraction.ensures)
+    (sum_within _ _ c.self.invariant.0 c.other.invariant.0)
