@@ -10,6 +10,7 @@ use t1_code::Command;
 use t1_frac::{Code, Frac};
 
 /// How many values a command takes.
+#[inline(always)]
 pub fn takes(command: Command) -> usize
     ensures { result ≡ takes_of command }
 {
@@ -40,6 +41,7 @@ pub fn takes(command: Command) -> usize
 }
 
 /// Whether it is refused while a flex is open.
+#[inline(always)]
 pub fn draws_or_ends(command: Command) -> bool
     ensures { result ≡ draws_or_ends_of command }
 {
@@ -57,6 +59,7 @@ pub fn draws_or_ends(command: Command) -> bool
 }
 
 /// Whether it needs the side bearing.
+#[inline(always)]
 pub fn needs_bearing(command: Command) -> bool
     ensures { result ≡ needs_bearing_of command }
 {
@@ -67,6 +70,7 @@ pub fn needs_bearing(command: Command) -> bool
 }
 
 /// Whether it sets the side bearing.
+#[inline(always)]
 pub fn sets_bearing(command: Command) -> bool
     ensures { result ≡ sets_bearing_of command }
 {
@@ -74,12 +78,14 @@ pub fn sets_bearing(command: Command) -> bool
 }
 
 /// Whether its size is past the limit.
+#[inline(always)]
 fn exceeds(limit: u32, value: &Frac) -> bool
     ensures { result ≡ exceeds_limit limit value.now }
 {
     value.num().unsigned_abs() > u64::from(limit) * value.den().unsigned_abs()
 }
 
+#[inline(always)]
 fn is_whole(value: &Frac) -> bool
     ensures { result ≡ is_whole_of value.now }
 {
@@ -87,6 +93,7 @@ fn is_whole(value: &Frac) -> bool
 }
 
 /// One operand.
+#[inline(always)]
 pub fn check_operand(whole: bool, value: &Frac) -> Result<(), Code>
     ensures { MatchResult
         result
@@ -102,6 +109,7 @@ pub fn check_operand(whole: bool, value: &Frac) -> Result<(), Code>
     Ok(())
 }
 
+#[inline(always)]
 fn has_large(values: &[Frac]) -> bool
     ensures { result ≡ list_any (exceeds_limit 32000) values.now }
 {
@@ -109,6 +117,7 @@ fn has_large(values: &[Frac]) -> bool
 }
 
 /// Operands none of which has to be whole.
+#[inline(always)]
 pub fn check_sizes(values: &[Frac]) -> Result<(), Code>
     ensures { MatchResult result (λ _. size_fault values.now ≡ None) (λ code. size_fault values.now ≡ Some code) }
 {
@@ -119,6 +128,7 @@ pub fn check_sizes(values: &[Frac]) -> Result<(), Code>
 }
 
 /// The operands of a command.
+#[inline(always)]
 pub fn check_operands(command: Command, operands: &[Frac]) -> Result<(), Code>
     ensures { MatchResult
         result

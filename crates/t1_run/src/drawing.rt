@@ -1,6 +1,6 @@
 //! Moves, lines, curves and metrics.
 
-ghost use Rattle.std.specs.Prelude.{◌≡◌, ◌≤◌, true, length};
+ghost use Rattle.std.specs.Prelude.{◌≡◌, [], ◌∷◌, ◌++◌, ◌≤◌, true, length, OnOk};
 ghost use Rattle.t1_run.specs.Machine.{state_of, going_on, answered, Tells};
 ghost use Rattle.t1_run.specs.Operands.{takes, topmost};
 ghost use Rattle.t1_run.specs.Step.{moved as moved_by, move_by as move_of, line_by as line_of, curve_by as curve_of, set_metric as metric_of, Next, cleared, at_point};
@@ -8,10 +8,12 @@ ghost use Rattle.t1_run.specs.Words.{rule, draws as draws_of, places as places_o
 
 use crate::outline::{Metric, Point, Segment};
 use crate::state::State;
+use std::alloc::AllocError;
 use t1_code::Command;
 use t1_frac::{Code, Frac, Refusal};
 
 /// The point at this distance from another.
+#[inline(always)]
 pub fn moved(point: &Point, dx: &Frac, dy: &Frac) -> Result<Point, Code>
     ensures { result ≡ moved_by point.now dx.now dy.now }
 {
@@ -20,8 +22,19 @@ pub fn moved(point: &Point, dx: &Frac, dy: &Frac) -> Result<Point, Code>
     Ok(Point { x, y })
 }
 
+/// Adds a segment. Room is made for it first, so that it is written where it stays.
+#[inline(always)]
+fn add_segment(segments: &mut Vec<Segment>, segment: Segment) -> Result<(), AllocError>
+    ensures { OnOk result (segments.new.items ≡ segments.old.items ++ segment ∷ []) }
+{
+    segments.reserve(1)?;
+    segments.push_reserved(segment);
+    Ok(())
+}
+
 impl State {
     /// Moves the current point, and draws nothing.
+    #[inline(always)]
     fn move_by(&mut self, dx: Frac, dy: Frac) -> Result<(), Code>
         ensures told { move_of dx dy (state_of self.old) ≡ answered going_on result (state_of self.new) }
         ensures steps { self.new.steps ≡ self.old.steps }
@@ -32,18 +45,20 @@ impl State {
     }
 
     /// Draws a line from the current point.
+    #[inline(always)]
     fn line_by(&mut self, dx: Frac, dy: Frac) -> Result<(), Refusal>
         ensures told { Tells going_on (line_of dx dy (state_of self.old)) result self.new }
         ensures steps { self.new.steps ≡ self.old.steps }
     {
         let start = self.current;
         self.current = moved(&start, &dx, &dy)?;
-        self.segments.push(Segment::Line(start, self.current))?;
+        add_segment(&mut self.segments, Segment::Line(start, self.current))?;
         self.operands.clear();
         Ok(())
     }
 
     /// Draws a curve from the current point, by the steps to its other points.
+    #[inline(always)]
     fn curve_by(
         &mut self,
         first: (Frac, Frac),
@@ -57,13 +72,14 @@ impl State {
         let one = moved(&start, &first.0, &first.1)?;
         let two = moved(&one, &second.0, &second.1)?;
         self.current = moved(&two, &third.0, &third.1)?;
-        self.segments
-            .push(Segment::Curve(start, one, two, self.current))?;
+        let curve = Segment::Curve(start, one, two, self.current);
+        add_segment(&mut self.segments, curve)?;
         self.operands.clear();
         Ok(())
     }
 
     /// Sets the side bearing and the width.
+    #[inline(always)]
     fn set_metric(&mut self, sbx: Frac, sby: Frac, wx: Frac, wy: Frac)
         ensures told { metric_of sbx sby wx wy (state_of self.old) ≡ Next (state_of self.new) }
         ensures steps { self.new.steps ≡ self.old.steps }
@@ -78,6 +94,7 @@ impl State {
     }
 
     /// Sets the current point.
+    #[inline(always)]
     fn set_point(&mut self, x: Frac, y: Frac)
         ensures told { cleared (at_point (record { x = x; y = y }) (state_of self.old)) ≡ state_of self.new }
         ensures steps { self.new.steps ≡ self.old.steps }
@@ -87,6 +104,7 @@ impl State {
     }
 
     /// A line or a curve.
+    #[inline(always)]
     pub fn draw(&mut self, command: Command) -> Result<(), Refusal>
         requires kind { draws_of command ≡ true }
         requires enough { takes command ≤ length self.old.operands }
@@ -124,6 +142,7 @@ impl State {
     }
 
     /// A command that sets the current point and draws nothing.
+    #[inline(always)]
     pub fn place(&mut self, command: Command) -> Result<(), Code>
         requires kind { places_of command ≡ true }
         requires enough { takes command ≤ length self.old.operands }

@@ -34,6 +34,7 @@ impl Operands {
         }
     }
 
+    #[inline(always)]
     pub fn as_slice(&self) -> &[Frac]
         ensures value { result.now ≡ self.now }
         ensures bound { length self.now ≤ 24 }
@@ -42,6 +43,7 @@ impl Operands {
     }
 
     /// The topmost value.
+    #[inline(always)]
     pub fn top(&self) -> Frac
         requires { 1 ≤ length self.now }
         ensures { topmost 1 self.now ≡ result ∷ [] }
@@ -50,6 +52,7 @@ impl Operands {
     }
 
     /// The two topmost values, the lower one first.
+    #[inline(always)]
     pub fn top_two(&self) -> (Frac, Frac)
         requires { 2 ≤ length self.now }
         ensures { topmost 2 self.now ≡ result.0 ∷ result.1 ∷ [] }
@@ -58,6 +61,7 @@ impl Operands {
     }
 
     /// The four topmost values, the lowest first.
+    #[inline(always)]
     pub fn top_four(&self) -> [Frac; 4]
         requires { 4 ≤ length self.now }
         ensures { topmost 4 self.now ≡ result }
@@ -70,6 +74,7 @@ impl Operands {
     }
 
     /// The five topmost values, the lowest first.
+    #[inline(always)]
     pub fn top_five(&self) -> [Frac; 5]
         requires { 5 ≤ length self.now }
         ensures { topmost 5 self.now ≡ result }
@@ -82,6 +87,7 @@ impl Operands {
     }
 
     /// The six topmost values, the lowest first.
+    #[inline(always)]
     pub fn top_six(&self) -> [Frac; 6]
         requires { 6 ≤ length self.now }
         ensures { topmost 6 self.now ≡ result }
@@ -93,6 +99,7 @@ impl Operands {
         }
     }
 
+    #[inline(always)]
     pub fn push(&mut self, value: Frac)
         requires { length self.old < 24 }
         ensures { self.new ≡ self.old ++ value ∷ [] }
@@ -102,6 +109,7 @@ impl Operands {
     }
 
     /// Keeps the lowest values alone.
+    #[inline(always)]
     pub fn truncate(&mut self, len: usize)
         requires { len ≤ length self.old }
         ensures { self.new ≡ take len self.old }
@@ -109,6 +117,7 @@ impl Operands {
         self.len = len;
     }
 
+    #[inline(always)]
     pub fn clear(&mut self)
         ensures { self.new ≡ [] }
     {

@@ -18,6 +18,7 @@ const MAX_STEPS: u32 = 100_000;
 
 impl State {
     /// Pushes a value.
+    #[inline(always)]
     fn push(&mut self, value: Frac) -> Result<(), Code>
         ensures told { push_of value (state_of self.old) ≡ answered going_on result (state_of self.new) }
         ensures steps { self.new.steps ≡ self.old.steps }
@@ -30,6 +31,7 @@ impl State {
     }
 
     /// Takes a result.
+    #[inline(always)]
     fn pop_result(&mut self) -> Result<(), Code>
         ensures told { pop_of self.old.results (state_of self.old) ≡ answered going_on result (state_of self.new) }
         ensures steps { self.new.steps ≡ self.old.steps }
@@ -41,6 +43,7 @@ impl State {
     }
 
     /// Puts the quotient in place of both values.
+    #[inline(always)]
     fn divide(&mut self, dividend: Frac, divisor: Frac) -> Result<(), Code>
         requires { 2 ≤ length self.old.operands }
         ensures told { divide_of dividend divisor (state_of self.old) ≡ answered going_on result (state_of self.new) }
@@ -54,6 +57,7 @@ impl State {
     }
 
     /// The number of the Subr that is called, which it takes off the stack.
+    #[inline(always)]
     fn call(&mut self, number: Frac) -> Result<u16, Code>
         requires some { 1 ≤ length self.old.operands }
         requires whole { is_whole number ≡ true }
@@ -71,6 +75,7 @@ impl State {
     }
 
     /// What the glyph ends with as a composite.
+    #[inline(always)]
     fn compose(&mut self) -> Accent
         requires { 5 ≤ length self.old.operands }
         ensures told { rule_of Command.Seac (topmost 5 self.old.operands) (state_of self.old) ≡ Compose result (state_of self.new) }
@@ -88,6 +93,7 @@ impl State {
     }
 
     /// A command that puts a value on the operand stack.
+    #[inline(always)]
     fn compute(&mut self, command: Command) -> Result<(), Code>
         requires kind { computes_of command ≡ true }
         requires enough { takes_of command ≤ length self.old.operands }
@@ -106,6 +112,7 @@ impl State {
     }
 
     /// The rule of a command after which the next word comes.
+    #[inline(always)]
     fn carry_out(&mut self, command: Command) -> Result<(), Refusal>
         requires kind { goes_on command ≡ true }
         requires enough { takes_of command ≤ length self.old.operands }
@@ -144,6 +151,7 @@ impl State {
     }
 
     /// The command's own rule, where its operands were found faultless.
+    #[inline(always)]
     fn apply(&mut self, command: Command) -> Result<Control, Refusal>
         requires enough { takes_of command ≤ length self.old.operands }
         requires faultless { operand_faults command (topmost (takes_of command) self.old.operands) ≡ None }
@@ -168,8 +176,9 @@ impl State {
         }
     }
 
-    /// A command by the order of its tests.
-    fn execute(&mut self, command: Command) -> Result<Control, Refusal>
+    /// The command's tests in their order, and then its own rule.
+    #[inline(always)]
+    fn test_and_apply(&mut self, command: Command) -> Result<Control, Refusal>
         ensures told { Tells told (execute_of command (state_of self.old)) result self.new }
         ensures steps { self.new.steps ≡ self.old.steps }
     {
@@ -189,7 +198,29 @@ impl State {
         self.apply(command)
     }
 
+    /// A command by the order of its tests. Those that fonts have most are named, so that the compiler knows which tests
+    /// each of them has.
+    fn execute(&mut self, command: Command) -> Result<Control, Refusal>
+        ensures told { Tells told (execute_of command (state_of self.old)) result self.new }
+        ensures steps { self.new.steps ≡ self.old.steps }
+    {
+        match command {
+            Command::RLineTo => self.test_and_apply(Command::RLineTo),
+            Command::HLineTo => self.test_and_apply(Command::HLineTo),
+            Command::VLineTo => self.test_and_apply(Command::VLineTo),
+            Command::RRCurveTo => self.test_and_apply(Command::RRCurveTo),
+            Command::VHCurveTo => self.test_and_apply(Command::VHCurveTo),
+            Command::HVCurveTo => self.test_and_apply(Command::HVCurveTo),
+            Command::RMoveTo => self.test_and_apply(Command::RMoveTo),
+            Command::HMoveTo => self.test_and_apply(Command::HMoveTo),
+            Command::VMoveTo => self.test_and_apply(Command::VMoveTo),
+            Command::Div => self.test_and_apply(Command::Div),
+            _ => self.test_and_apply(command),
+        }
+    }
+
     /// One word: F47 where a run has made its last step already.
+    #[inline(always)]
     pub fn step(&mut self, command: Command) -> Result<Control, Refusal>
         ensures told { Tells told (step_of command (state_of self.old)) result self.new }
         ensures counted { OnOk result (self.new.steps ≡ self.old.steps + 1) }
