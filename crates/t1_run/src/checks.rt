@@ -82,6 +82,10 @@ pub fn sets_bearing(command: Command) -> bool
 fn exceeds(limit: u32, value: &Frac) -> bool
     ensures { result ≡ exceeds_limit limit value.now }
 {
+    if is_whole(value) {
+        let limit = i64::from(limit);
+        return value.num() < -limit || value.num() > limit;
+    }
     value.num().unsigned_abs() > u64::from(limit) * value.den().unsigned_abs()
 }
 

@@ -1,10 +1,10 @@
 //! One word of a charstring.
 
-ghost use Rattle.std.specs.Prelude.{◌≡◌, ◌+◌, ◌≤◌, OnOk, true, false, None, length};
+ghost use Rattle.std.specs.Prelude.{◌≡◌, ◌+◌, ◌≤◌, OnOk, IfErr, true, false, None, length};
 ghost use Rattle.t1_frac.specs.Limits.{exceeds};
 ghost use Rattle.t1_run.specs.Machine.{state_of, going_on, answered, told, Tells};
 ghost use Rattle.t1_run.specs.Operands.{topmost, below, takes as takes_of, is_whole, operand_faults};
-ghost use Rattle.t1_run.specs.Step.{push as push_of, pop_result as pop_of, divide as divide_of, call as call_of, Call, Compose, with_stack};
+ghost use Rattle.t1_run.specs.Step.{push as push_of, pop_result as pop_of, divide as divide_of, call as call_of, Call, Compose, Fault, with_stack};
 ghost use Rattle.t1_run.specs.Words.{step as step_of, execute as execute_of, rule as rule_of, computes as computes_of, goes_on};
 
 use crate::checks::{check_operands, draws_or_ends, needs_bearing, sets_bearing, takes};
@@ -176,47 +176,61 @@ impl State {
         }
     }
 
-    /// The command's tests in their order, and then its own rule.
+    /// The tests before the command's own rule, in their order.
     #[inline(always)]
-    fn test_and_apply(&mut self, command: Command) -> Result<Control, Refusal>
-        ensures told { Tells told (execute_of command (state_of self.old)) result self.new }
-        ensures steps { self.new.steps ≡ self.old.steps }
+    fn test(&self, command: Command) -> Result<(), Code>
+        ensures enough { OnOk result (takes_of command ≤ length self.now.operands) }
+        ensures faultless { OnOk result (operand_faults command (topmost (takes_of command) self.now.operands) ≡ None) }
+        ensures passed { OnOk result (execute_of command (state_of self.now) ≡ rule_of command (topmost (takes_of command) self.now.operands) (state_of self.now)) }
+        ensures refused { IfErr result (λ code. execute_of command (state_of self.now) ≡ Fault code) }
     {
         let values = self.operands.as_slice();
         let count = takes(command);
         if values.len() < count {
-            return Err(Refusal::from(Code::F30));
+            return Err(Code::F30);
         }
         let needed = needs_bearing(command) && self.metric.is_none();
         if needed || (sets_bearing(command) && self.metric.is_some()) {
-            return Err(Refusal::from(Code::F36));
+            return Err(Code::F36);
         }
         check_operands(command, &values[values.len() - count..])?;
         if draws_or_ends(command) && self.flex.is_some() {
-            return Err(Refusal::from(Code::F41));
+            return Err(Code::F41);
         }
-        self.apply(command)
+        Ok(())
     }
 
-    /// A command by the order of its tests. Those that fonts have most are named, so that the compiler knows which tests
-    /// each of them has.
+    /// The same. The commands that fonts have most are named, so that the compiler knows which tests each of them has.
+    #[inline(always)]
+    fn test_by_name(&self, command: Command) -> Result<(), Code>
+        ensures enough { OnOk result (takes_of command ≤ length self.now.operands) }
+        ensures faultless { OnOk result (operand_faults command (topmost (takes_of command) self.now.operands) ≡ None) }
+        ensures passed { OnOk result (execute_of command (state_of self.now) ≡ rule_of command (topmost (takes_of command) self.now.operands) (state_of self.now)) }
+        ensures refused { IfErr result (λ code. execute_of command (state_of self.now) ≡ Fault code) }
+    {
+        match command {
+            Command::RLineTo => self.test(Command::RLineTo),
+            Command::HLineTo => self.test(Command::HLineTo),
+            Command::VLineTo => self.test(Command::VLineTo),
+            Command::RRCurveTo => self.test(Command::RRCurveTo),
+            Command::VHCurveTo => self.test(Command::VHCurveTo),
+            Command::HVCurveTo => self.test(Command::HVCurveTo),
+            Command::RMoveTo => self.test(Command::RMoveTo),
+            Command::HMoveTo => self.test(Command::HMoveTo),
+            Command::VMoveTo => self.test(Command::VMoveTo),
+            Command::Div => self.test(Command::Div),
+            _ => self.test(command),
+        }
+    }
+
+    /// A command by the order of its tests.
+    #[inline(always)]
     fn execute(&mut self, command: Command) -> Result<Control, Refusal>
         ensures told { Tells told (execute_of command (state_of self.old)) result self.new }
         ensures steps { self.new.steps ≡ self.old.steps }
     {
-        match command {
-            Command::RLineTo => self.test_and_apply(Command::RLineTo),
-            Command::HLineTo => self.test_and_apply(Command::HLineTo),
-            Command::VLineTo => self.test_and_apply(Command::VLineTo),
-            Command::RRCurveTo => self.test_and_apply(Command::RRCurveTo),
-            Command::VHCurveTo => self.test_and_apply(Command::VHCurveTo),
-            Command::HVCurveTo => self.test_and_apply(Command::HVCurveTo),
-            Command::RMoveTo => self.test_and_apply(Command::RMoveTo),
-            Command::HMoveTo => self.test_and_apply(Command::HMoveTo),
-            Command::VMoveTo => self.test_and_apply(Command::VMoveTo),
-            Command::Div => self.test_and_apply(Command::Div),
-            _ => self.test_and_apply(command),
-        }
+        self.test_by_name(command)?;
+        self.apply(command)
     }
 
     /// One word: F47 where a run has made its last step already.
