@@ -1,5 +1,5 @@
 //! The charstrings of bodies, straight from their words.
-ghost use Rattle.std.specs.Prelude.{◌≡◌, ◌++◌, length, take, OnErr};
+ghost use Rattle.std.specs.Prelude.{◌≡◌, length, take, OnErr};
 ghost use Rattle.t1_frac.specs.Outcome.{Gives, told_at};
 ghost use Rattle.t1_frac.specs.Words.{words as words_of};
 ghost use Rattle.t1_frac.specs.declared.fault.Place.TheVariants.{Nowhere};

@@ -1,5 +1,5 @@
 //! Charstring code from commands.
-ghost use Rattle.std.specs.Prelude.{◌≡◌, ◌≤◌, ◌<◌, ◌+◌, ◌++◌, take, length, pos, ◌≤ℤ◌, neg_ℤ, IfOk, OnOk};
+ghost use Rattle.std.specs.Prelude.{◌≡◌, ◌≤◌, ◌<◌, ◌+◌, ◌++◌, take, length, IfOk, OnOk};
 ghost use Rattle.t1_code.specs.Cipher.{encrypted_charstring as encrypted};
 ghost use Rattle.t1_code.specs.Charstring.{two_bytes, number_bytes, command_bytes, operator_bytes, charstring};
 

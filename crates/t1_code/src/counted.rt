@@ -1,8 +1,8 @@
 //! Readers and writers that count their calls.
-ghost use Rattle.std.specs.Prelude.{◌≡◌, ◌≤◌, ◌<◌, List, ℕ, [], length, IfOk, IsOk, IsErr, is_ok};
+ghost use Rattle.std.specs.Prelude.{◌≡◌, ◌≤◌, ◌<◌, [], length, IfOk, IsOk, IsErr};
 ghost use Rattle.std.specs.Io.{ReadsAtMost};
 ghost use Rattle.std.specs.Io.KnownBytes.{Keeps, ReadConsumes, WriteAppends};
-ghost use Rattle.t1_code.specs.Counted.{Tally, failures_after, turns_after, max_turns, one_more, Writes};
+ghost use Rattle.t1_code.specs.Counted.{Tally, failures_after, turns_after, max_turns, Writes};
 
 use std::io::{self, ErrorKind, Read, Write};
 use std::marker::Model;

@@ -11,14 +11,11 @@ use crate::cipher::Cipher;
 use crate::counted::{Counted, MAX_PUT};
 use crate::hexadecimal::HexLines;
 use crate::parts::Piece;
-use crate::pieces::{charstring_len, slices};
+use crate::pieces::{EEXEC_LEAD, charstring_len, slices};
 use crate::segments::Segmenter;
 use itoa::Buffer;
 use std::io::{self, Write};
 use std::marker::Model;
-
-/// How many zero bytes stand in front of the private text.
-pub const EEXEC_LEAD: usize = 4;
 
 /// The key that eexec encryption begins with.
 const EEXEC_KEY: u16 = 55_665;

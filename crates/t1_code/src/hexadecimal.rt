@@ -1,5 +1,5 @@
 //! Bytes in lines of hexadecimal digits.
-ghost use Rattle.std.specs.Prelude.{◌≡◌, ◌<◌, ◌++◌, [], ◌∷◌, OnOk};
+ghost use Rattle.std.specs.Prelude.{◌≡◌, ◌<◌, [], ◌∷◌, OnOk};
 ghost use Rattle.t1_code.specs.Counted.{Puts, outlet};
 ghost use Rattle.t1_code.specs.Hexadecimal.{in_lines, line_end_due, next_room, refilled, room_after};
 ghost use Rattle.t1_code.specs.Pfa.{hexadecimal_digit, digits_of_byte};

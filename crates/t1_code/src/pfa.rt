@@ -1,5 +1,5 @@
 //! The PFA file, written part by part.
-ghost use Rattle.std.specs.Prelude.{◌≡◌, ◌≢◌, Err};
+ghost use Rattle.std.specs.Prelude.{◌≢◌, Err};
 ghost use Rattle.std.specs.List.{flat_map};
 ghost use Rattle.t1_code.specs.Cipher.{eexec};
 ghost use Rattle.t1_code.specs.Counted.{Puts, Writes, outlet};

@@ -6,10 +6,12 @@ ghost use Rattle.t1_code.specs.Parts.{piece_text, pieces_text, charstring_length
 ghost use Rattle.t1_code.specs.Pfb.{has_long_part};
 ghost use Rattle.t1_frac.specs.declared.fault.Code.TheVariants.{F23};
 
-use crate::eexec::EEXEC_LEAD;
 use crate::parts::{Parts, Piece};
 use itoa::Buffer;
 use t1_frac::Code;
+
+/// How many zero bytes stand in front of the private text.
+pub const EEXEC_LEAD: usize = 4;
 
 /// The most bytes of a part.
 pub const MAX_PART: usize = (1 << 31) - 1;

@@ -1,7 +1,7 @@
 //! A part of a PFB file, cut into segments.
-ghost use Rattle.std.specs.Prelude.{◌≡◌, ◌^◌, ◌<◌, ◌≤◌, min, length, IfOk, OnOk};
+ghost use Rattle.std.specs.Prelude.{◌≡◌, ◌^◌, ◌<◌, ◌≤◌, min, IfOk, OnOk};
 ghost use Rattle.t1_code.specs.Counted.{Puts, outlet};
-ghost use Rattle.t1_code.specs.Segments.{Segmenting, head_due, opened, past, in_segments, segmenting_after};
+ghost use Rattle.t1_code.specs.Segments.{Segmenting, head_due, opened, in_segments, segmenting_after};
 ghost use Rattle.t1_code.specs.Pfb.{segment_head as head, segments};
 
 use crate::chunk::{Chunk, put_plain};

@@ -1,19 +1,16 @@
 //! The words of a body, read as commands.
-ghost use Rattle.std.specs.Prelude.{◌≡◌, ◌<◌, ◌≤◌, [], ◌∷◌, true, false, not, nat_lt, drop, length, IfSome, MatchOption};
-ghost use Rattle.std.specs.List.{list_all, position_or_len};
-ghost use Rattle.std.specs.Str.{bytes_eq};
+ghost use Rattle.std.specs.Prelude.{◌≡◌, ◌<◌, [], ◌∷◌, false, nat_lt, length, IfSome, MatchOption};
 ghost use Rattle.t1_frac.specs.Outcome.{Gives, told_at};
-ghost use Rattle.t1_frac.specs.Words.{is_blank, word_goes_on, words};
+ghost use Rattle.t1_frac.specs.Words.{words};
 ghost use Rattle.t1_frac.specs.declared.fault.Place.TheVariants.{Nowhere};
 ghost use Rattle.t1_code.specs.Words.{number_command, in_32_bits, first_word, command_of_word, command_then, commands_of_words, commands};
 ghost use Rattle.t1_frac.specs.Numbers.{signed, is_number_word};
 
 use crate::body::Body;
 use crate::command::Command;
+use crate::first_word::goes_on;
 use std::alloc::Global;
-use t1_frac::{
-    Code, Refusal, Words, digits_of_word, is_blank, leading_number, next_word, skip_blanks,
-};
+use t1_frac::{Code, Refusal, Words, digits_of_word, leading_number, next_word, skip_blanks};
 
 /// The most words of a body.
 const MAX_WORDS: usize = 65_535;
@@ -30,31 +27,6 @@ fn number_command(minus: bool, size: u64) -> Result<Command, Code>
         return Ok(Command::Num(i32::MIN));
     }
     Err(Code::F21)
-}
-
-/// Whether a text goes on with a byte of a word.
-fn goes_on(text: &[u8]) -> bool
-    ensures { result ≡ word_goes_on text.now }
-{
-    match text {
-        [] => false,
-        [byte, ..] => !is_blank(*byte),
-    }
-}
-
-/// The bytes after the first word of a text, where it is this one.
-#[inline(always)]
-pub(crate) fn after_word<'a>(word: &[u8], text: &'a [u8]) -> Option<&'a [u8]>
-    requires { list_all (λ c. not (is_blank c)) word.now ≡ true }
-    ensures { MatchOption
-        result
-        (bytes_eq (first_word text.now) word.now ≡ false)
-        (λ after. (bytes_eq (first_word text.now) word.now ≡ true) × (after.now ≡ drop (position_or_len is_blank text.now) text.now)) }
-{
-    let Some(after) = text.strip_prefix(word) else {
-        return None;
-    };
-    if goes_on(after) { None } else { Some(after) }
 }
 
 /// The number word that a text begins with, as a command, and the bytes after it; nothing where the text begins with
