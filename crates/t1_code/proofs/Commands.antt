@@ -1,6 +1,8 @@
 -- The words of commands in the order of the code's table.
-use Rattle.std.proofs.Common.{◌≡◌, ◌<◌, length, arith, ℕ, Bool, true, false, None, List, [], ◌∷◌, filter, refl, sym, ap, ◌∙◌, inl, inr}
-use Rattle.std.proofs.lemmas.Bool.{cases_Bool}
+use Rattle.std.proofs.Common.{◌≡◌, ◌<◌, length, arith, ℕ, Bool, true, false, None, List, [], ◌∷◌, take, drop, Option, Some, MatchOption, filter, refl, sym, ap, ◌∙◌, inl, inr}
+use Rattle.std.proofs.lemmas.Bool.{cases_Bool, and_parts}
+use Rattle.std.specs.List.{list_all, position_or_len, AllByRecursion}
+use Rattle.std.specs.Borrow.{Bor}
 use Rattle.std.proofs.lemmas.Slice.Eq.{bytes_eq-Decides}
 use Rattle.std.proofs.Math.Numerals.{one-add}
 use Rattle.t1_frac.specs.Words.{is_blank}
@@ -89,3 +91,25 @@ pub nothing_named : (text : List ℕ) → length text < 1 → operator_named (fi
 unfolding operator_named operator_words
 nothing_named [] h = refl
 nothing_named (c ∷ text) h = absurd (omega (arith, h))
+
+-- the first word of a text finds its command among those that begin as the text does
+named_first : (test : ℕ → Bool) (text : List ℕ) → list_all test (take 1 text) ≡ true → lookup (bytes_eq []) (rows_of test) ≡ None
+    → lookup (bytes_eq (first_word text)) (rows_of test) ≡ operator_named (first_word text)
+named_first test [] h none = none ∙ named_alike []
+named_first test (c ∷ rest) h none = named_among test c rest (and_parts (test c) true h).0 none
+
+none_found : (word : List ℕ) (table : List (List ℕ × Command)) → AllByRecursion (λ row. bytes_eq word row.0 ≡ false) table → lookup (bytes_eq word) table ≡ None
+none_found word [] all = refl
+none_found word (row ∷ table) all = rw all.0 (none_found word table all.1)
+
+-- a word that none of them is names no command
+pub unnamed : (test : ℕ → Bool) (text : List ℕ) → list_all test (take 1 text) ≡ true → lookup (bytes_eq []) (rows_of test) ≡ None
+    → AllByRecursion (λ row. bytes_eq (first_word text) row.0 ≡ false) (rows_of test) → operator_named (first_word text) ≡ None
+unnamed test text h none all = sym (named_first test text h none) ∙ none_found (first_word text) (rows_of test) all
+
+-- where the last of several words decides
+pub last_decides : (word text : List ℕ) (found : Option (Command × Bor (List ℕ))) → (bytes_eq (first_word text) word ≡ false → operator_named (first_word text) ≡ None)
+    → MatchOption found (bytes_eq (first_word text) word ≡ false) (λ f. (operator_named (first_word text) ≡ Some f.0) × (f.1.now ≡ drop 1 (drop (position_or_len is_blank text) text)))
+    → MatchOption found (operator_named (first_word text) ≡ None) (λ f. (operator_named (first_word text) ≡ Some f.0) × (f.1.now ≡ drop 1 (drop (position_or_len is_blank text) text)))
+last_decides word text None f h = f h
+last_decides word text (Some x) f h = h

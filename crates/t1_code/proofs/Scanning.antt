@@ -1,10 +1,11 @@
 -- The digits at the front of a text, and the word that they begin.
-use Rattle.std.proofs.Common.{◌≡◌, ℕ, ◌+◌, ◌<◌, ◌≤◌, Bool, true, false, not, ◌&&◌, ◌==◌, nat_lt, List, [], ◌∷◌, length, zero, suc, None, Some, Result, Ok, Err, min, subst, length-take-le, ◌-◌, ◌^◌, take, drop, length-take, refl, sym, ap, ◌∙◌, inl, inr, arith}
+use Rattle.std.proofs.Common.{◌≡◌, ℕ, ◌+◌, ◌<◌, ◌≤◌, Bool, true, false, not, ◌&&◌, ◌==◌, nat_lt, List, [], ◌∷◌, length, zero, suc, Option, None, Some, MatchOption, Result, Ok, Err, min, subst, length-take-le, ◌-◌, ◌^◌, take, drop, length-take, refl, sym, ap, ◌∙◌, inl, inr, arith}
 use Rattle.std.specs.List.{list_all, prefix_len, position_or_len}
 use Rattle.std.specs.Char.{is_ascii_digit}
 use Rattle.std.specs.Str.Parse.{starts_with_minus}
 use Rattle.std.proofs.lemmas.Bool.{cases_Bool, and_parts, eqb-true, not-true, not-false, lt-ltb, le-ltb, cases_lt}
 use Rattle.std.specs.Str.{bytes_eq}
+use Rattle.std.specs.Borrow.{Bor}
 use Rattle.std.proofs.lemmas.Slice.Eq.{bytes_eq-Decides}
 use Rattle.std.proofs.lemmas.List.Sums.{prefix_len-le-length}
 use Rattle.std.proofs.Math.Numerals.{one-add}
@@ -275,3 +276,42 @@ first_unknown line (c ∷ rest) word after e other is split =
     let first = word_at (c ∷ rest) (c ∷ rest) (trimmed_once line (c ∷ rest) e) (omega arith) in
     let same : first_word (c ∷ rest) ≡ word = cc in
     named_line line (c ∷ rest) word after (Err F20) e other split (sym (ap or_unknown (ap operator_named (sym same) ∙ is)))
+
+-- ---- past the blank that ends a word
+
+pub past_blank : (text after : List ℕ) → word_goes_on text ≡ false → after ≡ drop 1 text → words after ≡ words text
+past_blank [] after ends a = ap words a
+past_blank (c ∷ text) after ends a = ap words a ∙ sym (rw (not-false (is_blank c) ends) refl)
+
+past_shortens : (text after : List ℕ) → after ≡ drop 1 text → length after ≤ length text
+past_shortens [] after a = rw a (omega arith)
+past_shortens (c ∷ text) after a = rw a (omega arith)
+
+pub past_number : (text end after : List ℕ) → words text ≡ first_word text ∷ words end → word_goes_on end ≡ false → after ≡ drop 1 end → words text ≡ first_word text ∷ words after
+past_number text end after split ends a = split ∙ ap (λ ws. first_word text ∷ ws) (sym (past_blank end after ends a))
+
+pub past_named : (line rest after : List ℕ) (command : Command) → rest ≡ trimmed_front line → is_number_word (first_word rest) ≡ false
+    → operator_named (first_word rest) ≡ Some command → after ≡ drop 1 (drop (position_or_len is_blank rest) rest)
+    → (commands_of_words (words line) ≡ command_then (Ok command) (commands_of_words (words after))) × (length after < length line)
+past_named line rest after command e other is a =
+    let end = drop (position_or_len is_blank rest) rest in
+    let found = first_named line rest end command e other is refl in
+    let less = past_shortens end after a in (
+      found.0 ∙ ap (λ ws. command_then (Ok command) (commands_of_words ws)) (sym (past_blank end after (word_stops rest) a)),
+      omega (arith, found.1, less),
+    )
+
+-- what is past a word that a text begins with, where the word ends there
+pub past_word : (word text end : List ℕ) (past : Option (Bor (List ℕ))) → list_all (λ c. not (is_blank c)) word ≡ true → bytes_eq (take (length word) text) word ≡ true → end ≡ drop (length word) text
+    → MatchOption past (word_goes_on end ≡ true) (λ after. (word_goes_on end ≡ false) × (after.now ≡ drop 1 end))
+    → MatchOption past (bytes_eq (first_word text) word ≡ false) (λ after. (bytes_eq (first_word text) word ≡ true) × (after.now ≡ drop 1 (drop (position_or_len is_blank text) text)))
+past_word word text end None all h e on = word_goes_further word text end e on
+past_word word text end (Some after) all h e off =
+    let found = word_found word text end all h e off.0 in (found.0, off.1 ∙ ap (drop 1) found.1)
+
+pub past_array : (n : ℕ) (word text front end : List ℕ) (differs : Bool) (past : Option (Bor (List ℕ))) → length word ≡ n → list_all (λ c. not (is_blank c)) word ≡ true
+    → front ≡ take n text → end ≡ drop n text → differs ≡ not (bytes_eq front word) → differs ≡ false
+    → MatchOption past (word_goes_on end ≡ true) (λ after. (word_goes_on end ≡ false) × (after.now ≡ drop 1 end))
+    → MatchOption past (bytes_eq (first_word text) word ≡ false) (λ after. (bytes_eq (first_word text) word ≡ true) × (after.now ≡ drop 1 (drop (position_or_len is_blank text) text)))
+past_array n word text front end differs past len all f e is same =
+    past_word word text end past all (ap (λ l. bytes_eq l word) (ap (λ k. take k text) len ∙ sym f) ∙ not-false (bytes_eq front word) (sym is ∙ same)) (e ∙ ap (λ k. drop k text) (sym len))

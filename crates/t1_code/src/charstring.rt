@@ -25,7 +25,8 @@ fn push_number(code: &mut Vec<u8>, number: i32) -> Result<(), AllocError>
     ensures value { OnOk result (code.new.items ≡ code.old.items ++ number_bytes number) }
 {
     if -107 <= number && number <= 107 {
-        return code.extend_from_slice(&[(number + 139) as u8]);
+        code.push((number + 139) as u8)?;
+        return Ok(());
     }
     match number {
         108..=1131 => code.extend_from_slice(&two_bytes_of(247, number as u16)),

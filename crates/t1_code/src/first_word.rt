@@ -7,27 +7,36 @@ ghost use Rattle.t1_code.specs.Words.{first_word};
 
 use t1_frac::is_blank;
 
-/// Whether a text goes on with a byte of a word.
-pub(crate) fn goes_on(text: &[u8]) -> bool
-    ensures { result ≡ word_goes_on text.now }
+/// The bytes past the blank that ends a word here, of which the end of a text has none; nothing where the word goes on.
+#[inline(always)]
+pub(crate) fn past_end(text: &[u8]) -> Option<&[u8]>
+    ensures { MatchOption
+        result
+        (word_goes_on text.now ≡ true)
+        (λ after. (word_goes_on text.now ≡ false) × (after.now ≡ drop 1 text.now)) }
 {
     match text {
-        [] => false,
-        [byte, ..] => !is_blank(*byte),
+        [] => Some(text),
+        [byte, after @ ..] => { if is_blank(*byte) { Some(after) } else { None } }
     }
 }
 
-/// The bytes after the first word of a text, where it is this one.
+/// The bytes past the first word of a text and the blank that ends it, where it is this word. The word is an array, so that
+/// its length is known where this is compiled.
 #[inline(always)]
-pub(crate) fn after_word<'a>(word: &[u8], text: &'a [u8]) -> Option<&'a [u8]>
+pub(crate) fn after_word<'a, const N: usize>(word: &[u8; N], text: &'a [u8]) -> Option<&'a [u8]>
     requires { list_all (λ c. not (is_blank c)) word.now ≡ true }
     ensures { MatchOption
         result
         (bytes_eq (first_word text.now) word.now ≡ false)
-        (λ after. (bytes_eq (first_word text.now) word.now ≡ true) × (after.now ≡ drop (position_or_len is_blank text.now) text.now)) }
+        (λ after. (bytes_eq (first_word text.now) word.now ≡ true)
+        × (after.now ≡ drop 1 (drop (position_or_len is_blank text.now) text.now))) }
 {
-    let Some(after) = text.strip_prefix(word) else {
+    let Some((front, after)) = text.split_first_chunk::<N>() else {
         return None;
     };
-    if goes_on(after) { None } else { Some(after) }
+    if front != word {
+        return None;
+    }
+    past_end(after)
 }

@@ -8,7 +8,7 @@ ghost use Rattle.t1_frac.specs.Numbers.{signed, is_number_word};
 
 use crate::body::Body;
 use crate::command::Command;
-use crate::first_word::goes_on;
+use crate::first_word::past_end;
 use std::alloc::Global;
 use t1_frac::{Code, Refusal, Words, digits_of_word, leading_number, next_word, skip_blanks};
 
@@ -44,9 +44,9 @@ fn first_number(text: &[u8]) -> Option<(Result<Command, Code>, &[u8])>
     if count == 0 {
         return None;
     }
-    if goes_on(after) {
+    let Some(after) = past_end(after) else {
         return None;
-    }
+    };
     Some((number_command(digits.len() < text.len(), size), after))
 }
 

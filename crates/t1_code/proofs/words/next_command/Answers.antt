@@ -1,5 +1,5 @@
 use Rattle.std.proofs.Common.{◌∙◌}
-use Rattle.t1_code.proofs.Scanning.{number_line, first_named, first_unknown, words_trimmed}
+use Rattle.t1_code.proofs.Scanning.{number_line, past_named, first_unknown, words_trimmed}
 use Rattle.t1_code.proofs.words.next_command.Goals as goal
 
 pub returns-in-Some-clause-value : goal.returns-in-Some-clause-value
@@ -9,13 +9,13 @@ returns-in-Some-clause-value c =
 
 pub returns-in-Some-first-clause-value : goal.returns-in-Some-first-clause-value
 returns-in-Some-first-clause-value c =
-    let found = first_named c.args.line.now c.skip_blanks-rest.result.now c.in-Some-first.after.now c.in-Some-first.command c.skip_blanks-rest.ensures
+    let found = past_named c.args.line.now c.skip_blanks-rest.result.now c.in-Some-first.after.now c.in-Some-first.command c.skip_blanks-rest.ensures
     c.in_default.ensures.value c.in-Some-first.ensures.0 c.in-Some-first.ensures.1 in
     found.0
 
 pub returns-in-Some-first-clause-shorter : goal.returns-in-Some-first-clause-shorter
 returns-in-Some-first-clause-shorter c =
-    let found = first_named c.args.line.now c.skip_blanks-rest.result.now c.in-Some-first.after.now c.in-Some-first.command c.skip_blanks-rest.ensures
+    let found = past_named c.args.line.now c.skip_blanks-rest.result.now c.in-Some-first.after.now c.in-Some-first.command c.skip_blanks-rest.ensures
     c.in_default.ensures.value c.in-Some-first.ensures.0 c.in-Some-first.ensures.1 in
     found.1
 
