@@ -45,7 +45,7 @@ pub same_extremes : (l l' b b' r r' t t' : Fraction) → l ≡ l' → b ≡ b' �
     → ◌≡◌ {A = Extremes} (record { left = l; bottom = b; right = r; top = t }) (record { left = l'; bottom = b'; right = r'; top = t' })
 same_extremes l l' b b' r r' t t' e f g h = rw (e, f, g, h) refl
 
-reaching_assoc : (c d e : Extremes) → AreLowest c → AreLowest d → AreLowest e → reaching (reaching c d) e ≡ reaching c (reaching d e)
+pub reaching_assoc : (c d e : Extremes) → AreLowest c → AreLowest d → AreLowest e → reaching (reaching c d) e ≡ reaching c (reaching d e)
 reaching_assoc c d e hc hd he = same_extremes _ _ _ _ _ _ _ _
     (lesser_assoc c.left d.left e.left hc.left hd.left he.left) (lesser_assoc c.bottom d.bottom e.bottom hc.bottom hd.bottom he.bottom)
     (greater_assoc c.right d.right e.right hc.right hd.right he.right) (greater_assoc c.top d.top e.top hc.top hd.top he.top)

@@ -9,9 +9,12 @@ pub mod Summaries
 pub mod Exacts
 pub mod Sums
 pub mod Siding
+pub mod Uniting
 pub mod Slices
 pub mod Curves
 pub mod Ends
+pub mod Holding
+pub mod Bending
 pub mod Nested
 pub mod BoxLaws
 pub mod Limited

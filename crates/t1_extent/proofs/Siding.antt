@@ -32,7 +32,7 @@ greatest_read x a b e h k =
     read_as x (int_max a b) (e ∙ rw (read_small a (omega (arith, h)), read_small b (omega (arith, k))) refl) (one_of (int_lt b a) a b h k)
 
 -- a whole coordinate over 64^3
-cubed : (p : Fraction) → p.den ≡ 1 → over 262144 (pos 262144 *ℤ p.num) ≡ lowest p
+pub cubed : (p : Fraction) → p.den ≡ 1 → over 262144 (pos 262144 *ℤ p.num) ≡ lowest p
 cubed p e =
     same_lowest (record { num = pos 262144 *ℤ p.num; den = 262144 }) p (omega arith) (omega (arith, e))
     (rw e (same_in _ _ (omega (arith, product_is (pos 262144 *ℤ p.num) (pos 1), product_is (pos 262144) p.num, product_is p.num (pos 262144)))))
@@ -42,3 +42,8 @@ pub cubed_read : (p : Fraction) (n x : ℤ) → n ≡ p.num → p.den ≡ 1 → 
 cubed_read p n x is e h made size =
     let small : unsigned_abs p.num ≤ 2 ^ 20 * 1 = rw e at h.size in
     ap (over 262144) (read_small x (omega (arith, size)) ∙ made ∙ ap (λ y. pos 262144 *ℤ y) (ap read is ∙ read_small p.num (omega (arith, small)))) ∙ cubed p e
+
+pub num_read : (p : Fraction) (x : ℤ) → x ≡ p.num → p.den ≡ 1 → IsCoordinate p → read x ≡ p.num
+num_read p x is e h =
+    let small : unsigned_abs p.num ≤ 2 ^ 20 * 1 = rw e at h.size in
+    ap read is ∙ read_small p.num (omega (arith, small))

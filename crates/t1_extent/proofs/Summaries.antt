@@ -26,13 +26,13 @@ use Rattle.t1_extent.proofs.Checking.{IsEasy, not_fine, passed, outline_passed}
 pub point_number : (p : Point) → IsPoint p → IsNumber p
 point_number p h = record { x = h.x.above; y = h.y.above }
 
-segment_numbers : (s : Segment) → IsWithin s → AreNumbers s
-segment_numbers (Line a b) h = (point_number a h.0, point_number b h.1)
-segment_numbers (Curve a b c e) h = (point_number a h.0, point_number b h.1, point_number c h.2, point_number e h.3)
+pub within_numbers : (s : Segment) → IsWithin s → AreNumbers s
+within_numbers (Line a b) h = (point_number a h.0, point_number b h.1)
+within_numbers (Curve a b c e) h = (point_number a h.0, point_number b h.1, point_number c h.2, point_number e h.3)
 
 pub numbers : (ss : List Segment) → AreWithin ss → AllByRecursion AreNumbers ss
 numbers [] h = tt
-numbers (s ∷ ss) h = (segment_numbers s h.0, numbers ss h.1)
+numbers (s ∷ ss) h = (within_numbers s h.0, numbers ss h.1)
 
 pub distance_number : (by : Point) → IsDistance by → IsNumber by
 distance_number by h = record { x = h.x; y = h.y }

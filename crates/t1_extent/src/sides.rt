@@ -5,6 +5,7 @@ ghost use Rattle.std.specs.Int.RustNames.{unsigned_abs};
 
 use crate::exact::Exact;
 use crate::extent::Extent;
+use crate::reach::Reach;
 
 /// The numerators of extremes, each over the same denominator.
 #[derive(Clone, Copy, Debug)]
@@ -24,6 +25,43 @@ impl Sides {
     ghost use Rattle.t1_extent.specs.Exacts.{extremes_of, AreFine};
     ghost use Rattle.t1_extent.specs.Extremes.{reaching as reaching_of, unite as unite_of};
     ghost use Rattle.t1_extent.specs.Sides.{extremes_over};
+
+    /// The extremes of both axes.
+    pub(crate) fn of_axes(x: &Reach, y: &Reach) -> Sides
+        ensures left { result.left ≡ x.now.low }
+        ensures bottom { result.bottom ≡ y.now.low }
+        ensures right { result.right ≡ x.now.high }
+        ensures top { result.top ≡ y.now.high }
+    {
+        Sides {
+            left: x.low,
+            bottom: y.low,
+            right: x.high,
+            top: y.high,
+        }
+    }
+
+    /// Those from left to right.
+    pub(crate) fn horizontal(&self) -> Reach
+        ensures low { result.low ≡ self.now.left }
+        ensures high { result.high ≡ self.now.right }
+    {
+        Reach {
+            low: self.left,
+            high: self.right,
+        }
+    }
+
+    /// Those from the bottom to the top.
+    pub(crate) fn vertical(&self) -> Reach
+        ensures low { result.low ≡ self.now.bottom }
+        ensures high { result.high ≡ self.now.top }
+    {
+        Reach {
+            low: self.bottom,
+            high: self.top,
+        }
+    }
 
     /// The extremes of both.
     #[tactic(auto, using(crate::proofs::Sums::lesser_over, crate::proofs::Sums::greater_over))]

@@ -1,8 +1,10 @@
 use Rattle.std.proofs.Common.{◌∙◌, arith}
-use Rattle.t1_extent.proofs.Slices.{corners-next}
+use Rattle.t1_extent.specs.Extremes.{corners_of}
+use Rattle.t1_extent.proofs.Moving.{corner_numbers}
+use Rattle.t1_extent.proofs.Slices.{extremes-next}
 use Rattle.t1_extent.proofs.corners.whole_corners.Goals as goal
 
 pub loop-segment-preserved : goal.loop-segment-preserved
 loop-segment-preserved c =
     c.united.ensures 1 (omega arith)
-    ∙ corners-next c.args.segments.now c.loop-segment.segment-index c.segment-item.result _ _ (omega arith) c.requires.within c.segment-item.is c.loop-segment.invariant c.segment_sides.ensures
+    ∙ extremes-next corners_of corner_numbers c.args.segments.now c.loop-segment.segment-index c.segment-item.result _ _ (omega arith) c.requires.within c.segment-item.is c.loop-segment.invariant c.segment_sides.ensures
