@@ -78,7 +78,8 @@ fn moved_bbox(bbox: Option<BBox>, by: &Point) -> Option<BBox>
 impl Reached {
     /// That of an outline without segments.
     pub fn nothing() -> Reached
-        ensures { IsReach result [] }
+        ensures reach { IsReach result [] }
+        ensures exact { IsExact result.drawn }
     {
         Reached {
             drawn: Drawn::Whole(None),
@@ -111,7 +112,8 @@ impl Reached {
 
     /// Whether all coordinates of the outline are known to be whole.
     pub fn is_whole(&self) -> bool
-        ensures { result ≡ true → IsExact self.now.drawn }
+        ensures exact { result ≡ true → IsExact self.now.drawn }
+        ensures told { IsExact self.now.drawn → result ≡ true }
     {
         match self.drawn {
             Drawn::Whole(_) => true,

@@ -10,7 +10,7 @@ pub returns-in_default : goal.returns-in_default
 returns-in_default c = λ outline h ok. (
   [],
   ap (through c.args.moves.now c.args.last.now) (no_figure c.args.figure outline c.in_default.not-Some h.told) ∙ nothing_through c.args.moves.now c.args.last.now,
-  c.nothing.ensures,
+  c.nothing.ensures.reach,
 )
 
 pub returns-in_err-place : goal.returns-in_err-place
