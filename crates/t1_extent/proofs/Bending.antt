@@ -78,7 +78,7 @@ same_high high a b c d p q r s e f g h = rw (e, f, g, h) refl
 -- ---- curves
 
 -- the extremes of a curve between whole coordinates
-abbrev bend : Point → Point → Point → Point → Extremes
+abbrev pub bend : Point → Point → Point → Point → Extremes
 bend a b c d = record {
   left = over 262144 (least_value a.x.num b.x.num c.x.num d.x.num);
   bottom = over 262144 (least_value a.y.num b.y.num c.y.num d.y.num);
@@ -86,7 +86,7 @@ bend a b c d = record {
   top = over 262144 (greatest_value a.y.num b.y.num c.y.num d.y.num);
 }
 
-bend_is : (a b c d : Point) → IsWhole a → IsWhole b → IsWhole c → IsWhole d → Some (bend a b c d) ≡ extremes (points_of (Curve a b c d))
+pub bend_is : (a b c d : Point) → IsWhole a → IsWhole b → IsWhole c → IsWhole d → Some (bend a b c d) ≡ extremes (points_of (Curve a b c d))
 bend_is a b c d ha hb hc hd =
     curve_extremes a b c d _ _ _ _
     (least_axis a.x b.x c.x d.x ha.x hb.x hc.x hd.x) (least_axis a.y b.y c.y d.y ha.y hb.y hc.y hd.y)
@@ -102,7 +102,7 @@ with_bend a b c d l r t u l' r' t' u' ha hb hc hd e f g h =
     ap Some (same_extremes _ _ _ _ _ _ _ _ (low_with l _ l' e) (low_with r _ r' f) (high_with t _ t' g) (high_with u _ u' h))
     ∙ ap (unite (Some (record { left = over 262144 l; bottom = over 262144 r; right = over 262144 t; top = over 262144 u }))) (bend_is a b c d ha hb hc hd)
 
-ends_in_bend : (a b c d : Point) → IsWhole a → IsWhole b → IsWhole c → IsWhole d
+pub ends_in_bend : (a b c d : Point) → IsWhole a → IsWhole b → IsWhole c → IsWhole d
     → unite (extremes (a ∷ d ∷ [])) (extremes (points_of (Curve a b c d))) ≡ extremes (points_of (Curve a b c d))
 ends_in_bend a b c d ha hb hc hd =
     let is = bend_is a b c d ha hb hc hd in

@@ -96,6 +96,27 @@ greatest_of_ends a b c d =
     let last : IsBelow (pos 262144 *ℤ d) (greatest_value a b c d) = subst (λ x. IsBelow x (greatest_value a b c d)) (sum_last a b c d) (above_last (sum_at a b c d 0) (sum_at a b c d 64) (map (sum_at a b c d) (range_with_len 1 63))) in
     same_in _ _ (omega (arith, int_max_is (int_max (pos 262144 *ℤ a) (pos 262144 *ℤ d)) (greatest_value a b c d), int_max_is (pos 262144 *ℤ a) (pos 262144 *ℤ d), first.below, last.below))
 
+-- the four points, one after another, reach as far as the values
+pub least_in_hull : (a b c d : ℤ) → int_min (least_value a b c d) (pos 262144 *ℤ int_min (int_min (int_min a b) c) d) ≡ pos 262144 *ℤ int_min (int_min (int_min a b) c) d
+unfolding least_value
+least_in_hull a b c d =
+    let m = int_min (int_min (int_min a b) c) d in
+    let is = int_min_is (int_min (int_min a b) c) d in
+    let three = int_min_is (int_min a b) c in
+    let two = int_min_is a b in
+    let k = least_above m a b c d (record { below = omega (arith, is, three, two) }) (record { below = omega (arith, is, three, two) }) (record { below = omega (arith, is, three) }) (record { below = omega (arith, is) }) in
+    same_in _ _ (omega (arith, int_min_is (least_sum a b c d) (pos 262144 *ℤ m), k.below))
+
+pub greatest_in_hull : (a b c d : ℤ) → int_max (greatest_value a b c d) (pos 262144 *ℤ int_max (int_max (int_max a b) c) d) ≡ pos 262144 *ℤ int_max (int_max (int_max a b) c) d
+unfolding greatest_value
+greatest_in_hull a b c d =
+    let m = int_max (int_max (int_max a b) c) d in
+    let is = int_max_is (int_max (int_max a b) c) d in
+    let three = int_max_is (int_max a b) c in
+    let two = int_max_is a b in
+    let k = greatest_below m a b c d (record { below = omega (arith, is, three, two) }) (record { below = omega (arith, is, three, two) }) (record { below = omega (arith, is, three) }) (record { below = omega (arith, is) }) in
+    same_in _ _ (omega (arith, int_max_is (greatest_sum a b c d) (pos 262144 *ℤ m), k.below))
+
 -- ---- read from 64 bits
 
 pub as_least : (x a b c d : ℤ) → x ≡ least_sum a b c d → x ≡ least_value a b c d

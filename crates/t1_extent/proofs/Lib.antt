@@ -15,6 +15,7 @@ pub mod Curves
 pub mod Ends
 pub mod Holding
 pub mod Bending
+pub mod Squeezing
 pub mod Nested
 pub mod BoxLaws
 pub mod Limited

@@ -5,9 +5,9 @@ ghost use Rattle.t1_run.specs.Composite.{IsPoint};
 ghost use Rattle.t1_extent.specs.Exacts.{AreFine};
 ghost use Rattle.t1_extent.specs.Extremes.{IsWhole};
 
-use crate::corners::whole_corners;
+use crate::corners::corner_sides;
 use crate::distance::Distance;
-use crate::drawn::drawn_extent;
+use crate::drawn::drawn_within;
 use crate::extent::Extent;
 use crate::reached::{Drawn, Reached};
 use crate::turns::point_through;
@@ -58,12 +58,12 @@ impl Figure {
         ensures { IsFigureOf result segments.now }
     {
         let start = Figure::first_point(segments)?;
-        let drawn = drawn_extent(segments)?;
-        let corners = whole_corners(segments)?;
+        let corners = corner_sides(segments)?;
+        let drawn = drawn_within(segments, &corners)?;
         Some(Figure {
             start,
             drawn,
-            corners,
+            corners: corners.over_one(),
         })
     }
 

@@ -1,6 +1,6 @@
 //! Extremes that have one denominator, by their numerators.
 
-ghost use Rattle.std.specs.Prelude.{◌≡◌, ◌≤◌, ◌^◌};
+ghost use Rattle.std.specs.Prelude.{◌≡◌, ◌≤◌, ◌^◌, ◌*ℤ◌, pos, true};
 ghost use Rattle.std.specs.Int.RustNames.{unsigned_abs};
 
 use crate::exact::Exact;
@@ -84,6 +84,18 @@ impl Sides {
             None => *self,
             Some(others) => others.reaching(self),
         }
+    }
+
+    /// Whether these, over 64^3, are the others, over 1.
+    pub(crate) fn are_whole(&self, others: &Sides) -> bool
+        ensures left { result ≡ true → self.now.left ≡ pos 262144 *ℤ others.now.left }
+        ensures bottom { result ≡ true → self.now.bottom ≡ pos 262144 *ℤ others.now.bottom }
+        ensures right { result ≡ true → self.now.right ≡ pos 262144 *ℤ others.now.right }
+        ensures top { result ≡ true → self.now.top ≡ pos 262144 *ℤ others.now.top }
+        ensures told { self.now.left ≡ pos 262144 *ℤ others.now.left → self.now.bottom ≡ pos 262144 *ℤ others.now.bottom → self.now.right ≡ pos 262144 *ℤ others.now.right → self.now.top ≡ pos 262144 *ℤ others.now.top → result ≡ true }
+    {
+        self.horizontal().are_whole(&others.horizontal())
+            && self.vertical().are_whole(&others.vertical())
     }
 
     /// The extremes whose numerators over 1 these are.

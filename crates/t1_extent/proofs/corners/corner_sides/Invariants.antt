@@ -2,7 +2,7 @@ use Rattle.std.proofs.Common.{◌≡◌, take}
 use Rattle.std.specs.Prelude.{option_map}
 use Rattle.t1_extent.specs.Extremes.{corners, extremes}
 use Rattle.t1_extent.specs.Sides.{extremes_over}
-use Rattle.t1_extent.proofs.corners.whole_corners.Given as goal
+use Rattle.t1_extent.proofs.corners.corner_sides.Given as goal
 
 -- the extremes of the segments so far
 abbrev pub invariant-loop-segment : goal.invariant-loop-segment

@@ -2,7 +2,7 @@ use Rattle.std.proofs.Common.{◌∙◌, arith}
 use Rattle.t1_extent.specs.Extremes.{corners_of}
 use Rattle.t1_extent.proofs.Moving.{corner_numbers}
 use Rattle.t1_extent.proofs.Slices.{extremes-next}
-use Rattle.t1_extent.proofs.corners.whole_corners.Goals as goal
+use Rattle.t1_extent.proofs.corners.corner_sides.Goals as goal
 
 pub loop-segment-preserved : goal.loop-segment-preserved
 loop-segment-preserved c =
