@@ -9,12 +9,9 @@ use t1_session::{
 };
 
 mod batches;
-mod calls;
 mod files;
 mod prints;
 mod runs;
-
-use calls::served;
 
 /// A font of one glyph, in two parts.
 const FRONT: &[u8] = b"%!\n";
@@ -176,7 +173,7 @@ fn answers(alloc: Global, read: usize) -> Result<Vec<u8>, Fail> {
 fn answered(alloc: Global, commands: &[u8]) -> Result<Vec<u8>, Fail> {
     let mut reader = Counted::new(commands);
     let mut writer = Counted::new(Vec::new(alloc));
-    served(alloc, &font(alloc)?, b"", &mut reader, &mut writer)?;
+    serve(alloc, &font(alloc)?, b"", &mut reader, &mut writer)?;
     Ok(writer.into_inner())
 }
 
@@ -193,7 +190,7 @@ fn answers_in_pieces(rt: HostRuntime) -> Result<(), Fail> {
             fails: false,
         });
         let mut writer = Counted::new(Short::new(alloc, 1, usize::MAX, true));
-        served(alloc, &font, b"", &mut reader, &mut writer)?;
+        serve(alloc, &font, b"", &mut reader, &mut writer)?;
         assert_eq!(rt; reader.failures(), 0);
         let writer = writer.into_inner();
         assert_eq!(rt; writer.flushes, COMMANDS);
@@ -208,7 +205,7 @@ fn writes_each_answer_at_once(rt: HostRuntime) -> Result<(), Fail> {
     let input = input(alloc)?;
     let mut reader = Counted::new(input.as_slice());
     let mut writer = Counted::new(Short::new(alloc, usize::MAX, usize::MAX, true));
-    served(alloc, &font(alloc)?, b"", &mut reader, &mut writer)?;
+    serve(alloc, &font(alloc)?, b"", &mut reader, &mut writer)?;
     let writer = writer.into_inner();
     assert_eq!(rt; writer.writes, COMMANDS);
     assert_eq!(rt; writer.flushes, COMMANDS);
@@ -228,7 +225,7 @@ fn stops_at_a_read(rt: HostRuntime) -> Result<(), Fail> {
                 fails: true,
             });
             let mut writer = Counted::new(Vec::new(alloc));
-            let result = served(alloc, &font, b"", &mut reader, &mut writer);
+            let result = serve(alloc, &font, b"", &mut reader, &mut writer);
             assert!(rt; matches!(result, Err(ServeError::Read)));
             assert_eq!(rt; reader.failures(), 1);
             assert_eq!(rt;
@@ -250,7 +247,7 @@ fn stops_at_a_write(rt: HostRuntime) -> Result<(), Fail> {
         for room in 0..expected.len() {
             let mut reader = Counted::new(input.as_slice());
             let mut writer = Counted::new(Short::new(alloc, usize::MAX, room, reports));
-            let result = served(alloc, &font, b"", &mut reader, &mut writer);
+            let result = serve(alloc, &font, b"", &mut reader, &mut writer);
             assert!(rt; matches!(result, Err(ServeError::Write)));
             assert_eq!(rt; writer.failures(), 1);
             let taken = writer.into_inner().taken;
@@ -265,7 +262,7 @@ fn stops_in_a_print(rt: HostRuntime) -> Result<(), Fail> {
     let alloc = rt.alloc();
     let mut reader = Counted::new(b"print source\n".as_slice());
     let mut writer = Counted::new(Short::new(alloc, usize::MAX, 10, true));
-    let result = served(alloc, &font(alloc)?, b"", &mut reader, &mut writer);
+    let result = serve(alloc, &font(alloc)?, b"", &mut reader, &mut writer);
     assert!(rt; matches!(result, Err(ServeError::Write)));
     assert_eq!(rt;
         writer.into_inner().taken.as_slice(),
@@ -285,7 +282,7 @@ fn writes_at_most_4096_bytes_a_call(rt: HostRuntime) -> Result<(), Fail> {
     font.extend_from_slice(BACK)?;
     let mut reader = Counted::new(b"print source\nprint pfb\n".as_slice());
     let mut writer = Counted::new(Short::new(alloc, usize::MAX, usize::MAX, true));
-    served(alloc, &font, b"", &mut reader, &mut writer)?;
+    serve(alloc, &font, b"", &mut reader, &mut writer)?;
     let writer = writer.into_inner();
     assert_eq!(rt; writer.taken.len(), 10 + 5_162 + 1 + 10 + 5_695 + 1);
     assert!(rt; writer.taken.starts_with(b"data 5162\n%!\n%%"));
@@ -331,7 +328,7 @@ fn loads(rt: HostRuntime) -> Result<(), Fail> {
     let font = font(alloc)?;
     let mut reader = Counted::new(b"print kern\n".as_slice());
     let mut writer = Counted::new(Vec::new(alloc));
-    let result = served(alloc, b"", b"", &mut reader, &mut writer);
+    let result = serve(alloc, b"", b"", &mut reader, &mut writer);
     assert!(rt;
         matches!(
             result,
@@ -341,7 +338,7 @@ fn loads(rt: HostRuntime) -> Result<(), Fail> {
             }))
         )
     );
-    let result = served(alloc, &font, b"KPX A V -9.5", &mut reader, &mut writer);
+    let result = serve(alloc, &font, b"KPX A V -9.5", &mut reader, &mut writer);
     assert!(rt;
         matches!(
             result,

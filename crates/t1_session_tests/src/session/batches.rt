@@ -1,13 +1,10 @@
 //! How many runs the commits of batches make, and edits under nested accents, on the demo font. The counts are those of the
 //! dependents of all edits together, by hand.
-use super::calls::{
-    abort, apply, begin, commit, in_batch, make, opened, printed_metrics, printed_uses, run_count,
-};
-use super::prints::{are_alike, other_prints};
-use super::runs::{demo, glyph_edit, subr_edit};
+use super::runs::{demo, glyph_edit, subr_edit, uses};
 use super::*;
 use t1_frac::Bytes;
-use t1_source::{Cause, Edit, Rule};
+use t1_pairs::read_pairs;
+use t1_source::{Cause, Edit, Rule, read_source};
 
 /// Another glyph.
 fn new_glyph(alloc: Global, name: &[u8], body: &[u8]) -> Result<Edit, Fail> {
@@ -23,13 +20,13 @@ fn no_glyph(alloc: Global, name: &[u8]) -> Result<Edit, Fail> {
 /// The counts at the opening, in a batch whose first edit of Subr 4 has a fault, and after its commit.
 fn mended(alloc: Global) -> Result<[u64; 3], Fail> {
     let mut session = demo(alloc)?;
-    let opened = run_count(&session);
-    begin(&mut session)?;
-    make(&mut session, subr_edit(alloc, 4, b"1 0 div return"))?;
-    make(&mut session, subr_edit(alloc, 4, b"50 50 rlineto return"))?;
-    let drafted = run_count(&session);
-    commit(&mut session)?;
-    Ok([opened, drafted, run_count(&session)])
+    let opened = session.runs();
+    session.begin()?;
+    session.apply(subr_edit(alloc, 4, b"1 0 div return")?)?;
+    session.apply(subr_edit(alloc, 4, b"50 50 rlineto return")?)?;
+    let drafted = session.runs();
+    session.commit()?;
+    Ok([opened, drafted, session.runs()])
 }
 
 #[test]
@@ -42,14 +39,11 @@ fn a_commit_runs_once_what_two_edits_touch(rt: HostRuntime) -> Result<(), Fail> 
 /// The usage table after a batch that removes a glyph and adds it again, and the count of runs.
 fn moved(alloc: Global) -> Result<(Vec<u8>, u64), Fail> {
     let mut session = demo(alloc)?;
-    begin(&mut session)?;
-    make(&mut session, no_glyph(alloc, b"A"))?;
-    make(
-        &mut session,
-        new_glyph(alloc, b"A", b"10 600 hsbw 50 hlineto endchar"),
-    )?;
-    commit(&mut session)?;
-    Ok((printed_uses(alloc, &session)?, run_count(&session)))
+    session.begin()?;
+    session.apply(no_glyph(alloc, b"A")?)?;
+    session.apply(new_glyph(alloc, b"A", b"10 600 hsbw 50 hlineto endchar")?)?;
+    session.commit()?;
+    Ok((uses(alloc, &session)?, session.runs()))
 }
 
 #[test]
@@ -63,59 +57,35 @@ fn a_glyph_that_was_added_again_is_last(rt: HostRuntime) -> Result<(), Fail> {
     Ok(())
 }
 
-/// A session after a commit that takes a glyph from under a composite, and what the commit is answered.
-fn refused(alloc: Global) -> Result<(Session<'static>, Result<(), Cause>), Fail> {
+/// What a commit is answered that takes a glyph from under a composite, and the usage table after it.
+fn refused(alloc: Global) -> Result<(Result<(), Cause>, Vec<u8>), Fail> {
     let mut session = demo(alloc)?;
-    begin(&mut session)?;
-    make(&mut session, no_glyph(alloc, b"acute"))?;
-    let answer = commit(&mut session);
-    Ok((session, answer))
+    session.begin()?;
+    session.apply(no_glyph(alloc, b"acute")?)?;
+    let answer = session.commit();
+    Ok((answer, uses(alloc, &session)?))
 }
 
 #[test]
-fn a_commit_is_refused_for_the_first_fault_of_its_source(rt: HostRuntime) -> Result<(), Fail> {
-    let (_session, answer) = refused(rt.alloc())?;
-    let is_refused = is_fault_of(&answer, Code::F45, b"Aacute");
-    assert!(rt; is_refused);
-    Ok(())
-}
-
-#[test]
-fn a_refused_commit_leaves_the_prints(rt: HostRuntime) -> Result<(), Fail> {
-    let alloc = rt.alloc();
-    let before = other_prints(alloc, &demo(alloc)?)?;
-    let (session, _answer) = refused(alloc)?;
-    let after = other_prints(alloc, &session)?;
-    let alike = are_alike(&before, &after);
-    assert!(rt; alike);
-    Ok(())
-}
-
-#[test]
-fn a_refused_commit_leaves_the_metrics(rt: HostRuntime) -> Result<(), Fail> {
-    let alloc = rt.alloc();
-    let before = printed_metrics(alloc, &demo(alloc)?)?;
-    let (session, _answer) = refused(alloc)?;
-    let after = printed_metrics(alloc, &session)?;
-    assert!(rt; before.as_slice() == after.as_slice());
+fn a_refused_commit_leaves_all_as_before(rt: HostRuntime) -> Result<(), Fail> {
+    let (answer, table) = refused(rt.alloc())?;
+    assert!(rt; matches!(answer, Err(Cause::Fault(_))));
+    assert_eq!(rt;
+        table.as_slice(),
+        b"U .notdef ;\nU Aacute ; P A ; P acute ;\nU A ;\nU acute ; S 4 ;\nU V ;\nU space ;\n".as_slice()
+    );
     Ok(())
 }
 
 /// The counts after a composite on accents is added, another stands on it, and the Subr under all of them changes.
 fn nested(alloc: Global) -> Result<[u64; 3], Fail> {
     let mut session = demo(alloc)?;
-    make(
-        &mut session,
-        new_glyph(alloc, b"dieresis", b"93 333 hsbw 93 50 0 194 194 seac"),
-    )?;
-    let added = run_count(&session);
-    make(
-        &mut session,
-        glyph_edit(alloc, b"Aacute", b"10 600 hsbw 93 170 214 65 200 seac"),
-    )?;
-    let replaced = run_count(&session);
-    make(&mut session, subr_edit(alloc, 4, b"50 50 rlineto return"))?;
-    Ok([added, replaced, run_count(&session)])
+    session.apply(new_glyph(alloc, b"dieresis", b"93 333 hsbw 93 50 0 194 194 seac")?)?;
+    let added = session.runs();
+    session.apply(glyph_edit(alloc, b"Aacute", b"10 600 hsbw 93 170 214 65 200 seac")?)?;
+    let replaced = session.runs();
+    session.apply(subr_edit(alloc, 4, b"50 50 rlineto return")?)?;
+    Ok([added, replaced, session.runs()])
 }
 
 #[test]
@@ -128,23 +98,23 @@ fn an_edit_runs_composites_on_composites(rt: HostRuntime) -> Result<(), Fail> {
 /// The rule that a call broke, where it broke one, and whether a batch is open after it.
 fn turn(session: &Session, answer: &Result<(), Cause>) -> (Option<Rule>, bool) {
     match answer {
-        Err(Cause::Rule(rule)) => (Some(*rule), in_batch(session)),
-        _ => (None, in_batch(session)),
+        Err(Cause::Rule(rule)) => (Some(*rule), session.in_batch()),
+        _ => (None, session.in_batch()),
     }
 }
 
 /// A batch closed, opened twice, and closed twice.
 fn turns(alloc: Global) -> Result<[(Option<Rule>, bool); 5], Fail> {
     let mut session = demo(alloc)?;
-    let answer = commit(&mut session);
+    let answer = session.commit();
     let committed = turn(&session, &answer);
-    let answer = begin(&mut session);
+    let answer = session.begin();
     let begun = turn(&session, &answer);
-    let answer = begin(&mut session);
+    let answer = session.begin();
     let begun_again = turn(&session, &answer);
-    let answer = abort(&mut session);
+    let answer = session.abort();
     let aborted = turn(&session, &answer);
-    let answer = abort(&mut session);
+    let answer = session.abort();
     let aborted_again = turn(&session, &answer);
     Ok([committed, begun, begun_again, aborted, aborted_again])
 }
@@ -173,9 +143,10 @@ const FOUR_DEEP: [(&[u8], &[u8]); 4] = [
 
 /// A session with these glyphs and space.
 fn four_deep(alloc: Global, font: &[u8]) -> Result<Session<'_>, Fail> {
-    let mut session = opened(alloc, font)?;
+    let source = read_source(alloc, font)?;
+    let mut session = Session::open(alloc, source, read_pairs(alloc, b"")?)?;
     for (name, body) in &FOUR_DEEP {
-        make(&mut session, new_glyph(alloc, name, body))?;
+        session.apply(new_glyph(alloc, name, body)?)?;
     }
     Ok(session)
 }
@@ -184,12 +155,9 @@ fn four_deep(alloc: Global, font: &[u8]) -> Result<Session<'_>, Fail> {
 fn runs_four_deep(alloc: Global) -> Result<u64, Fail> {
     let font = font(alloc)?;
     let mut session = four_deep(alloc, &font)?;
-    let before = run_count(&session);
-    make(
-        &mut session,
-        glyph_edit(alloc, b"space", b"0 250 hsbw 10 hlineto endchar"),
-    )?;
-    Ok(run_count(&session).saturating_sub(before))
+    let before = session.runs();
+    session.apply(glyph_edit(alloc, b"space", b"0 250 hsbw 10 hlineto endchar")?)?;
+    Ok(session.runs().saturating_sub(before))
 }
 
 #[test]
@@ -199,13 +167,13 @@ fn an_edit_runs_composites_four_levels_up(rt: HostRuntime) -> Result<(), Fail> {
     Ok(())
 }
 
-/// Whether a call was refused for a fault of a glyph.
-fn is_fault_of(answer: &Result<(), Cause>, code: Code, name: &[u8]) -> bool {
+/// Whether a glyph was refused since composites would stand too deep.
+fn is_too_deep(answer: &Result<(), Cause>, name: &[u8]) -> bool {
     let Err(Cause::Fault(fault)) = answer else {
         return false;
     };
     match &fault.place {
-        Place::Glyph(glyph) => fault.code == code && glyph.as_slice() == name,
+        Place::Glyph(glyph) => fault.code == Code::F46 && glyph.as_slice() == name,
         _ => false,
     }
 }
@@ -214,18 +182,9 @@ fn is_fault_of(answer: &Result<(), Cause>, code: Code, name: &[u8]) -> bool {
 fn refuses_a_fifth(alloc: Global) -> Result<[bool; 2], Fail> {
     let font = font(alloc)?;
     let mut session = four_deep(alloc, &font)?;
-    let above = apply(
-        &mut session,
-        new_glyph(alloc, b"e", b"0 100 hsbw 0 0 0 100 32 seac")?,
-    );
-    let below = apply(
-        &mut session,
-        glyph_edit(alloc, b"space", b"0 250 hsbw 0 0 0 97 97 seac")?,
-    );
-    Ok([
-        is_fault_of(&above, Code::F46, b"e"),
-        is_fault_of(&below, Code::F46, b"space"),
-    ])
+    let above = session.apply(new_glyph(alloc, b"e", b"0 100 hsbw 0 0 0 100 32 seac")?);
+    let below = session.apply(glyph_edit(alloc, b"space", b"0 250 hsbw 0 0 0 97 97 seac")?);
+    Ok([is_too_deep(&above, b"e"), is_too_deep(&below, b"space")])
 }
 
 #[test]

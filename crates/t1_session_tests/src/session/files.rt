@@ -1,10 +1,8 @@
 //! Assembled files and an edit of lenIV, with memory that doesn't run out. Their bytes are those of docs/PFB.md and of
 //! t1asm.
-use super::calls::{
-    apply, make, opened, printed_blocks, printed_pfa, printed_pfb, printed_source, served,
-};
 use super::*;
-use t1_source::{Cause, Edit, Rule};
+use t1_pairs::read_pairs;
+use t1_source::{Cause, Edit, Rule, read_source};
 
 /// The encrypted part of the font in hexadecimal.
 const DIGITS: &[u8] = b"d9d66f6370eee3ab068e8c1efa81b201c643594025b5e986d74368bdfaaab61a
@@ -46,8 +44,9 @@ fn whole(alloc: Global) -> Result<Vec<u8>, Fail> {
 
 /// A session of the font after an edit of its lenIV.
 fn with_lead(alloc: Global, font: &[u8], lead: i64) -> Result<Session<'_>, Fail> {
-    let mut session = opened(alloc, font)?;
-    make(&mut session, Ok(Edit::LenIv(lead)))?;
+    let source = read_source(alloc, font)?;
+    let mut session = Session::open(alloc, source, read_pairs(alloc, b"")?)?;
+    session.apply(Edit::LenIv(lead))?;
     Ok(session)
 }
 
@@ -127,9 +126,13 @@ fn prints_blocks_and_a_pfa(rt: HostRuntime) -> Result<(), Fail> {
     let alloc = rt.alloc();
     let font = font(alloc)?;
     let session = with_lead(alloc, &font, 4)?;
+    let mut out = Counted::new(Vec::new(alloc));
+    session.print_pfb_blocks(40, &mut out)?;
     // (the line of lenIV has 13 bytes)
-    assert!(rt; printed_blocks(alloc, &session)?.len() == 790 + 13);
-    assert!(rt; printed_pfa(alloc, &session)?.len() == 767 + 26 + 1);
+    assert_eq!(rt; out.into_inner().len(), 790 + 13);
+    let mut out = Counted::new(Vec::new(alloc));
+    session.print_pfa(&mut out)?;
+    assert_eq!(rt; out.into_inner().len(), 767 + 26 + 1);
     Ok(())
 }
 
@@ -138,8 +141,12 @@ fn sets_leniv(rt: HostRuntime) -> Result<(), Fail> {
     let alloc = rt.alloc();
     let font = font(alloc)?;
     let session = with_lead(alloc, &font, 0)?;
-    assert!(rt; printed_pfb(alloc, &session)?.len() == 703);
-    assert!(rt; printed_source(alloc, &session)?.len() == 174);
+    let mut out = Counted::new(Vec::new(alloc));
+    session.print_pfb(&mut out)?;
+    assert_eq!(rt; out.into_inner().len(), 703);
+    let mut out = Counted::new(Vec::new(alloc));
+    session.print_source(&mut out)?;
+    assert_eq!(rt; out.into_inner().len(), 174);
     Ok(())
 }
 
@@ -148,7 +155,7 @@ fn refuses_leniv_65(rt: HostRuntime) -> Result<(), Fail> {
     let alloc = rt.alloc();
     let font = font(alloc)?;
     let mut session = with_lead(alloc, &font, 4)?;
-    let refused = apply(&mut session, Edit::LenIv(65));
+    let refused = session.apply(Edit::LenIv(65));
     assert!(rt; matches!(refused, Err(Cause::Rule(Rule::E4))));
     Ok(())
 }
@@ -178,7 +185,7 @@ fn stops_at_a_write_of_prints(rt: HostRuntime) -> Result<(), Fail> {
     for room in 0..expected.len() {
         let mut reader = Counted::new(commands.as_slice());
         let mut writer = Counted::new(Short::new(alloc, usize::MAX, room, true));
-        let result = served(alloc, &font, b"", &mut reader, &mut writer);
+        let result = serve(alloc, &font, b"", &mut reader, &mut writer);
         assert!(rt; matches!(result, Err(ServeError::Write)));
         let taken = writer.into_inner().taken;
         assert_eq!(rt; taken.as_slice(), expected.split_at(room).0);

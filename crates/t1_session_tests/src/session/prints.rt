@@ -1,9 +1,5 @@
 //! Every print of a session after a kern.
-use super::calls::{
-    make, printed_blocks, printed_metrics, printed_pairs, printed_pfa, printed_pfb, printed_source,
-    printed_uses, run_count,
-};
-use super::runs::demo;
+use super::runs::{demo, uses};
 use super::*;
 use t1_frac::Bytes;
 use t1_source::Edit;
@@ -42,25 +38,18 @@ const METRICS: &str = "\
 fn kerned(alloc: Global) -> Result<Session<'static>, Fail> {
     let mut session = demo(alloc)?;
     let left = Bytes::copied(alloc, b"A")?;
-    let right = Bytes::copied(alloc, b"V")?;
-    make(&mut session, Ok(Edit::Kern(left, right, -92)))?;
+    session.apply(Edit::Kern(left, Bytes::copied(alloc, b"V")?, -92))?;
     Ok(session)
 }
 
-/// The prints that a kern leaves as they are: usage table, source, and font files in each form.
-pub(super) fn other_prints(alloc: Global, session: &Session) -> Result<[Vec<u8>; 5], Fail> {
-    let uses = printed_uses(alloc, session)?;
-    let source = printed_source(alloc, session)?;
-    let pfb = printed_pfb(alloc, session)?;
-    let blocks = printed_blocks(alloc, session)?;
-    Ok([uses, source, pfb, blocks, printed_pfa(alloc, session)?])
-}
-
-/// Whether two lists of prints are alike.
-pub(super) fn are_alike(some: &[Vec<u8>; 5], others: &[Vec<u8>; 5]) -> bool {
-    some.iter()
-        .zip(others.iter())
-        .all(|(one, other)| one.as_slice() == other.as_slice())
+/// The prints that a kern leaves as they are, one after another: usage table, source, and font files in each form.
+fn other_prints(alloc: Global, session: &Session) -> Result<Vec<u8>, Fail> {
+    let mut out = Counted::new(uses(alloc, session)?);
+    session.print_source(&mut out)?;
+    session.print_pfb(&mut out)?;
+    session.print_pfb_blocks(40, &mut out)?;
+    session.print_pfa(&mut out)?;
+    Ok(out.into_inner())
 }
 
 #[test]
@@ -68,32 +57,22 @@ fn a_kern_leaves_the_other_prints(rt: HostRuntime) -> Result<(), Fail> {
     let alloc = rt.alloc();
     let before = other_prints(alloc, &demo(alloc)?)?;
     let after = other_prints(alloc, &kerned(alloc)?)?;
-    let alike = are_alike(&before, &after);
-    assert!(rt; alike);
+    assert!(rt; before.as_slice() == after.as_slice());
     Ok(())
 }
 
 #[test]
 fn a_kern_is_among_the_pairs(rt: HostRuntime) -> Result<(), Fail> {
-    let text = printed_pairs(rt.alloc(), &kerned(rt.alloc())?)?;
-    assert!(rt; text.as_slice() == b"KPX A V -92\n".as_slice());
+    let mut out = Counted::new(Vec::new(rt.alloc()));
+    kerned(rt.alloc())?.print_kern(&mut out)?;
+    assert_eq!(rt; out.into_inner().as_slice(), b"KPX A V -92\n".as_slice());
     Ok(())
 }
 
 #[test]
 fn a_kern_is_in_the_metrics(rt: HostRuntime) -> Result<(), Fail> {
-    let text = printed_metrics(rt.alloc(), &kerned(rt.alloc())?)?;
-    assert!(rt; text.as_slice() == METRICS.as_bytes());
-    Ok(())
-}
-
-#[test]
-fn prints_after_a_kern_run_nothing(rt: HostRuntime) -> Result<(), Fail> {
-    let alloc = rt.alloc();
-    let session = kerned(alloc)?;
-    other_prints(alloc, &session)?;
-    printed_pairs(alloc, &session)?;
-    printed_metrics(alloc, &session)?;
-    assert!(rt; run_count(&session) == 6);
+    let mut out = Counted::new(Vec::new(rt.alloc()));
+    kerned(rt.alloc())?.print_afm(&mut out)?;
+    assert!(rt; out.into_inner().as_slice() == METRICS.as_bytes());
     Ok(())
 }

@@ -1,8 +1,8 @@
 //! How many runs the edits of a session make, on the demo font. The counts are those of an edit's dependents, by hand.
-use super::calls::{apply, make, opened, printed_uses, run_count};
 use super::*;
 use t1_frac::Bytes;
-use t1_source::{Cause, Edit, Rule};
+use t1_pairs::read_pairs;
+use t1_source::{Cause, Edit, Rule, read_source};
 
 /// The demo font.
 const DEMO: &str = "\
@@ -86,7 +86,8 @@ const DEMO: &str = "\
 
 /// A session of the demo font.
 pub(super) fn demo(alloc: Global) -> Result<Session<'static>, Fail> {
-    opened(alloc, DEMO.as_bytes())
+    let source = read_source(alloc, DEMO.as_bytes())?;
+    Ok(Session::open(alloc, source, read_pairs(alloc, b"")?)?)
 }
 
 /// Other words for a glyph.
@@ -100,26 +101,27 @@ pub(super) fn subr_edit(alloc: Global, number: i64, body: &[u8]) -> Result<Edit,
     Ok(Edit::ReplaceSubr(number, Bytes::copied(alloc, body)?))
 }
 
+/// The usage table of a session.
+pub(super) fn uses(alloc: Global, session: &Session) -> Result<Vec<u8>, Fail> {
+    let mut out = Counted::new(Vec::new(alloc));
+    session.print_uses(&mut out)?;
+    Ok(out.into_inner())
+}
+
 /// The demo font after its glyphs A and V enter Subr 4, then Subr 4 is another.
 fn edited(alloc: Global) -> Result<(Session<'static>, [u64; 4]), Fail> {
     let mut session = demo(alloc)?;
-    let opened = run_count(&session);
-    make(
-        &mut session,
-        glyph_edit(
-            alloc,
-            b"A",
-            b"10 600 hsbw 4 1 3 callothersubr pop callsubr endchar",
-        ),
-    )?;
-    let first = run_count(&session);
-    make(
-        &mut session,
-        glyph_edit(alloc, b"V", b"15 722 hsbw 8 2 div callsubr endchar"),
-    )?;
-    let second = run_count(&session);
-    make(&mut session, subr_edit(alloc, 4, b"50 50 rlineto return"))?;
-    let third = run_count(&session);
+    let opened = session.runs();
+    session.apply(glyph_edit(
+        alloc,
+        b"A",
+        b"10 600 hsbw 4 1 3 callothersubr pop callsubr endchar",
+    )?)?;
+    let first = session.runs();
+    session.apply(glyph_edit(alloc, b"V", b"15 722 hsbw 8 2 div callsubr endchar")?)?;
+    let second = session.runs();
+    session.apply(subr_edit(alloc, 4, b"50 50 rlineto return")?)?;
+    let third = session.runs();
     Ok((session, [opened, first, second, third]))
 }
 
@@ -135,17 +137,14 @@ fn runs_nothing_for_pairs_and_prints(rt: HostRuntime) -> Result<(), Fail> {
     let alloc = rt.alloc();
     let (mut session, _counts) = edited(alloc)?;
     let left = Bytes::copied(alloc, b"A")?;
-    make(
-        &mut session,
-        Ok(Edit::Kern(left, Bytes::copied(alloc, b"V")?, -92)),
-    )?;
-    make(&mut session, Ok(Edit::LenIv(0)))?;
-    let table = printed_uses(alloc, &session)?;
+    session.apply(Edit::Kern(left, Bytes::copied(alloc, b"V")?, -92))?;
+    session.apply(Edit::LenIv(0))?;
+    let table = uses(alloc, &session)?;
     assert_eq!(rt;
         table.as_slice(),
         b"U .notdef ;\nU Aacute ; P A ; P acute ;\nU A ; S 4 ;\nU acute ; S 4 ;\nU V ; S 4 ;\nU space ;\n".as_slice()
     );
-    assert_eq!(rt; run_count(&session), 13);
+    assert_eq!(rt; session.runs(), 13);
     Ok(())
 }
 
@@ -153,14 +152,14 @@ fn runs_nothing_for_pairs_and_prints(rt: HostRuntime) -> Result<(), Fail> {
 fn a_refused_edit_runs_no_more_than_it_touches(rt: HostRuntime) -> Result<(), Fail> {
     let alloc = rt.alloc();
     let (mut session, _counts) = edited(alloc)?;
-    let refused = apply(&mut session, subr_edit(alloc, 4, b"1 0 div return")?);
+    let refused = session.apply(subr_edit(alloc, 4, b"1 0 div return")?);
     assert!(rt; matches!(refused, Err(Cause::Fault(_))));
-    let spent = run_count(&session);
+    let spent = session.runs();
     assert!(rt; 13 <= spent && spent <= 17);
-    make(&mut session, Ok(Edit::RemoveSubr(3)))?;
-    assert_eq!(rt; run_count(&session), spent);
-    let broken = apply(&mut session, Edit::RemoveSubr(3));
+    session.apply(Edit::RemoveSubr(3))?;
+    assert_eq!(rt; session.runs(), spent);
+    let broken = session.apply(Edit::RemoveSubr(3));
     assert!(rt; matches!(broken, Err(Cause::Rule(Rule::E1))));
-    assert_eq!(rt; run_count(&session), spent);
+    assert_eq!(rt; session.runs(), spent);
     Ok(())
 }
