@@ -2,13 +2,12 @@
 use Rattle.std.proofs.Common.{◌≡◌, ℕ, ◌+◌, ◌-◌, ◌*◌, ◌≤◌, ◌<◌, ℤ, pos, ◌+ℤ◌, ◌*ℤ◌, arith, ap, refl}
 use Rattle.std.proofs.lemmas.Int.{ints}
 use borrow.Author.Differences.{up, down, sum_is_lem, product_is, same_in}
-use Rattle.t1_afm.specs.Differences.{linear, square, cube}
+use Rattle.t1_afm.specs.declared.whole.WholeCubic.{WholeCubic}
+use Rattle.t1_afm.specs.Differences.{linear, square, cube, sum_at}
 
--- whole numbers with the weights of a cubic at k/64
-abbrev pub whole_sum : ℤ → ℤ → ℤ → ℤ → ℕ → ℤ
-whole_sum a b c d k =
-    let j = 64 - k in
-    (pos (j * j * j) *ℤ a +ℤ pos (3 * j * j * k) *ℤ b) +ℤ (pos (3 * j * k * k) *ℤ c +ℤ pos (k * k * k) *ℤ d)
+-- the value of a cubic at k/64, times 64^3
+abbrev pub value_at : WholeCubic → ℕ → ℤ
+value_at p k = sum_at p.start p.first p.second p.end k
 
 -- what is added to a Bernstein sum, and what it then is
 abbrev lacking : ℕ → ℕ → ℕ → ℕ → ℕ → ℕ
@@ -46,8 +45,8 @@ weighted_is u v w x a b c d =
     )
 
 sum_is : (a b c d : ℤ) (k : ℕ) → k ≤ 64
-    → up (whole_sum a b c d k) + having k (down a) (down b) (down c) (down d) + lacking k (up a) (up b) (up c) (up d)
-    ≡ down (whole_sum a b c d k) + having k (up a) (up b) (up c) (up d) + lacking k (down a) (down b) (down c) (down d)
+    → up (sum_at a b c d k) + having k (down a) (down b) (down c) (down d) + lacking k (up a) (up b) (up c) (up d)
+    ≡ down (sum_at a b c d k) + having k (up a) (up b) (up c) (up d) + lacking k (down a) (down b) (down c) (down d)
 sum_is a b c d k h =
     let j = 64 - k in
     let e : j + k ≡ 64 = omega arith in
@@ -58,14 +57,16 @@ sum_is a b c d k h =
 
 -- ---- coefficients
 
-linear_is : (a b : ℤ) → up (linear a b) + 12288 * (down b + up a) ≡ down (linear a b) + 12288 * (up b + down a)
-linear_is a b = omega (arith, ints)
+linear_is : (p : WholeCubic) → up (linear p) + 12288 * (down p.first + up p.start) ≡ down (linear p) + 12288 * (up p.first + down p.start)
+linear_is p = omega (arith, ints)
 
-square_is : (a b c : ℤ) → up (square a b c) + 192 * (down a + 2 * up b + down c) ≡ down (square a b c) + 192 * (up a + 2 * down b + up c)
-square_is a b c = omega (arith, ints)
+square_is : (p : WholeCubic)
+    → up (square p) + 192 * (down p.start + 2 * up p.first + down p.second) ≡ down (square p) + 192 * (up p.start + 2 * down p.first + up p.second)
+square_is p = omega (arith, ints)
 
-cube_is : (a b c d : ℤ) → up (cube a b c d) + (down d + up a) + 3 * (down b + up c) ≡ down (cube a b c d) + (up d + down a) + 3 * (up b + down c)
-cube_is a b c d = omega (arith, ints)
+cube_is : (p : WholeCubic)
+    → up (cube p) + (down p.end + up p.start) + 3 * (down p.first + up p.second) ≡ down (cube p) + (up p.end + down p.start) + 3 * (up p.first + down p.second)
+cube_is p = omega (arith, ints)
 
 -- ---- differences
 
@@ -95,22 +96,18 @@ pub second_next : (p q : ℤ) (k : ℕ) → second_at p q (k + 1) ≡ second_at 
 second_next p q k =
     same_in _ _ (omega (arith, second_is p q k, second_is p q (k + 1), product_is (pos 6) p, sum_is_lem (second_at p q k) (pos 6 *ℤ p)))
 
-pub value_next : (a b c d : ℤ) (k : ℕ) → k < 64
-    → whole_sum a b c d (k + 1) ≡ whole_sum a b c d k +ℤ first_at (cube a b c d) (square a b c) (linear a b) k
-value_next a b c d k h =
-    let p = cube a b c d in
-    let q = square a b c in
-    let r = linear a b in
+pub value_next : (p : WholeCubic) (k : ℕ) → k < 64 → value_at p (k + 1) ≡ value_at p k +ℤ first_at (cube p) (square p) (linear p) k
+value_next p k h =
     same_in _ _ (
     omega (
       arith,
-      sum_is a b c d k (omega arith),
-      sum_is a b c d (k + 1) (omega arith),
-      first_is p q r k,
-      sum_is_lem (whole_sum a b c d k) (first_at p q r k),
-      ap (λ x. (3 * k * k + 3 * k + 1) * x) (cube_is a b c d),
-      ap (λ x. (2 * k + 1) * x) (square_is a b c),
-      linear_is a b,
+      sum_is p.start p.first p.second p.end k (omega arith),
+      sum_is p.start p.first p.second p.end (k + 1) (omega arith),
+      first_is (cube p) (square p) (linear p) k,
+      sum_is_lem (value_at p k) (first_at (cube p) (square p) (linear p) k),
+      ap (λ x. (3 * k * k + 3 * k + 1) * x) (cube_is p),
+      ap (λ x. (2 * k + 1) * x) (square_is p),
+      linear_is p,
     )
     )
 

@@ -1,12 +1,15 @@
 -- Sums, differences and multiples in 64 bits.
-use Rattle.std.proofs.Common.{◌≡◌, ℕ, ◌+◌, ◌*◌, ◌≤◌, ◌<◌, ◌^◌, ℤ, pos, negsuc, ◌+ℤ◌, ◌-ℤ◌, ◌*ℤ◌, arith, ◌∙◌}
+use Rattle.std.proofs.Common.{◌≡◌, ℕ, ◌+◌, ◌*◌, ◌≤◌, ◌<◌, ◌^◌, ℤ, pos, negsuc, ◌+ℤ◌, ◌-ℤ◌, ◌*ℤ◌, true, arith, ap, refl, ◌∙◌}
+use mathlib.Core.Logic.{◌⊎◌, inl, inr, ⊎_elim}
 use mir.Syntax.{w32, w64}
 use mir.Val.{to_z, of_z}
-use lib.Signed.{mag}
-use Rattle.std.specs.Int.RustNames.{unsigned_abs, FitsSigned}
+use lib.Signed.{mag, le_z}
+use Rattle.std.specs.Int.{int_min, int_max}
+use Rattle.std.specs.Int.RustNames.{int_lt, unsigned_abs, FitsSigned}
+use Rattle.std.proofs.lemmas.Bool.{cases_cond}
 use Rattle.std.proofs.lemmas.Int.{ints}
 use Rattle.std.proofs.Math.Nat.{mul-le-mul_left}
-use Rattle.t1_afm.specs.Differences.{linear, square, cube}
+use Rattle.t1_afm.proofs.Between.{IsBelow}
 
 abbrev pub read : ℤ → ℤ
 read x = to_z w64 (of_z w64 x)
@@ -68,19 +71,26 @@ multiple_fits k x a m h fits =
 pub read_long : (x a : ℤ) (size : ℕ) → x ≡ a → unsigned_abs x ≤ size → size ≤ 2 ^ 60 → IsLong x a size
 read_long x a size e h fits = record { same = read_small x (omega (arith, h, fits)) ∙ e; bound = rw (← e) h }
 
-pub linear_long : (x a b : ℤ) → unsigned_abs a ≤ 2 ^ 20 → unsigned_abs b ≤ 2 ^ 20 → x ≡ linear (read a) (read b) → unsigned_abs x ≤ 2 ^ 35 → IsLong x (linear a b) (2 ^ 35)
-linear_long x a b ha hb e h =
-    let ra = read_small a (omega (arith, ha)) in let rb = read_small b (omega (arith, hb)) in
-    read_long x (linear a b) (2 ^ 35) (rw (ra, rb) at e) h (omega arith)
+-- ---- the lesser and the greater of two
 
-pub square_long : (x a b c : ℤ) → unsigned_abs a ≤ 2 ^ 20 → unsigned_abs b ≤ 2 ^ 20 → unsigned_abs c ≤ 2 ^ 20
-    → x ≡ square (read a) (read b) (read c) → unsigned_abs x ≤ 2 ^ 30 → IsLong x (square a b c) (2 ^ 30)
-square_long x a b c ha hb hc e h =
-    let ra = read_small a (omega (arith, ha)) in let rb = read_small b (omega (arith, hb)) in let rc = read_small c (omega (arith, hc)) in
-    read_long x (square a b c) (2 ^ 30) (rw (ra, rb, rc) at e) h (omega arith)
+-- one of two numbers is picked
+abbrev pub IsPick : (ℤ → ℤ → ℤ) → Type 0
+IsPick f = (a b : ℤ) → (f a b ≡ a) ⊎ (f a b ≡ b)
 
-pub cube_long : (x a b c d : ℤ) → unsigned_abs a ≤ 2 ^ 20 → unsigned_abs b ≤ 2 ^ 20 → unsigned_abs c ≤ 2 ^ 20 → unsigned_abs d ≤ 2 ^ 20
-    → x ≡ cube (read a) (read b) (read c) (read d) → unsigned_abs x ≤ 2 ^ 23 → IsLong x (cube a b c d) (2 ^ 23)
-cube_long x a b c d ha hb hc hd e h =
-    let ra = read_small a (omega (arith, ha)) in let rb = read_small b (omega (arith, hb)) in let rc = read_small c (omega (arith, hc)) in let rd = read_small d (omega (arith, hd)) in
-    read_long x (cube a b c d) (2 ^ 23) (rw (ra, rb, rc, rd) at e) h (omega arith)
+pub least_is_pick : IsPick int_min
+least_is_pick a b = ⊎_elim inr inl (cases_cond (int_lt b a) b a _ refl)
+
+pub greatest_is_pick : IsPick int_max
+greatest_is_pick a b = cases_cond (int_lt b a) a b _ refl
+
+pub pick_long : (f : ℤ → ℤ → ℤ) → IsPick f → (x y z a b : ℤ) (m : ℕ) → IsLong x a m → IsLong y b m → m ≤ 2 ^ 60 → z ≡ f (read x) (read y) → IsLong z (f a b) m
+pick_long f picks x y z a b m h k fits e =
+    let is : z ≡ f a b = rw (h.same, k.same) at e in
+    let bound : unsigned_abs (f a b) ≤ m = ⊎_elim (λ p. rw p h.bound) (λ p. rw p k.bound) (picks a b) in
+    record { same = ap read is ∙ read_small (f a b) (omega (arith, bound, fits)); bound = bound }
+
+-- two of 64 bits are compared
+pub below_long : (x y a b : ℤ) (m n : ℕ) → IsLong x a m → IsLong y b n → le_z (read x) (read y) ≡ true → IsBelow a b
+below_long x y a b m n h k t =
+    let u : le_z a b ≡ true = rw (h.same, k.same) at t in
+    record { below = omega (arith, ints, u) }

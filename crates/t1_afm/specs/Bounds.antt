@@ -3,6 +3,7 @@ use Rattle.std.specs.Prelude.{ℕ, ◌+◌, ◌*◌, ◌≤◌, ◌<◌, ◌^◌
 use borrow.Author.Differences.{up, down}
 use Rattle.t1_frac.specs.Fraction.{Fraction}
 use Rattle.t1_afm.specs.declared.ratio.Ratio.{Ratio}
+use Rattle.t1_afm.specs.declared.ratio.WeightedPair.{WeightedPair}
 
 -- profile: the fraction is p - q or more
 pub record AtLeast (p q : ℕ) (a : Fraction) : Type 0 where
@@ -21,6 +22,10 @@ pub record IsInRange (a : Fraction) : Type 0 where
 -- profile: a ratio, as a fraction
 abbrev pub fraction_of : Ratio → Fraction
 fraction_of r = record { num = r.num; den = r.den }
+
+-- profile: the sum of two weighted coordinates, as a fraction
+abbrev pub pair_fraction : WeightedPair → Fraction
+pair_fraction p = record { num = p.num; den = p.den }
 
 -- profile: a sum over 64^3
 abbrev pub over_cube : ℤ → Fraction

@@ -1,15 +1,14 @@
 //! The values of a cubic along one axis.
 
-ghost use Rattle.std.specs.Prelude.{◌≡◌, ◌≤◌, ◌^◌};
-ghost use Rattle.std.specs.Int.RustNames.{unsigned_abs};
+ghost use Rattle.std.specs.Prelude.{◌≡◌, ◌≤◌};
 ghost use Rattle.t1_frac.specs.Limits.{IsCoordinate};
 ghost use Rattle.t1_afm.specs.Points.{cubic_at, cubic_values};
 ghost use Rattle.t1_afm.specs.Spans.{span_of, span_around_one, ends_of, hull_of};
 ghost use Rattle.t1_afm.specs.Bounds.{IsInRange, fraction_of};
 
-use crate::ratio::{Ratio, pair, sum};
+use crate::ratio::{Ratio, WeightedPair};
 use crate::span::{Span, is_whole, line_span};
-use crate::whole::whole_span;
+use crate::whole::WholeCubic;
 use t1_frac::Frac;
 
 /// A cubic along one axis, by the coordinates of its four points.
@@ -29,14 +28,12 @@ impl Cubic {
     /// The value at k/64.
     fn terms_at(&self, k: u32) -> Ratio
         requires { k ≤ 64 }
-        ensures value { fraction_of result ≡ cubic_at self.now.start self.now.first self.now.second self.now.end k }
-        ensures num { unsigned_abs result.num ≤ 2 ^ 120 }
-        ensures den { result.den ≤ 2 ^ 98 }
+        ensures { fraction_of result ≡ cubic_at self.now.start self.now.first self.now.second self.now.end k }
     {
         let j = 64 - k;
-        let front = pair(j * j * j, &self.start, 3 * j * j * k, &self.first);
-        let back = pair(3 * j * k * k, &self.second, k * k * k, &self.end);
-        sum(&front, &back)
+        let front = WeightedPair::of(j * j * j, &self.start, 3 * j * j * k, &self.first);
+        let back = WeightedPair::of(3 * j * k * k, &self.second, k * k * k, &self.end);
+        front.sum(&back)
     }
 
     /// The value at k/64, which is within the range of coordinates.
@@ -44,8 +41,6 @@ impl Cubic {
         requires { k ≤ 64 }
         ensures value { fraction_of result ≡ cubic_at self.now.start self.now.first self.now.second self.now.end k }
         ensures range { IsInRange (fraction_of result) }
-        ensures num { unsigned_abs result.num ≤ 2 ^ 120 }
-        ensures den { result.den ≤ 2 ^ 98 }
     {
         self.terms_at(k)
     }
@@ -112,12 +107,13 @@ impl Cubic {
             && is_whole(&self.second)
             && is_whole(&self.end)
         {
-            return whole_span(
-                self.start.num(),
-                self.first.num(),
-                self.second.num(),
-                self.end.num(),
-            );
+            let cubic = WholeCubic {
+                start: self.start.num(),
+                first: self.first.num(),
+                second: self.second.num(),
+                end: self.end.num(),
+            };
+            return cubic.span();
         }
         self.fraction_span()
     }

@@ -2,18 +2,28 @@
 
 ghost use Rattle.std.specs.Prelude.{◌≡◌, ◌≤◌, ◌*◌, ◌^◌, ◌*ℤ◌, pos};
 ghost use Rattle.std.specs.Int.RustNames.{unsigned_abs};
-ghost use Rattle.t1_frac.specs.Fraction.{plus, negated as negated_of, floor_of, ceiling_of};
+ghost use Rattle.t1_frac.specs.Fraction.{plus};
 ghost use Rattle.t1_frac.specs.Limits.{IsCoordinate};
-ghost use Rattle.t1_afm.specs.Points.{times as weighed, over_whole};
-ghost use Rattle.t1_afm.specs.Bounds.{IsInRange, fraction_of};
+ghost use Rattle.t1_afm.specs.Points.{times as weighed};
 
 use t1_frac::Frac;
 
-/// A fraction whose terms may need 128 bits.
+/// The sum of two coordinates, each times its weight.
+#[derive(Clone, Copy, Debug)]
+pub(crate) struct WeightedPair {
+    num: i128,
+    den: u128,
+    ghost num_size: { unsigned_abs num ≤ 2 ^ 79 },
+    ghost den_size: { den ≤ 2 ^ 40 },
+}
+
+/// A curve's value.
 #[derive(Clone, Copy, Debug)]
 pub(crate) struct Ratio {
     num: i128,
     den: u128,
+    ghost num_size: { unsigned_abs num ≤ 2 ^ 120 },
+    ghost den_size: { den ≤ 2 ^ 98 },
 }
 
 /// A numerator times a weight.
@@ -71,74 +81,66 @@ fn pair_den(a: &Frac, b: &Frac) -> u128
     u128::from(a.den().unsigned_abs()) * u128::from(b.den().unsigned_abs())
 }
 
-/// The sum of two coordinates, each times its weight.
-pub(crate) fn pair(u: u32, a: &Frac, v: u32, b: &Frac) -> Ratio
-    requires left { u ≤ 2 ^ 18 }
-    requires right { v ≤ 2 ^ 18 }
-    requires a { IsCoordinate a.now }
-    requires b { IsCoordinate b.now }
-    ensures value { fraction_of result ≡ plus (weighed u a.now) (weighed v b.now) }
-    ensures num { unsigned_abs result.num ≤ 2 ^ 79 }
-    ensures den { result.den ≤ 2 ^ 40 }
-{
-    Ratio {
-        num: pair_num(u, a, v, b),
-        den: pair_den(a, b),
+impl WeightedPair {
+    ghost use Rattle.t1_afm.specs.Points.{over_whole};
+    ghost use Rattle.t1_afm.specs.Bounds.{fraction_of, pair_fraction};
+
+    /// The sum of two coordinates, each times its weight.
+    pub(crate) fn of(u: u32, a: &Frac, v: u32, b: &Frac) -> WeightedPair
+        requires left { u ≤ 2 ^ 18 }
+        requires right { v ≤ 2 ^ 18 }
+        requires a { IsCoordinate a.now }
+        requires b { IsCoordinate b.now }
+        ensures { pair_fraction result ≡ plus (weighed u a.now) (weighed v b.now) }
+    {
+        WeightedPair {
+            num: pair_num(u, a, v, b),
+            den: pair_den(a, b),
+        }
     }
-}
 
-/// A sum's numerator, widened by the denominator of another.
-fn widened(p: &Ratio, q: &Ratio) -> i128
-    requires num { unsigned_abs p.now.num ≤ 2 ^ 79 }
-    requires den { q.now.den ≤ 2 ^ 40 }
-    ensures value { result ≡ p.now.num *ℤ pos q.now.den }
-    ensures size { unsigned_abs result ≤ 2 ^ 119 }
-{
-    p.num * q.den as i128
-}
+    /// The numerator, widened by the denominator of another sum.
+    fn widened(&self, other: &WeightedPair) -> i128
+        ensures value { result ≡ self.now.num *ℤ pos other.now.den }
+        ensures size { unsigned_abs result ≤ 2 ^ 119 }
+    {
+        self.num * other.den as i128
+    }
 
-/// The numerator of the sum of two sums.
-fn sum_num(p: &Ratio, q: &Ratio) -> i128
-    requires left { unsigned_abs p.now.num ≤ 2 ^ 79 }
-    requires left_den { p.now.den ≤ 2 ^ 40 }
-    requires right { unsigned_abs q.now.num ≤ 2 ^ 79 }
-    requires right_den { q.now.den ≤ 2 ^ 40 }
-    ensures value { result ≡ (plus (fraction_of p.now) (fraction_of q.now)).num }
-    ensures size { unsigned_abs result ≤ 2 ^ 120 }
-{
-    let left = widened(p, q);
-    let right = widened(q, p);
-    left + right
-}
+    /// The numerator of both sums together.
+    fn sum_num(&self, other: &WeightedPair) -> i128
+        ensures value { result ≡ (plus (pair_fraction self.now) (pair_fraction other.now)).num }
+        ensures size { unsigned_abs result ≤ 2 ^ 120 }
+    {
+        let left = self.widened(other);
+        let right = other.widened(self);
+        left + right
+    }
 
-/// The sum of two sums, over 64^3.
-pub(crate) fn sum(p: &Ratio, q: &Ratio) -> Ratio
-    requires left { unsigned_abs p.now.num ≤ 2 ^ 79 }
-    requires left_den { p.now.den ≤ 2 ^ 40 }
-    requires right { unsigned_abs q.now.num ≤ 2 ^ 79 }
-    requires right_den { q.now.den ≤ 2 ^ 40 }
-    ensures value { fraction_of result ≡ over_whole 262144 (plus (fraction_of p.now) (fraction_of q.now)) }
-    ensures den { result.den ≤ 2 ^ 98 }
-    ensures num { unsigned_abs result.num ≤ 2 ^ 120 }
-{
-    Ratio {
-        num: sum_num(p, q),
-        den: 262_144 * (p.den * q.den),
+    /// Both sums together, over 64^3.
+    pub(crate) fn sum(&self, other: &WeightedPair) -> Ratio
+        ensures { fraction_of result ≡ over_whole 262144 (plus (pair_fraction self.now) (pair_fraction other.now)) }
+    {
+        Ratio {
+            num: self.sum_num(other),
+            den: 262_144 * (self.den * other.den),
+        }
     }
 }
 
 impl Ratio {
+    ghost use Rattle.t1_frac.specs.Fraction.{negated as negated_of, floor_of, ceiling_of};
+    ghost use Rattle.t1_afm.specs.Bounds.{IsInRange, fraction_of};
+
     fn floor_wide(&self) -> i128
-        requires range { IsInRange (fraction_of self.now) }
-        requires den { self.now.den ≤ 2 ^ 98 }
+        requires { IsInRange (fraction_of self.now) }
         ensures { result ≡ floor_of (fraction_of self.now) }
     {
         self.num.div_euclid(self.den as i128)
     }
 
     pub(crate) fn floor(&self) -> i32
-        requires range { IsInRange (fraction_of self.now) }
-        requires den { self.now.den ≤ 2 ^ 98 }
+        requires { IsInRange (fraction_of self.now) }
         ensures value { result ≡ floor_of (fraction_of self.now) }
         ensures size { unsigned_abs result ≤ 2 ^ 20 }
     {
@@ -147,9 +149,7 @@ impl Ratio {
 
     /// The fraction with the other sign.
     fn negated(&self) -> Ratio
-        requires { unsigned_abs self.now.num ≤ 2 ^ 120 }
-        ensures value { fraction_of result ≡ negated_of (fraction_of self.now) }
-        ensures den { result.den ≡ self.now.den }
+        ensures { fraction_of result ≡ negated_of (fraction_of self.now) }
     {
         Ratio {
             num: -self.num,
@@ -158,9 +158,7 @@ impl Ratio {
     }
 
     pub(crate) fn ceil(&self) -> i32
-        requires range { IsInRange (fraction_of self.now) }
-        requires num { unsigned_abs self.now.num ≤ 2 ^ 120 }
-        requires den { self.now.den ≤ 2 ^ 98 }
+        requires { IsInRange (fraction_of self.now) }
         ensures { result ≡ ceiling_of (fraction_of self.now) }
     {
         let negated = self.negated();

@@ -2,45 +2,23 @@
 
 ghost use Rattle.std.specs.Prelude.{◌≡◌, ◌≤◌, ◌^◌, ◌*ℤ◌, ◌+ℤ◌, pos};
 ghost use Rattle.std.specs.Int.RustNames.{unsigned_abs};
-ghost use Rattle.t1_frac.specs.Fraction.{whole, floor_of, ceiling_of};
-ghost use Rattle.t1_afm.specs.Points.{cubic_values};
+ghost use Rattle.t1_frac.specs.Fraction.{floor_of, ceiling_of};
 ghost use Rattle.t1_afm.specs.Spans.{span_of};
 ghost use Rattle.t1_afm.specs.Bounds.{IsInRange, over_cube};
-ghost use Rattle.t1_afm.specs.Differences.{linear as linear_of, square as square_of, cube as cube_of, least_sum, greatest_sum};
 
 use crate::span::Span;
 
-/// The linear coefficient of a cubic's values at k/64, times 64^3.
-fn linear(a: i64, b: i64) -> i64
-    requires a { unsigned_abs a ≤ 2 ^ 20 }
-    requires b { unsigned_abs b ≤ 2 ^ 20 }
-    ensures value { result ≡ linear_of a b }
-    ensures size { unsigned_abs result ≤ 2 ^ 35 }
-{
-    12_288 * (b - a)
-}
-
-/// The coefficient of the square.
-fn square(a: i64, b: i64, c: i64) -> i64
-    requires a { unsigned_abs a ≤ 2 ^ 20 }
-    requires b { unsigned_abs b ≤ 2 ^ 20 }
-    requires c { unsigned_abs c ≤ 2 ^ 20 }
-    ensures value { result ≡ square_of a b c }
-    ensures size { unsigned_abs result ≤ 2 ^ 30 }
-{
-    192 * (a - 2 * b + c)
-}
-
-/// The coefficient of the cube.
-fn cube(a: i64, b: i64, c: i64, d: i64) -> i64
-    requires a { unsigned_abs a ≤ 2 ^ 20 }
-    requires b { unsigned_abs b ≤ 2 ^ 20 }
-    requires c { unsigned_abs c ≤ 2 ^ 20 }
-    requires d { unsigned_abs d ≤ 2 ^ 20 }
-    ensures value { result ≡ cube_of a b c d }
-    ensures size { unsigned_abs result ≤ 2 ^ 23 }
-{
-    d - a + 3 * (b - c)
+/// A cubic along one axis, by the whole coordinates of its four points.
+#[derive(Clone, Copy, Debug)]
+pub struct WholeCubic {
+    pub start: i64,
+    pub first: i64,
+    pub second: i64,
+    pub end: i64,
+    ghost start_size: { unsigned_abs start ≤ 2 ^ 20 },
+    ghost first_size: { unsigned_abs first ≤ 2 ^ 20 },
+    ghost second_size: { unsigned_abs second ≤ 2 ^ 20 },
+    ghost end_size: { unsigned_abs end ≤ 2 ^ 20 },
 }
 
 /// A value of a cubic at a sixty-fourth, times 64^3, with the differences that lead to the next values.
@@ -53,22 +31,20 @@ struct Sample {
 }
 
 impl Sample {
+    ghost use Rattle.t1_afm.specs.Differences.{linear as linear_of, square as square_of, cube as cube_of};
+
     /// The value at 0.
-    fn start(a: i64, b: i64, c: i64, d: i64) -> Sample
-        requires a { unsigned_abs a ≤ 2 ^ 20 }
-        requires b { unsigned_abs b ≤ 2 ^ 20 }
-        requires c { unsigned_abs c ≤ 2 ^ 20 }
-        requires d { unsigned_abs d ≤ 2 ^ 20 }
-        ensures value { result.value ≡ pos 262144 *ℤ a }
-        ensures first { result.first ≡ cube_of a b c d +ℤ square_of a b c +ℤ linear_of a b }
-        ensures second { result.second ≡ pos 6 *ℤ cube_of a b c d +ℤ pos 2 *ℤ square_of a b c }
-        ensures third { result.third ≡ pos 6 *ℤ cube_of a b c d }
+    fn start(cubic: &WholeCubic) -> Sample
+        ensures value { result.value ≡ pos 262144 *ℤ cubic.now.start }
+        ensures first { result.first ≡ cube_of cubic.now +ℤ square_of cubic.now +ℤ linear_of cubic.now }
+        ensures second { result.second ≡ pos 6 *ℤ cube_of cubic.now +ℤ pos 2 *ℤ square_of cubic.now }
+        ensures third { result.third ≡ pos 6 *ℤ cube_of cubic.now }
     {
-        let linear = linear(a, b);
-        let square = square(a, b, c);
-        let cube = cube(a, b, c, d);
+        let linear = cubic.linear();
+        let square = cubic.square();
+        let cube = cubic.cube();
         Sample {
-            value: 262_144 * a,
+            value: 262_144 * cubic.start,
             first: cube + square + linear,
             second: 6 * cube + 2 * square,
             third: 6 * cube,
@@ -120,62 +96,78 @@ pub struct Sums {
     pub greatest: i64,
 }
 
-/// The least and the greatest of the 65 values, value by value.
-pub fn cubic_sums(a: i64, b: i64, c: i64, d: i64) -> Sums
-    requires a { unsigned_abs a ≤ 2 ^ 20 }
-    requires b { unsigned_abs b ≤ 2 ^ 20 }
-    requires c { unsigned_abs c ≤ 2 ^ 20 }
-    requires d { unsigned_abs d ≤ 2 ^ 20 }
-    ensures least { result.least ≡ least_sum a b c d }
-    ensures greatest { result.greatest ≡ greatest_sum a b c d }
-    ensures least_range { IsInRange (over_cube result.least) }
-    ensures greatest_range { IsInRange (over_cube result.greatest) }
-    ensures least_size { unsigned_abs result.least ≤ 2 ^ 38 }
-    ensures greatest_size { unsigned_abs result.greatest ≤ 2 ^ 38 }
-    ensures span { record { low = floor_of (over_cube result.least); high = ceiling_of (over_cube result.greatest) } ≡ span_of (cubic_values (whole a) (whole b) (whole c) (whole d)) }
-{
-    let mut sample = Sample::start(a, b, c, d);
-    let mut least = sample.value;
-    let mut greatest = sample.value;
-    for _k in 0..64_u32 {
-        sample = sample.next();
-        least = least.min(sample.value);
-        greatest = greatest.max(sample.value);
-    }
-    Sums { least, greatest }
-}
+impl WholeCubic {
+    ghost use Rattle.t1_afm.specs.Differences.{linear as linear_of, square as square_of, cube as cube_of, least_sum, greatest_sum, whole_values};
 
-/// The span around the 65 values.
-fn sampled_span(a: i64, b: i64, c: i64, d: i64) -> Span
-    requires a { unsigned_abs a ≤ 2 ^ 20 }
-    requires b { unsigned_abs b ≤ 2 ^ 20 }
-    requires c { unsigned_abs c ≤ 2 ^ 20 }
-    requires d { unsigned_abs d ≤ 2 ^ 20 }
-    ensures { result ≡ span_of (cubic_values (whole a) (whole b) (whole c) (whole d)) }
-{
-    let sums = cubic_sums(a, b, c, d);
-    Span {
-        low: floor(sums.least),
-        high: ceil(sums.greatest),
+    /// The linear coefficient of the values at k/64, times 64^3.
+    fn linear(&self) -> i64
+        ensures value { result ≡ linear_of self.now }
+        ensures size { unsigned_abs result ≤ 2 ^ 35 }
+    {
+        12_288 * (self.first - self.start)
     }
-}
 
-/// The span around the 65 values of a cubic. Where its four points reach no further than its ends, as in most
-/// curves of a font, neither do the values between.
-pub(crate) fn whole_span(a: i64, b: i64, c: i64, d: i64) -> Span
-    requires a { unsigned_abs a ≤ 2 ^ 20 }
-    requires b { unsigned_abs b ≤ 2 ^ 20 }
-    requires c { unsigned_abs c ≤ 2 ^ 20 }
-    requires d { unsigned_abs d ≤ 2 ^ 20 }
-    ensures { result ≡ span_of (cubic_values (whole a) (whole b) (whole c) (whole d)) }
-{
-    let low = a.min(d);
-    let high = a.max(d);
-    if low <= b.min(c) && b.max(c) <= high {
-        return Span {
-            low: low as i32,
-            high: high as i32,
-        };
+    /// The coefficient of the square.
+    fn square(&self) -> i64
+        ensures value { result ≡ square_of self.now }
+        ensures size { unsigned_abs result ≤ 2 ^ 30 }
+    {
+        192 * (self.start - 2 * self.first + self.second)
     }
-    sampled_span(a, b, c, d)
+
+    /// The coefficient of the cube.
+    fn cube(&self) -> i64
+        ensures value { result ≡ cube_of self.now }
+        ensures size { unsigned_abs result ≤ 2 ^ 23 }
+    {
+        self.end - self.start + 3 * (self.first - self.second)
+    }
+
+    /// The least and the greatest of the 65 values, value by value.
+    pub fn sums(&self) -> Sums
+        ensures least { result.least ≡ least_sum self.now.start self.now.first self.now.second self.now.end }
+        ensures greatest { result.greatest ≡ greatest_sum self.now.start self.now.first self.now.second self.now.end }
+        ensures least_range { IsInRange (over_cube result.least) }
+        ensures greatest_range { IsInRange (over_cube result.greatest) }
+        ensures least_size { unsigned_abs result.least ≤ 2 ^ 38 }
+        ensures greatest_size { unsigned_abs result.greatest ≤ 2 ^ 38 }
+        ensures span { record { low = floor_of (over_cube result.least); high = ceiling_of (over_cube result.greatest) } ≡ span_of (whole_values self.now) }
+    {
+        let mut sample = Sample::start(self);
+        let mut least = sample.value;
+        let mut greatest = sample.value;
+        for _k in 0..64_u32 {
+            sample = sample.next();
+            least = least.min(sample.value);
+            greatest = greatest.max(sample.value);
+        }
+        Sums { least, greatest }
+    }
+
+    /// The span around the 65 values, value by value.
+    fn sampled_span(&self) -> Span
+        ensures { result ≡ span_of (whole_values self.now) }
+    {
+        let sums = self.sums();
+        Span {
+            low: floor(sums.least),
+            high: ceil(sums.greatest),
+        }
+    }
+
+    /// The span around the 65 values. Where the four points reach no further than the ends, as in most curves of a
+    /// font, neither do the values between.
+    pub(crate) fn span(&self) -> Span
+        ensures { result ≡ span_of (whole_values self.now) }
+    {
+        let low = self.start.min(self.end);
+        let high = self.start.max(self.end);
+        if low <= self.first.min(self.second) && self.first.max(self.second) <= high {
+            return Span {
+                low: low as i32,
+                high: high as i32,
+            };
+        }
+        self.sampled_span()
+    }
 }

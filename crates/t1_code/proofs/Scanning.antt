@@ -309,9 +309,9 @@ past_word word text end None all h e on = word_goes_further word text end e on
 past_word word text end (Some after) all h e off =
     let found = word_found word text end all h e off.0 in (found.0, off.1 ∙ ap (drop 1) found.1)
 
-pub past_array : (n : ℕ) (word text front end : List ℕ) (differs : Bool) (past : Option (Bor (List ℕ))) → length word ≡ n → list_all (λ c. not (is_blank c)) word ≡ true
-    → front ≡ take n text → end ≡ drop n text → differs ≡ not (bytes_eq front word) → differs ≡ false
+pub past_array : (n : ℕ) (word text front end : List ℕ) (same : Bool) (past : Option (Bor (List ℕ))) → length word ≡ n → list_all (λ c. not (is_blank c)) word ≡ true
+    → front ≡ take n text → end ≡ drop n text → same ≡ bytes_eq front word → same ≡ true
     → MatchOption past (word_goes_on end ≡ true) (λ after. (word_goes_on end ≡ false) × (after.now ≡ drop 1 end))
     → MatchOption past (bytes_eq (first_word text) word ≡ false) (λ after. (bytes_eq (first_word text) word ≡ true) × (after.now ≡ drop 1 (drop (position_or_len is_blank text) text)))
-past_array n word text front end differs past len all f e is same =
-    past_word word text end past all (ap (λ l. bytes_eq l word) (ap (λ k. take k text) len ∙ sym f) ∙ not-false (bytes_eq front word) (sym is ∙ same)) (e ∙ ap (λ k. drop k text) (sym len))
+past_array n word text front end same past len all f e is on =
+    past_word word text end past all (ap (λ l. bytes_eq l word) (ap (λ k. take k text) len ∙ sym f) ∙ sym is ∙ on) (e ∙ ap (λ k. drop k text) (sym len))

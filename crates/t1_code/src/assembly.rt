@@ -59,10 +59,7 @@ pub fn encrypt_words(code: &mut Vec<u8>, lead: u8, words: &Words) -> Result<(), 
     code.clear();
     code.resize(usize::from(lead), 0)?;
     assemble_onto(code, words)?;
-    Cipher {
-        key: CHARSTRING_KEY,
-    }
-    .encrypt(code);
+    Cipher::new(CHARSTRING_KEY).encrypt(code);
     Ok(())
 }
 

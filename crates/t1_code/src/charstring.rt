@@ -128,9 +128,6 @@ pub fn encrypted_charstring(
 {
     let mut code = vec![in alloc; 0; usize::from(lead)]?;
     push_commands(&mut code, commands)?;
-    Cipher {
-        key: CHARSTRING_KEY,
-    }
-    .encrypt(&mut code);
+    Cipher::new(CHARSTRING_KEY).encrypt(&mut code);
     Ok(code)
 }

@@ -1,9 +1,12 @@
 //! Bytes on their way to a writer, which is handed a chunk of them at a time.
-ghost use Rattle.std.specs.Prelude.{◌≡◌, ◌<◌, ◌≤◌, ◌+◌, [], ◌++◌, length, take, OnOk};
+ghost use Rattle.std.specs.Prelude.{◌≡◌, ◌<◌, ◌≤◌, ◌+◌, [], ◌++◌, true, false, length, take, OnOk};
+ghost use Rattle.t1_code.specs.Cipher.{cipher as encrypted, key_after};
 ghost use Rattle.t1_code.specs.Counted.{Puts, Writes, outlet};
 ghost use Rattle.t1_code.specs.Parts.{bytes_of};
 
+use crate::cipher::Cipher;
 use crate::counted::{Counted, MAX_PUT};
+use crate::pieces::total_len;
 use std::io::{self, Write};
 use std::marker::Model;
 
@@ -25,12 +28,22 @@ impl Model for Chunk {
 }
 
 /// Puts more bytes in the place of those that stand from there on.
-pub(crate) fn put_at(bytes: &mut [u8], place: usize, more: &[u8])
+fn put_at(bytes: &mut [u8], place: usize, more: &[u8])
     requires { place + length more.now ≤ length bytes.old }
     ensures len { length bytes.new ≡ length bytes.old }
     ensures front { take (place + length more.now) bytes.new ≡ take place bytes.old ++ more.now }
 {
     bytes[place..place + more.len()].copy_from_slice(more);
+}
+
+/// Encrypts so many bytes at the front.
+fn encrypt_front(bytes: &mut [u8], len: usize, cipher: &mut Cipher)
+    requires { len ≤ length bytes.old }
+    ensures len { length bytes.new ≡ length bytes.old }
+    ensures front { take len bytes.new ≡ encrypted cipher.old (take len bytes.old) }
+    ensures key { cipher.new ≡ key_after cipher.old (take len bytes.new) }
+{
+    cipher.encrypt(&mut bytes[..len]);
 }
 
 impl Chunk {
@@ -53,6 +66,28 @@ impl Chunk {
         self.len += bytes.len();
     }
 
+    /// Puts slices after the others, one after another, where it takes them all.
+    pub(crate) fn keep_all(&mut self, slices: &[&[u8]]) -> bool
+        ensures kept { result ≡ true → self.new ≡ self.old ++ bytes_of slices.now }
+        ensures left { result ≡ false → self.new ≡ self.old }
+    {
+        if total_len(slices) > self.room() {
+            return false;
+        }
+        for slice in slices {
+            self.keep(slice);
+        }
+        true
+    }
+
+    /// Encrypts the bytes that wait.
+    pub(crate) fn encrypt(&mut self, cipher: &mut Cipher)
+        ensures bytes { self.new ≡ encrypted cipher.old self.old }
+        ensures key { cipher.new ≡ key_after cipher.old self.new }
+    {
+        encrypt_front(&mut self.bytes, self.len, cipher);
+    }
+
     /// How many bytes more it takes.
     fn room(&self) -> usize
         ensures { length self.now + result ≡ 4096 }
@@ -60,13 +95,13 @@ impl Chunk {
         MAX_PUT - self.len
     }
 
-    fn as_slice(&self) -> &[u8]
+    pub(crate) fn as_slice(&self) -> &[u8]
         ensures { result.now ≡ self.now }
     {
         self.bytes.split_at(self.len).0
     }
 
-    fn clear(&mut self)
+    pub(crate) fn clear(&mut self)
         ensures { self.new ≡ [] }
     {
         self.len = 0;

@@ -1,12 +1,12 @@
 //! The private text on its way into a file: encrypted, in segments or in lines of digits.
-ghost use Rattle.std.specs.Prelude.{◌≡◌, ◌≤◌, length, take, IfSome, OnOk};
+ghost use Rattle.std.specs.Prelude.{◌≡◌, ◌≤◌, [], length, OnOk};
 ghost use Rattle.std.specs.List.{flat_map};
 ghost use Rattle.t1_code.specs.Cipher.{cipher as encrypted, eexec, key_after};
 ghost use Rattle.t1_code.specs.Counted.{Puts, outlet};
 ghost use Rattle.t1_code.specs.Eexec.{formed, form_after, EexecState, enciphered, state_after};
 ghost use Rattle.t1_code.specs.Parts.{piece_text, bytes_of};
 
-use crate::chunk::{Chunk, put_at};
+use crate::chunk::Chunk;
 use crate::cipher::Cipher;
 use crate::counted::{Counted, MAX_PUT};
 use crate::hexadecimal::HexLines;
@@ -60,44 +60,17 @@ impl Model for EexecWriter {
 
     ghost Value = { EexecState };
 
-    ghost view = { λ s. record { key = s.cipher.key; form = s.form } };
+    ghost view = { λ s. record { key = s.cipher; form = s.form } };
 }
 
 /// Puts the cipher bytes of plain ones, no more than the buffer holds, at the buffer's front.
 fn encrypt_into<'a>(cipher: &mut Cipher, buffer: &'a mut [u8; MAX_PUT], plain: &[u8]) -> &'a [u8]
     requires { length plain.now ≤ 4096 }
-    ensures bytes { result.now ≡ encrypted cipher.old.key plain.now }
-    ensures key { cipher.new.key ≡ key_after cipher.old.key (encrypted cipher.old.key plain.now) }
+    ensures bytes { result.now ≡ encrypted cipher.old plain.now }
+    ensures key { cipher.new ≡ key_after cipher.old (encrypted cipher.old plain.now) }
 {
     let place = buffer.split_at_mut(plain.len()).0;
     place.copy_from_slice(plain);
-    cipher.encrypt(place);
-    place
-}
-
-/// Puts slices at a buffer's front, one after another: how long they are, where the buffer holds them.
-fn gather(buffer: &mut [u8; MAX_PUT], slices: &[&[u8]]) -> Option<usize>
-    ensures within { IfSome result (λ len. len ≤ 4096) }
-    ensures bytes { IfSome result (λ len. take len buffer.new ≡ bytes_of slices.now) }
-{
-    let mut len = 0;
-    for slice in slices {
-        if slice.len() > MAX_PUT - len {
-            return None;
-        }
-        put_at(buffer, len, slice);
-        len += slice.len();
-    }
-    Some(len)
-}
-
-/// Encrypts so many bytes at a buffer's front.
-fn encrypt_front<'a>(cipher: &mut Cipher, buffer: &'a mut [u8; MAX_PUT], len: usize) -> &'a [u8]
-    requires { len ≤ 4096 }
-    ensures bytes { result.now ≡ encrypted cipher.old.key (take len buffer.old) }
-    ensures key { cipher.new.key ≡ key_after cipher.old.key (encrypted cipher.old.key (take len buffer.old)) }
-{
-    let place = buffer.split_at_mut(len).0;
     cipher.encrypt(place);
     place
 }
@@ -108,7 +81,7 @@ impl EexecWriter {
         ensures form { result.form ≡ form }
     {
         EexecWriter {
-            cipher: Cipher { key: EEXEC_KEY },
+            cipher: Cipher::new(EEXEC_KEY),
             form,
             buffer: [0; MAX_PUT],
         }
@@ -150,24 +123,24 @@ impl EexecWriter {
         Ok(())
     }
 
-    /// Passes slices on encrypted, one after another: in one go, where the buffer holds them together.
-    fn put_slices<W: Write>(
+    /// Passes the bytes that wait on encrypted.
+    fn pass<W: Write>(
         &mut self,
         out: &mut Counted<W>,
         chunk: &mut Chunk,
-        slices: &[&[u8]],
+        waiting: &mut Chunk,
     ) -> io::Result<()>
-        ensures text { Puts W.contents (outlet out.old chunk.old) (outlet out.new chunk.new) (enciphered self.old (bytes_of slices.now)) result }
-        ensures state { OnOk result (self.new ≡ state_after self.old (bytes_of slices.now)) }
+        ensures text { Puts W.contents (outlet out.old chunk.old) (outlet out.new chunk.new) (enciphered self.old waiting.old) result }
+        ensures state { OnOk result (self.new ≡ state_after self.old waiting.old) }
+        ensures empty { OnOk result (waiting.new ≡ []) }
     {
-        let Some(len) = gather(&mut self.buffer, slices) else {
-            return self.put_each(out, chunk, slices);
-        };
-        let encrypted = encrypt_front(&mut self.cipher, &mut self.buffer, len);
-        self.form.put(out, chunk, encrypted)
+        waiting.encrypt(&mut self.cipher);
+        self.form.put(out, chunk, waiting.as_slice())?;
+        waiting.clear();
+        Ok(())
     }
 
-    /// Passes pieces of the private text on encrypted.
+    /// Passes pieces of the private text on encrypted, as many of them in one go as a chunk takes.
     fn put_pieces<W: Write>(
         &mut self,
         out: &mut Counted<W>,
@@ -176,12 +149,20 @@ impl EexecWriter {
     ) -> io::Result<()>
         ensures text { Puts W.contents (outlet out.old chunk.old) (outlet out.new chunk.new) (enciphered self.old (flat_map piece_text pieces.now)) result }
     {
+        let mut waiting = Chunk::new();
         for piece in pieces {
             let mut buffer = Buffer::new();
             let digits = buffer.format(charstring_len(piece));
-            self.put_slices(out, chunk, &slices(piece, digits))?;
+            let slices = slices(piece, digits);
+            if waiting.keep_all(&slices) {
+                continue;
+            }
+            self.pass(out, chunk, &mut waiting)?;
+            if !waiting.keep_all(&slices) {
+                self.put_each(out, chunk, &slices)?;
+            }
         }
-        Ok(())
+        self.pass(out, chunk, &mut waiting)
     }
 }
 

@@ -21,6 +21,19 @@ pub(crate) fn past_end(text: &[u8]) -> Option<&[u8]>
     }
 }
 
+/// Whether two arrays hold the same bytes, of which different ones mostly differ at the second.
+#[inline(always)]
+fn is_same<const N: usize>(one: &[u8; N], other: &[u8; N]) -> bool
+    ensures { result ≡ bytes_eq one.now other.now }
+{
+    for at in 0..N {
+        if one[at] != other[at] {
+            return false;
+        }
+    }
+    true
+}
+
 /// The bytes past the first word of a text and the blank that ends it, where it is this word. The word is an array, so that
 /// its length is known where this is compiled.
 #[inline(always)]
@@ -35,7 +48,7 @@ pub(crate) fn after_word<'a, const N: usize>(word: &[u8; N], text: &'a [u8]) -> 
     let Some((front, after)) = text.split_first_chunk::<N>() else {
         return None;
     };
-    if front != word {
+    if !is_same(front, word) {
         return None;
     }
     past_end(after)

@@ -54,7 +54,7 @@ pub(crate) fn slices<'a>(piece: &Piece<'a>, digits: &'a str) -> [&'a [u8]; 10]
 }
 
 /// How long the slices are together, up to 2^64 - 1.
-fn total_len(slices: &[&[u8]]) -> usize
+pub(crate) fn total_len(slices: &[&[u8]]) -> usize
     ensures { result ≡ min (length (bytes_of slices.now)) (2 ^ 64 - 1) }
 {
     let mut total: usize = 0;

@@ -31,6 +31,7 @@ fn number_command(minus: bool, size: u64) -> Result<Command, Code>
 
 /// The number word that a text begins with, as a command, and the bytes after it; nothing where the text begins with
 /// another word or with none.
+#[inline(always)]
 fn first_number(text: &[u8]) -> Option<(Result<Command, Code>, &[u8])>
     ensures shorter { IfSome result (λ found. length found.1.now < length text.now) }
     ensures value { MatchOption

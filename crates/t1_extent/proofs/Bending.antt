@@ -8,12 +8,13 @@ use Rattle.t1_run.specs.declared.outline.Point.{Point}
 use Rattle.t1_run.specs.declared.outline.Segment.{Segment}
 use Rattle.t1_run.specs.declared.outline.Segment.TheVariants.{Line, Curve}
 use Rattle.t1_run.specs.Composite.{IsWithin}
+use Rattle.t1_afm.specs.Differences.{picked_sum, least_sum, greatest_sum}
 use Rattle.t1_afm.specs.Points.{cubic_values, points_of, points}
 use Rattle.t1_extent.specs.declared.sides.Sides.{Sides}
 use Rattle.t1_extent.specs.Ends.{ends_of, ends, bends_of, bends}
 use Rattle.t1_extent.specs.Extremes.{Extremes, lesser, greater, extremes, unite, IsWhole, IsWholeSegment}
 use Rattle.t1_extent.specs.Laws.{AreWithin}
-use Rattle.t1_extent.specs.Sides.{over, extremes_over, least_value, greatest_value}
+use Rattle.t1_extent.specs.Sides.{over, extremes_over}
 use Rattle.t1_extent.proofs.Curves.{curve_extremes, same_least, same_greatest}
 use Rattle.t1_extent.proofs.Folding.{IsNumber, AreLowest, same_extremes}
 use Rattle.t1_extent.proofs.Holding.{least_of_ends, greatest_of_ends}
@@ -33,14 +34,12 @@ as_whole : (a : Fraction) → a.den ≡ 1 → whole a.num ≡ a
 as_whole a e = with_den a.num 1 a.den (sym e)
 
 least_axis : (a b c d : Fraction) → a.den ≡ 1 → b.den ≡ 1 → c.den ≡ 1 → d.den ≡ 1
-    → reduce lesser (map lowest (cubic_values a b c d)) ≡ Some (over 262144 (least_value a.num b.num c.num d.num))
-unfolding least_value
+    → reduce lesser (map lowest (cubic_values a b c d)) ≡ Some (over 262144 (least_sum a.num b.num c.num d.num))
 least_axis a b c d ha hb hc hd =
     same_least a b c d _ _ _ _ (as_whole a ha) (as_whole b hb) (as_whole c hc) (as_whole d hd) ∙ least_of_values a.num b.num c.num d.num
 
 greatest_axis : (a b c d : Fraction) → a.den ≡ 1 → b.den ≡ 1 → c.den ≡ 1 → d.den ≡ 1
-    → reduce greater (map lowest (cubic_values a b c d)) ≡ Some (over 262144 (greatest_value a.num b.num c.num d.num))
-unfolding greatest_value
+    → reduce greater (map lowest (cubic_values a b c d)) ≡ Some (over 262144 (greatest_sum a.num b.num c.num d.num))
 greatest_axis a b c d ha hb hc hd =
     same_greatest a b c d _ _ _ _ (as_whole a ha) (as_whole b hb) (as_whole c hc) (as_whole d hd) ∙ greatest_of_values a.num b.num c.num d.num
 
@@ -51,39 +50,37 @@ high_with : (high n x : ℤ) → x ≡ int_max high n → over 262144 x ≡ grea
 high_with high n x e = ap (over 262144) e ∙ sym (greater_over 262144 high n (omega arith))
 
 low_ends : (a b c d : Fraction) → a.den ≡ 1 → d.den ≡ 1
-    → lesser (lesser (lowest a) (lowest d)) (over 262144 (least_value a.num b.num c.num d.num)) ≡ over 262144 (least_value a.num b.num c.num d.num)
+    → lesser (lesser (lowest a) (lowest d)) (over 262144 (least_sum a.num b.num c.num d.num)) ≡ over 262144 (least_sum a.num b.num c.num d.num)
 low_ends a b c d ha hd =
-    let n = least_value a.num b.num c.num d.num in
+    let n = least_sum a.num b.num c.num d.num in
     ap (λ x. lesser (lesser x (lowest d)) (over 262144 n)) (sym (cubed a ha)) ∙ ap (λ x. lesser (lesser (over 262144 (pos 262144 *ℤ a.num)) x) (over 262144 n)) (sym (cubed d hd))
     ∙ ap (λ x. lesser x (over 262144 n)) (lesser_over 262144 (pos 262144 *ℤ a.num) (pos 262144 *ℤ d.num) (omega arith))
     ∙ lesser_over 262144 (int_min (pos 262144 *ℤ a.num) (pos 262144 *ℤ d.num)) n (omega arith)
     ∙ ap (over 262144) (least_of_ends a.num b.num c.num d.num)
 
 high_ends : (a b c d : Fraction) → a.den ≡ 1 → d.den ≡ 1
-    → greater (greater (lowest a) (lowest d)) (over 262144 (greatest_value a.num b.num c.num d.num)) ≡ over 262144 (greatest_value a.num b.num c.num d.num)
+    → greater (greater (lowest a) (lowest d)) (over 262144 (greatest_sum a.num b.num c.num d.num)) ≡ over 262144 (greatest_sum a.num b.num c.num d.num)
 high_ends a b c d ha hd =
-    let n = greatest_value a.num b.num c.num d.num in
+    let n = greatest_sum a.num b.num c.num d.num in
     ap (λ x. greater (greater x (lowest d)) (over 262144 n)) (sym (cubed a ha)) ∙ ap (λ x. greater (greater (over 262144 (pos 262144 *ℤ a.num)) x) (over 262144 n)) (sym (cubed d hd))
     ∙ ap (λ x. greater x (over 262144 n)) (greater_over 262144 (pos 262144 *ℤ a.num) (pos 262144 *ℤ d.num) (omega arith))
     ∙ greater_over 262144 (int_max (pos 262144 *ℤ a.num) (pos 262144 *ℤ d.num)) n (omega arith)
     ∙ ap (over 262144) (greatest_of_ends a.num b.num c.num d.num)
 
 -- of numbers that are these
-pub same_low : (low a b c d p q r s : ℤ) → p ≡ a → q ≡ b → r ≡ c → s ≡ d → int_min low (least_value p q r s) ≡ int_min low (least_value a b c d)
-same_low low a b c d p q r s e f g h = rw (e, f, g, h) refl
-
-pub same_high : (high a b c d p q r s : ℤ) → p ≡ a → q ≡ b → r ≡ c → s ≡ d → int_max high (greatest_value p q r s) ≡ int_max high (greatest_value a b c d)
-same_high high a b c d p q r s e f g h = rw (e, f, g, h) refl
+pub same_reach : (pick : ℤ → ℤ → ℤ) (x n m a b c d p q r s : ℤ) → x ≡ pick n (picked_sum pick p q r s) → n ≡ m → p ≡ a → q ≡ b → r ≡ c → s ≡ d
+    → x ≡ pick m (picked_sum pick a b c d)
+same_reach pick x n m a b c d p q r s e is f g h k = rw (is, f, g, h, k) at e
 
 -- ---- curves
 
 -- the extremes of a curve between whole coordinates
 abbrev pub bend : Point → Point → Point → Point → Extremes
 bend a b c d = record {
-  left = over 262144 (least_value a.x.num b.x.num c.x.num d.x.num);
-  bottom = over 262144 (least_value a.y.num b.y.num c.y.num d.y.num);
-  right = over 262144 (greatest_value a.x.num b.x.num c.x.num d.x.num);
-  top = over 262144 (greatest_value a.y.num b.y.num c.y.num d.y.num);
+  left = over 262144 (least_sum a.x.num b.x.num c.x.num d.x.num);
+  bottom = over 262144 (least_sum a.y.num b.y.num c.y.num d.y.num);
+  right = over 262144 (greatest_sum a.x.num b.x.num c.x.num d.x.num);
+  top = over 262144 (greatest_sum a.y.num b.y.num c.y.num d.y.num);
 }
 
 pub bend_is : (a b c d : Point) → IsWhole a → IsWhole b → IsWhole c → IsWhole d → Some (bend a b c d) ≡ extremes (points_of (Curve a b c d))
@@ -94,8 +91,8 @@ bend_is a b c d ha hb hc hd =
 
 -- extremes with those of a curve
 pub with_bend : (a b c d : Point) (l r t u l' r' t' u' : ℤ) → IsWhole a → IsWhole b → IsWhole c → IsWhole d
-    → l' ≡ int_min l (least_value a.x.num b.x.num c.x.num d.x.num) → r' ≡ int_min r (least_value a.y.num b.y.num c.y.num d.y.num)
-    → t' ≡ int_max t (greatest_value a.x.num b.x.num c.x.num d.x.num) → u' ≡ int_max u (greatest_value a.y.num b.y.num c.y.num d.y.num)
+    → l' ≡ int_min l (least_sum a.x.num b.x.num c.x.num d.x.num) → r' ≡ int_min r (least_sum a.y.num b.y.num c.y.num d.y.num)
+    → t' ≡ int_max t (greatest_sum a.x.num b.x.num c.x.num d.x.num) → u' ≡ int_max u (greatest_sum a.y.num b.y.num c.y.num d.y.num)
     → Some (record { left = over 262144 l'; bottom = over 262144 r'; right = over 262144 t'; top = over 262144 u' })
     ≡ unite (Some (record { left = over 262144 l; bottom = over 262144 r; right = over 262144 t; top = over 262144 u })) (extremes (points_of (Curve a b c d)))
 with_bend a b c d l r t u l' r' t' u' ha hb hc hd e f g h =

@@ -8,12 +8,13 @@ use Rattle.t1_run.specs.declared.outline.Point.{Point}
 use Rattle.t1_run.specs.declared.outline.Segment.{Segment}
 use Rattle.t1_run.specs.declared.outline.Segment.TheVariants.{Line, Curve}
 use Rattle.t1_run.specs.Composite.{IsWithin}
+use Rattle.t1_afm.specs.Differences.{least_sum, greatest_sum}
 use Rattle.t1_afm.specs.Points.{points_of, points}
 use Rattle.t1_extent.specs.declared.sides.Sides.{Sides}
 use Rattle.t1_extent.specs.Ends.{ends_of, ends}
 use Rattle.t1_extent.specs.Extremes.{Extremes, is_less, lesser, greater, reaching, extremes, unite, corners_of, corners, IsWhole, IsWholeSegment}
 use Rattle.t1_extent.specs.Laws.{AreWithin}
-use Rattle.t1_extent.specs.Sides.{over, extremes_over, least_value, greatest_value}
+use Rattle.t1_extent.specs.Sides.{over, extremes_over}
 use Rattle.t1_extent.proofs.Bending.{bend_is, ends_in_bend, ends_numbers}
 use Rattle.t1_extent.proofs.Ends.{min_multiple, max_multiple}
 use Rattle.t1_extent.proofs.Folding.{same_extremes}
@@ -73,19 +74,19 @@ high_four p q r s a b c d e f g h =
     ∙ ap (greater (over 262144 (pos 262144 *ℤ int_max (int_max a b) c))) h ∙ greater_multiple (int_max (int_max a b) c) d
 
 low_hull : (a b c d : Fraction) → a.den ≡ 1 → b.den ≡ 1 → c.den ≡ 1 → d.den ≡ 1
-    → lesser (over 262144 (least_value a.num b.num c.num d.num)) (low_of (lowest a) (lowest b) (lowest c) (lowest d)) ≡ low_of (lowest a) (lowest b) (lowest c) (lowest d)
+    → lesser (over 262144 (least_sum a.num b.num c.num d.num)) (low_of (lowest a) (lowest b) (lowest c) (lowest d)) ≡ low_of (lowest a) (lowest b) (lowest c) (lowest d)
 low_hull a b c d ha hb hc hd =
     let four = low_four (lowest a) (lowest b) (lowest c) (lowest d) a.num b.num c.num d.num (sym (cubed a ha)) (sym (cubed b hb)) (sym (cubed c hc)) (sym (cubed d hd)) in
-    ap (lesser (over 262144 (least_value a.num b.num c.num d.num))) four
-    ∙ lesser_over 262144 (least_value a.num b.num c.num d.num) (pos 262144 *ℤ int_min (int_min (int_min a.num b.num) c.num) d.num) (omega arith)
+    ap (lesser (over 262144 (least_sum a.num b.num c.num d.num))) four
+    ∙ lesser_over 262144 (least_sum a.num b.num c.num d.num) (pos 262144 *ℤ int_min (int_min (int_min a.num b.num) c.num) d.num) (omega arith)
     ∙ ap (over 262144) (least_in_hull a.num b.num c.num d.num) ∙ sym four
 
 high_hull : (a b c d : Fraction) → a.den ≡ 1 → b.den ≡ 1 → c.den ≡ 1 → d.den ≡ 1
-    → greater (over 262144 (greatest_value a.num b.num c.num d.num)) (high_of (lowest a) (lowest b) (lowest c) (lowest d)) ≡ high_of (lowest a) (lowest b) (lowest c) (lowest d)
+    → greater (over 262144 (greatest_sum a.num b.num c.num d.num)) (high_of (lowest a) (lowest b) (lowest c) (lowest d)) ≡ high_of (lowest a) (lowest b) (lowest c) (lowest d)
 high_hull a b c d ha hb hc hd =
     let four = high_four (lowest a) (lowest b) (lowest c) (lowest d) a.num b.num c.num d.num (sym (cubed a ha)) (sym (cubed b hb)) (sym (cubed c hc)) (sym (cubed d hd)) in
-    ap (greater (over 262144 (greatest_value a.num b.num c.num d.num))) four
-    ∙ greater_over 262144 (greatest_value a.num b.num c.num d.num) (pos 262144 *ℤ int_max (int_max (int_max a.num b.num) c.num) d.num) (omega arith)
+    ap (greater (over 262144 (greatest_sum a.num b.num c.num d.num))) four
+    ∙ greater_over 262144 (greatest_sum a.num b.num c.num d.num) (pos 262144 *ℤ int_max (int_max (int_max a.num b.num) c.num) d.num) (omega arith)
     ∙ ap (over 262144) (greatest_in_hull a.num b.num c.num d.num) ∙ sym four
 
 bend_in_hull : (a b c d : Point) → IsWhole a → IsWhole b → IsWhole c → IsWhole d

@@ -1,7 +1,6 @@
 -- Extremes that have one denominator, by their numerators.
 use Rattle.std.specs.Prelude.{ℕ, ℤ}
 use Rattle.t1_frac.specs.Fraction.{Fraction, lowest}
-use Rattle.t1_afm.specs.Differences.{least_sum, greatest_sum}
 use Rattle.t1_extent.specs.declared.sides.Sides.{Sides}
 use Rattle.t1_extent.specs.Extremes.{Extremes}
 
@@ -12,11 +11,3 @@ over den num = lowest (record { num = num; den = den })
 -- profile: the extremes whose numerators over this denominator these are
 abbrev pub extremes_over : ℕ → Sides → Extremes
 extremes_over den s = record { left = over den s.left; bottom = over den s.bottom; right = over den s.right; top = over den s.top }
-
--- profile: the least of the 65 values of a cubic, times 64^3
-unfoldable pub least_value : ℤ → ℤ → ℤ → ℤ → ℤ
-least_value a b c d = least_sum a b c d
-
--- profile: the greatest of them, times 64^3
-unfoldable pub greatest_value : ℤ → ℤ → ℤ → ℤ → ℤ
-greatest_value a b c d = greatest_sum a b c d

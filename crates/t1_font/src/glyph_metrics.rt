@@ -10,7 +10,7 @@ use crate::numbers::SubrNumbers;
 use std::alloc::Global;
 use t1_afm::{BBox, unite};
 use t1_extent::{KeptRun, KeptRuns, box_of};
-use t1_frac::{Bytes, Code, Place, Refusal};
+use t1_frac::{Bytes, Code, Place, Refusal, SourceText};
 use t1_run::{Point, accent_move};
 
 /// The parts of a composite, and how far its accent is moved.
@@ -21,10 +21,10 @@ pub struct PlacedParts {
     pub by: Point,
 }
 
-/// What is measured of a glyph.
+/// What is measured of a glyph, by its name where that stands.
 #[derive(Debug, Drop)]
-pub struct GlyphMetrics {
-    pub name: Bytes,
+pub struct GlyphMetrics<'a> {
+    pub name: SourceText<'a>,
     pub width: Point,
     /// The Subrs that its own run entered, ascending and each once.
     pub entered: SubrNumbers,
@@ -63,19 +63,19 @@ fn run_of<'a, R: KeptRuns>(runs: &'a R, name: &[u8]) -> Result<&'a KeptRun, Code
 }
 
 /// What is measured of a glyph whose run and box are known, or the fault of the move of its accent, at no place.
-pub fn metrics_of_run(
+pub fn metrics_of_run<'a>(
     alloc: Global,
-    name: &[u8],
+    name: &'a [u8],
     run: &KeptRun,
     bbox: Option<BBox>,
-) -> Result<GlyphMetrics, Refusal>
+) -> Result<GlyphMetrics<'a>, Refusal>
     ensures { Gives
         (λ glyph. glyph)
         result
         (told_at places.Nowhere (glyph_metrics_by name.now run.now.drawing bbox)) }
 {
     Ok(GlyphMetrics {
-        name: Bytes::copied(alloc, name)?,
+        name: SourceText::borrowed(name),
         width: run.width(),
         entered: SubrNumbers::copied(alloc, run.entered())?,
         parts: placed_parts(alloc, run)?,
@@ -85,11 +85,11 @@ pub fn metrics_of_run(
 
 /// What is measured of a glyph, or its first fault, at no place.
 #[tactic(auto, unfolding(crate::specs::MeasuredGlyphs::glyph_metrics_at))]
-fn unplaced_metrics<R: KeptRuns>(
+fn unplaced_metrics<'a, R: KeptRuns>(
     alloc: Global,
     runs: &R,
-    name: &[u8],
-) -> Result<GlyphMetrics, Refusal>
+    name: &'a [u8],
+) -> Result<GlyphMetrics<'a>, Refusal>
     ensures { Gives
         (λ glyph. glyph)
         result
@@ -101,11 +101,11 @@ fn unplaced_metrics<R: KeptRuns>(
 }
 
 /// What is measured of a glyph, or its first fault, at the glyph.
-fn placed_metrics<R: KeptRuns>(
+fn placed_metrics<'a, R: KeptRuns>(
     alloc: Global,
     runs: &R,
-    name: &[u8],
-) -> Result<GlyphMetrics, Refusal>
+    name: &'a [u8],
+) -> Result<GlyphMetrics<'a>, Refusal>
     ensures { Gives
         (λ glyph. glyph)
         result
@@ -119,11 +119,11 @@ fn placed_metrics<R: KeptRuns>(
 
 /// What is measured of these glyphs, in their order, or the first fault of a glyph.
 #[tactic(auto, unfolding(crate::specs::MeasuredGlyphs::glyph_metrics_among))]
-pub fn glyph_metrics_of<R: KeptRuns>(
+pub fn glyph_metrics_of<'a, R: KeptRuns>(
     alloc: Global,
     runs: &R,
-    names: &[&[u8]],
-) -> Result<Vec<GlyphMetrics>, Refusal>
+    names: &[&'a [u8]],
+) -> Result<Vec<GlyphMetrics<'a>>, Refusal>
     ensures { Gives
         (λ metrics. metrics.items)
         result

@@ -19,12 +19,12 @@ use t1_source::Item;
 
 /// What is measured of the glyphs of a source, in the order of their entries, and the box around all that draw.
 #[derive(Debug, Drop)]
-pub struct MeasuredGlyphs {
-    metrics: Vec<GlyphMetrics>,
+pub struct MeasuredGlyphs<'a> {
+    metrics: Vec<GlyphMetrics<'a>>,
     font_box: BBox,
 }
 
-impl Model for MeasuredGlyphs {
+impl<'a> Model for MeasuredGlyphs<'a> {
     ghost use Rattle.t1_font.specs.MeasuredGlyphs.{MeasuredFont};
 
     ghost Value = { MeasuredFont };
@@ -32,17 +32,17 @@ impl Model for MeasuredGlyphs {
     ghost view = { λ g. record { metrics = g.metrics.items; font_box = g.font_box } };
 }
 
-impl MeasuredGlyphs {
+impl<'a> MeasuredGlyphs<'a> {
     /// The metrics of some glyphs, in their order, and the box around those that draw.
-    pub fn of(metrics: Vec<GlyphMetrics>) -> MeasuredGlyphs
-        ensures { result ≡ record { metrics = metrics.items; font_box = united (map (λ glyph. glyph.bbox) metrics.items) } }
+    pub fn of(metrics: Vec<GlyphMetrics<'a>>) -> MeasuredGlyphs<'a>
+        ensures { result ≡ record { metrics = metrics.entry.items; font_box = united (map (λ glyph. glyph.bbox) metrics.entry.items) } }
     {
         let font_box = font_box(&metrics);
         MeasuredGlyphs { metrics, font_box }
     }
 
     /// What is measured of the glyphs, in the order of their entries.
-    pub fn metrics(&self) -> &[GlyphMetrics]
+    pub fn metrics(&self) -> &[GlyphMetrics<'a>]
         ensures { result.now ≡ self.now.metrics }
     {
         self.metrics.as_slice()
@@ -83,12 +83,12 @@ pub fn glyph_names<'a>(alloc: Global, items: &'a [Item]) -> Result<Vec<&'a [u8]>
 /// Runs each glyph of a source once and measures its outline: the glyphs and the font's box, or the first fault, at its
 /// glyph. The bodies are those of the entries, which have no fault. The meter counts one for each glyph, also where a fault is
 /// answered; where memory runs out, one for each that was run.
-pub fn measured(
+pub fn measured<'a>(
     alloc: Global,
-    items: &[Item],
+    items: &'a [Item],
     bodies: &Plain,
     meter: &mut Meter,
-) -> Result<MeasuredGlyphs, Refusal>
+) -> Result<MeasuredGlyphs<'a>, Refusal>
     requires checked { bodies_check items.now ≡ Ok tt }
     requires bodies { SameBodies (plain_bodies bodies.now) (bodies_of items.now) }
     ensures told { Gives (λ glyphs. glyphs) result (measured items.now) }

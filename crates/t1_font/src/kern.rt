@@ -19,7 +19,10 @@ fn add_name<'a>(names: &mut IndexSet<&'a [u8]>, name: &'a [u8]) -> Result<(), Al
 }
 
 /// The names of the glyphs.
-fn names_of(alloc: Global, metrics: &[GlyphMetrics]) -> Result<IndexSet<&[u8]>, AllocError>
+fn names_of<'a>(
+    alloc: Global,
+    metrics: &'a [GlyphMetrics],
+) -> Result<IndexSet<&'a [u8]>, AllocError>
     ensures { IfOk result (λ names. HasNames names.keys metrics.now) }
 {
     let mut names = IndexSet::with_capacity(alloc, metrics.len())?;

@@ -120,7 +120,11 @@ const AFM: &str = "\
     EndFontMetrics\n";
 
 /// The glyphs of a source.
-fn glyphs_of(alloc: Global, source: &Source, meter: &mut Meter) -> Result<MeasuredGlyphs, Refusal> {
+fn glyphs_of<'a>(
+    alloc: Global,
+    source: &'a Source,
+    meter: &mut Meter,
+) -> Result<MeasuredGlyphs<'a>, Refusal> {
     let bodies = compiled(alloc, source.items())?;
     measured(alloc, source.items(), &bodies, meter)
 }

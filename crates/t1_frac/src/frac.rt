@@ -296,7 +296,7 @@ impl Frac {
     /// The sum, where both may have fractions.
     #[tactic(auto, unfolding(crate::specs::Limits::coordinate_sum))]
     #[inline(never)]
-    fn add_fraction(self, other: Frac) -> Result<Frac, Code>
+    fn fraction_sum(self, other: Frac) -> Result<Frac, Code>
         ensures { result ≡ coordinate_sum self other }
     {
         if self.is_short() && other.is_short() {
@@ -304,6 +304,14 @@ impl Frac {
             return reduced(Code::F40, 1 << 20, num, den);
         }
         self.add_long(other)
+    }
+
+    /// The same, with its answer in registers. It stands apart from `add`, so that whole numbers make no place for it.
+    #[inline(always)]
+    fn add_fraction(self, other: Frac) -> Result<Frac, Code>
+        ensures { result ≡ coordinate_sum self other }
+    {
+        Ok(self.fraction_sum(other)?)
     }
 
     /// The sum of two coordinates. It is F40 past 1,048,576 in size, and then F39 where its denominator is past
@@ -316,7 +324,7 @@ impl Frac {
         if self.den == 1 && other.den == 1 {
             return whole_coordinate(self.sum_num(other));
         }
-        Ok(self.add_fraction(*other)?)
+        self.add_fraction(*other)
     }
 
     /// The difference of two coordinates, refused as their sum is.

@@ -68,7 +68,7 @@ pub fn settle(held: &mut Held, ready: ReadyHeld)
 }
 
 /// The metrics of the glyphs of a source of which this is kept. No glyph is run.
-pub fn held_metrics(alloc: Global, held: &Held) -> Result<MeasuredGlyphs, AllocError>
+pub fn held_metrics(alloc: Global, held: &Held) -> Result<MeasuredGlyphs<'_>, AllocError>
     ensures { (s : SourceParts) → IsHeld s held.now → IfOk result (λ glyphs. measured_source s ≡ Ok glyphs) }
 {
     match measured_records(alloc, &held.records) {

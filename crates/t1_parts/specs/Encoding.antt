@@ -3,10 +3,12 @@ use Rattle.std.specs.Prelude.{ℕ, Bool, false, ◌+◌, ◌-◌, ◌*◌, ◌||
 use Rattle.std.specs.List.{list_all, list_any, position_or_len}
 use Rattle.std.specs.Str.{bytes_eq}
 use Rattle.t1_frac.specs.Ascii.{digit_seven, digit_zero}
+use Rattle.t1_frac.specs.declared.fault.Code.{Code}
 use Rattle.t1_frac.specs.declared.fault.Code.TheVariants.{F5, F6}
 use Rattle.t1_frac.specs.declared.fault.Fault.{Fault}
 use Rattle.t1_frac.specs.declared.fault.Place.TheVariants.{Nowhere, Line}
-use Rattle.t1_frac.specs.Outcome.{fault_at, ◌>>=◌}
+use Rattle.t1_frac.specs.Outcome.{fault_at, told_at, ◌>>=◌}
+use Rattle.t1_parts.specs.Numbered.{numbered, try_fold}
 use Rattle.t1_text.specs.Tokens.{tokens, first_is, last_is}
 use Rattle.t1_text.specs.Names.{decimal_of, up_to, name_of_token}
 
@@ -81,24 +83,26 @@ opening_check n opening later =
     if is_standard (tokens opening) || (is_array (tokens opening) && list_any ends_array later) then Ok tt
     else Err (fault_at (Line n) F5)
 
--- profile, encoding: a second line that opens the encoding, or a line of the array that begins with `dup`
--- and is no slot
-unfoldable pub later_check : ℕ → ℕ → List ℕ → Result (Unit {0}) Fault
-later_check n in_array l =
-    if opens_encoding l then Err (fault_at (Line n) F5)
-    else if nat_le 1 in_array && is_bad_slot (tokens l) then Err (fault_at (Line n) F6)
-    else Ok tt
+-- profile, encoding: judges a line after the one that opens it: it opens no second one
+unfoldable pub later_check : List ℕ → Result (Unit {0}) Code
+later_check l = if opens_encoding l then Err F5 else Ok tt
 
--- profile, encoding: the first fault of the lines after the opening one, of which the first in_array are the array's
-abbrev pub later_checks : ℕ → ℕ → List (List ℕ) → Result (Unit {0}) Fault
-later_checks n in_array [] = Ok tt
-later_checks n in_array (l ∷ more) = later_check n in_array l >>= λ fine. later_checks (n + 1) (in_array - 1) more
+-- profile, encoding: judges a line of the array: nor does that, and it is a slot if it begins with `dup`
+unfoldable pub array_check : List ℕ → Result (Unit {0}) Code
+array_check l = later_check l >>= λ fine. if is_bad_slot (tokens l) then Err F6 else Ok tt
+
+-- profile, encoding: the first fault that a check finds in lines, of which the first has number n
+abbrev pub lines_check : (List ℕ → Result (Unit {0}) Code) → ℕ → List (List ℕ) → Result (Unit {0}) Fault
+lines_check check n ls = try_fold (λ fine l. told_at (Line l.number) (check l.line)) tt (numbered n ls)
 
 -- profile, encoding: the first fault of the lines from the one that opens the encoding; a missing one has no place
 abbrev pub encoding_check : ℕ → List (List ℕ) → Result (Unit {0}) Fault
 encoding_check n [] = Err (fault_at Nowhere F5)
 encoding_check n (opening ∷ later) =
-    opening_check n opening later >>= λ fine. later_checks (n + 1) (length (array_lines (opening ∷ later))) later
+    let array = array_lines (opening ∷ later) in
+    opening_check n opening later
+    >>= λ opened. lines_check array_check (n + 1) array
+    >>= λ filled. lines_check later_check (n + 1 + length array) (drop (length array) later)
 
 -- profile, encoding: the first fault of the clear lines
 unfoldable pub clear_check : List (List ℕ) → Result (Unit {0}) Fault

@@ -4,6 +4,7 @@ pub mod Entries
 pub mod Gathered
 pub mod Header
 pub mod LenIV
+pub mod Numbered
 pub mod Operator
 pub mod Parts
 pub mod Pieces

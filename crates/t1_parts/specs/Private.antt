@@ -1,5 +1,5 @@
 -- The items of a private part.
-use Rattle.std.specs.Prelude.{ℕ, zero, suc, ◌+◌, ◌-◌, ◌||◌, if◌then◌else◌, Option, Some, None, Result, Ok, Err, List, [], ◌∷◌, ◌++◌, length, take, drop, map}
+use Rattle.std.specs.Prelude.{ℕ, ◌+◌, ◌-◌, ◌||◌, nat_lt, if◌then◌else◌, Option, Some, None, Result, Ok, Err, List, [], ◌∷◌, ◌++◌, length, take, drop, map}
 use Rattle.t1_frac.specs.declared.fault.Code.{Code}
 use Rattle.t1_frac.specs.declared.fault.Code.TheVariants.{F4}
 use Rattle.t1_frac.specs.declared.fault.Fault.{Fault}
@@ -8,6 +8,7 @@ use Rattle.t1_frac.specs.Outcome.{told_at, ◌>>=◌}
 use Rattle.t1_parts.specs.declared.item.Item.{Item}
 use Rattle.t1_parts.specs.declared.item.Item.TheVariants.{Plain}
 use Rattle.t1_text.specs.Tokens.{tokens}
+use Rattle.t1_parts.specs.Numbered.{NumberedLine, numbered, try_fold}
 use Rattle.t1_parts.specs.Sections.{subrs_line, glyphs_line, is_subrs_line, is_glyphs_line}
 use Rattle.t1_parts.specs.Entries.{Taken, NumberedItem, has, opens_subr, opens_glyph, opened_body, subr_entry, glyph_entry}
 
@@ -39,15 +40,27 @@ item_at earlier l ls =
     else if has is_subrs_line earlier then among_subrs earlier l ls (opens_subr (tokens l))
     else line_at earlier l
 
--- profile, private part: the earlier items and those of these lines, the first of which has number n and
--- of which the first skip belong to an entry before them; or the first fault
-abbrev pub items_of : List NumberedItem → ℕ → ℕ → List (List ℕ) → Result (List NumberedItem) Fault
-items_of earlier skip n [] = Ok earlier
-items_of earlier (suc skip) n (l ∷ ls) = items_of earlier skip (n + 1) ls
-items_of earlier zero n (l ∷ ls) = told_at (Line n) (item_at earlier l ls) >>= λ x. items_of (earlier ++ (n, x.0) ∷ []) x.1 (n + 1) ls
+-- profile, private part: the items read so far, each with the number of its first line; and the number of the first
+-- line that none of them has
+pub record ItemsSoFar : Type 0 where
+  pub items : List NumberedItem
+  pub next : ℕ
+
+-- profile, private part: a line before next belongs to an item that is read; any other begins the item after them
+abbrev pub read_on : ItemsSoFar → NumberedLine → Result ItemsSoFar Fault
+read_on read l =
+    if nat_lt l.number read.next then Ok read
+    else told_at (Line l.number) (item_at read.items l.line l.after) >>= λ x.
+    Ok (record { items = read.items ++ (l.number, x.0) ∷ []; next = l.number + 1 + x.1 })
+
+-- profile, private part: the items of these lines, of which the first has number n, or the first fault
+abbrev pub items_of : ℕ → List (List ℕ) → Result (List NumberedItem) Fault
+items_of n ls = do
+  read ← try_fold read_on (record { items = []; next = n }) (numbered n ls)
+  Ok read.items
 
 -- profile, private part: the closefile line opens nothing, and no entry goes past it
 unfoldable pub private_items : ℕ → List (List ℕ) → Result (List NumberedItem) Fault
 private_items n ls = do
-  items ← items_of [] 0 n (take (length ls - 1) ls)
+  items ← items_of n (take (length ls - 1) ls)
   Ok (items ++ map (λ l. (n + (length ls - 1), Plain l)) (drop (length ls - 1) ls))

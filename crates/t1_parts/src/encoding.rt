@@ -1,11 +1,13 @@
 //! Judging the encoding of a clear part.
 
-ghost use Rattle.std.specs.Prelude.{◌≡◌, ◌+◌, ◌≤◌, ◌<◌, ◌^◌, ◌∷◌, length, nat_le, option_map, IfSome, ◌&&◌};
+ghost use Rattle.std.specs.Prelude.{◌≡◌, ◌+◌, ◌≤◌, ◌<◌, ◌^◌, ◌∷◌, length, nat_le, option_map, IfSome, ◌&&◌, if◌then◌else◌};
 ghost use Rattle.std.specs.List.{list_any, position, position_or_len};
 ghost use Rattle.t1_frac.specs.Ascii.{digit_seven, digit_zero};
+ghost use Rattle.t1_frac.specs.declared.fault.Place.TheVariants as places;
+ghost use Rattle.t1_frac.specs.Outcome.{told_at};
 ghost use Rattle.t1_text.specs.Tokens.{tokens};
 ghost use Rattle.t1_text.specs.Names.{up_to};
-ghost use Rattle.t1_parts.specs.Encoding.{opens_encoding, ends_array, is_standard, is_array, is_bad_slot, array_lines, from_encoding, opening_check, later_check, later_checks, clear_check, chooses_standard, code_of_token, slot_of_tokens, octal_of};
+ghost use Rattle.t1_parts.specs.Encoding.{opens_encoding, ends_array, is_standard, is_array, is_bad_slot, array_lines, from_encoding, opening_check, later_check, array_check, lines_check, clear_check, chooses_standard, code_of_token, slot_of_tokens, octal_of};
 
 use t1_frac::{Bytes, Code, Fault};
 use t1_text::{
@@ -196,38 +198,36 @@ fn is_bad_slot(line: &[u8]) -> bool
     first_is(b"dup", line) && slot_of(line).is_none()
 }
 
-/// Judges a line after the one that opens the encoding.
-#[tactic(auto, unfolding(crate::specs::Encoding::later_check))]
-fn check_later(number: u64, in_array: usize, line: &[u8]) -> Result<(), Fault>
-    ensures { result ≡ later_check number in_array line.now }
+/// Judges a line of the array, or one after it.
+#[tactic(auto, unfolding(crate::specs::Encoding::later_check, crate::specs::Encoding::array_check))]
+fn check_line(number: u64, in_array: bool, line: &[u8]) -> Result<(), Fault>
+    ensures { result ≡ told_at (places.Line number) ((if in_array then array_check else later_check) line.now) }
 {
     if opens_encoding(line) {
         return Err(fault_on(number, Code::F5));
     }
-    if 1 <= in_array && is_bad_slot(line) {
+    if in_array && is_bad_slot(line) {
         return Err(fault_on(number, Code::F6));
     }
     Ok(())
 }
 
-/// Judges the lines after the one that opens the encoding.
-#[tactic(auto, using(crate::proofs::EncodingLaws::later_step, crate::proofs::EncodingLaws::later_stop))]
-fn check_all_later(number: u64, in_array: usize, lines: &[Bytes]) -> Result<(), Fault>
+/// Judges lines of the array, or lines after it, of which the first has this number.
+#[tactic(auto, using(crate::proofs::EncodingLaws::line_passes, crate::proofs::EncodingLaws::line_stops))]
+fn check_lines(number: u64, in_array: bool, lines: &[Bytes]) -> Result<(), Fault>
     requires { number + length lines.now < 2 ^ 64 }
-    ensures { result ≡ later_checks number in_array lines.now }
+    ensures { result ≡ lines_check (if in_array then array_check else later_check) number lines.now }
 {
     let mut number = number;
-    let mut in_array = in_array;
     for line in lines {
-        check_later(number, in_array, line.as_slice())?;
+        check_line(number, in_array, line.as_slice())?;
         number += 1;
-        in_array = in_array.saturating_sub(1);
     }
     Ok(())
 }
 
 /// Judges the clear lines.
-#[tactic(auto, unfolding(crate::specs::Encoding::clear_check), using(crate::proofs::EncodingLaws::opening_passes, crate::proofs::EncodingLaws::opening_stops))]
+#[tactic(auto, unfolding(crate::specs::Encoding::clear_check), using(crate::proofs::EncodingLaws::opening_stops, crate::proofs::EncodingLaws::array_stops, crate::proofs::EncodingLaws::array_passes))]
 pub fn check_clear(clear: &[Bytes]) -> Result<(), Fault>
     ensures { result ≡ clear_check clear.now }
 {
@@ -238,7 +238,9 @@ pub fn check_clear(clear: &[Bytes]) -> Result<(), Fault>
     let number = start as u64 + 1;
     check_opening(number, opening.as_slice(), later)?;
     let in_array = array_len(opening.as_slice(), later);
-    check_all_later(number + 1, in_array, later)
+    let (array, after) = later.split_at(in_array);
+    check_lines(number + 1, true, array)?;
+    check_lines(number + 1 + in_array as u64, false, after)
 }
 
 /// The lines of the array among the clear lines.

@@ -78,7 +78,7 @@ fn item_at<'a>(
 #[tactic(auto, using(crate::proofs::ItemLaws::item_read, crate::proofs::ItemLaws::item_fault))]
 fn items_of(alloc: Global, number: u64, bytes: &[u8]) -> Result<(Gathered<'_>, u64), Refusal>
     requires { number + length bytes.now < 2 ^ 64 }
-    ensures value { Gives (λ read. read.0) result (items_of [] 0 number (lines bytes.now)) }
+    ensures value { Gives (λ read. read.0) result (items_of number (lines bytes.now)) }
     ensures number { IfOk result (λ read. read.1 ≡ number + length (lines bytes.now)) }
 {
     let mut items = Gathered::new(alloc);

@@ -62,13 +62,13 @@ fn first_in_order<O: GlyphOrder>(
 
 /// What is measured of stale glyphs, in the order in which they were found, or the first fault of one in the order of the
 /// font, which is asked for only there.
-fn measured_in_turn<O: GlyphOrder>(
+fn measured_in_turn<'a, O: GlyphOrder>(
     alloc: Global,
     runs: &Newest,
-    stale: &[&[u8]],
+    stale: &[&'a [u8]],
     found: &IndexSet<&[u8]>,
     order: &O,
-) -> Result<Vec<GlyphMetrics>, Refusal>
+) -> Result<Vec<GlyphMetrics<'a>>, Refusal>
     ensures { Gives (λ metrics. metrics.items) result (judged_in (glyph_metrics_among (newest runs.now.runs.now runs.now.records.now) (map (λ name. name.now) stale.now)) (glyph_metrics_among (newest runs.now.runs.now runs.now.records.now) (filter (has (λ name. name.now) found.now.keys) (O.ordered order.now)))) }
 {
     match glyph_metrics_of(alloc, runs, stale) {
@@ -79,15 +79,15 @@ fn measured_in_turn<O: GlyphOrder>(
 
 /// Runs each of these glyphs and measures it by the newest runs, or answers the first fault of one of them in the order of
 /// the font. The meter counts each of them.
-fn judged<B: Bodies, O: GlyphOrder>(
+fn judged<'a, B: Bodies, O: GlyphOrder>(
     alloc: Global,
     records: &Records,
     bodies: &B,
-    stale: &[&[u8]],
+    stale: &[&'a [u8]],
     found: &IndexSet<&[u8]>,
     order: &O,
     meter: &mut Meter,
-) -> Result<(Runs, Vec<GlyphMetrics>), Refusal>
+) -> Result<(Runs, Vec<GlyphMetrics<'a>>), Refusal>
     requires there { All (λ name. IsSome (B.glyphs bodies.now name.now)) stale.now }
     requires traced { keep_traces records.now ≡ true }
     ensures told { Gives (λ made. made.1.items) result (judged_in (glyph_metrics_among (newest_among (font (B.subrs bodies.now) (B.glyphs bodies.now)) (map (λ name. name.now) stale.now) records.now) (map (λ name. name.now) stale.now)) (glyph_metrics_among (newest_among (font (B.subrs bodies.now) (B.glyphs bodies.now)) (map (λ name. name.now) stale.now) records.now) (filter (has (λ name. name.now) found.now.keys) (O.ordered order.now)))) }

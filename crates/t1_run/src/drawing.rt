@@ -51,8 +51,9 @@ impl State {
         ensures steps { self.new.steps ≡ self.old.steps }
     {
         let start = self.current;
-        self.current = moved(&start, &dx, &dy)?;
-        add_segment(&mut self.segments, Segment::Line(start, self.current))?;
+        let end = &moved(&start, &dx, &dy)?;
+        add_segment(&mut self.segments, Segment::Line(start, *end))?;
+        self.current = *end;
         self.operands.clear();
         Ok(())
     }
@@ -71,9 +72,9 @@ impl State {
         let start = self.current;
         let one = moved(&start, &first.0, &first.1)?;
         let two = moved(&one, &second.0, &second.1)?;
-        self.current = moved(&two, &third.0, &third.1)?;
-        let curve = Segment::Curve(start, one, two, self.current);
-        add_segment(&mut self.segments, curve)?;
+        let end = &moved(&two, &third.0, &third.1)?;
+        add_segment(&mut self.segments, Segment::Curve(start, one, two, *end))?;
+        self.current = *end;
         self.operands.clear();
         Ok(())
     }

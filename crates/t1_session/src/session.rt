@@ -272,7 +272,7 @@ impl<'a> Session<'a> {
     }
 
     /// The metrics of the glyphs.
-    fn glyphs(&self) -> Result<MeasuredGlyphs, AllocError>
+    fn glyphs(&self) -> Result<MeasuredGlyphs<'_>, AllocError>
         ensures { IfOk result (λ glyphs. measured_source self.now.state.source ≡ Ok glyphs) }
     {
         held_metrics(self.alloc, &self.held)

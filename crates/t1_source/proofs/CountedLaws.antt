@@ -1,5 +1,5 @@
 -- Counts of at most nine digits, of a source that was read.
-use Rattle.std.proofs.Common.{◌≡◌, ℕ, zero, suc, Bool, true, false, ◌&&◌, ◌||◌, ◌+◌, ◌-◌, ◌^◌, ◌<◌, ◌≤◌, nat_lt, max, if◌then◌else◌, Option, None, Some, option_map, Result, Ok, Err, ok_or, List, [], ◌∷◌, ◌++◌, length, take, drop, map, codes, refl, sym, ◌∙◌, ap, inl, inr, arith}
+use Rattle.std.proofs.Common.{◌≡◌, ℕ, Bool, true, false, ◌&&◌, ◌||◌, ◌+◌, ◌-◌, ◌^◌, ◌<◌, ◌≤◌, nat_lt, max, if◌then◌else◌, Option, None, Some, option_map, Result, Ok, Err, ok_or, List, [], ◌∷◌, ◌++◌, length, take, drop, map, codes, refl, sym, ◌∙◌, ap, inl, inr, arith}
 use Rattle.std.specs.List.{list_all}
 use Rattle.std.proofs.lemmas.Bool.{and_parts, and_from, cases_Bool, ltb-true, lt-ltb}
 use Rattle.std.proofs.lemmas.List.{map-append}
@@ -7,8 +7,7 @@ use Rattle.std.proofs.lemmas.List.Folds.{list_all-append}
 use Rattle.t1_frac.specs.declared.fault.Code.{Code}
 use Rattle.t1_frac.specs.declared.fault.Code.TheVariants.{F4, F7, F8, F9, F10}
 use Rattle.t1_frac.specs.declared.fault.Fault.{Fault}
-use Rattle.t1_frac.specs.declared.fault.Place.TheVariants.{Line}
-use Rattle.t1_frac.specs.Outcome.{told_at, ◌>>=◌}
+use Rattle.t1_frac.specs.Outcome.{◌>>=◌}
 use Rattle.t1_parts.specs.declared.body.EntryBody.{EntryBody}
 use Rattle.t1_parts.specs.declared.item.Item.{Item}
 use Rattle.t1_parts.specs.declared.item.Item.TheVariants.{Plain, Section, Subr, Glyph}
@@ -28,7 +27,8 @@ use Rattle.t1_parts.specs.Reading.{unnumbered, whole_check, reads_lines, reads}
 use Rattle.t1_parts.specs.Printing.{text}
 use Rattle.t1_source.specs.WellFormed.{Stand, IsPrivate, is_counted}
 use Rattle.t1_parts.proofs.CountLaws.{glyphs_same, subrs_same}
-use Rattle.t1_frac.proofs.OutcomeLaws.{bind_ok, told_ok}
+use Rattle.t1_parts.proofs.ItemLaws.{items_keep}
+use Rattle.t1_frac.proofs.OutcomeLaws.{bind_ok}
 use Rattle.t1_parts.proofs.SectionLaws.{count_place_of}
 use Rattle.t1_text.proofs.NumberLaws.{count_small}
 use Rattle.t1_source.proofs.WellFormedItemsLaws.{entry_given}
@@ -107,14 +107,8 @@ all_further items n i h k =
     ap (list_all is_counted) (map-append (λ x. x.1) items ((n, i) ∷ [])) ∙ list_all-append is_counted (unnumbered items) (i ∷ [])
     ∙ and_from (list_all is_counted (unnumbered items)) (is_counted i && true) h (and_from (is_counted i) true k refl)
 
-items_counted : (earlier : List NumberedItem) (skip n : ℕ) (ls : List (List ℕ)) (items : List NumberedItem) → list_all is_counted (unnumbered earlier) ≡ true → items_of earlier skip n ls ≡ Ok items → list_all is_counted (unnumbered items) ≡ true
-items_counted earlier skip n [] items h e = let same : earlier ≡ items = cc in ap (λ t. list_all is_counted (unnumbered t)) (sym same) ∙ h
-items_counted earlier (suc skip) n (l ∷ ls) items h e = items_counted earlier skip (n + 1) ls items h e
-items_counted earlier zero n (l ∷ ls) items h e =
-    let step = bind_ok (told_at (Line n) (item_at earlier l ls)) (λ x. items_of (earlier ++ (n, x.0) ∷ []) x.1 (n + 1) ls) items e in
-    let x = step.0 in
-    let here = item_counted earlier l ls x (told_ok (Line n) (item_at earlier l ls) x step.1) in
-    items_counted (earlier ++ (n, x.0) ∷ []) x.1 (n + 1) ls items (all_further earlier n x.0 h here) step.2
+items_counted : (n : ℕ) (ls : List (List ℕ)) (items : List NumberedItem) → items_of n ls ≡ Ok items → list_all is_counted (unnumbered items) ≡ true
+items_counted n ls items e = items_keep (λ its rest. list_all is_counted (unnumbered its) ≡ true) (λ its l rest h. h) (λ its m l rest x h is. all_further its m x.0 h (item_counted its l rest x is)) n ls items refl e
 
 plain_counted : (n : ℕ) (ls : List (List ℕ)) → list_all is_counted (unnumbered (map (λ l. (n, Plain l)) ls)) ≡ true
 plain_counted n [] = refl
@@ -125,11 +119,11 @@ unfolding private_items
 private_counted n ls items e =
     let k = length ls - 1 in
     let last = map (λ l. (n + k, Plain l)) (drop k ls) in
-    let step = bind_ok (items_of [] 0 n (take k ls)) (λ its. Ok (its ++ map (λ l. (n + k, Plain l)) (drop k ls))) items e in
+    let step = bind_ok (items_of n (take k ls)) (λ its. Ok (its ++ map (λ l. (n + k, Plain l)) (drop k ls))) items e in
     let whole : ◌≡◌ {A = Result (List NumberedItem) Fault} (Ok (step.0 ++ last)) (Ok items) = step.2 in
     let same : step.0 ++ last ≡ items = cc in
     ap (λ t. list_all is_counted (unnumbered t)) (sym same) ∙ ap (list_all is_counted) (map-append (λ x. x.1) step.0 last) ∙ list_all-append is_counted (unnumbered step.0) (unnumbered last)
-    ∙ and_from (list_all is_counted (unnumbered step.0)) (list_all is_counted (unnumbered last)) (items_counted [] 0 n (take k ls) step.0 refl step.1) (plain_counted (n + k) (drop k ls))
+    ∙ and_from (list_all is_counted (unnumbered step.0)) (list_all is_counted (unnumbered last)) (items_counted n (take k ls) step.0 step.1) (plain_counted (n + k) (drop k ls))
 
 -- how many Subrs need a count
 needed_small : (e items : List Item) (last : List ℕ) → Stand e items → subrs_needed (items ++ Plain last ∷ []) ≤ 32001

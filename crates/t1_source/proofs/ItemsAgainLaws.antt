@@ -20,7 +20,7 @@ use Rattle.t1_parts.specs.Printing.{item_lines, body_line, last_line, word_group
 use Rattle.t1_source.specs.WellFormed.{is_inner, opens_entry, IsSectionLine, Stands, Stand, is_counted}
 use Rattle.t1_text.proofs.NumberLaws.{decimal_spells}
 use Rattle.t1_parts.proofs.EntryLaws.{subr_again, glyph_again}
-use Rattle.t1_parts.proofs.ItemLaws.{read_step}
+use Rattle.t1_parts.proofs.ItemLaws.{items_from, read_step}
 use Rattle.t1_source.proofs.SectionLineLaws.{section_again}
 use Rattle.t1_source.proofs.PrintedLaws.{decimal_count, inner_other, entry_inner, subr_inner, glyph_inner}
 
@@ -141,17 +141,17 @@ again earlier (Glyph g ws closing) h small =
 
 -- one item read
 item_read : (earlier : List NumberedItem) (n : ℕ) (i : Item) (rest : List (List ℕ)) (a : Again earlier i)
-    → items_of earlier 0 n (item_lines i ++ rest) ≡ items_of (earlier ++ (n, i) ∷ []) 0 (n + (1 + length a.others)) rest
+    → items_from earlier n (item_lines i ++ rest) ≡ items_from (earlier ++ (n, i) ∷ []) (n + (1 + length a.others)) rest
 item_read earlier n i rest a =
     let more = earlier ++ (n, i) ∷ [] in
-    ap (λ ls. items_of earlier 0 n (ls ++ rest)) a.lines
+    ap (λ ls. items_from earlier n (ls ++ rest)) a.lines
     ∙ read_step earlier n a.head (a.others ++ rest) (i, length a.others) (ap (told_at (Line n)) (a.read rest)) (omega (arith, length-append a.others rest))
-    ∙ ap (items_of more 0 (n + (1 + length a.others))) (drop-append_seam a.others rest)
+    ∙ ap (items_from more (n + (1 + length a.others))) (drop-append_seam a.others rest)
 
 -- what is read of printed items
 pub record Reads (earlier : List NumberedItem) (n : ℕ) (items : List Item) : Type 0 where
   pub all : List NumberedItem
-  pub read : items_of earlier 0 n (flat_map item_lines items) ≡ Ok all
+  pub read : items_from earlier n (flat_map item_lines items) ≡ Ok all
   pub same : unnumbered all ≡ unnumbered earlier ++ items
   pub inner : list_all is_inner (flat_map item_lines items) ≡ true
 
@@ -174,7 +174,7 @@ items_again earlier n (i ∷ items) h small =
     }
 
 -- the closefile line after the lines of items
-pub private_again : (n : ℕ) (ls : List (List ℕ)) (last : List ℕ) (items : List NumberedItem) → items_of [] 0 n ls ≡ Ok items
+pub private_again : (n : ℕ) (ls : List (List ℕ)) (last : List ℕ) (items : List NumberedItem) → items_of n ls ≡ Ok items
     → private_items n (ls ++ last ∷ []) ≡ Ok (items ++ (n + length ls, Plain last) ∷ [])
 unfolding private_items
 private_again n ls last items e =

@@ -7,10 +7,11 @@ use Rattle.std.proofs.lemmas.List.{reverse-append, reverse-reverse, take-append-
 use Rattle.std.proofs.lemmas.List.Folds.{list_any-append, list_all-append}
 use Rattle.std.proofs.lemmas.Slice.Eq.{bytes_eq-Decides}
 use Rattle.std.proofs.Math.Seq.{drop-append_seam, drop-append-add, take-append_seam, take-append-add}
+use Rattle.t1_frac.specs.declared.fault.Code.{Code}
 use Rattle.t1_frac.specs.declared.fault.Code.TheVariants.{F5, F6}
 use Rattle.t1_frac.specs.declared.fault.Fault.{Fault}
 use Rattle.t1_frac.specs.declared.fault.Place.TheVariants.{Line}
-use Rattle.t1_frac.specs.Outcome.{fault_at, ◌>>=◌}
+use Rattle.t1_frac.specs.Outcome.{fault_at, told_at, ◌>>=◌}
 use Rattle.t1_frac.specs.Words.{trimmed_front}
 use Rattle.t1_source.specs.declared.edit.Rule.{Rule}
 use Rattle.t1_source.specs.declared.edit.Rule.TheVariants.{E3, E4, E5, E10}
@@ -18,11 +19,11 @@ use Rattle.t1_parts.specs.SourceParts.{SourceParts}
 use Rattle.t1_text.specs.Lines.{is_line, trimmed}
 use Rattle.t1_text.specs.Tokens.{tokens, is_regular, first_is, last_is}
 use Rattle.t1_text.specs.Names.{is_name, name_of_token}
-use Rattle.t1_parts.specs.Encoding.{code_of_token, slot_of_tokens, opens_encoding, is_standard, is_array, ends_array, is_bad_slot, array_lines, opening_check, later_check, later_checks, encoding_check, clear_check, chooses_standard}
+use Rattle.t1_parts.specs.Encoding.{code_of_token, slot_of_tokens, opens_encoding, is_standard, is_array, ends_array, is_bad_slot, array_lines, opening_check, later_check, array_check, lines_check, encoding_check, clear_check, chooses_standard}
 use Rattle.t1_parts.specs.Parts.{is_eexec}
 use Rattle.t1_source.specs.Editing.{keeps, number_up_to, good_name, ArrayParts, array_parts, is_slot, is_slot_of, slot_line, encoded_lines, through_last, with_clear, encoded, unencoded}
 use Rattle.t1_source.specs.WellFormed.{IsClear, IsWellFormed}
-use Rattle.t1_frac.proofs.OutcomeLaws.{bind_ok}
+use Rattle.t1_frac.proofs.OutcomeLaws.{bind_ok, told_ok}
 use Rattle.t1_source.proofs.RuleLaws.{kept_ok}
 use Rattle.t1_text.proofs.NumberLaws.{decimal_spells, spelled}
 use Rattle.t1_text.proofs.TokenLaws.{other_first}
@@ -59,68 +60,50 @@ ends_join test (l ∷ p) q none h =
 abbrev pub is_fine : List ℕ → Bool
 is_fine l = not (opens_encoding l) && not (is_bad_slot (tokens l))
 
-fine_later : (n k : ℕ) (l : List ℕ) → later_check n k l ≡ Ok tt → (opens_encoding l ≡ false) × (1 ≤ k → is_bad_slot (tokens l) ≡ false)
+later_passed : (l : List ℕ) → later_check l ≡ Ok tt → not (opens_encoding l) ≡ true
 unfolding later_check
-fine_later n k l e =
+later_passed l e =
     elim (cases_Bool (opens_encoding l)) [
-      | inl opens ↦ let none : ◌≡◌ {A = Result (Unit {0}) Fault} (Err (fault_at (Line n) F5)) (Ok tt) = rw opens at e in cc
-      | inr off ↦ (
-        off,
-        λ within. elim (cases_Bool (is_bad_slot (tokens l))) [
-          | inl bad ↦
-              let low : nat_le 1 k ≡ true = le-leb 1 k within in
-              let none : ◌≡◌ {A = Result (Unit {0}) Fault} (Err (fault_at (Line n) F6)) (Ok tt) = rw (off, low, bad) at e in cc
-          | inr good ↦ good
-        ],
-      )
+      | inl opens ↦ let none : ◌≡◌ {A = Result (Unit {0}) Code} (Err F5) (Ok tt) = rw opens at e in cc
+      | inr off ↦ rw off refl
     ]
 
-later_fine : (n k : ℕ) (l : List ℕ) → opens_encoding l ≡ false → is_bad_slot (tokens l) ≡ false → later_check n k l ≡ Ok tt
+later_passes : (l : List ℕ) → not (opens_encoding l) ≡ true → later_check l ≡ Ok tt
 unfolding later_check
-later_fine n k l off good = rw (off, good) (no_and (nat_le 1 k))
-  where
-    no_and : (b : Bool) → ◌≡◌ {A = Result (Unit {0}) Fault} (if b && false then Err (fault_at (Line n) F6) else Ok tt) (Ok tt)
-    no_and true = refl
-    no_and false = refl
+later_passes l h = let off = not-true (opens_encoding l) h in rw off refl
 
-outside_fine : (n : ℕ) (l : List ℕ) → opens_encoding l ≡ false → later_check n 0 l ≡ Ok tt
-unfolding later_check
-outside_fine n l off = rw off refl
+array_passed : (l : List ℕ) → array_check l ≡ Ok tt → is_fine l ≡ true
+unfolding array_check
+array_passed l e =
+    let step = bind_ok (later_check l) (λ fine. if is_bad_slot (tokens l) then Err F6 else Ok tt) tt e in
+    elim (cases_Bool (is_bad_slot (tokens l))) [
+      | inl bad ↦ let none : ◌≡◌ {A = Result (Unit {0}) Code} (Err F6) (Ok tt) = rw bad at step.2 in cc
+      | inr good ↦ and_from (not (opens_encoding l)) (not (is_bad_slot (tokens l))) (later_passed l step.1) (rw good refl)
+    ]
 
--- the lines after the one that opens the encoding
-checks_parts : (n : ℕ) (ls rest : List (List ℕ)) → later_checks n (length ls) (ls ++ rest) ≡ Ok tt → (list_all is_fine ls ≡ true) × (list_any opens_encoding rest ≡ false)
-checks_parts n [] [] e = (refl, refl)
-checks_parts n [] (l ∷ rest) e =
-    let step = bind_ok (later_check n 0 l) (λ fine. later_checks (n + 1) (0 - 1) rest) tt e in
-    let here = fine_later n 0 l (one step.0 (later_check n 0 l) step.1) in
-    let more = checks_parts (n + 1) [] rest step.2 in
-    (refl, (let off = here.0 in rw off more.1))
-  where
-    one : (u : Unit {0}) (r : Result (Unit {0}) Fault) → r ≡ Ok u → r ≡ Ok tt
-    one u r h = h
-checks_parts n (l ∷ ls) rest e =
-    let k = length (l ∷ ls) in
-    let step = bind_ok (later_check n k l) (λ fine. later_checks (n + 1) (k - 1) (ls ++ rest)) tt e in
-    let here = fine_later n k l step.1 in
-    let less : k - 1 ≡ length ls = omega arith in
-    let more = checks_parts (n + 1) ls rest (ap (λ j. later_checks (n + 1) j (ls ++ rest)) (sym less) ∙ step.2) in
-    let off = here.0 in
-    let good = here.1 (omega arith) in
-    (and_from (is_fine l) (list_all is_fine ls) (rw (off, good) refl) more.0, more.1)
+array_passes : (l : List ℕ) → is_fine l ≡ true → array_check l ≡ Ok tt
+unfolding array_check
+array_passes l h =
+    let parts = and_parts (not (opens_encoding l)) (not (is_bad_slot (tokens l))) h in
+    let fine = later_passes l parts.0 in
+    let good = not-true (is_bad_slot (tokens l)) parts.1 in
+    rw (fine, good) refl
 
-checks_join : (n : ℕ) (ls rest : List (List ℕ)) → list_all is_fine ls ≡ true → list_any opens_encoding rest ≡ false → later_checks n (length ls) (ls ++ rest) ≡ Ok tt
-checks_join n [] [] h none = refl
-checks_join n [] (l ∷ rest) h none =
-    let parts = or_parts (opens_encoding l) (list_any opens_encoding rest) none in
-    let fine = outside_fine n l parts.0 in
-    rw fine (checks_join (n + 1) [] rest refl parts.1)
-checks_join n (l ∷ ls) rest h none =
-    let k = length (l ∷ ls) in
-    let parts = and_parts (is_fine l) (list_all is_fine ls) h in
-    let here = and_parts (not (opens_encoding l)) (not (is_bad_slot (tokens l))) parts.0 in
-    let fine = later_fine n k l (not-true (opens_encoding l) here.0) (not-true (is_bad_slot (tokens l)) here.1) in
-    let less : k - 1 ≡ length ls = omega arith in
-    rw fine (ap (λ j. later_checks (n + 1) j (ls ++ rest)) less ∙ checks_join (n + 1) ls rest parts.1 none)
+-- lines that pass a check, by what it is that passes
+all_passed : (check : List ℕ → Result (Unit {0}) Code) (test : List ℕ → Bool) → ((l : List ℕ) → check l ≡ Ok tt → test l ≡ true) → (n : ℕ) (ls : List (List ℕ)) → lines_check check n ls ≡ Ok tt
+    → list_all test ls ≡ true
+all_passed check test passed n [] e = refl
+all_passed check test passed n (l ∷ ls) e =
+    let step = bind_ok (told_at (Line n) (check l)) (λ fine. lines_check check (n + 1) ls) tt e in
+    and_from (test l) (list_all test ls) (passed l (told_ok (Line n) (check l) tt step.1)) (all_passed check test passed (n + 1) ls step.2)
+
+all_pass : (check : List ℕ → Result (Unit {0}) Code) (test : List ℕ → Bool) → ((l : List ℕ) → test l ≡ true → check l ≡ Ok tt) → (n : ℕ) (ls : List (List ℕ)) → list_all test ls ≡ true
+    → lines_check check n ls ≡ Ok tt
+all_pass check test passes n [] h = refl
+all_pass check test passes n (l ∷ ls) h =
+    let parts = and_parts (test l) (list_all test ls) h in
+    let fine = passes l parts.0 in
+    rw fine (all_pass check test passes (n + 1) ls parts.1)
 
 -- a line that may stand in an array
 abbrev pub is_array_line : List ℕ → Bool
@@ -207,12 +190,22 @@ none_first test before x after h =
 and_off : (a b : Bool) → a ≡ true → (a && b) ≡ false → b ≡ false
 and_off a b on h = let rest : b ≡ false = rw on at h in rest
 
+-- what passes from the line that opens the encoding on
+encoding_passed : (n : ℕ) (opening : List ℕ) (later : List (List ℕ)) → encoding_check n (opening ∷ later) ≡ Ok tt
+    → (opening_check n opening later ≡ Ok tt) × (lines_check array_check (n + 1) (array_lines (opening ∷ later)) ≡ Ok tt)
+    × (lines_check later_check (n + 1 + length (array_lines (opening ∷ later))) (drop (length (array_lines (opening ∷ later))) later) ≡ Ok tt)
+encoding_passed n opening later e =
+    let array = array_lines (opening ∷ later) in
+    let after : Result (Unit {0}) Fault = lines_check later_check (n + 1 + length array) (drop (length array) later) in
+    let opened = bind_ok (opening_check n opening later) (λ opened. lines_check array_check (n + 1) array >>= λ filled. after) tt e in
+    let filled = bind_ok (lines_check array_check (n + 1) array) (λ filled. after) tt opened.2 in
+    (opened.1, filled.1, filled.2)
+
 -- what comes after the line that opens an array
 array_there : (n : ℕ) (opening : List ℕ) (later : List (List ℕ)) → is_standard (tokens opening) ≡ false → encoding_check n (opening ∷ later) ≡ Ok tt
     → (is_array (tokens opening) ≡ true) × First ends_array later (position_or_len ends_array later)
 array_there n opening later other e =
-    let step = bind_ok (opening_check n opening later) (λ fine. later_checks (n + 1) (length (array_lines (opening ∷ later))) later) tt e in
-    let given = opening_given n opening later other step.1 in
+    let given = opening_given n opening later other (encoding_passed n opening later e).0 in
     (given.0, first_at ends_array later (any_within ends_array later given.1))
 
 lines_there : (opening : List ℕ) (ls : List (List ℕ)) (ending : List ℕ) (rest : List (List ℕ)) → is_standard (tokens opening) ≡ false → list_any ends_array ls ≡ false → ends_array ending ≡ true
@@ -220,6 +213,24 @@ lines_there : (opening : List ℕ) (ls : List (List ℕ)) (ending : List ℕ) (r
 lines_there opening ls ending rest other inside ends =
     let place = place_after ends_array ls ending rest inside ends in
     rw (other, place) (take-append_seam ls (ending ∷ rest))
+
+-- the lines of the array and those after it
+checks_parts : (n : ℕ) (opening : List ℕ) (ls rest : List (List ℕ)) → array_lines (opening ∷ (ls ++ rest)) ≡ ls → encoding_check n (opening ∷ (ls ++ rest)) ≡ Ok tt
+    → (list_all is_fine ls ≡ true) × (list_any opens_encoding rest ≡ false)
+checks_parts n opening ls rest inner e =
+    let passed = encoding_passed n opening (ls ++ rest) e in
+    let after = n + 1 + length (array_lines (opening ∷ (ls ++ rest))) in
+    let behind : drop (length (array_lines (opening ∷ (ls ++ rest)))) (ls ++ rest) ≡ rest = ap (λ t. drop (length t) (ls ++ rest)) inner ∙ drop-append_seam ls rest in (
+      all_passed array_check is_fine array_passed (n + 1) ls (ap (lines_check array_check (n + 1)) (sym inner) ∙ passed.1),
+      none_all opens_encoding rest (all_passed later_check (λ l. not (opens_encoding l)) later_passed after rest (ap (lines_check later_check after) (sym behind) ∙ passed.2)),
+    )
+
+checks_join : (n : ℕ) (opening : List ℕ) (ls rest : List (List ℕ)) → array_lines (opening ∷ (ls ++ rest)) ≡ ls → opening_check n opening (ls ++ rest) ≡ Ok tt → list_all is_fine ls ≡ true → list_any opens_encoding rest ≡ false
+    → encoding_check n (opening ∷ (ls ++ rest)) ≡ Ok tt
+checks_join n opening ls rest inner opened fine none =
+    let filled = all_pass array_check is_fine array_passes (n + 1) ls fine in
+    let after = all_pass later_check (λ l. not (opens_encoding l)) later_passes (n + 1 + length ls) rest (all_none opens_encoding rest none) in
+    rw (opened, inner, filled) (ap (lines_check later_check (n + 1 + length ls)) (drop-append_seam ls rest) ∙ after)
 
 array_of : (clear : List (List ℕ)) (parts : ArrayParts) → clear_check clear ≡ Ok tt → array_parts clear ≡ Ok parts → Array clear parts
 unfolding array_parts
@@ -295,16 +306,13 @@ array_clear clear parts r ls h good =
     let joined = append_assoc r.before (r.opening ∷ ls) (r.ending ∷ r.rest) in
     let last = ends_join is_eexec (r.before ++ r.opening ∷ ls) (r.ending ∷ r.rest) no_eexec ends.1 in
     let was = sym (check_there r.before r.opening (r.ls ++ r.ending ∷ r.rest) r.first r.opens) ∙ ap clear_check (sym r.whole) ∙ h.2 in
-    let step = bind_ok (opening_check n r.opening (r.ls ++ r.ending ∷ r.rest)) (λ passed. later_checks (n + 1) (length (array_lines (r.opening ∷ (r.ls ++ r.ending ∷ r.rest)))) (r.ls ++ r.ending ∷ r.rest)) tt was in
-    let later = checks_parts (n + 1) r.ls (r.ending ∷ r.rest)
-    (ap (λ t. later_checks (n + 1) (length t) (r.ls ++ r.ending ∷ r.rest)) (sym (lines_there r.opening r.ls r.ending r.rest r.other r.inside r.ends)) ∙ step.2) in
+    let later = checks_parts n r.opening r.ls (r.ending ∷ r.rest) (lines_there r.opening r.ls r.ending r.rest r.other r.inside r.ends) was in
     let array : list_any ends_array new ≡ true = list_any-append ends_array ls (r.ending ∷ r.rest) ∙ (let on = r.ends in rw on (or_on (list_any ends_array ls))) in
     let opening : opening_check n r.opening new ≡ Ok tt = (let off = r.other in let on = r.array in rw (off, on, array) refl) in
-    let checked = checks_join (n + 1) ls (r.ending ∷ r.rest) fine.0 later.1 in
     let inner = lines_there r.opening ls r.ending r.rest r.other (none_all ends_array ls fine.1) r.ends in (
       all_both is_line r.before (r.opening ∷ new) old.0 (and_from (is_line r.opening) (list_all is_line new) opened.0 (all_both is_line ls (r.ending ∷ r.rest) lines.0 behind)),
       ap (λ t. position_or_len is_eexec t + 1) (sym joined) ∙ last ∙ ap length joined,
-      check_there r.before r.opening new r.first r.opens ∙ (rw opening (ap (λ t. later_checks (n + 1) (length t) new) inner ∙ checked)),
+      check_there r.before r.opening new r.first r.opens ∙ checks_join n r.opening ls (r.ending ∷ r.rest) inner opening fine.0 later.1,
     )
   where
     or_on : (b : Bool) → (b || true) ≡ true
@@ -323,9 +331,7 @@ array_lines_good clear parts r h =
     let front = any_parts is_eexec r.before (r.opening ∷ r.ls) ends.0 in
     let eexec = all_none is_eexec r.ls (or_parts (is_eexec r.opening) (list_any is_eexec r.ls) front.1).1 in
     let was = sym (check_there r.before r.opening (r.ls ++ r.ending ∷ r.rest) r.first r.opens) ∙ ap clear_check (sym r.whole) ∙ h.2 in
-    let step = bind_ok (opening_check n r.opening (r.ls ++ r.ending ∷ r.rest)) (λ passed. later_checks (n + 1) (length (array_lines (r.opening ∷ (r.ls ++ r.ending ∷ r.rest)))) (r.ls ++ r.ending ∷ r.rest)) tt was in
-    let later = checks_parts (n + 1) r.ls (r.ending ∷ r.rest)
-    (ap (λ t. later_checks (n + 1) (length t) (r.ls ++ r.ending ∷ r.rest)) (sym (lines_there r.opening r.ls r.ending r.rest r.other r.inside r.ends)) ∙ step.2) in
+    let later = checks_parts n r.opening r.ls (r.ending ∷ r.rest) (lines_there r.opening r.ls r.ending r.rest r.other r.inside r.ends) was in
     all_and (λ l. is_line l && not (is_eexec l)) (λ l. is_fine l && not (ends_array l)) r.ls
     (all_and is_line (λ l. not (is_eexec l)) r.ls lines eexec)
     (all_and is_fine (λ l. not (ends_array l)) r.ls later.0 (all_none ends_array r.ls r.inside))

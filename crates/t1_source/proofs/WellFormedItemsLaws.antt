@@ -1,12 +1,10 @@
 -- Items that were read stand after those before them.
-use Rattle.std.proofs.Common.{◌≡◌, ℕ, zero, suc, true, false, ◌&&◌, ◌||◌, ◌==◌, ◌+◌, ◌≤◌, nat_le, if◌then◌else◌, Option, None, Some, option_map, Result, Ok, Err, ok_or, List, [], ◌∷◌, ◌++◌, length, take, drop, codes, refl, sym, ◌∙◌, ap, inl, inr}
+use Rattle.std.proofs.Common.{◌≡◌, ℕ, true, false, ◌&&◌, ◌||◌, ◌==◌, ◌+◌, ◌≤◌, nat_le, if◌then◌else◌, Option, None, Some, option_map, Result, Ok, Err, ok_or, List, [], ◌∷◌, ◌++◌, length, take, drop, codes, refl, sym, ◌∙◌, ap, inl, inr}
 use Rattle.std.specs.List.{list_all, list_any}
 use Rattle.std.proofs.lemmas.Bool.{and_parts, cases_Bool, leb-true, or_parts}
 use Rattle.std.proofs.lemmas.List.{map-append}
 use Rattle.t1_frac.specs.declared.fault.Code.{Code}
 use Rattle.t1_frac.specs.declared.fault.Code.TheVariants.{F4, F7, F8, F9, F10}
-use Rattle.t1_frac.specs.declared.fault.Place.TheVariants.{Line}
-use Rattle.t1_frac.specs.Outcome.{told_at}
 use Rattle.t1_parts.specs.declared.body.EntryBody.{EntryBody}
 use Rattle.t1_parts.specs.declared.item.Item.{Item}
 use Rattle.t1_parts.specs.declared.item.Item.TheVariants.{Plain, Section, Subr, Glyph}
@@ -18,7 +16,8 @@ use Rattle.t1_parts.specs.Entries.{NumberedItem, Taken, has, is_subr, is_glyph, 
 use Rattle.t1_parts.specs.Private.{line_item, among_glyphs, among_subrs, item_at, items_of}
 use Rattle.t1_parts.specs.Reading.{unnumbered}
 use Rattle.t1_source.specs.WellFormed.{is_inner, opens_entry, IsSectionLine, IsEntry, Stands, Stand}
-use Rattle.t1_frac.proofs.OutcomeLaws.{bind_ok, told_ok}
+use Rattle.t1_frac.proofs.OutcomeLaws.{bind_ok}
+use Rattle.t1_parts.proofs.ItemLaws.{items_keep}
 use Rattle.t1_source.proofs.SectionLineLaws.{section_again}
 use Rattle.t1_source.proofs.PrintedLaws.{inner_other}
 use Rattle.t1_source.proofs.ItemsAgainLaws.{has_item}
@@ -177,14 +176,16 @@ item_stands earlier l ls x h k e =
     ]
 
 -- items that were read stand
-pub read_stand : (earlier : List NumberedItem) (skip n : ℕ) (ls : List (List ℕ)) (items : List NumberedItem) → list_all is_inner ls ≡ true → Stand [] (unnumbered earlier) → items_of earlier skip n ls ≡ Ok items
-    → Stand [] (unnumbered items)
-read_stand earlier skip n [] items h k e = let same : earlier ≡ items = cc in rw (← same) k
-read_stand earlier (suc skip) n (l ∷ ls) items h k e = read_stand earlier skip (n + 1) ls items (and_parts (is_inner l) (list_all is_inner ls) h).1 k e
-read_stand earlier zero n (l ∷ ls) items h k e =
-    let parts = and_parts (is_inner l) (list_all is_inner ls) h in
-    let step = bind_ok (told_at (Line n) (item_at earlier l ls)) (λ x. items_of (earlier ++ (n, x.0) ∷ []) x.1 (n + 1) ls) items e in
-    let x = step.0 in
-    let here = item_stands earlier l ls x parts.0 parts.1 (told_ok (Line n) (item_at earlier l ls) x step.1) in
-    let grown : unnumbered (earlier ++ (n, x.0) ∷ []) ≡ unnumbered earlier ++ x.0 ∷ [] = map-append (λ y. y.1) earlier ((n, x.0) ∷ []) in
-    read_stand (earlier ++ (n, x.0) ∷ []) x.1 (n + 1) ls items parts.1 (rw grown (stand_both [] (unnumbered earlier) (x.0 ∷ []) k (here, tt))) step.2
+pub read_stand : (n : ℕ) (ls : List (List ℕ)) (items : List NumberedItem) → list_all is_inner ls ≡ true → items_of n ls ≡ Ok items → Stand [] (unnumbered items)
+read_stand n ls items h e = (items_keep (λ its rest. (list_all is_inner rest ≡ true) × Stand [] (unnumbered its)) passed taken n ls items (h, tt) e).1
+  where
+    passed : (its : List NumberedItem) (l : List ℕ) (rest : List (List ℕ)) → (list_all is_inner (l ∷ rest) ≡ true) × Stand [] (unnumbered its) → (list_all is_inner rest ≡ true) × Stand [] (unnumbered its)
+    passed its l rest k = ((and_parts (is_inner l) (list_all is_inner rest) k.0).1, k.1)
+
+    taken : (its : List NumberedItem) (m : ℕ) (l : List ℕ) (rest : List (List ℕ)) (x : Taken) → (list_all is_inner (l ∷ rest) ≡ true) × Stand [] (unnumbered its) → item_at its l rest ≡ Ok x
+        → (list_all is_inner rest ≡ true) × Stand [] (unnumbered (its ++ (m, x.0) ∷ []))
+    taken its m l rest x k is =
+        let parts = and_parts (is_inner l) (list_all is_inner rest) k.0 in
+        let here = item_stands its l rest x parts.0 parts.1 is in
+        let grown : unnumbered (its ++ (m, x.0) ∷ []) ≡ unnumbered its ++ x.0 ∷ [] = map-append (λ y. y.1) its ((m, x.0) ∷ []) in
+        (parts.1, rw grown (stand_both [] (unnumbered its) (x.0 ∷ []) k.1 (here, tt)))

@@ -172,15 +172,15 @@ items_well_formed n ls items h ends e =
     let one_less : k ≡ length p.front = omega (arith, ap length p.whole, length-append p.front (p.last ∷ [])) in
     let front : take k ls ≡ p.front = ap (λ j. take j ls) one_less ∙ ap (take (length p.front)) p.whole ∙ take-append_seam p.front (p.last ∷ []) in
     let back : drop k ls ≡ p.last ∷ [] = ap (λ j. drop j ls) one_less ∙ ap (drop (length p.front)) p.whole ∙ drop-append_seam p.front (p.last ∷ []) in
-    let step = bind_ok (items_of [] 0 n (take k ls)) (λ its. Ok (its ++ map (λ l. (n + k, Plain l)) (drop k ls))) items e in
-    let read : items_of [] 0 n p.front ≡ Ok step.0 = ap (items_of [] 0 n) (sym front) ∙ step.1 in
+    let step = bind_ok (items_of n (take k ls)) (λ its. Ok (its ++ map (λ l. (n + k, Plain l)) (drop k ls))) items e in
+    let read : items_of n p.front ≡ Ok step.0 = ap (items_of n) (sym front) ∙ step.1 in
     let whole : ◌≡◌ {A = Result (List NumberedItem) Fault} (Ok (step.0 ++ map (λ l. (n + k, Plain l)) (drop k ls))) (Ok items) = step.2 in
     let same : step.0 ++ map (λ l. (n + k, Plain l)) (drop k ls) ≡ items = cc in
     record {
       inner = unnumbered step.0;
       last = p.last;
       whole = ap unnumbered (sym same) ∙ ap (λ t. unnumbered (step.0 ++ map (λ l. (n + k, Plain l)) t)) back ∙ map-append (λ i. i.1) step.0 ((n + k, Plain p.last) ∷ []);
-      stand = read_stand [] 0 n p.front step.0 p.inner tt read;
+      stand = read_stand n p.front step.0 p.inner read;
       line = p.line;
       closes = p.closes;
     }

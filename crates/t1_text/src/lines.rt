@@ -9,7 +9,7 @@ ghost use Rattle.t1_frac.specs.Words.{is_blank};
 ghost use Rattle.t1_text.specs.Delimiters.{is_safe};
 ghost use Rattle.t1_text.specs.Lines.{begins_with, lines, line_ends, is_line, is_line_end, after_end, trimmed};
 
-use memchr::{memchr, memchr_iter, memchr2, memchr3, memrchr2};
+use memchr::{memchr, memchr2, memchr3, memrchr2};
 use std::alloc::{AllocError, Global};
 use t1_frac::{Bytes, Code, Fault, Place, is_blank, skip_blanks};
 
@@ -123,7 +123,7 @@ pub fn line_ends(text: &[u8]) -> usize
 fn line_feeds(text: &[u8]) -> usize
     ensures { result ≡ count_by (λ c. c == line_feed) text.now }
 {
-    memchr_iter(b'\n', text).count()
+    text.iter().filter(|byte| **byte == b'\n').count()
 }
 
 /// How many line ends stand in a text, counted one by one.

@@ -3,9 +3,8 @@ use Rattle.std.proofs.lemmas.List.{length-drop}
 use Rattle.std.proofs.lemmas.Result.{err_from_is_err_and}
 use Rattle.t1_frac.specs.Outcome.{Refuses}
 use Rattle.t1_text.specs.Lines.{lines}
-use Rattle.t1_parts.specs.Private.{items_of}
 use Rattle.t1_text.proofs.CutLaws.{lines_within}
-use Rattle.t1_parts.proofs.ItemLaws.{item_read, item_refused, some_of}
+use Rattle.t1_parts.proofs.ItemLaws.{items_from, item_read, item_refused, some_of}
 use Rattle.t1_parts.proofs.private.items_of.Goals as goal
 
 pub returns-in_err-taken-clause-value : goal.returns-in_err-taken-clause-value
@@ -28,6 +27,6 @@ loop-rest-preserved c =
     let after = c.in_ok-taken.ensures.after in
     let read = item_read c.loop-rest.items c.loop-rest.first c.loop-rest.rest.now c.in_ok-taken.taken.after.now (c.in_ok-taken.taken.item, c.in_ok-taken.taken.more) (some_of (length c.loop-rest.rest.now) (sym c.is_empty.ensures ∙ c.loop-rest-test.true)) c.in_ok-taken.ensures.value after in
     let size = ap length after.1 ∙ length-drop (c.in_ok-taken.taken.more + 1) (lines c.loop-rest.rest.now) in (
-      ap (λ l. items_of l 0 (c.loop-rest.first + (c.in_ok-taken.taken.more + 1)) (lines c.in_ok-taken.taken.after.now)) c.in_ok-items.ensures ∙ sym read ∙ c.loop-rest.invariant.0,
+      ap (λ l. items_from l (c.loop-rest.first + (c.in_ok-taken.taken.more + 1)) (lines c.in_ok-taken.taken.after.now)) c.in_ok-items.ensures ∙ sym read ∙ c.loop-rest.invariant.0,
       omega (arith, size, after.0, c.loop-rest.invariant.1),
     )

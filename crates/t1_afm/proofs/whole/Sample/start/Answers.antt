@@ -1,17 +1,16 @@
 use Rattle.std.proofs.Common.{arith, ◌^◌, ◌+◌, ◌*◌}
 use Rattle.t1_afm.specs.Differences.{linear, square, cube}
-use Rattle.t1_afm.proofs.Longs.{IsLong, long, sum_long, sum_fits, multiple_long, multiple_fits, linear_long, square_long, cube_long}
+use Rattle.t1_afm.proofs.Longs.{IsLong, long, sum_long, sum_fits, multiple_long, multiple_fits, read_long}
 use Rattle.t1_afm.proofs.whole.Sample.start.Goals as goal
 
-linear_is : (c : goal.After-cube-cube) → IsLong c.linear-linear.result (linear c.args.a c.args.b) (2 ^ 35)
-linear_is c = linear_long c.linear-linear.result c.args.a c.args.b c.requires.a c.requires.b c.linear-linear.ensures.value c.linear-linear.ensures.size
+linear_is : (c : goal.After-result-1) → IsLong c.linear-linear.result (linear c.args.cubic.now) (2 ^ 35)
+linear_is c = read_long _ _ (2 ^ 35) c.linear-linear.ensures.value c.linear-linear.ensures.size (omega arith)
 
-square_is : (c : goal.After-cube-cube) → IsLong c.square-square.result (square c.args.a c.args.b c.args.c) (2 ^ 30)
-square_is c = square_long c.square-square.result c.args.a c.args.b c.args.c c.requires.a c.requires.b c.requires.c c.square-square.ensures.value c.square-square.ensures.size
+square_is : (c : goal.After-result-1) → IsLong c.square-square.result (square c.args.cubic.now) (2 ^ 30)
+square_is c = read_long _ _ (2 ^ 30) c.square-square.ensures.value c.square-square.ensures.size (omega arith)
 
-cube_is : (c : goal.After-cube-cube) → IsLong c.cube-cube.result (cube c.args.a c.args.b c.args.c c.args.d) (2 ^ 23)
-cube_is c =
-    cube_long c.cube-cube.result c.args.a c.args.b c.args.c c.args.d c.requires.a c.requires.b c.requires.c c.requires.d c.cube-cube.ensures.value c.cube-cube.ensures.size
+cube_is : (c : goal.After-result-1) → IsLong c.cube-cube.result (cube c.args.cubic.now) (2 ^ 23)
+cube_is c = read_long _ _ (2 ^ 23) c.cube-cube.ensures.value c.cube-cube.ensures.size (omega arith)
 
 pub overflow_add-result-2 : goal.overflow_add-result-2
 overflow_add-result-2 c =
@@ -29,7 +28,7 @@ overflow_mul-result-4 c = multiple_fits 6 _ _ (2 ^ 23) (cube_is c) (omega arith)
 
 pub returns-clause-value : goal.returns-clause-value
 returns-clause-value c =
-    let h = multiple_long 262144 _ _ (2 ^ 20) (long c.args.a (2 ^ 20) c.requires.a (omega arith)) (omega arith) in
+    let h = multiple_long 262144 _ _ (2 ^ 20) (long c.args.cubic.now.start (2 ^ 20) c.args.cubic.now.start_size (omega arith)) (omega arith) in
     h.same
 
 pub returns-clause-first : goal.returns-clause-first

@@ -10,7 +10,7 @@ use Rattle.t1_code.proofs.eexec.EexecWriter.put.Goals as goal
 pub returns-in_err-put-clause-text : goal.returns-in_err-put-clause-text
 returns-in_err-put-clause-text g c =
     let p = err_from_is_err_and c.from_residual.result c.from_residual.ensures.1 in
-    let state : EexecState = record { key = c.loop-rest.self-inside.cipher.key; form = c.loop-rest.self-inside.form } in
+    let state : EexecState = record { key = c.loop-rest.self-inside.cipher; form = c.loop-rest.self-inside.form } in
     let front = c.split_at.result.0.now in
     let after = c.split_at.result.1.now in
     let parts : c.loop-rest.rest.now ≡ front ++ after = rw (c.split_at.ensures.front, c.split_at.ensures.back) (sym (take-append-drop c.min.result c.loop-rest.rest.now)) in
@@ -19,7 +19,7 @@ returns-in_err-put-clause-text g c =
 
 pub loop-rest-preserved : goal.loop-rest-preserved
 loop-rest-preserved g c =
-    let state : EexecState = record { key = c.loop-rest.self-inside.cipher.key; form = c.loop-rest.self-inside.form } in
+    let state : EexecState = record { key = c.loop-rest.self-inside.cipher; form = c.loop-rest.self-inside.form } in
     let front = c.split_at.result.0.now in
     let after = c.split_at.result.1.now in
     let parts : c.loop-rest.rest.now ≡ front ++ after = rw (c.split_at.ensures.front, c.split_at.ensures.back) (sym (take-append-drop c.min.result c.loop-rest.rest.now)) in

@@ -15,5 +15,5 @@ returns-then-other-eq1-clause-sum c =
 
 pub returns-clause-within : goal.returns-clause-within
 returns-clause-within c =
-    subst (λ (r : Result Fraction Code). IfOk r IsCoordinate) (sym c.in_ok-add_fraction.ensures)
+    subst (λ (r : Result Fraction Code). IfOk r IsCoordinate) (sym c.add_fraction.ensures)
     (sum_within _ _ c.self.invariant.0 c.other.invariant.0)

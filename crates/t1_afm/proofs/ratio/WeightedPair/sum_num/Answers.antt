@@ -1,5 +1,5 @@
 use Rattle.t1_afm.proofs.Convex.{wide_sum}
-use Rattle.t1_afm.proofs.ratio.sum_num.Goals as goal
+use Rattle.t1_afm.proofs.ratio.WeightedPair.sum_num.Goals as goal
 
 pub returns-clause-value : goal.returns-clause-value
 returns-clause-value c =
