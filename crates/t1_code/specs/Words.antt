@@ -1,9 +1,10 @@
 -- The words of a charstring: numbers and commands.
-use Rattle.std.specs.Prelude.{map, ℕ, ◌^◌, ℤ, pos, negsuc, Bool, nat_lt, if◌then◌else◌, List, [], ◌∷◌, take, length, codes, Option, None, Some, Result, Ok, Err}
+use Rattle.std.specs.Prelude.{◌≡◌, ℕ, ◌^◌, ℤ, pos, negsuc, Bool, nat_lt, if◌then◌else◌, List, [], ◌∷◌, take, drop, length, codes, Option, None, Some, Result, Ok, Err}
 use Rattle.std.specs.Map.{lookup}
 use Rattle.std.specs.Borrow.{Bor}
 use Rattle.std.specs.Str.{bytes_eq}
 use Rattle.std.specs.List.{position_or_len}
+use Rattle.std.specs.Option.{MatchOption}
 use Rattle.t1_frac.specs.Numbers.{is_number_word, number_written}
 use Rattle.t1_frac.specs.Words.{is_blank}
 use Rattle.t1_frac.specs.declared.fault.Code.{Code}
@@ -62,9 +63,17 @@ operator_words =
 unfoldable pub operator_named : List ℕ → Option Command
 operator_named word = lookup (bytes_eq word) operator_words
 
--- profile: the same in a table of the code
-abbrev pub named_in : List (Bor (List ℕ) × Command) → List ℕ → Option Command
-named_in table word = lookup (bytes_eq word) (map (λ row. (row.0.now, row.1)) table)
+-- profile, words: the bytes past the first word and the blank that ends it
+abbrev pub past_first_word : List ℕ → List ℕ
+past_first_word text = drop 1 (drop (position_or_len is_blank text) text)
+
+-- profile: what is found is the command that the first word names, where it names one, and the bytes past the word
+abbrev pub FindsCommand : List ℕ → Option (Command × Bor (List ℕ)) → Type 0
+FindsCommand text found =
+    MatchOption
+    found
+    (operator_named (first_word text) ≡ None)
+    (λ it. (operator_named (first_word text) ≡ Some it.0) × (it.1.now ≡ past_first_word text))
 
 -- profile: a number among commands
 abbrev pub number_command : Result ℤ Code → Result Command Code

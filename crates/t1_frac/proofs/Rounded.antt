@@ -4,7 +4,7 @@ use Rattle.std.specs.Prelude.{true, false, if◌then◌else◌, Ok, Err, IfOk}
 use Rattle.std.specs.Int.{int_div_euclid}
 use Rattle.std.proofs.Math.Nat.{lt_of_mul-lt-mul_right, le_of_mul-le-mul_right, mul-le-mul_right, mul-lt-mul_of_pos_right}
 use borrow.Author.Differences.{up, down, sum_is_lem, product_is, neg_is, same_in}
-use Rattle.t1_frac.specs.Fraction.{Fraction, IsSame, lowest, whole, plus, negated, floor_of, ceiling_of}
+use Rattle.t1_frac.specs.Fraction.{Fraction, IsSame, lowest, whole, plus, negated, floor_of, ceiling_of, nearest_of}
 use Rattle.t1_frac.specs.Limits.{coordinate_sum, exceeds, is_too_fine, within}
 use Rattle.t1_frac.specs.declared.fault.Code.{Code}
 use Rattle.t1_frac.specs.declared.fault.Code.TheVariants.{F39, F40}
@@ -135,3 +135,16 @@ rounding_moves v k h =
       floor_same (lowest moved) moved low.1.above above low.0 ∙ floor_moves v k h,
       ceiling_same (lowest moved) moved low.1.above above low.0 ∙ ceiling_moves v k h,
     )
+
+-- a number is the floor of itself and a half
+halved : (n : ℤ) → int_div_euclid (n *ℤ pos 2 +ℤ pos 1) (pos 2) ≡ n
+halved n =
+    let x = product_is n (pos 2) in
+    let s = sum_is_lem (n *ℤ pos 2) (pos 1) in
+    floor_one (n *ℤ pos 2 +ℤ pos 1) (int_div_euclid (n *ℤ pos 2 +ℤ pos 1) (pos 2)) n 2
+    (floor_is (n *ℤ pos 2 +ℤ pos 1) 2 (omega arith))
+    (record { below = omega arith; above = omega arith })
+
+-- a whole number is the nearest to itself
+pub nearest_whole : (a : Fraction) → a.den ≡ 1 → nearest_of a ≡ a.num
+nearest_whole a is = rw is (halved a.num)

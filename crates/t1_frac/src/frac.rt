@@ -378,12 +378,24 @@ impl Frac {
         -(-self.num).div_euclid(i64::from(self.den))
     }
 
-    /// The nearest whole number, halves upward.
-    pub fn nearest(&self) -> i64
+    /// The same, where it may have a fraction. A division takes as long as a glyph's line.
+    #[inline(never)]
+    fn nearest_to_fraction(&self) -> i64
         ensures { result ≡ nearest_of self.now }
     {
         let den = i64::from(self.den);
         (self.num * 2 + den).div_euclid(2 * den)
+    }
+
+    /// The nearest whole number, halves upward.
+    #[tactic(auto, using(crate::proofs::Rounded::nearest_whole))]
+    pub fn nearest(&self) -> i64
+        ensures { result ≡ nearest_of self.now }
+    {
+        if self.den == 1 {
+            return self.num;
+        }
+        self.nearest_to_fraction()
     }
 
     /// How the two stand as numbers.

@@ -1,6 +1,10 @@
-//! Tests of a session and of whole files: each public function on its happy path, with expected values from outside. They stand
+//! Tests of the calls of a session: edits, batches, prints and the count of runs, with expected values from outside. They stand
 //! in a crate of their own, so that `t1_session` is proved once and not a second time with its tests.
 #![tactic(auto)]
 
 #[cfg(test)]
-mod session;
+mod batches;
+#[cfg(test)]
+mod prints;
+#[cfg(test)]
+mod runs;

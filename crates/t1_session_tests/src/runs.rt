@@ -1,7 +1,10 @@
 //! How many runs the edits of a session make, on the demo font. The counts are those of an edit's dependents, by hand.
-use super::*;
+use std::alloc::Global;
+use std::test::Fail;
+use t1_code::Counted;
 use t1_frac::Bytes;
 use t1_pairs::read_pairs;
+use t1_session::Session;
 use t1_source::{Cause, Edit, Rule, read_source};
 
 /// The demo font.

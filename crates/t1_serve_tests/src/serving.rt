@@ -8,10 +8,7 @@ use t1_session::{
     ServeError, Session, assemble_blocks, assemble_pfa, assemble_source, measure_source, serve,
 };
 
-mod batches;
 mod files;
-mod prints;
-mod runs;
 
 /// A font of one glyph, in two parts.
 const FRONT: &[u8] = b"%!\n";

@@ -1,7 +1,10 @@
 //! Every print of a session after a kern.
-use super::runs::{demo, uses};
-use super::*;
+use crate::runs::{demo, uses};
+use std::alloc::Global;
+use std::test::Fail;
+use t1_code::Counted;
 use t1_frac::Bytes;
+use t1_session::Session;
 use t1_source::Edit;
 
 /// The AFM file of the demo font with one kerning pair.

@@ -1,10 +1,11 @@
 //! How many runs the commits of batches make, and edits under nested accents, on the demo font. The counts are those of the
 //! dependents of all edits together, by hand.
-use super::runs::{demo, glyph_edit, subr_edit, uses};
-use super::*;
-use t1_frac::Bytes;
-use t1_pairs::read_pairs;
-use t1_source::{Cause, Edit, Rule, read_source};
+use crate::runs::{demo, glyph_edit, subr_edit, uses};
+use std::alloc::Global;
+use std::test::Fail;
+use t1_frac::{Bytes, Code, Place};
+use t1_session::Session;
+use t1_source::{Cause, Edit, Rule};
 
 /// Another glyph.
 fn new_glyph(alloc: Global, name: &[u8], body: &[u8]) -> Result<Edit, Fail> {
@@ -141,10 +142,9 @@ const FOUR_DEEP: [(&[u8], &[u8]); 4] = [
     (b"d", b"0 100 hsbw 0 0 0 99 32 seac"),
 ];
 
-/// A session with these glyphs and space.
-fn four_deep(alloc: Global, font: &[u8]) -> Result<Session<'_>, Fail> {
-    let source = read_source(alloc, font)?;
-    let mut session = Session::open(alloc, source, read_pairs(alloc, b"")?)?;
+/// A session of the demo font with these glyphs.
+fn four_deep(alloc: Global) -> Result<Session<'static>, Fail> {
+    let mut session = demo(alloc)?;
     for (name, body) in &FOUR_DEEP {
         session.apply(new_glyph(alloc, name, body)?)?;
     }
@@ -153,8 +153,7 @@ fn four_deep(alloc: Global, font: &[u8]) -> Result<Session<'_>, Fail> {
 
 /// How many runs an edit of space makes under four composites.
 fn runs_four_deep(alloc: Global) -> Result<u64, Fail> {
-    let font = font(alloc)?;
-    let mut session = four_deep(alloc, &font)?;
+    let mut session = four_deep(alloc)?;
     let before = session.runs();
     session.apply(glyph_edit(alloc, b"space", b"0 250 hsbw 10 hlineto endchar")?)?;
     Ok(session.runs().saturating_sub(before))
@@ -180,8 +179,7 @@ fn is_too_deep(answer: &Result<(), Cause>, name: &[u8]) -> bool {
 
 /// Whether a fifth level is refused, above the four and below them.
 fn refuses_a_fifth(alloc: Global) -> Result<[bool; 2], Fail> {
-    let font = font(alloc)?;
-    let mut session = four_deep(alloc, &font)?;
+    let mut session = four_deep(alloc)?;
     let above = session.apply(new_glyph(alloc, b"e", b"0 100 hsbw 0 0 0 100 32 seac")?);
     let below = session.apply(glyph_edit(alloc, b"space", b"0 250 hsbw 0 0 0 97 97 seac")?);
     Ok([is_too_deep(&above, b"e"), is_too_deep(&below, b"space")])
