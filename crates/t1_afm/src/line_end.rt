@@ -26,6 +26,7 @@ impl Model for LineEnd {
 }
 
 /// Puts more bytes in front of those that stand from a place on, and answers where they start.
+#[inline(always)]
 fn put_before(bytes: &mut [u8], place: usize, more: &[u8]) -> usize
     requires inside { place ≤ length bytes.old }
     requires room { length more.now ≤ place }
@@ -54,7 +55,8 @@ impl LineEnd {
         self.bytes.split_at(self.start).1
     }
 
-    /// Writes a text in front.
+    /// Writes a text in front. Where it is inlined the text's length is known, and it is copied in a move or two.
+    #[inline(always)]
     pub(crate) fn text(&mut self, text: &[u8])
         requires { length self.old + length text.now ≤ 128 }
         ensures { self.new ≡ text.now ++ self.old }

@@ -29,10 +29,14 @@ pub fn encrypted_subr(
 ) -> Result<Entry, AllocError>
     ensures { IfOk result (λ entry. entry ≡ encrypted lead (Subr number) body.now) }
 {
-    let mut head = Vec::from_slice(alloc, b"dup ")?;
-    head.extend_from_slice(Buffer::new().format(number).as_bytes())?;
     let charstring = encrypted_charstring(alloc, lead, body.commands())?;
-    Ok(Entry::new(head, charstring))
+    let mut digits = Buffer::new();
+    Entry::new(
+        alloc,
+        b"dup ",
+        digits.format(number).as_bytes(),
+        &charstring,
+    )
 }
 
 /// A glyph, encrypted with so many leading bytes.
@@ -44,10 +48,8 @@ pub fn encrypted_glyph(
 ) -> Result<Entry, AllocError>
     ensures { IfOk result (λ entry. entry ≡ encrypted lead (Glyph name.now) body.now) }
 {
-    let mut head = Vec::from_slice(alloc, b"/")?;
-    head.extend_from_slice(name)?;
     let charstring = encrypted_charstring(alloc, lead, body.commands())?;
-    Ok(Entry::new(head, charstring))
+    Entry::new(alloc, b"/", name, &charstring)
 }
 
 /// Adds a Subr, where there is none of its number.

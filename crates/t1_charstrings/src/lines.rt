@@ -2,9 +2,11 @@
 ghost use Rattle.std.specs.Prelude.{◌≡◌, ◌∷◌, ◌++◌, [], IfOk, OnOk, option_copied, decimal};
 ghost use Rattle.std.specs.List.{flat_map};
 ghost use Rattle.t1_code.specs.Parts.{piece_text};
+ghost use Rattle.t1_charstrings.specs.Entries.{glyph_kept};
 ghost use Rattle.t1_charstrings.specs.Lines.{entry_line, kept_line, kept_text, line_text};
 
 use crate::entries::{Charstrings, Entry};
+use indexmap::IndexMap;
 use std::alloc::{AllocError, Global};
 use t1_code::Piece;
 use t1_parts::push_decimal;
@@ -60,11 +62,28 @@ fn entry_line<'a>(
     }
 }
 
-/// The line of an item.
+/// The entry of a glyph, which mostly stands at this place among the others: in the order of the source, unless edits came in.
+fn glyph_entry<'a>(
+    glyphs: &'a IndexMap<Vec<u8>, Entry>,
+    place: usize,
+    name: &[u8],
+) -> Option<&'a Entry>
+    ensures { option_copied result ≡ glyph_kept glyphs.now.entries name.now }
+{
+    if let Some((key, entry)) = glyphs.get_index(place) {
+        if key.as_slice() == name {
+            return Some(entry);
+        }
+    }
+    glyphs.get(name)
+}
+
+/// The line of an item, after so many glyphs, which it raises where it is one.
 fn line_of<'a>(
     alloc: Global,
     charstrings: &'a Charstrings,
     operator: &'a [u8],
+    place: &mut usize,
     item: &'a Item,
 ) -> Result<KeptLine<'a>, AllocError>
     ensures { IfOk result (λ line. line_text line ≡ kept_line charstrings.now operator.now item.now) }
@@ -80,13 +99,14 @@ fn line_of<'a>(
             Ok(entry_line(alloc, operator, kept, closing.as_slice()))
         }
         Item::Glyph(name, _, closing) => {
-            let kept = charstrings.glyphs.get(name.as_slice());
+            let kept = glyph_entry(&charstrings.glyphs, *place, name.as_slice());
+            *place = place.saturating_add(1);
             Ok(entry_line(alloc, operator, kept, closing.as_slice()))
         }
     }
 }
 
-/// The lines of the private text. An entry takes one look-up, and no copy.
+/// The lines of the private text. An entry takes one look-up at most, and no copy.
 pub(crate) fn lines_of<'a>(
     alloc: Global,
     charstrings: &'a Charstrings,
@@ -96,8 +116,9 @@ pub(crate) fn lines_of<'a>(
     ensures { IfOk result (λ lines. flat_map line_text lines.items ≡ kept_text charstrings.now operator.now items.now) }
 {
     let mut lines = Vec::with_capacity(alloc, items.len())?;
+    let mut place = 0;
     for item in items {
-        lines.push(line_of(alloc, charstrings, operator, item)?)?;
+        lines.push(line_of(alloc, charstrings, operator, &mut place, item)?)?;
     }
     Ok(lines)
 }

@@ -94,11 +94,11 @@ pub(crate) fn is_too_long(text: &[u8]) -> bool
     text.len() > MAX_WORDS && word_count(text) > MAX_WORDS
 }
 
-/// The commands of a text's words.
+/// The commands of a text's words. A word takes some five bytes with the blank after it, so that the vector seldom grows.
 fn read_words(alloc: Global, text: &[u8]) -> Result<Vec<Command>, Refusal>
     ensures { Gives (λ read. read.items) result (told_at Nowhere (commands_of_words (words text.now))) }
 {
-    let mut read = Vec::new(alloc);
+    let mut read = Vec::with_capacity(alloc, text.len() / 4)?;
     let mut rest = text;
     while let Some((command, after)) = next_command(rest) {
         read.push(command?)?;

@@ -1,13 +1,12 @@
 -- A composite's parts have names of StandardEncoding.
 use Rattle.std.proofs.Common.{◌≡◌, ℕ, Bool, true, false, cond, List, [], ◌∷◌, refl, sym, ◌∙◌, ap, Option, Some, None}
-use Rattle.std.specs.Prelude.{◌||◌, Result, Ok, Err, ℤ, pos, negsuc, nat_lt, nat_eq}
+use Rattle.std.specs.Prelude.{◌||◌, Ok, ℤ, pos, negsuc, nat_lt, nat_eq}
 use Rattle.std.specs.List.{list_any}
 use Rattle.std.specs.Map.{lookup}
 use Rattle.std.specs.Option.{ok_or}
 use Rattle.std.specs.Str.{bytes_eq}
 use Rattle.std.proofs.lemmas.Slice.Eq.{bytes_eq-Decides}
 use Rattle.t1_frac.specs.Outcome.{◌>>=◌}
-use Rattle.t1_frac.specs.declared.fault.Code.{Code}
 use Rattle.t1_frac.specs.declared.fault.Code.TheVariants.{F44, F45}
 use Rattle.t1_code.specs.Encoding.{is_standard_name, standard_name, standard_names}
 use Rattle.t1_code.specs.declared.command.Command.{Command}

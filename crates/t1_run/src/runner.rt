@@ -28,7 +28,8 @@ fn run_body<'a, B: Bodies>(
         (told_at Place.Nowhere (outcome_of (body_stop (font (B.subrs bodies.now) (B.glyphs bodies.now)) body.now))) }
     ensures serial { IfOk result (λ run. run.serial ≡ serial) }
 {
-    let mut state = State::new(alloc);
+    let segments = Vec::with_capacity(alloc, body.len() / 4)?;
+    let mut state = State::new(alloc, segments);
     let mut returns = ReturnStack::new();
     let mut rest = body;
     'words: loop {

@@ -1,6 +1,6 @@
 //! The state of a run.
 
-ghost use Rattle.std.specs.Prelude.{◌≡◌, OnOk};
+ghost use Rattle.std.specs.Prelude.{◌≡◌, [], OnOk};
 ghost use Rattle.t1_run.specs.Machine.{state_of};
 ghost use Rattle.t1_run.specs.Run.{entering};
 ghost use Rattle.t1_run.specs.State.{initial};
@@ -39,7 +39,9 @@ pub struct State {
 }
 
 impl State {
-    pub fn new(alloc: Global) -> State
+    /// The state before the first word. Segments go into a vector with room for them.
+    pub fn new(alloc: Global, segments: Vec<Segment>) -> State
+        requires { segments.items ≡ [] }
         ensures { state_of result ≡ initial }
     {
         let zero = Frac::whole(0);
@@ -50,7 +52,7 @@ impl State {
             metric: None,
             flex: None,
             recorded: Recorded::new(),
-            segments: Vec::new(alloc),
+            segments,
             steps: 0,
             entered: Entered::new(alloc),
         }

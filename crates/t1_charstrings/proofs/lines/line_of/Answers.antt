@@ -6,7 +6,7 @@ use Rattle.t1_charstrings.proofs.lines.line_of.Goals as goal
 pub returns-in-Glyph : goal.returns-in-Glyph
 returns-in-Glyph c =
     let operator = c.args.operator.now in
-    let kept = c.get-kept-in-Glyph in
+    let kept = c.glyph_entry.result in
     rw c.in-Glyph.is
     (c.entry_line-in-Glyph.ensures
     ∙ ap (λ closing. entry_line operator closing (option_copied kept.result)) c.as_slice-in-Glyph-2.ensures

@@ -5,7 +5,7 @@ use Rattle.std.proofs.lemmas.Result.{err_from_is_err_and}
 use Rattle.t1_code.specs.Counted.{outlet}
 use Rattle.t1_code.specs.Parts.{bytes_of, piece_text}
 use Rattle.t1_code.specs.declared.parts.Piece.TheVariants.{Plain}
-use Rattle.t1_code.proofs.Carrying.{Carried, Carried-step, Carried-fails, Carried-turn, Carried-turn-fails}
+use Rattle.t1_code.proofs.Carrying.{Carried-step, Carried-fails, Carried-turn, Carried-turn-fails}
 use Rattle.t1_code.proofs.Encrypting.{flat_map-drop}
 use Rattle.t1_code.proofs.Enciphering.{enciphering}
 use Rattle.t1_code.proofs.Writing.{passing, Written-last}
