@@ -17,7 +17,6 @@ use std::alloc::{AllocError, Global};
 use std::marker::Model;
 use t1_afm::{BBox, bounding_box};
 use t1_code::is_standard_name;
-use t1_frac::Bytes;
 use t1_run::{Composite, Point, Run, Segment};
 use t1_shadow::Shadow;
 
@@ -81,32 +80,6 @@ impl Shape {
     }
 }
 
-/// A copy of the parts of a composite.
-fn copied_parts(alloc: Global, parts: &Composite) -> Result<Composite, AllocError>
-    ensures { IfOk result (λ copy. copy ≡ parts.now) }
-{
-    Ok(Composite {
-        base: Bytes::copied(alloc, parts.base.as_slice())?,
-        accent: Bytes::copied(alloc, parts.accent.as_slice())?,
-        asb: parts.asb,
-        adx: parts.adx,
-        ady: parts.ady,
-    })
-}
-
-/// The same, where there are any.
-fn copied_composite(
-    alloc: Global,
-    parts: Option<&Composite>,
-) -> Result<Option<Composite>, AllocError>
-    ensures { IfOk result (λ copy. copy ≡ option_copied parts.entry) }
-{
-    match parts {
-        None => Ok(None),
-        Some(parts) => Ok(Some(copied_parts(alloc, parts)?)),
-    }
-}
-
 /// A run of which memory holds what can be asked of it. Contracts see the whole run; its segments are in memory only where
 /// some of their coordinates have fractions and its glyph may be a part of a composite.
 #[derive(Drop)]
@@ -146,23 +119,25 @@ impl Model for KeptRun {
 }
 
 impl KeptRun {
-    /// What is kept of the run of a glyph of this name. The run is dropped.
+    /// What is kept of the run of a glyph of this name. Its outline is dropped.
     pub fn of(alloc: Global, name: &[u8], run: Run) -> Result<KeptRun, AllocError>
         ensures kept { IfOk result (λ kept. kept ≡ kept_as name.now run) }
         ensures traced { IfOk result (λ kept. traces name.now kept ≡ true) }
     {
         let shape = Shape::of(alloc, name, run.segments())?;
-        let composite = copied_composite(alloc, run.composite())?;
-        let entered = Vec::from_slice(alloc, run.entered())?;
+        let (width, bearing) = (run.width(), run.side_bearing());
+        let (steps, serial) = (run.steps(), run.serial());
+        let shadow = Shadow::of(&run);
+        let (composite, entered) = run.into_parts();
         Ok(KeptRun {
-            width: run.width(),
-            bearing: run.side_bearing(),
+            width,
+            bearing,
             composite,
             entered,
-            steps: run.steps(),
-            serial: run.serial(),
+            steps,
+            serial,
             shape,
-            run: Shadow::of(&run),
+            run: shadow,
         })
     }
 

@@ -115,6 +115,14 @@ impl Run {
         self.entered.as_slice()
     }
 
+    /// The parts of a glyph that ended by seac, and the numbers of the Subrs that the run entered. It takes no memory.
+    pub fn into_parts(self) -> (Option<Composite>, Vec<u16>)
+        ensures parts { result.0 ≡ self.drawing.composite }
+        ensures entered { result.1.items ≡ self.drawing.entered }
+    {
+        (self.composite, self.entered)
+    }
+
     /// How many words were executed.
     pub fn steps(&self) -> u32
         ensures { result ≡ self.now.drawing.steps }
