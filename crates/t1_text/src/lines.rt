@@ -119,11 +119,35 @@ pub fn line_ends(text: &[u8]) -> usize
     }
 }
 
+/// The most bytes whose line feeds a byte can count.
+const COUNTED_AT_ONCE: usize = 255;
+
+/// How many LF stand in so few bytes. The count is a byte too, so that the compiler counts in many bytes at once.
+fn few_line_feeds(text: &[u8]) -> u8
+    requires { length text.now ≤ 255 }
+    ensures { result ≡ count_by (λ c. c == line_feed) text.now }
+{
+    let mut count: u8 = 0;
+    for byte in text {
+        if *byte == b'\n' {
+            count += 1;
+        }
+    }
+    count
+}
+
 /// How many LF stand in a text.
 fn line_feeds(text: &[u8]) -> usize
     ensures { result ≡ count_by (λ c. c == line_feed) text.now }
 {
-    text.iter().filter(|byte| **byte == b'\n').count()
+    let mut count = 0;
+    let mut rest = text;
+    while !rest.is_empty() {
+        let (front, after) = rest.split_at(rest.len().min(COUNTED_AT_ONCE));
+        count += usize::from(few_line_feeds(front));
+        rest = after;
+    }
+    count
 }
 
 /// How many line ends stand in a text, counted one by one.
