@@ -127,13 +127,13 @@ fn few_line_feeds(text: &[u8]) -> u8
     requires { length text.now ≤ 255 }
     ensures { result ≡ count_by (λ c. c == line_feed) text.now }
 {
-    let mut count: u8 = 0;
+    let mut feeds: u8 = 0;
     for byte in text {
         if *byte == b'\n' {
-            count += 1;
+            feeds += 1;
         }
     }
-    count
+    feeds
 }
 
 /// How many LF stand in a text.

@@ -5,4 +5,4 @@ use Rattle.t1_text.proofs.lines.few_line_feeds.Given as goal
 
 -- the line feeds so far
 abbrev pub invariant-loop-byte : goal.invariant-loop-byte
-invariant-loop-byte l = l.count ≡ count_by (λ c. c == line_feed) (take l.byte-index l.text)
+invariant-loop-byte l = l.feeds ≡ count_by (λ c. c == line_feed) (take l.byte-index l.text)
