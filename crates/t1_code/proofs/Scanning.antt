@@ -175,7 +175,7 @@ pub other_found : (text digits after : List ℕ) (n : ℕ) → digits ≡ digits
     → word_goes_on after ≡ true → is_number_word (first_word text) ≡ false
 other_found text digits after n d e a on = other_first text (rw (← d, ← e, ← a) on)
 
-trimmed_once : (line rest : List ℕ) → rest ≡ trimmed_front line → rest ≡ trimmed_front rest
+pub trimmed_once : (line rest : List ℕ) → rest ≡ trimmed_front line → rest ≡ trimmed_front rest
 trimmed_once line [] e = refl
 trimmed_once line (c ∷ rest) e = sym (rw (front_stays line c rest e) refl)
 

@@ -1,7 +1,7 @@
 //! The words of a body, read as commands.
 ghost use Rattle.std.specs.Prelude.{◌≡◌, ◌<◌, [], ◌∷◌, false, nat_lt, length, IfSome, MatchOption};
 ghost use Rattle.t1_frac.specs.Outcome.{Gives, told_at};
-ghost use Rattle.t1_frac.specs.Words.{words};
+ghost use Rattle.t1_frac.specs.Words.{trimmed_front, words};
 ghost use Rattle.t1_frac.specs.declared.fault.Place.TheVariants.{Nowhere};
 ghost use Rattle.t1_code.specs.Words.{number_command, in_32_bits, first_word, command_of_word, command_then, commands_of_words, commands};
 ghost use Rattle.t1_frac.specs.Numbers.{signed, is_number_word};
@@ -51,6 +51,27 @@ fn first_number(text: &[u8]) -> Option<(Result<Command, Code>, &[u8])>
     Some((number_command(digits.len() < text.len(), size), after))
 }
 
+/// What the first word of a text says, and the bytes after the word; nothing where the text has no word. The text begins with
+/// no blank and with no number word. It stands apart from `next_command`, which is inlined, since most words are numbers.
+#[inline(never)]
+fn other_command(rest: &[u8]) -> Option<(Result<Command, Code>, &[u8])>
+    requires trimmed { rest.now ≡ trimmed_front rest.now }
+    requires other { is_number_word (first_word rest.now) ≡ false }
+    ensures shorter { IfSome result (λ found. length found.1.now < length rest.now) }
+    ensures value { MatchOption
+        result
+        (words rest.now ≡ [])
+        (λ found. commands_of_words (words rest.now) ≡ command_then found.0 (commands_of_words (words found.1.now))) }
+{
+    if let Some((command, after)) = Command::first(rest) {
+        return Some((Ok(command), after));
+    }
+    let Some((_word, after)) = next_word(rest) else {
+        return None;
+    };
+    Some((Err(Code::F20), after))
+}
+
 /// What the first word of a line says, and the bytes after the word; nothing where the line has no word.
 #[inline(always)]
 pub(crate) fn next_command(line: &[u8]) -> Option<(Result<Command, Code>, &[u8])>
@@ -64,13 +85,7 @@ pub(crate) fn next_command(line: &[u8]) -> Option<(Result<Command, Code>, &[u8])
     if let Some((number, after)) = first_number(rest) {
         return Some((number, after));
     }
-    if let Some((command, after)) = Command::first(rest) {
-        return Some((Ok(command), after));
-    }
-    let Some((_word, after)) = next_word(rest) else {
-        return None;
-    };
-    Some((Err(Code::F20), after))
+    other_command(rest)
 }
 
 /// How many words a text has.
