@@ -8,9 +8,10 @@ ghost use Rattle.t1_font.specs.Runs.{drawing_kept, kept_of, run_kept, own_among,
 use indexmap::IndexMap;
 use std::alloc::{AllocError, Global};
 use std::marker::Model;
+use std::mem;
 use t1_extent::{KeptRun, KeptRuns};
 use t1_frac::{Code, Refusal};
-use t1_run::{Bodies, Meter, run};
+use t1_run::{Meter, Segment, StoredBodies, run_of_body};
 
 /// The runs of some glyphs, each with its number, or its first fault. Contracts see the list of both, each with the
 /// glyph's name. The trace of a run is kept where its glyph may be a part of a composite.
@@ -87,10 +88,11 @@ impl KeptRuns for Runs {
 
 /// The run of a glyph's own body, or its first fault.
 #[tactic(auto, unfolding(t1_run::specs::Run::own))]
-fn kept_run<B: Bodies>(
+fn kept_run<B: StoredBodies>(
     alloc: Global,
     bodies: &B,
     name: &[u8],
+    room: &mut Vec<Segment>,
     meter: &mut Meter,
 ) -> Result<Result<KeptRun, Code>, AllocError>
     requires { IsSome (B.glyphs bodies.now name.now) }
@@ -99,8 +101,12 @@ fn kept_run<B: Bodies>(
     ensures after { IfOk result (λ kept. IsAfter meter.old (Some kept)) }
     ensures counted { meter.new ≡ counted meter.old 1 }
 {
-    match run(alloc, bodies, name, meter) {
-        Ok(run) => Ok(Ok(KeptRun::of(alloc, name, run)?)),
+    let Some(body) = bodies.glyph(name) else {
+        unreachable!()
+    };
+    let segments = mem::replace(room, Vec::new(alloc));
+    match run_of_body(alloc, bodies, body, segments, meter) {
+        Ok(run) => Ok(Ok(KeptRun::of(alloc, name, run, room)?)),
         Err(Refusal::Fault(fault)) => Ok(Err(fault.code)),
         Err(Refusal::Memory) => Err(AllocError),
     }
@@ -108,7 +114,7 @@ fn kept_run<B: Bodies>(
 
 /// Runs the own body of each of these glyphs, and keeps its first fault where it has one. The meter counts each of them;
 /// where memory runs out, those that were run.
-pub fn runs_of<B: Bodies>(
+pub fn runs_of<B: StoredBodies>(
     alloc: Global,
     bodies: &B,
     names: &[&[u8]],
@@ -122,8 +128,9 @@ pub fn runs_of<B: Bodies>(
     ensures want { OnErr result (CountsSome (length names.now) meter.old meter.new) }
 {
     let mut runs = Runs::new(alloc);
+    let mut room = Vec::new(alloc);
     for name in names {
-        let kept = kept_run(alloc, bodies, name, meter)?;
+        let kept = kept_run(alloc, bodies, name, &mut room, meter)?;
         runs.keep(alloc, name, kept)?;
     }
     Ok(runs)
