@@ -53,7 +53,7 @@ fn taken_run(runs: &mut NewRuns, name: &[u8]) -> Option<NewRun>
 fn keeps_place(records: &Records, name: &[u8], moved: bool) -> bool
     ensures { result ≡ (not moved && is_some (body_at (record_bodies records.now) (Glyph name.now))) }
 {
-    !moved && records.glyph(name).is_some()
+    !moved && records.has_glyph(name)
 }
 
 /// The step of a Subr that has this body in the edited font.
@@ -178,7 +178,7 @@ fn recorded_name_taken_out<'a>(records: &Records, step: &'a Step) -> Option<&'a 
     ensures { IfSome result (λ name. takes_out step.now name.now ≡ true) }
 {
     let name = name_taken_out(step)?;
-    if records.glyph(name).is_none() {
+    if !records.has_glyph(name) {
         return None;
     }
     Some(name)
