@@ -3,6 +3,7 @@ pub mod Counted
 pub mod Drawing
 pub mod Filing
 pub mod Gathering
+pub mod InTurnLaws
 pub mod Keeping
 pub mod LengthLaws
 pub mod Lookups

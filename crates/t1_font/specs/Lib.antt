@@ -2,6 +2,7 @@ pub mod Assembly
 pub mod Bodies
 pub mod FontMetrics
 pub mod Glyphs
+pub mod InTurn
 pub mod Laws
 pub mod Lengths
 pub mod MeasuredGlyphs

@@ -15,12 +15,15 @@ mod composites;
 mod font_metrics;
 mod glyph_metrics;
 mod glyphs;
+mod in_turn;
 mod kern;
 pub mod laws;
 mod lengths;
 mod numbers;
+mod open_source;
 mod private;
 mod runs;
+mod subr_bodies;
 mod usage;
 
 pub use afm_file::{afm_of_source, write_source_afm};
