@@ -1,14 +1,38 @@
 -- What is told of a glyph at its turn.
-use Rattle.std.proofs.Common.{◌≡◌, ℕ, Bool, true, false, List, Option, Some, None, is_some, refl}
-use Rattle.std.specs.Prelude.{Result, Ok, Err, ◌||◌}
+use Rattle.std.proofs.Common.{append-nil, ◌≡◌, ◌∙◌, ◌+◌, ◌<◌, length, get_or, take, drop, ℕ, Bool, true, false, cond, List, [], ◌∷◌, ◌++◌, Option, Some, None, is_some, refl, sym, ap, inl, inr}
+use Rattle.std.specs.Prelude.{Result, Ok, Err, ◌||◌, ◌&&◌}
+use Rattle.std.specs.List.{list_any}
+use Rattle.std.specs.Option.{option_or}
+use Rattle.std.specs.Str.{bytes_eq}
+use Rattle.std.proofs.lemmas.Bool.{cases_Bool}
+use Rattle.std.proofs.lemmas.List.Folds.{list_any-append}
+use Rattle.std.proofs.lemmas.List.{take_more, take-append-drop}
+use Rattle.std.proofs.lemmas.Grind.{flat_map-append}
 use Rattle.t1_frac.specs.declared.fault.Code.{Code}
+use Rattle.t1_frac.specs.declared.fault.Fault.{Fault}
+use Rattle.t1_frac.specs.declared.fault.Refusal.{Refusal}
+use Rattle.t1_frac.specs.declared.fault.Refusal.TheVariants as refusals
+use Rattle.t1_frac.specs.Outcome.{◌>>=◌, Refuses}
 use Rattle.t1_code.specs.Encoding.{is_standard_name}
 use Rattle.t1_run.specs.declared.outline.Composite.{Composite}
-use Rattle.t1_run.specs.Run.{Drawing}
+use Rattle.t1_run.specs.Run.{Drawing, font, own}
 use Rattle.t1_afm.specs.Box.{drawn_box}
 use Rattle.t1_font.specs.declared.glyph_metrics.GlyphMetrics.{GlyphMetrics}
-use Rattle.t1_font.specs.InTurn.{stays}
+use Rattle.t1_parts.specs.declared.item.Item.{Item}
+use Rattle.t1_parts.specs.declared.item.Item.TheVariants.{Plain, Section, Subr, Glyph}
+use Rattle.t1_source.specs.Editing.{is_subr_entry}
+use Rattle.t1_code.specs.declared.command.Command.{Command}
+use Rattle.t1_code.specs.Words.{commands}
+use Rattle.t1_font.specs.declared.in_turn.Row.{Row}
+use Rattle.t1_font.specs.Bodies.{subr_among}
+use Rattle.t1_font.specs.Glyphs.{glyph_names, name_in}
+use Rattle.t1_font.specs.InTurn.{stays, staying, AreRows, IsRow, RunsAs}
+use Rattle.t1_font.specs.ToRun.{commands_or_none, font_to_run, glyph_to_run, SubrsStandFirst}
 use Rattle.t1_font.specs.MeasuredGlyphs.{glyph_metrics_at, glyph_metrics_by}
+use Rattle.t1_font.proofs.Compiling.{item-first, same-maps}
+use Rattle.t1_font.proofs.Keeping.{same_bytes}
+use Rattle.t1_font.proofs.Measuring.{own-same}
+use Rattle.t1_font.proofs.Naming.{or_false}
 
 -- of a run that has a fault, the fault
 pub faulty-metrics : (run : List ℕ → Option (Result Drawing Code)) (name : List ℕ) (code : Code) → run name ≡ Some (Err code) → glyph_metrics_at run name ≡ Err code
@@ -28,3 +52,95 @@ not-composite name d h = by (is_standard_name name) d.composite h where
   by b None e = refl
   by true (Some c) e = absurd (cc)
   by false (Some c) e = absurd (cc)
+
+-- ---- one glyph more
+
+pub rows-more : (run : List ℕ → Option (Result Drawing Code)) (gs : List (List ℕ)) (name : List ℕ) (rows : List Row) (row : Row)
+    → AreRows run gs rows → IsRow run name row → AreRows run (gs ++ name ∷ []) (rows ++ row ∷ [])
+rows-more run [] name [] row are is = (is, tt)
+rows-more run [] name (other ∷ rows) row are is = absurd are
+rows-more run (g ∷ gs) name [] row are is = absurd are
+rows-more run (g ∷ gs) name (other ∷ rows) row are is = (are.0, rows-more run gs name rows row are.1 is)
+
+-- what stays among some names with one more
+pub runs-more : (run : List ℕ → Option (Result Drawing Code)) (gs : List (List ℕ)) (name g : List ℕ) (old new : Option (Result Drawing Code))
+    → old ≡ staying run gs g → new ≡ cond (bytes_eq g name && stays name (run name)) (run name) old → new ≡ staying run (gs ++ name ∷ []) g
+runs-more run gs name g old new before after =
+    elim (cases_Bool (bytes_eq g name)) [
+      | inl same ↦
+          let is = same_bytes g name same in
+          after ∙ here (bytes_eq g name) (stays name (run name)) (list_any (bytes_eq g) gs) (run name) old same (before ∙ ap (λ x. cond (list_any (bytes_eq g) gs && stays x (run x)) (run x) None) is)
+          ∙ sym (ap (λ b. cond (b && stays g (run g)) (run g) None) (list_any-append (bytes_eq g) gs (name ∷ [])) ∙ ap (λ x. cond ((list_any (bytes_eq g) gs || (bytes_eq g name || false)) && stays x (run x)) (run x) None) is)
+      | inr other ↦
+          after ∙ ap (λ b. cond (b && stays name (run name)) (run name) old) other ∙ before
+          ∙ sym (ap (λ b. cond (b && stays g (run g)) (run g) None) (list_any-append (bytes_eq g) gs (name ∷ []) ∙ ap (λ b. list_any (bytes_eq g) gs || (b || false)) other ∙ or_false (list_any (bytes_eq g) gs)))
+    ]
+  where
+    here : {X : Type 0} (same stay any : Bool) (x old : Option X) → same ≡ true → old ≡ cond (any && stay) x None → cond (same && stay) x old ≡ cond ((any || (same || false)) && stay) x None
+    here true true true x old e h = refl
+    here true true false x old e h = refl
+    here true false true x old e h = h
+    here true false false x old e h = h
+    here false stay any x old e h = absurd (cc)
+
+-- a name among those of an item and of the items after it
+pub name-taken : (g : List ℕ) (b : Bool) (item : Item) (rest : List Item)
+    → ((b || list_any (bytes_eq g) (name_in item)) || list_any (bytes_eq g) (glyph_names rest)) ≡ (b || list_any (bytes_eq g) (glyph_names (item ∷ rest)))
+name-taken g true item rest = refl
+name-taken g false item rest = sym (list_any-append (bytes_eq g) (name_in item) (glyph_names rest))
+
+-- ---- the items so far, with one more
+
+pub names-next : (items : List Item) (i : ℕ) (item : Item) → i < length items → item ≡ get_or items i item
+    → glyph_names (take (i + 1) items) ≡ glyph_names (take i items) ++ name_in item
+names-next items i item inside is =
+    ap glyph_names (take_more items i item inside ∙ ap (λ x. take i items ++ x ∷ []) (sym is))
+    ∙ flat_map-append name_in (take i items) (item ∷ [])
+    ∙ ap (λ l. glyph_names (take i items) ++ l) (append-nil (name_in item))
+
+-- each glyph has something to be run
+pub names-known : (items : List Item) (g : List ℕ) → list_any (bytes_eq g) (glyph_names items) ≡ is_some (glyph_to_run items g)
+names-known [] g = refl
+names-known (Plain line ∷ items) g = names-known items g
+names-known (Section before count after ∷ items) g = names-known items g
+names-known (Subr number words closing ∷ items) g = names-known items g
+names-known (Glyph name words closing ∷ items) g =
+    ap (λ b. bytes_eq g name || b) (names-known items g) ∙ either (bytes_eq g name) (commands_or_none (commands words)) (glyph_to_run items g)
+  where
+    either : {X : Type 0} (b : Bool) (x : X) (r : Option X) → (b || is_some r) ≡ is_some (cond b (Some x) r)
+    either true x r = refl
+    either false x r = refl
+
+no-subr : (items : List Item) (n : ℕ) → list_any is_subr_entry items ≡ false → subr_among items n ≡ None
+no-subr [] n h = refl
+no-subr (Plain line ∷ items) n h = no-subr items n h
+no-subr (Section before count after ∷ items) n h = no-subr items n h
+no-subr (Subr number words closing ∷ items) n h = absurd (cc)
+no-subr (Glyph name words closing ∷ items) n h = no-subr items n h
+
+all-there : {X : Type 0} (r : Option X) (rest all : Option X) → rest ≡ None → option_or r rest ≡ all → r ≡ all
+all-there None rest all none e = sym none ∙ e
+all-there (Some x) rest all none e = e
+
+-- where a glyph stands, all Subrs were compiled
+pub runs-as : (items : List Item) (i : ℕ) (item : Item) (subrs : ℕ → Option (List Command)) → i < length items → item ≡ get_or items i item
+    → SubrsStandFirst items → ((n : ℕ) → option_or (subrs n) (subr_among (item ∷ drop (i + 1) items) n) ≡ subr_among items n)
+    → RunsAs item (own (font_to_run items)) (font subrs (glyph_to_run items))
+runs-as items i (Plain line) subrs inside is first left = tt
+runs-as items i (Section before count after) subrs inside is first left = tt
+runs-as items i (Subr number words closing) subrs inside is first left = tt
+runs-as items i (Glyph name words closing) subrs inside is first left =
+    let rest = drop (i + 1) items in
+    let whole : items ≡ take i items ++ Glyph name words closing ∷ rest =
+    sym (take-append-drop i items) ∙ ap (λ l. take i items ++ l) (item-first items i (Glyph name words closing) inside is) in
+    let none = first (take i items) rest name words closing whole in
+    own-same (font_to_run items) (font subrs (glyph_to_run items)) name
+    (same-maps (font_to_run items) (font subrs (glyph_to_run items))
+    (λ n. sym (all-there (subrs n) (subr_among rest n) (subr_among items n) (no-subr rest n none) (left n)))
+    (λ g. refl))
+
+-- the first fault of two checks is that of the first, where it has one
+pub refused-first : (refused : Refusal) (r next : Result (Unit {0}) Fault) → Refuses refused r → Refuses refused (r >>= (λ _. next))
+refused-first refusals.Memory r next h = tt
+refused-first (refusals.Fault fault) (Ok u) next h = absurd (cc)
+refused-first (refusals.Fault fault) (Err e) next h = h

@@ -15,5 +15,6 @@ pub mod PrivateLaws
 pub mod Rows
 pub mod Slotting
 pub mod SourceMetrics
+pub mod StayingLaws
 pub mod SubrsFirst
 pub mod UsageRows

@@ -102,7 +102,7 @@ names-there m items names u e same is =
 
 -- ---- runs over the maps of the code are those over the bodies
 
-own-same : (m n : FontBodies) (g : List ℕ) → SameBodies m n → own m g ≡ own n g
+pub own-same : (m n : FontBodies) (g : List ℕ) → SameBodies m n → own m g ≡ own n g
 own-same m n g same = sym (own_same m n g (record { same = λ key i. same key })).0
 
 own-none : (m : FontBodies) (g : List ℕ) → m.glyphs g ≡ None → own m g ≡ None
@@ -121,7 +121,7 @@ keeps-own m items runs same kept g =
       | inr absent ↦ kept g ∙ ap (λ b. cond b (own m g) None) absent ∙ sym (own-none (bodies items) g (no-glyph items g absent))
     ]
 
-same-function : {A B : Type 0} (f g : A → B) → ((x : A) → f x ≡ g x) → f ≡ g
+pub same-function : {A B : Type 0} (f g : A → B) → ((x : A) → f x ≡ g x) → f ≡ g
 same-function f g h = λ j. λ x. h x j
 
 -- by the runs that are kept, outlines are those of the bodies

@@ -10,54 +10,19 @@ use Rattle.t1_parts.specs.declared.item.Item.TheVariants as items
 use Rattle.t1_code.specs.declared.command.Command.{Command}
 use Rattle.t1_code.specs.Encoding.{is_standard_name}
 use Rattle.t1_code.specs.Words.{commands}
-use Rattle.t1_run.specs.Run.{FontBodies, Drawing, font}
-use Rattle.t1_font.specs.declared.subr_bodies.BodyRange.{BodyRange}
+use Rattle.t1_run.specs.Run.{FontBodies, Drawing, font, own}
+use Rattle.t1_font.specs.declared.open_source.OpenSource.{OpenSource}
 use Rattle.t1_font.specs.declared.in_turn.Row.{Row}
 use Rattle.t1_font.specs.declared.in_turn.Row.TheVariants as rows
-use Rattle.t1_font.specs.Bodies.{subr_among}
+use Rattle.t1_font.specs.ToRun.{commands_or_none, glyph_to_run, subr_stored}
+use Rattle.t1_run.specs.declared.outline.Composite.{Composite}
+use Rattle.t1_run.specs.Composite.{HasStandardParts}
 use Rattle.t1_font.specs.MeasuredGlyphs.{glyph_metrics_at}
+use Rattle.t1_font.specs.Runs.{Kept, kept_of}
 
--- ---- the bodies of Subrs in one vector
-
--- profile: the commands of one body among those of all
-abbrev pub among_all : List Command → BodyRange → List Command
-among_all all range = take (range.end - range.start) (drop range.start all)
-
--- profile: the commands of all bodies, and where each stands among them
-pub record StoredSubrs : Type 0 where
-  pub all : List Command
-  pub ranges : List (ℕ × BodyRange)
-
--- profile: the body that is stored for a number
-abbrev pub subr_stored : StoredSubrs → ℕ → Option (List Command)
-subr_stored s n = option_map (among_all s.all) (lookup (nat_eq n) s.ranges)
-
--- profile: a range lies within so many commands
-abbrev pub IsRangeWithin : ℕ → BodyRange → Type 0
-IsRangeWithin len range = (range.start ≤ range.end) × (range.end ≤ len)
-
--- profile: so does each range
-abbrev pub AreRangesWithin : ℕ → List (ℕ × BodyRange) → Type 0
-AreRangesWithin len ranges = (n : ℕ) → IfSome (lookup (nat_eq n) ranges) (IsRangeWithin len)
-
--- ---- the font while its glyphs are run
-
--- profile: what is run of words: their commands; nothing where they have a fault, which comes before any of a run
-abbrev pub commands_or_none : Result (List Command) Code → List Command
-commands_or_none (Ok body) = body
-commands_or_none (Err code) = []
-
--- profile: what is run of the first glyph of this name
-abbrev pub glyph_to_run : List Item → List ℕ → Option (List Command)
-glyph_to_run [] g = None
-glyph_to_run (items.Plain line ∷ rest) g = glyph_to_run rest g
-glyph_to_run (items.Section before count after ∷ rest) g = glyph_to_run rest g
-glyph_to_run (items.Subr number words closing ∷ rest) g = glyph_to_run rest g
-glyph_to_run (items.Glyph name words closing ∷ rest) g = if bytes_eq g name then Some (commands_or_none (commands words)) else glyph_to_run rest g
-
--- profile: the font of the items while their glyphs are run
-abbrev pub font_to_run : List Item → FontBodies
-font_to_run all = font (subr_among all) (glyph_to_run all)
+-- profile: the bodies that a run asks for, of a source of which these Subrs were compiled
+abbrev pub open_font : OpenSource → FontBodies
+open_font source = font (subr_stored source.subrs.now) (glyph_to_run source.items.now)
 
 -- ---- what stays of a run
 
@@ -86,3 +51,19 @@ AreRows run [] [] = Unit {0}
 AreRows run (name ∷ names) (row ∷ rows) = IsRow run name row × AreRows run names rows
 AreRows run [] (row ∷ rows) = ⊥
 AreRows run (name ∷ names) [] = ⊥
+
+-- profile: a glyph's run is that of the font; nothing is said of another item
+abbrev pub RunsAs : Item → (List ℕ → Option (Result Drawing Code)) → FontBodies → Type 0
+RunsAs (items.Glyph name words closing) run m = run name ≡ own m name
+RunsAs _ run m = Unit {0}
+
+-- profile: what is run of a glyph's words is the body of the first glyph of its name
+abbrev pub IsFirstOfName : List Item → Item → Type 0
+IsFirstOfName all (items.Glyph name words closing) = glyph_to_run all name ≡ Some (commands_or_none (commands words))
+IsFirstOfName all _ = Unit {0}
+
+-- profile: the runs that stay are there, the parts of composites have names of StandardEncoding, and no other glyph was run
+pub record RunsStay (run : List ℕ → Option (Result Drawing Code)) (names : List (List ℕ)) (runs : List Kept) : Type 0 where
+  pub kept : (g : List ℕ) → kept_of runs g ≡ staying run names g
+  pub parts : (g : List ℕ) (d : Drawing) (c : Composite) → run g ≡ Some (Ok d) → d.composite ≡ Some c → HasStandardParts c
+  pub absent : (g : List ℕ) → list_any (bytes_eq g) names ≡ false → run g ≡ None

@@ -11,4 +11,5 @@ pub mod Names
 pub mod Runs
 pub mod Slots
 pub mod SourceChecks
+pub mod ToRun
 pub mod Usage

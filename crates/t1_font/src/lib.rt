@@ -24,6 +24,7 @@ mod open_source;
 mod private;
 mod runs;
 mod subr_bodies;
+mod turns;
 mod usage;
 
 pub use afm_file::{afm_of_source, write_source_afm};

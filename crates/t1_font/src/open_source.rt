@@ -3,7 +3,7 @@ ghost use Rattle.std.specs.Prelude.{◌≡◌, ◌||◌, is_some, IfOk, OnOk, �
 ghost use Rattle.std.specs.List.{list_any};
 ghost use Rattle.std.specs.Str.{bytes_eq};
 ghost use Rattle.t1_font.specs.Glyphs.{glyph_names};
-ghost use Rattle.t1_font.specs.InTurn.{glyph_to_run, subr_stored};
+ghost use Rattle.t1_font.specs.ToRun.{glyph_to_run, subr_stored};
 ghost use Rattle.t1_font.specs.Names.{has_name};
 
 use crate::subr_bodies::SubrBodies;
@@ -13,6 +13,7 @@ use t1_run::Bodies;
 use t1_source::Item;
 
 /// What the run of a glyph asks of a source: the Subrs, which were compiled, and the names of all glyphs.
+#[derive(Drop)]
 pub(crate) struct OpenSource<'s, 'i> {
     pub(crate) subrs: &'s SubrBodies,
     pub(crate) names: &'s IndexSet<&'i [u8]>,
@@ -22,7 +23,7 @@ pub(crate) struct OpenSource<'s, 'i> {
 }
 
 impl Bodies for OpenSource<'_, '_> {
-    ghost use Rattle.t1_font.specs.InTurn.{glyph_to_run, subr_stored};
+    ghost use Rattle.t1_font.specs.ToRun.{glyph_to_run, subr_stored};
 
     ghost subrs = { λ source n. subr_stored source.subrs.now n };
 
