@@ -27,21 +27,21 @@ module _ (run other : List ℕ → Option (Result Drawing Code)) (parts : HaveSt
   same-outline zero name same = ap (λ r. drawn (λ part. Err F46) r) same
   same-outline (suc depth) name same =
       ap (λ r. drawn (outline_within other depth) r) same ∙ by (λ n. λ e. same-outline depth n e) (run name) refl where
-    composed : ((n : List ℕ) → other n ≡ run n → outline_within other depth n ≡ outline_within run depth n) → (d : Drawing) (c : Option Composite)
-        → ((made : Composite) → c ≡ Some made → HasStandardParts made) → with_parts (outline_within other depth) c d ≡ with_parts (outline_within run depth) c d
-    composed below d None h = refl
-    composed below d (Some c) h =
-        let has = h c refl in
-        let base = below c.base (alike c.base has.base) in
-        let accent = below c.accent (alike c.accent has.accent) in
-        ap (λ (b : Result (List Segment) Code). b >>= (λ base. outline_within other depth c.accent >>= (λ accent. joined d base accent))) base
-        ∙ ap (λ (a : Result (List Segment) Code). outline_within run depth c.base >>= (λ base. a >>= (λ accent. joined d base accent))) accent
+        composed : ((n : List ℕ) → other n ≡ run n → outline_within other depth n ≡ outline_within run depth n) → (d : Drawing) (c : Option Composite)
+            → ((made : Composite) → c ≡ Some made → HasStandardParts made) → with_parts (outline_within other depth) c d ≡ with_parts (outline_within run depth) c d
+        composed below d None h = refl
+        composed below d (Some c) h =
+            let has = h c refl in
+            let base = below c.base (alike c.base has.base) in
+            let accent = below c.accent (alike c.accent has.accent) in
+            ap (λ (b : Result (List Segment) Code). b >>= (λ base. outline_within other depth c.accent >>= (λ accent. joined d base accent))) base
+            ∙ ap (λ (a : Result (List Segment) Code). outline_within run depth c.base >>= (λ base. a >>= (λ accent. joined d base accent))) accent
 
-    by : ((n : List ℕ) → other n ≡ run n → outline_within other depth n ≡ outline_within run depth n) → (r : Option (Result Drawing Code))
-        → run name ≡ r → drawn (outline_within other depth) r ≡ drawn (outline_within run depth) r
-    by below None e = refl
-    by below (Some (Err code)) e = refl
-    by below (Some (Ok d)) e = composed below d d.composite (λ made. λ is. parts name d made e is)
+        by : ((n : List ℕ) → other n ≡ run n → outline_within other depth n ≡ outline_within run depth n) → (r : Option (Result Drawing Code))
+            → run name ≡ r → drawn (outline_within other depth) r ≡ drawn (outline_within run depth) r
+        by below None e = refl
+        by below (Some (Err code)) e = refl
+        by below (Some (Ok d)) e = composed below d d.composite (λ made. λ is. parts name d made e is)
 
   pub same-metrics : (name : List ℕ) → other name ≡ run name → glyph_metrics_at other name ≡ glyph_metrics_at run name
   unfolding glyph_metrics_at

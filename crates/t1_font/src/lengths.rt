@@ -115,7 +115,7 @@ pub fn check_parts(clear: &[Bytes], private_len: usize, tail: &[Bytes]) -> Resul
 /// F23 where a part of the PFB file of a source is too long. Its bodies have no fault. Lines are made only where the source is
 /// so long that the lengths of its texts don't answer, and none is kept.
 #[tactic(auto, using(crate::proofs::LengthLaws::length_checked), unfolding(crate::specs::Assembly::length_check))]
-fn check_length(alloc: Global, source: &Source) -> Result<(), Refusal>
+pub(crate) fn check_length(alloc: Global, source: &Source) -> Result<(), Refusal>
     requires { bodies_check source.now.items ≡ Ok tt }
     ensures { Gives (λ x. x) result (length_check source.now) }
 {

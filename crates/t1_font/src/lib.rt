@@ -38,4 +38,5 @@ pub use glyphs::{MeasuredGlyphs, glyph_names, measured};
 pub use lengths::{TEN_DIGITS, check_counts, check_parts, checked_bodies};
 pub use numbers::SubrNumbers;
 pub use runs::{Runs, runs_of};
+pub use turns::measured_glyphs;
 pub use usage::usage_text;

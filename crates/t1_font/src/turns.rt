@@ -10,22 +10,25 @@ ghost use Rattle.t1_run.specs.Run.{Drawing, font, own};
 ghost use Rattle.t1_font.specs.Bodies.{bodies_check, body_check, subr_in};
 ghost use Rattle.t1_font.specs.Glyphs.{glyph_names, name_in};
 ghost use Rattle.t1_font.specs.InTurn.{staying, AreRows, IsFirstOfName, IsRow, RunsAs, RunsStay};
-ghost use Rattle.t1_font.specs.MeasuredGlyphs.{glyph_metrics_at};
+ghost use Rattle.t1_font.specs.MeasuredGlyphs.{glyph_metrics_among, glyph_metrics_at};
 ghost use Rattle.t1_font.specs.Names.{has_name};
+ghost use Rattle.t1_font.specs.SourceChecks.{measured_source};
 ghost use Rattle.t1_font.specs.Runs.{kept_of};
 ghost use Rattle.t1_font.specs.ToRun.{font_to_run, glyph_to_run, subr_stored, SubrsStandFirst};
 
 use crate::glyph_metrics::{GlyphMetrics, placed_metrics};
-use crate::glyphs::name_of;
+use crate::glyphs::{MeasuredGlyphs, name_of};
 use crate::in_turn::{Row, Scratch, glyph_turn};
 use crate::kern::add_name;
+use crate::lengths::{check_counts, check_length};
 use crate::open_source::OpenSource;
 use crate::runs::Runs;
 use crate::subr_bodies::SubrBodies;
 use indexmap::IndexSet;
 use std::alloc::{AllocError, Global};
 use t1_frac::{Bytes, Place, Refusal};
-use t1_source::Item;
+use t1_source::laws::{source_is_well_formed, subrs_stand_first};
+use t1_source::{Item, Source};
 
 /// Adds the name of an item, where it is a glyph.
 fn add_item_name<'a>(names: &mut IndexSet<&'a [u8]>, item: &'a Item) -> Result<(), AllocError>
@@ -143,4 +146,34 @@ fn metrics_of_row<'a>(alloc: Global, runs: &Runs, row: Row<'a>) -> Result<GlyphM
             Err(Refusal::from(code).at(place))
         }
     }
+}
+
+/// What is measured of the glyphs of which this is told, in their order, or the first fault of a glyph.
+fn metrics_of_rows<'a>(
+    alloc: Global,
+    runs: &Runs,
+    rows: Vec<Row<'a>>,
+) -> Result<Vec<GlyphMetrics<'a>>, Refusal>
+    ensures { (run : List ℕ → Option (Result Drawing CodeOf)) (names : List (List ℕ)) → AreRows run names rows.entry.items → RunsStay run names runs.now → Gives (λ metrics. metrics.items) result (glyph_metrics_among run names) }
+{
+    let mut metrics = Vec::with_capacity(alloc, rows.len())?;
+    for row in rows {
+        metrics.push(metrics_of_row(alloc, runs, row)?)?;
+    }
+    Ok(metrics)
+}
+
+/// What is measured of the glyphs of a source, in the order of their entries, and the font's box; or the source's first fault: of
+/// a body, at its entry, F23, or of a glyph, at the glyph. Each glyph is compiled and run once, and no body of one is stored.
+pub fn measured_glyphs<'a>(alloc: Global, source: &'a Source) -> Result<MeasuredGlyphs<'a>, Refusal>
+    ensures { Gives (λ glyphs. glyphs) result (measured_source source.now) }
+{
+    source_is_well_formed(source);
+    subrs_stand_first();
+    let turns = turns_of(alloc, source.items())?;
+    check_length(alloc, source)?;
+    check_counts(source.items())?;
+    let Turns { rows, runs, .. } = turns;
+    let metrics = metrics_of_rows(alloc, &runs, rows)?;
+    Ok(MeasuredGlyphs::of(metrics))
 }
