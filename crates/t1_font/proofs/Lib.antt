@@ -2,12 +2,14 @@ pub mod Compiling
 pub mod Counted
 pub mod Drawing
 pub mod Filing
+pub mod FirstNames
 pub mod Gathering
 pub mod InTurnLaws
 pub mod Keeping
 pub mod LengthLaws
 pub mod Lookups
 pub mod Measuring
+pub mod MeasuringTurns
 pub mod Naming
 pub mod Ordering
 pub mod Outlining

@@ -10,9 +10,11 @@ ghost use Rattle.t1_run.specs.Run.{Drawing, font, own};
 ghost use Rattle.t1_font.specs.Bodies.{bodies_check, body_check, subr_in};
 ghost use Rattle.t1_font.specs.Glyphs.{glyph_names, name_in};
 ghost use Rattle.t1_font.specs.InTurn.{staying, AreRows, IsFirstOfName, IsRow, RunsAs, RunsStay};
-ghost use Rattle.t1_font.specs.MeasuredGlyphs.{glyph_metrics_among, glyph_metrics_at};
+ghost use Rattle.t1_font.specs.MeasuredGlyphs.{glyph_metrics_among, glyph_metrics_at, measured};
 ghost use Rattle.t1_font.specs.Names.{has_name};
 ghost use Rattle.t1_font.specs.SourceChecks.{measured_source};
+ghost use Rattle.t1_font.specs.Assembly.{file_check};
+ghost use Rattle.t1_parts.specs.declared.item.Item.{Item as ItemOf};
 ghost use Rattle.t1_font.specs.Runs.{kept_of};
 ghost use Rattle.t1_font.specs.ToRun.{font_to_run, glyph_to_run, subr_stored, SubrsStandFirst};
 
@@ -163,17 +165,39 @@ fn metrics_of_rows<'a>(
     Ok(metrics)
 }
 
+/// The same of a source whose PFB file and text have no fault; or their fault: the first of a body, at its entry, else F23.
+#[tactic(auto, using(crate::proofs::LengthLaws::body_fault_told), unfolding(crate::specs::Assembly::file_check))]
+fn checked_turns<'a>(alloc: Global, source: &'a Source) -> Result<Turns<'a>, Refusal>
+    requires firsts { All (IsFirstOfName source.now.items) source.now.items }
+    requires subrs { SubrsStandFirst source.now.items }
+    ensures file { Gives (λ _. tt) result (file_check source.now) }
+    ensures no_fault { IfOk result (λ _. bodies_check source.now.items ≡ Ok tt) }
+    ensures rows { IfOk result (λ turns. AreRows (own (font_to_run source.now.items)) (glyph_names source.now.items) turns.rows.items) }
+    ensures runs { IfOk result (λ turns. (g : List ℕ) → kept_of turns.runs g ≡ staying (own (font_to_run source.now.items)) (glyph_names source.now.items) g) }
+{
+    let turns = turns_of(alloc, source.items())?;
+    check_length(alloc, source)?;
+    check_counts(source.items())?;
+    Ok(turns)
+}
+
+/// What is measured of these glyphs, and the box around those that draw, or the first fault of a glyph.
+fn measured_turns<'a>(alloc: Global, turns: Turns<'a>) -> Result<MeasuredGlyphs<'a>, Refusal>
+    ensures { (items : List ItemOf) → bodies_check items ≡ Ok tt → AreRows (own (font_to_run items)) (glyph_names items) turns.entry.rows.items → ((g : List ℕ) → kept_of turns.entry.runs g ≡ staying (own (font_to_run items)) (glyph_names items) g) → Gives (λ glyphs. glyphs) result (measured items) }
+{
+    let Turns { rows, runs, .. } = turns;
+    let metrics = metrics_of_rows(alloc, &runs, rows)?;
+    Ok(MeasuredGlyphs::of(metrics))
+}
+
 /// What is measured of the glyphs of a source, in the order of their entries, and the font's box; or the source's first fault: of
 /// a body, at its entry, F23, or of a glyph, at the glyph. Each glyph is compiled and run once, and no body of one is stored.
+#[tactic(auto, unfolding(crate::specs::SourceChecks::measured_source))]
 pub fn measured_glyphs<'a>(alloc: Global, source: &'a Source) -> Result<MeasuredGlyphs<'a>, Refusal>
     ensures { Gives (λ glyphs. glyphs) result (measured_source source.now) }
 {
     source_is_well_formed(source);
     subrs_stand_first();
-    let turns = turns_of(alloc, source.items())?;
-    check_length(alloc, source)?;
-    check_counts(source.items())?;
-    let Turns { rows, runs, .. } = turns;
-    let metrics = metrics_of_rows(alloc, &runs, rows)?;
-    Ok(MeasuredGlyphs::of(metrics))
+    let turns = checked_turns(alloc, source)?;
+    measured_turns(alloc, turns)
 }
