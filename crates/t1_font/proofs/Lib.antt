@@ -1,9 +1,11 @@
+pub mod Checking
 pub mod Compiling
 pub mod Counted
 pub mod Drawing
 pub mod Filing
 pub mod Gathering
 pub mod Keeping
+pub mod Keys
 pub mod LengthLaws
 pub mod Lookups
 pub mod Measuring

@@ -30,7 +30,7 @@ use Rattle.t1_font.specs.Bodies.{bodies, bodies_check, words_check, glyph_among,
 use Rattle.t1_font.specs.Glyphs.{Glyph as Drawn, glyphs, glyphs_by, glyph_names}
 use Rattle.t1_font.specs.Runs.{Kept, kept_of, own_among}
 use Rattle.t1_font.specs.MeasuredGlyphs.{glyph_metrics, glyph_metrics_among, measured, MeasuredFont}
-use Rattle.t1_font.proofs.Keeping.{bytes_self}
+use Rattle.t1_run.proofs.Asked.{bytes_self}
 
 -- ---- the glyphs of a source are there
 
@@ -105,7 +105,7 @@ names-there m items names u e same is =
 own-same : (m n : FontBodies) (g : List ℕ) → SameBodies m n → own m g ≡ own n g
 own-same m n g same = sym (own_same m n g (record { same = λ key i. same key })).0
 
-own-none : (m : FontBodies) (g : List ℕ) → m.glyphs g ≡ None → own m g ≡ None
+pub own-none : (m : FontBodies) (g : List ℕ) → m.glyphs g ≡ None → own m g ≡ None
 unfolding own
 own-none m g e = ap (own_of m) e
 
@@ -121,11 +121,11 @@ keeps-own m items runs same kept g =
       | inr absent ↦ kept g ∙ ap (λ b. cond b (own m g) None) absent ∙ sym (own-none (bodies items) g (no-glyph items g absent))
     ]
 
-same-function : {A B : Type 0} (f g : A → B) → ((x : A) → f x ≡ g x) → f ≡ g
+pub same-function : {A B : Type 0} (f g : A → B) → ((x : A) → f x ≡ g x) → f ≡ g
 same-function f g h = λ j. λ x. h x j
 
 -- by the runs that are kept, outlines are those of the bodies
-outline-is : (m : FontBodies) (g : List ℕ) → outline_within (own m) 4 g ≡ outline m g
+pub outline-is : (m : FontBodies) (g : List ℕ) → outline_within (own m) 4 g ≡ outline m g
 unfolding outline
 outline-is m g = refl
 
