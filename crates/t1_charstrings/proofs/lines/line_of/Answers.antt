@@ -6,9 +6,9 @@ use Rattle.t1_charstrings.proofs.lines.line_of.Goals as goal
 pub returns-in-Glyph : goal.returns-in-Glyph
 returns-in-Glyph c =
     let operator = c.args.operator.now in
-    let kept = c.glyph_entry.result in
+    let kept = c.glyph_entry-kept in
     rw c.in-Glyph.is
     (c.entry_line-in-Glyph.ensures
     ∙ ap (λ closing. entry_line operator closing (option_copied kept.result)) c.as_slice-in-Glyph-2.ensures
     ∙ ap (entry_line operator c.in-Glyph.closing)
-    (kept.ensures.value ∙ ap (glyph_kept c.args.charstrings.now.glyphs.entries) c.as_slice-in-Glyph.ensures))
+    (kept.ensures ∙ ap (glyph_kept c.args.charstrings.now.glyphs.entries) c.as_slice-in-Glyph.ensures))
