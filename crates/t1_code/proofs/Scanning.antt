@@ -27,7 +27,7 @@ differs c d h k = elim (cases_Bool (c == d)) [
   | inr other ↦ other
 ]
 
-digit_no_blank : (c : ℕ) → is_ascii_digit c ≡ true → is_blank c ≡ false
+pub digit_no_blank : (c : ℕ) → is_ascii_digit c ≡ true → is_blank c ≡ false
 digit_no_blank c h = rw (differs c 0 h refl, differs c 9 h refl, differs c 10 h refl, differs c 12 h refl, differs c 13 h refl, differs c 32 h refl) refl
 
 -- the digits end with the word

@@ -1,3 +1,4 @@
+pub mod Checking
 pub mod Compiling
 pub mod Counted
 pub mod Drawing
@@ -6,6 +7,7 @@ pub mod FirstNames
 pub mod Gathering
 pub mod InTurnLaws
 pub mod Keeping
+pub mod Keys
 pub mod LengthLaws
 pub mod Lookups
 pub mod Measuring

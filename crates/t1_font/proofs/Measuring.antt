@@ -30,7 +30,7 @@ use Rattle.t1_font.specs.Bodies.{bodies, bodies_check, words_check, glyph_among,
 use Rattle.t1_font.specs.Glyphs.{Glyph as Drawn, glyphs, glyphs_by, glyph_names}
 use Rattle.t1_font.specs.Runs.{Kept, kept_of, own_among}
 use Rattle.t1_font.specs.MeasuredGlyphs.{glyph_metrics, glyph_metrics_among, measured, MeasuredFont}
-use Rattle.t1_font.proofs.Keeping.{bytes_self}
+use Rattle.t1_run.proofs.Asked.{bytes_self}
 
 -- ---- the glyphs of a source are there
 
@@ -125,7 +125,7 @@ pub same-function : {A B : Type 0} (f g : A → B) → ((x : A) → f x ≡ g x)
 same-function f g h = λ j. λ x. h x j
 
 -- by the runs that are kept, outlines are those of the bodies
-outline-is : (m : FontBodies) (g : List ℕ) → outline_within (own m) 4 g ≡ outline m g
+pub outline-is : (m : FontBodies) (g : List ℕ) → outline_within (own m) 4 g ≡ outline m g
 unfolding outline
 outline-is m g = refl
 

@@ -3,9 +3,8 @@ ghost use Rattle.std.specs.Prelude.{◌≡◌, ◌∷◌, [], nat_eq, ℕ, List,
 ghost use Rattle.std.specs.Option.{option_copied, option_or};
 ghost use Rattle.std.specs.Str.{bytes_eq};
 ghost use Rattle.t1_run.specs.Overlay.{changed};
-ghost use Rattle.t1_run.specs.Run.{Glyph, Key, Subr};
+ghost use Rattle.t1_run.specs.Run.{Glyph, Key, Subr, body_at};
 ghost use Rattle.t1_cache.specs.Bodies.{record_bodies};
-ghost use Rattle.t1_cache.specs.Overlay.{body_at};
 ghost use Rattle.t1_rerun.specs.Changing.{body_changed, edited_font, glyph_set, subr_set};
 
 use crate::entry_change::EntryChange;

@@ -1,12 +1,11 @@
 //! The changes of records, each with the memory that it takes.
 ghost use Rattle.std.specs.Prelude.{◌≡◌, ◌&&◌, ℕ, Bool, false, List, Option, None, Some, IfOk, IfSome, true, is_some, length, not, if◌then◌else◌};
 ghost use Rattle.std.specs.Str.{bytes_eq};
-ghost use Rattle.t1_run.specs.Run.{Glyph};
+ghost use Rattle.t1_run.specs.Run.{Glyph, body_at};
 ghost use Rattle.t1_extent.specs.Kept.{TracedRun};
 ghost use Rattle.t1_afm.specs.declared.bbox.BBox.{BBox};
 ghost use Rattle.t1_cache.specs.declared.records.Named.TheVariants as named;
 ghost use Rattle.t1_cache.specs.Bodies.{record_bodies};
-ghost use Rattle.t1_cache.specs.Overlay.{body_at};
 ghost use Rattle.t1_cache.specs.Renewed.{reruns_by_name};
 ghost use Rattle.t1_cache.specs.Room.{count_at};
 ghost use Rattle.t1_cache.specs.Users.{wanted};
