@@ -12,7 +12,7 @@ use Rattle.t1_code.specs.Words.{commands}
 use Rattle.t1_source.specs.WellFormed.{IsWellFormed, Stand}
 use Rattle.t1_font.specs.InTurn.{IsFirstOfName}
 use Rattle.t1_font.specs.ToRun.{commands_or_none, glyph_to_run}
-use Rattle.t1_font.proofs.Keeping.{bytes_self}
+use Rattle.t1_run.proofs.Asked.{bytes_self}
 
 -- earlier items without the name are passed over
 passed : (g : List ℕ) (earlier rest : List Item) → list_any (is_glyph g) earlier ≡ false → glyph_to_run (earlier ++ rest) g ≡ glyph_to_run rest g

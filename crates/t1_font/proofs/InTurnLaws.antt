@@ -32,9 +32,9 @@ use Rattle.t1_font.specs.ToRun.{commands_or_none, font_to_run, glyph_to_run, Sub
 use Rattle.t1_font.specs.MeasuredGlyphs.{glyph_metrics_among, glyph_metrics_at, glyph_metrics_by}
 use Rattle.t1_font.proofs.Compiling.{item-first, same-maps}
 use Rattle.t1_font.proofs.Gathering.{behind, one-told, one-refused}
-use Rattle.t1_font.proofs.Keeping.{same_bytes}
+use Rattle.t1_run.proofs.Asked.{bytes_same}
 use Rattle.t1_font.proofs.Measuring.{own-same}
-use Rattle.t1_font.proofs.Naming.{or_false}
+use Rattle.std.proofs.Math.Bool.{or-false}
 
 -- of a run that has a fault, the fault
 pub faulty-metrics : (run : List ℕ → Option (Result Drawing Code)) (name : List ℕ) (code : Code) → run name ≡ Some (Err code) → glyph_metrics_at run name ≡ Err code
@@ -70,12 +70,12 @@ pub runs-more : (run : List ℕ → Option (Result Drawing Code)) (gs : List (Li
 runs-more run gs name g old new before after =
     elim (cases_Bool (bytes_eq g name)) [
       | inl same ↦
-          let is = same_bytes g name same in
+          let is = bytes_same g name same in
           after ∙ here (bytes_eq g name) (stays name (run name)) (list_any (bytes_eq g) gs) (run name) old same (before ∙ ap (λ x. cond (list_any (bytes_eq g) gs && stays x (run x)) (run x) None) is)
           ∙ sym (ap (λ b. cond (b && stays g (run g)) (run g) None) (list_any-append (bytes_eq g) gs (name ∷ [])) ∙ ap (λ x. cond ((list_any (bytes_eq g) gs || (bytes_eq g name || false)) && stays x (run x)) (run x) None) is)
       | inr other ↦
           after ∙ ap (λ b. cond (b && stays name (run name)) (run name) old) other ∙ before
-          ∙ sym (ap (λ b. cond (b && stays g (run g)) (run g) None) (list_any-append (bytes_eq g) gs (name ∷ []) ∙ ap (λ b. list_any (bytes_eq g) gs || (b || false)) other ∙ or_false (list_any (bytes_eq g) gs)))
+          ∙ sym (ap (λ b. cond (b && stays g (run g)) (run g) None) (list_any-append (bytes_eq g) gs (name ∷ []) ∙ ap (λ b. list_any (bytes_eq g) gs || (b || false)) other ∙ or-false (list_any (bytes_eq g) gs)))
     ]
   where
     here : {X : Type 0} (same stay any : Bool) (x old : Option X) → same ≡ true → old ≡ cond (any && stay) x None → cond (same && stay) x old ≡ cond ((any || (same || false)) && stay) x None

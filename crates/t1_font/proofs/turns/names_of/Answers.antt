@@ -6,7 +6,7 @@ use Rattle.t1_font.specs.Glyphs.{glyph_names}
 use Rattle.t1_font.specs.Names.{has_name}
 use Rattle.t1_font.proofs.Compiling.{item-first}
 use Rattle.t1_font.proofs.InTurnLaws.{name-taken}
-use Rattle.t1_font.proofs.Naming.{or_false}
+use Rattle.std.proofs.Math.Bool.{or-false}
 use Rattle.t1_font.proofs.turns.names_of.Goals as goal
 
 pub loop-item-preserved : goal.loop-item-preserved
@@ -23,4 +23,4 @@ pub returns : goal.returns
 returns c = λ g.
     let names = c.loop-item.names.keys in
     let none = drop_all c.loop-item.item-index c.args.items.now (omega arith) in
-    sym (or_false (has_name names g)) ∙ ap (λ items. has_name names g || list_any (bytes_eq g) (glyph_names items)) (sym none) ∙ c.loop-item.invariant g
+    sym (or-false (has_name names g)) ∙ ap (λ items. has_name names g || list_any (bytes_eq g) (glyph_names items)) (sym none) ∙ c.loop-item.invariant g
