@@ -79,7 +79,7 @@ module _ (s : SourceParts) (file : file_check s ≡ Ok tt) where
     abbrev m : FontBodies
     m = bodies s.items
 
-    keeps : KeepsOwn runs s.items
+    keeps : KeepsOwn (run_of runs) s.items
     keeps = keeps-own bs s.items runs same (λ g. kept g ∙ ap (λ l. own_among bs l g) are)
 
     own-told : glyph_metrics_among (run_of runs) (map (λ name. name.now) names) ≡ glyph_metrics_among (own m) (glyph_names s.items)
