@@ -1,5 +1,5 @@
 -- Changes that are gathered one after another.
-use Rattle.std.proofs.Common.{◌≡◌, ℕ, ◌+◌, ◌<◌, suc, List, ◌∷◌, ◌++◌, length, get_or, drop, drop-cons, add-one, refl, sym, ◌∙◌, ap, Option, Result, Ok, Err}
+use Rattle.std.proofs.Common.{◌≡◌, List, ◌∷◌, ◌++◌, refl, sym, ◌∙◌, ap, Option, Result, Ok, Err}
 use Rattle.std.specs.Option.{option_to_list}
 use Rattle.std.proofs.lemmas.List.{append_assoc}
 use Rattle.t1_frac.specs.declared.fault.Fault.{Fault}
@@ -23,10 +23,6 @@ in_front done r = r >>= λ rest. Ok (done ++ rest)
 front-twice : (done more : List EntryChange) (r : Outcome) → in_front done (in_front more r) ≡ in_front (done ++ more) r
 front-twice done more (Ok rest) = ap Ok (sym (append_assoc done more rest))
 front-twice done more (Err fault) = refl
-
--- the items that are left begin with this one
-pub item-first : (xs : List Item) (i : ℕ) (x : Item) → i < length xs → x ≡ get_or xs i x → drop i xs ≡ x ∷ drop (i + 1) xs
-item-first xs i x h e = rw (add-one, drop-cons xs i x) (ap (λ y. y ∷ drop (suc i) xs) (sym e))
 
 module _ (whole : Outcome) (m : Sought) (done : List EntryChange) (i : Item) (is : List Item) (was : whole ≡ in_front done (items_put m (i ∷ is))) where
   -- an item without a fault

@@ -1,16 +1,16 @@
 -- Marks that are made one after another.
 use Rattle.std.proofs.Common.{◌≡◌, ℕ, ◌+◌, ◌<◌, suc, Bool, true, false, cond, List, ◌∷◌, length, get_or, drop, drop-cons, add-one, refl, sym, ◌∙◌, ap, Option, Some}
 use Rattle.std.specs.Str.{bytes_eq}
-use Rattle.t1_font.proofs.Keeping.{same_bytes}
 use Rattle.t1_batch.specs.declared.entries.EditedEntry.{EditedEntry}
 use Rattle.t1_batch.specs.Passing.{marked}
+use Rattle.t1_run.proofs.Asked.{bytes_same}
 
 -- a name that is marked once more
 pub mark-put : (added now : Bool) (name g : List ℕ) (at : List ℕ → Option Bool) → Some now ≡ marked added (at name)
     → cond (bytes_eq g name) (Some now) (at g) ≡ cond (bytes_eq g name) (marked added (at g)) (at g)
 mark-put added now name g at is = by (bytes_eq g name) refl where
   by : (b : Bool) → bytes_eq g name ≡ b → cond b (Some now) (at g) ≡ cond b (marked added (at g)) (at g)
-  by true on = is ∙ ap (λ n. marked added (at n)) (sym (same_bytes g name on))
+  by true on = is ∙ ap (λ n. marked added (at n)) (sym (bytes_same g name on))
   by false off = refl
 
 -- the entries that are left begin with this one

@@ -6,20 +6,14 @@ use Rattle.std.specs.Cmp.{both_ways}
 use Rattle.std.proofs.lemmas.Bool.{or_left, or_right}
 use Rattle.t1_frac.specs.declared.fault.Code.{Code}
 use Rattle.t1_run.specs.Footprint.{Includes, uses}
-use Rattle.t1_run.specs.Run.{FontBodies, Key, Drawing, own}
+use Rattle.t1_run.specs.Run.{FontBodies, Key, Drawing, own, key_eq}
 use Rattle.t1_run.specs.Touched.{is_key_of, is_named, is_touched, meets_parts, meets_run, touched_within}
 use Rattle.t1_font.specs.Bodies.{bodies}
 use Rattle.t1_font.specs.Glyphs.{glyph_names}
-use Rattle.t1_cache.specs.Users.{key_eq}
-use Rattle.t1_cache.proofs.Adding.{key-itself, key-same}
+use Rattle.t1_font.proofs.Keys.{key-itself, key-same, included}
 use Rattle.t1_batch.specs.Members.{HaveSameKeys, SameEditedLaw, SameStaleGlyphsLaw, SameStaleLaw}
 
 -- ---- one key
-
-pub includes-among : (ks : List Key) (k : Key) → Includes ks k → list_any (key_eq k) ks ≡ true
-includes-among [] k i = absurd i
-includes-among (x ∷ ks) k (inl e) = or_left (key_eq k x) (list_any (key_eq k) ks) (ap (key_eq k) e ∙ key-itself k)
-includes-among (x ∷ ks) k (inr i) = or_right (key_eq k x) (list_any (key_eq k) ks) (includes-among ks k i)
 
 pub among-includes : (ks : List Key) (k : Key) → list_any (key_eq k) ks ≡ true → Includes ks k
 among-includes [] k h = absurd (cc)
@@ -75,6 +69,6 @@ same_stale_glyphs ks ls same old new = ap (λ p. filter p (glyph_names new.items
 
 pub same_edited : SameEditedLaw
 same_edited ks ls same old new e = record {
-  bodies = record { same = λ k out. e.bodies.same k (λ i. out (among-includes ls k (sym (same k) ∙ includes-among ks k i))) };
+  bodies = record { same = λ k out. e.bodies.same k (λ i. out (among-includes ls k (sym (same k) ∙ included ks k i))) };
   order = sym (unnamed-same ks ls same (glyph_names old.items)) ∙ e.order ∙ unnamed-same ks ls same (glyph_names new.items);
 }

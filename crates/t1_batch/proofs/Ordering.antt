@@ -12,7 +12,7 @@ use Rattle.t1_source.specs.declared.edit.Edit.TheVariants.{ReplaceGlyph, AddGlyp
 use Rattle.t1_cache.specs.Edited.{names_after}
 use Rattle.t1_cache.specs.Laws.{AreDistinct}
 use Rattle.t1_font.proofs.Lookups.{bytes_tell}
-use Rattle.t1_rerun.proofs.Changes.{filter-as}
+use Rattle.t1_cache.proofs.Filtering.{filter-as, filter-all, filter-both, filter-none, has-passing}
 use Rattle.t1_batch.specs.Batch.{edited_entries, was_added}
 
 -- names after edits: those of before that are still there and weren't gone at any time, in their order, then the others
@@ -21,42 +21,9 @@ InOrder gone xs ys = ys ≡ filter (λ g. list_any (bytes_eq g) ys && not (gone 
 
 -- ---- lists of names
 
-filter-all : (xs : List (List ℕ)) → filter (λ g. true) xs ≡ xs
-filter-all [] = refl
-filter-all (x ∷ xs) = ap (λ l. x ∷ l) (filter-all xs)
-
-filter-none : (xs : List (List ℕ)) → filter (λ g. false) xs ≡ []
-filter-none [] = refl
-filter-none (x ∷ xs) = filter-none xs
-
-filter-both : (p q : List ℕ → Bool) (xs : List (List ℕ)) → filter q (filter p xs) ≡ filter (λ g. p g && q g) xs
-filter-both p q [] = refl
-filter-both p q (x ∷ xs) = one (p x) (filter-both p q xs) where
-  one : (b : Bool) → filter q (filter p xs) ≡ filter (λ g. p g && q g) xs
-      → filter q (cond b (x ∷ filter p xs) (filter p xs)) ≡ cond (b && q x) (x ∷ filter (λ g. p g && q g) xs) (filter (λ g. p g && q g) xs)
-  one true e = ap (λ l. cond (q x) (x ∷ l) l) e
-  one false e = e
-
 filter-turned : (p q : List ℕ → Bool) (xs : List (List ℕ)) → filter q (filter p xs) ≡ filter p (filter q xs)
 filter-turned p q xs =
     filter-both p q xs ∙ filter-as (λ g. p g && q g) (λ g. q g && p g) xs (λ g there. and_comm (p g) (q g)) ∙ sym (filter-both q p xs)
-
--- a name is among those that pass where it is among all and passes
-among-passing : (q : List ℕ → Bool) (g : List ℕ) (ys : List (List ℕ)) → list_any (bytes_eq g) (filter q ys) ≡ (list_any (bytes_eq g) ys && q g)
-among-passing q g [] = refl
-among-passing q g (y ∷ ys) = by (q y) refl (bytes_eq g y) refl (among-passing q g ys) where
-  in-all : Bool
-  in-all = list_any (bytes_eq g) ys
-
-  same : bytes_eq g y ≡ true → q g ≡ q y
-  same on = ap q (bytes_tell.same g y on)
-
-  by : (b : Bool) → q y ≡ b → (t : Bool) → bytes_eq g y ≡ t → list_any (bytes_eq g) (filter q ys) ≡ (in-all && q g)
-      → list_any (bytes_eq g) (cond b (y ∷ filter q ys) (filter q ys)) ≡ ((t || in-all) && q g)
-  by true passes true on e = ap (λ t. t || list_any (bytes_eq g) (filter q ys)) on ∙ sym (same on ∙ passes)
-  by true passes false off e = ap (λ t. t || list_any (bytes_eq g) (filter q ys)) off ∙ e
-  by false fails true on e = e ∙ ap (λ t. in-all && t) (same on ∙ fails) ∙ and-false in-all ∙ sym (same on ∙ fails)
-  by false fails false off e = e
 
 -- the last of distinct names isn't among the others
 last-apart : (ys : List (List ℕ)) (g : List ℕ) → AreDistinct (ys ++ g ∷ []) → (x : List ℕ) → list_any (bytes_eq x) ys ≡ true → bytes_eq x g ≡ false
@@ -157,7 +124,7 @@ some-less gone xs ys q is =
     moved false b c = refl
 
     stays-as : (g : List ℕ) → (stayed g && q g) ≡ stays g
-    stays-as g = moved (list_any (bytes_eq g) ys) (not (gone g)) (q g) ∙ ap (λ b. b && not (gone g)) (sym (among-passing q g ys))
+    stays-as g = moved (list_any (bytes_eq g) ys) (not (gone g)) (q g) ∙ ap (λ b. b && not (gone g)) (sym (has-passing q g ys))
 
 -- the same glyphs are gone
 pub order-as : (gone now : List ℕ → Bool) (xs ys : List (List ℕ)) → ((g : List ℕ) → gone g ≡ now g) → InOrder gone xs ys → InOrder now xs ys

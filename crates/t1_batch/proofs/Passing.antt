@@ -17,15 +17,13 @@ use Rattle.t1_code.specs.declared.command.Command.{Command}
 use Rattle.t1_code.specs.Words.{commands}
 use Rattle.t1_parts.specs.declared.item.Item.{Item}
 use Rattle.t1_parts.specs.declared.item.Item.TheVariants as items
-use Rattle.t1_run.specs.Run.{Key, Subr, Glyph}
-use Rattle.t1_run.specs.Touched.{is_key_of}
+use Rattle.t1_run.specs.Run.{Key, Subr, Glyph, body_at, key_eq}
 use Rattle.t1_font.specs.Bodies.{bodies, subr_among, glyph_among}
 use Rattle.t1_font.specs.Glyphs.{glyph_names}
 use Rattle.t1_cache.specs.declared.records.Named.{Named}
 use Rattle.t1_cache.specs.declared.records.Named.TheVariants as named
-use Rattle.t1_cache.specs.Overlay.{body_at}
-use Rattle.t1_cache.specs.Users.{key_eq, key_of}
-use Rattle.t1_cache.proofs.Adding.{key-itself, key-same}
+use Rattle.t1_cache.specs.Users.{key_of}
+use Rattle.t1_font.proofs.Keys.{key-itself, key-same}
 use Rattle.t1_cache.proofs.Lists.{all-weaken}
 use Rattle.t1_rerun.specs.declared.entry_change.EntryChange.{EntryChange}
 use Rattle.t1_rerun.specs.Settled.{changed_keys, AreDistinctKeys}
@@ -35,24 +33,16 @@ use Rattle.t1_batch.specs.Batch.{entry_edit, keys}
 use Rattle.t1_batch.specs.Passing.{all_marked, behind_items, items_put, marked, put_of, with_mark, without, Sought}
 use Rattle.t1_batch.proofs.Gathering.{in_front, Outcome}
 
-pub all-append : {X : Type 0} (P : X → Type 0) (xs ys : List X) → AllByRecursion P xs → AllByRecursion P ys → AllByRecursion P (xs ++ ys)
-all-append P [] ys h i = i
-all-append P (x ∷ xs) ys h i = (h.0, all-append P xs ys h.1 i)
-
 -- ---- keys
 
 key-sym : (j k : Key) → key_eq j k ≡ key_eq k j
 key-sym j k =
     both_ways (key_eq j k) (key_eq k j) (λ on. ap (key_eq k) (key-same j k on) ∙ key-itself k) (λ on. ap (key_eq j) (key-same k j on) ∙ key-itself j)
 
-pub glyph-key : (g : List ℕ) (k : Key) → is_key_of g k ≡ key_eq (Glyph g) k
-glyph-key g (Subr n) = refl
-glyph-key g (Glyph h) = refl
-
 pub without-at : (key k : Key) (m : Sought) → without key m k ≡ cond (key_eq k key) None (m k)
 without-at key k m = ap (λ b. cond b None (m k)) (key-sym key k)
 
-gone : (key : Key) (m : Sought) → without key m key ≡ None
+pub gone : (key : Key) (m : Sought) → without key m key ≡ None
 gone key m = ap (λ b. cond b None (m key)) (key-itself key)
 
 -- ---- marks

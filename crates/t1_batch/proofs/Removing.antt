@@ -21,14 +21,14 @@ use Rattle.t1_parts.specs.Entries.{is_glyph, is_subr}
 use Rattle.t1_parts.specs.SourceParts.{SourceParts}
 use Rattle.t1_source.specs.WellFormed.{Stand}
 use Rattle.t1_run.specs.Footprint.{Includes}
-use Rattle.t1_run.specs.Run.{Key, Subr, Glyph}
+use Rattle.t1_run.specs.Run.{Key, Subr, Glyph, key_eq}
 use Rattle.t1_font.specs.Bodies.{bodies_check, words_check}
 use Rattle.t1_font.specs.Glyphs.{glyph_names}
 use Rattle.t1_cache.specs.declared.records.Named.{Named}
 use Rattle.t1_cache.specs.declared.records.Named.TheVariants as named
 use Rattle.t1_cache.specs.Laws.{AreDistinct}
-use Rattle.t1_cache.specs.Users.{key_eq, key_of}
-use Rattle.t1_cache.proofs.Adding.{key-itself, key-same}
+use Rattle.t1_cache.specs.Users.{key_of}
+use Rattle.t1_font.proofs.Keys.{key-same, included}
 use Rattle.t1_cache.proofs.Lists.{all-weaken}
 use Rattle.t1_font.proofs.Lookups.{bytes_tell}
 use Rattle.t1_rerun.specs.declared.entry_change.EntryChange.{EntryChange}
@@ -39,11 +39,7 @@ use Rattle.t1_batch.specs.declared.entries.EditedEntry.{EditedEntry}
 use Rattle.t1_batch.specs.Batch.{entry_edit, keys, IsSoundBut}
 use Rattle.t1_batch.specs.Passing.{all_removed, items_put, put_of, removed_at, without, Sought}
 use Rattle.t1_batch.proofs.Gathering.{in_front, Outcome}
-use Rattle.t1_batch.proofs.Members.{includes-among}
-use Rattle.t1_batch.proofs.Passing.{always, has_at, is_at, itself, keys-any, mark_is, Met, Passes, tally, without-at}
-
-gone : (key : Key) (m : Sought) → without key m key ≡ None
-gone key m = ap (λ b. cond b None (m key)) (key-itself key)
+use Rattle.t1_batch.proofs.Passing.{always, has_at, is_at, itself, keys-any, mark_is, Met, Passes, tally, without-at, gone}
 
 -- ---- which entries were removed
 
@@ -171,7 +167,7 @@ check-entry d place words ks is m sound marks rest = by (m (key_of d)) refl wher
   tail = items_put (without (key_of d) m) is
 
   skipped : m (key_of d) ≡ None → (Includes ks (key_of d) ⊎ (words_check place words ≡ Ok tt)) → words_check place words ≡ Ok tt
-  skipped none (inl i) = let never : false ≡ true = sym (ap is_some none) ∙ marks ∙ includes-among ks (key_of d) i in absurd (cc)
+  skipped none (inl i) = let never : false ≡ true = sym (ap is_some none) ∙ marks ∙ included ks (key_of d) i in absurd (cc)
   skipped none (inr fine) = fine
 
   put : (moved : Bool) (r : Result (List Command) Code)

@@ -17,12 +17,12 @@ use Rattle.t1_source.specs.Leads.{line_with_lead, lead_line, says_lead, is_secti
 use Rattle.t1_source.proofs.WellFormedEditedLaws.{source_given, source_same}
 use Rattle.t1_source.proofs.ItemPlaceLaws.{position_first, set_there, removed_there}
 use Rattle.t1_run.specs.Run.{Key, Subr, Glyph}
+use Rattle.t1_run.proofs.Outlines.{in_first, in_second}
 use Rattle.t1_font.specs.Bodies.{bodies_check, body_check}
 use Rattle.t1_cache.specs.Edited.{named, subr_key}
 use Rattle.t1_cache.specs.Laws.{IsAmong}
 use Rattle.t1_cache.proofs.Accepted.{glyph_at, last_glyph, last_subr, new_glyph, new_subr, subr_at, added_glyph-made, added_subr-made, encoded-made, lead-made, removed_glyph-made, removed_subr-made, replaced_glyph-made, replaced_subr-made, unencoded-made, IsIn, IsLeadMade, IsNumbered, IsOut, IsPut, LeadIn, LeadPut}
 use Rattle.t1_cache.proofs.Edits.{key-of}
-use Rattle.t1_cache.proofs.Turns.{in-first, in-second}
 use Rattle.t1_batch.specs.Batch.{IsSoundBut}
 
 -- ---- bodies without a fault
@@ -34,14 +34,14 @@ KeepsSound keys s made = (ks : List Key) → AllByRecursion (IsSoundBut ks) s.it
 among-first : (ks ls : List Key) (i : Item) → IsAmong ks i → IsAmong (ks ++ ls) i
 among-first ks ls (items.Plain l) h = tt
 among-first ks ls (items.Section b n a) h = tt
-among-first ks ls (items.Subr n ws c) h = in-first ks ls (Subr n) h
-among-first ks ls (items.Glyph g ws c) h = in-first ks ls (Glyph g) h
+among-first ks ls (items.Subr n ws c) h = in_first ks ls (Subr n) h
+among-first ks ls (items.Glyph g ws c) h = in_first ks ls (Glyph g) h
 
 among-second : (ks ls : List Key) (i : Item) → IsAmong ls i → IsAmong (ks ++ ls) i
 among-second ks ls (items.Plain l) h = tt
 among-second ks ls (items.Section b n a) h = tt
-among-second ks ls (items.Subr n ws c) h = in-second ks ls (Subr n) h
-among-second ks ls (items.Glyph g ws c) h = in-second ks ls (Glyph g) h
+among-second ks ls (items.Subr n ws c) h = in_second ks ls (Subr n) h
+among-second ks ls (items.Glyph g ws c) h = in_second ks ls (Glyph g) h
 
 sound-first : (ks ls : List Key) (i : Item) → IsSoundBut ks i → IsSoundBut (ks ++ ls) i
 sound-first ks ls i (inl among) = inl (among-first ks ls i among)

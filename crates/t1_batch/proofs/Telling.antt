@@ -1,9 +1,8 @@
 -- What became of the entries that edits name is what the edits changed.
-use Rattle.std.proofs.Common.{◌≡◌, ℕ, Bool, true, false, cond, not, List, [], ◌∷◌, ◌++◌, map, filter, Option, None, Some, Result, Ok, Err, Vec, Global, is_some, refl, sym, ◌∙◌, ap, subst}
+use Rattle.std.proofs.Common.{◌≡◌, ℕ, Bool, true, false, cond, not, List, [], ◌++◌, map, filter, Option, None, Some, Result, Ok, Err, Vec, Global, is_some, refl, sym, ◌∙◌, ap, subst}
 use Rattle.std.specs.Prelude.{◌||◌, ◌&&◌, MatchResult}
 use Rattle.std.specs.List.{list_any, AllByRecursion}
 use Rattle.std.specs.Str.{bytes_eq}
-use Rattle.std.proofs.lemmas.Bool.{or_right}
 use Rattle.std.proofs.Math.Bool.{or-false}
 use Rattle.std.proofs.lemmas.List.{append-nil}
 use Rattle.std.proofs.lemmas.List.Folds.{list_any-append}
@@ -12,41 +11,28 @@ use Rattle.t1_frac.specs.declared.fault.Refusal.{Refusal}
 use Rattle.t1_frac.specs.declared.fault.Refusal.TheVariants as refusals
 use Rattle.t1_frac.specs.Outcome.{◌>>=◌, Gives, Refuses}
 use Rattle.t1_parts.specs.SourceParts.{SourceParts}
-use Rattle.t1_run.specs.Run.{Key, Glyph}
+use Rattle.t1_run.specs.Run.{Key, Glyph, key_eq}
 use Rattle.t1_run.specs.Touched.{is_named}
+use Rattle.t1_run.proofs.Within.{each-append}
 use Rattle.t1_font.specs.Assembly.{file_check}
 use Rattle.t1_font.specs.Bodies.{bodies_check}
 use Rattle.t1_font.specs.Glyphs.{glyph_names}
 use Rattle.t1_font.proofs.LengthLaws.{body_fault_told}
-use Rattle.t1_cache.specs.Users.{key_eq, key_of}
+use Rattle.t1_cache.specs.Users.{key_of}
 use Rattle.t1_cache.proofs.Distinct.{names_distinct}
 use Rattle.t1_cache.proofs.Lists.{all-weaken}
 use Rattle.t1_rerun.specs.declared.entry_change.EntryChange.{EntryChange}
 use Rattle.t1_rerun.specs.Right.{has_glyph, IsInOrder}
 use Rattle.t1_rerun.specs.Settled.{changed_keys, last_glyphs, was_moved, AreDistinctKeys, HasBody}
-use Rattle.t1_rerun.proofs.Changes.{filter-as}
-use Rattle.t1_rerun.proofs.Meeting.{among-passing}
+use Rattle.t1_cache.proofs.Filtering.{among-passing, filter-as, passed}
 use Rattle.t1_batch.specs.declared.entries.EditedEntry.{EditedEntry}
 use Rattle.t1_batch.specs.Batch.{entry_edit, keys, was_added, AreBatchChanges, EntryEdit, IsEditedBy, IsSoundBut}
 use Rattle.t1_batch.specs.Passing.{all_marked, all_removed, behind_items, changes_by, items_put, none_sought, Sought}
 use Rattle.t1_batch.proofs.Gathering.{Outcome}
 use Rattle.t1_batch.proofs.Members.{same_edited}
-use Rattle.t1_batch.proofs.Passing.{absent, all-append, all-put, always, at-glyph, behind-at, distinct, glyph-key, has_at, itself, keys-any, mark_is, marks-added, marks-named, passes, tallied, tally, IsPut, Passes}
+use Rattle.t1_font.proofs.Keys.{glyph-key}
+use Rattle.t1_batch.proofs.Passing.{absent, all-put, always, at-glyph, behind-at, distinct, has_at, itself, keys-any, mark_is, marks-added, marks-named, passes, tallied, tally, IsPut, Passes}
 use Rattle.t1_batch.proofs.Removing.{all-last, checked, each-removed, last-append, removed-any, removed-distinct, removed-last, removed-unmoved, unit, IsRemoved}
-
--- a name that passes is there
-passed : (p : List ℕ → Bool) (g : List ℕ) (xs : List (List ℕ)) → list_any (bytes_eq g) (filter p xs) ≡ true → list_any (bytes_eq g) xs ≡ true
-passed p g [] h = h
-passed p g (x ∷ xs) h = one (p x) (passed p g xs) h where
-  either : (b : Bool) → (list_any (bytes_eq g) (filter p xs) ≡ true → list_any (bytes_eq g) xs ≡ true) → (b || list_any (bytes_eq g) (filter p xs)) ≡ true
-      → (b || list_any (bytes_eq g) xs) ≡ true
-  either true below h = refl
-  either false below h = below h
-
-  one : (b : Bool) → (list_any (bytes_eq g) (filter p xs) ≡ true → list_any (bytes_eq g) xs ≡ true)
-      → list_any (bytes_eq g) (cond b (x ∷ filter p xs) (filter p xs)) ≡ true → (bytes_eq g x || list_any (bytes_eq g) xs) ≡ true
-  one true below h = either (bytes_eq g x) below h
-  one false below h = or_right (bytes_eq g x) (list_any (bytes_eq g) xs) (below h)
 
 -- ---- an outcome
 
@@ -136,7 +122,7 @@ module _ (es : List EditedEntry) (old new : SourceParts) (fine : bodies_check ol
 
     bodies-are : AllByRecursion (HasBody new) (front ++ back)
     bodies-are =
-        all-append (HasBody new) front back
+        each-append (HasBody new) front back
         (all-weaken (IsPut new.items marks) (HasBody new) (λ c h. h.body) front (all-put new.items marks front pass))
         (all-weaken (IsRemoved left) (HasBody new) not-there back removed)
 

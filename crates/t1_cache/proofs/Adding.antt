@@ -6,25 +6,9 @@ use Rattle.std.specs.declared.alloc.Global.{Global}
 use Rattle.std.specs.declared.vec.Vec.{Vec}
 use Rattle.std.proofs.lemmas.List.Folds.{list_any-append}
 use Rattle.std.proofs.lemmas.List.Sums.{sum_by-append}
-use Rattle.t1_run.specs.Run.{Key, Subr, Glyph}
+use Rattle.t1_run.specs.Run.{Key, key_eq}
 use Rattle.t1_cache.specs.declared.records.Named.{Named}
-use Rattle.t1_cache.specs.Users.{key_eq, key_of, Pairs, UserSet, HasRoom, wanted, has_pair}
-use Rattle.t1_font.proofs.Lookups.{bytes_tell, numbers_tell}
-
--- what holds of each Subr and of each glyph
-pub at-key : (P : Key → Type 0) → ((n : ℕ) → P (Subr n)) → ((g : List ℕ) → P (Glyph g)) → (k : Key) → P k
-at-key P subr glyph (Subr n) = subr n
-at-key P subr glyph (Glyph g) = glyph g
-
-pub key-itself : (k : Key) → key_eq k k ≡ true
-key-itself (Subr n) = numbers_tell.itself n
-key-itself (Glyph g) = bytes_tell.itself g
-
-pub key-same : (k j : Key) → key_eq k j ≡ true → k ≡ j
-key-same (Subr n) (Subr m) e = ap Subr (numbers_tell.same n m e)
-key-same (Glyph g) (Glyph h) e = ap Glyph (bytes_tell.same g h e)
-key-same (Subr n) (Glyph h) e = absurd (cc)
-key-same (Glyph g) (Subr m) e = absurd (cc)
+use Rattle.t1_cache.specs.Users.{key_of, Pairs, UserSet, HasRoom, wanted, has_pair}
 
 pub less-room : (a b : ℕ) (r : Option UserSet) → a ≤ b → HasRoom b r → HasRoom a r
 less-room a b None h had = omega (arith, h, had)

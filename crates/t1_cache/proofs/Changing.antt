@@ -8,16 +8,15 @@ use Rattle.std.specs.Str.{bytes_eq}
 use Rattle.std.specs.declared.alloc.Global.{Global}
 use Rattle.std.specs.declared.vec.Vec.{Vec}
 use Rattle.indexmap.specs.IndexMap.{insert_entry}
-use Rattle.t1_run.specs.Run.{FontBodies, Key, Subr, Glyph}
+use Rattle.t1_run.specs.Run.{Key, Subr, Glyph, body_at, key_eq}
 use Rattle.t1_run.specs.Footprint.{Includes, SameAt}
 use Rattle.t1_cache.specs.declared.records.GlyphRecord.{GlyphRecord}
 use Rattle.t1_cache.specs.declared.records.SubrRecord.{SubrRecord}
 use Rattle.t1_cache.specs.Bodies.{glyph_body, record_bodies, subr_body}
 use Rattle.t1_cache.specs.Changed.{ChangedBodiesLaw, RestLaw}
-use Rattle.t1_cache.specs.Overlay.{body_at}
 use Rattle.t1_cache.specs.Renewed.{Kept, kept_of}
-use Rattle.t1_cache.specs.Users.{among, glyph_rest, has, key_eq, subr_rest, GlyphRest, HasRoom, SubrRest, UserSet}
-use Rattle.t1_cache.proofs.Adding.{key-itself, key-same}
+use Rattle.t1_cache.specs.Users.{among, glyph_rest, has, subr_rest, GlyphRest, HasRoom, SubrRest, UserSet}
+use Rattle.t1_font.proofs.Keys.{key-itself, key-same, at-same, same-at}
 use Rattle.t1_font.proofs.Keeping.{map-cond}
 use Rattle.t1_font.proofs.Lookups.{Tells, inserted-at, lookup-but}
 use Rattle.t1_cache.proofs.Putting.{at}
@@ -124,14 +123,6 @@ kept-but p (e ∷ es) = by (bytes_eq p e.0.items) (kept-but p es) where
   by false rest = ap (λ l. kept_of e ∷ l) rest
 
 -- ---- bodies of the changed records
-
-same-at : (m n : FontBodies) (k : Key) → body_at m k ≡ body_at n k → SameAt m n k
-same-at m n (Subr x) e = e
-same-at m n (Glyph x) e = e
-
-at-same : (m n : FontBodies) (k : Key) → SameAt m n k → body_at m k ≡ body_at n k
-at-same m n (Subr x) e = e
-at-same m n (Glyph x) e = e
 
 pub changed_bodies : ChangedBodiesLaw
 changed_bodies key m n but old new same sets k = same-at (record_bodies new) n k (sets k ∙ by (key_eq k key) refl) where

@@ -4,17 +4,11 @@ use Rattle.std.specs.List.{list_any}
 use Rattle.std.specs.Str.{bytes_eq}
 use Rattle.std.proofs.Math.Bool.{and-false, and-true}
 use Rattle.std.proofs.lemmas.Bool.{cases_Bool}
-use Rattle.std.proofs.lemmas.Slice.Eq.{bytes_eq-Decides}
 use Rattle.t1_cache.specs.Laws.{AreDistinct, CountLaw}
+use Rattle.t1_run.proofs.Asked.{bytes_self, bytes_same}
 
 abbrev has : List (List ℕ) → List ℕ → Bool
 has names g = list_any (bytes_eq g) names
-
-itself : (g : List ℕ) → bytes_eq g g ≡ true
-itself g = (bytes_eq-Decides g g).1 refl
-
-same : (g h : List ℕ) → bytes_eq g h ≡ true → g ≡ h
-same g h e = (bytes_eq-Decides g h).0 e
 
 -- the names but one
 abbrev but : List ℕ → List (List ℕ) → List (List ℕ)
@@ -24,8 +18,8 @@ has-but : (x g : List ℕ) (names : List (List ℕ)) → has (but x names) g ≡
 has-but x g [] = refl
 has-but x g (y ∷ names) =
     elim (cases_Bool (bytes_eq x y)) [
-      | inl on ↦ rw on (has-but x g names ∙ gone (bytes_eq g y) (has names g) (bytes_eq x g) (λ h. rw (same g y h) on))
-      | inr off ↦ rw off (ap (λ t. bytes_eq g y || t) (has-but x g names) ∙ stays (bytes_eq g y) (has names g) (bytes_eq x g) (λ h. rw (same g y h) off))
+      | inl on ↦ rw on (has-but x g names ∙ gone (bytes_eq g y) (has names g) (bytes_eq x g) (λ h. rw (bytes_same g y h) on))
+      | inr off ↦ rw off (ap (λ t. bytes_eq g y || t) (has-but x g names) ∙ stays (bytes_eq g y) (has names g) (bytes_eq x g) (λ h. rw (bytes_same g y h) off))
     ]
   where
     gone : (a b c : Bool) → (a ≡ true → c ≡ true) → (b && not c) ≡ ((a || b) && not c)
@@ -54,13 +48,13 @@ one-less : (x : List ℕ) (names : List (List ℕ)) → AreDistinct names → ha
 one-less x [] d h = absurd (cc)
 one-less x (y ∷ names) d h =
     elim (cases_Bool (bytes_eq x y)) [
-      | inl on ↦ rw on (ap (λ t. suc (length t)) (sym (but-none x names (ap (has names) (same x y on) ∙ d.0))))
+      | inl on ↦ rw on (ap (λ t. suc (length t)) (sym (but-none x names (ap (has names) (bytes_same x y on) ∙ d.0))))
       | inr off ↦ let h' : has names x ≡ true = rw off at h in rw off (ap suc (one-less x names d.1 h'))
     ]
 
 none-there : (names : List (List ℕ)) → ((g : List ℕ) → has names g ≡ false) → names ≡ []
 none-there [] h = refl
-none-there (x ∷ names) h = let e : (bytes_eq x x || has names x) ≡ false = h x in let never : true ≡ false = rw (itself x) at e in absurd (cc)
+none-there (x ∷ names) h = let e : (bytes_eq x x || has names x) ≡ false = h x in let never : true ≡ false = rw (bytes_self x) at e in absurd (cc)
 
 left : (a b c d : Bool) → (a ≡ true → d ≡ true) → (b ≡ true → d ≡ false) → (((a || b) && c) && not d) ≡ (b && c)
 left true true c d f g = let never : true ≡ false = sym (f refl) ∙ g refl in absurd (cc)
@@ -75,7 +69,7 @@ dropped false b c f = refl
 apart : (n : List ℕ) (names : List (List ℕ)) → has names n ≡ false → (g : List ℕ) → has names g ≡ true → bytes_eq n g ≡ false
 apart n names none g there =
     elim (cases_Bool (bytes_eq n g)) [
-      | inl on ↦ let e : has names n ≡ true = ap (has names) (same n g on) ∙ there in let never : true ≡ false = sym e ∙ none in absurd (cc)
+      | inl on ↦ let e : has names n ≡ true = ap (has names) (bytes_same n g on) ∙ there in let never : true ≡ false = sym e ∙ none in absurd (cc)
       | inr off ↦ off
     ]
 
@@ -86,9 +80,9 @@ found_count (n ∷ names) found p dn df h = one (p n) refl (λ f d e. found_coun
       → ((f : List (List ℕ)) → AreDistinct f → ((g : List ℕ) → has f g ≡ (has names g && p g)) → length f ≡ length (filter p names))
       → length found ≡ length (cond t (n ∷ filter p names) (filter p names))
   one true e rest =
-      let there : has found n ≡ true = h n ∙ ap (λ t. (t || has names n) && p n) (itself n) ∙ e in
+      let there : has found n ≡ true = h n ∙ ap (λ t. (t || has names n) && p n) (bytes_self n) ∙ e in
       one-less n found df there
       ∙ ap suc (rest (but n found) (distinct-but n found df) (λ g.
       has-but n g found ∙ ap (λ t. t && not (bytes_eq n g)) (h g)
-      ∙ left (bytes_eq g n) (has names g) (p g) (bytes_eq n g) (λ a. rw (same g n a) (itself n)) (apart n names dn.0 g)))
-  one false e rest = rest found df (λ g. h g ∙ dropped (bytes_eq g n) (has names g) (p g) (λ a. ap p (same g n a) ∙ e))
+      ∙ left (bytes_eq g n) (has names g) (p g) (bytes_eq n g) (λ a. rw (bytes_same g n a) (bytes_self n)) (apart n names dn.0 g)))
+  one false e rest = rest found df (λ g. h g ∙ dropped (bytes_eq g n) (has names g) (p g) (λ a. ap p (bytes_same g n a) ∙ e))

@@ -1,12 +1,10 @@
 -- The body at the key that an edit names.
-use Rattle.std.proofs.Common.{◌≡◌, ℕ, Bool, true, false, cond, ℤ, Ok, Option, Some, None, List, [], ◌∷◌, ◌++◌, take, drop, codes, refl, sym, subst, ◌∙◌, ap, inl, inr, arith}
-use Rattle.std.specs.Prelude.{◌||◌, ◌==◌}
+use Rattle.std.proofs.Common.{◌≡◌, ℕ, Bool, true, false, cond, ℤ, Ok, Option, Some, None, List, [], ◌∷◌, ◌++◌, take, drop, codes, refl, sym, subst, ◌∙◌, ap, inl, inr}
+use Rattle.std.specs.Prelude.{◌||◌}
 use Rattle.std.specs.List.{list_any, position, insert, remove, slice_set}
 use Rattle.std.specs.Option.{option_or}
 use Rattle.std.specs.Result.{result_ok}
-use Rattle.std.proofs.Math.Bool.{or-true}
 use Rattle.std.proofs.lemmas.Bool.{eqb-true, or_parts}
-use Rattle.std.proofs.lemmas.Bool.Decides.{nat_tests}
 use Rattle.std.proofs.lemmas.List.{take-append-drop}
 use Rattle.std.proofs.lemmas.List.Folds.{list_any-append}
 use Rattle.std.proofs.lemmas.Slice.Eq.{bytes_eq-Decides}
@@ -23,11 +21,13 @@ use Rattle.t1_source.specs.WellFormed.{IsWellFormed, Stand, Stands}
 use Rattle.t1_source.proofs.WellFormedEditedLaws.{source_given}
 use Rattle.t1_source.proofs.ItemPlaceLaws.{before_last, position_first, removed_there, set_there}
 use Rattle.t1_source.proofs.StandLaws.{stand_back}
-use Rattle.t1_run.specs.Run.{Key, Subr, Glyph}
+use Rattle.t1_source.proofs.WellFormedEntryLaws.{any_last, any_first}
+use Rattle.t1_run.specs.Run.{Key, Subr, Glyph, body_at}
 use Rattle.t1_run.specs.Footprint.{Includes}
+use Rattle.t1_run.proofs.Asked.{eq_self}
 use Rattle.t1_font.specs.Bodies.{bodies, glyph_among, glyph_in, subr_among, subr_in}
 use Rattle.t1_cache.specs.Edited.{subr_key}
-use Rattle.t1_cache.specs.Overlay.{body_at, BodyLaw}
+use Rattle.t1_cache.specs.Overlay.{BodyLaw}
 use Rattle.t1_cache.proofs.Accepted.{glyph_at, last_glyph, last_subr, new_glyph, new_subr, subr_at, added_glyph-made, added_subr-made, removed_glyph-made, removed_subr-made, replaced_glyph-made, replaced_subr-made}
 use Rattle.t1_cache.proofs.Edits.{key-of}
 use Rattle.t1_cache.proofs.Middles.{glyph-raised, subr-raised}
@@ -101,14 +101,11 @@ glyph-made g made xs is = ap (λ t. glyph_among t g) is ∙ glyph-raised (subrs_
 subr-made : (n : ℕ) (made : SourceParts) (xs : List Item) → made.items ≡ raised xs → (bodies made.items).subrs n ≡ first (λ i. subr_in i n) xs
 subr-made n made xs is = ap (λ t. subr_among t n) is ∙ subr-raised (subrs_needed xs) (glyphs_needed xs) xs n ∙ subr-first n xs
 
-eq-itself : (n : ℕ) → (n == n) ≡ true
-eq-itself n = grind (arith, nat_tests)
-
 glyph-own : (g : List ℕ) (ws : List (List ℕ)) (closing : List ℕ) → glyph_in (items.Glyph g ws closing) g ≡ result_ok (commands ws)
 glyph-own g ws closing = ap (λ b. cond b (result_ok (commands ws)) None) (bytes_tell.itself g)
 
 subr-own : (n : ℕ) (ws : List (List ℕ)) (closing : List ℕ) → subr_in (items.Subr n ws closing) n ≡ result_ok (commands ws)
-subr-own n ws closing = ap (λ b. cond b (result_ok (commands ws)) None) (eq-itself n)
+subr-own n ws closing = ap (λ b. cond b (result_ok (commands ws)) None) (eq_self n)
 
 -- ---- an entry's key stands once
 
@@ -127,15 +124,9 @@ subr-once n earlier (items.Section c k d) h on = absurd (cc)
 subr-once n earlier (items.Subr m ws c) h on = ap (λ x. list_any (is_subr x) earlier) (eqb-true n m on) ∙ h.2
 subr-once n earlier (items.Glyph name ws c) h on = absurd (cc)
 
-any-still : (test : Item → Bool) (a : List Item) (i : Item) → list_any test a ≡ true → list_any test (a ++ i ∷ []) ≡ true
-any-still test a i there = list_any-append test a (i ∷ []) ∙ ap (λ b. b || list_any test (i ∷ [])) there
-
-any-last : (test : Item → Bool) (a : List Item) (i : Item) → test i ≡ true → list_any test (a ++ i ∷ []) ≡ true
-any-last test a i on = list_any-append test a (i ∷ []) ∙ ap (λ b. list_any test a || (b || false)) on ∙ or-true (list_any test a)
-
 none-later : (test : Item → Bool) → Once test → (earlier is : List Item) → list_any test earlier ≡ true → Stand earlier is → list_any test is ≡ false
 none-later test once earlier [] there h = refl
-none-later test once earlier (i ∷ is) there h = by (test i) refl (none-later test once (earlier ++ i ∷ []) is (any-still test earlier i there) h.1) where
+none-later test once earlier (i ∷ is) there h = by (test i) refl (none-later test once (earlier ++ i ∷ []) is (any_first test earlier i there) h.1) where
   by : (b : Bool) → test i ≡ b → list_any test is ≡ false → (b || list_any test is) ≡ false
   by true on rest = let never : true ≡ false = sym there ∙ once earlier i h.0 on in absurd (cc)
   by false off rest = rest
@@ -146,7 +137,7 @@ none-behind test once plain s well a x b whole on =
     let p = well.items in
     let split = before_last test p.inner (items.Plain p.closefile) a x b (plain p.closefile) on (sym p.whole ∙ whole) in
     let stand : Stand [] (a ++ x ∷ split.0) = subst (Stand []) split.2 p.stand in
-    let none = none-later test once (a ++ x ∷ []) split.0 (any-last test a x on) (stand_back [] a (x ∷ split.0) stand).1 in
+    let none = none-later test once (a ++ x ∷ []) split.0 (any_last test a x on) (stand_back [] a (x ∷ split.0) stand).1 in
     ap (list_any test) split.1 ∙ list_any-append test split.0 (items.Plain p.closefile ∷ [])
     ∙ ap (λ b. b || (test (items.Plain p.closefile) || false)) none ∙ ap (λ b. b || false) (plain p.closefile)
 

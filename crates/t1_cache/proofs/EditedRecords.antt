@@ -22,6 +22,7 @@ use Rattle.t1_cache.proofs.EditedNames.{names_edited}
 use Rattle.t1_cache.proofs.Judging.{unnamed}
 use Rattle.t1_font.proofs.Lookups.{bytes_tell}
 use Rattle.t1_cache.proofs.Renewing.{names_kept}
+use Rattle.t1_cache.proofs.Lists.{all-last}
 
 -- ---- lists of records
 
@@ -29,11 +30,7 @@ all-one-of : (P : Kept → Type 0) (all xs : List Kept) → ((k : Kept) → IsOn
 all-one-of P all [] among = tt
 all-one-of P all (x ∷ xs) among = ((λ p. among x (inl refl)), all-one-of P all xs (λ k i. among k (inr i)))
 
-all-and : (Q : Kept → Type 0) (xs : List Kept) (k : Kept) → AllByRecursion Q xs → Q k → AllByRecursion Q (xs ++ k ∷ [])
-all-and Q [] k all last = (last, tt)
-all-and Q (x ∷ xs) k all last = (all.0, all-and Q xs k all.1 last)
-
-names-last : (xs : List Kept) (k : Kept) → map (λ x. x.name) (xs ++ k ∷ []) ≡ map (λ x. x.name) xs ++ k.name ∷ []
+pub names-last : (xs : List Kept) (k : Kept) → map (λ x. x.name) (xs ++ k ∷ []) ≡ map (λ x. x.name) xs ++ k.name ∷ []
 names-last [] k = refl
 names-last (x ∷ xs) k = ap (λ l. x.name ∷ l) (names-last xs k)
 
@@ -105,7 +102,7 @@ pub turn_in_place : KeptTurnLaw
 turn_in_place keys old s k (AddGlyph g body) made ps well e kept before at run box = record {
   order = names-last before (record { name = g; run = run; box = box }) ∙ ap (λ l. l ++ g ∷ []) at.order ∙ sym (names_edited s k (AddGlyph g body) made ps well e);
   fresh =
-      all-and (λ x. is_stale old (keys ++ Glyph g ∷ []) x.name ≡ false → IsOneOf kept x) before (record { name = g; run = run; box = box })
+      all-last (λ x. is_stale old (keys ++ Glyph g ∷ []) x.name ≡ false → IsOneOf kept x) before (record { name = g; run = run; box = box })
       (still-fresh old keys (Glyph g ∷ []) kept before at.fresh) (λ off. absurd (named-stale old keys g off));
 }
 turn_in_place keys old s k (RemoveGlyph g) made ps well e kept before at run box = record {

@@ -7,14 +7,14 @@ use Rattle.std.proofs.lemmas.Bool.{cases_Bool, or_right}
 use Rattle.std.proofs.lemmas.Slice.Eq.{bytes_eq-Decides}
 use Rattle.t1_code.specs.declared.command.Command.{Command}
 use Rattle.t1_run.specs.Footprint.{Includes}
-use Rattle.t1_run.specs.Run.{FontBodies, Key, Glyph, own, own_of}
+use Rattle.t1_run.specs.Run.{FontBodies, Key, Glyph, own, body_at, key_eq}
 use Rattle.t1_run.specs.Touched.{is_key_of, is_met, is_named, is_touched, is_user, meets_parts, meets_run, touched_within}
 use Rattle.t1_run.proofs.FoundByUsers.{found_are_touched}
 use Rattle.t1_run.proofs.Untouched.{untouched_kept}
 use Rattle.t1_cache.specs.Joins.{FirstTablesLaw, KeptRunLaw, JoinsLaw, LessTablesLaw, StaleFoundLaw}
-use Rattle.t1_cache.specs.Overlay.{body_at}
-use Rattle.t1_cache.specs.Users.{lists, has_pair, key_eq}
-use Rattle.t1_cache.proofs.Adding.{key-same}
+use Rattle.t1_cache.specs.Users.{lists, has_pair}
+use Rattle.t1_font.proofs.Keys.{key-same}
+use Rattle.t1_font.proofs.Measuring.{own-none}
 use Rattle.t1_cache.proofs.Newest.{not-key}
 use Rattle.t1_cache.proofs.There.{uses_there}
 
@@ -26,23 +26,19 @@ met-named m g (k ∷ keys) (inl e) =
     ap (λ b. b || list_any (is_met m g) keys) here
 met-named m g (k ∷ keys) (inr i) = or_right (is_met m g k) (list_any (is_met m g) keys) (met-named m g keys i)
 
-pub none-run : (m : FontBodies) (g : List ℕ) → m.glyphs g ≡ None → own m g ≡ None
-unfolding own
-none-run m g e = ap (own_of m) e
-
 pub run_kept : KeptRunLaw
 run_kept keys m n but draw names stale g off = by (m.glyphs g) refl where
   apart : Includes keys (Glyph g) → ⊥
   apart i = let never : true ≡ false = sym (stale.closed.seeds g (met-named m g keys i)) ∙ off in cc
 
   by : (body : Option (List Command)) → m.glyphs g ≡ body → own n g ≡ own m g
-  by None e = none-run n g (sym (but.same (Glyph g) apart) ∙ e) ∙ sym (none-run m g e)
+  by None e = own-none n g (sym (but.same (Glyph g) apart) ∙ e) ∙ sym (own-none m g e)
   by (Some body) e =
       let drew = draw g body e in
       let fresh = sym (found_are_touched m keys names stale.closed stale.found g drew.0 drew.1) ∙ off in
       (untouched_kept keys m n but g drew.0 drew.1 fresh).0
 
-met-all : (m : FontBodies) (g : List ℕ) (keys : List Key) → is_named keys g ≡ true → list_any (is_met m g) keys ≡ true
+pub met-all : (m : FontBodies) (g : List ℕ) (keys : List Key) → is_named keys g ≡ true → list_any (is_met m g) keys ≡ true
 met-all m g [] h = h
 met-all m g (k ∷ keys) h = by (is_key_of g k) refl h (met-all m g keys) where
   by : (b : Bool) → is_key_of g k ≡ b → (b || is_named keys g) ≡ true → (is_named keys g ≡ true → list_any (is_met m g) keys ≡ true)
@@ -70,12 +66,12 @@ found_stale keys m n but draw names stale g body there = by (m.glyphs g) refl wh
   by : (was : Option (List Command)) → m.glyphs g ≡ was → names g ≡ is_touched m keys g
   by None e =
       stale.closed.seeds g (met-all m g keys (named e))
-      ∙ sym (touched-named m keys g (none-run m g e) (named e))
+      ∙ sym (touched-named m keys g (own-none m g e) (named e))
   by (Some was) e =
       let drew = draw g was e in
       found_are_touched m keys names stale.closed stale.found g drew.0 drew.1
 
-moved : (on was new : Bool) → ((was && not (on && was)) || (on && new)) ≡ cond on new was
+pub moved : (on was new : Bool) → ((was && not (on && was)) || (on && new)) ≡ cond on new was
 moved true true new = refl
 moved true false new = refl
 moved false true new = refl
@@ -104,8 +100,8 @@ tables_first m names all old new leaves joins empty in_ after k g =
   where
     by : (body : Option (List Command)) → m.glyphs g ≡ body → (names g && is_user k (own m g)) ≡ is_user k (own m g)
     by None e =
-        ap (λ r. names g && is_user k r) (none-run m g e) ∙ and-false (names g)
-        ∙ ap (is_user k) (sym (none-run m g e))
+        ap (λ r. names g && is_user k r) (own-none m g e) ∙ and-false (names g)
+        ∙ ap (is_user k) (sym (own-none m g e))
     by (Some body) e = ap (λ b. b && is_user k (own m g)) (all g body e)
 
 pub tables_less : LessTablesLaw

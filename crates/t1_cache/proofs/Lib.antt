@@ -9,6 +9,7 @@ pub mod EditedBodies
 pub mod EditedNames
 pub mod EditedRecords
 pub mod Edits
+pub mod Filtering
 pub mod Joining
 pub mod Judging
 pub mod Lists

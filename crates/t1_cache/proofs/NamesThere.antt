@@ -10,10 +10,10 @@ use Rattle.t1_run.specs.Run.{FontBodies, own}
 use Rattle.t1_font.specs.Bodies.{bodies}
 use Rattle.t1_font.specs.Glyphs.{glyph_of, glyph_names}
 use Rattle.t1_cache.specs.There.{NamesThereLaw}
-use Rattle.t1_cache.proofs.Joining.{none-run}
 use Rattle.t1_cache.proofs.Judging.{IsFine, fine-told}
 use Rattle.t1_cache.proofs.Newest.{found}
 use Rattle.t1_font.proofs.Lookups.{bytes_tell}
+use Rattle.t1_font.proofs.Measuring.{own-none}
 use Rattle.t1_cache.proofs.Renewing.{glyphs-of}
 
 -- what holds of each of these names holds of one among them
@@ -37,7 +37,7 @@ fine-there m g fine = by (m.glyphs g) refl where
   by : (b : Option (List Command)) → m.glyphs g ≡ b → (body : List Command) × (m.glyphs g ≡ Some body)
   by (Some body) e = (body, e)
   by None e =
-      let told : glyph_of g None (outline m g) ≡ Ok fine.0 = ap (λ r. glyph_of g r (outline m g)) (sym (none-run m g e)) ∙ fine.1 in
+      let told : glyph_of g None (outline m g) ≡ Ok fine.0 = ap (λ r. glyph_of g r (outline m g)) (sym (own-none m g e)) ∙ fine.1 in
       absurd (cc)
 
 pub names_there : NamesThereLaw

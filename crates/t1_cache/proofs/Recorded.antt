@@ -14,9 +14,9 @@ use Rattle.t1_cache.specs.declared.records.GlyphRecord.{GlyphRecord}
 use Rattle.t1_cache.specs.Kept.{RecordedLaw}
 use Rattle.t1_cache.specs.Renewal.{IsFromScratch}
 use Rattle.t1_cache.specs.Renewed.{kept_of, record_of}
-use Rattle.t1_cache.proofs.Joining.{none-run}
 use Rattle.t1_cache.proofs.NamesThere.{names_there}
 use Rattle.t1_font.proofs.Lookups.{bytes_tell}
+use Rattle.t1_font.proofs.Measuring.{own-none}
 use Rattle.t1_cache.proofs.Renewing.{glyphs-of, names_kept, scratch-all}
 
 recorded : (m : FontBodies) (g : List ℕ) (entries : List (Vec ℕ Global × GlyphRecord)) → AllByRecursion (IsFromScratch m) (map kept_of entries)
@@ -37,7 +37,7 @@ runs_recorded s records keeps g =
     absent
   where
     by : (b : Option (List Command)) → (bodies s.items).glyphs g ≡ b → list_any (bytes_eq g) (glyph_names s.items) ≡ false → own (bodies s.items) g ≡ None
-    by None e none = none-run (bodies s.items) g e
+    by None e none = own-none (bodies s.items) g e
     by (Some body) e none = let never : true ≡ false = sym ((names_there s).named g body e) ∙ none in absurd (cc)
 
     absent : list_any (bytes_eq g) (map (λ k. k.name) (map kept_of records.glyphs.entries)) ≡ false → own (bodies s.items) g ≡ None

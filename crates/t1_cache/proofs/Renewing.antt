@@ -128,7 +128,7 @@ shown-all m (g ∷ names) told (k ∷ records) e order all =
 
 -- ---- records that are kept, and those that are renewed
 
-one-of : (P : Kept → Type 0) (kept : List Kept) (k : Kept) → AllByRecursion P kept → IsOneOf kept k → P k
+pub one-of : (P : Kept → Type 0) (kept : List Kept) (k : Kept) → AllByRecursion P kept → IsOneOf kept k → P k
 one-of P [] k all i = absurd i
 one-of P (x ∷ kept) k all (inl e) = subst P e all.0
 one-of P (x ∷ kept) k all (inr i) = one-of P kept k all.1 i

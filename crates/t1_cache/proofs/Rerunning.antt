@@ -1,6 +1,6 @@
 -- Records of which some glyphs were run again.
-use Rattle.std.proofs.Common.{◌≡◌, ◌<◌, ℕ, zero, suc, arith, Bool, true, false, cond, List, [], ◌∷◌, ◌++◌, length, map, refl, sym, ap, subst, ◌∙◌, Option, Some, None}
-use Rattle.std.specs.Prelude.{◌||◌, is_some, IsSome}
+use Rattle.std.proofs.Common.{◌≡◌, ℕ, Bool, true, false, cond, List, [], ◌∷◌, ◌++◌, length, map, refl, sym, ap, subst, ◌∙◌, Option, Some, None}
+use Rattle.std.specs.Prelude.{◌||◌, is_some}
 use Rattle.std.specs.List.{AllByRecursion, list_any}
 use Rattle.std.specs.Option.{option_or}
 use Rattle.std.specs.Str.{bytes_eq}
@@ -88,16 +88,10 @@ pub none-by-name : (es : List (Vec ℕ Global × NewRun)) → length es ≡ 0 �
 none-by-name [] none = refl
 none-by-name (e ∷ es) none = absurd (cc)
 
--- where nothing is found there is nothing
-pub none-found : {X : Type 0} (o : Option X) (n : ℕ) → o ≡ None → (0 < n → IsSome o) → n ≡ 0
-none-found o zero e h = refl
-none-found None (suc n) e h = let never : false ≡ true = h (omega arith) in absurd (cc)
-none-found (Some x) (suc n) e h = absurd (cc)
-
 -- ---- records of which the stale glyphs were run again
 
 -- what holds of each record of a name among them holds of all
-all-named : (P : Kept → Type 0) (xs : List Kept) → ((x : Kept) → list_any (bytes_eq x.name) (map (λ k. k.name) xs) ≡ true → P x) → AllByRecursion P xs
+pub all-named : (P : Kept → Type 0) (xs : List Kept) → ((x : Kept) → list_any (bytes_eq x.name) (map (λ k. k.name) xs) ≡ true → P x) → AllByRecursion P xs
 all-named P [] each = tt
 all-named P (x ∷ xs) each = (
   each x (ap (λ b. b || list_any (bytes_eq x.name) (map (λ k. k.name) xs)) (bytes_tell.itself x.name)),
@@ -131,7 +125,7 @@ rerun-name : (r : Option Rerun) (k : Kept) → (with_rerun r k).name ≡ k.name
 rerun-name None k = refl
 rerun-name (Some r) k = refl
 
-names-stay : (reruns : List Rerun) (kept : List Kept) → map (λ k. k.name) (with_reruns reruns kept) ≡ map (λ k. k.name) kept
+pub names-stay : (reruns : List Rerun) (kept : List Kept) → map (λ k. k.name) (with_reruns reruns kept) ≡ map (λ k. k.name) kept
 names-stay reruns [] = refl
 names-stay reruns (k ∷ kept) =
     ap (λ g. g ∷ map (λ x. x.name) (with_reruns reruns kept)) (rerun-name (rerun_of reruns k.name) k)

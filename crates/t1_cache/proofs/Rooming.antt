@@ -10,15 +10,14 @@ use Rattle.std.proofs.lemmas.Bool.{and_parts}
 use Rattle.std.proofs.lemmas.List.Sums.{count_by_more_no, count_by_more_yes, sum_by-append}
 use Rattle.indexmap.specs.IndexMap.{insert_entry}
 use Rattle.t1_code.specs.declared.command.Command.{Command}
-use Rattle.t1_run.specs.Run.{Key, Subr, Glyph, own}
+use Rattle.t1_run.specs.Run.{Key, Subr, Glyph, own, body_at, key_eq}
 use Rattle.t1_run.specs.Touched.{is_user}
 use Rattle.t1_cache.specs.declared.records.Named.{Named}
 use Rattle.t1_cache.specs.declared.records.Records.{Records}
 use Rattle.t1_cache.specs.Bodies.{record_bodies}
-use Rattle.t1_cache.specs.Overlay.{body_at}
 use Rattle.t1_cache.specs.Room.{IsRoomier, MayJoin, RoomLaw}
-use Rattle.t1_cache.specs.Users.{has_pair, key_eq, key_of, HasRoom, Pairs, UserSet, users_at, wanted}
-use Rattle.t1_cache.proofs.Adding.{key-same}
+use Rattle.t1_cache.specs.Users.{has_pair, key_of, HasRoom, Pairs, UserSet, users_at, wanted}
+use Rattle.t1_font.proofs.Keys.{key-same}
 use Rattle.t1_font.proofs.Lookups.{Tells, bytes_tell, inserted-at}
 use Rattle.t1_cache.proofs.Putting.{at, users-put}
 use Rattle.t1_cache.proofs.There.{uses_there}

@@ -1,21 +1,13 @@
 -- Edits taken in turn edit a source at the keys of all.
-use Rattle.std.proofs.Common.{◌≡◌, ℕ, Bool, true, false, cond, not, ◌||◌, List, [], ◌∷◌, ◌++◌, filter, refl, sym, ◌∙◌, ap, inl, inr}
+use Rattle.std.proofs.Common.{◌≡◌, ℕ, Bool, true, false, cond, not, ◌||◌, List, [], ◌∷◌, ◌++◌, filter, refl, sym, ◌∙◌, ap}
 use Rattle.std.proofs.Math.Bool.{or_assoc}
 use Rattle.t1_run.specs.Run.{Key, Subr, Glyph}
 use Rattle.t1_run.specs.Footprint.{Includes, SameAt}
 use Rattle.t1_font.specs.Bodies.{bodies}
 use Rattle.t1_font.specs.Glyphs.{glyph_names}
 use Rattle.t1_run.specs.Touched.{is_key_of, is_named}
+use Rattle.t1_run.proofs.Outlines.{in_first, in_second}
 use Rattle.t1_cache.specs.Laws.{TurnLaw}
-
-pub in-first : (ks ls : List Key) (k : Key) → Includes ks k → Includes (ks ++ ls) k
-in-first [] ls k i = absurd i
-in-first (x ∷ ks) ls k (inl e) = inl e
-in-first (x ∷ ks) ls k (inr i) = inr (in-first ks ls k i)
-
-pub in-second : (ks ls : List Key) (k : Key) → Includes ls k → Includes (ks ++ ls) k
-in-second [] ls k i = i
-in-second (x ∷ ks) ls k i = inr (in-second ks ls k i)
 
 named-both : (ks ls : List Key) (g : List ℕ) → is_named (ks ++ ls) g ≡ (is_named ks g || is_named ls g)
 named-both [] ls g = refl
@@ -32,8 +24,8 @@ within p q h (x ∷ xs) = ap (λ ys. cond (p x) (x ∷ ys) ys) (within p q h xs)
 pub turns : TurnLaw
 turns ks ls a b c first second = record { bodies = record { same = same }; order = order } where
   same : (k : Key) → (Includes (ks ++ ls) k → ⊥) → SameAt (bodies a.items) (bodies c.items) k
-  same (Subr n) other = first.bodies.same (Subr n) (λ i. other (in-first ks ls (Subr n) i)) ∙ second.bodies.same (Subr n) (λ i. other (in-second ks ls (Subr n) i))
-  same (Glyph g) other = first.bodies.same (Glyph g) (λ i. other (in-first ks ls (Glyph g) i)) ∙ second.bodies.same (Glyph g) (λ i. other (in-second ks ls (Glyph g) i))
+  same (Subr n) other = first.bodies.same (Subr n) (λ i. other (in_first ks ls (Subr n) i)) ∙ second.bodies.same (Subr n) (λ i. other (in_second ks ls (Subr n) i))
+  same (Glyph g) other = first.bodies.same (Glyph g) (λ i. other (in_first ks ls (Glyph g) i)) ∙ second.bodies.same (Glyph g) (λ i. other (in_second ks ls (Glyph g) i))
 
   p : List ℕ → Bool
   p g = not (is_named (ks ++ ls) g)

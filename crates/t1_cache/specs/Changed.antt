@@ -3,14 +3,13 @@ use Rattle.std.specs.Prelude.{◌≡◌, ◌≤◌, ◌+◌, ℕ, List, [], ◌�
 use Rattle.std.specs.Option.{option_map}
 use Rattle.indexmap.specs.IndexMap.{spare}
 use Rattle.t1_code.specs.declared.command.Command.{Command}
-use Rattle.t1_run.specs.Run.{FontBodies, Key}
+use Rattle.t1_run.specs.Run.{FontBodies, Key, body_at, key_eq}
 use Rattle.t1_run.specs.Touched.{SameBut}
 use Rattle.t1_font.specs.Bodies.{SameBodies}
 use Rattle.t1_cache.specs.declared.records.Records.{Records}
 use Rattle.t1_cache.specs.Bodies.{record_bodies}
-use Rattle.t1_cache.specs.Overlay.{body_at}
 use Rattle.t1_cache.specs.Renewed.{kept_of}
-use Rattle.t1_cache.specs.Users.{key_eq, rest_of, users_at, UserSet}
+use Rattle.t1_cache.specs.Users.{rest_of, users_at, UserSet}
 
 -- profile: the records have this body, or none, at the key, and at each other key what they had
 abbrev pub SetsBody : Key → Option (List Command) → Records → Records → Type 0

@@ -2,7 +2,7 @@
 use Rattle.std.specs.Prelude.{◌≡◌, ◌&&◌, ◌||◌, not, ℕ, Bool, true, false, List, Ok, None, Some}
 use Rattle.t1_code.specs.declared.command.Command.{Command}
 use Rattle.t1_run.specs.declared.outline.Segment.{Segment}
-use Rattle.t1_run.specs.Run.{FontBodies, Key, own}
+use Rattle.t1_run.specs.Run.{FontBodies, Key, own, body_at, key_eq}
 use Rattle.t1_run.specs.Composite.{outline}
 use Rattle.t1_run.specs.Touched.{SameBut, is_touched, is_user}
 use Rattle.t1_parts.specs.SourceParts.{SourceParts}
@@ -11,8 +11,7 @@ use Rattle.t1_font.specs.Glyphs.{Glyph as Told}
 use Rattle.t1_font.specs.SourceChecks.{source_glyphs}
 use Rattle.t1_cache.specs.declared.records.Records.{Records}
 use Rattle.t1_cache.specs.Tables.{AreStale, AreTables}
-use Rattle.t1_cache.specs.Overlay.{body_at}
-use Rattle.t1_cache.specs.Users.{lists, has_pair, key_eq, Pairs}
+use Rattle.t1_cache.specs.Users.{lists, has_pair, Pairs}
 
 -- profile: each glyph that is there draws
 abbrev pub AllDraw : FontBodies → Type 0

@@ -1,7 +1,7 @@
 -- The bodies of an edited font over those of the font before.
 use Rattle.std.specs.Prelude.{◌≡◌, ℕ, List, Option, Some, None, Ok}
 use Rattle.t1_code.specs.declared.command.Command.{Command}
-use Rattle.t1_run.specs.Run.{FontBodies, Key, Subr, Glyph, font}
+use Rattle.t1_run.specs.Run.{FontBodies, Key, Subr, Glyph, body_at, font}
 use Rattle.t1_run.specs.Footprint.{Includes}
 use Rattle.t1_run.specs.Overlay.{changed}
 use Rattle.t1_run.specs.Touched.{SameBut}
@@ -21,11 +21,6 @@ overlaid subrs glyphs m = font (λ n. changed (subrs n) (m.subrs n)) (λ g. chan
 abbrev pub change_at : (ℕ → Option (Option (List Command))) → (List ℕ → Option (Option (List Command))) → Key → Option (Option (List Command))
 change_at subrs glyphs (Subr n) = subrs n
 change_at subrs glyphs (Glyph g) = glyphs g
-
--- profile: the body of a font at a key
-abbrev pub body_at : FontBodies → Key → Option (List Command)
-body_at m (Subr n) = m.subrs n
-body_at m (Glyph g) = m.glyphs g
 
 -- profile: a font that differs from another at these keys alone is the other with what it has at each of them
 abbrev pub OverlayLaw : Type 0

@@ -4,12 +4,11 @@ use Rattle.std.specs.List.{list_any}
 use Rattle.std.specs.Str.{bytes_eq}
 use Rattle.t1_code.specs.declared.command.Command.{Command}
 use Rattle.t1_parts.specs.SourceParts.{SourceParts}
-use Rattle.t1_run.specs.Run.{FontBodies, Key, own}
+use Rattle.t1_run.specs.Run.{FontBodies, Key, own, body_at}
 use Rattle.t1_run.specs.Touched.{is_user}
 use Rattle.t1_font.specs.Bodies.{bodies}
 use Rattle.t1_font.specs.Glyphs.{Glyph as Told, glyph_names}
 use Rattle.t1_font.specs.SourceChecks.{source_glyphs}
-use Rattle.t1_cache.specs.Overlay.{body_at}
 
 -- profile: each Subr that a run without a fault enters, and each part of its composite, has a body in the font
 abbrev pub UsesThereLaw : Type 0

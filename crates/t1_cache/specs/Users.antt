@@ -8,7 +8,7 @@ use Rattle.std.specs.declared.alloc.Global.{Global}
 use Rattle.std.specs.declared.vec.Vec.{Vec}
 use Rattle.indexmap.specs.IndexSet.{IndexSet, spare}
 use Rattle.t1_code.specs.declared.command.Command.{Command}
-use Rattle.t1_run.specs.Run.{Key, Subr, Glyph}
+use Rattle.t1_run.specs.Run.{Key, Subr, Glyph, key_eq}
 use Rattle.t1_extent.specs.Kept.{TracedRun}
 use Rattle.t1_afm.specs.declared.bbox.BBox.{BBox}
 use Rattle.t1_cache.specs.declared.records.GlyphRecord.{GlyphRecord}
@@ -94,12 +94,6 @@ rest_of r = record { subrs = map subr_rest r.subrs.entries; glyphs = map glyph_r
 abbrev pub key_of : Named → Key
 key_of (named.Subr n) = Subr n
 key_of (named.Glyph g) = Glyph g
-
--- profile: whether two keys are the same
-abbrev pub key_eq : Key → Key → Bool
-key_eq (Subr n) (Subr m) = nat_eq n m
-key_eq (Glyph g) (Glyph h) = bytes_eq g h
-key_eq _ _ = false
 
 -- profile: the glyph of a key is among these names
 abbrev pub is_key_among : List (Vec ℕ Global) → Key → Bool

@@ -2,10 +2,9 @@
 ghost use Rattle.std.specs.Prelude.{◌≡◌, ◌<◌, ◌++◌, [], ◌∷◌, ℕ, List, None, Some, IsOk, OnErr, OnOk, filter, map, not, if◌then◌else◌};
 ghost use Rattle.std.specs.Str.{bytes_eq};
 ghost use Rattle.indexmap.specs.IndexMap.{spare};
-ghost use Rattle.t1_run.specs.Run.{Key, Subr, Glyph};
+ghost use Rattle.t1_run.specs.Run.{Key, Subr, Glyph, body_at};
 ghost use Rattle.t1_cache.specs.Bodies.{record_bodies};
 ghost use Rattle.t1_cache.specs.Changed.{AreUnchanged, PutsBody, SetsBody, SetsUsers, UsesUp};
-ghost use Rattle.t1_cache.specs.Overlay.{body_at};
 ghost use Rattle.t1_cache.specs.Renewed.{kept, kept_of};
 ghost use Rattle.t1_cache.specs.Users.{has, is_key_among, lists, users_at, users_of, HasRoom};
 

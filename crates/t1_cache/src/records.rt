@@ -4,10 +4,10 @@ ghost use Rattle.std.specs.Prelude.{Option};
 
 use indexmap::{IndexMap, IndexSet};
 use t1_afm::BBox;
-use t1_code::Body;
+use t1_code::{Body, Command};
 use t1_extent::KeptRun;
 use t1_frac::Bytes;
-use t1_run::Bodies;
+use t1_run::{Bodies, StoredBodies};
 
 /// Names of glyphs, each once.
 pub type Names = IndexSet<Vec<u8>>;
@@ -43,17 +43,23 @@ impl Bodies for Records {
 
     ghost glyphs = { λ records name. glyph_body records.glyphs.entries name };
 
-    fn subr(&self, n: u16) -> Option<&Body> {
+    fn subr(&self, n: u16) -> Option<&[Command]> {
         match self.subrs.get(&n) {
             None => None,
-            Some(record) => Some(&record.body),
+            Some(record) => Some(record.body.commands()),
         }
     }
 
-    fn glyph(&self, name: &[u8]) -> Option<&Body> {
+    fn has_glyph(&self, name: &[u8]) -> bool {
+        self.glyphs.contains_key(name)
+    }
+}
+
+impl StoredBodies for Records {
+    fn glyph(&self, name: &[u8]) -> Option<&[Command]> {
         match self.glyphs.get(name) {
             None => None,
-            Some(record) => Some(&record.body),
+            Some(record) => Some(record.body.commands()),
         }
     }
 }

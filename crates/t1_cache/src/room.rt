@@ -2,9 +2,9 @@
 ghost use Rattle.std.specs.Prelude.{◌≡◌, ◌<◌, ◌≤◌, ◌^◌, ◌+◌, [], ℕ, List, IfOk, OnOk, map, nat_eq, if◌then◌else◌};
 ghost use Rattle.std.specs.Str.{bytes_eq};
 ghost use Rattle.indexmap.specs.IndexSet.{spare};
-ghost use Rattle.t1_run.specs.Run.{Key};
+ghost use Rattle.t1_run.specs.Run.{Key, key_eq};
 ghost use Rattle.t1_cache.specs.Room.{count_at, glyph_count, subr_count, IsRoomier, MayJoin};
-ghost use Rattle.t1_cache.specs.Users.{glyph_rest, glyph_users, key_eq, key_of, lists, rest_of, subr_rest, subr_users, users_at, wanted};
+ghost use Rattle.t1_cache.specs.Users.{glyph_rest, glyph_users, key_of, lists, rest_of, subr_rest, subr_users, users_at, wanted};
 
 use crate::records::{GlyphRecord, Named, Names, Records, SubrRecord};
 use indexmap::{IndexMap, IndexSet};

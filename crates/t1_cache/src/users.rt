@@ -2,8 +2,8 @@
 ghost use Rattle.std.specs.Prelude.{◌≡◌, ◌<◌, ◌≤◌, ◌+◌, ◌&&◌, ◌||◌, ℕ, List, map, nat_eq, not, if◌then◌else◌};
 ghost use Rattle.std.specs.Str.{bytes_eq};
 ghost use Rattle.indexmap.specs.IndexSet.{spare};
-ghost use Rattle.t1_run.specs.Run.{Key};
-ghost use Rattle.t1_cache.specs.Users.{among, glyph_rest, glyph_users, has, has_pair, key_eq, key_of, lists, rest_of, subr_rest, subr_users, users_at, wanted, HasRoom};
+ghost use Rattle.t1_run.specs.Run.{Key, key_eq};
+ghost use Rattle.t1_cache.specs.Users.{among, glyph_rest, glyph_users, has, has_pair, key_of, lists, rest_of, subr_rest, subr_users, users_at, wanted, HasRoom};
 
 use crate::records::{GlyphRecord, Named, Names, Records, SubrRecord};
 use indexmap::IndexMap;

@@ -2,11 +2,11 @@
 ghost use Rattle.std.specs.Prelude.{◌≡◌, ◌&&◌, ◌||◌, [], ℕ, List, None, Some, IfOk, OnOk, Ok, option_map};
 ghost use Rattle.std.specs.Str.{bytes_eq};
 ghost use Rattle.t1_run.specs.Footprint.{asks};
-ghost use Rattle.t1_run.specs.Run.{Key};
+ghost use Rattle.t1_run.specs.Run.{Key, key_eq};
 ghost use Rattle.t1_run.specs.Touched.{is_user};
 ghost use Rattle.t1_font.specs.Runs.{kept_of};
 ghost use Rattle.t1_cache.specs.Renewed.{recorded_run};
-ghost use Rattle.t1_cache.specs.Users.{has, has_pair, key_eq, key_of};
+ghost use Rattle.t1_cache.specs.Users.{has, has_pair, key_of};
 
 use crate::records::{Named, Records};
 use std::alloc::{AllocError, Global};

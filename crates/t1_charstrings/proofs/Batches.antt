@@ -1,6 +1,5 @@
 -- What many edits at once make of the charstrings.
-use Rattle.std.proofs.Common.{◌≡◌, ℕ, ◌^◌, ◌-◌, ◌<◌, zero, suc, min, Bool, true, false, cond, ◌&&◌, List, [], ◌∷◌, ◌++◌, length, is_none, refl, sym, ap, subst, ◌∙◌, Option, None, Some, Result, Ok, Err, IsOk, IsSome, OnOk, inl, inr, arith}
-use Rattle.std.specs.Prelude.{◌||◌}
+use Rattle.std.proofs.Common.{◌≡◌, ℕ, ◌^◌, ◌-◌, min, Bool, true, false, cond, ◌&&◌, List, [], ◌∷◌, ◌++◌, length, is_none, refl, sym, ap, subst, ◌∙◌, Option, None, Some, Result, Ok, Err, IsOk, OnOk, arith}
 use Rattle.std.specs.List.{list_any}
 use Rattle.std.specs.Map.{lookup}
 use Rattle.std.specs.Option.{option_map, option_or}
@@ -11,7 +10,7 @@ use Rattle.t1_parts.specs.LenIV.{lead}
 use Rattle.t1_parts.specs.Operator.{operator}
 use Rattle.t1_parts.specs.SourceParts.{SourceParts}
 use Rattle.t1_run.specs.Footprint.{Includes}
-use Rattle.t1_run.specs.Run.{Key}
+use Rattle.t1_run.specs.Run.{Key, body_at, key_eq}
 use Rattle.t1_font.specs.Bodies.{bodies}
 use Rattle.t1_font.proofs.Keeping.{lookup-taken}
 use Rattle.t1_charstrings.specs.declared.edited.EditedEntries.{EditedEntries}
@@ -20,25 +19,16 @@ use Rattle.t1_charstrings.specs.declared.settling.ReadyLines.{ReadyLines}
 use Rattle.t1_charstrings.specs.declared.entries.Charstrings.{Charstrings}
 use Rattle.t1_charstrings.specs.Batch.{is_gone, over, text_by, AreEdits, AreFresh, AreGone, IsBatchOf}
 use Rattle.t1_charstrings.specs.Changed.{AreUnchanged}
-use Rattle.t1_charstrings.specs.Entries.{Kept, body_at, encrypted, glyph_kept, key_eq, subr_kept}
+use Rattle.t1_charstrings.specs.Entries.{Kept, encrypted, glyph_kept, subr_kept}
 use Rattle.t1_charstrings.specs.Kept.{AreEncrypted, kept_at}
 use Rattle.t1_font.specs.Lengths.{IsPrivateLen}
 use Rattle.t1_charstrings.specs.Ready.{HasRoom, IsReadyLines, SettlesTo}
-use Rattle.t1_charstrings.proofs.Gathered.{at-key}
-use Rattle.t1_font.proofs.Lookups.{bytes_tell}
-use Rattle.t1_charstrings.proofs.Sources.{at-same, key-itself}
+use Rattle.t1_font.proofs.Keys.{at-key, at-same, included}
+use Rattle.t1_font.proofs.Lookups.{bytes-turned}
+use Rattle.t1_font.proofs.Compiling.{lookup-last}
 use Rattle.t1_charstrings.proofs.Texts.{text_by_is, Serves}
 
 -- ---- what is kept of a batch
-
--- a key that is among others is found to be
-pub told-among : (keys : List Key) (k : Key) → Includes keys k → list_any (key_eq k) keys ≡ true
-told-among [] k among = absurd among
-told-among (first ∷ keys) k (inl same) = ap (λ b. b || list_any (key_eq k) keys) (ap (key_eq k) same ∙ key-itself k)
-told-among (first ∷ keys) k (inr among) = either (key_eq k first) (told-among keys k among) where
-  either : (b : Bool) → list_any (key_eq k) keys ≡ true → (b || list_any (key_eq k) keys) ≡ true
-  either true told = refl
-  either false told = told
 
 module _ (keys : List Key) (s made : SourceParts) (c : Charstrings) (batch : IsBatchOf keys s made c) where
   -- the charstrings of the entries that weren't edited stay
@@ -49,7 +39,7 @@ module _ (keys : List Key) (s made : SourceParts) (c : Charstrings) (batch : IsB
       ∙ ap (λ front. option_map (encrypted front k) (body_at (bodies made.items) k)) (sym batch.1)
     where
       apart : Includes keys k → ⊥
-      apart among = let never : true ≡ false = sym (told-among keys k among) ∙ off in cc
+      apart among = let never : true ≡ false = sym (included keys k among) ∙ off in cc
 
   -- what a batch settles to at a key
   settled-at : (k : Key) (named gone : Bool) (body : Option (List Command)) (fresh old : Option Kept)
@@ -111,14 +101,6 @@ entries_ready s made c d entries len lines edits front same is room known =
       len = known;
     })
 
-bytes-turned : (a b : List ℕ) → bytes_eq a b ≡ bytes_eq b a
-bytes-turned a b = by (bytes_eq a b) refl (bytes_eq b a) refl where
-  by : (x : Bool) → bytes_eq a b ≡ x → (y : Bool) → bytes_eq b a ≡ y → x ≡ y
-  by true on true also = refl
-  by false off false also = refl
-  by true on false off = let never : true ≡ false = sym (bytes_tell.itself b) ∙ ap (bytes_eq b) (sym (bytes_tell.same a b on)) ∙ off in absurd (cc)
-  by false off true on = let never : true ≡ false = sym (bytes_tell.itself a) ∙ ap (bytes_eq a) (sym (bytes_tell.same b a on)) ∙ off in absurd (cc)
-
 -- ---- entries put in one after another
 
 or-last : {Y : Type 0} (before : Option Y) (b : Bool) (v : Y) (old : Option Y)
@@ -127,26 +109,12 @@ or-last (Some x) b v old = refl
 or-last None true v old = refl
 or-last None false v old = refl
 
-lookup-last : {K X : Type 0} (test : K → Bool) (es : List (K × X)) (k : K) (v : X)
-    → lookup test (es ++ (k, v) ∷ []) ≡ option_or (lookup test es) (cond (test k) (Some v) None)
-lookup-last test [] k v = refl
-lookup-last test (e ∷ es) k v = by (test e.0) (lookup-last test es k v) where
-  by : (b : Bool) → lookup test (es ++ (k, v) ∷ []) ≡ option_or (lookup test es) (cond (test k) (Some v) None)
-      → cond b (Some e.1) (lookup test (es ++ (k, v) ∷ [])) ≡ option_or (cond b (Some e.1) (lookup test es)) (cond (test k) (Some v) None)
-  by true rest = refl
-  by false rest = rest
-
 -- the last entry is as well put in as found in front
 pub put-last : {K X : Type 0} (test : K → Bool) (left rest : List (K × X)) (k : K) (v : X) (old new : Option X) → left ≡ rest ++ (k, v) ∷ []
     → new ≡ cond (test k) (Some v) old → option_or (lookup test rest) new ≡ option_or (lookup test left) old
 put-last test left rest k v old new left_is new_is =
     ap (option_or (lookup test rest)) new_is ∙ or-last (lookup test rest) (test k) v old
     ∙ sym (ap (λ r. option_or r old) (ap (lookup test) left_is ∙ lookup-last test rest k v))
-
-pub none-found : {X : Type 0} (o : Option X) (n : ℕ) → o ≡ None → (0 < n → IsSome o) → n ≡ 0
-none-found o zero e h = refl
-none-found None (suc n) e h = let never : false ≡ true = h (omega arith) in absurd (cc)
-none-found (Some x) (suc n) e h = absurd (cc)
 
 -- where none is left all is put in
 pub all-put : {K X : Type 0} (test : K → Bool) (left : List (K × X)) (kept : Option X) → length left ≡ 0 → kept ≡ option_or (lookup test left) kept

@@ -13,9 +13,7 @@ use Rattle.indexmap.specs.IndexMap.{hasher_of, spare}
 use Rattle.indexmap.specs.Layout.{hash_map}
 use Rattle.t1_frac.specs.declared.fault.Fault.{Fault}
 use Rattle.t1_frac.specs.declared.fault.Place.TheVariants as places
-use Rattle.t1_frac.specs.declared.fault.Refusal.{Refusal}
-use Rattle.t1_frac.specs.declared.fault.Refusal.TheVariants as refusals
-use Rattle.t1_frac.specs.Outcome.{Refuses, told_at, ◌>>=◌}
+use Rattle.t1_frac.specs.Outcome.{told_at, ◌>>=◌}
 use Rattle.t1_code.specs.declared.command.Command.{Command}
 use Rattle.t1_code.specs.Words.{commands}
 use Rattle.t1_code.proofs.Encrypting.{length-eexec}
@@ -28,7 +26,8 @@ use Rattle.t1_source.specs.Changes.{IsInPlaceOf}
 use Rattle.t1_source.specs.Editing.{with_items}
 use Rattle.t1_source.specs.WellFormed.{IsWellFormed, is_counted}
 use Rattle.t1_source.proofs.ChangeLaws.{raised_put, raised_removed}
-use Rattle.t1_run.specs.Run.{Key, Subr, Glyph}
+use Rattle.t1_source.proofs.EditedCountLaws.{set_counted}
+use Rattle.t1_run.specs.Run.{Key, Subr, Glyph, body_at, key_eq}
 use Rattle.t1_font.specs.Assembly.{counts_check, file_check, length_check}
 use Rattle.t1_font.specs.Bodies.{bodies, bodies_check, body_check, words_check}
 use Rattle.t1_font.proofs.Compiling.{told-ok}
@@ -37,7 +36,7 @@ use Rattle.t1_font.proofs.LengthLaws.{long_told}
 use Rattle.t1_charstrings.specs.declared.entries.Charstrings.{Charstrings}
 use Rattle.t1_charstrings.specs.Batch.{line_by, over, AreFresh, IsBatchOf, IsEditOf}
 use Rattle.t1_charstrings.specs.Changed.{Sets}
-use Rattle.t1_charstrings.specs.Entries.{Kept, body_at, encrypted, key_eq}
+use Rattle.t1_charstrings.specs.Entries.{Kept, encrypted}
 use Rattle.t1_charstrings.specs.Kept.{AreEncrypted, kept_at}
 use Rattle.t1_font.specs.Lengths.{IsPrivateLen}
 use Rattle.t1_charstrings.specs.Lines.{entry_line, kept_line, kept_text}
@@ -45,10 +44,9 @@ use Rattle.t1_charstrings.specs.Ready.{is_entry, old_len, replaced_len}
 use Rattle.t1_charstrings.specs.Sums.{AreEdited, has_key, item_at}
 use Rattle.t1_charstrings.proofs.Adding.{alone, text-both}
 use Rattle.t1_charstrings.proofs.Batches.{over-serves}
-use Rattle.t1_charstrings.proofs.Entering.{body_in, check-put, check-remove, counted-entry, counted-put, counted-remove, lead-put, lead-remove, other_kept, put-other, put-own, remove-other, remove-own, IsOther}
-use Rattle.t1_charstrings.proofs.Gathered.{at-key}
+use Rattle.t1_charstrings.proofs.Entering.{body_in, check-put, check-remove, counted-entry, counted-remove, lead-put, lead-remove, other_kept, put-other, put-own, remove-other, remove-own, IsOther}
+use Rattle.t1_font.proofs.Keys.{at-key, key-same}
 use Rattle.t1_font.proofs.Lookups.{bytes_tell, lookup-but, numbers_tell}
-use Rattle.t1_charstrings.proofs.Sources.{key-same}
 use Rattle.t1_charstrings.proofs.Texts.{kept_text_is}
 use Rattle.t1_charstrings.proofs.Totals.{len-of, put_sum, remove_sum}
 
@@ -197,15 +195,13 @@ pub file_ok : (s : SourceParts) → length_check s ≡ Ok tt → list_all is_cou
 unfolding file_check
 file_ok s short counted = rw (short, counted) refl
 
-pub length_refused : (s : SourceParts) (refused : Refusal) → Refuses refused (length_check s) → Refuses refused (file_check s)
+pub length_refused : (s : SourceParts) (fault : Fault) → length_check s ≡ Err fault → file_check s ≡ Err fault
 unfolding file_check
-length_refused s refusals.Memory h = tt
-length_refused s (refusals.Fault fault) h = ap (λ r. r >>= λ checked. counts_check s.items) h
+length_refused s fault h = ap (λ r. r >>= λ checked. counts_check s.items) h
 
-pub counts_refused : (s : SourceParts) (refused : Refusal) → length_check s ≡ Ok tt → Refuses refused (counts_check s.items) → Refuses refused (file_check s)
+pub counts_refused : (s : SourceParts) (fault : Fault) → length_check s ≡ Ok tt → counts_check s.items ≡ Err fault → file_check s ≡ Err fault
 unfolding file_check
-counts_refused s refusals.Memory short h = tt
-counts_refused s (refusals.Fault fault) short h = ap (λ r. r >>= λ checked. counts_check s.items) short ∙ h
+counts_refused s fault short h = ap (λ r. r >>= λ checked. counts_check s.items) short ∙ h
 
 pub file_passed : (s : SourceParts) → length_check s ≡ Ok tt → counts_check s.items ≡ Ok tt → file_check s ≡ Ok tt
 unfolding file_check
@@ -284,7 +280,7 @@ module _ (s : SourceParts) (c : Charstrings) (at : ℕ) (item : Item) (well : Is
       → list_all is_counted (with_items s (slice_set s.items at item)).items ≡ true
   put_counted is sound faultless =
       let e = put-entered is sound in
-      ap (list_all is_counted) put-items ∙ counted-put s.items at item (counted-entry e.key item e.has) (counted-source s faultless)
+      ap (list_all is_counted) put-items ∙ set_counted s.items at item (counted-entry e.key item e.has) (counted-source s faultless)
 
 -- ---- an entry that is taken out
 

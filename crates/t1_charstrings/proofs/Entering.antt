@@ -16,16 +16,16 @@ use Rattle.t1_parts.specs.Counts.{raised_item}
 use Rattle.t1_parts.specs.LenIV.{lead, said_lead}
 use Rattle.t1_parts.specs.SourceParts.{SourceParts}
 use Rattle.t1_source.specs.WellFormed.{is_counted}
-use Rattle.t1_run.specs.Run.{Key, Subr, Glyph}
+use Rattle.t1_run.specs.Run.{Key, Subr, Glyph, body_at, key_eq}
 use Rattle.t1_font.specs.Bodies.{bodies, bodies_check, body_check, glyph_in, subr_in}
 use Rattle.t1_charstrings.specs.declared.entries.Charstrings.{Charstrings}
 use Rattle.t1_charstrings.specs.Changed.{Sets}
-use Rattle.t1_charstrings.specs.Entries.{body_at, encrypted, key_eq}
+use Rattle.t1_charstrings.specs.Entries.{encrypted}
 use Rattle.t1_charstrings.specs.Kept.{AreEncrypted, kept_at}
 use Rattle.t1_charstrings.specs.Sums.{has_key, item_at}
 use Rattle.t1_charstrings.proofs.Adding.{Alone}
 use Rattle.t1_font.proofs.Lookups.{bytes_tell, numbers_tell}
-use Rattle.t1_charstrings.proofs.Sources.{key-same}
+use Rattle.t1_font.proofs.Keys.{key-same}
 
 -- an item's body, where it is the entry of this key
 abbrev pub body_in : Key → Item → Option (List Command)
@@ -163,18 +163,6 @@ check-remove (i ∷ is) (suc at) within sound =
     let h = both (body_check i) (bodies_check is) sound in
     after-ok i (bodies_check (remove is at)) h.0 ∙ check-remove is at (omega (arith, within)) h.1
 
-raised-check : (subrs glyphs : ℕ) (i : Item) → body_check (raised_item subrs glyphs i) ≡ body_check i
-raised-check subrs glyphs (items.Plain l) = refl
-raised-check subrs glyphs (items.Section before count after) = refl
-raised-check subrs glyphs (items.Subr m ws closing) = refl
-raised-check subrs glyphs (items.Glyph f ws closing) = refl
-
-pub raised-checks : (subrs glyphs : ℕ) (is : List Item) → bodies_check (map (raised_item subrs glyphs) is) ≡ bodies_check is
-raised-checks subrs glyphs [] = refl
-raised-checks subrs glyphs (i ∷ is) =
-    ap (λ r. r >>= λ _. bodies_check (map (raised_item subrs glyphs) is)) (raised-check subrs glyphs i)
-    ∙ ap (λ r. body_check i >>= λ _. r) (raised-checks subrs glyphs is)
-
 -- ---- lenIV
 
 no-lead : (key : Key) (i : Item) → has_key key i ≡ true → said_lead i ≡ None
@@ -208,24 +196,7 @@ lead-insert key is zero x within on = says x is (no-lead key x on)
 lead-insert key [] (suc at) x within on = absurd (omega (arith, within))
 lead-insert key (i ∷ is) (suc at) x within on = says-behind i (insert is at x) is (lead-insert key is at x (omega (arith, within)) on)
 
-raised-lead : (subrs glyphs : ℕ) (i : Item) → said_lead (raised_item subrs glyphs i) ≡ said_lead i
-raised-lead subrs glyphs (items.Plain l) = refl
-raised-lead subrs glyphs (items.Section before count after) = refl
-raised-lead subrs glyphs (items.Subr m ws closing) = refl
-raised-lead subrs glyphs (items.Glyph f ws closing) = refl
-
-pub raised-leads : (subrs glyphs : ℕ) (is : List Item) → filter_map said_lead (map (raised_item subrs glyphs) is) ≡ filter_map said_lead is
-raised-leads subrs glyphs [] = refl
-raised-leads subrs glyphs (i ∷ is) = rw (raised-lead subrs glyphs i, raised-leads subrs glyphs is) refl
-
 -- ---- counts
-
-pub counted-put : (is : List Item) (at : ℕ) (x : Item) → is_counted x ≡ true → list_all is_counted is ≡ true → list_all is_counted (slice_set is at x) ≡ true
-counted-put [] at x on h = refl
-counted-put (i ∷ is) zero x on h = and_from (is_counted x) (list_all is_counted is) on (and_parts (is_counted i) (list_all is_counted is) h).1
-counted-put (i ∷ is) (suc at) x on h =
-    let p = and_parts (is_counted i) (list_all is_counted is) h in
-    and_from (is_counted i) (list_all is_counted (slice_set is at x)) p.0 (counted-put is at x on p.1)
 
 pub counted-remove : (is : List Item) (at : ℕ) → at < length is → list_all is_counted is ≡ true → list_all is_counted (remove is at) ≡ true
 counted-remove [] at within h = absurd (omega (arith, within))

@@ -6,13 +6,8 @@ use Rattle.std.specs.Str.{bytes_eq}
 use Rattle.std.proofs.lemmas.Bool.{eqb-true}
 use Rattle.std.proofs.lemmas.Slice.Eq.{bytes_eq-Decides}
 use Rattle.t1_code.specs.declared.command.Command.{Command}
-use Rattle.t1_run.specs.Run.{Key, Subr, Glyph}
+use Rattle.t1_run.specs.Run.{Subr, Glyph}
 use Rattle.t1_charstrings.specs.Entries.{encrypted}
-
--- what holds of each Subr and of each glyph
-pub at-key : (P : Key → Type 0) → ((n : ℕ) → P (Subr n)) → ((g : List ℕ) → P (Glyph g)) → (k : Key) → P k
-at-key P subr glyph (Subr n) = subr n
-at-key P subr glyph (Glyph g) = glyph g
 
 pub or-map : {X Y : Type 0} (f : X → Y) (r s : Option X) → option_or (option_map f r) (option_map f s) ≡ option_map f (option_or r s)
 or-map f None s = refl

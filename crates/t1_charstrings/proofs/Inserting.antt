@@ -14,12 +14,13 @@ use Rattle.t1_parts.specs.Operator.{operator}
 use Rattle.t1_parts.specs.SourceParts.{SourceParts}
 use Rattle.t1_source.specs.Editing.{with_items}
 use Rattle.t1_source.specs.WellFormed.{IsWellFormed, is_counted}
-use Rattle.t1_run.specs.Run.{Key, Subr, Glyph}
+use Rattle.t1_source.proofs.WellFormedSourceLaws.{raised_said}
+use Rattle.t1_run.specs.Run.{Key, Subr, Glyph, body_at}
 use Rattle.t1_font.specs.Assembly.{counts_check, file_check}
 use Rattle.t1_font.specs.Bodies.{bodies, bodies_check}
 use Rattle.t1_charstrings.specs.declared.entries.Charstrings.{Charstrings}
 use Rattle.t1_charstrings.specs.Batch.{AreFresh, IsEditOf}
-use Rattle.t1_charstrings.specs.Entries.{body_at, encrypted}
+use Rattle.t1_charstrings.specs.Entries.{encrypted}
 use Rattle.t1_charstrings.specs.Kept.{AreEncrypted}
 use Rattle.t1_font.specs.Lengths.{IsPrivateLen}
 use Rattle.t1_charstrings.specs.Lines.{kept_line, kept_text}
@@ -28,7 +29,8 @@ use Rattle.t1_charstrings.specs.Ready.{inserted_len, is_entry}
 use Rattle.t1_charstrings.specs.Sums.{AreEdited, has_key, item_at, section_line, section_text}
 use Rattle.t1_charstrings.proofs.Adding.{alone, text-both, Alone}
 use Rattle.t1_charstrings.proofs.Entered.{entered, len_small, merged, merged-line, over-sets, IsEntered}
-use Rattle.t1_charstrings.proofs.Entering.{check-insert, insert-other, insert-own, lead-insert, other_kept, raised-bodies, raised-checks, raised-leads, IsOther}
+use Rattle.t1_font.proofs.Checking.{raised-checks}
+use Rattle.t1_charstrings.proofs.Entering.{check-insert, insert-other, insert-own, lead-insert, other_kept, raised-bodies, IsOther}
 use Rattle.t1_charstrings.proofs.Texts.{kept_text_is}
 use Rattle.t1_charstrings.proofs.Totals.{insert_sum, len-of}
 
@@ -168,7 +170,7 @@ module _ (s : SourceParts) (c : Charstrings) (at : ℕ) (item : Item) (well : Is
       let more = insert s.items at item in
       record {
         front = ap (λ is. first_lead (filter_map said_lead is)) made-items
-            ∙ ap first_lead (raised-leads subrs glyphs more ∙ lead-insert e.key s.items at item within e.has);
+            ∙ ap first_lead (raised_said subrs glyphs more ∙ lead-insert e.key s.items at item within e.has);
         sound = ap bodies_check made-items ∙ raised-checks subrs glyphs more ∙ check-insert s.items at item within kept.sound ∙ e.check;
         own = ap (λ is. body_at (bodies is) e.key) made-items ∙ raised-bodies subrs glyphs e.key more
             ∙ insert-own e.key s.items at item e.body within (none-has well_made e.key e.has) e.own;

@@ -7,6 +7,5 @@ pub mod Gathered
 pub mod Inserting
 pub mod MadeItems
 pub mod Readying
-pub mod Sources
 pub mod Texts
 pub mod Totals

@@ -1,11 +1,9 @@
 -- The items of a source that edits make, in three parts.
-use Rattle.std.proofs.Common.{◌≡◌, ◌-◌, ◌+◌, ◌^◌, ◌<◌, min, max, ℕ, zero, suc, Bool, true, false, cond, List, [], ◌∷◌, ◌++◌, map, length, take, drop, append_assoc, length-append, refl, sym, ap, subst, ◌∙◌, Option, None, Some, Result, Ok, Err, arith}
-use Rattle.std.specs.Prelude.{◌||◌, ◌&&◌, is_some, nat_eq}
+use Rattle.std.proofs.Common.{◌≡◌, ◌-◌, ◌+◌, ◌^◌, ◌<◌, min, max, ℕ, zero, suc, Bool, true, false, cond, List, [], ◌∷◌, ◌++◌, map, length, take, drop, append_assoc, length-append, refl, sym, ap, subst, ◌∙◌, Option, None, Some, Ok, Err, arith}
+use Rattle.std.specs.Prelude.{◌||◌, is_some, nat_eq}
 use Rattle.std.proofs.lemmas.Bool.{eqb-true, not-false}
-use Rattle.std.specs.List.{find, list_all, list_any, remove, slice_set}
+use Rattle.std.specs.List.{find, list_any, remove, slice_set}
 use Rattle.std.specs.Option.{option_map, option_or}
-use Rattle.std.proofs.lemmas.List.{map-append}
-use Rattle.t1_frac.specs.declared.fault.Fault.{Fault}
 use Rattle.t1_frac.specs.declared.fault.Refusal.{Refusal}
 use Rattle.t1_frac.specs.declared.fault.Refusal.TheVariants as refusals
 use Rattle.t1_frac.specs.Outcome.{Refuses, ◌>>=◌, fault_at}
@@ -18,29 +16,31 @@ use Rattle.t1_parts.specs.LenIV.{first_lead, lead, lead_among, said_lead}
 use Rattle.t1_parts.specs.Operator.{operator, operator_among, reads_strings}
 use Rattle.t1_parts.specs.SourceParts.{SourceParts}
 use Rattle.t1_source.specs.Leads.{says_lead}
-use Rattle.t1_source.specs.WellFormed.{is_counted, IsWellFormed}
-use Rattle.t1_run.specs.Run.{Key, Subr, Glyph}
-use Rattle.t1_font.specs.Assembly.{counts_check, file_check, length_check}
-use Rattle.t1_font.specs.Bodies.{bodies, bodies_check, body_check}
+use Rattle.t1_source.specs.WellFormed.{IsWellFormed}
+use Rattle.t1_run.specs.Run.{Key, Subr, Glyph, body_at}
+use Rattle.t1_font.specs.Assembly.{counts_check}
+use Rattle.t1_font.specs.Bodies.{bodies, bodies_check}
 use Rattle.t1_font.specs.Lengths.{IsPrivateLen}
-use Rattle.t1_font.proofs.Compiling.{or-assoc, or-none}
+use Rattle.t1_font.proofs.Compiling.{or-assoc}
 use Rattle.t1_charstrings.specs.declared.entries.Charstrings.{Charstrings}
-use Rattle.t1_charstrings.specs.Entries.{Kept, body_at, encrypted}
+use Rattle.t1_charstrings.specs.Entries.{encrypted}
 use Rattle.t1_charstrings.specs.Kept.{kept_at, AreEncrypted, Encrypt}
 use Rattle.t1_charstrings.specs.Lines.{kept_line, kept_text}
-use Rattle.t1_charstrings.specs.Raising.{is_raised_counted, raised_check}
+use Rattle.t1_charstrings.specs.Raising.{raised_check}
 use Rattle.t1_source.specs.declared.editing.change.Change.{Change}
 use Rattle.t1_source.specs.declared.editing.change.Change.TheVariants as changes
+use Rattle.t1_source.proofs.WellFormedSourceLaws.{raised_said}
 use Rattle.t1_charstrings.specs.declared.made.Made.{Made}
 use Rattle.t1_charstrings.specs.declared.made.Made.TheVariants as made
 use Rattle.t1_charstrings.specs.declared.edited.EditedEntries.{EditedEntries}
 use Rattle.t1_charstrings.specs.Batch.{AreEdits, IsEditOf}
 use Rattle.t1_charstrings.specs.Made.{is_entry_changed, made_after, made_of, may_set_lead, source_of, IsFor, IsPrepared}
 use Rattle.t1_charstrings.proofs.Entered.{left_front, put_front}
-use Rattle.t1_charstrings.proofs.Entering.{body_in, first-body, raised-bodies, raised-checks, raised-leads}
+use Rattle.t1_font.proofs.Checking.{raised-checks, check-both}
+use Rattle.t1_charstrings.proofs.Entering.{body_in, first-body, raised-bodies}
 use Rattle.t1_charstrings.proofs.Filed.{kept_len}
 use Rattle.t1_charstrings.proofs.Gathered.{or-map}
-use Rattle.t1_charstrings.proofs.Inserting.{counted-all, glyphs_first, insert_front}
+use Rattle.t1_charstrings.proofs.Inserting.{counted-all, insert_front}
 use Rattle.t1_charstrings.proofs.Totals.{find-raised, named}
 
 -- ---- an item put in the place of another, or taken out
@@ -104,21 +104,6 @@ subrs-both (items.Section before n after ∷ a) b = subrs-both a b
 subrs-both (items.Subr n ws closing ∷ a) b = omega (arith, subrs-both a b)
 subrs-both (items.Glyph g ws closing ∷ a) b = subrs-both a b
 
-pub glyphs-both : (a b : List Item) → glyphs_needed (a ++ b) ≡ glyphs_needed a + glyphs_needed b
-glyphs-both [] b = omega arith
-glyphs-both (i ∷ a) b = omega (arith, glyphs_first i (a ++ b), glyphs_first i a, glyphs-both a b)
-
-abbrev counts-told : Bool → Result (Unit {0}) Fault
-counts-told c = cond c (Ok tt) (Err (fault_at Nowhere F23))
-
-pub raised-both : (subrs glyphs : ℕ) (a b : List Item) → raised_check subrs glyphs (a ++ b) ≡ (raised_check subrs glyphs a >>= λ _. raised_check subrs glyphs b)
-raised-both subrs glyphs [] b = refl
-raised-both subrs glyphs (i ∷ a) b = by (is_raised_counted subrs glyphs i) (raised-both subrs glyphs a b) where
-  by : (c : Bool) → counts-told (list_all (is_raised_counted subrs glyphs) (a ++ b)) ≡ (counts-told (list_all (is_raised_counted subrs glyphs) a) >>= λ _. raised_check subrs glyphs b)
-      → counts-told (c && list_all (is_raised_counted subrs glyphs) (a ++ b)) ≡ (counts-told (c && list_all (is_raised_counted subrs glyphs) a) >>= λ _. raised_check subrs glyphs b)
-  by true rest = rest
-  by false rest = refl
-
 -- ---- lengths
 
 pub text-parts : (c : Charstrings) (o : List ℕ) (subrs glyphs : ℕ) (a b : List Item)
@@ -135,14 +120,6 @@ text-parts c o subrs glyphs (i ∷ a) b =
     )
 
 -- ---- bodies
-
-pub check-both : (a b : List Item) → bodies_check (a ++ b) ≡ (bodies_check a >>= λ _. bodies_check b)
-check-both [] b = refl
-check-both (i ∷ a) b = by (body_check i) (check-both a b) where
-  by : (r : Result (Unit {0}) Fault) → bodies_check (a ++ b) ≡ (bodies_check a >>= λ _. bodies_check b)
-      → (r >>= λ _. bodies_check (a ++ b)) ≡ ((r >>= λ _. bodies_check a) >>= λ _. bodies_check b)
-  by (Ok tt) rest = rest
-  by (Err fault) rest = refl
 
 sound-both : (a b : List Item) → bodies_check a ≡ Ok tt → bodies_check b ≡ Ok tt → bodies_check (a ++ b) ≡ Ok tt
 sound-both a b h k = check-both a b ∙ ap (λ r. r >>= λ _. bodies_check b) h ∙ k
@@ -199,27 +176,11 @@ kept-parts front a b c none first second third empty one two three =
     subst (λ is. Encrypt front (bodies is) third) (append_assoc a b c)
     (kept-both front (a ++ b) c second third (kept-both front a b first second (kept-both front [] a none first (kept-none front none empty) one) two) three)
 
--- ---- the faults of a file
-
-pub length_refused : (s : SourceParts) (r : Refusal) → Refuses r (length_check s) → Refuses r (file_check s)
-unfolding file_check
-length_refused s refusals.Memory h = tt
-length_refused s (refusals.Fault fault) h = ap (λ t. t >>= λ _. counts_check s.items) h
-
-pub counts_refused : (s : SourceParts) (r : Refusal) → length_check s ≡ Ok tt → Refuses r (counts_check s.items) → Refuses r (file_check s)
-unfolding file_check
-counts_refused s refusals.Memory fits h = tt
-counts_refused s (refusals.Fault fault) fits h = ap (λ t. t >>= λ _. counts_check s.items) fits ∙ h
-
-pub file_passed : (s : SourceParts) → length_check s ≡ Ok tt → counts_check s.items ≡ Ok tt → file_check s ≡ Ok tt
-unfolding file_check
-file_passed s fits h = ap (λ t. t >>= λ _. counts_check s.items) fits ∙ h
-
 -- ---- the source whose items they are, once their counts are raised
 
 module _ (is : List Item) (made : SourceParts) (whole : raised is ≡ made.items) where
   lead-made : lead_among is ≡ lead made
-  lead-made = sym (ap first_lead (raised-leads (subrs_needed is) (glyphs_needed is) is)) ∙ ap lead_among whole
+  lead-made = sym (ap first_lead (raised_said (subrs_needed is) (glyphs_needed is) is)) ∙ ap lead_among whole
 
   operator-made : operator_among is ≡ operator made
   operator-made = sym (ap named (find-raised (subrs_needed is) (glyphs_needed is) is)) ∙ ap operator_among whole

@@ -3,7 +3,7 @@ use Rattle.std.proofs.Common.{◌≡◌, ℕ, ap, ◌∙◌}
 use Rattle.std.specs.Option.{option_map}
 use Rattle.t1_parts.specs.LenIV.{lead}
 use Rattle.t1_parts.specs.SourceParts.{SourceParts}
-use Rattle.t1_run.specs.Run.{Subr, Glyph}
+use Rattle.t1_run.specs.Run.{Subr, Glyph, body_at}
 use Rattle.t1_frac.specs.declared.fault.Refusal.{Refusal}
 use Rattle.t1_frac.specs.declared.fault.Refusal.TheVariants as refusals
 use Rattle.t1_frac.specs.Outcome.{Refuses}
@@ -13,11 +13,11 @@ use Rattle.t1_font.proofs.LengthLaws.{body_fault_told}
 use Rattle.t1_charstrings.specs.declared.entries.Charstrings.{Charstrings}
 use Rattle.t1_charstrings.specs.declared.settling.ReadyCharstrings.TheVariants as ready
 use Rattle.t1_charstrings.specs.Changed.{AreUnchanged}
-use Rattle.t1_charstrings.specs.Entries.{body_at, encrypted, glyph_kept, subr_kept}
+use Rattle.t1_charstrings.specs.Entries.{encrypted, glyph_kept, subr_kept}
 use Rattle.t1_charstrings.specs.Kept.{AreEncrypted, kept_at}
 use Rattle.t1_font.specs.Lengths.{IsPrivateLen}
 use Rattle.t1_charstrings.specs.Ready.{IsReadyLines}
-use Rattle.t1_charstrings.proofs.Gathered.{at-key}
+use Rattle.t1_font.proofs.Keys.{at-key}
 
 -- the same entries are the charstrings of the same source
 pub unchanged : (s : SourceParts) (old new : Charstrings) → AreUnchanged old new → AreEncrypted s old → AreEncrypted s new

@@ -1,11 +1,9 @@
 -- The private text of a source, of the charstrings that are kept.
-use Rattle.std.proofs.Common.{◌≡◌, ℕ, Bool, true, false, cond, List, [], ◌∷◌, ◌++◌, append_assoc, Option, None, Some, Result, Ok, Err, refl, sym, ap, subst, ◌∙◌, arith}
-use Rattle.std.specs.Prelude.{◌||◌, ◌==◌}
+use Rattle.std.proofs.Common.{◌≡◌, ℕ, false, cond, List, [], ◌∷◌, ◌++◌, append_assoc, Option, None, Some, Result, Ok, Err, refl, sym, ap, subst, ◌∙◌}
 use Rattle.std.specs.List.{flat_map, list_any}
 use Rattle.std.specs.Option.{option_map, option_or}
 use Rattle.std.specs.Result.{result_ok}
 use Rattle.std.proofs.lemmas.Bool.{or_parts}
-use Rattle.std.proofs.lemmas.Bool.Decides.{nat_tests}
 use Rattle.std.proofs.lemmas.Slice.Eq.{bytes_eq-Decides}
 use Rattle.t1_frac.specs.declared.fault.Code.{Code}
 use Rattle.t1_frac.specs.declared.fault.Fault.{Fault}
@@ -24,12 +22,13 @@ use Rattle.t1_code.specs.Charstring.{charstring}
 use Rattle.t1_code.specs.Cipher.{encrypted_charstring}
 use Rattle.t1_code.specs.Pfb.{entry_text}
 use Rattle.t1_code.specs.Words.{commands}
-use Rattle.t1_run.specs.Run.{Key, Subr, Glyph}
+use Rattle.t1_run.specs.Run.{Key, Subr, Glyph, body_at}
+use Rattle.t1_run.proofs.Asked.{eq_self}
 use Rattle.t1_font.specs.Assembly.{item_line, private_text, entry_line as font_line}
 use Rattle.t1_font.specs.Bodies.{bodies, bodies_check, body_check, glyph_among, glyph_in, subr_among, subr_in, words_check}
 use Rattle.t1_charstrings.specs.declared.entries.Charstrings.{Charstrings}
 use Rattle.t1_charstrings.specs.Batch.{line_by, text_by}
-use Rattle.t1_charstrings.specs.Entries.{Kept, body_at, encrypted, head_of}
+use Rattle.t1_charstrings.specs.Entries.{Kept, encrypted, head_of}
 use Rattle.t1_charstrings.specs.Kept.{kept_at}
 use Rattle.t1_charstrings.specs.Laws.{KeptTextLaw}
 use Rattle.t1_charstrings.specs.Lines.{entry_line, kept_line}
@@ -80,9 +79,6 @@ glyph-past g (i ∷ a) b h =
     let h' = or_parts (is_glyph g i) (list_any (is_glyph g) a) h in
     ap (λ r. option_or r (glyph_among (a ++ b) g)) (glyph-other g i h'.0) ∙ glyph-past g a b h'.1
 
-number-itself : (n : ℕ) → (n == n) ≡ true
-number-itself n = grind (arith, nat_tests)
-
 -- ---- a line, and all lines
 
 -- at the key of each body of these items its charstring is kept
@@ -107,7 +103,7 @@ line-kept front name at all each earlier (items.Subr n ws closing) is whole firs
     let i = items.Subr n ws closing in
     let own : subr_among all n ≡ option_or (result_ok (commands ws)) (subr_among is n) =
     ap (λ l. subr_among l n) whole ∙ subr-past n earlier (i ∷ is) first
-    ∙ ap (λ b. option_or (cond b (result_ok (commands ws)) None) (subr_among is n)) (number-itself n) in
+    ∙ ap (λ b. option_or (cond b (result_ok (commands ws)) None) (subr_among is n)) (eq_self n) in
     line-of front name closing (places.Subr n) (Subr n) (commands ws) (at (Subr n))
     (λ body e. each (Subr n) body (own ∙ ap (λ r. option_or r (subr_among is n)) e)) sound
 line-kept front name at all each earlier (items.Glyph g ws closing) is whole first sound =

@@ -1,8 +1,8 @@
 -- What is kept, changed at one key.
 use Rattle.std.specs.Prelude.{◌≡◌, Option, if◌then◌else◌}
-use Rattle.t1_run.specs.Run.{Key}
+use Rattle.t1_run.specs.Run.{Key, key_eq}
 use Rattle.t1_charstrings.specs.declared.entries.Charstrings.{Charstrings}
-use Rattle.t1_charstrings.specs.Entries.{Kept, key_eq}
+use Rattle.t1_charstrings.specs.Entries.{Kept}
 use Rattle.t1_charstrings.specs.Kept.{kept_at}
 
 -- profile: this, or nothing, is kept at the key, and at each other key what was kept there

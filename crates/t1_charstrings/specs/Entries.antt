@@ -1,5 +1,5 @@
 -- What is kept of an entry, and of all entries of a font.
-use Rattle.std.specs.Prelude.{ℕ, Bool, false, nat_eq, List, ◌∷◌, ◌++◌, Option, codes, decimal}
+use Rattle.std.specs.Prelude.{ℕ, nat_eq, List, ◌∷◌, ◌++◌, Option, codes, decimal}
 use Rattle.std.specs.Map.{lookup}
 use Rattle.std.specs.Str.{bytes_eq}
 use Rattle.std.specs.declared.alloc.Global.{Global}
@@ -8,7 +8,7 @@ use Rattle.t1_frac.specs.Ascii.{slash}
 use Rattle.t1_code.specs.declared.command.Command.{Command}
 use Rattle.t1_code.specs.Charstring.{charstring}
 use Rattle.t1_code.specs.Cipher.{encrypted_charstring}
-use Rattle.t1_run.specs.Run.{FontBodies, Key, Subr, Glyph}
+use Rattle.t1_run.specs.Run.{Key, Subr, Glyph}
 
 -- profile: what is kept of an entry: `dup N` or `/NAME`, and its encrypted charstring
 pub record Kept : Type 0 where
@@ -31,14 +31,3 @@ subr_kept entries n = lookup (nat_eq n) entries
 -- profile: what is kept under a name
 abbrev pub glyph_kept : List (Vec ℕ Global × Kept) → List ℕ → Option Kept
 glyph_kept entries g = lookup (λ key. bytes_eq g key.items) entries
-
--- profile: the body of a font at a key
-abbrev pub body_at : FontBodies → Key → Option (List Command)
-body_at m (Subr n) = m.subrs n
-body_at m (Glyph g) = m.glyphs g
-
--- profile: whether two keys are the same
-abbrev pub key_eq : Key → Key → Bool
-key_eq (Subr n) (Subr m) = nat_eq n m
-key_eq (Glyph g) (Glyph h) = bytes_eq g h
-key_eq _ _ = false

@@ -3,10 +3,10 @@ use Rattle.std.specs.Prelude.{◌≡◌, ℕ, Option, Ok}
 use Rattle.std.specs.Option.{option_map}
 use Rattle.t1_parts.specs.LenIV.{lead}
 use Rattle.t1_parts.specs.SourceParts.{SourceParts}
-use Rattle.t1_run.specs.Run.{FontBodies, Key, Subr, Glyph}
+use Rattle.t1_run.specs.Run.{FontBodies, Key, Subr, Glyph, body_at}
 use Rattle.t1_font.specs.Bodies.{bodies, bodies_check}
 use Rattle.t1_charstrings.specs.declared.entries.Charstrings.{Charstrings}
-use Rattle.t1_charstrings.specs.Entries.{Kept, body_at, encrypted, glyph_kept, subr_kept}
+use Rattle.t1_charstrings.specs.Entries.{Kept, encrypted, glyph_kept, subr_kept}
 
 -- profile: what is kept at a key
 abbrev pub kept_at : Charstrings → Key → Option Kept

@@ -6,9 +6,9 @@ ghost use Rattle.std.specs.Str.{bytes_eq};
 ghost use Rattle.t1_frac.specs.Outcome.{Gives};
 ghost use Rattle.t1_frac.specs.declared.fault.Place.TheVariants as places;
 ghost use Rattle.t1_code.specs.Words.{commands};
-ghost use Rattle.t1_run.specs.Run.{Key, Subr, Glyph};
+ghost use Rattle.t1_run.specs.Run.{Key, Subr, Glyph, body_at};
 ghost use Rattle.t1_font.specs.Bodies.{bodies, bodies_check, body_check, glyph_in, subr_in, words_check};
-ghost use Rattle.t1_charstrings.specs.Entries.{body_at, encrypted, glyph_kept, subr_kept};
+ghost use Rattle.t1_charstrings.specs.Entries.{encrypted, glyph_kept, subr_kept};
 ghost use Rattle.t1_charstrings.specs.Kept.{kept_at, AreEncrypted};
 
 use crate::entries::{Charstrings, Entry, no_charstrings};

@@ -1,6 +1,6 @@
 //! How long the private text is, and whether a part of the PFB file is too long.
 ghost use Rattle.std.specs.Prelude.{◌≡◌, ◌^◌, ◌-◌, ◌∷◌, ◌++◌, [], Some, decimal, min, length, option_copied};
-ghost use Rattle.t1_frac.specs.Outcome.{Gives};
+ghost use Rattle.t1_frac.specs.Ascii.{line_feed};
 ghost use Rattle.t1_code.specs.Pfb.{closing_text};
 ghost use Rattle.t1_source.specs.WellFormed.{IsWellFormed};
 ghost use Rattle.t1_font.specs.Assembly.{length_check};
@@ -12,7 +12,7 @@ ghost use Rattle.t1_charstrings.specs.Sums.{section_line, section_text};
 use crate::entries::{Charstrings, Entry};
 use itoa::Buffer;
 use t1_font::check_parts;
-use t1_frac::Refusal;
+use t1_frac::Fault;
 use t1_source::{Item, Source};
 
 /// How long a closing text is with the space before it.
@@ -52,7 +52,7 @@ fn kept_line_len(operator: &[u8], kept: Option<&Entry>, closing: &[u8]) -> usize
 
 /// How long a section line is, up to 2^64 - 1.
 pub(crate) fn section_line_len(before: &[u8], count: u64, after: &[u8]) -> usize
-    ensures { result ≡ min (length (before.now ++ decimal count ++ after.now ++ 10 ∷ [])) (2 ^ 64 - 1) }
+    ensures { result ≡ min (length (before.now ++ decimal count ++ after.now ++ line_feed ∷ [])) (2 ^ 64 - 1) }
 {
     let digits = Buffer::new().format(count).len();
     digits
@@ -125,9 +125,9 @@ pub fn sections_len(items: &[Item]) -> usize
 }
 
 /// F23 where a part of the PFB file of a source is too long, whose private text is so long.
-pub fn check_length(source: &Source, private_len: usize) -> Result<(), Refusal>
+pub fn check_length(source: &Source, private_len: usize) -> Result<(), Fault>
     requires { IsPrivateLen source.now private_len }
-    ensures { Gives (λ x. x) result (length_check source.now) }
+    ensures { result ≡ length_check source.now }
 {
     check_parts(source.clear(), private_len, source.tail())
 }

@@ -1,6 +1,7 @@
 //! The lines of the private text, with the charstrings that are kept.
 ghost use Rattle.std.specs.Prelude.{◌≡◌, ◌∷◌, ◌++◌, [], IfOk, OnOk, option_copied, decimal};
 ghost use Rattle.std.specs.List.{flat_map};
+ghost use Rattle.t1_frac.specs.Ascii.{line_feed};
 ghost use Rattle.t1_code.specs.Parts.{piece_text};
 ghost use Rattle.t1_charstrings.specs.Entries.{glyph_kept};
 ghost use Rattle.t1_charstrings.specs.Lines.{entry_line, kept_line, kept_text, line_text};
@@ -34,7 +35,7 @@ fn section_text(
     count: u64,
     after: &[u8],
 ) -> Result<Vec<u8>, AllocError>
-    ensures { IfOk result (λ text. text.items ≡ before.now ++ decimal count ++ after.now ++ 10 ∷ []) }
+    ensures { IfOk result (λ text. text.items ≡ before.now ++ decimal count ++ after.now ++ line_feed ∷ []) }
 {
     let mut text = Vec::from_slice(alloc, before)?;
     push_decimal(&mut text, count)?;

@@ -16,7 +16,7 @@ use crate::entries::{Charstrings, no_charstrings};
 use crate::raising::{Needed, check_raised, raised_items_len};
 use std::alloc::Global;
 use std::slice;
-use t1_frac::Refusal;
+use t1_frac::{Fault, Refusal};
 use t1_parts::{glyphs_needed, holds, lead_of, operator_of, plain_line, says_lead, subrs_needed};
 use t1_source::Item;
 
@@ -168,8 +168,8 @@ impl<'e, 'a> MadeItems<'e, 'a> {
     }
 
     /// F23 where a raised count has more than nine digits.
-    pub(crate) fn check_raised(&self, needed: &Needed) -> Result<(), Refusal>
-        ensures { Gives (λ x. x) result (raised_check needed.now.subrs needed.now.glyphs (made_items self.now)) }
+    pub(crate) fn check_raised(&self, needed: &Needed) -> Result<(), Fault>
+        ensures { result ≡ raised_check needed.now.subrs needed.now.glyphs (made_items self.now) }
     {
         check_raised(self.before, needed)?;
         check_raised(self.put, needed)?;

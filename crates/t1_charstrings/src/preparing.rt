@@ -1,5 +1,5 @@
 //! What edits make of the charstrings, before anything is changed.
-ghost use Rattle.std.specs.Prelude.{◌≡◌, Ok, IfOk, false, true};
+ghost use Rattle.std.specs.Prelude.{◌≡◌, Ok, Err, IfOk, MatchResult, false, true};
 ghost use Rattle.t1_frac.specs.Outcome.{Gives};
 ghost use Rattle.t1_source.specs.Editing.{with_clear};
 ghost use Rattle.t1_font.specs.Assembly.{file_check};
@@ -18,15 +18,15 @@ use crate::replacing::{len_inserted, len_put, len_removed};
 use crate::settling::{ReadyLines, ready_entries};
 use std::alloc::Global;
 use t1_font::check_parts;
-use t1_frac::{Bytes, Refusal};
+use t1_frac::{Bytes, Fault, Refusal};
 use t1_source::{Change, Source};
 
 /// How long the private text is where the clear part gets other lines: as before. F23 where these are too long.
 #[tactic(auto, unfolding(t1_font::specs::Assembly::file_check))]
-fn len_clear(private_len: usize, source: &Source, clear: &[Bytes]) -> Result<usize, Refusal>
+fn len_clear(private_len: usize, source: &Source, clear: &[Bytes]) -> Result<usize, Fault>
     requires file { file_check source.now ≡ Ok tt }
     requires len { IsPrivateLen source.now private_len }
-    ensures judged { Gives (λ _. tt) result (file_check (with_clear source.now clear.now)) }
+    ensures judged { MatchResult result (λ _. file_check (with_clear source.now clear.now) ≡ Ok tt) (λ fault. file_check (with_clear source.now clear.now) ≡ Err fault) }
     ensures len { IfOk result (IsPrivateLen (with_clear source.now clear.now)) }
 {
     check_parts(clear, private_len, source.tail())?;
@@ -41,11 +41,11 @@ fn len_changed(
     source: &Source,
     change: &Change,
     entries: &EditedEntries,
-) -> Result<usize, Refusal>
+) -> Result<usize, Fault>
     requires prepared { IsPreparedFor change.now source.now private_len }
     requires entry { is_entry_changed change.now source.now ≡ true }
     requires edits { AreEdits source.now (made_after change.now source.now) charstrings.now entries.now }
-    ensures judged { Gives (λ _. tt) result (file_check (made_after change.now source.now)) }
+    ensures judged { MatchResult result (λ _. file_check (made_after change.now source.now) ≡ Ok tt) (λ fault. file_check (made_after change.now source.now) ≡ Err fault) }
     ensures len { IfOk result (IsPrivateLen (made_after change.now source.now)) }
 {
     match change {
@@ -69,11 +69,11 @@ fn len_after(
     private_len: usize,
     made: &Made,
     entries: &EditedEntries,
-) -> Result<usize, Refusal>
+) -> Result<usize, Fault>
     requires prepared { IsPrepared made.now private_len }
     requires lead { may_set_lead made.now ≡ false }
     requires edits { AreEdits (source_of made.now) (made_of made.now) charstrings.now entries.now }
-    ensures judged { Gives (λ _. tt) result (file_check (made_of made.now)) }
+    ensures judged { MatchResult result (λ _. file_check (made_of made.now) ≡ Ok tt) (λ fault. file_check (made_of made.now) ≡ Err fault) }
     ensures len { IfOk result (IsPrivateLen (made_of made.now)) }
 {
     match made {

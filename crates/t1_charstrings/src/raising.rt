@@ -1,6 +1,5 @@
 //! The counts of section lines, as they are raised where an entry is put in.
 ghost use Rattle.std.specs.Prelude.{◌≡◌, ◌^◌, ◌-◌, ◌∷◌, codes, if◌then◌else◌, length, map, max, min};
-ghost use Rattle.t1_frac.specs.Outcome.{Gives};
 ghost use Rattle.t1_text.specs.Tokens.{last_is, tokens};
 ghost use Rattle.t1_parts.specs.Counts.{glyphs_needed, raised_item, subrs_needed};
 ghost use Rattle.t1_charstrings.specs.Lines.{kept_line, kept_text};
@@ -10,7 +9,7 @@ ghost use Rattle.t1_charstrings.specs.Sums.{section_line};
 use crate::entries::Charstrings;
 use crate::lengths::{line_len, section_line_len};
 use t1_font::TEN_DIGITS;
-use t1_frac::{Code, Refusal};
+use t1_frac::{Code, Fault};
 use t1_parts::{glyphs_needed, subrs_needed};
 use t1_source::Item;
 use t1_text::last_is;
@@ -138,12 +137,12 @@ fn is_raised_counted(item: &Item, needed: &Needed) -> bool
 }
 
 /// F23 where a raised count has more than nine digits.
-pub(crate) fn check_raised(items: &[Item], needed: &Needed) -> Result<(), Refusal>
-    ensures { Gives (λ x. x) result (raised_check needed.now.subrs needed.now.glyphs items.now) }
+pub(crate) fn check_raised(items: &[Item], needed: &Needed) -> Result<(), Fault>
+    ensures { result ≡ raised_check needed.now.subrs needed.now.glyphs items.now }
 {
     for item in items {
         if !is_raised_counted(item, needed) {
-            return Err(Refusal::from(Code::F23));
+            return Err(Fault::from(Code::F23));
         }
     }
     Ok(())

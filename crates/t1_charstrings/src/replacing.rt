@@ -1,7 +1,6 @@
 //! How long the private text is after an edit of one entry, or the first fault of the edited source.
-ghost use Rattle.std.specs.Prelude.{◌≡◌, ◌<◌, ◌≤◌, Ok, IfOk, length, true};
+ghost use Rattle.std.specs.Prelude.{◌≡◌, ◌<◌, ◌≤◌, Ok, Err, IfOk, MatchResult, length, true};
 ghost use Rattle.std.specs.List.{insert, remove, slice_set};
-ghost use Rattle.t1_frac.specs.Outcome.{Gives};
 ghost use Rattle.t1_source.specs.Changes.{IsInPlaceOf};
 ghost use Rattle.t1_source.specs.Editing.{with_items};
 ghost use Rattle.t1_source.specs.WellFormed.{IsWellFormed};
@@ -17,7 +16,7 @@ use crate::entries::Charstrings;
 use crate::lengths::{line_len, sections_len};
 use crate::raising::{Needed, check_raised, needed_with, raised_sections_len};
 use t1_font::check_parts;
-use t1_frac::Refusal;
+use t1_frac::Fault;
 use t1_source::{Item, Source};
 
 /// How long the line of the item at a place is, up to 2^64 - 1.
@@ -78,7 +77,7 @@ pub(crate) fn len_put(
     at: usize,
     item: &Item,
     entries: &EditedEntries,
-) -> Result<usize, Refusal>
+) -> Result<usize, Fault>
     requires within { at < length source.now.items }
     requires place { IsInPlaceOf (item_at source.now.items at) item.now }
     requires entry { is_entry item.now ≡ true }
@@ -86,7 +85,7 @@ pub(crate) fn len_put(
     requires file { file_check source.now ≡ Ok tt }
     requires len { IsPrivateLen source.now private_len }
     requires edits { AreEdits source.now (with_items source.now (slice_set source.now.items at item.now)) charstrings.now entries.now }
-    ensures judged { Gives (λ _. tt) result (file_check (with_items source.now (slice_set source.now.items at item.now))) }
+    ensures judged { MatchResult result (λ _. file_check (with_items source.now (slice_set source.now.items at item.now)) ≡ Ok tt) (λ fault. file_check (with_items source.now (slice_set source.now.items at item.now)) ≡ Err fault) }
     ensures len { IfOk result (IsPrivateLen (with_items source.now (slice_set source.now.items at item.now))) }
 {
     let len = replaced_len(charstrings, private_len, source, at, item, &entries.fresh);
@@ -103,14 +102,14 @@ pub(crate) fn len_inserted(
     at: usize,
     item: &Item,
     entries: &EditedEntries,
-) -> Result<usize, Refusal>
+) -> Result<usize, Fault>
     requires within { at ≤ length source.now.items }
     requires entry { is_entry item.now ≡ true }
     requires well { IsWellFormed source.now }
     requires file { file_check source.now ≡ Ok tt }
     requires len { IsPrivateLen source.now private_len }
     requires edits { AreEdits source.now (with_items source.now (insert source.now.items at item.now)) charstrings.now entries.now }
-    ensures judged { Gives (λ _. tt) result (file_check (with_items source.now (insert source.now.items at item.now))) }
+    ensures judged { MatchResult result (λ _. file_check (with_items source.now (insert source.now.items at item.now)) ≡ Ok tt) (λ fault. file_check (with_items source.now (insert source.now.items at item.now)) ≡ Err fault) }
     ensures len { IfOk result (IsPrivateLen (with_items source.now (insert source.now.items at item.now))) }
 {
     let needed = needed_with(source.items(), item);
@@ -134,14 +133,14 @@ pub(crate) fn len_removed(
     source: &Source,
     at: usize,
     entries: &EditedEntries,
-) -> Result<usize, Refusal>
+) -> Result<usize, Fault>
     requires within { at < length source.now.items }
     requires entry { is_entry (item_at source.now.items at) ≡ true }
     requires well { IsWellFormed source.now }
     requires file { file_check source.now ≡ Ok tt }
     requires len { IsPrivateLen source.now private_len }
     requires edits { AreEdits source.now (with_items source.now (remove source.now.items at)) charstrings.now entries.now }
-    ensures judged { Gives (λ _. tt) result (file_check (with_items source.now (remove source.now.items at))) }
+    ensures judged { MatchResult result (λ _. file_check (with_items source.now (remove source.now.items at)) ≡ Ok tt) (λ fault. file_check (with_items source.now (remove source.now.items at)) ≡ Err fault) }
     ensures len { IfOk result (IsPrivateLen (with_items source.now (remove source.now.items at))) }
 {
     let len = private_len.saturating_sub(old_len(charstrings, source, at));

@@ -27,7 +27,7 @@ differs c d h k = elim (cases_Bool (c == d)) [
   | inr other ↦ other
 ]
 
-digit_no_blank : (c : ℕ) → is_ascii_digit c ≡ true → is_blank c ≡ false
+pub digit_no_blank : (c : ℕ) → is_ascii_digit c ≡ true → is_blank c ≡ false
 digit_no_blank c h = rw (differs c 0 h refl, differs c 9 h refl, differs c 10 h refl, differs c 12 h refl, differs c 13 h refl, differs c 32 h refl) refl
 
 -- the digits end with the word
@@ -175,7 +175,7 @@ pub other_found : (text digits after : List ℕ) (n : ℕ) → digits ≡ digits
     → word_goes_on after ≡ true → is_number_word (first_word text) ≡ false
 other_found text digits after n d e a on = other_first text (rw (← d, ← e, ← a) on)
 
-trimmed_once : (line rest : List ℕ) → rest ≡ trimmed_front line → rest ≡ trimmed_front rest
+pub trimmed_once : (line rest : List ℕ) → rest ≡ trimmed_front line → rest ≡ trimmed_front rest
 trimmed_once line [] e = refl
 trimmed_once line (c ∷ rest) e = sym (rw (front_stays line c rest e) refl)
 

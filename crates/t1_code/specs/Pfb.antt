@@ -2,19 +2,12 @@
 use Rattle.std.specs.Prelude.{ℕ, zero, suc, ◌-◌, ◌^◌, Bool, ◌||◌, nat_lt, if◌then◌else◌, List, [], ◌∷◌, ◌++◌, length, decimal, Result, Ok, Err}
 use Rattle.std.specs.Int.{w32, to_le_bytes}
 use Rattle.std.specs.List.{flat_map, onto_first}
+use Rattle.t1_frac.specs.Ascii.{line_feed, space}
 use Rattle.t1_frac.specs.declared.fault.Code.TheVariants.{F23}
 use Rattle.t1_frac.specs.declared.fault.Fault.{Fault}
 use Rattle.t1_frac.specs.declared.fault.Place.TheVariants.{Nowhere}
 use Rattle.t1_frac.specs.Outcome.{fault_at}
 use Rattle.t1_code.specs.Cipher.{eexec}
-
--- profile: the byte between the words of a line
-abbrev pub space : ℕ
-space = 32
-
--- profile: the byte at the end of a line
-abbrev pub line_end : ℕ
-line_end = 10
 
 -- Technical Note 5040, 3.3: the byte that each segment begins with
 abbrev pub marker : ℕ
@@ -40,7 +33,7 @@ closing_text (byte ∷ bytes) = space ∷ byte ∷ bytes
 -- Type 1 Font Format, Chapter 2: the line of an entry: its number or name, the length of its binary data, the operator that reads them, the data, the closing text
 abbrev pub entry_text : List ℕ → List ℕ → List ℕ → List ℕ → List ℕ
 entry_text head operator charstring closing =
-    head ++ space ∷ decimal (length charstring) ++ space ∷ operator ++ space ∷ charstring ++ closing_text closing ++ line_end ∷ []
+    head ++ space ∷ decimal (length charstring) ++ space ∷ operator ++ space ∷ charstring ++ closing_text closing ++ line_feed ∷ []
 
 -- Technical Note 5040, 3.3: a segment is 128, its type, its length with the low byte first, and its bytes
 abbrev pub segment_head : ℕ → ℕ → List ℕ

@@ -1,5 +1,5 @@
 -- The words of a charstring: numbers and commands.
-use Rattle.std.specs.Prelude.{◌≡◌, ℕ, ◌^◌, ℤ, pos, negsuc, Bool, nat_lt, if◌then◌else◌, List, [], ◌∷◌, take, drop, length, codes, Option, None, Some, Result, Ok, Err}
+use Rattle.std.specs.Prelude.{◌≡◌, ℕ, ◌^◌, ℤ, pos, negsuc, Bool, nat_lt, if◌then◌else◌, List, [], ◌∷◌, ◌++◌, take, drop, length, codes, Option, None, Some, Result, Ok, Err}
 use Rattle.std.specs.Map.{lookup}
 use Rattle.std.specs.Borrow.{Bor}
 use Rattle.std.specs.Str.{bytes_eq}
@@ -99,6 +99,11 @@ command_then (Err code) rest = Err code
 abbrev pub commands_of_words : List (List ℕ) → Result (List Command) Code
 commands_of_words [] = Ok []
 commands_of_words (word ∷ words) = command_then (command_of_word word) (commands_of_words words)
+
+-- profile: commands after others, or their fault
+abbrev pub after_others : List Command → Result (List Command) Code → Result (List Command) Code
+after_others others (Ok commands) = Ok (others ++ commands)
+after_others others (Err code) = Err code
 
 -- profile: a body has at most 65,535 words, and its length is judged before its words
 unfoldable pub commands : List (List ℕ) → Result (List Command) Code

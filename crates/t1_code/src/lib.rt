@@ -36,4 +36,4 @@ pub use parts::{OutError, Parts, Piece};
 pub use pfa::{Pfa, write_pfa};
 pub use pfb::{Pfb, WHOLE_PARTS, write_pfb};
 pub use pieces::{EEXEC_LEAD, MAX_PART};
-pub use words::compile;
+pub use words::{compile, compile_onto};

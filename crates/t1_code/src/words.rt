@@ -1,9 +1,9 @@
 //! The words of a body, read as commands.
-ghost use Rattle.std.specs.Prelude.{◌≡◌, ◌<◌, [], ◌∷◌, false, nat_lt, length, IfSome, MatchOption};
+ghost use Rattle.std.specs.Prelude.{◌≡◌, ◌<◌, [], ◌∷◌, false, nat_lt, length, take, IfSome, MatchOption};
 ghost use Rattle.t1_frac.specs.Outcome.{Gives, told_at};
-ghost use Rattle.t1_frac.specs.Words.{words};
+ghost use Rattle.t1_frac.specs.Words.{trimmed_front, words};
 ghost use Rattle.t1_frac.specs.declared.fault.Place.TheVariants.{Nowhere};
-ghost use Rattle.t1_code.specs.Words.{number_command, in_32_bits, first_word, command_of_word, command_then, commands_of_words, commands};
+ghost use Rattle.t1_code.specs.Words.{number_command, in_32_bits, first_word, after_others, command_of_word, command_then, commands_of_words, commands};
 ghost use Rattle.t1_frac.specs.Numbers.{signed, is_number_word};
 
 use crate::body::Body;
@@ -51,6 +51,27 @@ fn first_number(text: &[u8]) -> Option<(Result<Command, Code>, &[u8])>
     Some((number_command(digits.len() < text.len(), size), after))
 }
 
+/// What the first word of a text says, and the bytes after the word; nothing where the text has no word. The text begins with
+/// no blank and with no number word. It stands apart from `next_command`, which is inlined, since most words are numbers.
+#[inline(never)]
+fn other_command(rest: &[u8]) -> Option<(Result<Command, Code>, &[u8])>
+    requires trimmed { rest.now ≡ trimmed_front rest.now }
+    requires other { is_number_word (first_word rest.now) ≡ false }
+    ensures shorter { IfSome result (λ found. length found.1.now < length rest.now) }
+    ensures value { MatchOption
+        result
+        (words rest.now ≡ [])
+        (λ found. commands_of_words (words rest.now) ≡ command_then found.0 (commands_of_words (words found.1.now))) }
+{
+    if let Some((command, after)) = Command::first(rest) {
+        return Some((Ok(command), after));
+    }
+    let Some((_word, after)) = next_word(rest) else {
+        return None;
+    };
+    Some((Err(Code::F20), after))
+}
+
 /// What the first word of a line says, and the bytes after the word; nothing where the line has no word.
 #[inline(always)]
 pub(crate) fn next_command(line: &[u8]) -> Option<(Result<Command, Code>, &[u8])>
@@ -64,13 +85,7 @@ pub(crate) fn next_command(line: &[u8]) -> Option<(Result<Command, Code>, &[u8])
     if let Some((number, after)) = first_number(rest) {
         return Some((number, after));
     }
-    if let Some((command, after)) = Command::first(rest) {
-        return Some((Ok(command), after));
-    }
-    let Some((_word, after)) = next_word(rest) else {
-        return None;
-    };
-    Some((Err(Code::F20), after))
+    other_command(rest)
 }
 
 /// How many words a text has.
@@ -94,28 +109,41 @@ pub(crate) fn is_too_long(text: &[u8]) -> bool
     text.len() > MAX_WORDS && word_count(text) > MAX_WORDS
 }
 
-/// The commands of a text's words. A word takes some five bytes with the blank after it, so that the vector seldom grows.
-fn read_words(alloc: Global, text: &[u8]) -> Result<Vec<Command>, Refusal>
-    ensures { Gives (λ read. read.items) result (told_at Nowhere (commands_of_words (words text.now))) }
+/// Adds the commands of a text's words. At a fault and where memory runs out some of them may stand there.
+fn read_words(read: &mut Vec<Command>, text: &[u8]) -> Result<(), Refusal>
+    ensures value { Gives (λ _. read.new.items) result (told_at Nowhere (after_others read.old.items (commands_of_words (words text.now)))) }
+    ensures front { take (length read.old.items) read.new.items ≡ read.old.items }
 {
-    let mut read = Vec::with_capacity(alloc, text.len() / 4)?;
     let mut rest = text;
     while let Some((command, after)) = next_command(rest) {
         read.push(command?)?;
         rest = after;
     }
-    Ok(read)
+    Ok(())
 }
 
-/// The commands of a body's words: F22 past 65,535 words, then the first word's fault that has one, F20 for an
-/// unknown word and F21 for a number that doesn't fit 32 bits.
+/// Adds the commands of a body's words to others: F22 past 65,535 words, then the first word's fault that has one, F20 for an
+/// unknown word and F21 for a number that doesn't fit 32 bits. The others stay; at a fault and where memory runs out some of
+/// the body's may stand after them.
 #[tactic(auto, unfolding(crate::specs::Words::commands))]
-pub fn compile(alloc: Global, words: &Words) -> Result<Body, Refusal>
-    ensures { Gives (λ body. body) result (told_at Nowhere (commands words.now)) }
+pub fn compile_onto(others: &mut Vec<Command>, words: &Words) -> Result<(), Refusal>
+    ensures value { Gives (λ _. others.new.items) result (told_at Nowhere (after_others others.old.items (commands words.now))) }
+    ensures front { take (length others.old.items) others.new.items ≡ others.old.items }
 {
     let text = words.as_bytes();
     if is_too_long(text) {
         return Err(Refusal::from(Code::F22));
     }
-    Ok(Body::new(read_words(alloc, text)?))
+    read_words(others, text)
+}
+
+/// The commands of a body's words, or their fault as `compile_onto` gives it.
+#[tactic(auto, using(crate::proofs::Reading::after_nothing))]
+pub fn compile(alloc: Global, words: &Words) -> Result<Body, Refusal>
+    ensures { Gives (λ body. body) result (told_at Nowhere (commands words.now)) }
+{
+    // a word takes some five bytes with the blank after it, so that the vector seldom grows
+    let mut body = Vec::with_capacity(alloc, words.as_bytes().len() / 4)?;
+    compile_onto(&mut body, words)?;
+    Ok(Body::new(body))
 }

@@ -40,18 +40,23 @@ code = record (new_rule (codes "CODE")) { action = Some Set }
 abbrev pub taking : List ℕ → List Rule → Shape
 taking name rules = record (new_shape name) { rules = rules }
 
+-- profile: assemble, which takes a block length or a form, an output and the source
 abbrev pub assemble : Shape
 assemble = taking (codes "assemble") (block ∷ pfa ∷ output ∷ source ∷ [])
 
+-- profile: measure, which takes kerning, an output and the source
 abbrev pub measure : Shape
 measure = taking (codes "measure") (kern ∷ output ∷ source ∷ [])
 
+-- profile: check, which takes kerning and the source
 abbrev pub check : Shape
 check = taking (codes "check") (kern ∷ source ∷ [])
 
+-- profile: session, which takes kerning and the source
 abbrev pub session : Shape
 session = taking (codes "session") (kern ∷ source ∷ [])
 
+-- profile: explain, which takes what is to be explained
 abbrev pub explain : Shape
 explain = taking (codes "explain") (code ∷ [])
 

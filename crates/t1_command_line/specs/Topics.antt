@@ -1,5 +1,6 @@
 -- What is said of a code, a rule or a status: how it is found, and what is printed.
 use Rattle.std.specs.Prelude.{ℕ, List, [], ◌∷◌, ◌++◌, Option, Some, None, option_map, codes, if◌then◌else◌}
+use Rattle.std.specs.Option.{option_or}
 use Rattle.std.specs.Str.{bytes_eq}
 use Rattle.t1_command_line.specs.declared.topic.Topic.{Topic}
 use Rattle.t1_command_line.specs.declared.topic.Section.{Section}
@@ -9,15 +10,10 @@ abbrev pub topic_in : List Topic → List ℕ → Option Topic
 topic_in [] code = None
 topic_in (topic ∷ topics) code = if bytes_eq topic.code.now code then Some topic else topic_in topics code
 
--- profile: the first of two values that is there
-abbrev pub or_else : {X : Type 0} → Option X → Option X → Option X
-or_else None other = other
-or_else (Some x) other = Some x
-
 -- profile: the first topic of the sections with this code
 abbrev pub topic_of : List Section → List ℕ → Option Topic
 topic_of [] code = None
-topic_of (section ∷ sections) code = or_else (topic_in section.topics.now code) (topic_of sections code)
+topic_of (section ∷ sections) code = option_or (topic_in section.topics.now code) (topic_of sections code)
 
 -- profile: the line of a topic in a list: its code and its meaning in a few words
 unfoldable pub line_text : Topic → List ℕ

@@ -1,16 +1,12 @@
 -- How far an accent is moved.
 use Rattle.std.proofs.Common.{◌<◌, mul-pos}
 use Rattle.std.specs.Prelude.{IfOk}
-use Rattle.t1_frac.specs.Fraction.{Fraction, plus, minus}
+use Rattle.t1_frac.specs.Fraction.{Fraction, minus}
 use Rattle.t1_frac.specs.Limits.{IsCoordinate, coordinate_sum, coordinate_difference}
 use Rattle.t1_frac.specs.declared.fault.Code.TheVariants.{F40}
-use Rattle.t1_frac.proofs.Coordinates.{lowest_within}
+use Rattle.t1_frac.proofs.Coordinates.{lowest_within, sum_within}
 use Rattle.t1_run.proofs.Within.{bind-ok}
 use Rattle.t1_extent.specs.Laws.{IsDistance, AccentLaw}
-
-sum_within : (a b : Fraction) → 0 < a.den → 0 < b.den → IfOk (coordinate_sum a b) IsCoordinate
-unfolding coordinate_sum
-sum_within a b ha hb = lowest_within F40 (plus a b) (mul-pos ha hb)
 
 difference_within : (a b : Fraction) → 0 < a.den → 0 < b.den → IfOk (coordinate_difference a b) IsCoordinate
 unfolding coordinate_difference

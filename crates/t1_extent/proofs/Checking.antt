@@ -5,6 +5,7 @@ use Rattle.std.specs.List.{list_any, AllByRecursion}
 use Rattle.std.specs.Int.RustNames.{unsigned_abs, int_lt}
 use Rattle.std.proofs.lemmas.Bool.Decides.{nat_tests}
 use Rattle.std.proofs.Math.Nat.{div-le_self, lt_of_mul-lt-mul_right, mul-lt-mul_of_pos_right}
+use Rattle.std.proofs.Math.Bool.{or-false, or-true}
 use borrow.Author.Differences.{up, down, neg_is, lt-true, lt-false}
 use Rattle.t1_frac.specs.Fraction.{Fraction, lowest, plus, gcd}
 use Rattle.t1_frac.specs.Limits.{coordinate_sum, exceeds, is_too_fine}
@@ -85,21 +86,13 @@ above_greater a b ha hb = by (is_less a b) refl
 
 -- ---- any of several
 
-or_true : (x : Bool) → (x || true) ≡ true
-or_true true = refl
-or_true false = refl
-
-pub or_false : (x : Bool) → (x || false) ≡ x
-or_false true = refl
-or_false false = refl
-
 or_assoc : (x y z : Bool) → ((x || y) || z) ≡ (x || (y || z))
 or_assoc true y z = refl
 or_assoc false y z = refl
 
 or_swap : (a b c d : Bool) → ((a || b) || (c || d)) ≡ ((a || c) || (b || d))
 or_swap true b c d = refl
-or_swap false b true d = or_true b
+or_swap false b true d = or-true b
 or_swap false b false d = refl
 
 any_append : {X : Type 0} (test : X → Bool) (xs ys : List X) → list_any test (xs ++ ys) ≡ (list_any test xs || list_any test ys)
@@ -119,7 +112,7 @@ past_reaching d e h k =
     ∙ or_swap (is_below d.left || is_above d.right) (is_below e.left || is_above e.right) (is_below d.bottom || is_above d.top) (is_below e.bottom || is_above e.top))
 
 pub past_fold : (e : Extremes) (es : List Extremes) → AreLowest e → AllByRecursion AreLowest es → is_past (fold reaching e es) ≡ (is_past e || list_any is_past es)
-past_fold e [] h hs = sym (or_false (is_past e))
+past_fold e [] h hs = sym (or-false (is_past e))
 past_fold e (f ∷ fs) h hs =
     past_fold (reaching e f) fs (reaching_lowest e f h hs.0) hs.1 ∙ ap (λ t. t || list_any is_past fs) (past_reaching e f h hs.0)
     ∙ or_assoc (is_past e) (is_past f) (list_any is_past fs)
@@ -146,7 +139,7 @@ exceeds_is a = exceeds_at a.num (2 ^ 20 * a.den)
 
     exceeds_at : (z : ℤ) (m : ℕ) → nat_lt m (unsigned_abs z) ≡ (int_lt z (neg_ℤ (pos m)) || int_lt (pos m) z)
     exceeds_at (pos n) m = ap (λ t. t || nat_lt m n) (sym (not_below n m))
-    exceeds_at (negsuc n) m = below n m ∙ sym (or_false (int_lt (negsuc n) (neg_ℤ (pos m))))
+    exceeds_at (negsuc n) m = below n m ∙ sym (or-false (int_lt (negsuc n) (neg_ℤ (pos m))))
 
 -- ---- no side is past the limit where the least and the greatest aren't
 
@@ -268,7 +261,7 @@ point_passed by p hb h =
     passed_bind (coordinate_sum p.x by.x) _ (is_below (shifted by.x p.x) || is_above (shifted by.x p.x)) ((is_below (shifted by.y p.y) || is_above (shifted by.y p.y)) || false)
     (sum_passed p.x by.x h.x) (λ x.
     passed_bind (coordinate_sum p.y by.y) _ (is_below (shifted by.y p.y) || is_above (shifted by.y p.y)) false (sum_passed p.y by.y h.y) (λ y. refl))
-    ∙ ap (λ t. check ((is_below (shifted by.x p.x) || is_above (shifted by.x p.x)) || t)) (or_false (is_below (shifted by.y p.y) || is_above (shifted by.y p.y)))
+    ∙ ap (λ t. check ((is_below (shifted by.x p.x) || is_above (shifted by.x p.x)) || t)) (or-false (is_below (shifted by.y p.y) || is_above (shifted by.y p.y)))
     ∙ rw (shifted_lowest by.x p.x hb.x h.number.x, shifted_lowest by.y p.y hb.y h.number.y) refl
 
 -- ---- segments and outlines
@@ -297,7 +290,7 @@ outline_any by (s ∷ ss) hb h =
     passed_bind (moved_segment by s) _ (list_any (out_at by) (corners_of s)) (list_any (out_at by) (corners ss) || false)
     (segment_passed by s hb (all_first (IsEasy by) (corners_of s) (corners ss) h)) (λ s'.
     passed_bind (moved_outline by ss) _ (list_any (out_at by) (corners ss)) false (outline_any by ss hb (all_second (IsEasy by) (corners_of s) (corners ss) h)) (λ ss'. refl))
-    ∙ ap (λ t. check (list_any (out_at by) (corners_of s) || t)) (or_false (list_any (out_at by) (corners ss)))
+    ∙ ap (λ t. check (list_any (out_at by) (corners_of s) || t)) (or-false (list_any (out_at by) (corners ss)))
     ∙ ap check (sym (any_append (out_at by) (corners_of s) (corners ss)))
 
 easy_numbers : (by : Point) (ps : List Point) → AllByRecursion (IsEasy by) ps → AllByRecursion IsNumber ps

@@ -16,6 +16,7 @@ use Rattle.t1_frac.specs.declared.fault.Code.{Code}
 use Rattle.t1_frac.specs.declared.fault.Code.TheVariants.{F40}
 use Rattle.t1_extent.specs.declared.exact.Exact.{Exact}
 use Rattle.t1_run.specs.declared.outline.Point.{Point}
+use Rattle.t1_run.proofs.FoundByUsers.{both-ways}
 use Rattle.t1_extent.specs.Exacts.{raw, value_of}
 use Rattle.t1_frac.proofs.Exact.{lowest_same}
 use Rattle.t1_frac.proofs.Rounded.{round_alike}
@@ -92,19 +93,14 @@ floor_small z d h = euclid_small z d h
 
 -- ---- limits
 
-both_ways : (x y : Bool) → (x ≡ true → y ≡ true) → (y ≡ true → x ≡ true) → x ≡ y
-both_ways true y f g = sym (f refl)
-both_ways false true f g = g refl
-both_ways false false f g = refl
-
 pub exceeds_lowest : (a : Fraction) → 0 < a.den → exceeds (2 ^ 20) (lowest a) ≡ exceeds (2 ^ 20) a
 exceeds_lowest a h =
     let l = lowest_above a h in
     let down' = under_from_same (lowest a) a (lowest_same a) in
     let up' = under_from_same a (lowest a) (sym (lowest_same a)) in
     exceeds_is (lowest a)
-    ∙ ap (λ t. t || is_above (lowest a)) (both_ways (is_below (lowest a)) (is_below a) (below_under (lowest a) a l h up') (below_under a (lowest a) h l down'))
-    ∙ ap (λ t. is_below a || t) (both_ways (is_above (lowest a)) (is_above a) (above_under (lowest a) a l h down') (above_under a (lowest a) h l up'))
+    ∙ ap (λ t. t || is_above (lowest a)) (both-ways (is_below (lowest a)) (is_below a) (below_under (lowest a) a l h up') (below_under a (lowest a) h l down'))
+    ∙ ap (λ t. is_below a || t) (both-ways (is_above (lowest a)) (is_above a) (above_under (lowest a) a l h down') (above_under a (lowest a) h l up'))
     ∙ sym (exceeds_is a)
 
 -- the number, moved, or F40, by terms that aren't lowest

@@ -1,31 +1,19 @@
 -- What runs draw is within the limits.
 use Rattle.std.proofs.Common.{List, [], ◌∷◌, subst, Option, Some, None}
 use Rattle.std.specs.Prelude.{IfOk, IfSome}
-use Rattle.t1_frac.specs.Fraction.{Fraction}
-use Rattle.t1_frac.specs.Limits.{IsCoordinate}
 use Rattle.t1_run.specs.declared.outline.Composite.{Composite}
 use Rattle.t1_run.specs.declared.outline.Point.{Point}
 use Rattle.t1_run.specs.declared.outline.Segment.{Segment}
-use Rattle.t1_run.specs.declared.outline.Segment.TheVariants.{Line, Curve}
-use Rattle.t1_run.specs.Composite.{accent_move, IsPoint, IsWithin}
-use Rattle.t1_run.proofs.Within.{IsPlace, IsPlaced, IsDrawn, AllDrawn}
+use Rattle.t1_run.specs.Composite.{accent_move}
+use Rattle.t1_run.proofs.Within.{IsPlaced, AllDrawn}
 use Rattle.t1_run.proofs.WithinRuns.{PartsWithin, DrawingWithin, OwnWithin, own-within}
+use Rattle.t1_run.proofs.WithinOutlines.{drawn-within}
 use Rattle.t1_extent.specs.Laws.{AreWithin, IsDistance, IsAccented, RunsLaw}
 use Rattle.t1_extent.proofs.Accents.{accent_law}
 
-place : (a : Fraction) → IsPlace a → IsCoordinate a
-place a h = record { above = h.value.terms.above; fine = h.value.fine; size = h.size }
-
-point : (p : Point) → IsPlaced p → IsPoint p
-point p h = record { x = place p.x h.x; y = place p.y h.y }
-
-segment : (s : Segment) → IsDrawn s → IsWithin s
-segment (Line a b) h = (point a h.0, point b h.1)
-segment (Curve a b c d) h = (point a h.0, point b h.1, point c h.2, point d h.3)
-
 segments : (ss : List Segment) → AllDrawn ss → AreWithin ss
 segments [] h = tt
-segments (s ∷ ss) h = (segment s h.0, segments ss h.1)
+segments (s ∷ ss) h = (drawn-within s h.0, segments ss h.1)
 
 accented : (c : Composite) → PartsWithin c → IsAccented c
 accented c h = record { asb = h.asb.terms.above; adx = h.adx.terms.above; ady = h.ady.terms.above; ady_fine = h.ady.fine }

@@ -1,13 +1,11 @@
 -- The laws of summaries.
-use Rattle.std.proofs.Common.{◌≡◌, ◌<◌, ◌⊎◌, inl, inr, List, [], ◌∷◌, ◌++◌, refl, ap, ◌∙◌, sym, mul-pos, Option}
+use Rattle.std.proofs.Common.{◌≡◌, ◌⊎◌, inl, inr, List, [], ◌∷◌, ◌++◌, refl, ap, ◌∙◌, sym, Option}
 use Rattle.std.specs.Prelude.{Result, Ok, Err, IfOk}
 use Rattle.std.specs.List.{AllByRecursion}
 use Rattle.std.proofs.lemmas.Grind.{flat_map-append}
-use Rattle.t1_frac.specs.Fraction.{Fraction, plus}
 use Rattle.t1_frac.specs.Limits.{IsCoordinate, coordinate_sum}
 use Rattle.t1_frac.specs.declared.fault.Code.{Code}
-use Rattle.t1_frac.specs.declared.fault.Code.TheVariants.{F40}
-use Rattle.t1_frac.proofs.Coordinates.{lowest_within}
+use Rattle.t1_frac.proofs.Coordinates.{sum_within}
 use Rattle.t1_frac.specs.Outcome.{◌>>=◌}
 use Rattle.t1_run.specs.declared.outline.Composite.{Composite}
 use Rattle.t1_run.specs.declared.outline.Point.{Point}
@@ -102,10 +100,6 @@ united_three : (own base accent' : List Segment) → AreWithin own → AreWithin
 united_three own base accent' h k m = both_law (own ++ base) accent' (each-append IsWithin own base h k) m ∙ ap (λ s. united s (summary accent')) (both_law own base h k)
 
 -- ---- moved points are within the limits
-
-sum_within : (a d : Fraction) → 0 < a.den → 0 < d.den → IfOk (coordinate_sum a d) IsCoordinate
-unfolding coordinate_sum
-sum_within a d ha hd = lowest_within F40 (plus a d) (mul-pos ha hd)
 
 pub point_within : (by p : Point) → IsNumber by → IsNumber p → IfOk (moved_point by p) IsPoint
 point_within by p hb h =

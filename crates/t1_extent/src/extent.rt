@@ -1,6 +1,6 @@
 //! How far an outline reaches.
 
-ghost use Rattle.std.specs.Prelude.{◌≡◌, ℕ, ◌≤◌, ◌⊎◌, ◌^◌, IfOk, MatchResult, Some, Ok, Err, false};
+ghost use Rattle.std.specs.Prelude.{◌≡◌, ℕ, ◌⊎◌, ◌^◌, IfOk, MatchResult, Some, Ok, Err, false};
 ghost use Rattle.t1_extent.specs.Extremes.{reaching as reaching_of, rounded as rounded_of, shifted_by, limit_check, move_check, IsWhole};
 ghost use Rattle.t1_extent.specs.Exacts.{value_of, extremes_of, AreFine};
 ghost use Rattle.t1_extent.specs.Figures.{distance_of, IsFineDistance};

@@ -119,8 +119,13 @@ impl Model for KeptRun {
 }
 
 impl KeptRun {
-    /// What is kept of the run of a glyph of this name. Its outline is dropped.
-    pub fn of(alloc: Global, name: &[u8], run: Run) -> Result<KeptRun, AllocError>
+    /// What is kept of the run of a glyph of this name. The room gets the run's outline, for its memory.
+    pub fn of(
+        alloc: Global,
+        name: &[u8],
+        run: Run,
+        room: &mut Vec<Segment>,
+    ) -> Result<KeptRun, AllocError>
         ensures kept { IfOk result (λ kept. kept ≡ kept_as name.now run) }
         ensures traced { IfOk result (λ kept. traces name.now kept ≡ true) }
     {
@@ -128,7 +133,8 @@ impl KeptRun {
         let (width, bearing) = (run.width(), run.side_bearing());
         let (steps, serial) = (run.steps(), run.serial());
         let shadow = Shadow::of(&run);
-        let (composite, entered) = run.into_parts();
+        let (composite, entered, segments) = run.into_parts();
+        *room = segments;
         Ok(KeptRun {
             width,
             bearing,

@@ -1,15 +1,15 @@
 -- Look-ups among what is kept by name.
 use Rattle.std.proofs.Common.{◌≡◌, ℕ, ◌+◌, ◌<◌, length, get_or, drop, drop-cons, add-one, Bool, true, false, cond, List, [], ◌∷◌, refl, sym, ap, subst, arith, ◌∙◌, Option, Some, None, inl, inr, map}
-use Rattle.std.specs.Prelude.{Result, Ok, Err, OnErr, ◌||◌, ◌≤◌, zero, suc}
+use Rattle.std.specs.Prelude.{Result, Ok, Err, ◌||◌, ◌≤◌, zero, suc}
 use Rattle.std.specs.List.{list_any}
 use Rattle.std.specs.Option.{option_map, option_copied}
 use Rattle.std.specs.Borrow.{Bor}
 use Rattle.std.specs.Map.{lookup}
 use Rattle.std.specs.Str.{bytes_eq}
 use Rattle.std.proofs.lemmas.Bool.{cases_Bool}
-use Rattle.std.proofs.lemmas.Slice.Eq.{bytes_eq-Decides}
 use Rattle.t1_frac.specs.declared.fault.Code.{Code}
 use Rattle.t1_run.specs.Run.{FontBodies, own}
+use Rattle.t1_run.proofs.Asked.{bytes_same}
 use Rattle.t1_extent.specs.Kept.{TracedRun}
 use Rattle.t1_font.specs.Runs.{Kept, drawing_kept, kept_of, run_kept, own_among, counted, AreTraced, CountsSome, IsAfter, IsTracedAs}
 
@@ -21,12 +21,6 @@ copied-map view (Some x) = refl
 pub map-cond : {X Y : Type 0} (view : X → Y) (b : Bool) (x : X) (r : Option X) → option_map view (cond b (Some x) r) ≡ cond b (Some (view x)) (option_map view r)
 map-cond view true x r = refl
 map-cond view false x r = refl
-
-pub same_bytes : (a b : List ℕ) → bytes_eq a b ≡ true → a ≡ b
-same_bytes a b h = (bytes_eq-Decides a b).0 h
-
-pub bytes_self : (a : List ℕ) → bytes_eq a a ≡ true
-bytes_self a = (bytes_eq-Decides a a).1 refl
 
 -- a look-up among names is that among the keys that have them
 pub lookup-names : {K X L : Type 0} (name : K → L) (test : L → Bool) (es : List (K × X))
@@ -40,7 +34,7 @@ key-found : {K X : Type 0} (name : K → List ℕ) (g : List ℕ) (es : List (K 
 key-found name g [] x h = absurd (cc)
 key-found name g (e ∷ es) x h =
     elim (cases_Bool (bytes_eq g (name e.0))) [
-      | inl same ↦ (e.0, sym (same_bytes g (name e.0) same))
+      | inl same ↦ (e.0, sym (bytes_same g (name e.0) same))
       | inr other ↦ key-found name g es x (rw other at h)
     ]
 
@@ -81,7 +75,7 @@ one-more m rest old new names name kept is put h q =
     ap (λ r. cond (list_any (bytes_eq q) rest) (own m q) (option_map drawing_kept r)) (put q)
     ∙ ap (cond (list_any (bytes_eq q) rest) (own m q)) (map-cond drawing_kept (bytes_eq q name) kept (run_kept old q))
     ∙ or-cond (list_any (bytes_eq q) rest) (bytes_eq q name) (own m q) (Some (drawing_kept kept)) (kept_of old q)
-    (λ same. rw (same_bytes q name same) (sym is))
+    (λ same. rw (bytes_same q name same) (sym is))
     ∙ h q
 
 -- the names that are left begin with this one
@@ -99,7 +93,7 @@ pub one-traced : (old new : List Kept) (name : List ℕ) (kept : Result TracedRu
     → ((q : List ℕ) → run_kept new q ≡ cond (bytes_eq q name) (Some kept) (run_kept old q)) → IsTracedAs name (Some kept) → AreTraced old → AreTraced new
 one-traced old new name kept put h others q =
     subst (IsTracedAs q) (sym (put q))
-    (traced-cond q (bytes_eq q name) (Some kept) (run_kept old q) (λ same. subst (λ g. IsTracedAs g (Some kept)) (sym (same_bytes q name same)) h) (others q))
+    (traced-cond q (bytes_eq q name) (Some kept) (run_kept old q) (λ same. subst (λ g. IsTracedAs g (Some kept)) (sym (bytes_same q name same)) h) (others q))
 
 -- those that are left where one was taken out keep theirs
 pub rest-traced : (old new : List Kept) (name : List ℕ) → ((q : List ℕ) → run_kept new q ≡ cond (bytes_eq name q) None (run_kept old q))
@@ -132,8 +126,3 @@ after-earlier count n (Ok run) h = omega (arith, counted-up count n, h)
 -- one run more than these was counted
 pub counts-one-more : (runs old made count new : ℕ) → made < runs → count ≡ counted old made → new ≡ counted count 1 → CountsSome runs old new
 counts-one-more runs old made count new h same step = (suc made, omega (arith, h), step ∙ ap (λ n. counted n 1) same)
-
--- what holds anyway holds where a call refuses
-pub on-err : {T E X : Type 0} (r : Result T E) → X → OnErr r X
-on-err (Ok done) h = tt
-on-err (Err refused) h = h

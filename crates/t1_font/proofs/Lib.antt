@@ -1,12 +1,17 @@
+pub mod Checking
 pub mod Compiling
 pub mod Counted
 pub mod Drawing
 pub mod Filing
+pub mod FirstNames
 pub mod Gathering
+pub mod InTurnLaws
 pub mod Keeping
+pub mod Keys
 pub mod LengthLaws
 pub mod Lookups
 pub mod Measuring
+pub mod MeasuringTurns
 pub mod Naming
 pub mod Ordering
 pub mod Outlining
@@ -14,5 +19,6 @@ pub mod PrivateLaws
 pub mod Rows
 pub mod Slotting
 pub mod SourceMetrics
+pub mod StayingLaws
 pub mod SubrsFirst
 pub mod UsageRows

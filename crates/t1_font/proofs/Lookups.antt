@@ -1,6 +1,6 @@
 -- Look-ups by name in maps into which a value is put, or from which one is taken out.
-use Rattle.std.proofs.Common.{◌≡◌, ℕ, Bool, true, false, cond, not, List, [], ◌∷◌, filter, refl, sym, ap, ◌∙◌, Option, Some, None, arith}
-use Rattle.std.specs.Prelude.{nat_eq}
+use Rattle.std.proofs.Common.{◌≡◌, ◌<◌, ℕ, zero, suc, Bool, true, false, cond, not, List, [], ◌∷◌, filter, refl, sym, ap, ◌∙◌, Option, Some, None, arith}
+use Rattle.std.specs.Prelude.{nat_eq, IsSome}
 use Rattle.std.specs.Map.{lookup}
 use Rattle.std.specs.Str.{bytes_eq}
 use Rattle.std.proofs.lemmas.Bool.{eqb-true}
@@ -21,6 +21,20 @@ nat-itself a = grind (arith, nat_tests)
 
 pub numbers_tell : Tells nat_eq
 numbers_tell = record { same = eqb-true; itself = nat-itself }
+
+pub bytes-turned : (a b : List ℕ) → bytes_eq a b ≡ bytes_eq b a
+bytes-turned a b = by (bytes_eq a b) refl (bytes_eq b a) refl where
+  by : (x : Bool) → bytes_eq a b ≡ x → (y : Bool) → bytes_eq b a ≡ y → x ≡ y
+  by true on true also = refl
+  by false off false also = refl
+  by true on false off = let never : true ≡ false = sym (bytes_tell.itself b) ∙ ap (bytes_eq b) (sym (bytes_tell.same a b on)) ∙ off in absurd (cc)
+  by false off true on = let never : true ≡ false = sym (bytes_tell.itself a) ∙ ap (bytes_eq a) (sym (bytes_tell.same b a on)) ∙ off in absurd (cc)
+
+-- where something is found unless there are none, and nothing is, there are none
+pub none-found : {X : Type 0} (o : Option X) (n : ℕ) → o ≡ None → (0 < n → IsSome o) → n ≡ 0
+none-found o zero e h = refl
+none-found None (suc n) e h = let never : false ≡ true = h (omega arith) in absurd (cc)
+none-found (Some x) (suc n) e h = absurd (cc)
 
 -- ---- a value that is put in
 

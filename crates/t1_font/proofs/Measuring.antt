@@ -20,7 +20,7 @@ use Rattle.t1_parts.specs.declared.item.Item.TheVariants.{Plain, Section, Subr, 
 use Rattle.t1_code.specs.declared.command.Command.{Command}
 use Rattle.t1_code.specs.Words.{commands}
 use Rattle.t1_run.specs.Composite.{outline, outline_within}
-use Rattle.t1_run.specs.Run.{FontBodies, own, own_of}
+use Rattle.t1_run.specs.Run.{Drawing, FontBodies, own, own_of}
 use Rattle.t1_run.proofs.Agreeing.{own_same}
 use Rattle.t1_afm.specs.declared.bbox.BBox.{BBox}
 use Rattle.t1_afm.specs.Box.{drawn_box, font_box, united}
@@ -30,7 +30,7 @@ use Rattle.t1_font.specs.Bodies.{bodies, bodies_check, words_check, glyph_among,
 use Rattle.t1_font.specs.Glyphs.{Glyph as Drawn, glyphs, glyphs_by, glyph_names}
 use Rattle.t1_font.specs.Runs.{Kept, kept_of, own_among}
 use Rattle.t1_font.specs.MeasuredGlyphs.{glyph_metrics, glyph_metrics_among, measured, MeasuredFont}
-use Rattle.t1_font.proofs.Keeping.{bytes_self}
+use Rattle.t1_run.proofs.Asked.{bytes_self}
 
 -- ---- the glyphs of a source are there
 
@@ -42,7 +42,7 @@ or_second : (a b : Bool) → b ≡ true → (a || b) ≡ true
 or_second true b h = refl
 or_second false b h = h
 
-words-there : (place : Place) (words : List (List ℕ)) (rest : Option (List Command)) (u : Unit {0}) → words_check place words ≡ Ok u
+pub words-there : (place : Place) (words : List (List ℕ)) (rest : Option (List Command)) (u : Unit {0}) → words_check place words ≡ Ok u
     → is_some (option_or (result_ok (commands words)) rest) ≡ true
 unfolding words_check
 words-there place words rest u e = checked (commands words) e where
@@ -51,11 +51,11 @@ words-there place words rest u e = checked (commands words) e where
   checked (Err code) e = absurd (cc)
 
 -- where both of two steps have no fault, each has none
-first-ok : (r : Result (Unit {0}) Fault) (next : Result (Unit {0}) Fault) (u : Unit {0}) → (r >>= λ _. next) ≡ Ok u → r ≡ Ok u
+pub first-ok : (r : Result (Unit {0}) Fault) (next : Result (Unit {0}) Fault) (u : Unit {0}) → (r >>= λ _. next) ≡ Ok u → r ≡ Ok u
 first-ok (Ok v) next u e = refl
 first-ok (Err fault) next u e = absurd (cc)
 
-next-ok : (r : Result (Unit {0}) Fault) (next : Result (Unit {0}) Fault) (u : Unit {0}) → (r >>= λ _. next) ≡ Ok u → next ≡ Ok u
+pub next-ok : (r : Result (Unit {0}) Fault) (next : Result (Unit {0}) Fault) (u : Unit {0}) → (r >>= λ _. next) ≡ Ok u → next ≡ Ok u
 next-ok (Ok v) next u e = e
 next-ok (Err fault) next u e = absurd (cc)
 
@@ -102,44 +102,44 @@ names-there m items names u e same is =
 
 -- ---- runs over the maps of the code are those over the bodies
 
-own-same : (m n : FontBodies) (g : List ℕ) → SameBodies m n → own m g ≡ own n g
+pub own-same : (m n : FontBodies) (g : List ℕ) → SameBodies m n → own m g ≡ own n g
 own-same m n g same = sym (own_same m n g (record { same = λ key i. same key })).0
 
-own-none : (m : FontBodies) (g : List ℕ) → m.glyphs g ≡ None → own m g ≡ None
+pub own-none : (m : FontBodies) (g : List ℕ) → m.glyphs g ≡ None → own m g ≡ None
 unfolding own
 own-none m g e = ap (own_of m) e
 
 -- what is kept of a name is what its own body draws
-abbrev pub KeepsOwn : List Kept → List Item → Type 0
-KeepsOwn runs items = (g : List ℕ) → kept_of runs g ≡ own (bodies items) g
+abbrev pub KeepsOwn : (List ℕ → Option (Result Drawing Code)) → List Item → Type 0
+KeepsOwn run items = (g : List ℕ) → run g ≡ own (bodies items) g
 
 pub keeps-own : (m : FontBodies) (items : List Item) (runs : List Kept) → SameBodies m (bodies items)
-    → ((g : List ℕ) → kept_of runs g ≡ own_among m (glyph_names items) g) → KeepsOwn runs items
+    → ((g : List ℕ) → kept_of runs g ≡ own_among m (glyph_names items) g) → KeepsOwn (kept_of runs) items
 keeps-own m items runs same kept g =
     elim (cases_Bool (list_any (bytes_eq g) (glyph_names items))) [
       | inl there ↦ kept g ∙ ap (λ b. cond b (own m g) None) there ∙ own-same m (bodies items) g same
       | inr absent ↦ kept g ∙ ap (λ b. cond b (own m g) None) absent ∙ sym (own-none (bodies items) g (no-glyph items g absent))
     ]
 
-same-function : {A B : Type 0} (f g : A → B) → ((x : A) → f x ≡ g x) → f ≡ g
+pub same-function : {A B : Type 0} (f g : A → B) → ((x : A) → f x ≡ g x) → f ≡ g
 same-function f g h = λ j. λ x. h x j
 
 -- by the runs that are kept, outlines are those of the bodies
-outline-is : (m : FontBodies) (g : List ℕ) → outline_within (own m) 4 g ≡ outline m g
+pub outline-is : (m : FontBodies) (g : List ℕ) → outline_within (own m) 4 g ≡ outline m g
 unfolding outline
 outline-is m g = refl
 
-kept-outline : (runs : List Kept) (items : List Item) → KeepsOwn runs items → (g : List ℕ) → outline_within (kept_of runs) 4 g ≡ outline (bodies items) g
-kept-outline runs items kept g =
-    ap (λ run. outline_within run 4 g) (same-function (kept_of runs) (own (bodies items)) kept) ∙ outline-is (bodies items) g
+kept-outline : (run : List ℕ → Option (Result Drawing Code)) (items : List Item) → KeepsOwn run items → (g : List ℕ) → outline_within run 4 g ≡ outline (bodies items) g
+kept-outline run items kept g =
+    ap (λ r. outline_within r 4 g) (same-function run (own (bodies items)) kept) ∙ outline-is (bodies items) g
 
-metrics-are : (runs : List Kept) (items : List Item) (names : List (List ℕ)) → KeepsOwn runs items
-    → glyph_metrics_among (kept_of runs) names ≡ (glyphs (bodies items) names >>= (λ gs. Ok (map glyph_metrics gs)))
+metrics-are : (run : List ℕ → Option (Result Drawing Code)) (items : List Item) (names : List (List ℕ)) → KeepsOwn run items
+    → glyph_metrics_among run names ≡ (glyphs (bodies items) names >>= (λ gs. Ok (map glyph_metrics gs)))
 unfolding glyph_metrics_among
-metrics-are runs items names kept =
-    ap (λ run. glyphs_by run (outline_within (kept_of runs) 4) names >>= (λ gs. Ok (map glyph_metrics gs))) (same-function (kept_of runs) (own (bodies items)) kept)
+metrics-are run items names kept =
+    ap (λ r. glyphs_by r (outline_within run 4) names >>= (λ gs. Ok (map glyph_metrics gs))) (same-function run (own (bodies items)) kept)
     ∙ ap (λ outline. glyphs_by (own (bodies items)) outline names >>= (λ gs. Ok (map glyph_metrics gs)))
-    (same-function (outline_within (kept_of runs) 4) (outline (bodies items)) (kept-outline runs items kept))
+    (same-function (outline_within run 4) (outline (bodies items)) (kept-outline run items kept))
 
 -- ---- what is reported of all
 
@@ -170,14 +170,14 @@ fault-of-all refusals.Memory r h = tt
 fault-of-all (refusals.Fault fault) (Ok gs) h = absurd (cc)
 fault-of-all (refusals.Fault fault) (Err e) h = cc
 
-pub all-told : (items : List Item) (runs : List Kept) (metrics : List GlyphMetrics) (box : BBox) → KeepsOwn runs items
-    → glyph_metrics_among (kept_of runs) (glyph_names items) ≡ Ok metrics → box ≡ united (map (λ s. s.bbox) metrics) → measured items ≡ Ok (record { metrics = metrics; font_box = box })
-all-told items runs metrics box kept told boxes =
+pub all-told : (items : List Item) (run : List ℕ → Option (Result Drawing Code)) (metrics : List GlyphMetrics) (box : BBox) → KeepsOwn run items
+    → glyph_metrics_among run (glyph_names items) ≡ Ok metrics → box ≡ united (map (λ s. s.bbox) metrics) → measured items ≡ Ok (record { metrics = metrics; font_box = box })
+all-told items run metrics box kept told boxes =
     measured-is items
-    ∙ told-all (glyphs (bodies items) (glyph_names items)) metrics box (sym (metrics-are runs items (glyph_names items) kept) ∙ told) boxes
+    ∙ told-all (glyphs (bodies items) (glyph_names items)) metrics box (sym (metrics-are run items (glyph_names items) kept) ∙ told) boxes
 
-pub all-refused : (items : List Item) (runs : List Kept) (refused : Refusal) → KeepsOwn runs items
-    → Refuses refused (glyph_metrics_among (kept_of runs) (glyph_names items)) → Refuses refused (measured items)
-all-refused items runs refused kept h =
+pub all-refused : (items : List Item) (run : List ℕ → Option (Result Drawing Code)) (refused : Refusal) → KeepsOwn run items
+    → Refuses refused (glyph_metrics_among run (glyph_names items)) → Refuses refused (measured items)
+all-refused items run refused kept h =
     subst (Refuses refused) (sym (measured-is items))
-    (fault-of-all refused (glyphs (bodies items) (glyph_names items)) (subst (Refuses refused) (metrics-are runs items (glyph_names items) kept) h))
+    (fault-of-all refused (glyphs (bodies items) (glyph_names items)) (subst (Refuses refused) (metrics-are run items (glyph_names items) kept) h))

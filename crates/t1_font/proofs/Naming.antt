@@ -1,16 +1,13 @@
 -- Names that are kept beside glyphs.
 use Rattle.std.specs.Prelude.{filter_map}
-use Rattle.std.proofs.Common.{◌≡◌, ℕ, ◌+◌, ◌<◌, suc, length, get_or, drop, drop-cons, add-one, append_assoc, Option, Some, None, Bool, true, false, List, [], ◌∷◌, ◌++◌, refl, sym, ap, ◌∙◌, inl, inr, ◌||◌}
+use Rattle.std.proofs.Common.{◌≡◌, ℕ, ◌+◌, ◌<◌, suc, length, get_or, drop, drop-cons, add-one, append_assoc, Option, Some, None, List, [], ◌∷◌, ◌++◌, refl, sym, ap, ◌∙◌, inl, inr, ◌||◌}
 use Rattle.std.specs.List.{list_any}
 use Rattle.std.specs.Str.{bytes_eq}
 use Rattle.std.proofs.lemmas.Bool.{cases_Bool}
 use Rattle.std.proofs.lemmas.List.Folds.{list_any-append}
+use Rattle.std.proofs.Math.Bool.{or-false}
 use Rattle.indexmap.specs.IndexSet.{insert_key}
-use Rattle.t1_font.proofs.Keeping.{same_bytes}
-
-pub or_false : (b : Bool) → (b || false) ≡ b
-or_false true = refl
-or_false false = refl
+use Rattle.t1_run.proofs.Asked.{bytes_same}
 
 -- a name that is put in is among the names
 pub name-inserted : {K : Type 0} (name : K → List ℕ) (g : List ℕ) (k : K) (ks : List K)
@@ -20,13 +17,13 @@ name-inserted name g k ks =
       | inl there ↦
           rw there
           (elim (cases_Bool (bytes_eq g (name k))) [
-            | inl same ↦ rw (same, same_bytes g (name k) same, there) refl
-            | inr other ↦ rw other (sym (or_false (list_any (λ x. bytes_eq g (name x)) ks)))
+            | inl same ↦ rw (same, bytes_same g (name k) same, there) refl
+            | inr other ↦ rw other (sym (or-false (list_any (λ x. bytes_eq g (name x)) ks)))
           ])
       | inr absent ↦
           rw absent (
           list_any-append (λ x. bytes_eq g (name x)) ks (k ∷ [])
-          ∙ ap (λ b. list_any (λ x. bytes_eq g (name x)) ks || b) (or_false (bytes_eq g (name k))))
+          ∙ ap (λ b. list_any (λ x. bytes_eq g (name x)) ks || b) (or-false (bytes_eq g (name k))))
     ]
 
 -- ---- what a list gives, one after another

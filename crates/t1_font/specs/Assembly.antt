@@ -1,7 +1,7 @@
 -- The PFB file of a source.
 use Rattle.std.specs.Prelude.{ℕ, if◌then◌else◌, List, [], ◌∷◌, ◌++◌, Result, Ok, Err, codes, decimal, replicate}
 use Rattle.std.specs.List.{list_all}
-use Rattle.t1_frac.specs.Ascii.{line_feed, slash}
+use Rattle.t1_frac.specs.Ascii.{digit_zero, line_feed, slash}
 use Rattle.t1_frac.specs.declared.fault.Code.TheVariants.{F23}
 use Rattle.t1_frac.specs.declared.fault.Fault.{Fault}
 use Rattle.t1_frac.specs.declared.fault.Place.{Place}
@@ -40,7 +40,7 @@ private_text lead operator (item ∷ items) =
 
 -- Type 1 Font Format, Chapter 2: 512 zeros in eight lines, and the lines after them
 abbrev pub trailer_text : List (List ℕ) → List ℕ
-trailer_text tail = joined (replicate 8 (replicate 64 48) ++ tail)
+trailer_text tail = joined (replicate 8 (replicate 64 digit_zero) ++ tail)
 
 -- profile: the PFB file of a source in blocks of this size, or the first fault of its bodies, or F23
 unfoldable pub source_file : ℕ → SourceParts → Result (List ℕ) Fault

@@ -2,6 +2,7 @@ pub mod Assembly
 pub mod Bodies
 pub mod FontMetrics
 pub mod Glyphs
+pub mod InTurn
 pub mod Laws
 pub mod Lengths
 pub mod MeasuredGlyphs
@@ -10,4 +11,5 @@ pub mod Names
 pub mod Runs
 pub mod Slots
 pub mod SourceChecks
+pub mod ToRun
 pub mod Usage

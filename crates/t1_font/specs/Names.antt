@@ -4,7 +4,6 @@ use Rattle.std.specs.Map.{lookup}
 use Rattle.std.specs.Borrow.{Bor}
 use Rattle.std.specs.List.{list_any}
 use Rattle.std.specs.Str.{bytes_eq}
-use Rattle.std.specs.declared.vec.Vec.{Vec}
 use Rattle.t1_font.specs.declared.glyph_metrics.GlyphMetrics.{GlyphMetrics}
 use Rattle.t1_font.specs.Metrics.{has_glyph}
 
@@ -17,9 +16,9 @@ abbrev pub HasNames : List (Bor (List ℕ)) → List GlyphMetrics → Type 0
 HasNames names metrics = (g : List ℕ) → has_name names g ≡ has_glyph metrics g
 
 -- profile: the code that is kept for a name
-abbrev pub code_kept : {A : Type 0} → List (Vec ℕ A × ℕ) → List ℕ → Option ℕ
-code_kept entries g = lookup (λ key. bytes_eq g key.items) entries
+abbrev pub code_kept : List (Bor (List ℕ) × ℕ) → List ℕ → Option ℕ
+code_kept entries g = lookup (λ key. bytes_eq g key.now) entries
 
 -- profile: the code of a glyph; none for .notdef
-abbrev pub code_among : {A : Type 0} → List (Vec ℕ A × ℕ) → List ℕ → Option ℕ
+abbrev pub code_among : List (Bor (List ℕ) × ℕ) → List ℕ → Option ℕ
 code_among entries g = if bytes_eq g (codes ".notdef") then None else code_kept entries g

@@ -101,7 +101,7 @@ fn unplaced_metrics<'a, R: KeptRuns>(
 }
 
 /// What is measured of a glyph, or its first fault, at the glyph.
-fn placed_metrics<'a, R: KeptRuns>(
+pub(crate) fn placed_metrics<'a, R: KeptRuns>(
     alloc: Global,
     runs: &R,
     name: &'a [u8],

@@ -57,7 +57,7 @@ impl<'a> MeasuredGlyphs<'a> {
 }
 
 /// The name of an item that is a glyph.
-fn name_of<'i>(item: &'i Item) -> Option<&'i [u8]>
+pub(crate) fn name_of<'i>(item: &'i Item) -> Option<&'i [u8]>
     ensures { option_to_list (option_map (λ name. name.now) result) ≡ name_in item.now }
 {
     match item {

@@ -11,7 +11,7 @@ use t1_afm::{KernPair, Text};
 use t1_pairs::Pair;
 
 /// Adds a name.
-fn add_name<'a>(names: &mut IndexSet<&'a [u8]>, name: &'a [u8]) -> Result<(), AllocError>
+pub(crate) fn add_name<'a>(names: &mut IndexSet<&'a [u8]>, name: &'a [u8]) -> Result<(), AllocError>
     ensures { OnOk result ((g : List ℕ) → has_name names.new.keys g ≡ (has_name names.old.keys g || bytes_eq g name.now)) }
 {
     names.insert(name)?;

@@ -16,7 +16,7 @@ use crate::private::private_text_len;
 use itoa::Buffer;
 use std::alloc::Global;
 use t1_code::{EEXEC_LEAD, MAX_PART};
-use t1_frac::{Bytes, Code, Refusal, Words};
+use t1_frac::{Bytes, Code, Fault, Refusal, Words};
 use t1_run::Plain;
 use t1_source::{Item, Source};
 
@@ -99,15 +99,15 @@ fn is_short(source: &Source) -> bool
 }
 
 /// F23 where a part of the PFB file is too long, for each source with these clear lines and this tail whose private text is
-/// so long.
-pub fn check_parts(clear: &[Bytes], private_len: usize, tail: &[Bytes]) -> Result<(), Refusal>
-    ensures { (s : SourceParts) → s.clear ≡ clear.now → s.tail ≡ tail.now → IsPrivateLen s private_len → Gives (λ x. x) result (length_check s) }
+/// so long. It takes no memory.
+pub fn check_parts(clear: &[Bytes], private_len: usize, tail: &[Bytes]) -> Result<(), Fault>
+    ensures { (s : SourceParts) → s.clear ≡ clear.now → s.tail ≡ tail.now → IsPrivateLen s private_len → result ≡ length_check s }
 {
     let clear = lines_len(clear);
     let private = private_len.saturating_add(EEXEC_LEAD);
     let trailer = lines_len(tail).saturating_add(ZEROS_LEN);
     if clear.max(private).max(trailer) > MAX_PART {
-        return Err(Refusal::from(Code::F23));
+        return Err(Fault::from(Code::F23));
     }
     Ok(())
 }
@@ -115,7 +115,7 @@ pub fn check_parts(clear: &[Bytes], private_len: usize, tail: &[Bytes]) -> Resul
 /// F23 where a part of the PFB file of a source is too long. Its bodies have no fault. Lines are made only where the source is
 /// so long that the lengths of its texts don't answer, and none is kept.
 #[tactic(auto, using(crate::proofs::LengthLaws::length_checked), unfolding(crate::specs::Assembly::length_check))]
-fn check_length(alloc: Global, source: &Source) -> Result<(), Refusal>
+pub(crate) fn check_length(alloc: Global, source: &Source) -> Result<(), Refusal>
     requires { bodies_check source.now.items ≡ Ok tt }
     ensures { Gives (λ x. x) result (length_check source.now) }
 {
@@ -123,7 +123,8 @@ fn check_length(alloc: Global, source: &Source) -> Result<(), Refusal>
         return Ok(());
     }
     let len = private_text_len(alloc, source.lead(), source.operator(), source.items())?;
-    check_parts(source.clear(), len, source.tail())
+    check_parts(source.clear(), len, source.tail())?;
+    Ok(())
 }
 
 /// The least count of ten digits.
@@ -147,13 +148,13 @@ fn are_counted(items: &[Item]) -> bool
 }
 
 /// F23 where the count of a section line has more than nine digits. It takes no memory.
-pub fn check_counts(items: &[Item]) -> Result<(), Refusal>
-    ensures { Gives (λ x. x) result (counts_check items.now) }
+pub fn check_counts(items: &[Item]) -> Result<(), Fault>
+    ensures { result ≡ counts_check items.now }
 {
     if are_counted(items) {
         return Ok(());
     }
-    Err(Refusal::from(Code::F23))
+    Err(Fault::from(Code::F23))
 }
 
 /// The compiled bodies of a source whose PFB file and text have no fault; or their fault: the first of a body, at its

@@ -1,5 +1,6 @@
 //! The private text of a source, in one buffer.
 ghost use Rattle.std.specs.Prelude.{◌≡◌, ◌∷◌, ◌++◌, [], OnOk, codes, decimal};
+ghost use Rattle.t1_frac.specs.Ascii.{line_feed, slash};
 ghost use Rattle.t1_frac.specs.declared.fault.Place.TheVariants as places;
 ghost use Rattle.t1_frac.specs.Outcome.{Gives, told_at};
 ghost use Rattle.t1_code.specs.Cipher.{encrypted_words};
@@ -11,16 +12,8 @@ use itoa::Buffer;
 use std::alloc::{AllocError, Global};
 use t1_code::encrypt_words;
 use t1_frac::{Bytes, Place, Refusal, Words};
+use t1_parts::push_line;
 use t1_source::Item;
-
-/// Adds a plain line with its end.
-fn push_plain(text: &mut Vec<u8>, line: &[u8]) -> Result<(), AllocError>
-    ensures { OnOk result (text.new.items ≡ text.old.items ++ (line.now ++ 10 ∷ [])) }
-{
-    text.extend_from_slice(line)?;
-    text.push(b'\n')?;
-    Ok(())
-}
 
 /// Adds a section line with its count and its end.
 fn push_section(
@@ -29,7 +22,7 @@ fn push_section(
     count: u64,
     after: &[u8],
 ) -> Result<(), AllocError>
-    ensures { OnOk result (text.new.items ≡ text.old.items ++ (before.now ++ decimal count ++ after.now ++ 10 ∷ [])) }
+    ensures { OnOk result (text.new.items ≡ text.old.items ++ (before.now ++ decimal count ++ after.now ++ line_feed ∷ [])) }
 {
     text.extend_from_slice(before)?;
     text.extend_from_slice(Buffer::new().format(count).as_bytes())?;
@@ -94,7 +87,7 @@ fn push_glyph(
     charstring: &[u8],
     closing: &[u8],
 ) -> Result<(), AllocError>
-    ensures { OnOk result (text.new.items ≡ text.old.items ++ entry_text (47 ∷ name.now) operator.now charstring.now closing.now) }
+    ensures { OnOk result (text.new.items ≡ text.old.items ++ entry_text (slash ∷ name.now) operator.now charstring.now closing.now) }
 {
     text.push(b'/')?;
     text.extend_from_slice(name)?;
@@ -141,7 +134,7 @@ fn push_item(
     ensures { Gives (λ _. text.new.items) result (behind text.old.items (item_line lead operator.now item.now)) }
 {
     match item {
-        Item::Plain(line) => Ok(push_plain(text, line.as_slice())?),
+        Item::Plain(line) => Ok(push_line(text, line.as_slice())?),
         Item::Section(before, count, after) => {
             Ok(push_section(text, before.as_slice(), *count, after.as_slice())?)
         }

@@ -8,9 +8,11 @@ ghost use Rattle.t1_font.specs.Runs.{drawing_kept, kept_of, run_kept, own_among,
 use indexmap::IndexMap;
 use std::alloc::{AllocError, Global};
 use std::marker::Model;
+use std::mem;
+use t1_code::Command;
 use t1_extent::{KeptRun, KeptRuns};
 use t1_frac::{Code, Refusal};
-use t1_run::{Bodies, Meter, run};
+use t1_run::{Bodies, Meter, Segment, StoredBodies, run_of_body};
 
 /// The runs of some glyphs, each with its number, or its first fault. Contracts see the list of both, each with the
 /// glyph's name. The trace of a run is kept where its glyph may be a part of a composite.
@@ -57,7 +59,7 @@ impl Runs {
     }
 
     /// Keeps a run, or its first fault, in the place of an earlier one of that name.
-    fn keep(
+    pub(crate) fn keep(
         &mut self,
         alloc: Global,
         name: &[u8],
@@ -85,12 +87,35 @@ impl KeptRuns for Runs {
     }
 }
 
-/// The run of a glyph's own body, or its first fault.
-#[tactic(auto, unfolding(t1_run::specs::Run::own))]
-fn kept_run<B: Bodies>(
+/// The run of a glyph's own body, or its first fault. The room is that of the run's segments, before it and after it.
+pub(crate) fn kept_run_of<B: Bodies>(
     alloc: Global,
     bodies: &B,
     name: &[u8],
+    body: &[Command],
+    room: &mut Vec<Segment>,
+    meter: &mut Meter,
+) -> Result<Result<KeptRun, Code>, AllocError>
+    requires { B.glyphs bodies.now name.now ≡ Some body.now }
+    ensures kept { IfOk result (λ kept. own (font (B.subrs bodies.now) (B.glyphs bodies.now)) name.now ≡ Some (drawing_kept kept)) }
+    ensures traced { IfOk result (λ kept. IsTracedAs name.now (Some kept)) }
+    ensures after { IfOk result (λ kept. IsAfter meter.old (Some kept)) }
+    ensures counted { meter.new ≡ counted meter.old 1 }
+{
+    let segments = mem::replace(room, Vec::new(alloc));
+    match run_of_body(alloc, bodies, body, segments, meter) {
+        Ok(run) => Ok(Ok(KeptRun::of(alloc, name, run, room)?)),
+        Err(Refusal::Fault(fault)) => Ok(Err(fault.code)),
+        Err(Refusal::Memory) => Err(AllocError),
+    }
+}
+
+/// The same of a glyph whose body is stored.
+fn kept_run<B: StoredBodies>(
+    alloc: Global,
+    bodies: &B,
+    name: &[u8],
+    room: &mut Vec<Segment>,
     meter: &mut Meter,
 ) -> Result<Result<KeptRun, Code>, AllocError>
     requires { IsSome (B.glyphs bodies.now name.now) }
@@ -99,16 +124,15 @@ fn kept_run<B: Bodies>(
     ensures after { IfOk result (λ kept. IsAfter meter.old (Some kept)) }
     ensures counted { meter.new ≡ counted meter.old 1 }
 {
-    match run(alloc, bodies, name, meter) {
-        Ok(run) => Ok(Ok(KeptRun::of(alloc, name, run)?)),
-        Err(Refusal::Fault(fault)) => Ok(Err(fault.code)),
-        Err(Refusal::Memory) => Err(AllocError),
-    }
+    let Some(body) = bodies.glyph(name) else {
+        unreachable!()
+    };
+    kept_run_of(alloc, bodies, name, body, room, meter)
 }
 
 /// Runs the own body of each of these glyphs, and keeps its first fault where it has one. The meter counts each of them;
 /// where memory runs out, those that were run.
-pub fn runs_of<B: Bodies>(
+pub fn runs_of<B: StoredBodies>(
     alloc: Global,
     bodies: &B,
     names: &[&[u8]],
@@ -122,8 +146,9 @@ pub fn runs_of<B: Bodies>(
     ensures want { OnErr result (CountsSome (length names.now) meter.old meter.new) }
 {
     let mut runs = Runs::new(alloc);
+    let mut room = Vec::new(alloc);
     for name in names {
-        let kept = kept_run(alloc, bodies, name, meter)?;
+        let kept = kept_run(alloc, bodies, name, &mut room, meter)?;
         runs.keep(alloc, name, kept)?;
     }
     Ok(runs)

@@ -1,5 +1,6 @@
 //! The usage table.
 ghost use Rattle.std.specs.Prelude.{◌≡◌, ◌++◌, ◌∷◌, [], IfOk, OnOk, flat_map};
+ghost use Rattle.t1_frac.specs.Ascii.{line_feed};
 ghost use Rattle.t1_font.specs.Usage.{entered_text, parts_text, usage_line, usage_table};
 
 use crate::glyph_metrics::{GlyphMetrics, PlacedParts};
@@ -43,7 +44,7 @@ fn push_parts(text: &mut Vec<u8>, parts: &Option<PlacedParts>) -> Result<(), All
 
 /// Adds the line of a glyph.
 fn push_line(text: &mut Vec<u8>, glyph: &GlyphMetrics) -> Result<(), AllocError>
-    ensures { OnOk result (text.new.items ≡ text.old.items ++ usage_line glyph.now ++ 10 ∷ []) }
+    ensures { OnOk result (text.new.items ≡ text.old.items ++ usage_line glyph.now ++ line_feed ∷ []) }
 {
     text.extend_from_slice(b"U ")?;
     text.extend_from_slice(glyph.name.as_slice())?;

@@ -200,11 +200,11 @@ fn add_body(alloc: Global, bodies: &mut Plain, name: &str, words: &str) -> Resul
 
 /// What is kept of a glyph's run.
 fn kept_of(alloc: Global, bodies: &Plain, name: &[u8]) -> Result<Glyph, Fail> {
-    if bodies.glyph(name).is_none() {
+    if !bodies.has_glyph(name) {
         return Err(Fail::new("no such glyph"));
     }
     let run = run(alloc, bodies, name, &mut Meter::new())?;
-    let run = KeptRun::of(alloc, name, run)?;
+    let run = KeptRun::of(alloc, name, run, &mut Vec::new(alloc))?;
     let name = Vec::from_slice(alloc, name)?;
     Ok(Glyph { name, run })
 }

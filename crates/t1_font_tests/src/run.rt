@@ -32,7 +32,7 @@ fn add_glyph(alloc: Global, bodies: &mut Plain, name: &str, body: Body) -> Resul
 
 /// How many steps a glyph makes, or its fault.
 fn steps_of(alloc: Global, bodies: &Plain, name: &[u8]) -> Result<Result<u32, Code>, Fail> {
-    if bodies.glyph(name).is_none() {
+    if !bodies.has_glyph(name) {
         return Err(Fail::new("no such glyph"));
     }
     match run(alloc, bodies, name, &mut Meter::new()) {
@@ -113,7 +113,7 @@ fn accented(alloc: Global) -> Result<Plain, Fail> {
 }
 
 fn run_of(alloc: Global, bodies: &Plain, name: &[u8], meter: &mut Meter) -> Result<Run, Fail> {
-    if bodies.glyph(name).is_none() {
+    if !bodies.has_glyph(name) {
         return Err(Fail::new("no such glyph"));
     }
     Ok(run(alloc, bodies, name, meter)?)

@@ -3,9 +3,7 @@ use Rattle.std.proofs.Common.{◌≡◌, Result, Ok, Err, refl, ap}
 use Rattle.std.specs.Result.{OnErr}
 use Rattle.t1_frac.specs.declared.fault.Code.{Code}
 use Rattle.t1_frac.specs.declared.fault.Place.{Place}
-use Rattle.t1_frac.specs.declared.fault.Refusal.{Refusal}
-use Rattle.t1_frac.specs.declared.fault.Refusal.TheVariants as refusals
-use Rattle.t1_frac.specs.Outcome.{fault_at, placed, told_at, Refuses, ◌>>=◌}
+use Rattle.t1_frac.specs.Outcome.{told_at, ◌>>=◌}
 
 -- what holds anyway holds after an error
 pub on_err : {X E P : Type 0} (r : Result X E) → P → OnErr r P
@@ -20,10 +18,3 @@ bind_ok (Err x) f b e = cc
 pub told_ok : {X : Type 0} (place : Place) (r : Result X Code) (x : X) → told_at place r ≡ Ok x → r ≡ Ok x
 told_ok place (Ok y) x e = let same : y ≡ x = cc in ap Ok same
 told_ok place (Err c) x e = cc
-
--- a refusal of what a definition gives, at another place
-pub refuses_at : {X : Type 0} (here there : Place) (refused : Refusal) (given : Result X Code) → Refuses refused (told_at here given) → Refuses (placed there refused) (told_at there given)
-refuses_at here there refusals.Memory given h = h
-refuses_at here there (refusals.Fault fault) (Ok x) h = cc
-refuses_at here there (refusals.Fault fault) (Err code) h =
-    let same : code ≡ fault.code = cc in ap (λ c. Err (fault_at there c)) same

@@ -12,11 +12,11 @@ use Rattle.t1_frac.specs.Rounding.{RoundAlike, RoundingMoves, FloorAndCeilingMov
 use Rattle.t1_frac.proofs.Exact.{lowest_terms}
 
 -- q is the greatest whole number with q * d not above z, said without subtraction
-record IsFloor (z : ℤ) (d : ℕ) (q : ℤ) : Type 0 where
-  below : up q * d + down z ≤ up z + down q * d
-  above : up z + down q * d < down z + up q * d + d
+pub record IsFloor (z : ℤ) (d : ℕ) (q : ℤ) : Type 0 where
+  pub below : up q * d + down z ≤ up z + down q * d
+  pub above : up z + down q * d < down z + up q * d + d
 
-floor_is : (z : ℤ) (d : ℕ) → 0 < d → IsFloor z d (int_div_euclid z (pos d))
+pub floor_is : (z : ℤ) (d : ℕ) → 0 < d → IsFloor z d (int_div_euclid z (pos d))
 floor_is (pos a) d h = record { below = omega arith; above = omega arith }
 floor_is (negsuc a) d h = record { below = omega arith; above = omega arith }
 

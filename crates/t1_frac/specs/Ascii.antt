@@ -81,6 +81,10 @@ backslash = 92
 abbrev pub close_bracket : ℕ
 close_bracket = 93
 
+-- ASCII: the letter `a`
+abbrev pub letter_a : ℕ
+letter_a = 97
+
 -- ASCII: `{`
 abbrev pub open_brace : ℕ
 open_brace = 123

@@ -1,22 +1,21 @@
 -- What edits make of the charstrings that are held.
-use Rattle.std.proofs.Common.{◌≡◌, ◌<◌, ◌+◌, ℕ, suc, Bool, true, false, cond, ◌&&◌, ◌||◌, List, [], ◌∷◌, map, drop, drop-cons, get_or, length, add-one, Option, Some, None, Result, Ok, Err, refl, ap, sym, ◌∙◌}
+use Rattle.std.proofs.Common.{◌≡◌, ◌<◌, ◌+◌, ℕ, Bool, true, false, cond, ◌&&◌, ◌||◌, List, [], ◌∷◌, map, drop, get_or, length, Option, None, Result, Ok, Err, refl, ap, sym, ◌∙◌}
 use Rattle.std.specs.Prelude.{is_none, MatchResult}
 use Rattle.std.specs.List.{AllByRecursion, list_any}
-use Rattle.std.specs.Option.{option_map, option_or, option_to_list}
+use Rattle.std.specs.Option.{option_map, option_or}
 use Rattle.t1_parts.specs.LenIV.{lead}
 use Rattle.t1_parts.specs.SourceParts.{SourceParts}
-use Rattle.t1_run.specs.Run.{FontBodies, Key, Subr, Glyph}
+use Rattle.t1_run.specs.Run.{Key, body_at, key_eq}
 use Rattle.t1_font.specs.Bodies.{bodies, bodies_check}
 use Rattle.t1_font.proofs.Compiling.{or-assoc, or-none}
 use Rattle.t1_charstrings.specs.declared.edited.Gone.{Gone}
 use Rattle.t1_charstrings.specs.declared.entries.Charstrings.{Charstrings}
 use Rattle.t1_charstrings.specs.declared.edited.EditedEntries.{EditedEntries}
 use Rattle.t1_charstrings.specs.Batch.{gone_key, is_gone, AreEdits, AreFresh, AreGone}
-use Rattle.t1_charstrings.specs.Entries.{Kept, encrypted, body_at as kept_body_at, key_eq as same_key}
+use Rattle.t1_charstrings.specs.Entries.{Kept, encrypted}
 use Rattle.t1_charstrings.specs.Kept.{kept_at}
-use Rattle.t1_cache.specs.Overlay.{body_at}
-use Rattle.t1_cache.specs.Users.{key_eq, key_of}
-use Rattle.t1_cache.proofs.Adding.{key-same}
+use Rattle.t1_cache.specs.Users.{key_of}
+use Rattle.t1_font.proofs.Keys.{key-same}
 use Rattle.t1_rerun.specs.declared.entry_change.EntryChange.{EntryChange}
 use Rattle.t1_rerun.specs.Settled.{changed_keys, AreDistinctKeys, HasBody}
 use Rattle.t1_source.specs.WellFormed.{IsWellFormed}
@@ -31,6 +30,7 @@ use Rattle.t1_cache.specs.Renewed.{Kept as KeptGlyph}
 use Rattle.t1_cache.proofs.Distinct.{names_distinct}
 use Rattle.t1_rerun.specs.Opened.{runs_where}
 use Rattle.t1_rerun.specs.Renewing.{IsRunWhereStale}
+use Rattle.t1_rerun.proofs.ChangedBodies.{change-first}
 use Rattle.t1_batch.specs.Batch.{AreBatchChanges}
 use Rattle.t1_batch.specs.Members.{HaveSameKeys}
 use Rattle.t1_batch.proofs.Members.{same_stale, same_stale_glyphs}
@@ -42,26 +42,6 @@ use Rattle.t1_charstrings.specs.Made.{made_of as made_in, source_of as source_in
 use Rattle.t1_held.specs.Edits.{made_by, made_of, source_of, AreChanges, AreRight}
 use Rattle.t1_held.specs.Ready.{commit_runs}
 use Rattle.t1_held.specs.Held.{IsHeld}
-
--- ---- keys
-
-pub key-test : (k j : Key) → same_key k j ≡ key_eq k j
-key-test (Subr n) (Subr m) = refl
-key-test (Glyph g) (Glyph h) = refl
-key-test (Subr n) (Glyph h) = refl
-key-test (Glyph g) (Subr m) = refl
-
-same-body : (m : FontBodies) (k : Key) → kept_body_at m k ≡ body_at m k
-same-body m (Subr n) = refl
-same-body m (Glyph g) = refl
-
--- whether a key is among others, by either test
-among : (k : Key) (ks : List Key) → list_any (same_key k) ks ≡ list_any (key_eq k) ks
-among k [] = refl
-among k (j ∷ ks) = rw (key-test k j, among k ks) refl
-
-change-first : (xs : List EntryChange) (i : ℕ) (x : EntryChange) → i < length xs → x ≡ get_or xs i x → drop i xs ≡ x ∷ drop (i + 1) xs
-change-first xs i x h e = rw (add-one, drop-cons xs i x) (ap (λ y. y ∷ drop (suc i) xs) (sym e))
 
 -- ---- the charstrings of changes, one after another
 
@@ -80,7 +60,7 @@ fresh-more front changes i c old new inside is before put k =
 
 module _ (front : ℕ) (made : SourceParts) (k : Key) where
   abbrev wanted-at : Bool → Option Kept
-  wanted-at there = cond there (option_map (encrypted front k) (kept_body_at (bodies made.items) k)) None
+  wanted-at there = cond there (option_map (encrypted front k) (body_at (bodies made.items) k)) None
 
   fresh-none : (changes : List EntryChange) → list_any (key_eq k) (changed_keys changes) ≡ false → fresh_in front changes k ≡ None
   fresh-none [] e = refl
@@ -100,18 +80,18 @@ module _ (front : ℕ) (made : SourceParts) (k : Key) where
     by true on rest =
         let is : k ≡ key_of c.named = key-same k (key_of c.named) on in
         let none : fresh_in front changes k ≡ None = fresh-none changes (ap (λ j. list_any (key_eq j) (changed_keys changes)) is ∙ distinct.0) in
-        let body : kept_body_at (bodies made.items) k ≡ c.body = same-body (bodies made.items) k ∙ ap (body_at (bodies made.items)) is ∙ has.0 in
+        let body : body_at (bodies made.items) k ≡ c.body = ap (body_at (bodies made.items)) is ∙ has.0 in
         ap (λ r. option_or r (option_map (encrypted front k) c.body)) none ∙ sym (ap (option_map (encrypted front k)) body)
     by false off rest = sym (or-none (fresh_in front changes k)) ∙ rest
 
 fresh-are : (front : ℕ) (made : SourceParts) (changes : List EntryChange) (fresh : Charstrings) → AreDistinctKeys (changed_keys changes)
     → AllByRecursion (HasBody made) changes → ((k : Key) → kept_at fresh k ≡ fresh_in front changes k) → AreFresh front (changed_keys changes) made fresh
 fresh-are front made changes fresh distinct has are k =
-    are k ∙ fresh-at front made k changes distinct has ∙ sym (ap (wanted-at front made k) (among k (changed_keys changes)))
+    are k ∙ fresh-at front made k changes distinct has
 
 -- ---- the entries that are gone
 
-gone-among : (k : Key) (gone : List Gone) → is_gone gone k ≡ list_any (same_key k) (map gone_key gone)
+gone-among : (k : Key) (gone : List Gone) → is_gone gone k ≡ list_any (key_eq k) (map gone_key gone)
 gone-among k [] = refl
 gone-among k (g ∷ gone) = rw (gone-among k gone) refl
 
@@ -155,8 +135,7 @@ module _ (made : SourceParts) (k : Key) where
 gone-are : (made : SourceParts) (changes : List EntryChange) (gone : List Gone) → AreDistinctKeys (changed_keys changes)
     → AllByRecursion (HasBody made) changes → map gone_key gone ≡ gone_keys changes → AreGone (changed_keys changes) made gone
 gone-are made changes gone distinct has are k =
-    gone-among k gone ∙ ap (list_any (same_key k)) are ∙ among k (gone_keys changes) ∙ gone-at made k changes distinct has
-    ∙ sym (ap (λ b. b && is_none (kept_body_at (bodies made.items) k)) (among k (changed_keys changes)) ∙ ap (λ r. list_any (key_eq k) (changed_keys changes) && is_none r) (same-body (bodies made.items) k))
+    gone-among k gone ∙ ap (list_any (key_eq k)) are ∙ gone-at made k changes distinct has
 
 -- ---- edits
 
@@ -169,11 +148,6 @@ edits_are s made changes c entries kept well sound edited distinct has fresh gon
   fresh = fresh-are (lead s) made changes entries.fresh distinct has fresh;
   gone = gone-are made changes entries.gone.items distinct has gone;
 }
-
--- one change alone
-pub one_key : (change : Option EntryChange) → AreDistinctKeys (changed_keys (option_to_list change))
-one_key None = tt
-one_key (Some c) = (refl, tt)
 
 pub run-where-stale : (count : ℕ) (ks ls : List Key) (s : SourceParts) (kept l : List KeptGlyph) → HaveSameKeys ks ls
     → AllByRecursion (IsRunWhereStale count ks s kept) l → AllByRecursion (IsRunWhereStale count ls s kept) l

@@ -9,8 +9,7 @@ use Rattle.t1_frac.specs.Outcome.{Refuses, ◌>>=◌}
 use Rattle.t1_frac.proofs.OutcomeLaws.{bind_ok}
 use Rattle.t1_parts.specs.SourceParts.{SourceParts}
 use Rattle.t1_parts.specs.LenIV.{lead}
-use Rattle.t1_font.specs.Bodies.{bodies, bodies_check}
-use Rattle.t1_font.proofs.LengthLaws.{body_fault_told}
+use Rattle.t1_font.specs.Bodies.{bodies}
 use Rattle.t1_parts.specs.Printing.{text}
 use Rattle.t1_parts.specs.Reading.{reads}
 use Rattle.t1_source.specs.declared.edit.Edit.{Edit}
@@ -20,7 +19,7 @@ use Rattle.t1_source.specs.Changes.{changed}
 use Rattle.t1_source.specs.WellFormed.{is_counted, IsWellFormed}
 use Rattle.t1_source.proofs.WellFormedEditedLaws.{edited_well_formed}
 use Rattle.t1_source.proofs.WellFormedSourceLaws.{source_well_formed}
-use Rattle.t1_run.specs.Run.{Subr, Glyph}
+use Rattle.t1_run.specs.Run.{Subr, Glyph, key_eq}
 use Rattle.t1_font.specs.Assembly.{file_check}
 use Rattle.t1_font.specs.Glyphs.{glyph_names}
 use Rattle.t1_font.specs.Runs.{counted, Counts}
@@ -33,17 +32,14 @@ use Rattle.t1_font.specs.Lengths.{IsPrivateLen}
 use Rattle.t1_cache.specs.declared.records.Records.{Records}
 use Rattle.t1_charstrings.specs.Made.{IsPrepared}
 use Rattle.t1_cache.specs.Edited.{named, IsEditedAt}
-use Rattle.t1_cache.specs.Users.{key_eq}
 use Rattle.t1_cache.proofs.Distinct.{names_distinct}
 use Rattle.t1_rerun.specs.declared.entry_change.EntryChange.{EntryChange}
-use Rattle.t1_rerun.specs.Changing.{IsChangeOf}
 use Rattle.t1_rerun.specs.EntryChanges.{IsChanged, IsMade}
 use Rattle.t1_rerun.specs.Opened.{runs_where}
 use Rattle.t1_rerun.specs.Right.{IsRight}
 use Rattle.t1_rerun.specs.Settled.{changed_keys, AreAsBefore, AreDistinctKeys, HasBody}
-use Rattle.t1_rerun.proofs.ChangedBodies.{as-list}
+use Rattle.t1_rerun.proofs.ChangedBodies.{as-list, IsChangeOf, alone}
 use Rattle.t1_rerun.proofs.Judged.{still-right}
-use Rattle.t1_held.proofs.CommitLaws.{one_key}
 use Rattle.t1_held.specs.declared.held.Held.{Held}
 use Rattle.t1_held.specs.Held.{IsHeld}
 use Rattle.t1_held.specs.declared.edits.Edits.{Edits}
@@ -125,7 +121,7 @@ module _ (s : SourceParts) (k : List Pair) (edit : Edit) (change : Change) (h : 
   change_alone entry c changes is = record {
     same = λ key. ap (list_any (key_eq key)) (ap changed_keys is ∙ c.keys);
     edited = subst (λ l. IsEditedAt (changed_keys l) s made) (sym is) c.edited;
-    keys = subst (λ l. AreDistinctKeys (changed_keys l)) (sym is) (one_key entry);
+    keys = subst (λ l. AreDistinctKeys (changed_keys l)) (sym is) (alone entry);
     bodies = subst (AllByRecursion (HasBody made)) (sym is) c.bodies;
     compiled = c.compiled;
     prepared = λ file. as-list changes entry s made h.records (glyph_names made.items) is (change_of entry c file);
@@ -144,10 +140,6 @@ counts_none names (Ok checked) old r (refusals.Fault fault) is h = absurd (cc)
 pub counts_all : {T : Type 0} (runs old new : ℕ) (r : Result T Refusal) (e : Refusal) → r ≡ Err e → new ≡ counted old runs → Counts runs old new r
 counts_all runs old new r refusals.Memory is h = rw is (runs, omega arith, h)
 counts_all runs old new r (refusals.Fault fault) is h = rw is h
-
-pub bodies_refused : (s : SourceParts) (refusal : Refusal) → Refuses refusal (bodies_check s.items) → Refuses refusal (file_check s)
-bodies_refused s refusals.Memory h = h
-bodies_refused s (refusals.Fault fault) h = body_fault_told s fault h
 
 pub checked_well : (s : SourceParts) → source_check s ≡ Ok tt → (list_all is_counted s.items ≡ true → reads (text s) ≡ Ok s) → IsWellFormed s
 checked_well s checked again = source_well_formed (text s) s (again (counts_checked s checked))

@@ -8,14 +8,13 @@ use Rattle.t1_pairs.specs.declared.pairs.Pair.{Pair}
 use Rattle.t1_source.specs.Changes.{changed, Serves}
 use Rattle.t1_source.specs.Editing.{edited}
 use Rattle.t1_source.specs.WellFormed.{IsWellFormed}
-use Rattle.t1_run.specs.Run.{Key}
+use Rattle.t1_run.specs.Run.{Key, key_eq}
 use Rattle.t1_font.specs.Assembly.{file_check}
 use Rattle.t1_font.specs.Bodies.{bodies_check}
 use Rattle.t1_font.specs.Glyphs.{glyph_names}
 use Rattle.t1_charstrings.specs.declared.made.Made.{Made}
 use Rattle.t1_charstrings.specs.declared.made.Made.TheVariants as ways
 use Rattle.t1_cache.specs.Edited.{named, IsEditedAt}
-use Rattle.t1_cache.specs.Users.{key_eq}
 use Rattle.t1_rerun.specs.declared.entry_change.EntryChange.{EntryChange}
 use Rattle.t1_rerun.specs.Changing.{AreChangesOf}
 use Rattle.t1_rerun.specs.Settled.{changed_keys, AreDistinctKeys, HasBody}

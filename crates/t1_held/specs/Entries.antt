@@ -1,9 +1,9 @@
 -- The charstrings of the entries that edits name.
 use Rattle.std.specs.Prelude.{ℕ, List, [], ◌∷◌, filter, is_none, Option, None, if◌then◌else◌}
 use Rattle.std.specs.Option.{option_map, option_or}
-use Rattle.t1_run.specs.Run.{Key}
+use Rattle.t1_run.specs.Run.{Key, key_eq}
 use Rattle.t1_charstrings.specs.Entries.{Kept, encrypted}
-use Rattle.t1_cache.specs.Users.{key_eq, key_of}
+use Rattle.t1_cache.specs.Users.{key_of}
 use Rattle.t1_rerun.specs.declared.entry_change.EntryChange.{EntryChange}
 use Rattle.t1_rerun.specs.Settled.{changed_keys}
 

@@ -10,7 +10,7 @@ use t1_cache::{
 use t1_code::{Body, compile};
 use t1_extent::KeptRun;
 use t1_frac::{Bytes, Words};
-use t1_run::{Bodies, Meter, Plain, run};
+use t1_run::{Bodies, Meter, Plain, StoredBodies, run};
 
 /// Three glyphs of the demo font with their words and the composites on them; acute enters Subr 4.
 const GLYPHS: [(&str, &str, &[&str]); 3] = [
@@ -61,7 +61,7 @@ fn glyph_record(
     glyph: &(&str, &str, &[&str]),
 ) -> Result<GlyphRecord, Fail> {
     let (name, words, users) = glyph;
-    if bodies.glyph(name.as_bytes()).is_none() {
+    if !bodies.has_glyph(name.as_bytes()) {
         return Err(Fail::new("no such glyph"));
     }
     Ok(GlyphRecord {
@@ -70,6 +70,7 @@ fn glyph_record(
             alloc,
             name.as_bytes(),
             run(alloc, bodies, name.as_bytes(), meter)?,
+            &mut Vec::new(alloc),
         )?,
         bbox: None,
         users: names(alloc, users)?,
@@ -153,11 +154,11 @@ fn moves_users(rt: HostRuntime) -> Result<(), Fail> {
 fn renewed_serials(alloc: Global) -> Result<(u64, u64), Fail> {
     let mut records = records(alloc)?;
     let bodies = bodies(alloc)?;
-    if bodies.glyph(b"acute").is_none() {
+    if !bodies.has_glyph(b"acute") {
         return Err(Fail::new("no such glyph"));
     }
     let again = run(alloc, &bodies, b"acute", &mut Meter::new())?;
-    let again = KeptRun::of(alloc, b"acute", again)?;
+    let again = KeptRun::of(alloc, b"acute", again, &mut Vec::new(alloc))?;
     let Some(old) = renew(&mut records.glyphs, b"acute", again, None) else {
         return Err(Fail::new("no record"));
     };
@@ -176,12 +177,17 @@ fn renews_a_record(rt: HostRuntime) -> Result<(), Fail> {
 
 /// The run of acute with this meter, as a rerun.
 fn rerun_of_acute(alloc: Global, bodies: &Plain, meter: &mut Meter) -> Result<Rerun, Fail> {
-    if bodies.glyph(b"acute").is_none() {
+    if !bodies.has_glyph(b"acute") {
         return Err(Fail::new("no such glyph"));
     }
     Ok(Rerun {
         name: Vec::from_slice(alloc, b"acute")?,
-        run: KeptRun::of(alloc, b"acute", run(alloc, bodies, b"acute", meter)?)?,
+        run: KeptRun::of(
+            alloc,
+            b"acute",
+            run(alloc, bodies, b"acute", meter)?,
+            &mut Vec::new(alloc),
+        )?,
         bbox: None,
     })
 }
@@ -237,7 +243,7 @@ fn makes_room(rt: HostRuntime) -> Result<(), Fail> {
 fn subr_len(records: &Records, number: u16) -> Option<usize> {
     match records.subr(number) {
         None => None,
-        Some(body) => Some(body.commands().len()),
+        Some(body) => Some(body.len()),
     }
 }
 
@@ -245,7 +251,7 @@ fn subr_len(records: &Records, number: u16) -> Option<usize> {
 fn glyph_len(records: &Records, name: &[u8]) -> Option<usize> {
     match records.glyph(name) {
         None => None,
-        Some(body) => Some(body.commands().len()),
+        Some(body) => Some(body.len()),
     }
 }
 
@@ -289,7 +295,7 @@ fn changes_subrs(rt: HostRuntime) -> Result<(), Fail> {
 /// Puts other words into a glyph.
 fn put_words(alloc: Global, records: &mut Records, name: &[u8], words: &str) -> Result<(), Fail> {
     let body = body(alloc, words)?;
-    if records.glyph(name).is_none() {
+    if !records.has_glyph(name) {
         return Err(Fail::new("no such glyph"));
     }
     put_glyph(records, name, body);
@@ -306,7 +312,7 @@ fn insert_words(
     let body = body(alloc, words)?;
     let acute = rerun_of_acute(alloc, &bodies(alloc)?, &mut Meter::new())?;
     let name = Vec::from_slice(alloc, name)?;
-    if records.glyph(name.as_slice()).is_some() {
+    if records.has_glyph(name.as_slice()) {
         return Err(Fail::new("such a glyph"));
     }
     insert_glyph(alloc, records, name, body, acute.run, acute.bbox)?;

@@ -1,5 +1,5 @@
 -- Kerning pairs, printed and read.
-use Rattle.std.proofs.Common.{◌≡◌, ℕ, ℤ, pos, negsuc, suc, Bool, true, false, not, ◌+◌, ◌≤◌, ◌||◌, nat_le, Some, List, [], ◌∷◌, ◌++◌, Ok, codes, length, map, refl, sym, ◌∙◌, ap, arith, append_assoc}
+use Rattle.std.proofs.Common.{◌≡◌, ℕ, ℤ, pos, negsuc, suc, Bool, true, not, ◌+◌, ◌≤◌, nat_le, Some, List, [], ◌∷◌, ◌++◌, Ok, codes, length, map, refl, sym, ◌∙◌, ap, arith, append_assoc}
 use Rattle.std.specs.List.{list_all, onto_first}
 use Rattle.std.specs.Fmt.{decimal, signed_decimal}
 use Rattle.std.proofs.lemmas.Bool.{and_parts, and_from, leb-true, le-leb, not-true, ne_eqb}
@@ -10,6 +10,7 @@ use Rattle.t1_pairs.specs.declared.pairs.Pair.{Pair}
 use Rattle.t1_text.specs.Lines.{lines, joined, is_line, is_line_end}
 use Rattle.t1_text.specs.Names.{is_name, is_name_byte}
 use Rattle.std.specs.Char.{is_ascii_digit}
+use Rattle.std.proofs.lemmas.List.{append-nil}
 use Rattle.t1_pairs.specs.Kerning.{kerning_value, line_pairs, pairs_from, put_all_pairs, pairs, kpx_line, kern, is_kerning_value, is_kerning_pair, precedes, are_ordered, are_pairs}
 use Rattle.t1_text.proofs.TextLaws.{lines_joined}
 use Rattle.t1_text.proofs.NumberLaws.{decimal_spells, digits_word, minus_word}
@@ -156,12 +157,8 @@ before_all (q ∷ qs) p ps h =
     let ahead = sym (list_all-append (precedes q) qs (p ∷ ps)) ∙ parts.0 in
     and_from _ _ (and_parts _ _ (and_parts _ _ ahead).1).0 (before_all qs p ps parts.1)
 
-append_none : {X : Type 0} (xs : List X) → xs ++ [] ≡ xs
-append_none [] = refl
-append_none (x ∷ xs) = ap (λ t. x ∷ t) (append_none xs)
-
 put_again : (qs ps : List Pair) → are_ordered (qs ++ ps) ≡ true → put_all_pairs qs ps ≡ qs ++ ps
-put_again qs [] h = sym (append_none qs)
+put_again qs [] h = sym (append-nil qs)
 put_again qs (p ∷ ps) h =
     let whole = append_assoc qs (p ∷ []) ps in
     ap (λ t. put_all_pairs t ps) (put_last p qs (before_all qs p ps h)) ∙ put_again (qs ++ p ∷ []) ps (ap are_ordered whole ∙ h) ∙ whole

@@ -1,7 +1,7 @@
 -- What is read from a kerning file, or made by edits, are pairs as a kerning file has them.
-use Rattle.std.proofs.Common.{◌≡◌, ℕ, zero, suc, ℤ, pos, neg_ℤ, Bool, true, ◌+◌, ◌≤◌, ◌&&◌, ◌==◌, nat_le, Option, Some, None, List, [], ◌∷◌, ◌++◌, Ok, ok_or, option_map, codes, refl, sym, ◌∙◌, ap, arith, inl, inr}
+use Rattle.std.proofs.Common.{◌≡◌, ℕ, zero, suc, ℤ, Bool, true, ◌+◌, ◌&&◌, Option, Some, None, List, [], ◌∷◌, ◌++◌, Ok, ok_or, option_map, codes, refl, sym, ◌∙◌, ap, inl, inr}
 use Rattle.std.specs.List.{list_all, remove}
-use Rattle.std.proofs.lemmas.Bool.{and_parts, and_from, cases_Bool, leb-true, le-leb}
+use Rattle.std.proofs.lemmas.Bool.{and_parts, and_from, cases_Bool}
 use Rattle.std.proofs.lemmas.List.Folds.{list_all-append}
 use Rattle.t1_frac.specs.declared.fault.Code.TheVariants.{F12}
 use Rattle.t1_frac.specs.declared.fault.Place.TheVariants.{Line}

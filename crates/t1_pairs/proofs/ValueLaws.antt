@@ -1,5 +1,5 @@
 -- The value of a number word, by the number as far as it fits 64 bits.
-use Rattle.std.proofs.Common.{◌≡◌, ℕ, ℤ, pos, negsuc, false, true, ◌&&◌, ◌^◌, ◌≤◌, nat_le, nat_lt, Option, Some, None, List, refl, sym, ◌∙◌, ap, inl, inr, arith}
+use Rattle.std.proofs.Common.{◌≡◌, ℕ, ℤ, pos, negsuc, false, true, ◌&&◌, ◌^◌, Some, None, List, refl, ◌∙◌, ap, inl, inr, arith}
 use Rattle.std.proofs.lemmas.Bool.{cases_Bool, ltb-false, lt-leb}
 use Rattle.t1_frac.specs.Numbers.{is_number_word, number_word, number_written, fits_64_bits, capped}
 use Rattle.t1_pairs.specs.Kerning.{is_kerning_value, small, kerning_value}

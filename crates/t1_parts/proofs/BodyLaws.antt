@@ -1,5 +1,5 @@
 -- A printed body, read again.
-use Rattle.std.proofs.Common.{◌≡◌, ℕ, Bool, true, false, ◌||◌, ◌==◌, Some, List, [], ◌∷◌, ◌++◌, length, map, refl, ◌∙◌, ap, inl, inr}
+use Rattle.std.proofs.Common.{◌≡◌, ℕ, true, false, ◌==◌, Some, List, [], ◌∷◌, ◌++◌, length, map, refl, ◌∙◌, ap, inl, inr}
 use Rattle.std.specs.List.{onto_first, list_all, list_any, join_with_byte, flat_map}
 use Rattle.std.proofs.lemmas.Bool.{and_parts, and_from, not-true, cases_Bool, or_parts}
 use Rattle.std.proofs.Math.Numerals.{one-add}

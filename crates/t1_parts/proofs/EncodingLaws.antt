@@ -26,7 +26,7 @@ pub opening_stops : (n : ℕ) (l : List ℕ) (ls : List (List ℕ)) (f : Fault) 
 opening_stops n l ls f e = rw e refl
 
 -- the lines of the array are the first of the later ones
-array_front : (l : List ℕ) (ls : List (List ℕ)) → take (length (array_lines (l ∷ ls))) ls ≡ array_lines (l ∷ ls)
+pub array_front : (l : List ℕ) (ls : List (List ℕ)) → take (length (array_lines (l ∷ ls))) ls ≡ array_lines (l ∷ ls)
 array_front l ls =
     elim (cases_Bool (is_standard (tokens l))) [
       | inl on ↦ rw on refl

@@ -2,7 +2,7 @@
 use Rattle.std.proofs.Common.{◌≡◌, ℕ, zero, suc, ◌+◌, ◌<◌, ◌≤◌, ◌==◌, true, false, nat_lt, Result, List, [], ◌∷◌, ◌++◌, ◌-◌, length, take, drop, Ok, Err, refl, sym, ◌∙◌, ap, subst, inl, inr, arith}
 use Rattle.std.proofs.lemmas.Bool.{cases_Bool, lt-ltb, le-ltb}
 use Rattle.std.proofs.lemmas.List.{length-append}
-use Rattle.std.proofs.Math.Seq.{drop-append_seam, take-append_seam}
+use Rattle.std.proofs.Math.Seq.{take-append_seam}
 use Rattle.t1_text.specs.Lines.{lines}
 use Rattle.t1_text.proofs.LineLaws.{line_len, after_line, first_line_lem}
 use Rattle.t1_parts.specs.Pieces.{IsAfter}
@@ -73,11 +73,6 @@ pub before_last : (ls : List (List ℕ)) (last : List ℕ) → take (length (ls 
 before_last ls last =
     let size : length (ls ++ last ∷ []) - 1 ≡ length ls = omega (arith, length-append ls (last ∷ [])) in
     ap (λ k. take k (ls ++ last ∷ [])) size ∙ take-append_seam ls (last ∷ [])
-
-pub last_of : (ls : List (List ℕ)) (last : List ℕ) → drop (length (ls ++ last ∷ []) - 1) (ls ++ last ∷ []) ≡ last ∷ []
-last_of ls last =
-    let size : length (ls ++ last ∷ []) - 1 ≡ length ls = omega (arith, length-append ls (last ∷ [])) in
-    ap (λ k. drop k (ls ++ last ∷ [])) size ∙ drop-append_seam ls (last ∷ [])
 
 -- what refuses the first item refuses all
 pub item_refused : (earlier : List NumberedItem) (n : ℕ) (bytes : List ℕ) (r : Refusal) → 0 < length bytes

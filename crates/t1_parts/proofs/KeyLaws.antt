@@ -11,15 +11,12 @@ use Rattle.std.specs.declared.cmp.Ordering.TheVariants.{Less, Equal, Greater}
 use Rattle.std.proofs.lemmas.Bool.{cases_Bool}
 use Rattle.std.proofs.lemmas.List.Folds.{list_any-append}
 use Rattle.std.proofs.lemmas.Slice.Eq.{bytes_eq-Decides}
+use Rattle.std.proofs.Math.Bool.{or-false}
 use Rattle.indexmap.specs.IndexSet.{insert_key as put_in}
 use Rattle.t1_parts.specs.declared.item.Item.{Item}
 use Rattle.t1_parts.specs.declared.item.Item.TheVariants.{Plain, Section, Subr, Glyph}
 use Rattle.t1_parts.specs.Entries.{NumberedItem, glyph_name, has, is_subr, is_glyph}
 use Rattle.t1_parts.specs.Gathered.{HasNumbers, HasNames}
-
-or_false : (b : Bool) → (b || false) ≡ b
-or_false true = refl
-or_false false = refl
 
 -- an equal key is there already
 stays : (b c : Bool) → (b || c) ≡ ((b || c) || b)
@@ -47,12 +44,12 @@ any_put t k x xs more Greater alike e = rw e (goes_in (t x) (list_any t xs) (t k
 -- a test that equal keys pass alike, on the keys and a further one
 pub any_insert : {K : Type 0} (cmp : K → K → Ordering) (t : K → Bool) (k : K) → ((x : K) → cmp k x ≡ Equal → t k ≡ t x) → (ks : List K)
     → list_any t (insert_key cmp ks k) ≡ (list_any t ks || t k)
-any_insert cmp t k alike [] = or_false (t k)
+any_insert cmp t k alike [] = or-false (t k)
 any_insert cmp t k alike (x ∷ xs) = any_put t k x xs (insert_key cmp xs k) (cmp k x) (alike x) (any_insert cmp t k alike xs)
 
 -- a further item
 pub has_more : (test : Item → Bool) (items : List NumberedItem) (n : ℕ) (item : Item) → has test (items ++ (n, item) ∷ []) ≡ (has test items || test item)
-has_more test items n item = list_any-append (λ i. test i.1) items ((n, item) ∷ []) ∙ ap (λ b. has test items || b) (or_false (test item))
+has_more test items n item = list_any-append (λ i. test i.1) items ((n, item) ∷ []) ∙ ap (λ b. has test items || b) (or-false (test item))
 
 equal_numbers : (a b : ℕ) → is_eq (nat_cmp a b) ≡ (a == b)
 equal_numbers a b = grind arith
@@ -76,12 +73,12 @@ name-inserted g k ks =
           rw there
           (elim (cases_Bool (bytes_eq g k.now)) [
             | inl same ↦ rw (same, (bytes_eq-Decides g k.now).0 same, there) refl
-            | inr other ↦ rw other (sym (or_false (list_any (λ x. bytes_eq g x.now) ks)))
+            | inr other ↦ rw other (sym (or-false (list_any (λ x. bytes_eq g x.now) ks)))
           ])
       | inr absent ↦
           rw absent (
           list_any-append (λ x. bytes_eq g x.now) ks (k ∷ [])
-          ∙ ap (λ b. list_any (λ x. bytes_eq g x.now) ks || b) (or_false (bytes_eq g k.now)))
+          ∙ ap (λ b. list_any (λ x. bytes_eq g x.now) ks || b) (or-false (bytes_eq g k.now)))
     ]
 
 -- an item that has a name is the glyph of this name
@@ -110,7 +107,7 @@ more_names ks new items n k item named keys h m =
 
 -- an item that is of no kind
 pub same_has : (test : Item → Bool) (items : List NumberedItem) (n : ℕ) (item : Item) → test item ≡ false → has test items ≡ has test (items ++ (n, item) ∷ [])
-same_has test items n item e = sym (has_more test items n item ∙ ap (λ b. has test items || b) e ∙ or_false (has test items))
+same_has test items n item e = sym (has_more test items n item ∙ ap (λ b. has test items || b) e ∙ or-false (has test items))
 
 -- a test of a further item joined to that of the items
 pub or_more : (test : Item → Bool) (items : List NumberedItem) (n : ℕ) (item : Item) (b d : Bool) → b ≡ has test items → d ≡ test item → (b || d) ≡ has test (items ++ (n, item) ∷ [])

@@ -26,7 +26,7 @@ at_end p (x ∷ xs) h = elim (cases_Bool (p x)) [
 no_position : {X : Type 0} (p : X → Bool) (xs : List X) → list_any p xs ≡ false → position p xs ≡ None
 no_position p xs h = ap (λ t. if t then Some (position_or_len p xs) else None) (le-ltb (position_or_len p xs) (length xs) (at_end p xs h))
 
-place_of : {X : Type 0} (p : X → Bool) (xs : List X) (y : X) (zs : List X) → list_any p xs ≡ false → p y ≡ true → position_or_len p (xs ++ y ∷ zs) ≡ length xs
+pub place_of : {X : Type 0} (p : X → Bool) (xs : List X) (y : X) (zs : List X) → list_any p xs ≡ false → p y ≡ true → position_or_len p (xs ++ y ∷ zs) ≡ length xs
 place_of p [] y zs h k = rw k refl
 place_of p (x ∷ xs) y zs h k = elim (cases_Bool (p x)) [
   | inl e ↦ (let off : true ≡ false = rw e at h in absurd (cc))

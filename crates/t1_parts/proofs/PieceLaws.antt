@@ -1,13 +1,13 @@
 -- Bodies found in the bytes over which they stand.
-use Rattle.std.proofs.Common.{◌≡◌, ℕ, Bool, true, false, not, ◌||◌, ◌==◌, ◌+◌, ◌<◌, ◌≤◌, suc, Option, Some, None, List, [], ◌∷◌, ◌++◌, length, take, drop, slice_index, subst, append-nil, refl, sym, ◌∙◌, ap, inl, inr, arith, append_assoc}
+use Rattle.std.proofs.Common.{◌≡◌, ℕ, Bool, true, false, ◌||◌, ◌==◌, ◌+◌, ◌≤◌, Option, Some, None, List, [], ◌∷◌, ◌++◌, length, take, drop, slice_index, subst, append-nil, refl, sym, ◌∙◌, ap, inl, inr, arith, append_assoc}
 use Rattle.std.specs.List.{before_first, after_first, flat_map, list_all, list_any, position_or_len, prefix_len}
-use Rattle.std.proofs.lemmas.Bool.{cases_Bool, and_parts, and_from, not-true, not-false, eqb-true, ne_eqb}
-use Rattle.std.proofs.lemmas.List.{take-append-drop, length-drop, length-append, drop-drop}
+use Rattle.std.proofs.lemmas.Bool.{cases_Bool, and_parts, and_from, not-true, eqb-true, ne_eqb}
+use Rattle.std.proofs.lemmas.List.{take-append-drop, length-append}
 use Rattle.std.proofs.Math.Seq.{drop-append-add, take-append_seam}
 use Rattle.std.proofs.Math.Numerals.{one-add}
 use Rattle.t1_frac.specs.Words.{words}
 use Rattle.t1_text.specs.Delimiters.{is_brace, is_safe}
-use Rattle.t1_text.specs.Lines.{after_end, begins_with, lines, line_ends, is_line, trimmed}
+use Rattle.t1_text.specs.Lines.{begins_with, lines, line_ends, is_line, trimmed}
 use Rattle.t1_text.specs.Tokens.{uncommented}
 use Rattle.t1_text.proofs.LineLaws.{line_len, stays, after_line}
 use Rattle.t1_text.proofs.WholeLines.{whole, left, lines_over, whole_count, whole_words, whole_all, left_all, left_line, line_on, single_line}
@@ -16,7 +16,7 @@ use Rattle.t1_parts.specs.declared.body.EntryBody.{EntryBody}
 use Rattle.t1_parts.specs.Entries.{body_of, closes, has_brace, with_front}
 use Rattle.t1_parts.specs.declared.piece.Piece.{Piece}
 use Rattle.t1_parts.specs.declared.piece.Piece.TheVariants.{Commented, Closed, Open}
-use Rattle.t1_parts.specs.Pieces.{IsAfter, IsPiece}
+use Rattle.t1_parts.specs.Pieces.{IsAfter}
 use Rattle.t1_parts.proofs.BodyLaws.{no_brace, no_comment}
 use Rattle.t1_parts.proofs.PartLaws.{ap_both, cut_dropped, longer}
 
@@ -262,38 +262,3 @@ left_after Open = 0
 
 abbrev pub IsRead : List (List ℕ) → ℕ → List ℕ → Piece → Type 0
 IsRead ws m bytes p = (with_front ws m (body_in p) ≡ body_of (lines bytes)) × IsPlaced m bytes p
-
-pub first_piece : (bytes : List ℕ) (p : Piece) → IsPiece bytes p → IsRead [] 0 bytes p
-first_piece bytes (Commented front after) h = (
-  no_front (body_in (Commented front after)) ∙ sym h.0,
-  (subst (λ n. IsAfter n bytes after.now) (omega arith) h.1, omega (arith, h.2)),
-)
-first_piece bytes (Closed front closing after) h =
-    (no_front (body_in (Closed front closing after)) ∙ sym h.0, (subst (λ n. IsAfter n bytes after.now) (omega arith) h.1, omega (arith, h.2)))
-first_piece bytes Open h = (sym h, tt)
-
--- one piece after another
-after_both : (m n : ℕ) (bytes rest after : List ℕ) → IsAfter m bytes rest → IsAfter n rest after → IsAfter (m + n) bytes after
-after_both m n bytes rest after h k =
-    let size = ap length h.1 ∙ length-drop m (lines bytes) in
-    (omega (arith, h.0, k.0, size), k.1 ∙ ap (drop n) h.1 ∙ drop-drop n m (lines bytes))
-
-next_placed : (m : ℕ) (bytes after : List ℕ) (p : Piece) → IsAfter m bytes after → m + length after ≤ length bytes → IsPiece after p → IsPlaced m bytes p
-next_placed m bytes rest (Commented front after) h size k = (after_both m (line_ends front.now + 1) bytes rest after.now h k.1, omega (arith, size, k.2))
-next_placed m bytes rest (Closed front closing after) h size k = (after_both m (line_ends front.now + 1) bytes rest after.now h k.1, omega (arith, size, k.2))
-next_placed m bytes rest Open h size k = tt
-
-same_body : (bytes : List ℕ) (p : Piece) → IsPiece bytes p → body_in p ≡ body_of (lines bytes)
-same_body bytes (Commented front after) h = sym h.0
-same_body bytes (Closed front closing after) h = sym h.0
-same_body bytes Open h = sym h
-
-pub next_piece : (ws : List (List ℕ)) (m : ℕ) (bytes front after : List ℕ) (p : Piece)
-    → with_front ws m (with_front (words front) (line_ends front + 1) (body_of (lines after))) ≡ body_of (lines bytes)
-    → IsAfter (m + (line_ends front + 1)) bytes after → m + (line_ends front + 1) + length after ≤ length bytes → IsPiece after p
-    → IsRead (ws ++ words front) (m + (line_ends front + 1)) bytes p
-next_piece ws m bytes front after p e h size k = (
-  ap (with_front (ws ++ words front) (m + (line_ends front + 1))) (same_body after p k)
-      ∙ sym (front_again ws (words front) m (line_ends front + 1) (body_of (lines after))) ∙ e,
-  next_placed (m + (line_ends front + 1)) bytes after p h size k,
-)

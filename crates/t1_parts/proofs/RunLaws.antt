@@ -52,7 +52,7 @@ stop_here (d ∷ rest) =
 front_of : (p q : ℕ) (t u : List ℕ) (ts us : List (ℕ × List ℕ)) → (p, t) ∷ ts ≡ (q, u) ∷ us → (p ≡ q) × (t ≡ u) × (ts ≡ us)
 front_of p q t u ts us e = let first : ◌≡◌ {A = ℕ × List ℕ} (p, t) (q, u) = cc in (ap (λ x. x.0) first, ap (λ x. x.1) first, cc)
 
-none_longer : {A : Type 0} (ps qs : List A) (x : A) → [] ≡ ps ++ x ∷ qs → ⊥
+pub none_longer : {A : Type 0} (ps qs : List A) (x : A) → [] ≡ ps ++ x ∷ qs → ⊥
 none_longer [] qs x e = cc
 none_longer (p ∷ ps) qs x e = cc
 

@@ -10,7 +10,7 @@ use Rattle.memchr.specs.Find.{NoneBefore, Nowhere, OccursAt}
 use Rattle.t1_frac.specs.Words.{is_blank}
 use Rattle.t1_text.specs.Lines.{begins_with, is_line, lines, trimmed}
 use Rattle.t1_text.proofs.LineLaws.{after_line, first_line_lem, line_len, stays}
-use Rattle.t1_text.proofs.CutLaws.{line_gone, taken_len, taken_of}
+use Rattle.t1_text.proofs.CutLaws.{line_gone, taken_len, taken_of, front_begins}
 use Rattle.t1_text.proofs.TrimLaws.{cut_at_end}
 use Rattle.t1_text.proofs.WholeLines.{IsCutAt}
 use Rattle.t1_parts.specs.Parts.{ends_in, AreCutAfter, NoneGone}
@@ -110,17 +110,12 @@ line_before : (line back : List ℕ) → is_line line ≡ true → begins_with 1
 line_before [] back h k = k
 line_before (c ∷ line) back h k = on_line (c ∷ line) 0 (omega arith) (and_parts (stays c) (is_line line) h).0
 
-fewer_begin : (n : ℕ) (bytes : List ℕ) → begins_with 10 bytes ≡ false → begins_with 10 (take n bytes) ≡ false
-fewer_begin zero bytes h = refl
-fewer_begin (suc n) [] h = refl
-fewer_begin (suc n) (c ∷ bytes) h = h
-
 -- bytes cut where a line begins
 cut_from : (bytes : List ℕ) (start : ℕ) → start ≤ length bytes → IsCutAt start bytes → begins_with 10 (drop start bytes) ≡ false → AreCutAfter bytes (drop start bytes)
 cut_from bytes start within cut h j =
     let size = length-drop start bytes in
     let before : length bytes - length (drop start bytes) ≡ start = omega (arith, size, within) in
-    ap (λ n. lines (take (n + j) bytes)) before ∙ ap lines (take-add start j bytes) ∙ cut (take j (drop start bytes)) (fewer_begin j (drop start bytes) h)
+    ap (λ n. lines (take (n + j) bytes)) before ∙ ap lines (take-add start j bytes) ∙ cut (take j (drop start bytes)) (front_begins j (drop start bytes) h)
     ∙ sym (ap (λ n. lines (take n bytes) ++ lines (take j (drop start bytes))) before)
 
 -- a search that finds nothing leaves nothing

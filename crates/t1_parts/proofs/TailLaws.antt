@@ -1,8 +1,7 @@
 -- Keeping the lines of a tail, one by one.
-use Rattle.std.proofs.Common.{◌≡◌, ℕ, Bool, true, false, ◌+◌, ◌<◌, if◌then◌else◌, Some, None, List, [], ◌∷◌, codes, length, drop, get_or, filter_map, refl, sym, ◌∙◌, ap, inl, inr}
+use Rattle.std.proofs.Common.{◌≡◌, ℕ, Bool, true, false, if◌then◌else◌, Some, None, List, [], ◌∷◌, codes, filter_map, refl, ap, inl, inr}
 use Rattle.std.specs.List.{list_any}
 use Rattle.std.proofs.lemmas.Bool.{cases_Bool}
-use Rattle.std.proofs.lemmas.List.{drop_more}
 use Rattle.t1_parts.specs.Parts.{is_zeros, holds, tail_of}
 
 -- the lines that aren't lines of zeros

@@ -1,6 +1,7 @@
 -- The encoding of a clear part, and its slots.
 use Rattle.std.specs.Prelude.{ℕ, Bool, false, ◌+◌, ◌-◌, ◌*◌, ◌||◌, ◌&&◌, nat_le, if◌then◌else◌, Option, Some, None, Result, Ok, Err, is_some, is_none, List, [], ◌∷◌, length, take, drop, fold, codes, filter_map}
 use Rattle.std.specs.List.{list_all, list_any, position_or_len}
+use Rattle.std.specs.Option.{option_or}
 use Rattle.std.specs.Str.{bytes_eq}
 use Rattle.t1_frac.specs.Ascii.{digit_seven, digit_zero}
 use Rattle.t1_frac.specs.declared.fault.Code.{Code}
@@ -22,14 +23,9 @@ octal_of (d ∷ ds) =
 abbrev pub radix_of : List ℕ → Option ℕ
 radix_of t = if bytes_eq (take 2 t) (codes "8#") then octal_of (drop 2 t) else None
 
--- profile: the first of two values that is there
-abbrev pub or_else : {X : Type 0} → Option X → Option X → Option X
-or_else None o = o
-or_else (Some x) o = Some x
-
 -- profile, encoding: CODE is decimal or `8#` with octal digits, 0 to 255
 abbrev pub code_of_token : List ℕ → Option ℕ
-code_of_token t = up_to 255 (or_else (decimal_of t) (radix_of t))
+code_of_token t = up_to 255 (option_or (decimal_of t) (radix_of t))
 
 -- profile: both values, where both are there
 abbrev pub both : {X Y : Type 0} → Option X → Option Y → Option (X × Y)

@@ -1,6 +1,7 @@
 -- Header values of a clear part.
 use Rattle.std.specs.Prelude.{ℕ, Bool, false, not, ◌+◌, ◌-◌, ◌&&◌, ◌==◌, if◌then◌else◌, Option, Some, None, option_and_then, List, [], ◌∷◌, length, take, drop, codes}
 use Rattle.std.specs.List.{list_any, starts_with}
+use Rattle.std.specs.Option.{option_or}
 use Rattle.std.specs.Str.{bytes_eq}
 use Rattle.t1_frac.specs.Ascii.{backslash, close_parenthesis, open_parenthesis, slash}
 use Rattle.t1_frac.specs.Words.{trimmed_front}
@@ -8,7 +9,6 @@ use Rattle.t1_parts.specs.SourceParts.{SourceParts}
 use Rattle.t1_text.specs.Lines.{begins_with}
 use Rattle.t1_text.specs.Tokens.{tokens, first_token, goes_on}
 use Rattle.t1_text.specs.Names.{name_of_token}
-use Rattle.t1_parts.specs.Encoding.{or_else}
 
 -- profile, header keys: a value, where it isn't empty
 abbrev pub not_empty : List ℕ → Option (List ℕ)
@@ -50,7 +50,7 @@ after_key key (c ∷ rest) =
 -- profile, header keys: the first line with the key decides; the bytes of it after the key
 abbrev pub keyed : List ℕ → List (List ℕ) → Option (List ℕ)
 keyed key [] = None
-keyed key (l ∷ ls) = or_else (after_key key (trimmed_front l)) (keyed key ls)
+keyed key (l ∷ ls) = option_or (after_key key (trimmed_front l)) (keyed key ls)
 
 -- Type 1 Font Format, FontInfo: the keys whose values are texts
 abbrev pub text_keys : List (List ℕ)

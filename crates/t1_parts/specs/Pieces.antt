@@ -1,5 +1,5 @@
 -- The bytes of a body, cut where a comment begins or where it ends.
-use Rattle.std.specs.Prelude.{◌≡◌, ◌≤◌, ◌+◌, ℕ, Some, None, List, [], length, drop}
+use Rattle.std.specs.Prelude.{◌≡◌, ◌≤◌, ◌+◌, ℕ, Some, None, List, length, drop}
 use Rattle.t1_frac.specs.Words.{words}
 use Rattle.t1_text.specs.Lines.{lines, line_ends}
 use Rattle.t1_parts.specs.declared.piece.Piece.{Piece}

@@ -12,7 +12,7 @@ use std::alloc::AllocError;
 use t1_frac::{Bytes, is_number_word, next_word};
 
 /// Adds a line and its end to a text.
-fn push_line(text: &mut Vec<u8>, line: &[u8]) -> Result<(), AllocError>
+pub fn push_line(text: &mut Vec<u8>, line: &[u8]) -> Result<(), AllocError>
     ensures { OnOk result (text.new.items ≡ text.old.items ++ line.now ++ line_feed ∷ []) }
 {
     text.extend_from_slice(line)?;

@@ -12,7 +12,7 @@ use Rattle.std.proofs.lemmas.List.{map-append, take_more}
 use Rattle.std.proofs.lemmas.List.Folds.{list_any_more}
 use Rattle.t1_frac.specs.declared.fault.Code.{Code}
 use Rattle.t1_code.specs.declared.command.Command.{Command}
-use Rattle.t1_run.specs.Run.{FontBodies, Key, Subr, Glyph}
+use Rattle.t1_run.specs.Run.{FontBodies, Key, Subr, Glyph, body_at}
 use Rattle.t1_extent.specs.Kept.{TracedRun}
 use Rattle.t1_run.specs.Touched.{is_user}
 use Rattle.t1_font.specs.declared.glyph_metrics.GlyphMetrics.{GlyphMetrics}
@@ -23,8 +23,7 @@ use Rattle.t1_cache.specs.Bodies.{glyph_body, record_bodies}
 use Rattle.t1_cache.specs.Changed.{SetsBody}
 use Rattle.t1_cache.specs.Joins.{AreLeaves}
 use Rattle.t1_cache.specs.Laws.{AreDistinct}
-use Rattle.t1_cache.specs.Overlay.{body_at}
-use Rattle.t1_cache.specs.Renewed.{Kept, kept, kept_of}
+use Rattle.t1_cache.specs.Renewed.{kept, kept_of}
 use Rattle.t1_cache.specs.Room.{MayJoin}
 use Rattle.t1_cache.specs.Tables.{AreTables}
 use Rattle.t1_cache.specs.Users.{has, has_pair, lists, rest_of, users_at, wanted, HasRoom, Pairs}
@@ -33,10 +32,13 @@ use Rattle.t1_cache.proofs.Joining.{tables_first}
 use Rattle.t1_cache.proofs.Names.{bytes_equiv}
 use Rattle.t1_font.proofs.Lookups.{bytes_tell, numbers_tell}
 use Rattle.t1_cache.proofs.Rooming.{room_for_joins}
+use Rattle.t1_cache.proofs.EditedRecords.{names-last}
+use Rattle.t1_cache.proofs.Lists.{all-last}
 use Rattle.t1_rerun.specs.Opened.{measured_names, AreMeasured, IsRecorded}
 use Rattle.t1_rerun.specs.Renewals.{run_in, HasRun}
 use Rattle.t1_rerun.proofs.Reaching.{has-names}
 use Rattle.t1_rerun.proofs.Taking.{has-box, has-run}
+use Rattle.t1_rerun.proofs.Steps.{same-twice}
 
 abbrev Body : Type 0
 Body = List Command
@@ -138,14 +140,6 @@ names-more : (ms : List GlyphMetrics) (at : ℕ) (m : GlyphMetrics) → at < len
 names-more ms at m far is =
     ap measured_names (take_more ms at m far) ∙ map-append (λ x. x.name) (take at ms) (get_or ms at m ∷ [])
     ∙ ap (λ x. measured_names (take at ms) ++ x.name ∷ []) (sym is)
-
-names-last : (ks : List Kept) (k : Kept) → map (λ x. x.name) (ks ++ k ∷ []) ≡ map (λ x. x.name) ks ++ k.name ∷ []
-names-last [] k = refl
-names-last (x ∷ ks) k = ap (λ l. x.name ∷ l) (names-last ks k)
-
-all-last : {X : Type 0} (P : X → Type 0) (xs : List X) (x : X) → AllByRecursion P xs → P x → AllByRecursion P (xs ++ x ∷ [])
-all-last P [] x h p = (p, tt)
-all-last P (y ∷ xs) x h p = (h.0, all-last P xs x h.1 p)
 
 -- the glyphs that were measured so far have their records, and for the others runs and bodies are left
 pub record AreBuilt (was : Records) (bodies left_bodies : Glyphs) (runs left_runs : List KeptRun) (ms : List GlyphMetrics) (at : ℕ) (now : Records) : Type 0 where
@@ -277,10 +271,6 @@ all-built was bodies left_bodies runs left_runs ms at now have all built =
         absurd (cc)
 
 -- ---- the users of Subrs and glyphs
-
-pub same-twice : (a b c : FontBodies) → SameBodies a b → SameBodies b c → SameBodies a c
-same-twice a b c p q (Subr n) = p (Subr n) ∙ q (Subr n)
-same-twice a b c p q (Glyph g) = p (Glyph g) ∙ q (Glyph g)
 
 module _ (m : FontBodies) (names : List (Bor (List ℕ))) (runs : List KeptRun) (metrics : List GlyphMetrics) (are : AreMeasured m runs metrics)
     (named : map (λ name. name.now) names ≡ measured_names metrics) (joins : Pairs)

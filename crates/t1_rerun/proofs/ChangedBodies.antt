@@ -12,7 +12,7 @@ use Rattle.t1_parts.specs.SourceParts.{SourceParts}
 use Rattle.t1_source.specs.declared.edit.Edit.{Edit}
 use Rattle.t1_run.specs.Footprint.{Includes}
 use Rattle.t1_run.specs.Overlay.{changed}
-use Rattle.t1_run.specs.Run.{FontBodies, Key, Subr, Glyph}
+use Rattle.t1_run.specs.Run.{FontBodies, Key, Subr, Glyph, body_at, key_eq}
 use Rattle.t1_font.specs.Bodies.{bodies, SameBodies}
 use Rattle.t1_font.specs.Assembly.{file_check}
 use Rattle.t1_font.specs.Glyphs.{Glyph as Told, glyphs, glyph_names}
@@ -21,19 +21,19 @@ use Rattle.t1_cache.specs.declared.records.Named.{Named}
 use Rattle.t1_cache.specs.declared.records.Records.{Records}
 use Rattle.t1_cache.specs.Bodies.{record_bodies}
 use Rattle.t1_cache.specs.Edited.{IsEditedAt}
-use Rattle.t1_cache.specs.Overlay.{body_at}
-use Rattle.t1_cache.specs.Users.{key_eq, key_of}
-use Rattle.t1_cache.proofs.Adding.{key-itself, key-same}
+use Rattle.t1_cache.specs.Users.{key_of}
+use Rattle.t1_font.proofs.Keys.{key-itself, key-same}
 use Rattle.t1_cache.proofs.Distinct.{names_distinct}
+use Rattle.t1_cache.specs.Laws.{AreDistinct}
 use Rattle.t1_rerun.specs.declared.renewal.Renewal.{Renewal}
 use Rattle.t1_rerun.specs.declared.entry_change.EntryChange.{EntryChange}
 use Rattle.t1_rerun.specs.declared.settling.Ready.{Ready}
-use Rattle.t1_rerun.specs.Changing.{body_changed, AreChangesOf, IsChangeOf, IsReadyFor, MayBePrepared}
+use Rattle.t1_rerun.specs.Changing.{body_changed, AreChangesOf, IsReadyFor, MayBePrepared}
 use Rattle.t1_rerun.specs.EntryChanges.{IsChanged, IsMade}
 use Rattle.t1_rerun.specs.Renewals.{IsLater, IsRenewal}
 use Rattle.t1_rerun.specs.Renewing.{IsEdited}
-use Rattle.t1_rerun.specs.Right.{IsEdit}
-use Rattle.t1_rerun.specs.Settled.{changed_keys, AreAsBefore, AreDistinctKeys, HasBody, IsJudged, IsReady}
+use Rattle.t1_rerun.specs.Right.{IsEdit, IsRight, IsInOrder}
+use Rattle.t1_rerun.specs.Settled.{changed_keys, AreAsBefore, AreDistinctKeys, HasBody, IsJudged, IsReady, was_moved}
 use Rattle.t1_rerun.proofs.Preparing.{judged-again}
 use Rattle.t1_rerun.proofs.Reordering.{bodies-fine, has-its-body}
 use Rattle.t1_rerun.proofs.Single.{one-last}
@@ -151,7 +151,19 @@ as-lent lent changes old new records ordered is j = subst (λ l. AreChangesOf l 
 
 -- ---- a change of one entry, or of none
 
-alone : (change : Option EntryChange) → AreDistinctKeys (changed_keys (option_to_list change))
+-- a source whose records are right was edited at the entry of a change, and the edited one has its file; these
+-- are its glyphs in their order
+pub record IsChangeOf (change : Option EntryChange) (old new : SourceParts) (records : Records) (ordered : List (List ℕ)) : Type 0 where
+  pub right : IsRight old records
+  pub edited : IsEditedAt (changed_keys (option_to_list change)) old new
+  pub bodies : AllByRecursion (HasBody new) (option_to_list change)
+  pub unmoved : (g : List ℕ) → was_moved (option_to_list change) g ≡ false
+  pub file : file_check new ≡ Ok tt
+  pub distinct : AreDistinct (glyph_names new.items)
+  pub order : IsInOrder (was_moved (option_to_list change)) old new
+  pub names : ordered ≡ glyph_names new.items
+
+pub alone : (change : Option EntryChange) → AreDistinctKeys (changed_keys (option_to_list change))
 alone None = tt
 alone (Some change) = (refl, tt)
 

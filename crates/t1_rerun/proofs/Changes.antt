@@ -9,7 +9,7 @@ use Rattle.std.proofs.lemmas.Bool.{or_parts, or_right, true_from_ne_false}
 use Rattle.t1_code.specs.declared.command.Command.{Command}
 use Rattle.t1_parts.specs.SourceParts.{SourceParts}
 use Rattle.t1_run.specs.Footprint.{Includes}
-use Rattle.t1_run.specs.Run.{FontBodies, Key, Glyph, own}
+use Rattle.t1_run.specs.Run.{FontBodies, Key, Glyph, own, body_at, key_eq}
 use Rattle.t1_extent.specs.Kept.{TracedRun}
 use Rattle.t1_run.specs.Touched.{is_key_of, is_met, is_named, is_touched, is_user}
 use Rattle.t1_afm.specs.declared.bbox.BBox.{BBox}
@@ -20,27 +20,27 @@ use Rattle.t1_cache.specs.declared.records.Named.TheVariants as named
 use Rattle.t1_cache.specs.declared.records.Records.{Records}
 use Rattle.t1_cache.specs.declared.records.Rerun.{Rerun}
 use Rattle.t1_cache.specs.Bodies.{record_bodies}
-use Rattle.t1_cache.specs.Overlay.{body_at}
-use Rattle.t1_cache.specs.Renewal.{IsOneOf}
+use Rattle.t1_cache.specs.Renewal.{IsOneOf, kept_by}
 use Rattle.t1_cache.specs.Renewed.{Kept, kept, kept_of, rerun_of, reruns_by_name, with_rerun, with_reruns}
 use Rattle.t1_cache.specs.Room.{MayJoin}
-use Rattle.t1_cache.specs.Users.{among, has_pair, key_eq, key_of, lists, rest_of, users_at, wanted, HasRoom}
-use Rattle.t1_cache.proofs.Adding.{key-itself, key-same}
+use Rattle.t1_cache.specs.Users.{among, has_pair, key_of, lists, rest_of, users_at, wanted, HasRoom}
+use Rattle.t1_font.proofs.Keys.{key-itself, key-same, at-same, same-at}
 use Rattle.t1_cache.proofs.Changing.{rest_same}
 use Rattle.t1_cache.proofs.Judging.{unnamed}
 use Rattle.t1_font.proofs.Lookups.{bytes_tell}
 use Rattle.t1_cache.proofs.Rooming.{room_for_joins}
+use Rattle.t1_cache.proofs.Filtering.{filter-as}
 use Rattle.t1_rerun.specs.declared.renewal.Renewal.{Renewal}
 use Rattle.t1_rerun.specs.declared.entry_change.EntryChange.{EntryChange}
 use Rattle.t1_rerun.specs.declared.settling.Ready.{Ready}
 use Rattle.t1_rerun.specs.declared.settling.steps.Step.{Step}
-use Rattle.t1_rerun.specs.Renewals.{rerun_kept}
 use Rattle.t1_rerun.specs.Right.{has_glyph, IsRight}
-use Rattle.t1_rerun.specs.Settled.{changed_keys, is_moved, last_glyphs, was_moved, HasBody, IsJudged, IsReady, IsRenewedBy}
+use Rattle.t1_rerun.specs.Settled.{changed_keys, last_glyphs, was_moved, HasBody, IsJudged, IsReady, IsRenewedBy}
 use Rattle.t1_rerun.specs.Steps.{after_all, is_last, new_run, seen, some_inserts, LacksRun, Seen}
-use Rattle.t1_rerun.proofs.Settled.{has-body, kept-names, moved-at, renewed-one, ready, rerun-stale, names-stay, rerun-there, settled, told-of}
+use Rattle.t1_cache.proofs.Rerunning.{names-stay, all-named}
+use Rattle.t1_cache.proofs.Lists.{all-weaken}
+use Rattle.t1_rerun.proofs.Settled.{has-body, is_moved, kept-names, moved-at, renewed-one, ready, rerun-stale, rerun-there, settled, told-of}
 use Rattle.t1_rerun.proofs.Stepping.{bodies-stepped, inserted-named, kept-stepped, leaves, leaves-as, may-join-stepped, named-key, names-stepped, users-stepped, IsServed}
-use Rattle.t1_rerun.proofs.Steps.{at-same, same-at}
 
 -- ---- keys
 
@@ -54,31 +54,6 @@ not-included (j ∷ ks) k off (inr i) = not-included ks k (or_parts (key_eq k j)
 named-stale : (m : FontBodies) (keys : List Key) (g : List ℕ) → is_named keys g ≡ true → is_touched m keys g ≡ true
 named-stale m keys g on =
     true_from_ne_false (is_touched m keys g) (λ off. let never : true ≡ false = sym on ∙ unnamed m keys g off in absurd (cc))
-
--- what holds where a test does holds of each name that passes
-pub filter-as : (p q : List ℕ → Bool) (xs : List (List ℕ)) → ((g : List ℕ) → list_any (bytes_eq g) xs ≡ true → p g ≡ q g) → filter p xs ≡ filter q xs
-filter-as p q [] same = refl
-filter-as p q (x ∷ xs) same =
-    ap (λ b. cond b (x ∷ filter p xs) (filter p xs)) (same x (ap (λ b. b || list_any (bytes_eq x) xs) (bytes_tell.itself x)))
-    ∙ ap (λ l. cond (q x) (x ∷ l) l) (filter-as p q xs (λ g there. same g (later g (bytes_eq g x) there)))
-  where
-    later : (g : List ℕ) (b : Bool) → list_any (bytes_eq g) xs ≡ true → (b || list_any (bytes_eq g) xs) ≡ true
-    later g true there = refl
-    later g false there = there
-
-all-same : {X : Type 0} (P Q : X → Type 0) → ((x : X) → P x → Q x) → (xs : List X) → AllByRecursion P xs → AllByRecursion Q xs
-all-same P Q step [] h = tt
-all-same P Q step (x ∷ xs) h = (step x h.0, all-same P Q step xs h.1)
-
-all-where : (P : Kept → Type 0) (xs : List Kept) → ((k : Kept) → list_any (bytes_eq k.name) (map (λ x. x.name) xs) ≡ true → P k) → AllByRecursion P xs
-all-where P [] each = tt
-all-where P (x ∷ xs) each = (
-  each x (ap (λ b. b || list_any (bytes_eq x.name) (map (λ k. k.name) xs)) (bytes_tell.itself x.name)),
-  all-where P xs (λ k there. each k (later k.name (bytes_eq k.name x.name) there)),
-) where
-  later : (g : List ℕ) (b : Bool) → list_any (bytes_eq g) (map (λ k. k.name) xs) ≡ true → (b || list_any (bytes_eq g) (map (λ k. k.name) xs)) ≡ true
-  later g true there = refl
-  later g false there = there
 
 all-of : (kept xs : List Kept) → ((k : Kept) → IsOneOf xs k → IsOneOf kept k) → AllByRecursion (IsOneOf kept) xs
 all-of kept [] more = tt
@@ -110,12 +85,12 @@ run-none None e = refl
 run-none (Some r) e = absurd (cc)
 
 run-there : (reruns : List Rerun) (name : List ℕ) (r : TracedRun) (box : Option BBox) → new_run reruns name ≡ Some (r, box)
-    → IsOneOf (map rerun_kept reruns) (kept name r box)
+    → IsOneOf (map kept_by reruns) (kept name r box)
 run-there [] name r box e = absurd (cc)
 run-there (x ∷ reruns) name r box e = by (bytes_eq name x.name.items) refl e (run-there reruns name r box) where
   by : (b : Bool) → bytes_eq name x.name.items ≡ b → option_map pair (cond b (Some x) (rerun_of reruns name)) ≡ Some (r, box)
-      → (new_run reruns name ≡ Some (r, box) → IsOneOf (map rerun_kept reruns) (kept name r box))
-      → IsOneOf (map rerun_kept (x ∷ reruns)) (kept name r box)
+      → (new_run reruns name ≡ Some (r, box) → IsOneOf (map kept_by reruns) (kept name r box))
+      → IsOneOf (map kept_by (x ∷ reruns)) (kept name r box)
   by true on h rest =
       let both : (pair x) ≡ (r, box) = cc in
       inl (λ j. record { name = sym (bytes_tell.same name x.name.items on) j; run = (ap (λ p. p.0) both) j; box = (ap (λ p. p.1) both) j })
@@ -288,7 +263,7 @@ module _ (changes : List EntryChange) (old new : SourceParts) (before : Records)
 
     -- a record that was put in is a rerun's, and each other one was kept
     record IsSet (k : Kept) : Type 0 where
-      pub put : some_inserts steps k.name ≡ true → IsOneOf (map rerun_kept reruns) k
+      pub put : some_inserts steps k.name ≡ true → IsOneOf (map kept_by reruns) k
       pub stayed : some_inserts steps k.name ≡ false → IsOneOf kept-before k
 
     sets : AllByRecursion IsSet last.kept
@@ -299,7 +274,7 @@ module _ (changes : List EntryChange) (old new : SourceParts) (before : Records)
           stayed = λ off. let never : true ≡ false = sym on ∙ off in absurd (cc);
         })
         (seen before)
-        (all-same (IsOneOf kept-before) (λ k. some_inserts steps k.name ≡ false → IsSet k)
+        (all-weaken (IsOneOf kept-before) (λ k. some_inserts steps k.name ≡ false → IsSet k)
         (λ k one off. record {
           put = λ on. let never : true ≡ false = sym on ∙ off in absurd (cc);
           stayed = λ off'. one;
@@ -330,7 +305,7 @@ module _ (changes : List EntryChange) (old new : SourceParts) (before : Records)
     renewed-last =
         all-mapped (IsRenewedBy keys old reruns kept-before) (λ k. with_rerun (rerun_of left k.name) k) last.kept
         (all-two IsSet (λ k. has_glyph new k.name ≡ true) (λ k. IsRenewedBy keys old reruns kept-before (with_rerun (rerun_of left k.name) k)) renewed-one-by last.kept sets
-        (all-where (λ k. has_glyph new k.name ≡ true) last.kept (λ k among. ap (list_any (bytes_eq k.name)) (sym names-last) ∙ among)))
+        (all-named (λ k. has_glyph new k.name ≡ true) last.kept (λ k among. ap (list_any (bytes_eq k.name)) (sym names-last) ∙ among)))
 
     -- ---- the records at last
 

@@ -1,5 +1,5 @@
 -- What an edit changes of the bodies of a source, and their first fault after it.
-use Rattle.std.proofs.Common.{◌≡◌, ℕ, Bool, true, ℤ, pos, negsuc, nat_le, Option, Some, None, Result, Ok, Err, List, [], ◌∷◌, ◌++◌, take, drop, map, refl, sym, ◌∙◌, ap, subst, arith, inl, inr}
+use Rattle.std.proofs.Common.{◌≡◌, ℕ, Bool, true, ℤ, pos, negsuc, nat_le, Option, Some, None, Result, Ok, Err, List, [], ◌∷◌, ◌++◌, take, drop, refl, sym, ◌∙◌, ap, subst, arith, inl, inr}
 use Rattle.std.specs.Prelude.{◌||◌, ◌&&◌, false, MatchResult}
 use Rattle.std.specs.List.{AllByRecursion, position_or_len, insert, remove, slice_set}
 use Rattle.std.specs.Option.{option_map, option_to_list}
@@ -19,7 +19,7 @@ use Rattle.t1_code.specs.Words.{commands}
 use Rattle.t1_parts.specs.declared.item.Item.{Item}
 use Rattle.t1_parts.specs.declared.item.Item.TheVariants as items
 use Rattle.t1_parts.specs.SourceParts.{SourceParts}
-use Rattle.t1_parts.specs.Counts.{raised, raised_item, subrs_needed, glyphs_needed}
+use Rattle.t1_parts.specs.Counts.{raised, subrs_needed, glyphs_needed}
 use Rattle.t1_parts.specs.Entries.{is_subr, is_glyph}
 use Rattle.t1_source.specs.declared.edit.Edit.{Edit}
 use Rattle.t1_source.specs.declared.edit.Edit.TheVariants.{ReplaceGlyph, AddGlyph, RemoveGlyph, ReplaceSubr, AddSubr, RemoveSubr, Encode, Unencode, LenIv, Kern, Unkern}
@@ -36,6 +36,7 @@ use Rattle.t1_run.specs.Touched.{is_key_of}
 use Rattle.t1_font.specs.Assembly.{file_check}
 use Rattle.t1_font.specs.Bodies.{bodies_check, body_check, words_check}
 use Rattle.t1_font.proofs.LengthLaws.{body_fault_told}
+use Rattle.t1_font.proofs.Checking.{raised-checks, check-both}
 use Rattle.t1_cache.specs.Edited.{body_after, named, IsEditedAt}
 use Rattle.t1_cache.specs.Users.{key_of}
 use Rattle.t1_cache.proofs.Accepted.{glyph_at, last_glyph, last_subr, new_glyph, new_subr, subr_at, added_glyph-made, added_subr-made, encoded-made, lead-made, removed_glyph-made, removed_subr-made, replaced_glyph-made, replaced_subr-made, unencoded-made, IsLeadMade, IsOut, IsPut, LeadIn, LeadPut}
@@ -53,21 +54,6 @@ Checked = Result (Unit {0}) Fault
 
 -- ---- the bodies of items
 
-check-raised : (s g : ℕ) (is : List Item) → bodies_check (map (raised_item s g) is) ≡ bodies_check is
-check-raised s g [] = refl
-check-raised s g (items.Plain l ∷ is) = check-raised s g is
-check-raised s g (items.Section b k a ∷ is) = check-raised s g is
-check-raised s g (items.Subr m ws c ∷ is) = ap (λ r. words_check (places.Subr m) ws >>= λ _. r) (check-raised s g is)
-check-raised s g (items.Glyph h ws c ∷ is) = ap (λ r. words_check (places.Glyph h) ws >>= λ _. r) (check-raised s g is)
-
-grouped : (r s t : Checked) → (r >>= λ _. (s >>= λ _. t)) ≡ ((r >>= λ _. s) >>= λ _. t)
-grouped (Ok u) s t = refl
-grouped (Err e) s t = refl
-
-check-append : (a b : List Item) → bodies_check (a ++ b) ≡ (bodies_check a >>= λ _. bodies_check b)
-check-append [] b = refl
-check-append (i ∷ a) b = ap (λ r. body_check i >>= λ _. r) (check-append a b) ∙ grouped (body_check i) (bodies_check a) (bodies_check b)
-
 both-ok : (r s : Checked) → (r >>= λ _. s) ≡ Ok tt → (r ≡ Ok tt) × (s ≡ Ok tt)
 both-ok (Ok u) s h = (refl, h)
 both-ok (Err e) s h = absurd (cc)
@@ -78,22 +64,22 @@ alone (Err e) = refl
 
 module _ (a xs b : List Item) (fine : bodies_check (a ++ (xs ++ b)) ≡ Ok tt) where
   front : bodies_check a ≡ Ok tt
-  front = (both-ok (bodies_check a) (bodies_check (xs ++ b)) (sym (check-append a (xs ++ b)) ∙ fine)).0
+  front = (both-ok (bodies_check a) (bodies_check (xs ++ b)) (sym (check-both a (xs ++ b)) ∙ fine)).0
 
   back : bodies_check b ≡ Ok tt
   back =
-      (both-ok (bodies_check xs) (bodies_check b) (sym (check-append xs b)
-      ∙ (both-ok (bodies_check a) (bodies_check (xs ++ b)) (sym (check-append a (xs ++ b)) ∙ fine)).1)).1
+      (both-ok (bodies_check xs) (bodies_check b) (sym (check-both xs b)
+      ∙ (both-ok (bodies_check a) (bodies_check (xs ++ b)) (sym (check-both a (xs ++ b)) ∙ fine)).1)).1
 
   -- with an entry in the place of others, the entry's fault is the first
   with-entry : (y : Item) → bodies_check (a ++ (y ∷ b)) ≡ body_check y
   with-entry y =
-      check-append a (y ∷ b) ∙ ap (λ r. r >>= λ _. bodies_check (y ∷ b)) front
+      check-both a (y ∷ b) ∙ ap (λ r. r >>= λ _. bodies_check (y ∷ b)) front
       ∙ ap (λ r. body_check y >>= λ _. r) back ∙ alone (body_check y)
 
   -- without others there is none
   without : bodies_check (a ++ b) ≡ Ok tt
-  without = check-append a b ∙ ap (λ r. r >>= λ _. bodies_check b) front ∙ back
+  without = check-both a b ∙ ap (λ r. r >>= λ _. bodies_check b) front ∙ back
 
 module _ (s made : SourceParts) (fine : bodies_check s.items ≡ Ok tt) where
   put-checks : (test : Item → Bool) (y : ℕ → Item) → (put : IsPut test y s made) → bodies_check made.items ≡ body_check (y put.at)
@@ -103,7 +89,7 @@ module _ (s made : SourceParts) (fine : bodies_check s.items ≡ Ok tt) where
       let x = f.found.here in
       let b = f.found.after in
       let items = slice_set s.items put.at (y put.at) in
-      ap bodies_check put.are ∙ check-raised (subrs_needed items) (glyphs_needed items) items
+      ap bodies_check put.are ∙ raised-checks (subrs_needed items) (glyphs_needed items) items
       ∙ ap bodies_check (ap (λ t. slice_set t put.at (y put.at)) f.found.whole ∙ set_there a x b put.at (y put.at) f.place)
       ∙ with-entry a (x ∷ []) b (ap bodies_check (sym f.found.whole) ∙ fine) (y put.at)
 
@@ -114,14 +100,14 @@ module _ (s made : SourceParts) (fine : bodies_check s.items ≡ Ok tt) where
       let x = f.found.here in
       let b = f.found.after in
       let items = remove s.items out.at in
-      ap bodies_check out.are ∙ check-raised (subrs_needed items) (glyphs_needed items) items
+      ap bodies_check out.are ∙ raised-checks (subrs_needed items) (glyphs_needed items) items
       ∙ ap bodies_check (ap (λ t. remove t out.at) f.found.whole ∙ removed_there a x b out.at f.place)
       ∙ without a (x ∷ []) b (ap bodies_check (sym f.found.whole) ∙ fine)
 
   in-checks : (at : ℕ) (y : Item) → made.items ≡ raised (insert s.items at y) → bodies_check made.items ≡ body_check y
   in-checks at y is =
       let items = insert s.items at y in
-      ap bodies_check is ∙ check-raised (subrs_needed items) (glyphs_needed items) items
+      ap bodies_check is ∙ raised-checks (subrs_needed items) (glyphs_needed items) items
       ∙ with-entry (take at s.items) [] (drop at s.items) (ap bodies_check (take-append-drop at s.items) ∙ fine) y
 
   same-checks : s.items ≡ made.items → bodies_check made.items ≡ Ok tt

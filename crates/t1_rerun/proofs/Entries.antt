@@ -1,5 +1,5 @@
 -- The entry that an edit names, and the glyphs after it.
-use Rattle.std.proofs.Common.{◌≡◌, ℕ, ℤ, pos, negsuc, Bool, true, false, not, cond, List, [], ◌∷◌, ◌++◌, filter, nat_le, refl, sym, ◌∙◌, ap, subst, arith, inl, inr, Result, Ok, Err}
+use Rattle.std.proofs.Common.{◌≡◌, ℕ, ℤ, pos, negsuc, Bool, true, false, not, List, [], ◌∷◌, ◌++◌, filter, nat_le, refl, sym, ◌∙◌, ap, subst, arith, inl, inr, Result, Ok, Err}
 use Rattle.std.specs.Prelude.{◌||◌}
 use Rattle.std.specs.List.{AllByRecursion, list_any}
 use Rattle.std.specs.Option.{option_to_list}
@@ -9,6 +9,7 @@ use Rattle.std.proofs.lemmas.Bool.Decides.{nat_tests}
 use Rattle.std.proofs.lemmas.List.{append-nil}
 use Rattle.std.proofs.lemmas.List.Folds.{list_any-append}
 use Rattle.std.proofs.lemmas.Slice.Eq.{bytes_eq-Decides}
+use Rattle.std.proofs.lemmas.List.Elements.{filter-append}
 use Rattle.t1_parts.specs.SourceParts.{SourceParts}
 use Rattle.t1_source.specs.declared.edit.Edit.{Edit}
 use Rattle.t1_source.specs.declared.edit.Edit.TheVariants.{ReplaceGlyph, AddGlyph, RemoveGlyph, ReplaceSubr, AddSubr, RemoveSubr, Encode, Unencode, LenIv, Kern, Unkern}
@@ -25,9 +26,10 @@ use Rattle.t1_cache.proofs.Distinct.{names_distinct}
 use Rattle.t1_cache.proofs.EditedNames.{names_edited}
 use Rattle.t1_rerun.specs.Renewing.{entry_key, number_key}
 use Rattle.t1_rerun.specs.Right.{has_glyph}
-use Rattle.t1_font.proofs.Keeping.{bytes_self}
+use Rattle.t1_run.proofs.Asked.{bytes_self}
 use Rattle.t1_cache.proofs.Accepted.{added_subr-made, removed_subr-made, replaced_subr-made}
-use Rattle.t1_rerun.proofs.Meeting.{all-among, among-off, among-passing}
+use Rattle.t1_cache.proofs.Filtering.{among-passing, among-off, filter-agreed, passed}
+use Rattle.t1_rerun.proofs.Meeting.{all-among}
 
 -- ---- the key that an edit names
 
@@ -74,13 +76,6 @@ none-pass : (p : List ℕ → Bool) (xs : List (List ℕ)) → AllByRecursion (�
 none-pass p [] h = refl
 none-pass p (x ∷ xs) h = rw h.0 (none-pass p xs h.1)
 
-filter-append : (p : List ℕ → Bool) (xs ys : List (List ℕ)) → filter p (xs ++ ys) ≡ filter p xs ++ filter p ys
-filter-append p [] ys = refl
-filter-append p (x ∷ xs) ys = one (p x) (filter-append p xs ys) where
-  one : (b : Bool) → filter p (xs ++ ys) ≡ filter p xs ++ filter p ys → cond b (x ∷ filter p (xs ++ ys)) (filter p (xs ++ ys)) ≡ cond b (x ∷ filter p xs) (filter p xs) ++ filter p ys
-  one true e = ap (λ l. x ∷ l) e
-  one false e = e
-
 -- the same glyphs
 same-order : (xs : List (List ℕ)) → xs ≡ filter (λ g. list_any (bytes_eq g) xs) xs ++ filter (λ g. not (list_any (bytes_eq g) xs)) xs
 same-order xs =
@@ -116,26 +111,10 @@ added-order xs g d =
     ∙ fresh))
 
 -- a glyph less
-passed : (p : List ℕ → Bool) (x : List ℕ) (xs : List (List ℕ)) → list_any (bytes_eq x) (filter p xs) ≡ true → list_any (bytes_eq x) xs ≡ true
-passed p x [] h = h
-passed p x (y ∷ xs) h = one (p y) (passed p x xs) h where
-  one : (b : Bool) → (list_any (bytes_eq x) (filter p xs) ≡ true → list_any (bytes_eq x) xs ≡ true)
-      → list_any (bytes_eq x) (cond b (y ∷ filter p xs) (filter p xs)) ≡ true → (bytes_eq x y || list_any (bytes_eq x) xs) ≡ true
-  one true below h = either (bytes_eq x y) below h where
-    either : (b : Bool) → (list_any (bytes_eq x) (filter p xs) ≡ true → list_any (bytes_eq x) xs ≡ true) → (b || list_any (bytes_eq x) (filter p xs)) ≡ true
-        → (b || list_any (bytes_eq x) xs) ≡ true
-    either true below h = refl
-    either false below h = below h
-  one false below h = or_right (bytes_eq x y) (list_any (bytes_eq x) xs) (below h)
-
-tests-agree : (p q : List ℕ → Bool) (xs : List (List ℕ)) → AllByRecursion (λ x. p x ≡ q x) xs → filter p xs ≡ filter q xs
-tests-agree p q [] h = refl
-tests-agree p q (x ∷ xs) h = ap (λ b. cond b (x ∷ filter p xs) (filter p xs)) h.0 ∙ ap (λ l. cond (q x) (x ∷ l) l) (tests-agree p q xs h.1)
-
 removed-order : (xs : List (List ℕ)) (q : List ℕ → Bool)
     → filter q xs ≡ filter (λ x. list_any (bytes_eq x) (filter q xs)) xs ++ filter (λ x. not (list_any (bytes_eq x) xs)) (filter q xs)
 removed-order xs q =
-    sym (ap (λ l. l ++ filter (λ x. not (list_any (bytes_eq x) xs)) (filter q xs)) (tests-agree (λ x. list_any (bytes_eq x) (filter q xs)) q xs (each xs (all-among xs xs (λ x h. h))))
+    sym (ap (λ l. l ++ filter (λ x. not (list_any (bytes_eq x) xs)) (filter q xs)) (filter-agreed (λ x. list_any (bytes_eq x) (filter q xs)) q xs (each xs (all-among xs xs (λ x h. h))))
     ∙ ap (λ l. filter q xs ++ l) (none-pass (λ x. list_any (bytes_eq x) xs) (filter q xs) (all-among (filter q xs) xs (λ x h. passed q x xs h)))
     ∙ append-nil (filter q xs))
   where

@@ -1,6 +1,6 @@
 -- The records of a source from scratch are right.
-use Rattle.std.proofs.Common.{◌≡◌, ℕ, Bool, true, false, length, List, [], ◌∷◌, map, refl, sym, ◌∙◌, ap, subst, arith, Option, Some, None, is_some}
-use Rattle.std.specs.Prelude.{Result, Ok, Err, ◌||◌}
+use Rattle.std.proofs.Common.{◌≡◌, ℕ, Bool, true, false, length, List, map, refl, sym, ◌∙◌, ap, subst, arith, Option, Some, None, is_some}
+use Rattle.std.specs.Prelude.{Result, Ok, Err}
 use Rattle.std.specs.Borrow.{Bor}
 use Rattle.std.specs.List.{AllByRecursion, list_all, list_any}
 use Rattle.std.specs.Option.{option_map}
@@ -27,7 +27,7 @@ use Rattle.t1_font.specs.MeasuredGlyphs.{glyph_metrics, glyph_metrics_among}
 use Rattle.t1_font.specs.Runs.{Kept as KeptRun, drawing_kept, run_kept, kept_of as run_of, own_among, counted, AreTraced, Counts, CountsSome, IsAfter, IsTracedAs}
 use Rattle.t1_font.specs.SourceChecks.{source_check}
 use Rattle.t1_font.proofs.Counted.{counted-source}
-use Rattle.t1_font.proofs.Measuring.{keeps-own, names-there, KeepsOwn}
+use Rattle.t1_font.proofs.Measuring.{keeps-own, names-there, KeepsOwn, outline-is, same-function}
 use Rattle.t1_cache.specs.declared.records.Records.{Records}
 use Rattle.t1_cache.specs.Bodies.{record_bodies}
 use Rattle.t1_cache.specs.Laws.{check, AreDistinct}
@@ -36,35 +36,21 @@ use Rattle.t1_cache.specs.Renewed.{Kept, kept_of}
 use Rattle.t1_cache.specs.Tables.{AreTables}
 use Rattle.t1_cache.proofs.Distinct.{names_distinct}
 use Rattle.t1_cache.proofs.Renewing.{shown-all}
-use Rattle.t1_cache.proofs.Lists.{all-weaken}
+use Rattle.t1_cache.proofs.Lists.{all-weaken, all-at}
 use Rattle.t1_rerun.specs.Opened.{measured_names, opening_runs, runs_where, AreMeasured, IsRecorded, IsRunAfter}
-use Rattle.t1_rerun.specs.Renewals.{HasRun, IsMeasured}
+use Rattle.t1_rerun.specs.Renewals.{HasRun}
 use Rattle.t1_rerun.specs.Right.{IsRight}
-use Rattle.t1_rerun.proofs.Building.{same-twice}
-use Rattle.t1_rerun.proofs.Gathering.{box-measured, measured-all, ok-run}
-use Rattle.t1_rerun.proofs.Meeting.{glyph-among, same-function}
+use Rattle.t1_rerun.proofs.Steps.{same-twice}
+use Rattle.t1_rerun.proofs.Gathering.{box-measured, measured-all, ok-run, IsMeasured}
+use Rattle.t1_rerun.proofs.Meeting.{glyph-among}
 use Rattle.t1_rerun.proofs.Reaching.{all-some}
-use Rattle.t1_font.proofs.Lookups.{bytes_tell}
 
 -- ---- fonts with the same bodies
 
 own-alike : (m n : FontBodies) → SameBodies m n → (g : List ℕ) → own m g ≡ own n g
 own-alike m n same g = sym (own_same m n g (record { same = λ key i. same key })).0
 
--- ---- lists
-
-all-at : (P : List ℕ → Type 0) (names : List (List ℕ)) → AllByRecursion P names → (g : List ℕ) → list_any (bytes_eq g) names ≡ true → P g
-all-at P [] h g e = absurd (cc)
-all-at P (x ∷ names) h g e = by (bytes_eq g x) refl e (all-at P names h.1 g) where
-  by : (b : Bool) → bytes_eq g x ≡ b → (b || list_any (bytes_eq g) names) ≡ true → (list_any (bytes_eq g) names ≡ true → P g) → P g
-  by true same e others = subst P (sym (bytes_tell.same g x same)) h.0
-  by false other e others = others e
-
 -- ---- what is reported of a font's glyphs
-
-outline-is : (m : FontBodies) (g : List ℕ) → outline_within (own m) 4 g ≡ outline m g
-unfolding outline
-outline-is m g = refl
 
 told-by : (m : FontBodies) (names : List (List ℕ)) → glyph_metrics_among (own m) names ≡ (glyphs m names >>= (λ gs. Ok (map glyph_metrics gs)))
 unfolding glyph_metrics_among
@@ -93,7 +79,7 @@ module _ (s : SourceParts) (file : file_check s ≡ Ok tt) where
     abbrev m : FontBodies
     m = bodies s.items
 
-    keeps : KeepsOwn runs s.items
+    keeps : KeepsOwn (run_of runs) s.items
     keeps = keeps-own bs s.items runs same (λ g. kept g ∙ ap (λ l. own_among bs l g) are)
 
     own-told : glyph_metrics_among (run_of runs) (map (λ name. name.now) names) ≡ glyph_metrics_among (own m) (glyph_names s.items)

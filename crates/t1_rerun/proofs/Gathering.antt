@@ -28,6 +28,7 @@ use Rattle.t1_font.specs.Glyphs.{Glyph as Told, glyph_of, placed_parts_of, glyph
 use Rattle.t1_font.specs.MeasuredGlyphs.{glyph_metrics, glyph_metrics_among}
 use Rattle.t1_font.specs.Runs.{Kept as KeptRun, drawing_kept, run_kept, kept_of as run_of, own_among, AreTraced, IsTracedAs}
 use Rattle.t1_font.specs.SourceChecks.{source_glyphs, source_check}
+use Rattle.t1_font.proofs.Measuring.{own-none}
 use Rattle.t1_cache.specs.declared.records.Rerun.{Rerun}
 use Rattle.t1_cache.specs.declared.records.Records.{Records}
 use Rattle.t1_cache.specs.Edited.{IsEditedAt, stale}
@@ -38,11 +39,20 @@ use Rattle.t1_cache.specs.Renewed.{kept_of, recorded_run}
 use Rattle.t1_cache.proofs.Judging.{first_fault_stale}
 use Rattle.t1_cache.proofs.Renewing.{glyphs-of}
 use Rattle.t1_rerun.specs.Newest.{newest_among}
-use Rattle.t1_rerun.specs.Renewals.{rerun_names, HasBox, HasRun, IsMeasured, IsRerun}
-use Rattle.t1_rerun.proofs.Meeting.{all-among, some-own, among-off, among-passing, glyph-among, none-own, own-is, newest-is, own-body}
+use Rattle.t1_rerun.specs.Renewals.{rerun_names, HasBox, HasRun, IsRerun}
+use Rattle.t1_cache.proofs.Filtering.{among-passing, among-off}
+use Rattle.t1_rerun.proofs.Meeting.{all-among, some-own, glyph-among, own-is, newest-is, own-body}
 
-abbrev Runs : Type 0
+abbrev pub Runs : Type 0
 Runs = List ℕ → Option (Result Drawing Code)
+
+-- by runs that are kept a glyph draws, and its box is the one that was measured
+pub record IsMeasured (run : Runs) (m : GlyphMetrics) : Type 0 where
+  pub drawing : Drawing
+  pub segments : List Segment
+  pub ran : run m.name ≡ Some (Ok drawing)
+  pub draws : outline_within run 4 m.name ≡ Ok segments
+  pub box : m.bbox ≡ drawn_box segments
 
 abbrev Outlines : Type 0
 Outlines = List ℕ → Result (List Segment) Code
@@ -246,7 +256,7 @@ module _ (keys : List Key) (old new : SourceParts) (told : List Told) (edit : Is
 
     away : (body : Option (List Command)) → n.glyphs u ≡ body → (b : Bool) → found u ≡ b → list_any (bytes_eq u) (stale old keys new) ≡ false
         → false ≡ (found u && is_user k (own n u))
-    away None e b f h = sym (and-false (found u)) ∙ ap (λ r. found u && is_user k r) (sym (none-own n u e))
+    away None e b f h = sym (and-false (found u)) ∙ ap (λ r. found u && is_user k r) (sym (own-none n u e))
     away (Some body) e false f h = sym (ap (λ t. t && is_user k (own n u)) f)
     away (Some body) e true f h =
         let never : true ≡ false = sym (ap (list_any (bytes_eq u)) (sym is) ∙ among-passing found u (glyph_names new.items) (glyph-among new.items u body e) f) ∙ h in

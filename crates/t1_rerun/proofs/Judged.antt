@@ -4,9 +4,9 @@ use Rattle.std.specs.List.{AllByRecursion}
 use Rattle.t1_frac.specs.declared.fault.Refusal.{Refusal}
 use Rattle.t1_frac.specs.Outcome.{Refuses}
 use Rattle.t1_parts.specs.SourceParts.{SourceParts}
-use Rattle.t1_run.specs.Run.{FontBodies, Key, Subr, Glyph}
+use Rattle.t1_run.specs.Run.{Key}
 use Rattle.t1_font.specs.Assembly.{file_check}
-use Rattle.t1_font.specs.Bodies.{bodies, SameBodies}
+use Rattle.t1_font.specs.Bodies.{bodies}
 use Rattle.t1_font.specs.Glyphs.{glyphs, glyph_names}
 use Rattle.t1_font.specs.SourceChecks.{source_check, source_glyphs}
 use Rattle.t1_font.proofs.Drawing.{refuses-then}
@@ -14,22 +14,19 @@ use Rattle.t1_cache.specs.declared.records.Records.{Records}
 use Rattle.t1_cache.specs.Bodies.{record_bodies}
 use Rattle.t1_cache.specs.declared.records.Rerun.{Rerun}
 use Rattle.t1_cache.specs.Kept.{KeepsAll}
-use Rattle.t1_cache.specs.Renewal.{IsOneOf}
+use Rattle.t1_cache.specs.Renewal.{IsOneOf, kept_by}
 use Rattle.t1_cache.specs.Renewed.{Kept}
 use Rattle.t1_rerun.specs.Opened.{IsRunAfter}
-use Rattle.t1_rerun.specs.Renewals.{rerun_kept, IsLater}
+use Rattle.t1_rerun.specs.Renewals.{IsLater}
 use Rattle.t1_rerun.specs.Renewing.{IsRunWhereStale}
 use Rattle.t1_rerun.specs.Right.{IsRight}
 use Rattle.t1_rerun.specs.Settled.{AreAsBefore, IsRenewedBy}
-
-same-trans : (a b c : FontBodies) → SameBodies a b → SameBodies b c → SameBodies a c
-same-trans a b c ab bc (Subr n) = ab (Subr n) ∙ bc (Subr n)
-same-trans a b c ab bc (Glyph g) = ab (Glyph g) ∙ bc (Glyph g)
+use Rattle.t1_rerun.proofs.Steps.{same-twice}
 
 -- records that are as before are right for what they were right for
 pub still-right : (old new : Records) → AreAsBefore old new → (s : SourceParts) → IsRight s old → IsRight s new
 still-right old new same s right = record {
-  compiled = same-trans (record_bodies new) (record_bodies old) (bodies s.items) same.bodies right.compiled;
+  compiled = same-twice (record_bodies new) (record_bodies old) (bodies s.items) same.bodies right.compiled;
   kept = subst (KeepsAll s) (sym same.kept) right.kept;
   users = λ k g. same.users k g ∙ right.users k g;
 }
@@ -42,7 +39,7 @@ file-refused s refusal h =
 
 -- ---- runs
 
-later-kept : (count : ℕ) (rs : List Rerun) (k : Kept) → AllByRecursion (IsLater count) rs → IsOneOf (map rerun_kept rs) k → IsRunAfter count k
+later-kept : (count : ℕ) (rs : List Rerun) (k : Kept) → AllByRecursion (IsLater count) rs → IsOneOf (map kept_by rs) k → IsRunAfter count k
 later-kept count [] k all h = absurd h
 later-kept count (r ∷ rs) k all (inl e) = subst (IsRunAfter count) e all.0
 later-kept count (r ∷ rs) k all (inr h) = later-kept count rs k all.1 h

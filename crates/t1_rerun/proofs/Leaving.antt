@@ -6,43 +6,18 @@ use Rattle.std.specs.Str.{bytes_eq}
 use Rattle.std.proofs.Math.Bool.{and-true, and_self}
 use Rattle.std.proofs.lemmas.Bool.{or_right}
 use Rattle.std.proofs.lemmas.List.Elements.{filter-append}
-use Rattle.t1_run.specs.Run.{Key, Subr, Glyph}
+use Rattle.t1_run.specs.Run.{Key, Subr, Glyph, body_at, key_eq}
 use Rattle.t1_run.specs.Touched.{is_key_of}
 use Rattle.t1_cache.specs.declared.records.Records.{Records}
 use Rattle.t1_cache.specs.Bodies.{record_bodies}
-use Rattle.t1_cache.specs.Overlay.{body_at}
 use Rattle.t1_cache.specs.Renewed.{Kept, kept, kept_of}
-use Rattle.t1_cache.specs.Users.{has, is_key_among, key_eq, key_of, users_at}
-use Rattle.t1_font.proofs.Lookups.{bytes_tell}
+use Rattle.t1_cache.specs.Users.{has, is_key_among, key_of, users_at}
+use Rattle.t1_cache.proofs.Filtering.{filter-all, filter-both, filter-same}
+use Rattle.t1_font.proofs.Lookups.{bytes_tell, bytes-turned}
+use Rattle.t1_font.proofs.Keys.{glyph-key}
 use Rattle.t1_rerun.specs.declared.settling.steps.Step.{Step}
 use Rattle.t1_rerun.specs.declared.settling.steps.Step.TheVariants as steps
 use Rattle.t1_rerun.specs.Steps.{after, after_all, seen, step_body, step_kept, step_key, step_users, takes_out, AreTakenOut, Seen}
-use Rattle.t1_rerun.proofs.Steps.{turned}
-
--- ---- lists
-
-filter-same : (p q : Kept → Bool) → ((k : Kept) → p k ≡ q k) → (ks : List Kept) → filter p ks ≡ filter q ks
-filter-same p q same ks = ap (λ (f : Kept → Bool). filter f ks) (λ j. λ k. same k j)
-
-filter-twice : (p q : Kept → Bool) (ks : List Kept) → filter p (filter q ks) ≡ filter (λ k. p k && q k) ks
-filter-twice p q [] = refl
-filter-twice p q (k ∷ ks) = by (q k) refl (filter-twice p q ks) where
-  by : (b : Bool) → q k ≡ b → filter p (filter q ks) ≡ filter (λ k. p k && q k) ks
-      → filter p (cond b (k ∷ filter q ks) (filter q ks)) ≡ cond (p k && b) (k ∷ filter (λ k. p k && q k) ks) (filter (λ k. p k && q k) ks)
-  by true on rest = within (p k) rest where
-    within : (b : Bool) → filter p (filter q ks) ≡ filter (λ k. p k && q k) ks
-        → cond b (k ∷ filter p (filter q ks)) (filter p (filter q ks)) ≡ cond (b && true) (k ∷ filter (λ k. p k && q k) ks) (filter (λ k. p k && q k) ks)
-    within true rest = ap (λ l. k ∷ l) rest
-    within false rest = rest
-  by false off rest = without (p k) rest where
-    without : (b : Bool) → filter p (filter q ks) ≡ filter (λ k. p k && q k) ks
-        → filter p (filter q ks) ≡ cond (b && false) (k ∷ filter (λ k. p k && q k) ks) (filter (λ k. p k && q k) ks)
-    without true rest = rest
-    without false rest = rest
-
-filter-all : (ks : List Kept) → filter (λ k. true) ks ≡ ks
-filter-all [] = refl
-filter-all (k ∷ ks) = ap (λ l. k ∷ l) (filter-all ks)
 
 -- ---- seen alike but for some glyphs
 
@@ -69,7 +44,7 @@ was-off p (steps.Put named body) (Glyph g) other off = sym (and-true (p g)) ∙ 
 was-off p (steps.InsertSubr n r) (Glyph g) other off = sym (and-true (p g)) ∙ off
 was-off p (steps.InsertGlyph name r) (Glyph g) other off = sym (and-true (p g)) ∙ ap (λ b. p g && not b) (sym other) ∙ off
 
-gone-later : (a b : Bool) → (not (a && not b) && not b) ≡ (not b && not a)
+gone-later : (a b : Bool) → (not b && not (a && not b)) ≡ (not a && not b)
 gone-later true true = refl
 gone-later true false = refl
 gone-later false true = refl
@@ -82,13 +57,9 @@ taken-kept : (p r : List ℕ → Bool) (xs ys : List Kept) → filter (λ k. not
 taken-kept p r xs ys same = all ys ∙ ap (filter (λ k. not (r k.name))) same ∙ sym (all xs) where
   all : (ks : List Kept) → filter (λ k. not (p k.name && not (r k.name))) (filter (λ k. not (r k.name)) ks) ≡ filter (λ k. not (r k.name)) (filter (λ k. not (p k.name)) ks)
   all ks =
-      filter-twice (λ k. not (p k.name && not (r k.name))) (λ k. not (r k.name)) ks
-      ∙ filter-same (λ k. not (p k.name && not (r k.name)) && not (r k.name)) (λ k. not (r k.name) && not (p k.name)) (λ k. gone-later (p k.name) (r k.name)) ks
-      ∙ sym (filter-twice (λ k. not (r k.name)) (λ k. not (p k.name)) ks)
-
-of-named : (g : List ℕ) (k : Key) → is_key_of g k ≡ key_eq (Glyph g) k
-of-named g (Subr n) = refl
-of-named g (Glyph h) = refl
+      filter-both (λ k. not (r k.name)) (λ k. not (p k.name && not (r k.name))) ks
+      ∙ filter-same (λ k. not (r k.name) && not (p k.name && not (r k.name))) (λ k. not (p k.name) && not (r k.name)) ks (λ k. gone-later (p k.name) (r k.name))
+      ∙ sym (filter-both (λ k. not (p k.name)) (λ k. not (r k.name)) ks)
 
 kept-after : (p : List ℕ → Bool) (step : Step) (xs ys : List Kept) → filter (λ k. not (p k.name)) ys ≡ filter (λ k. not (p k.name)) xs
     → filter (λ k. not (still p step k.name)) (step_kept step ys) ≡ filter (λ k. not (still p step k.name)) (step_kept step xs)
@@ -97,13 +68,13 @@ kept-after p (steps.Remove named) xs ys same = each ys ∙ taken-kept p (λ g. k
       ≡ filter (λ k. not (still p (steps.Remove named) k.name)) (filter (λ k. not (key_eq (Glyph k.name) (key_of named))) ks)
   each ks =
       ap (filter (λ k. not (still p (steps.Remove named) k.name)))
-      (filter-same (λ k. not (is_key_of k.name (key_of named))) (λ k. not (key_eq (Glyph k.name) (key_of named))) (λ k. ap not (of-named k.name (key_of named))) ks)
+      (filter-same (λ k. not (is_key_of k.name (key_of named))) (λ k. not (key_eq (Glyph k.name) (key_of named))) ks (λ k. ap not (glyph-key k.name (key_of named))))
 kept-after p (steps.Put named body) xs ys same = each ys ∙ same ∙ sym (each xs) where
   each : (ks : List Kept) → filter (λ k. not (p k.name && true)) ks ≡ filter (λ k. not (p k.name)) ks
-  each ks = filter-same (λ k. not (p k.name && true)) (λ k. not (p k.name)) (λ k. ap not (and-true (p k.name))) ks
+  each ks = filter-same (λ k. not (p k.name && true)) (λ k. not (p k.name)) ks (λ k. ap not (and-true (p k.name)))
 kept-after p (steps.InsertSubr n r) xs ys same = each ys ∙ same ∙ sym (each xs) where
   each : (ks : List Kept) → filter (λ k. not (p k.name && true)) ks ≡ filter (λ k. not (p k.name)) ks
-  each ks = filter-same (λ k. not (p k.name && true)) (λ k. not (p k.name)) (λ k. ap not (and-true (p k.name))) ks
+  each ks = filter-same (λ k. not (p k.name && true)) (λ k. not (p k.name)) ks (λ k. ap not (and-true (p k.name)))
 kept-after p (steps.InsertGlyph name r) xs ys same = each ys ∙ ap (λ l. l ++ filter left (new ∷ [])) (taken-kept p (λ g. bytes_eq g name.items) xs ys same) ∙ sym (each xs) where
   left : Kept → Bool
   left k = not (still p (steps.InsertGlyph name r) k.name)
@@ -115,7 +86,7 @@ kept-after p (steps.InsertGlyph name r) xs ys same = each ys ∙ ap (λ l. l ++ 
   each ks =
       filter-append left (filter (λ k. not (bytes_eq name.items k.name)) ks) (new ∷ [])
       ∙ ap (λ l. filter left l ++ filter left (new ∷ []))
-      (filter-same (λ k. not (bytes_eq name.items k.name)) (λ k. not (bytes_eq k.name name.items)) (λ k. ap not (turned name.items k.name)) ks)
+      (filter-same (λ k. not (bytes_eq name.items k.name)) (λ k. not (bytes_eq k.name name.items)) ks (λ k. ap not (bytes-turned name.items k.name)))
 
 -- after a step they are alike but for those that it doesn't take out
 alike-after : (p : List ℕ → Bool) (step : Step) (x y : Seen) → Alike p x y → Alike (still p step) (after step x) (after step y)
@@ -204,8 +175,8 @@ taken-first steps names taken old new bodies users kepts =
     once : filter (λ k. not (p k.name)) (map kept_of new.glyphs.entries) ≡ filter (λ k. not (p k.name)) (map kept_of old.glyphs.entries)
     once =
         ap (filter (λ k. not (p k.name))) kepts
-        ∙ filter-twice (λ k. not (p k.name)) (λ k. not (p k.name)) (map kept_of old.glyphs.entries)
-        ∙ filter-same (λ k. not (p k.name) && not (p k.name)) (λ k. not (p k.name)) (λ k. and_self (not (p k.name))) (map kept_of old.glyphs.entries)
+        ∙ filter-both (λ k. not (p k.name)) (λ k. not (p k.name)) (map kept_of old.glyphs.entries)
+        ∙ filter-same (λ k. not (p k.name) && not (p k.name)) (λ k. not (p k.name)) (map kept_of old.glyphs.entries) (λ k. and_self (not (p k.name)))
 
 -- ---- one of the steps
 

@@ -1,69 +1,39 @@
 -- The glyphs that are found are the stale ones of the edited source, and the newest runs are its runs.
-use Rattle.std.proofs.Common.{◌≡◌, ℕ, Bool, true, false, cond, List, [], ◌∷◌, map, filter, refl, sym, ◌∙◌, ap, inl, inr, Option, Some, None}
+use Rattle.std.proofs.Common.{◌≡◌, ℕ, Bool, true, false, cond, List, [], ◌∷◌, map, filter, refl, sym, ◌∙◌, ap, Option, Some, None}
 use Rattle.std.specs.Prelude.{Result, Ok, ◌||◌}
 use Rattle.std.specs.List.{AllByRecursion, list_any}
 use Rattle.std.specs.Option.{option_or}
 use Rattle.std.specs.Str.{bytes_eq}
-use Rattle.std.proofs.lemmas.Bool.{cases_Bool, or_left, or_parts, or_right}
+use Rattle.std.proofs.lemmas.Bool.{or_left, or_right}
 use Rattle.t1_frac.specs.declared.fault.Code.{Code}
 use Rattle.t1_code.specs.declared.command.Command.{Command}
 use Rattle.t1_parts.specs.declared.item.Item.{Item}
 use Rattle.t1_parts.specs.SourceParts.{SourceParts}
 use Rattle.t1_run.specs.Composite.{outline, outline_within}
-use Rattle.t1_run.specs.Footprint.{Includes}
 use Rattle.t1_run.specs.Run.{FontBodies, Key, Glyph, Drawing, own, own_of}
-use Rattle.t1_run.specs.Touched.{is_key_of, is_named, is_met, is_user, meets_run, meets_parts, touched_within, is_touched}
+use Rattle.t1_run.specs.Touched.{is_named, meets_run, meets_parts, touched_within, is_touched}
 use Rattle.t1_run.proofs.Agreeing.{own_same}
 use Rattle.t1_run.proofs.FoundByUsers.{found_are_touched}
 use Rattle.t1_font.specs.Bodies.{bodies, glyph_among, SameBodies}
 use Rattle.t1_font.specs.Glyphs.{Glyph as Told, glyph_names}
 use Rattle.t1_font.specs.SourceChecks.{source_glyphs}
-use Rattle.t1_font.proofs.Keeping.{bytes_self, same_bytes}
+use Rattle.t1_run.proofs.Asked.{bytes_self}
+use Rattle.t1_font.proofs.Measuring.{own-none}
 use Rattle.t1_cache.specs.declared.records.Records.{Records}
 use Rattle.t1_cache.specs.Edited.{IsEditedAt, is_stale, stale}
 use Rattle.t1_cache.specs.Kept.{shown, shown_from}
 use Rattle.t1_cache.specs.Renewed.{kept_of, recorded_run}
 use Rattle.t1_cache.specs.Tables.{AreStale}
 use Rattle.t1_cache.proofs.Drawing.{all_draw}
-use Rattle.t1_cache.proofs.Newest.{found as at-glyph, newest_drawn}
+use Rattle.t1_cache.proofs.Newest.{found as at-glyph, newest_drawn, not-key}
 use Rattle.t1_cache.proofs.Recorded.{runs_recorded}
 use Rattle.t1_cache.proofs.Renewing.{glyphs-of}
 use Rattle.t1_cache.proofs.Lists.{all-weaken}
+use Rattle.t1_cache.proofs.Filtering.{among-off, among-passing, filter-agreed}
+use Rattle.t1_cache.proofs.Joining.{met-all}
 use Rattle.t1_rerun.specs.Newest.{newest_among}
 
 -- ---- lists and tests
-
--- tests that agree on a list pass the same of it
-filter-same : (p q : List ℕ → Bool) (xs : List (List ℕ)) → AllByRecursion (λ x. p x ≡ q x) xs → filter p xs ≡ filter q xs
-filter-same p q [] h = refl
-filter-same p q (x ∷ xs) h = ap (λ b. cond b (x ∷ filter p xs) (filter p xs)) h.0 ∙ ap (λ l. cond (q x) (x ∷ l) l) (filter-same p q xs h.1)
-
-pub among-passing : (p : List ℕ → Bool) (g : List ℕ) (xs : List (List ℕ)) → list_any (bytes_eq g) xs ≡ true → p g ≡ true → list_any (bytes_eq g) (filter p xs) ≡ true
-among-passing p g [] h e = absurd (cc)
-among-passing p g (x ∷ xs) h e =
-    elim (cases_Bool (bytes_eq g x)) [
-      | inl same ↦
-          let passes : p x ≡ true = ap p (sym (same_bytes g x same)) ∙ e in
-          rw passes (or_left (bytes_eq g x) (list_any (bytes_eq g) (filter p xs)) same)
-      | inr other ↦
-          let below = among-passing p g xs (rw other at h) e in
-          either (p x) below
-    ]
-  where
-    either : (b : Bool) → list_any (bytes_eq g) (filter p xs) ≡ true → list_any (bytes_eq g) (cond b (x ∷ filter p xs) (filter p xs)) ≡ true
-    either true below = or_right (bytes_eq g x) (list_any (bytes_eq g) (filter p xs)) below
-    either false below = below
-
-pub among-off : (p : List ℕ → Bool) (g : List ℕ) (xs : List (List ℕ)) → p g ≡ false → list_any (bytes_eq g) (filter p xs) ≡ false
-among-off p g [] e = refl
-among-off p g (x ∷ xs) e = by (p x) refl (among-off p g xs e) where
-  apart : (b : Bool) → p x ≡ true → bytes_eq g x ≡ b → b ≡ false
-  apart true passes same = let never : true ≡ false = sym passes ∙ ap p (sym (same_bytes g x same)) ∙ e in cc
-  apart false passes same = refl
-
-  by : (b : Bool) → p x ≡ b → list_any (bytes_eq g) (filter p xs) ≡ false → list_any (bytes_eq g) (cond b (x ∷ filter p xs) (filter p xs)) ≡ false
-  by true passes below = ap (λ t. t || list_any (bytes_eq g) (filter p xs)) (apart (bytes_eq g x) passes refl) ∙ below
-  by false off below = below
 
 pub all-among : (xs ys : List (List ℕ)) → ((x : List ℕ) → list_any (bytes_eq x) xs ≡ true → list_any (bytes_eq x) ys ≡ true)
     → AllByRecursion (λ x. list_any (bytes_eq x) ys ≡ true) xs
@@ -78,27 +48,6 @@ glyph-among items g b e =
 
 -- ---- keys
 
-named-met : (m : FontBodies) (g : List ℕ) (keys : List Key) → is_named keys g ≡ true → list_any (is_met m g) keys ≡ true
-named-met m g [] h = absurd (cc)
-named-met m g (k ∷ keys) h =
-    elim (cases_Bool (is_key_of g k)) [
-      | inl here ↦ or_left (is_met m g k) (list_any (is_met m g) keys) (or_left (is_key_of g k) (is_user k (own m g)) here)
-      | inr other ↦ or_right (is_met m g k) (list_any (is_met m g) keys) (named-met m g keys (rw other at h))
-    ]
-
-not-key : (keys : List Key) (g : List ℕ) → is_named keys g ≡ false → Includes keys (Glyph g) → ⊥
-not-key [] g h i = i
-not-key (k ∷ keys) g h (inl e) =
-    let h' = (or_parts (is_key_of g k) (is_named keys g) h).0 in
-    let here : is_key_of g k ≡ true = ap (is_key_of g) e ∙ bytes_self g in
-    let never : true ≡ false = sym here ∙ h' in
-    absurd (cc)
-not-key (k ∷ keys) g h (inr i) = not-key keys g (or_parts (is_key_of g k) (is_named keys g) h).1 i
-
-pub none-own : (m : FontBodies) (g : List ℕ) → m.glyphs g ≡ None → own m g ≡ None
-unfolding own
-none-own m g e = ap (own_of m) e
-
 pub some-own : (m : FontBodies) (g : List ℕ) (b : List Command) → m.glyphs g ≡ Some b → (r : Result Drawing Code) × (own m g ≡ Some r)
 unfolding own
 some-own m g b e = (_, ap (own_of m) e)
@@ -106,7 +55,7 @@ some-own m g b e = (_, ap (own_of m) e)
 named-touched : (m : FontBodies) (keys : List Key) (g : List ℕ) → m.glyphs g ≡ None → is_named keys g ≡ true → is_touched m keys g ≡ true
 unfolding is_touched
 named-touched m keys g e h =
-    ap (λ r. meets_run keys g r || meets_parts (touched_within 3 m keys) r) (none-own m g e)
+    ap (λ r. meets_run keys g r || meets_parts (touched_within 3 m keys) r) (own-none m g e)
     ∙ or_left (is_named keys g) false h
 
 -- ---- an edited source
@@ -120,7 +69,7 @@ module _ (keys : List Key) (old new : SourceParts) (told : List Told) (edit : Is
     m = bodies old.items
 
     named : (t : Bool) → is_named keys g ≡ t → m.glyphs g ≡ None → found g ≡ is_stale old keys g
-    named true h e = stale.closed.seeds g (named-met m g keys h) ∙ sym (named-touched m keys g e h)
+    named true h e = stale.closed.seeds g (met-all m g keys h) ∙ sym (named-touched m keys g e h)
     named false h e =
         let same = edit.bodies.same (Glyph g) (not-key keys g h) in
         let never : ◌≡◌ {A = Option (List Command)} None (Some b) = sym e ∙ same ∙ there in
@@ -137,7 +86,7 @@ module _ (keys : List Key) (old new : SourceParts) (told : List Told) (edit : Is
       → AllByRecursion (λ g. (b : List Command) × ((bodies new.items).glyphs g ≡ Some b)) (glyph_names new.items)
       → filter found (glyph_names new.items) ≡ stale old keys new
   stale-is found stale there =
-      filter-same found (is_stale old keys) (glyph_names new.items)
+      filter-agreed found (is_stale old keys) (glyph_names new.items)
       (all-weaken (λ g. (b : List Command) × ((bodies new.items).glyphs g ≡ Some b)) (λ g. found g ≡ is_stale old keys g)
       (λ g h. found-stale found stale g h.0 h.1) (glyph_names new.items) there)
 
@@ -146,7 +95,7 @@ module _ (keys : List Key) (old new : SourceParts) (told : List Told) (edit : Is
 pub own-body : (m : FontBodies) (g : List ℕ) (r : Result Drawing Code) → own m g ≡ Some r → (b : List Command) × (m.glyphs g ≡ Some b)
 own-body m g r e = by (m.glyphs g) refl where
   by : (body : Option (List Command)) → m.glyphs g ≡ body → (b : List Command) × (m.glyphs g ≡ Some b)
-  by None h = let never : ◌≡◌ {A = Option (Result Drawing Code)} None (Some r) = sym (none-own m g h) ∙ e in absurd (cc)
+  by None h = let never : ◌≡◌ {A = Option (Result Drawing Code)} None (Some r) = sym (own-none m g h) ∙ e in absurd (cc)
   by (Some b) h = (b, h)
 
 module _ (keys : List Key) (old new : SourceParts) (told : List Told) (edit : IsEditedAt keys old new) (was : source_glyphs old ≡ Ok told)
@@ -178,6 +127,3 @@ module _ (keys : List Key) (old new : SourceParts) (told : List Told) (edit : Is
       fresh g b there off =
           ap (λ t. option_or (cond t (own m g) None) (recorded_run records g)) (among-off (is_stale old keys) g (glyph_names new.items) off)
           ∙ recorded-own g
-
-pub same-function : {A B : Type 0} (f g : A → B) → ((x : A) → f x ≡ g x) → f ≡ g
-same-function f g h = λ j. λ x. h x j

@@ -11,7 +11,7 @@ use Rattle.std.proofs.lemmas.List.Folds.{find-append}
 use Rattle.t1_code.specs.declared.command.Command.{Command}
 use Rattle.t1_parts.specs.SourceParts.{SourceParts}
 use Rattle.t1_font.specs.Bodies.{bodies, SameBodies}
-use Rattle.t1_run.specs.Run.{Key, Subr, Glyph}
+use Rattle.t1_run.specs.Run.{Key, Subr, Glyph, body_at, key_eq}
 use Rattle.t1_extent.specs.Kept.{TracedRun}
 use Rattle.t1_afm.specs.declared.bbox.BBox.{BBox}
 use Rattle.t1_cache.specs.declared.records.Named.{Named}
@@ -22,9 +22,8 @@ use Rattle.t1_cache.specs.declared.records.Rerun.{Rerun}
 use Rattle.t1_cache.specs.Bodies.{glyph_body, record_bodies, subr_body}
 use Rattle.t1_cache.specs.Changed.{AreUnchanged}
 use Rattle.t1_cache.specs.Kept.{KeepsAll}
-use Rattle.t1_cache.specs.Overlay.{body_at}
 use Rattle.t1_cache.specs.Renewed.{kept_of, rerun_of, reruns_by_name}
-use Rattle.t1_cache.specs.Users.{among, glyph_users, key_eq, key_of, subr_users, users_at}
+use Rattle.t1_cache.specs.Users.{among, glyph_users, key_of, subr_users, users_at}
 use Rattle.t1_rerun.specs.declared.entry_change.EntryChange.{EntryChange}
 use Rattle.t1_rerun.specs.declared.settling.steps.Step.{Step}
 use Rattle.t1_rerun.specs.declared.settling.steps.Step.TheVariants as steps
@@ -32,7 +31,8 @@ use Rattle.t1_rerun.specs.declared.renewal.Renewal.{Renewal}
 use Rattle.t1_rerun.specs.Settled.{changed_keys, AreAsBefore, AreDistinctKeys, IsJudged}
 use Rattle.t1_rerun.specs.Steps.{changed, inserts, is_last, new_run, new_run_of, some_inserts, AreStepsOf, IsStepOf, LacksRun}
 use Rattle.t1_rerun.proofs.Stepping.{inserted-named, inserts-last}
-use Rattle.t1_rerun.proofs.Steps.{at-same, same-at, same-twice}
+use Rattle.t1_font.proofs.Keys.{at-same, same-at}
+use Rattle.t1_rerun.proofs.Steps.{same-twice}
 
 -- ---- new runs by name
 

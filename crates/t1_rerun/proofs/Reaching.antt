@@ -22,13 +22,13 @@ use Rattle.t1_cache.specs.declared.records.Named.{Named}
 use Rattle.t1_cache.specs.declared.records.Records.{Records}
 use Rattle.t1_cache.specs.declared.records.Rerun.{Rerun}
 use Rattle.t1_cache.specs.Edited.{stale}
-use Rattle.t1_cache.specs.Renewal.{IsFromScratch}
+use Rattle.t1_cache.specs.Renewal.{IsFromScratch, kept_by}
 use Rattle.t1_cache.specs.Renewed.{recorded_run}
 use Rattle.t1_cache.specs.Tables.{AreStale}
 use Rattle.t1_cache.specs.Users.{has, has_pair, key_of}
 use Rattle.t1_rerun.specs.declared.renewal.Renewal.{Renewal}
 use Rattle.t1_rerun.specs.Newest.{newest_among}
-use Rattle.t1_rerun.specs.Renewals.{rerun_kept, rerun_names, IsLater, IsRenewal, IsRerun}
+use Rattle.t1_rerun.specs.Renewals.{rerun_names, IsLater, IsRenewal, IsRerun}
 use Rattle.t1_rerun.specs.Right.{IsEdit}
 use Rattle.t1_rerun.proofs.Meeting.{recorded-own, stale-is}
 use Rattle.t1_rerun.proofs.Gathering.{faultless, joins-are, names-gathered, refused, scratch-reruns}
@@ -142,7 +142,7 @@ module _ (edits : List Named) (old new : SourceParts) (records : Records) (m : F
   is-renewal metrics told runs runs-are traced renewal each named leaves joins = record {
     found = found;
     reached = reached;
-    scratch = all-map (IsFromScratch (bodies new.items)) rerun_kept renewal.reruns.items
+    scratch = all-map (IsFromScratch (bodies new.items)) kept_by renewal.reruns.items
         (scratch-reruns (map key_of edits) old new e.right.kept.glyphs e.edited e.right.kept.faultless records e.right.kept.from_scratch m e.bodies stale-there runs runs-stale traced metrics (told-stale metrics told) renewal.reruns.items each);
     names = names-gathered (map key_of edits) old new e.right.kept.glyphs e.edited e.right.kept.faultless records e.right.kept.from_scratch m e.bodies stale-there runs runs-stale traced metrics (told-stale metrics told) renewal.reruns.items named;
     leaves = λ k u. leaves k u ∙ ap (λ r. found u && is_user k r) (recorded-own (map key_of edits) old new e.right.kept.glyphs e.edited e.right.kept.faultless records e.right.kept.from_scratch u);

@@ -5,7 +5,7 @@ use Rattle.std.specs.Borrow.{Bor}
 use Rattle.std.specs.List.{AllByRecursion, list_any}
 use Rattle.std.specs.Option.{option_or}
 use Rattle.std.specs.Str.{bytes_eq}
-use Rattle.std.proofs.Math.Bool.{and-false, and_comm}
+use Rattle.std.proofs.Math.Bool.{and_comm}
 use Rattle.std.proofs.lemmas.Bool.{or_right}
 use Rattle.t1_frac.specs.declared.fault.Code.{Code}
 use Rattle.t1_frac.specs.declared.fault.Fault.{Fault}
@@ -29,7 +29,7 @@ use Rattle.t1_font.specs.MeasuredGlyphs.{glyph_metrics, glyph_metrics_among}
 use Rattle.t1_font.specs.Runs.{Kept as KeptRun, kept_of as run_of, own_among, AreTraced}
 use Rattle.t1_font.specs.SourceChecks.{source_check}
 use Rattle.t1_font.proofs.LengthLaws.{body_fault_told}
-use Rattle.t1_font.proofs.Measuring.{names-there}
+use Rattle.t1_font.proofs.Measuring.{names-there, same-function}
 use Rattle.t1_cache.specs.declared.records.Named.{Named}
 use Rattle.t1_cache.specs.declared.records.Records.{Records}
 use Rattle.t1_cache.specs.declared.records.Rerun.{Rerun}
@@ -39,14 +39,15 @@ use Rattle.t1_cache.specs.Renewed.{recorded_run}
 use Rattle.t1_cache.specs.Tables.{AreStale}
 use Rattle.t1_cache.specs.Users.{has, has_pair, key_of}
 use Rattle.t1_cache.proofs.Counting.{found_count}
-use Rattle.t1_cache.proofs.Lists.{all-weaken}
+use Rattle.t1_cache.proofs.Lists.{all-weaken, all-at}
 use Rattle.t1_font.proofs.Lookups.{bytes_tell}
 use Rattle.t1_rerun.specs.declared.renewal.Renewal.{Renewal}
 use Rattle.t1_rerun.specs.Newest.{judged_in, newest_among, FirstIn}
-use Rattle.t1_rerun.specs.Renewals.{rerun_names, HasBox, IsMeasured, IsRenewal, IsRerun}
+use Rattle.t1_rerun.specs.Renewals.{rerun_names, HasBox, IsRenewal, IsRerun}
 use Rattle.t1_rerun.specs.Right.{has_glyph, IsEdit}
-use Rattle.t1_rerun.proofs.Gathering.{box-measured, measured-all, measured-names}
-use Rattle.t1_rerun.proofs.Meeting.{all-among, among-off, among-passing, glyph-among, same-function}
+use Rattle.t1_rerun.proofs.Gathering.{box-measured, measured-all, measured-names, IsMeasured}
+use Rattle.t1_cache.proofs.Filtering.{has-passing}
+use Rattle.t1_rerun.proofs.Meeting.{all-among, glyph-among}
 use Rattle.t1_rerun.proofs.Reaching.{all-some, has-names, is-faultless, is-refused, is-renewal, stale-names}
 
 abbrev Runs : Type 0
@@ -57,35 +58,10 @@ Outlines = List ℕ → Result (List Segment) Code
 
 -- ---- lists
 
--- what holds of each name holds of a name among them
-all-at : (P : List ℕ → Type 0) (names : List (List ℕ)) → AllByRecursion P names → (g : List ℕ) → list_any (bytes_eq g) names ≡ true → P g
-all-at P [] h g e = absurd (cc)
-all-at P (x ∷ names) h g e = by (bytes_eq g x) refl e (all-at P names h.1 g) where
-  by : (b : Bool) → bytes_eq g x ≡ b → (b || list_any (bytes_eq g) names) ≡ true → (list_any (bytes_eq g) names ≡ true → P g) → P g
-  by true same e others = subst P (sym (bytes_tell.same g x same)) h.0
-  by false other e others = others e
-
 -- and of each name of a list of such names
 all-within : (P : List ℕ → Type 0) (xs ys : List (List ℕ)) → AllByRecursion P xs
     → ((g : List ℕ) → list_any (bytes_eq g) ys ≡ true → list_any (bytes_eq g) xs ≡ true) → AllByRecursion P ys
 all-within P xs ys all within = all-weaken (λ g. list_any (bytes_eq g) xs ≡ true) P (λ g h. all-at P xs all g h) ys (all-among ys xs within)
-
--- a name that passes is among those that pass
-pub has-passing : (p : List ℕ → Bool) (g : List ℕ) (xs : List (List ℕ)) → list_any (bytes_eq g) (filter p xs) ≡ (list_any (bytes_eq g) xs && p g)
-has-passing p g xs = by (p g) refl (list_any (bytes_eq g) xs) refl where
-  none : (xs : List (List ℕ)) → list_any (bytes_eq g) xs ≡ false → list_any (bytes_eq g) (filter p xs) ≡ false
-  none [] h = refl
-  none (x ∷ xs) h = one (bytes_eq g x) refl (p x) h (none xs) where
-    one : (a : Bool) → bytes_eq g x ≡ a → (b : Bool) → (a || list_any (bytes_eq g) xs) ≡ false
-        → (list_any (bytes_eq g) xs ≡ false → list_any (bytes_eq g) (filter p xs) ≡ false) → list_any (bytes_eq g) (cond b (x ∷ filter p xs) (filter p xs)) ≡ false
-    one true e b h others = absurd (cc)
-    one false e true h others = ap (λ t. t || list_any (bytes_eq g) (filter p xs)) e ∙ others h
-    one false e false h others = others h
-
-  by : (b : Bool) → p g ≡ b → (t : Bool) → list_any (bytes_eq g) xs ≡ t → list_any (bytes_eq g) (filter p xs) ≡ (list_any (bytes_eq g) xs && p g)
-  by false off t h = among-off p g xs off ∙ sym (and-false (list_any (bytes_eq g) xs)) ∙ ap (λ b. list_any (bytes_eq g) xs && b) (sym off)
-  by true on true h = among-passing p g xs h on ∙ sym (ap (λ b. b && p g) h ∙ on)
-  by true on false h = none xs h ∙ sym (ap (λ b. b && p g) h)
 
 -- those of distinct names that pass are distinct
 pub distinct-passing : (p : List ℕ → Bool) (xs : List (List ℕ)) → AreDistinct xs → AreDistinct (filter p xs)

@@ -20,30 +20,26 @@ use Rattle.t1_cache.specs.Bodies.{record_bodies}
 use Rattle.t1_cache.specs.Edited.{is_stale, stale, IsEditedAt}
 use Rattle.t1_cache.specs.Kept.{KeepsAll}
 use Rattle.t1_cache.specs.Laws.{check}
-use Rattle.t1_cache.specs.Renewal.{IsFromScratch, IsOneOf, IsRenewed}
-use Rattle.t1_cache.specs.Renewed.{Kept, kept_of, rerun_of, with_rerun, with_reruns}
+use Rattle.t1_cache.specs.Renewal.{IsFromScratch, IsOneOf, IsRenewed, kept_by}
+use Rattle.t1_cache.specs.Renewed.{Kept, kept_of, rerun_of, with_rerun}
 use Rattle.t1_cache.specs.Users.{has_pair, lists}
 use Rattle.t1_cache.proofs.Drawing.{all_draw}
-use Rattle.t1_cache.proofs.Joining.{run_kept}
+use Rattle.t1_cache.proofs.Joining.{run_kept, moved}
 use Rattle.t1_cache.proofs.Judging.{fine-told, IsFine}
 use Rattle.t1_font.proofs.Lookups.{bytes_tell}
-use Rattle.t1_cache.proofs.Renewing.{glyphs-of, names_kept, renewed}
-use Rattle.t1_cache.proofs.Lists.{all-weaken}
+use Rattle.t1_font.proofs.Measuring.{own-none}
+use Rattle.t1_cache.proofs.Renewing.{glyphs-of, names_kept, renewed, one-of}
+use Rattle.t1_cache.proofs.Lists.{all-weaken, all-at}
 use Rattle.t1_rerun.specs.declared.renewal.Renewal.{Renewal}
-use Rattle.t1_rerun.specs.Renewals.{rerun_kept, rerun_names, IsRenewal}
+use Rattle.t1_rerun.specs.Renewals.{rerun_names, IsRenewal}
 use Rattle.t1_rerun.specs.Right.{has_glyph, IsRight}
-use Rattle.t1_rerun.specs.Settled.{is_moved, IsRenewedBy}
-use Rattle.t1_rerun.proofs.Meeting.{among-off, among-passing, glyph-among, none-own}
+use Rattle.t1_rerun.specs.Settled.{IsRenewedBy}
+use Rattle.t1_cache.proofs.Filtering.{among-passing, among-off}
+use Rattle.t1_rerun.proofs.Meeting.{glyph-among}
 
--- ---- lists and tests
-
-all-at : (P : List ℕ → Type 0) (g : List ℕ) (xs : List (List ℕ)) → AllByRecursion P xs → list_any (bytes_eq g) xs ≡ true → P g
-all-at P g [] all h = absurd (cc)
-all-at P g (x ∷ xs) all h =
-    elim (cases_Bool (bytes_eq g x)) [
-      | inl same ↦ subst P (sym (bytes_tell.same g x same)) all.0
-      | inr other ↦ all-at P g xs all.1 (ap (λ b. b || list_any (bytes_eq g) xs) (sym other) ∙ h)
-    ]
+-- by the records a glyph is a user and doesn't leave, or it joins
+abbrev pub is_moved : Renewal → Records → Key → List ℕ → Bool
+is_moved renewal records k u = (lists records k u && not (has_pair renewal.leaves.items k u)) || has_pair renewal.joins.items k u
 
 -- ---- which glyphs a source has
 
@@ -52,9 +48,9 @@ module _ (s : SourceParts) (told : List Told) (fine : source_glyphs s ≡ Ok tol
   no-glyph g none false h = refl
   no-glyph g none true h =
       let all = fine-told (own (bodies s.items)) (outline (bodies s.items)) (glyph_names s.items) told (glyphs-of s told fine) in
-      let one = all-at (IsFine (own (bodies s.items)) (outline (bodies s.items))) g (glyph_names s.items) all h in
+      let one = all-at (IsFine (own (bodies s.items)) (outline (bodies s.items))) (glyph_names s.items) all g h in
       let never : ◌≡◌ {A = Result Told Code} (glyph_of g None (outline (bodies s.items) g)) (Ok one.0) =
-      ap (λ r. glyph_of g r (outline (bodies s.items) g)) (sym (none-own (bodies s.items) g none)) ∙ one.1 in
+      ap (λ r. glyph_of g r (outline (bodies s.items) g)) (sym (own-none (bodies s.items) g none)) ∙ one.1 in
       absurd (cc)
 
   pub has-body : (g : List ℕ) → has_glyph s g ≡ is_some ((bodies s.items).glyphs g)
@@ -65,13 +61,13 @@ module _ (s : SourceParts) (told : List Told) (fine : source_glyphs s ≡ Ok tol
 
 -- ---- records with their reruns
 
-rerun-found : (g : List ℕ) (rs : List Rerun) (r : Rerun) → rerun_of rs g ≡ Some r → IsOneOf (map rerun_kept rs) (rerun_kept r) × (bytes_eq g r.name.items ≡ true)
+rerun-found : (g : List ℕ) (rs : List Rerun) (r : Rerun) → rerun_of rs g ≡ Some r → IsOneOf (map kept_by rs) (kept_by r) × (bytes_eq g r.name.items ≡ true)
 rerun-found g [] r e = absurd (cc)
 rerun-found g (x ∷ rs) r e = by (bytes_eq g x.name.items) refl e (rerun-found g rs r) where
   by : (b : Bool) → bytes_eq g x.name.items ≡ b → cond b (Some x) (rerun_of rs g) ≡ Some r
-      → (rerun_of rs g ≡ Some r → IsOneOf (map rerun_kept rs) (rerun_kept r) × (bytes_eq g r.name.items ≡ true))
-      → IsOneOf (map rerun_kept (x ∷ rs)) (rerun_kept r) × (bytes_eq g r.name.items ≡ true)
-  by true on e rest = let is : x ≡ r = cc in (inl (ap rerun_kept is), subst (λ y. bytes_eq g y.name.items ≡ true) is on)
+      → (rerun_of rs g ≡ Some r → IsOneOf (map kept_by rs) (kept_by r) × (bytes_eq g r.name.items ≡ true))
+      → IsOneOf (map kept_by (x ∷ rs)) (kept_by r) × (bytes_eq g r.name.items ≡ true)
+  by true on e rest = let is : x ≡ r = cc in (inl (ap kept_by is), subst (λ y. bytes_eq g y.name.items ≡ true) is on)
   by false off e rest = let one = rest e in (inr one.0, one.1)
 
 pub rerun-there : (g : List ℕ) (rs : List Rerun) → list_any (bytes_eq g) (rerun_names rs) ≡ is_some (rerun_of rs g)
@@ -82,24 +78,14 @@ rerun-there g (x ∷ rs) = by (bytes_eq g x.name.items) (rerun-there g rs) where
   by true rest = refl
   by false rest = rest
 
-rerun-name : (r : Option Rerun) (k : Kept) → (with_rerun r k).name ≡ k.name
-rerun-name None k = refl
-rerun-name (Some r) k = refl
-
-pub names-stay : (rs : List Rerun) (xs : List Kept) → map (λ k. k.name) (with_reruns rs xs) ≡ map (λ k. k.name) xs
-names-stay rs [] = refl
-names-stay rs (k ∷ xs) =
-    ap (λ g. g ∷ map (λ x. x.name) (with_reruns rs xs)) (rerun-name (rerun_of rs k.name) k)
-    ∙ ap (λ l. k.name ∷ l) (names-stay rs xs)
-
 -- what makes a record, with the reruns that are left, one that was renewed
 pub record IsReady (keys : List Key) (old : SourceParts) (reruns left : List Rerun) (kept : List Kept) (k : Kept) : Type 0 where
   pub again : list_any (bytes_eq k.name) (rerun_names left) ≡ true → is_stale old keys k.name ≡ true
-  pub made : list_any (bytes_eq k.name) (rerun_names left) ≡ false → is_stale old keys k.name ≡ true → IsOneOf (map rerun_kept reruns) k
+  pub made : list_any (bytes_eq k.name) (rerun_names left) ≡ false → is_stale old keys k.name ≡ true → IsOneOf (map kept_by reruns) k
   pub fresh : is_stale old keys k.name ≡ false → IsOneOf kept k
 
 module _ (keys : List Key) (old : SourceParts) (reruns left : List Rerun) (kept : List Kept)
-    (more : (k : Kept) → IsOneOf (map rerun_kept left) k → IsOneOf (map rerun_kept reruns) k) where
+    (more : (k : Kept) → IsOneOf (map kept_by left) k → IsOneOf (map kept_by reruns) k) where
   pub renewed-one : (k : Kept) → IsReady keys old reruns left kept k → IsRenewedBy keys old reruns kept (with_rerun (rerun_of left k.name) k)
   renewed-one k ready = by (rerun_of left k.name) refl where
     by : (r : Option Rerun) → rerun_of left k.name ≡ r → IsRenewedBy keys old reruns kept (with_rerun r k)
@@ -109,29 +95,18 @@ module _ (keys : List Key) (old : SourceParts) (reruns left : List Rerun) (kept 
         let found = rerun-found k.name left r e in
         record {
           stale = λ on'.
-              subst (λ g. IsOneOf (map rerun_kept reruns) (record { name = g; run = r.run; box = r.bbox }))
-              (sym (bytes_tell.same k.name r.name.items found.1)) (more (rerun_kept r) found.0);
+              subst (λ g. IsOneOf (map kept_by reruns) (record { name = g; run = r.run; box = r.bbox }))
+              (sym (bytes_tell.same k.name r.name.items found.1)) (more (kept_by r) found.0);
           fresh = λ off. let never : true ≡ false = sym on ∙ off in absurd (cc);
         }
 
 -- ---- a source that was edited
-
-one-of : (P : Kept → Type 0) (kept : List Kept) (k : Kept) → AllByRecursion P kept → IsOneOf kept k → P k
-one-of P [] k all i = absurd i
-one-of P (x ∷ kept) k all (inl e) = subst P e all.0
-one-of P (x ∷ kept) k all (inr i) = one-of P kept k all.1 i
 
 pub told-of : (s : SourceParts) → source_check s ≡ Ok tt → (told : List Told) × (source_glyphs s ≡ Ok told)
 told-of s e = by (source_glyphs s) refl e where
   by : (r : Result (List Told) Fault) → source_glyphs s ≡ r → ◌≡◌ {A = Result (Unit {0}) Fault} (check r) (Ok tt) → (told : List Told) × (source_glyphs s ≡ Ok told)
   by (Ok told) here e = (told, here)
   by (Err fault) here e = absurd (cc)
-
-moved : (names old new : Bool) → ((old && not (names && old)) || (names && new)) ≡ cond names new old
-moved true true new = refl
-moved true false new = refl
-moved false true new = refl
-moved false false new = refl
 
 module _ (keys : List Key) (old new : SourceParts) (before : Records) (renewal : Renewal) (edit : IsEditedAt keys old new) (right : IsRight old before)
     (fine : source_check new ≡ Ok tt) (is : IsRenewal keys old new renewal) where
@@ -189,7 +164,7 @@ module _ (keys : List Key) (old new : SourceParts) (before : Records) (renewal :
   keeps-all records order all =
       renewed keys old new edit (told-of new fine).0 (told-of new fine).1 kept records right.kept order
       (all-weaken (IsRenewedBy keys old reruns kept) (IsRenewed keys old new kept)
-      (λ k r. record { stale = λ on. one-of (IsFromScratch n) (map rerun_kept reruns) k is.scratch (r.stale on); fresh = r.fresh })
+      (λ k r. record { stale = λ on. one-of (IsFromScratch n) (map kept_by reruns) k is.scratch (r.stale on); fresh = r.fresh })
       records all)
 
   -- ---- the records of the edited source

@@ -9,7 +9,7 @@ use Rattle.std.proofs.lemmas.List.{append-nil}
 use Rattle.t1_code.specs.declared.command.Command.{Command}
 use Rattle.t1_parts.specs.SourceParts.{SourceParts}
 use Rattle.t1_run.specs.Footprint.{Includes}
-use Rattle.t1_run.specs.Run.{Glyph}
+use Rattle.t1_run.specs.Run.{Glyph, body_at}
 use Rattle.t1_run.specs.Touched.{is_key_of}
 use Rattle.t1_font.specs.Bodies.{bodies}
 use Rattle.t1_font.specs.Glyphs.{glyph_names}
@@ -18,14 +18,13 @@ use Rattle.t1_cache.specs.declared.records.Named.TheVariants as named
 use Rattle.t1_cache.specs.Edited.{IsEditedAt}
 use Rattle.t1_cache.specs.Kept.{KeepsAll}
 use Rattle.t1_cache.specs.Laws.{AreDistinct}
-use Rattle.t1_cache.specs.Overlay.{body_at}
 use Rattle.t1_cache.specs.Renewed.{Kept}
 use Rattle.t1_cache.specs.Users.{key_of}
 use Rattle.t1_font.proofs.Lookups.{bytes_tell}
 use Rattle.t1_rerun.specs.declared.entry_change.EntryChange.{EntryChange}
 use Rattle.t1_rerun.specs.Right.{has_glyph, IsInOrder}
 use Rattle.t1_rerun.specs.Settled.{changed_keys, last_glyph, last_glyphs, was_moved, HasBody}
-use Rattle.t1_rerun.proofs.Changes.{filter-as}
+use Rattle.t1_cache.proofs.Filtering.{filter-as}
 use Rattle.t1_rerun.proofs.Entries.{IsInOrderAlone}
 use Rattle.t1_rerun.proofs.Settled.{has-body}
 

@@ -8,9 +8,10 @@ use Rattle.std.proofs.Math.Bool.{and-false, and-true, or-false}
 use Rattle.std.proofs.lemmas.Bool.{not-true, or_left, or_parts, or_right}
 use Rattle.std.proofs.lemmas.List.{append-nil, append_assoc}
 use Rattle.std.proofs.lemmas.List.Folds.{list_any-append}
+use Rattle.std.proofs.lemmas.List.Elements.{filter-append}
 use Rattle.t1_code.specs.declared.command.Command.{Command}
 use Rattle.t1_parts.specs.SourceParts.{SourceParts}
-use Rattle.t1_run.specs.Run.{Key, Subr, Glyph}
+use Rattle.t1_run.specs.Run.{Key, Subr, Glyph, body_at, key_eq}
 use Rattle.t1_extent.specs.Kept.{TracedRun}
 use Rattle.t1_run.specs.Touched.{is_key_of}
 use Rattle.t1_afm.specs.declared.bbox.BBox.{BBox}
@@ -18,20 +19,19 @@ use Rattle.t1_cache.specs.declared.records.Named.{Named}
 use Rattle.t1_cache.specs.declared.records.Named.TheVariants as named
 use Rattle.t1_cache.specs.declared.records.Records.{Records}
 use Rattle.t1_cache.specs.Bodies.{record_bodies}
-use Rattle.t1_cache.specs.Overlay.{body_at}
 use Rattle.t1_cache.specs.Renewed.{Kept, kept}
 use Rattle.t1_cache.specs.Room.{MayJoin}
-use Rattle.t1_cache.specs.Users.{among, has, key_eq, key_of, users_of, UserSet}
-use Rattle.t1_cache.proofs.Adding.{key-same}
-use Rattle.t1_cache.proofs.Lists.{all-weaken}
-use Rattle.t1_font.proofs.Lookups.{bytes_tell}
+use Rattle.t1_cache.specs.Users.{among, has, key_of, users_of, UserSet}
+use Rattle.t1_font.proofs.Keys.{key-same, glyph-key}
+use Rattle.t1_cache.proofs.Lists.{all-weaken, all-last}
+use Rattle.t1_cache.proofs.Filtering.{filter-all, filter-both}
+use Rattle.t1_font.proofs.Lookups.{bytes_tell, bytes-turned}
 use Rattle.t1_rerun.specs.declared.entry_change.EntryChange.{EntryChange}
 use Rattle.t1_rerun.specs.declared.settling.steps.Step.{Step}
 use Rattle.t1_rerun.specs.declared.settling.steps.Step.TheVariants as steps
 use Rattle.t1_rerun.specs.Right.{has_glyph}
 use Rattle.t1_rerun.specs.Settled.{changed_keys, last_glyph, last_glyphs, was_moved, AreDistinctKeys}
 use Rattle.t1_rerun.specs.Steps.{after, after_all, inserts, is_last, some_inserts, step_body, step_key, step_kept, step_users, AreStepsOf, IsStepOf, LacksRun, Seen}
-use Rattle.t1_rerun.proofs.Steps.{turned}
 
 -- ---- the last step comes first
 
@@ -46,32 +46,9 @@ inserts-last steps step g =
 
 -- ---- glyphs and keys
 
-key-of : (g : List ℕ) (k : Key) → is_key_of g k ≡ key_eq (Glyph g) k
-key-of g (Subr n) = refl
-key-of g (Glyph h) = refl
-
 pub named-key : (ks : List Key) (g : List ℕ) → list_any (is_key_of g) ks ≡ list_any (key_eq (Glyph g)) ks
 named-key [] g = refl
-named-key (k ∷ ks) g = ap (λ b. b || list_any (is_key_of g) ks) (key-of g k) ∙ ap (λ b. key_eq (Glyph g) k || b) (named-key ks g)
-
-filter-none : (xs : List (List ℕ)) → filter (λ g. true) xs ≡ xs
-filter-none [] = refl
-filter-none (x ∷ xs) = ap (λ l. x ∷ l) (filter-none xs)
-
-filter-both : (p q : List ℕ → Bool) (xs : List (List ℕ)) → filter p (filter q xs) ≡ filter (λ g. q g && p g) xs
-filter-both p q [] = refl
-filter-both p q (x ∷ xs) = by (q x) (filter-both p q xs) where
-  by : (b : Bool) → filter p (filter q xs) ≡ filter (λ g. q g && p g) xs
-      → filter p (cond b (x ∷ filter q xs) (filter q xs)) ≡ cond (b && p x) (x ∷ filter (λ g. q g && p g) xs) (filter (λ g. q g && p g) xs)
-  by true rest = ap (λ l. cond (p x) (x ∷ l) l) rest
-  by false rest = rest
-
-filter-append : (p : List ℕ → Bool) (xs ys : List (List ℕ)) → filter p (xs ++ ys) ≡ filter p xs ++ filter p ys
-filter-append p [] ys = refl
-filter-append p (x ∷ xs) ys = by (p x) (filter-append p xs ys) where
-  by : (b : Bool) → filter p (xs ++ ys) ≡ filter p xs ++ filter p ys → cond b (x ∷ filter p (xs ++ ys)) (filter p (xs ++ ys)) ≡ cond b (x ∷ filter p xs) (filter p xs) ++ filter p ys
-  by true e = ap (λ l. x ∷ l) e
-  by false e = e
+named-key (k ∷ ks) g = ap (λ b. b || list_any (is_key_of g) ks) (glyph-key g k) ∙ ap (λ b. key_eq (Glyph g) k || b) (named-key ks g)
 
 abbrev names : List Kept → List (List ℕ)
 names ks = map (λ k. k.name) ks
@@ -94,10 +71,6 @@ all-passing P Q p step (x ∷ xs) all = by (p x) refl (all-passing P Q p step xs
   by : (b : Bool) → p x ≡ b → AllByRecursion Q (filter p xs) → AllByRecursion Q (cond b (x ∷ filter p xs) (filter p xs))
   by true on rest = (step x on all.0, rest)
   by false off rest = rest
-
-all-last : (P : Kept → Type 0) (xs : List Kept) (x : Kept) → AllByRecursion P xs → P x → AllByRecursion P (xs ++ x ∷ [])
-all-last P [] x all last = (last, tt)
-all-last P (y ∷ xs) x all last = (all.0, all-last P xs x all.1 last)
 
 pub kept-but-subr : (n : ℕ) (d : Named) (xs : List Kept) → d ≡ named.Subr n → xs ≡ filter (λ k. not (is_key_of k.name (key_of d))) xs
 kept-but-subr n d xs e = sym (all xs) ∙ ap (λ x. filter (λ k. not (is_key_of k.name (key_of x))) xs) (sym e) where
@@ -246,7 +219,7 @@ module _ (run : List ℕ → Option (TracedRun × Option BBox)) (count : Key →
   leaves-apart [] g off = refl
   leaves-apart (c ∷ cs) g off =
       let both = or_parts (key_eq (Glyph g) (key_of c.named)) (list_any (key_eq (Glyph g)) (changed_keys cs)) off in
-      ap (λ b. (b && (is_none c.body || is_last records c.moved c.named)) || leaves cs g) (key-of g (key_of c.named) ∙ both.0)
+      ap (λ b. (b && (is_none c.body || is_last records c.moved c.named)) || leaves cs g) (glyph-key g (key_of c.named) ∙ both.0)
       ∙ leaves-apart cs g both.1
 
   module _ (old : SourceParts) (there : (g : List ℕ) → is_none (body_at (record_bodies records) (Glyph g)) ≡ not (has_glyph old g)) where
@@ -273,7 +246,7 @@ module _ (run : List ℕ → Option (TracedRun × Option BBox)) (count : Key →
             ∙ sym (and-true (is_key_of g (key_of c.named)))
             ∙ ap (λ b. is_key_of g (key_of c.named) && (is_none b || is_last records c.moved c.named)) (sym (gone c d served h.0 h.1))
     names-step c (steps.Put d body) h served ks =
-        sym (filter-none (names ks))
+        sym (filter-all (names ks))
         ∙ ap (λ p. filter p (names ks)) (λ j. λ g. not (at g j))
         ∙ sym (append-nil (filter (λ g. not (leaves_at c g)) (names ks)))
         ∙ ap (λ l. filter (λ g. not (leaves_at c g)) (names ks) ++ l)
@@ -285,7 +258,7 @@ module _ (run : List ℕ → Option (TracedRun × Option BBox)) (count : Key →
             ∙ ap (λ b. is_key_of g (key_of c.named) && b) (ap (is_last records c.moved) h.0 ∙ h.1.1.0)
             ∙ and-false (is_key_of g (key_of c.named)))
     names-step c (steps.InsertSubr n r) h served ks =
-        sym (filter-none (names ks))
+        sym (filter-all (names ks))
         ∙ ap (λ p. filter p (names ks)) (λ j. λ g. not (at g j))
         ∙ sym (append-nil (filter (λ g. not (leaves_at c g)) (names ks)))
         ∙ ap (λ l. filter (λ g. not (leaves_at c g)) (names ks) ++ l)
@@ -303,7 +276,7 @@ module _ (run : List ℕ → Option (TracedRun × Option BBox)) (count : Key →
       where
         at : (g : List ℕ) → bytes_eq name.items g ≡ leaves_at c g
         at g =
-            turned name.items g
+            bytes-turned name.items g
             ∙ sym (and-true (bytes_eq g name.items))
             ∙ sym (ap (λ d. is_key_of g (key_of d) && (is_none c.body || is_last records c.moved d)) h.0
             ∙ ap (λ b. bytes_eq g name.items && (is_none b || is_last records c.moved (named.Glyph name.items))) h.1.0
@@ -323,7 +296,7 @@ module _ (run : List ℕ → Option (TracedRun × Option BBox)) (count : Key →
     pub names-stepped : (cs : List EntryChange) (ss : List Step) → Are cs ss → AreDistinctKeys (changed_keys cs) → AllByRecursion IsServed cs → (x : Seen)
         → names (after_all ss x).kept ≡ filter (λ g. not (leaves cs g)) (names x.kept) ++ last_glyphs old cs
     names-stepped [] ss h d served x =
-        ap (λ l. names (after_all l x).kept) h ∙ sym (filter-none (names x.kept)) ∙ sym (append-nil (filter (λ g. true) (names x.kept)))
+        ap (λ l. names (after_all l x).kept) h ∙ sym (filter-all (names x.kept)) ∙ sym (append-nil (filter (λ g. true) (names x.kept)))
     names-stepped (c ∷ cs) ss h d served x =
         let p : List ℕ → Bool = λ g. not (leaves cs g) in
         let q : List ℕ → Bool = λ g. not (leaves_at c g) in
@@ -334,7 +307,7 @@ module _ (run : List ℕ → Option (TracedRun × Option BBox)) (count : Key →
         ∙ ap (λ l. l ++ last_glyphs old cs) (filter-append p (filter q (names x.kept)) (last_of c))
         ∙ ap (λ l. (filter p (filter q (names x.kept)) ++ l) ++ last_glyphs old cs) (last-stays c.moved c.body c.named cs d.0)
         ∙ ap (λ l. (l ++ last_of c) ++ last_glyphs old cs)
-        (filter-both p q (names x.kept) ∙ ap (λ t. filter t (names x.kept)) (λ j. λ g. both (leaves_at c g) (leaves cs g) j))
+        (filter-both q p (names x.kept) ∙ ap (λ t. filter t (names x.kept)) (λ j. λ g. both (leaves_at c g) (leaves cs g) j))
         ∙ append_assoc (filter (λ g. not (leaves (c ∷ cs) g)) (names x.kept)) (last_of c) (last_glyphs old cs)
       where
         both : (a b : Bool) → (not a && not b) ≡ not (a || b)
@@ -433,4 +406,4 @@ module _ (run : List ℕ → Option (TracedRun × Option BBox)) (count : Key →
       by false e (steps.InsertSubr n r) is both rest = let never : false ≡ true = ap (λ b. b || false) (sym e) ∙ both in absurd (cc)
       by false e (steps.InsertGlyph name r) is both rest =
           or_left (key_eq (Glyph g) (key_of c.named)) (list_any (key_eq (Glyph g)) (changed_keys cs))
-          (ap (λ d. key_eq (Glyph g) (key_of d)) is.0 ∙ turned g name.items ∙ ap (λ b. b || bytes_eq name.items g) (sym e) ∙ both)
+          (ap (λ d. key_eq (Glyph g) (key_of d)) is.0 ∙ bytes-turned g name.items ∙ ap (λ b. b || bytes_eq name.items g) (sym e) ∙ both)

@@ -11,6 +11,7 @@ use Rattle.t1_extent.specs.Kept.{TracedRun}
 use Rattle.t1_font.specs.declared.glyph_metrics.GlyphMetrics.{GlyphMetrics}
 use Rattle.t1_font.specs.Runs.{Kept, run_kept}
 use Rattle.t1_cache.specs.declared.records.Rerun.{Rerun}
+use Rattle.t1_cache.proofs.Lists.{all-last}
 use Rattle.t1_rerun.specs.Renewals.{rerun_names, run_in, HasBox, HasRun, IsRerun}
 
 pub has-box : (ms : List GlyphMetrics) (i : ℕ) (m : GlyphMetrics) → i < length ms → m ≡ get_or ms i m → HasBox ms m.name m.bbox
@@ -22,10 +23,6 @@ pub has-run : (runs : List Kept) (ms : List GlyphMetrics) (i : ℕ) (m : GlyphMe
 has-run runs [] i m all h e = absurd (omega (arith, h))
 has-run runs (x ∷ ms) zero m all h e = let same : x ≡ m = sym e in (all.0.0, ap (λ y. run_kept runs y.name) e ∙ all.0.1)
 has-run runs (x ∷ ms) (suc i) m all h e = has-run runs ms i m all.1 (omega (arith, h)) e
-
-all-one-more : {X : Type 0} (P : X → Type 0) (xs : List X) (x : X) → AllByRecursion P xs → P x → AllByRecursion P (xs ++ x ∷ [])
-all-one-more P [] x h p = (p, tt)
-all-one-more P (y ∷ xs) x h p = (h.0, all-one-more P xs x h.1 p)
 
 names-more : (rs : List Rerun) (r : Rerun) (g : List ℕ) → list_any (bytes_eq g) (rerun_names (rs ++ r ∷ [])) ≡ (list_any (bytes_eq g) (rerun_names rs) || bytes_eq g r.name.items)
 names-more [] r g = or-false (bytes_eq g r.name.items)
@@ -59,7 +56,7 @@ module _ (runs now new : List Kept) (metrics : List GlyphMetrics) (at : ℕ) (rs
   -- a glyph whose run was there, and was taken
   pub taken-more : (r : Rerun) → r.name.items ≡ m.name → r.bbox ≡ m.bbox → Some r.run ≡ run_in (run_kept now m.name) → AreTaken runs new metrics (at + 1) (rs ++ r ∷ [])
   taken-more r name box run = record {
-    each = all-one-more (IsRerun runs metrics) rs r before.each (record {
+    each = all-last (IsRerun runs metrics) rs r before.each (record {
       run = ap (run_kept runs) name ∙ sym (was (list_any (bytes_eq m.name) (rerun_names rs)) refl);
       box = rw (name, box) (has-box metrics at m far is);
     });

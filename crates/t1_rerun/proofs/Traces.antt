@@ -9,12 +9,12 @@ use Rattle.std.proofs.lemmas.Bool.{and_parts}
 use Rattle.t1_parts.specs.SourceParts.{SourceParts}
 use Rattle.t1_extent.specs.Kept.{traces}
 use Rattle.t1_font.specs.Glyphs.{Glyph as Told}
-use Rattle.t1_font.proofs.Keeping.{same_bytes}
 use Rattle.t1_cache.specs.declared.records.GlyphRecord.{GlyphRecord}
 use Rattle.t1_cache.specs.declared.records.Records.{Records}
 use Rattle.t1_cache.specs.Kept.{keep_traces, shown, shown_from}
 use Rattle.t1_cache.specs.Renewed.{Kept, kept_of, record_of}
 use Rattle.t1_rerun.specs.Right.{IsRight}
+use Rattle.t1_run.proofs.Asked.{bytes_same}
 
 -- the run of a record that is found keeps its trace
 pub found_trace : (es : List (Vec ℕ Global × GlyphRecord)) (g : List ℕ) (r : GlyphRecord)
@@ -28,7 +28,7 @@ found_trace (x ∷ es) g r h e =
         → cond b (Some x.1) (record_of es g) ≡ Some r → traces g r.run ≡ true
     by true same here later h =
         let is : x.1 ≡ r = cc in
-        subst (λ k. traces g k.run ≡ true) is (ap (λ n. traces n x.1.run) (same_bytes g x.0.items same) ∙ here)
+        subst (λ k. traces g k.run ≡ true) is (ap (λ n. traces n x.1.run) (bytes_same g x.0.items same) ∙ here)
     by false other here later h = later h
 
 all-traced : (ks : List Kept) (ts : List Told) → map shown ks ≡ map shown_from ts → list_all (λ (k : Kept). traces k.name k.run) ks ≡ true

@@ -1,21 +1,21 @@
 -- Records of a source that is edited at some entries.
-use Rattle.std.specs.Prelude.{◌≡◌, ◌||◌, nat_eq, not, ℕ, List, [], ◌∷◌, filter, Option, Some, None, Ok, false, if◌then◌else◌}
+use Rattle.std.specs.Prelude.{◌≡◌, ◌||◌, nat_eq, not, ℕ, List, [], ◌∷◌, filter, Option, Some, None, Ok, if◌then◌else◌}
 use Rattle.std.specs.Borrow.{Bor}
 use Rattle.std.specs.List.{AllByRecursion}
 use Rattle.std.specs.Map.{lookup}
-use Rattle.std.specs.Option.{option_copied, option_to_list}
+use Rattle.std.specs.Option.{option_copied}
 use Rattle.std.specs.Str.{bytes_eq}
 use Rattle.t1_code.specs.declared.command.Command.{Command}
 use Rattle.t1_parts.specs.SourceParts.{SourceParts}
 use Rattle.t1_run.specs.Overlay.{changed}
-use Rattle.t1_run.specs.Run.{FontBodies, Key, font}
+use Rattle.t1_run.specs.Run.{FontBodies, Key, font, key_eq}
 use Rattle.t1_font.specs.Assembly.{file_check}
 use Rattle.t1_font.specs.Glyphs.{glyph_names}
 use Rattle.t1_cache.specs.declared.records.Records.{Records}
 use Rattle.t1_cache.specs.Bodies.{glyph_body, subr_body}
 use Rattle.t1_cache.specs.Edited.{IsEditedAt}
 use Rattle.t1_cache.specs.Laws.{AreDistinct}
-use Rattle.t1_cache.specs.Users.{key_eq, key_of}
+use Rattle.t1_cache.specs.Users.{key_of}
 use Rattle.t1_rerun.specs.declared.bodies.EditedBodies.{EditedBodies}
 use Rattle.t1_rerun.specs.declared.renewal.Renewal.{Renewal}
 use Rattle.t1_rerun.specs.declared.entry_change.EntryChange.{EntryChange}
@@ -63,18 +63,6 @@ pub record AreChangesOf (changes : List EntryChange) (old new : SourceParts) (re
 -- profile: there are such sources
 abbrev pub MayBePrepared : List EntryChange → Records → List (List ℕ) → Type 0
 MayBePrepared changes records ordered = (old : SourceParts) × ((new : SourceParts) × AreChangesOf changes old new records ordered)
-
--- profile: a source whose records are right was edited at the entry of a change, and the edited one has its file; these
--- are its glyphs in their order
-pub record IsChangeOf (change : Option EntryChange) (old new : SourceParts) (records : Records) (ordered : List (List ℕ)) : Type 0 where
-  pub right : IsRight old records
-  pub edited : IsEditedAt (changed_keys (option_to_list change)) old new
-  pub bodies : AllByRecursion (HasBody new) (option_to_list change)
-  pub unmoved : (g : List ℕ) → was_moved (option_to_list change) g ≡ false
-  pub file : file_check new ≡ Ok tt
-  pub distinct : AreDistinct (glyph_names new.items)
-  pub order : IsInOrder (was_moved (option_to_list change)) old new
-  pub names : ordered ≡ glyph_names new.items
 
 -- profile: the edited source has no fault, each stale glyph was run after this count, and all that the change of the
 -- records takes is there

@@ -4,26 +4,18 @@ use Rattle.std.specs.List.{AllByRecursion, list_any}
 use Rattle.std.specs.Str.{bytes_eq}
 use Rattle.t1_frac.specs.declared.fault.Code.{Code}
 use Rattle.t1_parts.specs.SourceParts.{SourceParts}
-use Rattle.t1_run.specs.declared.outline.Segment.{Segment}
-use Rattle.t1_run.specs.Composite.{outline_within}
-use Rattle.t1_run.specs.Run.{Key, Drawing}
+use Rattle.t1_run.specs.Run.{Key}
 use Rattle.t1_extent.specs.Kept.{TracedRun}
 use Rattle.t1_afm.specs.declared.bbox.BBox.{BBox}
-use Rattle.t1_afm.specs.Box.{drawn_box}
 use Rattle.t1_font.specs.declared.glyph_metrics.GlyphMetrics.{GlyphMetrics}
 use Rattle.t1_font.specs.Bodies.{bodies}
 use Rattle.t1_font.specs.Runs.{Kept as KeptRun, run_kept, counted}
 use Rattle.t1_cache.specs.declared.records.Rerun.{Rerun}
 use Rattle.t1_cache.specs.Edited.{stale}
 use Rattle.t1_cache.specs.Joins.{AreLeaves}
-use Rattle.t1_cache.specs.Renewed.{Kept}
-use Rattle.t1_cache.specs.Renewal.{IsFromScratch}
+use Rattle.t1_cache.specs.Renewal.{kept_by, IsFromScratch}
 use Rattle.t1_cache.specs.Tables.{AreStale}
 use Rattle.t1_rerun.specs.declared.renewal.Renewal.{Renewal}
-
--- profile: a glyph's new run and box
-abbrev pub rerun_kept : Rerun → Kept
-rerun_kept r = record { name = r.name.items; run = r.run; box = r.bbox }
 
 -- profile: the names of the glyphs that were run again
 abbrev pub rerun_names : List Rerun → List (List ℕ)
@@ -53,20 +45,12 @@ pub record IsRerun (runs : List KeptRun) (metrics : List GlyphMetrics) (r : Reru
   pub run : run_kept runs r.name.items ≡ Some (Ok r.run)
   pub box : HasBox metrics r.name.items r.bbox
 
--- profile: by runs that are kept a glyph draws, and its box is the one that was measured
-pub record IsMeasured (run : List ℕ → Option (Result Drawing Code)) (m : GlyphMetrics) : Type 0 where
-  pub drawing : Drawing
-  pub segments : List Segment
-  pub ran : run m.name ≡ Some (Ok drawing)
-  pub draws : outline_within run 4 m.name ≡ Ok segments
-  pub box : m.bbox ≡ drawn_box segments
-
 -- profile: what edits at these keys make new: the run and the box of each stale glyph, each from scratch; and which
 -- glyphs leave and join the users of what the old runs and the new ones use
 pub record IsRenewal (keys : List Key) (old new : SourceParts) (renewal : Renewal) : Type 0 where
   pub found : List ℕ → Bool
   pub reached : AreStale (bodies old.items) keys found
-  pub scratch : AllByRecursion (IsFromScratch (bodies new.items)) (map rerun_kept renewal.reruns.items)
+  pub scratch : AllByRecursion (IsFromScratch (bodies new.items)) (map kept_by renewal.reruns.items)
   pub names : (g : List ℕ) → list_any (bytes_eq g) (rerun_names renewal.reruns.items) ≡ list_any (bytes_eq g) (stale old keys new)
   pub leaves : AreLeaves (bodies old.items) found renewal.leaves.items
   pub joins : AreLeaves (bodies new.items) found renewal.joins.items

@@ -7,12 +7,11 @@ use Rattle.t1_pairs.specs.declared.pairs.Pair.{Pair}
 use Rattle.t1_source.specs.Editing.{edited}
 use Rattle.t1_source.specs.WellFormed.{IsWellFormed}
 use Rattle.t1_run.specs.Run.{Key, Subr, Glyph}
-use Rattle.t1_font.specs.Assembly.{file_check}
 use Rattle.t1_cache.specs.declared.records.Records.{Records}
-use Rattle.t1_cache.specs.Edited.{named, is_stale, stale}
+use Rattle.t1_cache.specs.Edited.{is_stale}
 use Rattle.t1_cache.specs.Renewal.{IsOneOf}
 use Rattle.t1_cache.specs.Renewed.{Kept}
-use Rattle.t1_rerun.specs.Opened.{runs_where, IsRunAfter}
+use Rattle.t1_rerun.specs.Opened.{IsRunAfter}
 use Rattle.t1_rerun.specs.Right.{IsRight}
 
 -- profile: the records are right for a source of which an edit made this one
@@ -39,10 +38,6 @@ entry_key (ReplaceSubr n body) = number_key n
 entry_key (AddSubr n body) = number_key n
 entry_key (RemoveSubr n) = number_key n
 entry_key _ = None
-
--- profile: each glyph that an edit of a source makes stale is run once; none, where a body or the file has a fault
-abbrev pub renewing_runs : Edit → SourceParts → SourceParts → ℕ
-renewing_runs edit old new = runs_where (file_check new) (stale old (named edit) new)
 
 -- profile: a glyph that edits at these keys make stale has a run after this count, and each other glyph what was kept of it
 pub record IsRunWhereStale (count : ℕ) (keys : List Key) (old : SourceParts) (kept : List Kept) (k : Kept) : Type 0 where

@@ -3,7 +3,7 @@ use Rattle.std.specs.Prelude.{◌≡◌, ◌≤◌, ◌++◌, ◌&&◌, ◌||◌
 use Rattle.std.specs.List.{list_any, AllByRecursion}
 use Rattle.indexmap.specs.IndexMap.{spare}
 use Rattle.t1_parts.specs.SourceParts.{SourceParts}
-use Rattle.t1_run.specs.Run.{Key}
+use Rattle.t1_run.specs.Run.{Key, body_at, key_eq}
 use Rattle.t1_run.specs.Touched.{is_key_of}
 use Rattle.t1_code.specs.declared.command.Command.{Command}
 use Rattle.t1_font.specs.Bodies.{bodies, SameBodies}
@@ -16,15 +16,14 @@ use Rattle.t1_cache.specs.declared.records.Rerun.{Rerun}
 use Rattle.t1_cache.specs.Bodies.{record_bodies}
 use Rattle.t1_cache.specs.Edited.{is_stale, IsEditedAt}
 use Rattle.t1_cache.specs.Laws.{AreDistinct}
-use Rattle.t1_cache.specs.Overlay.{body_at}
-use Rattle.t1_cache.specs.Renewal.{IsOneOf}
+use Rattle.t1_cache.specs.Renewal.{IsOneOf, kept_by}
 use Rattle.t1_cache.specs.Renewed.{Kept, kept_of, reruns_by_name}
 use Rattle.t1_cache.specs.Room.{MayJoin}
-use Rattle.t1_cache.specs.Users.{has_pair, key_eq, key_of, lists, users_at, wanted}
+use Rattle.t1_cache.specs.Users.{key_of, lists, users_at, wanted}
 use Rattle.t1_rerun.specs.declared.renewal.Renewal.{Renewal}
 use Rattle.t1_rerun.specs.declared.entry_change.EntryChange.{EntryChange}
 use Rattle.t1_rerun.specs.declared.settling.Ready.{Ready}
-use Rattle.t1_rerun.specs.Renewals.{rerun_kept, IsRenewal}
+use Rattle.t1_rerun.specs.Renewals.{IsRenewal}
 use Rattle.t1_rerun.specs.Right.{has_glyph, IsInOrder, IsRight}
 use Rattle.t1_rerun.specs.Steps.{new_run, some_inserts, AreStepsOf, AreTakenOut}
 
@@ -75,7 +74,7 @@ MayBeJudged changes records renewal = (old : SourceParts) × ((new : SourceParts
 
 -- profile: a stale glyph has the run and box of a rerun, and each other glyph what was kept of it
 pub record IsRenewedBy (keys : List Key) (old : SourceParts) (reruns : List Rerun) (kept : List Kept) (k : Kept) : Type 0 where
-  pub stale : is_stale old keys k.name ≡ true → IsOneOf (map rerun_kept reruns) k
+  pub stale : is_stale old keys k.name ≡ true → IsOneOf (map kept_by reruns) k
   pub fresh : is_stale old keys k.name ≡ false → IsOneOf kept k
 
 -- profile: the same bodies, runs, boxes and users; there may be more room among the users
@@ -104,7 +103,3 @@ pub record MayBeSettled (records : Records) (ready : Ready) : Type 0 where
   pub renewal : Renewal
   pub prepared : IsReady changes renewal records ready
   pub judged : MayBeJudged changes records renewal
-
--- profile: by the records a glyph is a user and doesn't leave, or it joins
-abbrev pub is_moved : Renewal → Records → Key → List ℕ → Bool
-is_moved renewal records k u = (lists records k u && not (has_pair renewal.leaves.items k u)) || has_pair renewal.joins.items k u

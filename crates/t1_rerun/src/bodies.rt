@@ -3,17 +3,16 @@ ghost use Rattle.std.specs.Prelude.{◌≡◌, ◌∷◌, [], nat_eq, ℕ, List,
 ghost use Rattle.std.specs.Option.{option_copied, option_or};
 ghost use Rattle.std.specs.Str.{bytes_eq};
 ghost use Rattle.t1_run.specs.Overlay.{changed};
-ghost use Rattle.t1_run.specs.Run.{Glyph, Key, Subr};
+ghost use Rattle.t1_run.specs.Run.{Glyph, Key, Subr, body_at};
 ghost use Rattle.t1_cache.specs.Bodies.{record_bodies};
-ghost use Rattle.t1_cache.specs.Overlay.{body_at};
 ghost use Rattle.t1_rerun.specs.Changing.{body_changed, edited_font, glyph_set, subr_set};
 
 use crate::entry_change::EntryChange;
 use indexmap::IndexMap;
 use std::alloc::{AllocError, Global};
 use t1_cache::{Named, Records};
-use t1_code::Body;
-use t1_run::Bodies;
+use t1_code::{Body, Command};
+use t1_run::{Bodies, StoredBodies};
 
 /// The bodies of records, with those that changes set or take out. Each is asked for by one look-up among the changes and at
 /// most one among the records.
@@ -41,6 +40,16 @@ fn glyph_in<'a>(
     glyphs.get(name).copied()
 }
 
+/// The commands of a body that is set.
+fn commands_of(body: &Option<Body>) -> Option<&[Command]>
+    ensures { option_copied result ≡ body.now }
+{
+    match body {
+        None => None,
+        Some(body) => Some(body.commands()),
+    }
+}
+
 impl<'a> Bodies for EditedBodies<'a> {
     ghost use Rattle.t1_run.specs.Overlay.{changed};
     ghost use Rattle.t1_cache.specs.Bodies.{glyph_body, subr_body};
@@ -50,17 +59,26 @@ impl<'a> Bodies for EditedBodies<'a> {
 
     ghost glyphs = { λ e name. changed (glyph_set e.glyphs.entries name) (glyph_body e.records.now.glyphs.entries name) };
 
-    fn subr(&self, n: u16) -> Option<&Body> {
+    fn subr(&self, n: u16) -> Option<&[Command]> {
         match subr_in(&self.subrs, n) {
             None => self.records.subr(n),
-            Some(body) => body.as_ref(),
+            Some(body) => commands_of(body),
         }
     }
 
-    fn glyph(&self, name: &[u8]) -> Option<&Body> {
+    fn has_glyph(&self, name: &[u8]) -> bool {
+        match glyph_in(&self.glyphs, name) {
+            None => self.records.has_glyph(name),
+            Some(body) => body.is_some(),
+        }
+    }
+}
+
+impl<'a> StoredBodies for EditedBodies<'a> {
+    fn glyph(&self, name: &[u8]) -> Option<&[Command]> {
         match glyph_in(&self.glyphs, name) {
             None => self.records.glyph(name),
-            Some(body) => body.as_ref(),
+            Some(body) => commands_of(body),
         }
     }
 }

@@ -24,7 +24,7 @@ use std::alloc::Global;
 use t1_cache::{Named, Records, found};
 use t1_font::{GlyphMetrics, Runs, glyph_metrics_of, runs_of};
 use t1_frac::Refusal;
-use t1_run::{Bodies, Meter};
+use t1_run::{Meter, StoredBodies};
 
 /// The first fault of the glyphs that were found, in the order of the font.
 fn check_in_order<O: GlyphOrder>(
@@ -79,7 +79,7 @@ fn measured_in_turn<'a, O: GlyphOrder>(
 
 /// Runs each of these glyphs and measures it by the newest runs, or answers the first fault of one of them in the order of
 /// the font. The meter counts each of them.
-fn judged<'a, B: Bodies, O: GlyphOrder>(
+fn judged<'a, B: StoredBodies, O: GlyphOrder>(
     alloc: Global,
     records: &Records,
     bodies: &B,
@@ -108,7 +108,7 @@ fn judged<'a, B: Bodies, O: GlyphOrder>(
 /// Runs the glyphs that edits make stale, each once, and measures them by the newest runs: what is new of the edited font, or
 /// its first fault. The bodies and the order of the glyphs are those of the edited font; the order is asked for only where a
 /// glyph has a fault. The meter counts each run.
-pub fn rerun<B: Bodies, O: GlyphOrder>(
+pub fn rerun<B: StoredBodies, O: GlyphOrder>(
     alloc: Global,
     records: &Records,
     bodies: &B,

@@ -34,7 +34,7 @@ pub fn there_among<'a, B: Bodies>(
 {
     let mut there = Vec::new(alloc);
     for name in found {
-        if bodies.glyph(name).is_none() {
+        if !bodies.has_glyph(name) {
             continue;
         }
         there.push(*name)?;

@@ -13,7 +13,7 @@ use Rattle.t1_code.specs.declared.command.Command.{Command}
 use Rattle.t1_run.specs.declared.outline.Accent.{Accent}
 use Rattle.t1_run.specs.declared.outline.Composite.{Composite}
 use Rattle.t1_run.specs.declared.outline.Metric.{Metric}
-use Rattle.t1_run.specs.Footprint.{Includes, Leaves, asks, uses, HasParts, HasSubrs, ExactLaw, PartsLaw}
+use Rattle.t1_run.specs.Footprint.{Includes, Leaves, asks, uses, HasParts, ExactLaw, PartsLaw}
 use Rattle.t1_run.specs.Run.{FontBodies, Key, Subr, Glyph, Progress, reached, Stop, OutOfWords, Returned, Completed, Failed, Runner, Caller, Drawing, go_on, act, words, call_within, called, too_deep, composed, encoded, asking_accent, asking_parts, entered_with, entering, body_stop, asked_by, own, own_of, foot, asked_of, drawing_of, outcome_of}
 use Rattle.t1_run.specs.State.{State, initial}
 use Rattle.t1_run.specs.Step.{Step, Next, Call, Back, End, Compose, Fault}
@@ -26,6 +26,10 @@ use Rattle.t1_run.proofs.Steps.{Stepped, step-leaves}
 record Asks (composite : Option Composite) (entered : List ℕ) (asked : List Key) : Type 0 where
   only : (k : Key) → Includes asked k → asks composite entered k ≡ true
   all : (k : Key) → asks composite entered k ≡ true → Includes asked k
+
+-- the maps have each of these Subrs
+abbrev pub HasSubrs : FontBodies → List ℕ → Type 0
+HasSubrs m entered = (n : ℕ) → list_any (λ e. e == n) entered ≡ true → (body : List Command) × (m.subrs n ≡ Some body)
 
 -- what holds between words
 record Under (m : FontBodies) (p : Progress) : Type 0 where
@@ -65,7 +69,7 @@ or_once : (a c : Bool) → (a || c) ≡ (a || (a || c))
 or_once true c = refl
 or_once false c = refl
 
-eq_self : (n : ℕ) → (n == n) ≡ true
+pub eq_self : (n : ℕ) → (n == n) ≡ true
 eq_self n = grind (arith, nat_tests)
 
 same_when : (n k : ℕ) → (n == k) ≡ true → n ≡ k
@@ -85,10 +89,10 @@ entered-is n k (m ∷ ms) =
       ]
     ]
 
-bytes_self : (g : List ℕ) → bytes_eq g g ≡ true
+pub bytes_self : (g : List ℕ) → bytes_eq g g ≡ true
 bytes_self g = (bytes_eq-Decides g g).1 refl
 
-bytes_same : (g h : List ℕ) → bytes_eq g h ≡ true → g ≡ h
+pub bytes_same : (g h : List ℕ) → bytes_eq g h ≡ true → g ≡ h
 bytes_same g h e = (bytes_eq-Decides g h).0 e
 
 asks-entering : (n : ℕ) (entered : List ℕ) (asked : List Key) → Asks None entered asked → Asks None (entered_with n entered) (Subr n ∷ asked)

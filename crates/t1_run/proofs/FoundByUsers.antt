@@ -16,7 +16,7 @@ use Rattle.t1_run.specs.Footprint.{uses, is_part}
 use Rattle.t1_run.specs.Run.{FontBodies, Key, Subr, Glyph, Drawing, own}
 use Rattle.t1_run.specs.Touched.{is_key_of, is_user, is_met, meets_run, meets_part, meets_parts, touched_within, is_touched, IsClosed, Found, Seed, User, FoundByUsersLaw}
 
-both-ways : (a b : Bool) → (a ≡ true → b ≡ true) → (b ≡ true → a ≡ true) → a ≡ b
+pub both-ways : (a b : Bool) → (a ≡ true → b ≡ true) → (b ≡ true → a ≡ true) → a ≡ b
 both-ways true b h h' = sym (h refl)
 both-ways false true h h' = h' refl
 both-ways false false h h' = refl

@@ -6,6 +6,7 @@ pub mod FoundByUsers
 pub mod Moved
 pub mod Naming
 pub mod Outlines
+pub mod Parts
 pub mod Rows
 pub mod Searched
 pub mod Steps

@@ -11,12 +11,12 @@ use Rattle.t1_run.specs.Footprint.{Includes, AgreeOn, OutlineFootprintLaw}
 use Rattle.t1_run.specs.Run.{FontBodies, Key, Drawing, own, foot}
 use Rattle.t1_run.proofs.Agreeing.{agree-part, own_same}
 
-in_first : (ks ls : List Key) (k : Key) → Includes ks k → Includes (ks ++ ls) k
+pub in_first : (ks ls : List Key) (k : Key) → Includes ks k → Includes (ks ++ ls) k
 in_first [] ls k i = absurd i
 in_first (x ∷ ks) ls k (inl e) = inl e
 in_first (x ∷ ks) ls k (inr i) = inr (in_first ks ls k i)
 
-in_second : (ks ls : List Key) (k : Key) → Includes ls k → Includes (ks ++ ls) k
+pub in_second : (ks ls : List Key) (k : Key) → Includes ls k → Includes (ks ++ ls) k
 in_second [] ls k i = i
 in_second (x ∷ ks) ls k i = inr (in_second ks ls k i)
 

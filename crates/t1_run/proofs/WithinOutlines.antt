@@ -101,7 +101,7 @@ place-coordinate a h = record { above = h.value.terms.above; fine = h.value.fine
 placed-point : (p : Point) → IsPlaced p → IsPoint p
 placed-point p h = record { x = place-coordinate p.x h.x; y = place-coordinate p.y h.y }
 
-drawn-within : (s : Segment) → IsDrawn s → IsWithin s
+pub drawn-within : (s : Segment) → IsDrawn s → IsWithin s
 drawn-within (Line start end) h = (placed-point start h.0, placed-point end h.1)
 drawn-within (Curve start first second end) h =
     (placed-point start h.0, placed-point first h.1, placed-point second h.2, placed-point end h.3)

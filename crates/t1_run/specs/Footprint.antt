@@ -60,10 +60,6 @@ abbrev pub HasParts : FontBodies → Option Composite → Type 0
 HasParts m None = Unit {0}
 HasParts m (Some c) = ((base : List Command) × (m.glyphs c.base ≡ Some base)) × ((accent : List Command) × (m.glyphs c.accent ≡ Some accent))
 
--- profile: the maps have each of these Subrs
-abbrev pub HasSubrs : FontBodies → List ℕ → Type 0
-HasSubrs m entered = (n : ℕ) → list_any (λ e. e == n) entered ≡ true → (body : List Command) × (m.subrs n ≡ Some body)
-
 -- profile: a composite without a fault has its parts
 abbrev pub PartsLaw : Type 0
 PartsLaw = (m : FontBodies) (g : List ℕ) (d : Drawing) → own m g ≡ Some (Ok d) → HasParts m d.composite

@@ -9,17 +9,21 @@ use Rattle.t1_run.specs.Operands.{topmost, below, takes, operand_faults}
 use Rattle.t1_run.specs.OtherSubrs.{other_subr}
 use Rattle.t1_run.specs.Step.{Step, Next, Back, End, Compose, refuse, unless_fault, with_one, with_two, with_four, with_five, with_six, with_stack, cleared, at_point, push, zero_fraction, move_by, line_by, curve_by, set_metric, divide, call, pop_result}
 
+-- Type 1 Font Format, chapter 6: the commands that draw lines and curves
+abbrev pub draws : Command → Bool
+draws RLineTo = true
+draws HLineTo = true
+draws VLineTo = true
+draws RRCurveTo = true
+draws VHCurveTo = true
+draws HVCurveTo = true
+draws _ = false
+
 -- profile: lines, curves and the ends of a glyph are refused while a flex is open
 abbrev pub draws_or_ends : Command → Bool
-draws_or_ends RLineTo = true
-draws_or_ends HLineTo = true
-draws_or_ends VLineTo = true
-draws_or_ends RRCurveTo = true
-draws_or_ends VHCurveTo = true
-draws_or_ends HVCurveTo = true
 draws_or_ends Seac = true
 draws_or_ends EndChar = true
-draws_or_ends _ = false
+draws_or_ends c = draws c
 
 -- Type 1 Font Format, chapter 6 (hsbw): the side bearing comes before what is drawn
 abbrev pub needs_bearing : Command → Bool
@@ -75,16 +79,6 @@ rule VHCurveTo values s = with_four values (λ dy1 dx2 dy2 dx3. curve_by zero_fr
 rule HVCurveTo values s = with_four values (λ dx1 dx2 dy2 dy3. curve_by dx1 zero_fraction dx2 dy2 zero_fraction dy3 s)
 
 -- ---- kinds of commands
-
--- Type 1 Font Format, chapter 6: the commands that draw lines and curves
-abbrev pub draws : Command → Bool
-draws RLineTo = true
-draws HLineTo = true
-draws VLineTo = true
-draws RRCurveTo = true
-draws VHCurveTo = true
-draws HVCurveTo = true
-draws _ = false
 
 -- Type 1 Font Format, chapter 6: the commands that set the current point and draw nothing
 abbrev pub places : Command → Bool

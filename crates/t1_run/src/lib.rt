@@ -22,11 +22,11 @@ mod seac;
 mod state;
 mod step;
 
-pub use bodies::Bodies;
+pub use bodies::{Bodies, StoredBodies};
 pub use composite::{accent_move, join};
 pub use meter::Meter;
 pub use moving::{moved_point, moved_segment};
 pub use outcome::Run;
 pub use outline::{Composite, Point, Segment};
 pub use plain::Plain;
-pub use runner::run;
+pub use runner::{run, run_of_body};

@@ -115,12 +115,14 @@ impl Run {
         self.entered.as_slice()
     }
 
-    /// The parts of a glyph that ended by seac, and the numbers of the Subrs that the run entered. It takes no memory.
-    pub fn into_parts(self) -> (Option<Composite>, Vec<u16>)
+    /// The parts of a glyph that ended by seac, the numbers of the Subrs that the run entered, and its segments. It takes no
+    /// memory.
+    pub fn into_parts(self) -> (Option<Composite>, Vec<u16>, Vec<Segment>)
         ensures parts { result.0 ≡ self.drawing.composite }
         ensures entered { result.1.items ≡ self.drawing.entered }
+        ensures segments { result.2.items ≡ self.drawing.segments }
     {
-        (self.composite, self.entered)
+        (self.composite, self.entered, self.segments)
     }
 
     /// How many words were executed.

@@ -1,8 +1,8 @@
 //! Bodies in two maps.
 
-use crate::bodies::Bodies;
+use crate::bodies::{Bodies, StoredBodies};
 use indexmap::IndexMap;
-use t1_code::Body;
+use t1_code::{Body, Command};
 
 /// Bodies in two maps, from the number of a Subr and from the name of a glyph.
 #[derive(Drop)]
@@ -20,11 +20,23 @@ impl Bodies for Plain {
 
     ghost glyphs = { λ plain name. lookup (λ key. bytes_eq name key.items) plain.glyphs.entries };
 
-    fn subr(&self, n: u16) -> Option<&Body> {
-        self.subrs.get(&n)
+    fn subr(&self, n: u16) -> Option<&[Command]> {
+        match self.subrs.get(&n) {
+            None => None,
+            Some(body) => Some(body.commands()),
+        }
     }
 
-    fn glyph(&self, name: &[u8]) -> Option<&Body> {
-        self.glyphs.get(name)
+    fn has_glyph(&self, name: &[u8]) -> bool {
+        self.glyphs.contains_key(name)
+    }
+}
+
+impl StoredBodies for Plain {
+    fn glyph(&self, name: &[u8]) -> Option<&[Command]> {
+        match self.glyphs.get(name) {
+            None => None,
+            Some(body) => Some(body.commands()),
+        }
     }
 }

@@ -1,13 +1,14 @@
 //! The run of a glyph's own body.
 
-ghost use Rattle.std.specs.Prelude.{◌≡◌, ◌+◌, ◌-◌, ◌^◌, min, IsSome, IfOk};
+ghost use Rattle.std.specs.Prelude.{◌≡◌, ◌+◌, ◌-◌, ◌^◌, [], ℕ, List, Some, min, IsSome, IfOk};
 ghost use Rattle.t1_frac.specs.Outcome.{Gives, told_at};
 ghost use Rattle.t1_run.specs.Machine.{GivesOwn};
 ghost use Rattle.t1_run.specs.Run.{body_stop, outcome_of, own, font};
 
-use crate::bodies::Bodies;
+use crate::bodies::{Bodies, StoredBodies};
 use crate::meter::Meter;
 use crate::outcome::Run;
+use crate::outline::Segment;
 use crate::returns::ReturnStack;
 use crate::seac::find_parts;
 use crate::state::{Control, State};
@@ -20,15 +21,16 @@ fn run_body<'a, B: Bodies>(
     alloc: Global,
     bodies: &'a B,
     body: &'a [Command],
+    segments: Vec<Segment>,
     serial: u64,
 ) -> Result<Run, Refusal>
+    requires { segments.items ≡ [] }
     ensures drawing { Gives
         (λ run. run.drawing)
         result
         (told_at Place.Nowhere (outcome_of (body_stop (font (B.subrs bodies.now) (B.glyphs bodies.now)) body.now))) }
     ensures serial { IfOk result (λ run. run.serial ≡ serial) }
 {
-    let segments = Vec::with_capacity(alloc, body.len() / 4)?;
     let mut state = State::new(alloc, segments);
     let mut returns = ReturnStack::new();
     let mut rest = body;
@@ -46,7 +48,7 @@ fn run_body<'a, B: Bodies>(
                 }
                 state.enter(n)?;
                 returns.push(tail);
-                rest = called.commands();
+                rest = called;
             }
             Control::Back => rest = returns.pop().ok_or(Code::F34)?,
             Control::End => return Ok(Run::ended(state, None, serial)?),
@@ -58,10 +60,30 @@ fn run_body<'a, B: Bodies>(
     }
 }
 
-/// Runs the own body of a glyph that the bodies have, exactly. The answer is what it draws, or its first fault, at no
-/// place. The meter counts the run either way, and the run's serial is its new count.
+/// Runs the own body of a glyph of the font, exactly. The answer is what it draws, or its first fault, at no place. The meter
+/// counts the run either way, and the run's serial is its new count. Its segments are drawn into the room, which is emptied
+/// first, so that the memory of one run serves the next.
 #[tactic(auto, unfolding(crate::specs::Run::own))]
-pub fn run<B: Bodies>(
+pub fn run_of_body<B: Bodies>(
+    alloc: Global,
+    bodies: &B,
+    body: &[Command],
+    room: Vec<Segment>,
+    meter: &mut Meter,
+) -> Result<Run, Refusal>
+    ensures outcome { (name : List ℕ) → B.glyphs bodies.now name ≡ Some body.now → GivesOwn result (own (font (B.subrs bodies.now) (B.glyphs bodies.now)) name) }
+    ensures serial { IfOk result (λ run. run.serial ≡ meter.new) }
+    ensures counted { meter.new ≡ min (meter.old + 1) (2 ^ 64 - 1) }
+{
+    meter.tick();
+    let mut segments = room;
+    segments.clear();
+    segments.reserve(body.len() / 4)?;
+    run_body(alloc, bodies, body, segments, meter.count())
+}
+
+/// The same for a glyph whose body the font has stored, by its name, into room of its own.
+pub fn run<B: StoredBodies>(
     alloc: Global,
     bodies: &B,
     name: &[u8],
@@ -72,9 +94,8 @@ pub fn run<B: Bodies>(
     ensures serial { IfOk result (λ run. run.serial ≡ meter.new) }
     ensures counted { meter.new ≡ min (meter.old + 1) (2 ^ 64 - 1) }
 {
-    meter.tick();
     let Some(body) = bodies.glyph(name) else {
         unreachable!()
     };
-    run_body(alloc, bodies, body.commands(), meter.count())
+    run_of_body(alloc, bodies, body, Vec::new(alloc), meter)
 }

@@ -32,7 +32,7 @@ pub fn find_parts<B: Bodies>(
 {
     let base_name = encoded(accent.base).ok_or(Code::F44)?.as_bytes();
     let accent_name = encoded(accent.accent).ok_or(Code::F44)?.as_bytes();
-    if bodies.glyph(base_name).is_none() || bodies.glyph(accent_name).is_none() {
+    if !bodies.has_glyph(base_name) || !bodies.has_glyph(accent_name) {
         return Err(Refusal::from(Code::F45));
     }
     Ok(Composite {

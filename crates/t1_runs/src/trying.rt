@@ -49,7 +49,7 @@ fn run_of<W: Write>(
     meter: &mut Meter,
     out: &mut W,
 ) -> Result<Run, Stop> {
-    if bodies.glyph(name).is_none() {
+    if !bodies.has_glyph(name) {
         return Err(Stop::NoGlyph);
     }
     match run(alloc, bodies, name, meter) {

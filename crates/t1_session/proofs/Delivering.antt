@@ -1,6 +1,7 @@
 -- From a text that is printed to the file that is delivered.
 use Rattle.std.proofs.Common.{◌≡◌, ℕ, List, Option, Result, Ok, Err, refl, ◌∙◌}
 use Rattle.t1_frac.specs.declared.fault.Fault.{Fault}
+use Rattle.t1_frac.specs.Outcome.{◌>>=◌}
 use Rattle.t1_pairs.specs.declared.pairs.Pair.{Pair}
 use Rattle.t1_parts.specs.SourceParts.{SourceParts}
 use Rattle.t1_pairs.specs.Kerning.{pairs}
@@ -13,6 +14,7 @@ use Rattle.t1_afm.specs.Afm.{afm}
 use Rattle.t1_font.specs.Assembly.{source_file, source_pfa, file_check}
 use Rattle.t1_font.specs.FontMetrics.{metrics_of}
 use Rattle.t1_font.specs.MeasuredGlyphs.{MeasuredFont, measured}
+use Rattle.t1_font.specs.SourceChecks.{measured_source}
 use Rattle.t1_session.specs.Files.{assembled, assembled_pfa, metrics_file}
 use Rattle.t1_session.specs.Delivery.{Delivers, told_by_writing}
 
@@ -28,10 +30,13 @@ pfa_read bytes s read = rw read refl
 
 -- the AFM file of a source, its pairs and its glyphs, which have no fault
 pub metrics_parts : (source kerning : List ℕ) (s : SourceParts) (ps : List Pair) (glyphs : MeasuredFont)
-    → reads source ≡ Ok s → pairs kerning ≡ Ok ps → file_check s ≡ Ok tt → measured s.items ≡ Ok glyphs
-    → metrics_file source kerning ≡ Ok (afm (metrics_of s ps glyphs))
-unfolding metrics_file
-metrics_parts source kerning s ps glyphs read paired checked told = rw (read, paired, checked, told) refl
+    → reads source ≡ Ok s → pairs kerning ≡ Ok ps → measured_source s ≡ Ok glyphs → metrics_file source kerning ≡ Ok (afm (metrics_of s ps glyphs))
+unfolding metrics_file measured_source
+metrics_parts source kerning s ps glyphs read paired told = rw (read, paired) (by (file_check s) told) where
+  by : (r : Result (Unit {0}) Fault) → (r >>= (λ _. measured s.items)) ≡ Ok glyphs
+      → (r >>= (λ _. measured s.items >>= (λ gs. Ok (afm (metrics_of s ps gs))))) ≡ Ok (afm (metrics_of s ps glyphs))
+  by (Ok u) h = rw h refl
+  by (Err fault) h = absurd (cc)
 
 module _ {W : Type 0} (contents : W → Option (List ℕ)) (old new : Tally W) (text given : Result (List ℕ) Fault) (same : given ≡ text) where
   pub delivers_failure : (e : OutError) → Prints {T = Unit {0}} contents old new text (Err e) → Delivers {T = Unit {0}} contents old new given (Err (told_by_writing e))

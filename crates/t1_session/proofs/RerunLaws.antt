@@ -20,13 +20,16 @@ use Rattle.t1_font.specs.SourceChecks.{source_check}
 use Rattle.t1_cache.specs.Edited.{named, stale}
 use Rattle.t1_cache.specs.Renewed.{Kept}
 use Rattle.t1_rerun.specs.Opened.{runs_where}
-use Rattle.t1_rerun.specs.Renewing.{renewing_runs}
 use Rattle.t1_held.specs.declared.held.Held.{Held}
 use Rattle.t1_held.specs.Held.{IsHeld}
 use Rattle.t1_held.specs.Edits.{IsPreparedEdit}
 use Rattle.t1_held.proofs.HeldLaws.{checked_well, right_checked}
 use Rattle.t1_session.specs.Reruns.{Spends}
 use Rattle.t1_session.specs.State.{SessionView}
+
+-- each glyph that an edit of a source makes stale is run once; none, where a body or the file has a fault
+abbrev pub renewing_runs : Edit → SourceParts → SourceParts → ℕ
+renewing_runs edit old new = runs_where (file_check new) (stale old (named edit) new)
 
 -- an edit of a session's source was prepared
 abbrev pub edit_prepared : (s : SourceParts) (k : List Pair) (held : Held) (edit : Edit) (change : Change) → IsHeld s held

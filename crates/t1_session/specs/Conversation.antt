@@ -6,7 +6,7 @@ use Rattle.t1_frac.specs.Ascii.{line_feed}
 use Rattle.t1_code.specs.Counted.{Tally, WritesAll, WritesFront}
 use Rattle.t1_code.specs.declared.parts.OutError.{OutError}
 use Rattle.t1_code.specs.declared.parts.OutError.TheVariants as out
-use Rattle.t1_text.specs.Lines.{unified, begins_with}
+use Rattle.t1_text.specs.Lines.{unified, begins_with, is_line_end}
 use Rattle.t1_session.specs.declared.error.ServeError.{ServeError}
 use Rattle.t1_session.specs.declared.error.ServeError.TheVariants as errors
 use Rattle.t1_commands.specs.declared.command.Command.{Command}
@@ -14,7 +14,7 @@ use Rattle.t1_commands.specs.Lines.{finished_lines}
 use Rattle.t1_commands.specs.Commands.{Opening, commands_of, ends_body}
 use Rattle.t1_commands.specs.AnswerTexts.{answer_text}
 use Rattle.t1_commands.specs.Answers.{answers, answer_to}
-use Rattle.t1_session.specs.LineEnds.{is_line_end, ends_line, ends_in_return}
+use Rattle.t1_session.specs.LineEnds.{ends_line, ends_in_return}
 use Rattle.t1_session.specs.Machine.{machine, may_want_memory, after_want}
 use Rattle.t1_session.specs.State.{State}
 

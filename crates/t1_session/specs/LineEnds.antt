@@ -2,10 +2,6 @@
 use Rattle.std.specs.Prelude.{ℕ, Bool, not, ◌==◌, ◌&&◌, ◌||◌, List, [], ◌∷◌}
 use Rattle.t1_frac.specs.Ascii.{carriage_return, line_feed}
 
--- profile: a byte that ends a line, or that belongs to the end of one
-abbrev pub is_line_end : ℕ → Bool
-is_line_end b = b == carriage_return || b == line_feed
-
 -- profile: a CR ends its line at once, and so does an LF that belongs to no CR
 abbrev pub ends_line : Bool → ℕ → Bool
 ends_line after_return b = b == carriage_return || (b == line_feed && not after_return)

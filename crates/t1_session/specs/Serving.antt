@@ -8,7 +8,8 @@ use Rattle.t1_session.specs.declared.error.ServeError.TheVariants as errors
 use Rattle.t1_commands.specs.Answers.{session_answers}
 use Rattle.t1_commands.specs.Commands.{input_commands}
 use Rattle.t1_commands.specs.declared.command.Command.{Command}
-use Rattle.t1_session.specs.LineEnds.{is_line_end, ends_line, ends_in_return}
+use Rattle.t1_text.specs.Lines.{is_line_end}
+use Rattle.t1_session.specs.LineEnds.{ends_line, ends_in_return}
 use Rattle.t1_session.specs.Machine.{machine}
 use Rattle.t1_session.specs.State.{State}
 

@@ -6,15 +6,14 @@ use crate::error::ServeError;
 use std::alloc::Global;
 use std::io::Write;
 use t1_code::Counted;
-use t1_font::{checked_bodies, measured, write_source_afm};
+use t1_font::{measured_glyphs, write_source_afm};
 use t1_pairs::read_pairs;
-use t1_run::Meter;
 use t1_source::read_source;
 
 /// Reads a source and a kerning file, and writes the AFM file of the font: the whole file at `Ok`, a beginning of it at
 /// `Write`. `Load` has the first fault: of reading the source, of the pairs, of the bodies, F23, or of a glyph, in
 /// this order; nothing was written then, nor where memory ran out. `Read` is never answered.
-#[tactic(auto, unfolding(crate::specs::Files::metrics_file))]
+#[tactic(auto, unfolding(crate::specs::Files::metrics_file, t1_font::specs::SourceChecks::measured_source))]
 pub fn measure_source<W: Write>(
     alloc: Global,
     source: &[u8],
@@ -25,7 +24,6 @@ pub fn measure_source<W: Write>(
 {
     let source = read_source(alloc, source)?;
     let pairs = read_pairs(alloc, pairs)?;
-    let bodies = checked_bodies(alloc, &source)?;
-    let glyphs = measured(alloc, source.items(), &bodies, &mut Meter::new())?;
+    let glyphs = measured_glyphs(alloc, &source)?;
     Ok(write_source_afm(alloc, &source, &pairs, &glyphs, out)?)
 }

@@ -3,7 +3,7 @@ use Rattle.std.proofs.Common.{◌≡◌, ℕ, suc, Bool, true, false, ◌+◌, �
 use Rattle.std.specs.List.{find, range_with_len, last_or}
 use Rattle.std.specs.Borrow.{Bor}
 use Rattle.std.specs.Str.{bytes_eq}
-use Rattle.std.proofs.lemmas.List.{take_more, get_or-set_same, get_or-set_other}
+use Rattle.std.proofs.lemmas.List.{take_more, get_or-set_same, get_or-set_other, append-nil}
 use Rattle.std.proofs.lemmas.List.Elements.{filter_map-append}
 use Rattle.std.proofs.lemmas.Bool.{eq-eqb, cases_Bool, eqb-true}
 use Rattle.t1_text.specs.Tokens.{tokens, is_token}
@@ -49,15 +49,11 @@ slots_more : (ls : List (List ℕ)) (k : ℕ) (l : List ℕ) → k < length ls �
 slots_more ls k l h is =
     ap slots_on (take_more ls k l h ∙ ap (λ x. take k ls ++ x ∷ []) (sym is)) ∙ filter_map-append (λ l. slot_of_tokens (tokens l)) (take k ls) (l ∷ [])
 
-append_none : {X : Type 0} (xs : List X) → xs ++ [] ≡ xs
-append_none [] = refl
-append_none (x ∷ xs) = ap (λ t. x ∷ t) (append_none xs)
-
 -- a line that is no slot changes nothing
 pub no_slot_more : (g : List ℕ) (ls : List (List ℕ)) (k : ℕ) (l : List ℕ) (code : ℕ) → k < length ls → l ≡ get_or ls k l → slot_of_tokens (tokens l) ≡ None
     → is_token g (slot_name (slots_on (take (k + 1) ls)) code) ≡ is_token g (slot_name (slots_on (take k ls)) code)
 no_slot_more g ls k l code h is e =
-    ap (λ s. is_token g (slot_name s code)) (slots_more ls k l h is ∙ (rw e (append_none (slots_on (take k ls)))))
+    ap (λ s. is_token g (slot_name s code)) (slots_more ls k l h is ∙ (rw e (append-nil (slots_on (take k ls)))))
 
 last_append : {X : Type 0} (o : Option X) (xs : List X) (x : X) → last_or o (xs ++ x ∷ []) ≡ Some x
 last_append o [] x = refl
@@ -74,7 +70,7 @@ slot_elsewhere : (slots : List (ℕ × List ℕ)) (code other : ℕ) (name : Lis
 slot_elsewhere slots code other name e =
     let off : filter_map (named_by code) ((other, name) ∷ []) ≡ [] = rw e refl in
     let all : filter_map (named_by code) (slots ++ (other, name) ∷ []) ≡ filter_map (named_by code) slots =
-    filter_map-append (named_by code) slots ((other, name) ∷ []) ∙ ap (λ t. filter_map (named_by code) slots ++ t) off ∙ append_none (filter_map (named_by code) slots) in
+    filter_map-append (named_by code) slots ((other, name) ∷ []) ∙ ap (λ t. filter_map (named_by code) slots ++ t) off ∙ append-nil (filter_map (named_by code) slots) in
     ap (last_or None) all
 
 slot_on : (ls : List (List ℕ)) (k : ℕ) (l : List ℕ) (c : ℕ) (name : List ℕ) → k < length ls → l ≡ get_or ls k l → slot_of_tokens (tokens l) ≡ Some (c, name)
@@ -105,7 +101,7 @@ slot_more g ls k l c name named h is e within before code small =
 -- a line that is no slot names nothing
 pub no_name_more : (ls : List (List ℕ)) (k : ℕ) (l : List ℕ) (code : ℕ) → k < length ls → l ≡ get_or ls k l → slot_of_tokens (tokens l) ≡ None
     → slot_name (slots_on (take (k + 1) ls)) code ≡ slot_name (slots_on (take k ls)) code
-no_name_more ls k l code h is e = ap (λ s. slot_name s code) (slots_more ls k l h is ∙ (rw e (append_none (slots_on (take k ls)))))
+no_name_more ls k l code h is e = ap (λ s. slot_name s code) (slots_more ls k l h is ∙ (rw e (append-nil (slots_on (take k ls)))))
 
 -- a slot names its code, and no other
 pub name_more : (ls : List (List ℕ)) (k : ℕ) (l : List ℕ) (c : ℕ) (name : Bor (List ℕ)) (names : List (Option (Bor (List ℕ)))) → k < length ls → l ≡ get_or ls k l

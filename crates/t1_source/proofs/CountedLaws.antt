@@ -7,14 +7,11 @@ use Rattle.std.proofs.lemmas.List.Folds.{list_all-append}
 use Rattle.t1_frac.specs.declared.fault.Code.{Code}
 use Rattle.t1_frac.specs.declared.fault.Code.TheVariants.{F4, F7, F8, F9, F10}
 use Rattle.t1_frac.specs.declared.fault.Fault.{Fault}
-use Rattle.t1_frac.specs.Outcome.{◌>>=◌}
 use Rattle.t1_parts.specs.declared.body.EntryBody.{EntryBody}
 use Rattle.t1_parts.specs.declared.item.Item.{Item}
 use Rattle.t1_parts.specs.declared.item.Item.TheVariants.{Plain, Section, Subr, Glyph}
 use Rattle.t1_parts.specs.SourceParts.{SourceParts}
 use Rattle.t1_text.specs.Lines.{lines}
-use Rattle.t1_parts.specs.Encoding.{clear_check}
-use Rattle.t1_parts.specs.Parts.{parts_of, tail_of}
 use Rattle.t1_text.specs.Tokens.{tokens, places_from}
 use Rattle.t1_text.specs.Names.{decimal_of, up_to, name_of_token}
 use Rattle.t1_frac.specs.Numbers.{decimal_value}
@@ -23,7 +20,7 @@ use Rattle.t1_parts.specs.Sections.{count_between, section_at, subrs_line, glyph
 use Rattle.t1_parts.specs.Entries.{NumberedItem, Taken, has, is_subr, is_glyph, opens_subr, opens_glyph, opened_body, entry_of, subr_entry, glyph_entry}
 use Rattle.t1_parts.specs.Private.{line_item, among_glyphs, among_subrs, item_at, items_of, private_items}
 use Rattle.t1_parts.specs.Counts.{subrs_needed, glyphs_needed, raised_item, raised}
-use Rattle.t1_parts.specs.Reading.{unnumbered, whole_check, reads_lines, reads}
+use Rattle.t1_parts.specs.Reading.{unnumbered, reads}
 use Rattle.t1_parts.specs.Printing.{text}
 use Rattle.t1_source.specs.WellFormed.{Stand, IsPrivate, is_counted}
 use Rattle.t1_parts.proofs.CountLaws.{glyphs_same, subrs_same}
@@ -32,7 +29,7 @@ use Rattle.t1_frac.proofs.OutcomeLaws.{bind_ok}
 use Rattle.t1_parts.proofs.SectionLaws.{count_place_of}
 use Rattle.t1_text.proofs.NumberLaws.{count_small}
 use Rattle.t1_source.proofs.WellFormedItemsLaws.{entry_given}
-use Rattle.t1_source.proofs.WellFormedSourceLaws.{source_well_formed}
+use Rattle.t1_source.proofs.WellFormedSourceLaws.{source_well_formed, taken_apart}
 use Rattle.t1_source.proofs.SourceAgainLaws.{source_again}
 
 section_counted : (key word l : List ℕ) (o : Option (ℕ × List ℕ)) (s : Item) → is_count key ≡ false → count_between key word (places_from 0 l) ≡ o → option_map (section_at l) o ≡ Some s → is_counted s ≡ true
@@ -165,25 +162,14 @@ raised_counted items p few h =
 
 -- the counts of a source that was read
 pub read_counted : (bytes : List ℕ) (s : SourceParts) → reads bytes ≡ Ok s → glyphs_needed s.items < 10 ^ 9 → list_all is_counted s.items ≡ true
-unfolding reads reads_lines
+unfolding reads
 read_counted bytes s e few =
-    let ls = lines bytes in
     let kept = source_well_formed bytes s e in
-    let first = bind_ok (parts_of ls) (λ parts. clear_check parts.clear >>= λ encoded. private_items (length parts.clear + 1) parts.private >>= λ items. whole_check items >>= λ whole.
-    Ok (record { clear = parts.clear; items = raised (unnumbered items); tail = tail_of parts.tail })) s e in
-    let p = first.0 in
-    let second = bind_ok (clear_check p.clear) (λ encoded. private_items (length p.clear + 1) p.private >>= λ items. whole_check items >>= λ whole.
-    Ok (record { clear = p.clear; items = raised (unnumbered items); tail = tail_of p.tail })) s first.2 in
-    let third = bind_ok (private_items (length p.clear + 1) p.private) (λ items. whole_check items >>= λ whole. Ok (record { clear = p.clear; items = raised (unnumbered items); tail = tail_of p.tail })) s second.2 in
-    let ns = third.0 in
-    let fourth = bind_ok (whole_check ns) (λ whole. Ok (record { clear = p.clear; items = raised (unnumbered ns); tail = tail_of p.tail })) s third.2 in
-    let made : SourceParts = record { clear = p.clear; items = raised (unnumbered ns); tail = tail_of p.tail } in
-    let last : ◌≡◌ {A = Result SourceParts Fault} (Ok made) (Ok s) = fourth.2 in
-    let same : made ≡ s = cc in
-    let is : raised (unnumbered ns) ≡ s.items = ap (λ t. t.items) same in
-    let private : IsPrivate (raised (unnumbered ns)) = rw is kept.items in
-    let small : glyphs_needed (raised (unnumbered ns)) < 10 ^ 9 = rw is few in
-    ap (list_all is_counted) (sym is) ∙ raised_counted (unnumbered ns) private small (private_counted (length p.clear + 1) p.private ns third.1)
+    let t = taken_apart (lines bytes) s e in
+    let is : raised (unnumbered t.items) ≡ s.items = ap (λ source. source.items) t.same in
+    let private : IsPrivate (raised (unnumbered t.items)) = rw is kept.items in
+    let small : glyphs_needed (raised (unnumbered t.items)) < 10 ^ 9 = rw is few in
+    ap (list_all is_counted) (sym is) ∙ raised_counted (unnumbered t.items) private small (private_counted (length t.parts.clear + 1) t.parts.private t.items t.read)
 
 -- a source that was read, of fewer than 1,000,000,000 glyphs
 pub read_again : (bytes : List ℕ) (s : SourceParts) → reads bytes ≡ Ok s → glyphs_needed s.items < 10 ^ 9 → reads (text s) ≡ Ok s

@@ -23,7 +23,7 @@ use Rattle.t1_source.proofs.WellFormedBodyLaws.{all_take, all_drop}
 use Rattle.t1_source.proofs.WellFormedEditedLaws.{source_given, source_same, edited_well_formed}
 use Rattle.t1_source.proofs.CountedLaws.{raised_counted}
 
-set_counted : (items : List Item) (at : ℕ) (y : Item) → is_counted y ≡ true → list_all is_counted items ≡ true → list_all is_counted (slice_set items at y) ≡ true
+pub set_counted : (items : List Item) (at : ℕ) (y : Item) → is_counted y ≡ true → list_all is_counted items ≡ true → list_all is_counted (slice_set items at y) ≡ true
 set_counted [] at y on h = refl
 set_counted (i ∷ items) zero y on h = and_from (is_counted y) (list_all is_counted items) on (and_parts (is_counted i) (list_all is_counted items) h).1
 set_counted (i ∷ items) (suc at) y on h =

@@ -1,11 +1,13 @@
 -- Lists around an element at a place that was found.
-use Rattle.std.proofs.Common.{◌≡◌, ◌⊎◌, ℕ, suc, Bool, true, false, ◌||◌, ◌+◌, ◌<◌, ◌≤◌, nat_lt, unwrap_or, Option, None, Some, List, [], ◌∷◌, ◌++◌, length, take, drop, set, get_or, reverse, filter_map, refl, sym, ◌∙◌, ap, inl, inr, arith, append_assoc, length-append}
+use Rattle.std.proofs.Common.{◌≡◌, ◌⊎◌, ℕ, suc, Bool, true, false, ◌||◌, ◌+◌, ◌-◌, ◌<◌, ◌≤◌, nat_lt, unwrap_or, Option, None, Some, List, [], ◌∷◌, ◌++◌, length, take, drop, set, get_or, reverse, filter_map, refl, sym, ◌∙◌, ap, inl, inr, arith, append_assoc, length-append}
 use Rattle.std.specs.List.{list_any, position, position_or_len, insert, remove, cons_option}
 use Rattle.std.proofs.lemmas.Bool.{cases_Bool, ltb-true, ltb-false, or_parts, both_ways, or_from}
 use Rattle.std.proofs.lemmas.List.{reverse-append, length-reverse}
 use Rattle.std.proofs.lemmas.List.Folds.{list_any-append}
 use Rattle.std.proofs.Math.Seq.{drop-append_seam, drop-append-add, take-append_seam, set-append_seam, get_or-append_seam}
 use Rattle.t1_source.specs.Editing.{through_last}
+use Rattle.t1_parts.proofs.RunLaws.{none_longer}
+use Rattle.t1_parts.proofs.PartLaws.{place_of}
 
 -- an element that passes a test, and what stands around it
 pub record At {X : Type 0} (test : X → Bool) (xs : List X) : Type 0 where
@@ -142,22 +144,19 @@ any_turned test (x ∷ xs) h =
     let parts = or_parts (test x) (list_any test xs) h in
     ap (list_any test) (reverse-append (x ∷ []) xs) ∙ list_any-append test (reverse xs) (x ∷ []) ∙ (let a = any_turned test xs parts.1 in rw (a, parts.0) refl)
 
--- the first element that passes a test stands after others
-pub place_after : {X : Type 0} (test : X → Bool) (xs : List X) (x : X) (ys : List X) → list_any test xs ≡ false → test x ≡ true → position_or_len test (xs ++ x ∷ ys) ≡ length xs
-place_after test [] x ys none on = rw on refl
-place_after test (z ∷ xs) x ys none on =
-    let parts = or_parts (test z) (list_any test xs) none in
-    let more = place_after test xs x ys parts.1 on in
-    let off = parts.0 in
-    rw off (omega (arith, more))
-
 pub through_place : {X : Type 0} (test : X → Bool) (a : List X) (x : X) (b : List X) → test x ≡ true → list_any test b ≡ false → through_last test (a ++ x ∷ b) ≡ length (a ++ x ∷ [])
 unfolding through_last
 through_place test a x b on none =
     let turned : reverse (a ++ x ∷ b) ≡ reverse b ++ x ∷ reverse a =
     reverse-append a (x ∷ b) ∙ ap (λ t. t ++ reverse a) (reverse-append (x ∷ []) b) ∙ append_assoc (reverse b) (x ∷ []) (reverse a) in
-    let place : position_or_len test (reverse (a ++ x ∷ b)) ≡ length b = ap (position_or_len test) turned ∙ place_after test (reverse b) x (reverse a) (any_turned test b none) on ∙ length-reverse b in
+    let place : position_or_len test (reverse (a ++ x ∷ b)) ≡ length b = ap (position_or_len test) turned ∙ place_of test (reverse b) x (reverse a) (any_turned test b none) on ∙ length-reverse b in
     omega (arith, place, length-append a (x ∷ b), length-append a (x ∷ []))
+
+-- how many elements stand through the last one that passes a test, by how many stand after it
+pub through_found : {X : Type 0} (test : X → Bool) (xs : List X) → length xs - unwrap_or (position test (reverse xs)) (length xs) ≡ through_last test xs
+unfolding through_last
+through_found test xs =
+    ap (λ n. length xs - unwrap_or (position test (reverse xs)) n) (sym (length-reverse xs)) ∙ ap (λ n. length xs - n) (place_or_len test (reverse xs))
 
 -- an element that fails a test, or of which nothing is said, among others
 pub any_middle : {X : Type 0} (test : X → Bool) (a : List X) (x : X) (b : List X) → test x ≡ false → list_any test (a ++ x ∷ b) ≡ list_any test (a ++ b)
@@ -167,10 +166,6 @@ any_middle test (c ∷ a) x b off = ap (λ t. test c || t) (any_middle test a x 
 pub said_middle : {X Y : Type 0} (say : X → Option Y) (a : List X) (x : X) (b : List X) → say x ≡ None → filter_map say (a ++ x ∷ b) ≡ filter_map say (a ++ b)
 said_middle say [] x b off = rw off refl
 said_middle say (c ∷ a) x b off = ap (cons_option (say c)) (said_middle say a x b off)
-
-none_longer : {X : Type 0} (a b : List X) (x : X) → [] ≡ a ++ x ∷ b → ⊥
-none_longer [] b x e = cc
-none_longer (c ∷ a) b x e = cc
 
 -- an element is the last one, or stands before it
 pub last_or_before : {X : Type 0} (xs : List X) (last : X) (a : List X) (x : X) (b : List X) → xs ++ last ∷ [] ≡ a ++ x ∷ b

@@ -15,11 +15,10 @@ use Rattle.t1_parts.specs.Entries.{is_word, is_word_byte}
 use Rattle.t1_parts.specs.Parts.{is_closefile}
 use Rattle.t1_parts.specs.Printing.{body_line, last_line, word_groups, entry_lines}
 use Rattle.t1_source.specs.WellFormed.{is_inner, IsEntry}
-use Rattle.t1_text.proofs.PlaceLaws.{regular_parts}
-use Rattle.t1_parts.proofs.EntryLaws.{digit_regular}
 use Rattle.t1_text.proofs.NumberLaws.{decimal_spells}
 use Rattle.t1_text.proofs.NumberLaws.{count_parts}
 use Rattle.t1_parts.proofs.CloseLaws.{closing_bytes, closes_from, closes_more, closes_past, closes_blank, all_reverse}
+use Rattle.t1_code.proofs.Scanning.{digit_no_blank}
 
 -- a number of at most k digits
 abbrev pub Short : ℕ → List ℕ → Type 0
@@ -55,9 +54,6 @@ last_digit (c ∷ e ∷ ds) some h =
     let more = last_digit (e ∷ ds) (omega arith) (and_parts (is_ascii_digit c) (list_all is_ascii_digit (e ∷ ds)) h).1 in
     (c ∷ more.0, more.1, ap (λ t. c ∷ t) more.2, more.3)
 
-digit_word : (d : ℕ) → is_ascii_digit d ≡ true → is_blank d ≡ false
-digit_word d h = (regular_parts d (digit_regular d h)).0
-
 -- a byte that passes a test stands in no text whose bytes fail it
 none_like : (test : ℕ → Bool) (d : ℕ) (t : List ℕ) → list_all (λ c. not (test c)) t ≡ true → test d ≡ true → list_any (λ c. c == d) t ≡ false
 none_like test d [] h on = refl
@@ -73,7 +69,7 @@ pub digits_past : (ds y : List ℕ) → 1 ≤ length ds → list_all is_ascii_di
 digits_past ds y some h x on =
     let r = last_digit ds some h in
     let split : x ++ (ds ++ y) ≡ (x ++ r.0) ++ r.1 ∷ y = ap (λ t. x ++ (t ++ y)) r.2 ∙ ap (λ t. x ++ t) (append_assoc r.0 (r.1 ∷ []) y) ∙ sym (append_assoc x r.0 (r.1 ∷ y)) in
-    closes_past (x ++ r.0) r.1 y (digit_word r.1 r.3) (none_like is_ascii_digit r.1 closing_bytes refl r.3) (ap is_closefile (sym split) ∙ on)
+    closes_past (x ++ r.0) r.1 y (digit_no_blank r.1 r.3) (none_like is_ascii_digit r.1 closing_bytes refl r.3) (ap is_closefile (sym split) ∙ on)
 
 pub line_parts : (a b : List ℕ) → is_line (a ++ b) ≡ true → (is_line a ≡ true) × (is_line b ≡ true)
 line_parts a b h = and_parts (is_line a) (is_line b) (sym (list_all-append (λ c. not (is_line_end c)) a b) ∙ h)

@@ -28,11 +28,12 @@ use Rattle.t1_source.proofs.RuleLaws.{kept_ok}
 use Rattle.t1_text.proofs.NumberLaws.{decimal_spells, spelled}
 use Rattle.t1_text.proofs.TokenLaws.{other_first}
 use Rattle.t1_parts.proofs.EntryLaws.{digits_regular, name_regular, run_before, token_before}
+use Rattle.t1_parts.proofs.PartLaws.{place_of}
 use Rattle.t1_source.proofs.PrintedLaws.{line_append, digits_line, name_is_line}
 use Rattle.t1_source.proofs.SourceAgainLaws.{Ends}
 use Rattle.t1_source.proofs.WellFormedItemsLaws.{given_some}
 use Rattle.t1_source.proofs.WellFormedBodyLaws.{all_take, all_drop}
-use Rattle.t1_source.proofs.ItemPlaceLaws.{First, first_at, position_first, place_after}
+use Rattle.t1_source.proofs.ItemPlaceLaws.{First, first_at, position_first}
 
 -- lines before others, of which none passes a test, and the last of all lines
 ends_parts : (test : List ℕ → Bool) (p : List (List ℕ)) (q : List ℕ) (r : List (List ℕ)) → Ends test (p ++ q ∷ r) → (list_any test p ≡ false) × Ends test (q ∷ r)
@@ -161,7 +162,7 @@ check_there : (before : List (List ℕ)) (opening : List ℕ) (later : List (Lis
     → clear_check (before ++ opening ∷ later) ≡ encoding_check (length before + 1) (opening ∷ later)
 unfolding clear_check
 check_there before opening later none on =
-    let place : position_or_len opens_encoding (before ++ opening ∷ later) ≡ length before = place_after opens_encoding before opening later none on in
+    let place : position_or_len opens_encoding (before ++ opening ∷ later) ≡ length before = place_of opens_encoding before opening later none on in
     ap (λ k. encoding_check (k + 1) (drop k (before ++ opening ∷ later))) place ∙ ap (encoding_check (length before + 1)) (drop-append_seam before (opening ∷ later))
 
 opening_given : (n : ℕ) (opening : List ℕ) (later : List (List ℕ)) → is_standard (tokens opening) ≡ false → opening_check n opening later ≡ Ok tt → (is_array (tokens opening) ≡ true) × (list_any ends_array later ≡ true)
@@ -211,7 +212,7 @@ array_there n opening later other e =
 lines_there : (opening : List ℕ) (ls : List (List ℕ)) (ending : List ℕ) (rest : List (List ℕ)) → is_standard (tokens opening) ≡ false → list_any ends_array ls ≡ false → ends_array ending ≡ true
     → array_lines (opening ∷ (ls ++ ending ∷ rest)) ≡ ls
 lines_there opening ls ending rest other inside ends =
-    let place = place_after ends_array ls ending rest inside ends in
+    let place = place_of ends_array ls ending rest inside ends in
     rw (other, place) (take-append_seam ls (ending ∷ rest))
 
 -- the lines of the array and those after it

@@ -155,11 +155,11 @@ any_weaker t u f (i ∷ items) h =
 any_front : (test : Item → Bool) (items front b : List Item) → items ≡ front ++ b → list_any test items ≡ false → list_any test front ≡ false
 any_front test items front b whole none = (or_parts (list_any test front) (list_any test b) (sym (list_any-append test front b) ∙ ap (list_any test) (sym whole) ∙ none)).0
 
-any_last : (test : Item → Bool) (a : List Item) (x : Item) → test x ≡ true → list_any test (a ++ x ∷ []) ≡ true
+pub any_last : (test : Item → Bool) (a : List Item) (x : Item) → test x ≡ true → list_any test (a ++ x ∷ []) ≡ true
 any_last test [] x on = or_left (test x) false on
 any_last test (c ∷ a) x on = or_right (test c) (list_any test (a ++ x ∷ [])) (any_last test a x on)
 
-any_first : (test : Item → Bool) (a : List Item) (x : Item) → list_any test a ≡ true → list_any test (a ++ x ∷ []) ≡ true
+pub any_first : (test : Item → Bool) (a : List Item) (x : Item) → list_any test a ≡ true → list_any test (a ++ x ∷ []) ≡ true
 any_first test a x on = list_any-append test a (x ∷ []) ∙ or_left (list_any test a) (test x || false) on
 
 any_neither : (test : Item → Bool) (a : List Item) (x : Item) → list_any test a ≡ false → test x ≡ false → list_any test (a ++ x ∷ []) ≡ false

@@ -267,9 +267,19 @@ made_well_formed ls p ns clear items tail cut read whole_ok clear_ok h is_clear 
       tail = tail_again p.tail;
     })
 
-lines_well_formed : (ls : List (List ℕ)) (s : SourceParts) → list_all is_line ls ≡ true → reads_lines ls ≡ Ok s → IsWellFormed s
+-- what a source that was read is made of
+pub record TakenApart (ls : List (List ℕ)) (s : SourceParts) : Type 0 where
+  pub parts : Parts
+  pub items : List NumberedItem
+  pub cut : parts_of ls ≡ Ok parts
+  pub encoded : clear_check parts.clear ≡ Ok tt
+  pub read : private_items (length parts.clear + 1) parts.private ≡ Ok items
+  pub whole : whole_check items ≡ Ok tt
+  pub same : ◌≡◌ {A = SourceParts} (record { clear = parts.clear; items = raised (unnumbered items); tail = tail_of parts.tail }) s
+
+pub taken_apart : (ls : List (List ℕ)) (s : SourceParts) → reads_lines ls ≡ Ok s → TakenApart ls s
 unfolding reads_lines
-lines_well_formed ls s h e =
+taken_apart ls s e =
     let first = bind_ok (parts_of ls) (λ parts. clear_check parts.clear >>= λ encoded. private_items (length parts.clear + 1) parts.private >>= λ items. whole_check items >>= λ whole.
     Ok (record { clear = parts.clear; items = raised (unnumbered items); tail = tail_of parts.tail })) s e in
     let p = first.0 in
@@ -281,7 +291,12 @@ lines_well_formed ls s h e =
     let made : SourceParts = record { clear = p.clear; items = raised (unnumbered ns); tail = tail_of p.tail } in
     let last : ◌≡◌ {A = Result SourceParts Fault} (Ok made) (Ok s) = fourth.2 in
     let same : made ≡ s = cc in
-    rw (← same) (made_well_formed ls p ns p.clear (raised (unnumbered ns)) (tail_of p.tail) first.1 third.1 fourth.1 second.1 h refl refl refl)
+    record { parts = p; items = ns; cut = first.1; encoded = second.1; read = third.1; whole = fourth.1; same = same }
+
+lines_well_formed : (ls : List (List ℕ)) (s : SourceParts) → list_all is_line ls ≡ true → reads_lines ls ≡ Ok s → IsWellFormed s
+lines_well_formed ls s h e =
+    let t = taken_apart ls s e in
+    rw (← t.same) (made_well_formed ls t.parts t.items t.parts.clear (raised (unnumbered t.items)) (tail_of t.parts.tail) t.cut t.read t.whole t.encoded h refl refl refl)
 
 -- a source that was read is kept
 pub source_well_formed : (bytes : List ℕ) (s : SourceParts) → reads bytes ≡ Ok s → IsWellFormed s

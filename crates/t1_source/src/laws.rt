@@ -104,6 +104,13 @@ pub fn subrs_stand_first()
         → s.items ≡ a ++ Glyph g ws closing ∷ b → list_any is_subr_entry b ≡ false }
 {}
 
+/// A source is kept: it was read or edited.
+pub fn source_is_well_formed(source: &Source)
+    ensures { IsWellFormed source.now }
+{
+    let _items = source.kept_items();
+}
+
 /// The text of a source, whose counts have at most nine digits, is read as the source.
 pub fn text_of_source_read(source: &Source)
     ensures { list_all is_counted source.now.items ≡ true → reads (text source.now) ≡ Ok source.now }

@@ -1,12 +1,12 @@
 -- Bytes cut after some of their lines.
-use Rattle.std.proofs.Common.{◌≡◌, ℕ, zero, suc, Bool, true, false, not, ◌&&◌, ◌||◌, if◌then◌else◌, ◌+◌, ◌-◌, ◌==◌, ◌<◌, ◌≤◌, List, [], ◌∷◌, length, take, drop, refl, sym, ◌∙◌, ap, inl, inr, arith}
+use Rattle.std.proofs.Common.{◌≡◌, ℕ, zero, suc, Bool, true, false, ◌&&◌, ◌||◌, if◌then◌else◌, ◌+◌, ◌-◌, ◌==◌, ◌<◌, ◌≤◌, List, [], ◌∷◌, length, take, drop, refl, sym, ◌∙◌, ap, inl, inr, arith}
 use Rattle.std.specs.List.{onto_first}
-use Rattle.std.proofs.lemmas.Bool.{cases_Bool, not-true, not-false, eqb-true}
+use Rattle.std.proofs.lemmas.Bool.{cases_Bool, not-false}
 use Rattle.std.proofs.lemmas.List.{length-drop, length-take-le}
 use Rattle.std.proofs.lemmas.List.Sums.{prefix_len-le-length}
 use Rattle.std.proofs.Math.Numerals.{one-add}
-use Rattle.t1_text.specs.Lines.{begins_with, lines, is_line_end, after_end}
-use Rattle.t1_text.proofs.LineLaws.{line_len, stays, longer, cr_lf, cr_alone, lf_ends, not_ended, after_line, FirstLine, first_line_lem}
+use Rattle.t1_text.specs.Lines.{begins_with, lines, after_end}
+use Rattle.t1_text.proofs.LineLaws.{line_len, stays, longer, cr_lf, cr_alone, lf_ends, not_ended, after_line, first_line_lem}
 
 -- how many bytes a line end takes
 abbrev end_len : List ℕ → ℕ
@@ -21,7 +21,7 @@ taken_len bytes = line_len bytes + end_len (drop (line_len bytes) bytes)
 abbrev Cut : List ℕ → ℕ → Type 0
 Cut bytes j = lines (take (taken_len bytes + j) bytes) ≡ take (line_len bytes) bytes ∷ lines (take j (after_line bytes))
 
-front_begins : (n : ℕ) (l : List ℕ) → begins_with 10 l ≡ false → begins_with 10 (take n l) ≡ false
+pub front_begins : (n : ℕ) (l : List ℕ) → begins_with 10 l ≡ false → begins_with 10 (take n l) ≡ false
 front_begins zero l h = refl
 front_begins (suc n) [] h = refl
 front_begins (suc n) (c ∷ l) h = h

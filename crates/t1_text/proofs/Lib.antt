@@ -7,5 +7,4 @@ pub mod ScanLaws
 pub mod TextLaws
 pub mod TokenLaws
 pub mod TrimLaws
-pub mod WordLaws
 pub mod WholeLines

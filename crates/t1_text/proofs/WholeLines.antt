@@ -1,14 +1,13 @@
 -- The lines of bytes in two parts, of which the second doesn't begin with LF.
 use Rattle.std.proofs.Common.{◌≡◌, ℕ, Bool, true, false, zero, suc, if◌then◌else◌, ◌||◌, ◌+◌, ◌==◌, ◌<◌, List, [], ◌∷◌, ◌++◌, length, take, drop, slice_index, refl, sym, ◌∙◌, ap, inl, inr, arith, append_assoc}
 use Rattle.std.specs.List.{flat_map, list_all, onto_first}
-use Rattle.std.proofs.lemmas.Bool.{cases_Bool, and_parts, and_from, eqb-true, eq-eqb}
+use Rattle.std.proofs.lemmas.Bool.{cases_Bool, and_parts, and_from, eqb-true}
 use Rattle.std.proofs.lemmas.List.{append-nil}
 use Rattle.std.proofs.lemmas.List.Folds.{list_all-append}
-use Rattle.std.proofs.Math.Numerals.{one-add}
-use Rattle.t1_frac.specs.Words.{is_blank, words}
+use Rattle.t1_frac.specs.Words.{words}
 use Rattle.t1_frac.proofs.AppendLaws.{words_apart}
 use Rattle.t1_text.specs.Lines.{begins_with, lines, line_ends, is_line, is_line_end}
-use Rattle.t1_text.proofs.LineLaws.{line_len, stays, longer, cr_alone, lf_ends, not_ended, after_line, first_line_lem}
+use Rattle.t1_text.proofs.LineLaws.{line_len, stays, longer, not_ended, after_line, first_line_lem}
 use Rattle.t1_text.proofs.ScanLaws.{fails}
 use Rattle.memchr.specs.Find.{Nowhere, Passes}
 

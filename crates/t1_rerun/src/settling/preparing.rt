@@ -1,12 +1,11 @@
 //! The changes of records, each with the memory that it takes.
 ghost use Rattle.std.specs.Prelude.{◌≡◌, ◌&&◌, ℕ, Bool, false, List, Option, None, Some, IfOk, IfSome, true, is_some, length, not, if◌then◌else◌};
 ghost use Rattle.std.specs.Str.{bytes_eq};
-ghost use Rattle.t1_run.specs.Run.{Glyph};
+ghost use Rattle.t1_run.specs.Run.{Glyph, body_at};
 ghost use Rattle.t1_extent.specs.Kept.{TracedRun};
 ghost use Rattle.t1_afm.specs.declared.bbox.BBox.{BBox};
 ghost use Rattle.t1_cache.specs.declared.records.Named.TheVariants as named;
 ghost use Rattle.t1_cache.specs.Bodies.{record_bodies};
-ghost use Rattle.t1_cache.specs.Overlay.{body_at};
 ghost use Rattle.t1_cache.specs.Renewed.{reruns_by_name};
 ghost use Rattle.t1_cache.specs.Room.{count_at};
 ghost use Rattle.t1_cache.specs.Users.{wanted};
@@ -53,7 +52,7 @@ fn taken_run(runs: &mut NewRuns, name: &[u8]) -> Option<NewRun>
 fn keeps_place(records: &Records, name: &[u8], moved: bool) -> bool
     ensures { result ≡ (not moved && is_some (body_at (record_bodies records.now) (Glyph name.now))) }
 {
-    !moved && records.glyph(name).is_some()
+    !moved && records.has_glyph(name)
 }
 
 /// The step of a Subr that has this body in the edited font.
@@ -178,7 +177,7 @@ fn recorded_name_taken_out<'a>(records: &Records, step: &'a Step) -> Option<&'a 
     ensures { IfSome result (λ name. takes_out step.now name.now ≡ true) }
 {
     let name = name_taken_out(step)?;
-    if records.glyph(name).is_none() {
+    if !records.has_glyph(name) {
         return None;
     }
     Some(name)

@@ -12,6 +12,7 @@ use crate::edit::{Cause, Rule};
 use crate::editing::change::Change;
 use crate::editing::entries::{closing_at, closing_of};
 use crate::editing::rules::{body_words, good_body, good_name, keeps};
+use crate::editing::through;
 use crate::source::Source;
 use t1_frac::SourceText;
 use t1_parts::{Item, is_glyphs_line};
@@ -79,15 +80,11 @@ fn after_glyphs(items: &[Item]) -> Option<usize>
 }
 
 /// How many items stand through the last glyph, or the CharStrings line.
-#[tactic(auto, unfolding(crate::specs::Editing::through_last))]
 fn through_glyphs(items: &[Item]) -> usize
     ensures within { result ≤ length items.now }
     ensures value { result ≡ through_last among_glyphs_items items.now }
 {
-    match after_glyphs(items) {
-        Some(after) => items.len() - after,
-        None => 0,
-    }
+    through(items.len(), after_glyphs(items))
 }
 
 /// A glyph with another body.

@@ -9,7 +9,7 @@ mod rules;
 mod slots;
 mod subrs;
 
-ghost use Rattle.std.specs.Prelude.{◌≡◌, IfOk, IsOk, OnOk, OnErr, false};
+ghost use Rattle.std.specs.Prelude.{◌≡◌, ◌-◌, ◌<◌, ◌≤◌, IfOk, IfSome, IsOk, OnOk, OnErr, false, unwrap_or};
 ghost use Rattle.t1_source.specs.Changes.{changed, Fits, Serves, takes_room};
 ghost use Rattle.t1_source.specs.Editing.{Edits, edited};
 
@@ -24,6 +24,18 @@ pub use change::Change;
 pub use rules::body_words;
 use std::alloc::AllocError;
 use t1_pairs::Pairs;
+
+/// How many elements stand through one after which so many stand, or none where there is no such one.
+fn through(len: usize, after: Option<usize>) -> usize
+    requires { IfSome after (λ after. after < len) }
+    ensures within { result ≤ len }
+    ensures value { result ≡ len - unwrap_or after len }
+{
+    match after {
+        Some(after) => len - after,
+        None => 0,
+    }
+}
 
 impl<'a> Source<'a> {
     /// What an edit changes, or the first rule that it breaks.

@@ -9,6 +9,7 @@ ghost use Rattle.t1_pairs.specs.declared.pairs.Pair.{Pair};
 use crate::edit::{Cause, Rule};
 use crate::editing::change::Change;
 use crate::editing::rules::{good_name, keeps, number_up_to};
+use crate::editing::through;
 use crate::source::Source;
 use std::alloc::{AllocError, Global};
 use t1_frac::Bytes;
@@ -78,15 +79,11 @@ fn after_slots(lines: &[Bytes]) -> Option<usize>
 }
 
 /// How many lines stand through the last slot.
-#[tactic(auto, unfolding(crate::specs::Editing::through_last))]
 fn through_slots(lines: &[Bytes]) -> usize
     ensures within { result ≤ length lines.now }
     ensures value { result ≡ through_last is_slot lines.now }
 {
-    match after_slots(lines) {
-        Some(after) => lines.len() - after,
-        None => 0,
-    }
+    through(lines.len(), after_slots(lines))
 }
 
 /// How many lines stand after the last slot of the code.
@@ -101,15 +98,11 @@ fn after_slots_of(code: u16, lines: &[Bytes]) -> Option<usize>
 }
 
 /// How many lines stand through the last slot of the code.
-#[tactic(auto, unfolding(crate::specs::Editing::through_last))]
 fn through_slots_of(code: u16, lines: &[Bytes]) -> usize
     ensures within { result ≤ length lines.now }
     ensures value { result ≡ through_last (is_slot_of code) lines.now }
 {
-    match after_slots_of(code, lines) {
-        Some(after) => lines.len() - after,
-        None => 0,
-    }
+    through(lines.len(), after_slots_of(code, lines))
 }
 
 /// The line of a new slot.

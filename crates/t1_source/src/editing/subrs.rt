@@ -12,6 +12,7 @@ use crate::edit::{Cause, Rule};
 use crate::editing::change::Change;
 use crate::editing::entries::{closing_at, closing_of};
 use crate::editing::rules::{body_words, good_body, keeps, number_up_to};
+use crate::editing::through;
 use crate::source::Source;
 use t1_frac::SourceText;
 use t1_parts::{Item, is_subrs_line};
@@ -78,15 +79,11 @@ fn after_subrs(items: &[Item]) -> Option<usize>
 }
 
 /// How many items stand through the last Subr, or the Subrs line.
-#[tactic(auto, unfolding(crate::specs::Editing::through_last))]
 fn through_subrs(items: &[Item]) -> usize
     ensures within { result ≤ length items.now }
     ensures value { result ≡ through_last among_subrs_items items.now }
 {
-    match after_subrs(items) {
-        Some(after) => items.len() - after,
-        None => 0,
-    }
+    through(items.len(), after_subrs(items))
 }
 
 /// Whether one of the items is the Subrs line.

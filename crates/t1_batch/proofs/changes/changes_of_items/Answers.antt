@@ -1,7 +1,8 @@
 use Rattle.std.proofs.Common.{◌∙◌, ◌+◌, ap, sym, drop, arith}
 use Rattle.std.proofs.lemmas.List.{drop_all}
 use Rattle.t1_batch.specs.Passing.{behind_items, items_put, mark_at}
-use Rattle.t1_batch.proofs.Gathering.{behind-more, in_front, item-first, item-more}
+use Rattle.t1_font.proofs.Compiling.{item-first}
+use Rattle.t1_batch.proofs.Gathering.{behind-more, in_front, item-more}
 use Rattle.t1_batch.proofs.changes.changes_of_items.Goals as goal
 
 pub loop-item-preserved : goal.loop-item-preserved

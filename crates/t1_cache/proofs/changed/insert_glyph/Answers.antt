@@ -1,14 +1,13 @@
 use Rattle.std.proofs.Common.{◌≡◌, ◌∙◌, ℕ, List, Some, ap, cond, map, refl, subst, sym}
 use Rattle.std.specs.Str.{bytes_eq}
-use Rattle.t1_run.specs.Run.{Glyph}
+use Rattle.t1_run.specs.Run.{Glyph, body_at, key_eq}
 use Rattle.indexmap.proofs.CallerLemmas.{insert_entry-new}
 use Rattle.t1_cache.specs.declared.records.GlyphRecord.{GlyphRecord}
 use Rattle.t1_cache.specs.declared.records.Records.{Records}
 use Rattle.t1_cache.specs.Bodies.{glyph_body, record_bodies}
-use Rattle.t1_cache.specs.Overlay.{body_at}
 use Rattle.t1_cache.specs.Renewed.{kept_of}
-use Rattle.t1_cache.specs.Users.{among, glyph_users, key_eq, lists, users_at, users_of, HasRoom}
-use Rattle.t1_cache.proofs.Adding.{at-key}
+use Rattle.t1_cache.specs.Users.{among, glyph_users, lists, users_at, users_of, HasRoom}
+use Rattle.t1_font.proofs.Keys.{at-key}
 use Rattle.t1_cache.proofs.Changing.{kept-last, nothing-read, reads-inserted, room-inserted, users-inserted}
 use Rattle.t1_font.proofs.Lookups.{bytes_tell}
 use Rattle.t1_cache.proofs.changed.insert_glyph.Goals as goal

@@ -1,14 +1,13 @@
 use Rattle.std.proofs.Common.{◌≡◌, ◌∙◌, ap, cond, map, refl, sym}
 use Rattle.std.specs.Str.{bytes_eq}
-use Rattle.t1_run.specs.Run.{Glyph}
+use Rattle.t1_run.specs.Run.{Glyph, body_at, key_eq}
 use Rattle.t1_cache.specs.declared.records.GlyphRecord.{GlyphRecord}
 use Rattle.t1_cache.specs.declared.records.Records.{Records}
 use Rattle.t1_cache.specs.Bodies.{glyph_body, record_bodies}
-use Rattle.t1_cache.specs.Overlay.{body_at}
 use Rattle.t1_cache.specs.Renewed.{kept_of}
-use Rattle.t1_cache.specs.Users.{glyph_users, key_eq, users_at, users_of}
+use Rattle.t1_cache.specs.Users.{glyph_users, users_at, users_of}
 use Rattle.std.specs.Option.{option_map}
-use Rattle.t1_cache.proofs.Adding.{at-key}
+use Rattle.t1_font.proofs.Keys.{at-key}
 use Rattle.t1_cache.proofs.Changing.{put-there}
 use Rattle.t1_font.proofs.Lookups.{bytes_tell}
 use Rattle.t1_cache.proofs.Putting.{reads-put, reads-stay, rest-put}

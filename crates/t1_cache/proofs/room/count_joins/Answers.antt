@@ -1,7 +1,8 @@
 use Rattle.std.proofs.Common.{Vec, Global, ◌∙◌, ◌+◌, ap, arith, cond, sym}
 use Rattle.std.proofs.lemmas.List.{take_all}
 use Rattle.t1_cache.specs.declared.records.Named.{Named}
-use Rattle.t1_cache.specs.Users.{key_eq, key_of, wanted}
+use Rattle.t1_run.specs.Run.{key_eq}
+use Rattle.t1_cache.specs.Users.{key_of, wanted}
 use Rattle.t1_cache.proofs.Rooming.{wanted-more}
 use Rattle.t1_cache.proofs.room.count_joins.Goals as goal
 

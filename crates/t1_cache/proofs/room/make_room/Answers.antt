@@ -1,9 +1,9 @@
 use Rattle.std.proofs.Common.{Vec, Global, ℕ, ◌∙◌, ◌+◌, ap, arith, cond, subst, sym, take}
 use Rattle.std.proofs.lemmas.List.{take_all}
-use Rattle.t1_run.specs.Run.{Key}
+use Rattle.t1_run.specs.Run.{Key, key_eq}
 use Rattle.t1_cache.specs.declared.records.Named.{Named}
 use Rattle.t1_cache.specs.Room.{MayJoin}
-use Rattle.t1_cache.specs.Users.{key_eq, key_of, users_at, wanted}
+use Rattle.t1_cache.specs.Users.{key_of, users_at, wanted}
 use Rattle.t1_cache.proofs.Rooming.{room-more, roomier-twice, wanted-more}
 use Rattle.t1_cache.proofs.room.make_room.Goals as goal
 

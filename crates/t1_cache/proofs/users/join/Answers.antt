@@ -1,7 +1,8 @@
 use Rattle.std.proofs.Common.{ℕ, ◌+◌, cond}
 use Rattle.t1_cache.specs.declared.records.Records.{Records}
-use Rattle.t1_cache.specs.Users.{key_eq, key_of, users_at, HasRoom}
-use Rattle.t1_cache.proofs.Adding.{at-key}
+use Rattle.t1_run.specs.Run.{key_eq}
+use Rattle.t1_cache.specs.Users.{key_of, users_at, HasRoom}
+use Rattle.t1_font.proofs.Keys.{at-key}
 use Rattle.t1_cache.proofs.users.join.Goals as goal
 
 pub returns-in-Subr-clause-room : goal.returns-in-Subr-clause-room

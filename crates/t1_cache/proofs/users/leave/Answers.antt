@@ -1,7 +1,7 @@
 use Rattle.std.proofs.Common.{ℕ}
 use Rattle.t1_cache.specs.declared.records.Records.{Records}
 use Rattle.t1_cache.specs.Users.{users_at, HasRoom}
-use Rattle.t1_cache.proofs.Adding.{at-key}
+use Rattle.t1_font.proofs.Keys.{at-key}
 use Rattle.t1_cache.proofs.users.leave.Goals as goal
 
 pub returns-in-Subr-clause-room : goal.returns-in-Subr-clause-room

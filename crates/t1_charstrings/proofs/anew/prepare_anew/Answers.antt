@@ -2,7 +2,8 @@ use Rattle.std.proofs.Common.{◌∙◌, subst, sym}
 use Rattle.std.proofs.lemmas.Result.{err_from_is_err_and}
 use Rattle.t1_frac.specs.Outcome.{Refuses}
 use Rattle.t1_charstrings.specs.Made.{made_items, made_of}
-use Rattle.t1_charstrings.proofs.MadeItems.{check_made, counts_made, counts_refused, file_passed, kept_made, len_made, length_refused}
+use Rattle.t1_charstrings.proofs.Entered.{counts_refused, file_passed, length_refused}
+use Rattle.t1_charstrings.proofs.MadeItems.{check_made, counts_made, kept_made, len_made}
 use Rattle.t1_charstrings.proofs.Readying.{all_ready, bodies_refused}
 use Rattle.t1_charstrings.proofs.anew.prepare_anew.Goals as goal
 
@@ -24,7 +25,7 @@ returns-in_err-check_parts-clause-judged c =
     let kept = kept_made is m whole found.charstrings found.ensures.checked found.ensures.kept in
     let len = len_made is m whole found.charstrings need.result.subrs need.result.glyphs c.raised_len-len.result c.requires.well kept need.ensures.subrs need.ensures.glyphs c.raised_len-len.ensures in
     let p = err_from_is_err_and c.from_residual-in_err-check_parts.result c.from_residual-in_err-check_parts.ensures.1 in
-    rw (p.1, p.2) (length_refused m c.in_err-check_parts.field-0.0 (c.in_err-check_parts.ensures m (sym c.clear.ensures) (sym c.tail.ensures) len))
+    rw (p.1, p.2) (length_refused m c.in_err-check_parts.field-0.0 (sym (c.in_err-check_parts.ensures m (sym c.clear.ensures) (sym c.tail.ensures) len)))
 
 pub returns-in_err-check_raised-clause-judged : goal.returns-in_err-check_raised-clause-judged
 returns-in_err-check_raised-clause-judged c =
@@ -35,11 +36,10 @@ returns-in_err-check_raised-clause-judged c =
     let need = c.needed-needed in
     let kept = kept_made is m whole found.charstrings found.ensures.checked found.ensures.kept in
     let len = len_made is m whole found.charstrings need.result.subrs need.result.glyphs c.raised_len-len.result c.requires.well kept need.ensures.subrs need.ensures.glyphs c.raised_len-len.ensures in
-    let r = c.in_err-check_raised.field-0.0 in
     let p = err_from_is_err_and c.from_residual-in_err-check_raised.result c.from_residual-in_err-check_raised.ensures.1 in
     rw (p.1, p.2)
-    (counts_refused m r (c.in_ok-check_parts.ensures m (sym c.clear.ensures) (sym c.tail.ensures) len)
-    (subst (Refuses r) (sym (counts_made is m whole need.result.subrs need.result.glyphs need.ensures.subrs need.ensures.glyphs)) c.in_err-check_raised.ensures))
+    (counts_refused m c.in_err-check_raised.field-0.0 (sym (c.in_ok-check_parts.ensures m (sym c.clear.ensures) (sym c.tail.ensures) len))
+    (counts_made is m whole need.result.subrs need.result.glyphs need.ensures.subrs need.ensures.glyphs ∙ sym c.in_err-check_raised.ensures))
 
 pub returns-clause-judged : goal.returns-clause-judged
 returns-clause-judged c =
@@ -50,8 +50,8 @@ returns-clause-judged c =
     let need = c.needed-needed in
     let kept = kept_made is m whole found.charstrings found.ensures.checked found.ensures.kept in
     let len = len_made is m whole found.charstrings need.result.subrs need.result.glyphs c.raised_len-len.result c.requires.well kept need.ensures.subrs need.ensures.glyphs c.raised_len-len.ensures in
-    file_passed m (c.in_ok-check_parts.ensures m (sym c.clear.ensures) (sym c.tail.ensures) len)
-    (counts_made is m whole need.result.subrs need.result.glyphs need.ensures.subrs need.ensures.glyphs ∙ c.in_ok-check_raised.ensures)
+    file_passed m (sym (c.in_ok-check_parts.ensures m (sym c.clear.ensures) (sym c.tail.ensures) len))
+    (counts_made is m whole need.result.subrs need.result.glyphs need.ensures.subrs need.ensures.glyphs ∙ sym c.in_ok-check_raised.ensures)
 
 pub returns-clause-ready : goal.returns-clause-ready
 returns-clause-ready c = λ old.

@@ -1,10 +1,10 @@
 use Rattle.std.proofs.Common.{◌≡◌, ◌∙◌, ap, cond, refl, Some}
 use Rattle.std.specs.Str.{bytes_eq}
-use Rattle.t1_run.specs.Run.{Glyph}
+use Rattle.t1_run.specs.Run.{Glyph, key_eq}
 use Rattle.t1_charstrings.specs.declared.entries.Charstrings.{Charstrings}
-use Rattle.t1_charstrings.specs.Entries.{glyph_kept, key_eq}
+use Rattle.t1_charstrings.specs.Entries.{glyph_kept}
 use Rattle.t1_charstrings.specs.Kept.{kept_at}
-use Rattle.t1_charstrings.proofs.Gathered.{at-key}
+use Rattle.t1_font.proofs.Keys.{at-key}
 use Rattle.t1_font.proofs.Lookups.{bytes_tell, inserted-at}
 use Rattle.t1_charstrings.proofs.changed.insert_glyph.Goals as goal
 

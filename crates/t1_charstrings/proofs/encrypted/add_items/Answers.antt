@@ -2,12 +2,13 @@ use Rattle.std.proofs.Common.{◌≡◌, ◌∙◌, ◌+◌, ap, sym, drop, arit
 use Rattle.std.proofs.lemmas.List.{drop_all}
 use Rattle.std.specs.Option.{option_map, option_or}
 use Rattle.t1_frac.specs.Outcome.{◌>>=◌}
-use Rattle.t1_run.specs.Run.{Subr, Glyph}
+use Rattle.t1_run.specs.Run.{Subr, Glyph, body_at}
 use Rattle.t1_font.specs.Bodies.{bodies, bodies_check, subr_in, subr_among, glyph_in, glyph_among}
 use Rattle.t1_font.proofs.Compiling.{or-none, or-assoc, item-first}
-use Rattle.t1_charstrings.specs.Entries.{body_at, encrypted, glyph_kept, subr_kept}
+use Rattle.t1_charstrings.specs.Entries.{encrypted, glyph_kept, subr_kept}
 use Rattle.t1_charstrings.specs.Kept.{kept_at}
-use Rattle.t1_charstrings.proofs.Gathered.{at-key, or-map}
+use Rattle.t1_font.proofs.Keys.{at-key}
+use Rattle.t1_charstrings.proofs.Gathered.{or-map}
 use Rattle.t1_charstrings.proofs.encrypted.add_items.Goals as goal
 
 pub loop-item-preserved : goal.loop-item-preserved

@@ -1,7 +1,6 @@
-use Rattle.std.proofs.Common.{◌≡◌, ◌∷◌, ◌∙◌, ap, subst, sym}
+use Rattle.std.proofs.Common.{◌≡◌, ◌∷◌, ◌∙◌, ap, sym}
 use Rattle.std.proofs.lemmas.Result.{err_from_is_err_and}
 use Rattle.std.specs.List.{insert}
-use Rattle.t1_frac.specs.Outcome.{Refuses}
 use Rattle.t1_parts.specs.Counts.{glyphs_needed, subrs_needed}
 use Rattle.t1_source.specs.Editing.{with_items}
 use Rattle.t1_font.specs.Assembly.{counts_check}
@@ -28,7 +27,7 @@ returns-in_err-check_parts-clause-judged c =
     insert_known s kept c.args.at item need.well need.within edit.kept needed.subrs needed.glyphs subrs_are glyphs_are need.edits.keys c.args.entries.now.fresh edit
     (fresh_by need.edits front) need.entry c.args.private_len c.inserted_len-len.result need.len need.file c.inserted_len-len.ensures in
     let p = err_from_is_err_and c.from_residual.result c.from_residual.ensures.1 in
-    rw (p.1, p.2) (length_refused made c.in_err-check_parts.field-0.0 (c.in_err-check_parts.ensures made (sym c.clear.ensures) (sym c.tail.ensures) known))
+    rw (p.1, p.2) (length_refused made c.in_err-check_parts.field-0.0 (sym (c.in_err-check_parts.ensures made (sym c.clear.ensures) (sym c.tail.ensures) known)))
 
 pub returns-in_err-check_raised-clause-judged : goal.returns-in_err-check_raised-clause-judged
 returns-in_err-check_raised-clause-judged c =
@@ -48,9 +47,9 @@ returns-in_err-check_raised-clause-judged c =
     let counts : counts_check made.items ≡ raised_check needed.subrs needed.glyphs c.items-2.result.now =
     insert_counts s kept c.args.at item need.well need.within edit.kept needed.subrs needed.glyphs subrs_are glyphs_are need.entry edit.sound
     ∙ ap (raised_check needed.subrs needed.glyphs) (sym c.items-2.ensures) in
-    let short = c.in_ok-check_parts.ensures made (sym c.clear.ensures) (sym c.tail.ensures) known in
+    let short = sym (c.in_ok-check_parts.ensures made (sym c.clear.ensures) (sym c.tail.ensures) known) in
     let p = err_from_is_err_and c.from_residual-in_err-check_raised.result c.from_residual-in_err-check_raised.ensures.1 in
-    rw (p.1, p.2) (counts_refused made c.in_err-check_raised.field-0.0 short (subst (Refuses c.in_err-check_raised.field-0.0) (sym counts) c.in_err-check_raised.ensures))
+    rw (p.1, p.2) (counts_refused made c.in_err-check_raised.field-0.0 short (counts ∙ sym c.in_err-check_raised.ensures))
 
 pub returns-clause-judged : goal.returns-clause-judged
 returns-clause-judged c =
@@ -70,8 +69,8 @@ returns-clause-judged c =
     let counts : counts_check made.items ≡ raised_check needed.subrs needed.glyphs c.items-2.result.now =
     insert_counts s kept c.args.at item need.well need.within edit.kept needed.subrs needed.glyphs subrs_are glyphs_are need.entry edit.sound
     ∙ ap (raised_check needed.subrs needed.glyphs) (sym c.items-2.ensures) in
-    let short = c.in_ok-check_parts.ensures made (sym c.clear.ensures) (sym c.tail.ensures) known in
-    file_passed made short (counts ∙ c.in_ok-check_raised.ensures)
+    let short = sym (c.in_ok-check_parts.ensures made (sym c.clear.ensures) (sym c.tail.ensures) known) in
+    file_passed made short (counts ∙ sym c.in_ok-check_raised.ensures)
 
 pub returns-clause-len : goal.returns-clause-len
 returns-clause-len c =

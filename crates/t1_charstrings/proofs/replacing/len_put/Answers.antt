@@ -20,7 +20,7 @@ returns-in_err-check_parts-clause-judged c =
     put_known s kept c.args.at item need.well need.within edit.kept need.place need.edits.keys c.args.entries.now.fresh edit (fresh_by need.edits front) need.entry
     c.args.private_len c.replaced_len-len.result need.len need.file c.replaced_len-len.ensures in
     let p = err_from_is_err_and c.from_residual.result c.from_residual.ensures.1 in
-    rw (p.1, p.2) (length_refused made c.in_err-check_parts.field-0.0 (c.in_err-check_parts.ensures made (sym c.clear.ensures) (sym c.tail.ensures) known))
+    rw (p.1, p.2) (length_refused made c.in_err-check_parts.field-0.0 (sym (c.in_err-check_parts.ensures made (sym c.clear.ensures) (sym c.tail.ensures) known)))
 
 pub returns-clause-judged : goal.returns-clause-judged
 returns-clause-judged c =
@@ -34,7 +34,7 @@ returns-clause-judged c =
     let known : IsPrivateLen made c.replaced_len-len.result =
     put_known s kept c.args.at item need.well need.within edit.kept need.place need.edits.keys c.args.entries.now.fresh edit (fresh_by need.edits front) need.entry
     c.args.private_len c.replaced_len-len.result need.len need.file c.replaced_len-len.ensures in
-    file_ok made (c.in_ok-check_parts.ensures made (sym c.clear.ensures) (sym c.tail.ensures) known)
+    file_ok made (sym (c.in_ok-check_parts.ensures made (sym c.clear.ensures) (sym c.tail.ensures) known))
     (put_counted s kept c.args.at item need.well need.within edit.kept need.place need.entry edit.sound need.file)
 
 pub returns-clause-len : goal.returns-clause-len

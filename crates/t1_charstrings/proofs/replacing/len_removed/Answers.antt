@@ -18,7 +18,7 @@ returns-in_err-check_parts-clause-judged c =
     let known : IsPrivateLen made c.saturating_sub-len.result =
     left_known s kept c.args.at need.well need.within edit.kept need.entry edit.well c.args.private_len c.saturating_sub-len.result need.len need.file len_is in
     let p = err_from_is_err_and c.from_residual.result c.from_residual.ensures.1 in
-    rw (p.1, p.2) (length_refused made c.in_err-check_parts.field-0.0 (c.in_err-check_parts.ensures made (sym c.clear.ensures) (sym c.tail.ensures) known))
+    rw (p.1, p.2) (length_refused made c.in_err-check_parts.field-0.0 (sym (c.in_err-check_parts.ensures made (sym c.clear.ensures) (sym c.tail.ensures) known)))
 
 pub returns-clause-judged : goal.returns-clause-judged
 returns-clause-judged c =
@@ -30,7 +30,7 @@ returns-clause-judged c =
     let len_is : c.saturating_sub-len.result ≡ c.args.private_len - old_len kept s c.args.at = omega (arith, c.saturating_sub-len.ensures, c.old_len.ensures) in
     let known : IsPrivateLen made c.saturating_sub-len.result =
     left_known s kept c.args.at need.well need.within edit.kept need.entry edit.well c.args.private_len c.saturating_sub-len.result need.len need.file len_is in
-    file_ok made (c.in_ok-check_parts.ensures made (sym c.clear.ensures) (sym c.tail.ensures) known)
+    file_ok made (sym (c.in_ok-check_parts.ensures made (sym c.clear.ensures) (sym c.tail.ensures) known))
     (left_counted s kept c.args.at need.well need.within edit.kept need.entry need.file)
 
 pub returns-clause-len : goal.returns-clause-len

@@ -1,5 +1,8 @@
-use Rattle.std.proofs.Common.{◌∙◌}
-use Rattle.t1_code.proofs.Scanning.{number_line, past_named, first_unknown, words_trimmed}
+use Rattle.std.proofs.Common.{◌≡◌, [], sym, subst}
+use Rattle.std.specs.Option.{MatchOption}
+use Rattle.t1_frac.specs.Words.{words}
+use Rattle.t1_code.specs.Words.{command_then, commands_of_words}
+use Rattle.t1_code.proofs.Scanning.{number_line, trimmed_once, words_trimmed}
 use Rattle.t1_code.proofs.words.next_command.Goals as goal
 
 pub returns-in-Some-clause-value : goal.returns-in-Some-clause-value
@@ -7,23 +10,10 @@ returns-in-Some-clause-value c =
     number_line c.args.line.now c.skip_blanks-rest.result.now c.in-Some.after.now c.in-Some.number c.skip_blanks-rest.ensures
     c.in-Some.ensures.value.0 c.in-Some.ensures.value.1
 
-pub returns-in-Some-first-clause-value : goal.returns-in-Some-first-clause-value
-returns-in-Some-first-clause-value c =
-    let found = past_named c.args.line.now c.skip_blanks-rest.result.now c.in-Some-first.after.now c.in-Some-first.command c.skip_blanks-rest.ensures
-    c.in_default.ensures.value c.in-Some-first.ensures.0 c.in-Some-first.ensures.1 in
-    found.0
-
-pub returns-in-Some-first-clause-shorter : goal.returns-in-Some-first-clause-shorter
-returns-in-Some-first-clause-shorter c =
-    let found = past_named c.args.line.now c.skip_blanks-rest.result.now c.in-Some-first.after.now c.in-Some-first.command c.skip_blanks-rest.ensures
-    c.in_default.ensures.value c.in-Some-first.ensures.0 c.in-Some-first.ensures.1 in
-    found.1
+pub other_command-requires-clause-trimmed : goal.other_command-requires-clause-trimmed
+other_command-requires-clause-trimmed c = trimmed_once c.args.line.now c.skip_blanks-rest.result.now c.skip_blanks-rest.ensures
 
 pub returns-clause-value : goal.returns-clause-value
 returns-clause-value c =
-    first_unknown c.args.line.now c.skip_blanks-rest.result.now c.in-Some-next_word._word.now c.in-Some-next_word.after.now
-    c.skip_blanks-rest.ensures c.in_default.ensures.value c.in_default-first.ensures c.in-Some-next_word.ensures.value
-
-pub returns-in_default-next_word-clause-value : goal.returns-in_default-next_word-clause-value
-returns-in_default-next_word-clause-value c =
-    words_trimmed c.args.line.now c.skip_blanks-rest.result.now c.skip_blanks-rest.ensures ∙ c.in_default-next_word.ensures.value
+    subst (λ ws. MatchOption c.other_command.result (ws ≡ []) (λ found. commands_of_words ws ≡ command_then found.0 (commands_of_words (words found.1.now))))
+    (sym (words_trimmed c.args.line.now c.skip_blanks-rest.result.now c.skip_blanks-rest.ensures)) c.other_command.ensures.value

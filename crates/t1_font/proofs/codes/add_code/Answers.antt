@@ -1,5 +1,4 @@
-use Rattle.std.proofs.Common.{◌∙◌, ap, sym, cond, None, Some}
-use Rattle.std.specs.Option.{option_or}
+use Rattle.std.proofs.Common.{◌∙◌, ap, sym}
 use Rattle.std.specs.Str.{bytes_eq}
 use Rattle.indexmap.proofs.CallerLemmas.{insert_entry-new}
 use Rattle.t1_font.specs.Names.{code_kept}
@@ -9,9 +8,6 @@ use Rattle.t1_font.proofs.codes.add_code.Goals as goal
 pub returns : goal.returns
 returns c = λ g.
     let old = c.args.codes.now in
-    let name = c.args.name.now in
-    let key = c.in_ok-from_slice.field-0 in
-    let absent = none-there (code_kept old.entries name) (sym c.contains_key.ensures ∙ c.if-contains_key.false) in
-    ap (λ es. code_kept es g) (c.in_ok-insert.ensures.entries ∙ insert_entry-new (λ x y. bytes_eq x.items y.items) old key c.args.code (rw c.in_ok-from_slice.ensures.items absent))
-    ∙ lookup-last (λ k. bytes_eq g k.items) old.entries key c.args.code
-    ∙ ap (λ bytes. option_or (code_kept old.entries g) (cond (bytes_eq g bytes) (Some c.args.code) None)) c.in_ok-from_slice.ensures.items
+    let absent = none-there (code_kept old.entries c.args.name.now) (sym c.contains_key.ensures ∙ c.if-contains_key.false) in
+    ap (λ es. code_kept es g) (c.in_ok-insert.ensures.entries ∙ insert_entry-new (λ x y. bytes_eq x.now y.now) old c.args.name c.args.code absent)
+    ∙ lookup-last (λ k. bytes_eq g k.now) old.entries c.args.name c.args.code

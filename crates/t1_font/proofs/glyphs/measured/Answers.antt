@@ -24,7 +24,7 @@ returns-in_err-metrics-clause-told c =
     let names_again = ap (map (λ name. name.now)) c.deref-2.ensures.value ∙ c.in_ok-names.ensures in
     let kept = keeps-own m items runs c.requires.bodies (λ g. c.in_ok-runs.ensures.kept g ∙ ap (λ l. own_among m l g) names) in
     let p = err_from_is_err_and c.from_residual-in_err-metrics.result c.from_residual-in_err-metrics.ensures.1 in
-    rw (p.1, p.2) (all-refused items runs refused kept (subst (λ l. Refuses refused (glyph_metrics_among (kept_of runs) l)) names_again c.in_err-metrics.ensures))
+    rw (p.1, p.2) (all-refused items (kept_of runs) refused kept (subst (λ l. Refuses refused (glyph_metrics_among (kept_of runs) l)) names_again c.in_err-metrics.ensures))
 
 pub returns-clause-told : goal.returns-clause-told
 returns-clause-told c =
@@ -34,6 +34,6 @@ returns-clause-told c =
     let names = ap (map (λ name. name.now)) c.deref.ensures.value ∙ c.in_ok-names.ensures in
     let names_again = ap (map (λ name. name.now)) c.deref-2.ensures.value ∙ c.in_ok-names.ensures in
     let kept = keeps-own m items runs c.requires.bodies (λ g. c.in_ok-runs.ensures.kept g ∙ ap (λ l. own_among m l g) names) in
-    all-told items runs c.in_ok-metrics.metrics.items (united (map (λ s. s.bbox) c.in_ok-metrics.metrics.items)) kept
+    all-told items (kept_of runs) c.in_ok-metrics.metrics.items (united (map (λ s. s.bbox) c.in_ok-metrics.metrics.items)) kept
     (sym (ap (glyph_metrics_among (kept_of runs)) names_again) ∙ c.in_ok-metrics.ensures) refl
     ∙ ap Ok (sym c.of.ensures)

@@ -4,8 +4,9 @@ use Rattle.std.specs.List.{list_any}
 use Rattle.std.specs.Str.{bytes_eq}
 use Rattle.t1_run.specs.Run.{font, own}
 use Rattle.t1_font.specs.Runs.{kept_of, run_kept, AreTraced, IsAfter}
-use Rattle.t1_font.proofs.Keeping.{RunsInFront, one-more, one-traced, one-after, after-earlier, counts-one-more, name-first, on-err}
+use Rattle.t1_font.proofs.Keeping.{RunsInFront, one-more, one-traced, one-after, after-earlier, counts-one-more, name-first}
 use Rattle.t1_font.proofs.runs.runs_of.Goals as goal
+use Rattle.t1_frac.proofs.OutcomeLaws.{on_err}
 
 pub loop-name-init : goal.loop-name-init
 loop-name-init g c =
@@ -38,10 +39,10 @@ loop-name-preserved g c =
 
 pub returns-in_err-kept-clause-want : goal.returns-in_err-kept-clause-want
 returns-in_err-kept-clause-want g c =
-    on-err c.from_residual.result (counts-one-more (length c.args.names.now) c.args.meter.now c.loop-name.name-index c.loop-name.meter c.kept_run.new.meter
+    on_err c.from_residual.result (counts-one-more (length c.args.names.now) c.args.meter.now c.loop-name.name-index c.loop-name.meter c.kept_run.new.meter
     (omega arith) c.loop-name.invariant.counted c.kept_run.ensures.counted)
 
 pub returns-in_err-keep-clause-want : goal.returns-in_err-keep-clause-want
 returns-in_err-keep-clause-want g c =
-    on-err c.from_residual-in_err-keep.result (counts-one-more (length c.args.names.now) c.args.meter.now c.loop-name.name-index c.loop-name.meter c.kept_run.new.meter
+    on_err c.from_residual-in_err-keep.result (counts-one-more (length c.args.names.now) c.args.meter.now c.loop-name.name-index c.loop-name.meter c.kept_run.new.meter
     (omega arith) c.loop-name.invariant.counted c.kept_run.ensures.counted)

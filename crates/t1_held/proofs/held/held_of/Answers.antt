@@ -2,7 +2,8 @@ use Rattle.std.proofs.Common.{refl}
 use Rattle.std.proofs.lemmas.Result.{err_from_is_err_and}
 use Rattle.t1_rerun.specs.Opened.{opening_runs}
 use Rattle.t1_rerun.proofs.Judged.{file-refused}
-use Rattle.t1_held.proofs.HeldLaws.{bodies_refused, checked_well, counts_all}
+use Rattle.t1_charstrings.proofs.Readying.{bodies_refused}
+use Rattle.t1_held.proofs.HeldLaws.{checked_well, counts_all}
 use Rattle.t1_held.proofs.held.held_of.Goals as goal
 
 pub returns-in_err-charstrings-clause-checked : goal.returns-in_err-charstrings-clause-checked

@@ -1,6 +1,4 @@
-use Rattle.std.proofs.Common.{◌≡◌, ◌∷◌, drop, take, sym, ◌∙◌, ap}
-use Rattle.std.specs.List.{prefix_len}
-use Rattle.t1_text.specs.Delimiters.{is_safe}
+use Rattle.std.proofs.Common.{drop, take, ◌∙◌, ap}
 use Rattle.t1_parts.proofs.PieceLaws.{commented_piece, closed_piece, opened_piece, ended_piece}
 use Rattle.t1_parts.proofs.piece.piece_of.Goals as goal
 

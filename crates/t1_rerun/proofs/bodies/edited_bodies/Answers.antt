@@ -2,11 +2,10 @@ use Rattle.std.proofs.Common.{◌≡◌, ◌∙◌, ◌+◌, [], ◌∷◌, ap, 
 use Rattle.std.proofs.lemmas.List.{drop_all}
 use Rattle.std.specs.Option.{option_or}
 use Rattle.t1_run.specs.Overlay.{changed}
-use Rattle.t1_run.specs.Run.{Subr, Glyph}
+use Rattle.t1_run.specs.Run.{Subr, Glyph, body_at}
 use Rattle.t1_font.proofs.Compiling.{or-assoc, or-none}
 use Rattle.t1_cache.specs.Bodies.{glyph_body, record_bodies, subr_body}
-use Rattle.t1_cache.specs.Overlay.{body_at}
-use Rattle.t1_cache.proofs.Adding.{at-key}
+use Rattle.t1_font.proofs.Keys.{at-key}
 use Rattle.t1_rerun.specs.declared.bodies.EditedBodies.{EditedBodies}
 use Rattle.t1_rerun.specs.Changing.{body_changed, edited_font, glyph_set, subr_set}
 use Rattle.t1_rerun.proofs.ChangedBodies.{change-first, changed-first}

@@ -7,7 +7,7 @@ use Rattle.t1_font.specs.MeasuredGlyphs.{glyph_metrics_among}
 use Rattle.t1_cache.specs.Renewed.{recorded_run}
 use Rattle.t1_cache.specs.Users.{has}
 use Rattle.t1_rerun.specs.Newest.{judged_in}
-use Rattle.t1_rerun.proofs.Meeting.{same-function}
+use Rattle.t1_font.proofs.Measuring.{same-function}
 use Rattle.t1_rerun.proofs.judging.judged.Goals as goal
 
 pub returns-in_err-metrics-clause-told : goal.returns-in_err-metrics-clause-told

@@ -6,7 +6,8 @@ use Rattle.t1_cache.specs.Room.{MayJoin}
 use Rattle.t1_cache.specs.Users.{users_at, wanted}
 use Rattle.t1_cache.proofs.Changing.{rest_same}
 use Rattle.t1_rerun.specs.Opened.{IsRecorded}
-use Rattle.t1_rerun.proofs.Building.{room-there, same-twice, tables-built}
+use Rattle.t1_rerun.proofs.Steps.{same-twice}
+use Rattle.t1_rerun.proofs.Building.{room-there, tables-built}
 use Rattle.t1_rerun.proofs.opening.records_of.Goals as goal
 
 pub move_users-requires : goal.move_users-requires

@@ -56,7 +56,7 @@ words-preserved-in-Call g c =
     let h = at_rest c.words.invariant c.in-Some.ensures.cases.0 in
     let e = c.in_ok-step.ensures.told ∙ ap (λ x. told x (state_of c.step.new.self)) c.in-Call.is in
     let fits : length c.words.returns < 10 = search rules in
-    rw (c.push.ensures, c.in_ok-enter-in-Call.ensures.entered, c.commands-rest.ensures)
+    rw (c.push.ensures, c.in_ok-enter-in-Call.ensures.entered)
     (Continues-call h e (sym c.subr.ensures ∙ ap option_copied c.in_ok-called-in-Call.ensures.ok_part) fits)
 
 pub words-preserved : goal.words-preserved

@@ -1,12 +1,10 @@
-use Rattle.std.proofs.Common.{ap, sym, ◌∙◌}
 use Rattle.std.proofs.lemmas.Result.{err_from_is_err_and}
-use Rattle.t1_font.specs.MeasuredGlyphs.{measured}
 use Rattle.t1_session.proofs.Delivering.{delivers_failure, metrics_parts}
 use Rattle.t1_session.proofs.measuring.measure_source.Goals as goal
 
 pub returns-in_err-write_source_afm : goal.returns-in_err-write_source_afm
 returns-in_err-write_source_afm g c =
     let same = metrics_parts c.args.source.now c.args.pairs.now c.in_ok-source.source c.in_ok-pairs.pairs c.in_ok-glyphs.glyphs
-    c.in_ok-source.ensures c.in_ok-pairs.ensures c.in_ok-bodies.ensures.file (ap measured (sym c.items.ensures) ∙ c.in_ok-glyphs.ensures.told) in
+    c.in_ok-source.ensures c.in_ok-pairs.ensures c.in_ok-glyphs.ensures in
     let p = err_from_is_err_and c.from_residual-in_err-write_source_afm.result c.from_residual-in_err-write_source_afm.ensures.1 in
     rw (p.1, p.2) (delivers_failure g.W.Write.contents c.args.out.now c.write_source_afm.new.out _ _ same c.in_err-write_source_afm.field-0.0 c.in_err-write_source_afm.ensures)

@@ -2,7 +2,8 @@ use Rattle.std.proofs.Common.{◌∙◌, arith, length}
 use Rattle.std.specs.Prelude.{nat_eq}
 use Rattle.t1_run.specs.Run.{Subr}
 use Rattle.t1_charstrings.specs.Entries.{subr_kept}
-use Rattle.t1_charstrings.proofs.Batches.{all-put, none-found, on-ok, put-last}
+use Rattle.t1_font.proofs.Lookups.{none-found}
+use Rattle.t1_charstrings.proofs.Batches.{all-put, on-ok, put-last}
 use Rattle.t1_charstrings.proofs.batch.settling.put_subrs.Goals as goal
 
 pub loop-number-preserved : goal.loop-number-preserved

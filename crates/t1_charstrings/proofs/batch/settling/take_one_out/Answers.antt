@@ -1,10 +1,9 @@
 use Rattle.std.proofs.Common.{◌≡◌, cond, refl, None}
-use Rattle.t1_run.specs.Run.{Glyph}
+use Rattle.t1_run.specs.Run.{Glyph, key_eq}
 use Rattle.t1_charstrings.specs.declared.entries.Charstrings.{Charstrings}
-use Rattle.t1_charstrings.specs.Entries.{key_eq}
 use Rattle.t1_charstrings.specs.Kept.{kept_at}
 use Rattle.t1_charstrings.proofs.Batches.{taken-at}
-use Rattle.t1_charstrings.proofs.Gathered.{at-key}
+use Rattle.t1_font.proofs.Keys.{at-key}
 use Rattle.t1_charstrings.proofs.batch.settling.take_one_out.Goals as goal
 
 pub returns-in-Glyph-clause-sets : goal.returns-in-Glyph-clause-sets

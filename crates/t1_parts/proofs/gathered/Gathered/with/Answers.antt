@@ -1,5 +1,5 @@
 use Rattle.std.proofs.Common.{option_map, ◌∙◌, ap, sym}
-use Rattle.t1_parts.specs.Entries.{is_subr, is_glyph}
+use Rattle.t1_parts.specs.Entries.{is_subr}
 use Rattle.t1_parts.specs.Sections.{is_subrs_line, is_glyphs_line}
 use Rattle.t1_parts.proofs.KeyLaws.{or_more, more_numbers, more_names, same_numbers, same_names, unnamed_item}
 use Rattle.t1_parts.proofs.gathered.Gathered.with.Goals.{in-Subr+in_ok-insert-in-Subr, in-Glyph, in-Plain, in-Section, in-Some+in_ok-insert, in_default}

@@ -3,7 +3,6 @@ use Rattle.std.proofs.lemmas.Result.{err_from_is_err_and}
 use Rattle.t1_font.specs.Runs.{counted, Counts}
 use Rattle.t1_font.specs.SourceChecks.{source_check}
 use Rattle.t1_cache.specs.Renewed.{kept_of}
-use Rattle.t1_rerun.specs.Renewing.{renewing_runs}
 use Rattle.t1_held.specs.declared.held.ReadyHeld.{ReadyHeld}
 use Rattle.t1_source.specs.declared.edit.Cause.{Cause}
 use Rattle.t1_source.specs.Changes.{changed, Serves}
@@ -12,7 +11,7 @@ use Rattle.t1_cache.specs.Kept.{KeepsAll}
 use Rattle.t1_session.specs.Machine.{judged}
 use Rattle.t1_session.specs.Outcomes.{Took}
 use Rattle.t1_session.specs.State.{SessionView, State}
-use Rattle.t1_session.proofs.RerunLaws.{edit_prepared, edit_spends, edit_unmade}
+use Rattle.t1_session.proofs.RerunLaws.{edit_prepared, edit_spends, edit_unmade, renewing_runs}
 use Rattle.t1_session.proofs.StateLaws.{refused_takes}
 use Rattle.t1_session.proofs.session.Session.make.Goals as goal
 

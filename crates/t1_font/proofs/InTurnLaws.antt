@@ -1,0 +1,183 @@
+-- What is told of a glyph at its turn.
+use Rattle.std.proofs.Common.{append-nil, ◌≡◌, ◌∙◌, ◌+◌, ◌<◌, length, get_or, take, drop, ℕ, Bool, true, false, cond, List, [], ◌∷◌, ◌++◌, Option, Some, None, is_some, refl, sym, ap, subst, inl, inr}
+use Rattle.std.specs.Prelude.{Result, Ok, Err, ◌||◌, ◌&&◌}
+use Rattle.std.specs.List.{list_any}
+use Rattle.std.specs.Option.{option_or}
+use Rattle.std.specs.Str.{bytes_eq}
+use Rattle.std.proofs.lemmas.Bool.{cases_Bool}
+use Rattle.std.proofs.lemmas.List.Folds.{list_any-append}
+use Rattle.std.proofs.lemmas.List.{take_more, take-append-drop}
+use Rattle.std.proofs.lemmas.Grind.{flat_map-append}
+use Rattle.t1_frac.specs.declared.fault.Code.{Code}
+use Rattle.t1_frac.specs.declared.fault.Fault.{Fault}
+use Rattle.t1_frac.specs.declared.fault.Refusal.{Refusal}
+use Rattle.t1_frac.specs.declared.fault.Refusal.TheVariants as refusals
+use Rattle.t1_frac.specs.declared.fault.Place.TheVariants as places
+use Rattle.t1_frac.specs.Outcome.{◌>>=◌, told_at, Refuses}
+use Rattle.t1_code.specs.Encoding.{is_standard_name}
+use Rattle.t1_run.specs.declared.outline.Composite.{Composite}
+use Rattle.t1_run.specs.Run.{Drawing, font, own}
+use Rattle.t1_afm.specs.Box.{drawn_box}
+use Rattle.t1_font.specs.declared.glyph_metrics.GlyphMetrics.{GlyphMetrics}
+use Rattle.t1_parts.specs.declared.item.Item.{Item}
+use Rattle.t1_parts.specs.declared.item.Item.TheVariants.{Plain, Section, Subr, Glyph}
+use Rattle.t1_source.specs.Editing.{is_subr_entry}
+use Rattle.t1_code.specs.declared.command.Command.{Command}
+use Rattle.t1_code.specs.Words.{commands}
+use Rattle.t1_font.specs.declared.in_turn.Row.{Row}
+use Rattle.t1_font.specs.Bodies.{subr_among}
+use Rattle.t1_font.specs.Glyphs.{glyph_names, name_in}
+use Rattle.t1_font.specs.InTurn.{stays, staying, AreRows, IsRow, RunsAs}
+use Rattle.t1_font.specs.ToRun.{commands_or_none, font_to_run, glyph_to_run, SubrsStandFirst}
+use Rattle.t1_font.specs.MeasuredGlyphs.{glyph_metrics_among, glyph_metrics_at, glyph_metrics_by}
+use Rattle.t1_font.proofs.Compiling.{item-first, same-maps}
+use Rattle.t1_font.proofs.Gathering.{behind, one-told, one-refused}
+use Rattle.t1_run.proofs.Asked.{bytes_same}
+use Rattle.t1_font.proofs.Measuring.{own-same}
+use Rattle.std.proofs.Math.Bool.{or-false}
+
+-- of a run that has a fault, the fault
+pub faulty-metrics : (run : List ℕ → Option (Result Drawing Code)) (name : List ℕ) (code : Code) → run name ≡ Some (Err code) → glyph_metrics_at run name ≡ Err code
+unfolding glyph_metrics_at
+faulty-metrics run name code h = rw h refl
+
+-- of one without parts, its own metrics
+pub plain-metrics : (run : List ℕ → Option (Result Drawing Code)) (name : List ℕ) (d : Drawing) (glyph : GlyphMetrics) → run name ≡ Some (Ok d) → d.composite ≡ None
+    → glyph_metrics_by name d (drawn_box d.segments) ≡ Ok glyph → glyph_metrics_at run name ≡ Ok glyph
+unfolding glyph_metrics_at
+plain-metrics run name d glyph h none by = let e = rw none at by in rw (h, none) e
+
+-- a run that doesn't stay has no parts
+pub not-composite : (name : List ℕ) (d : Drawing) → stays name (Some (Ok d)) ≡ false → d.composite ≡ None
+not-composite name d h = by (is_standard_name name) d.composite h where
+  by : (b : Bool) (c : Option Composite) → (b || is_some c) ≡ false → c ≡ None
+  by b None e = refl
+  by true (Some c) e = absurd (cc)
+  by false (Some c) e = absurd (cc)
+
+-- ---- one glyph more
+
+pub rows-more : (run : List ℕ → Option (Result Drawing Code)) (gs : List (List ℕ)) (name : List ℕ) (rows : List Row) (row : Row)
+    → AreRows run gs rows → IsRow run name row → AreRows run (gs ++ name ∷ []) (rows ++ row ∷ [])
+rows-more run [] name [] row are is = (is, tt)
+rows-more run [] name (other ∷ rows) row are is = absurd are
+rows-more run (g ∷ gs) name [] row are is = absurd are
+rows-more run (g ∷ gs) name (other ∷ rows) row are is = (are.0, rows-more run gs name rows row are.1 is)
+
+-- what stays among some names with one more
+pub runs-more : (run : List ℕ → Option (Result Drawing Code)) (gs : List (List ℕ)) (name g : List ℕ) (old new : Option (Result Drawing Code))
+    → old ≡ staying run gs g → new ≡ cond (bytes_eq g name && stays name (run name)) (run name) old → new ≡ staying run (gs ++ name ∷ []) g
+runs-more run gs name g old new before after =
+    elim (cases_Bool (bytes_eq g name)) [
+      | inl same ↦
+          let is = bytes_same g name same in
+          after ∙ here (bytes_eq g name) (stays name (run name)) (list_any (bytes_eq g) gs) (run name) old same (before ∙ ap (λ x. cond (list_any (bytes_eq g) gs && stays x (run x)) (run x) None) is)
+          ∙ sym (ap (λ b. cond (b && stays g (run g)) (run g) None) (list_any-append (bytes_eq g) gs (name ∷ [])) ∙ ap (λ x. cond ((list_any (bytes_eq g) gs || (bytes_eq g name || false)) && stays x (run x)) (run x) None) is)
+      | inr other ↦
+          after ∙ ap (λ b. cond (b && stays name (run name)) (run name) old) other ∙ before
+          ∙ sym (ap (λ b. cond (b && stays g (run g)) (run g) None) (list_any-append (bytes_eq g) gs (name ∷ []) ∙ ap (λ b. list_any (bytes_eq g) gs || (b || false)) other ∙ or-false (list_any (bytes_eq g) gs)))
+    ]
+  where
+    here : {X : Type 0} (same stay any : Bool) (x old : Option X) → same ≡ true → old ≡ cond (any && stay) x None → cond (same && stay) x old ≡ cond ((any || (same || false)) && stay) x None
+    here true true true x old e h = refl
+    here true true false x old e h = refl
+    here true false true x old e h = h
+    here true false false x old e h = h
+    here false stay any x old e h = absurd (cc)
+
+-- a name among those of an item and of the items after it
+pub name-taken : (g : List ℕ) (b : Bool) (item : Item) (rest : List Item)
+    → ((b || list_any (bytes_eq g) (name_in item)) || list_any (bytes_eq g) (glyph_names rest)) ≡ (b || list_any (bytes_eq g) (glyph_names (item ∷ rest)))
+name-taken g true item rest = refl
+name-taken g false item rest = sym (list_any-append (bytes_eq g) (name_in item) (glyph_names rest))
+
+-- ---- the items so far, with one more
+
+pub names-next : (items : List Item) (i : ℕ) (item : Item) → i < length items → item ≡ get_or items i item
+    → glyph_names (take (i + 1) items) ≡ glyph_names (take i items) ++ name_in item
+names-next items i item inside is =
+    ap glyph_names (take_more items i item inside ∙ ap (λ x. take i items ++ x ∷ []) (sym is))
+    ∙ flat_map-append name_in (take i items) (item ∷ [])
+    ∙ ap (λ l. glyph_names (take i items) ++ l) (append-nil (name_in item))
+
+-- each glyph has something to be run
+pub names-known : (items : List Item) (g : List ℕ) → list_any (bytes_eq g) (glyph_names items) ≡ is_some (glyph_to_run items g)
+names-known [] g = refl
+names-known (Plain line ∷ items) g = names-known items g
+names-known (Section before count after ∷ items) g = names-known items g
+names-known (Subr number words closing ∷ items) g = names-known items g
+names-known (Glyph name words closing ∷ items) g =
+    ap (λ b. bytes_eq g name || b) (names-known items g) ∙ either (bytes_eq g name) (commands_or_none (commands words)) (glyph_to_run items g)
+  where
+    either : {X : Type 0} (b : Bool) (x : X) (r : Option X) → (b || is_some r) ≡ is_some (cond b (Some x) r)
+    either true x r = refl
+    either false x r = refl
+
+no-subr : (items : List Item) (n : ℕ) → list_any is_subr_entry items ≡ false → subr_among items n ≡ None
+no-subr [] n h = refl
+no-subr (Plain line ∷ items) n h = no-subr items n h
+no-subr (Section before count after ∷ items) n h = no-subr items n h
+no-subr (Subr number words closing ∷ items) n h = absurd (cc)
+no-subr (Glyph name words closing ∷ items) n h = no-subr items n h
+
+all-there : {X : Type 0} (r : Option X) (rest all : Option X) → rest ≡ None → option_or r rest ≡ all → r ≡ all
+all-there None rest all none e = sym none ∙ e
+all-there (Some x) rest all none e = e
+
+-- where a glyph stands, all Subrs were compiled
+pub runs-as : (items : List Item) (i : ℕ) (item : Item) (subrs : ℕ → Option (List Command)) → i < length items → item ≡ get_or items i item
+    → SubrsStandFirst items → ((n : ℕ) → option_or (subrs n) (subr_among (item ∷ drop (i + 1) items) n) ≡ subr_among items n)
+    → RunsAs item (own (font_to_run items)) (font subrs (glyph_to_run items))
+runs-as items i (Plain line) subrs inside is first left = tt
+runs-as items i (Section before count after) subrs inside is first left = tt
+runs-as items i (Subr number words closing) subrs inside is first left = tt
+runs-as items i (Glyph name words closing) subrs inside is first left =
+    let rest = drop (i + 1) items in
+    let whole : items ≡ take i items ++ Glyph name words closing ∷ rest =
+    sym (take-append-drop i items) ∙ ap (λ l. take i items ++ l) (item-first items i (Glyph name words closing) inside is) in
+    let none = first (take i items) rest name words closing whole in
+    own-same (font_to_run items) (font subrs (glyph_to_run items)) name
+    (same-maps (font_to_run items) (font subrs (glyph_to_run items))
+    (λ n. sym (all-there (subrs n) (subr_among rest n) (subr_among items n) (no-subr rest n none) (left n)))
+    (λ g. refl))
+
+-- the first fault of two checks is that of the first, where it has one
+pub refused-first : (refused : Refusal) (r next : Result (Unit {0}) Fault) → Refuses refused r → Refuses refused (r >>= (λ _. next))
+refused-first refusals.Memory r next h = tt
+refused-first (refusals.Fault fault) (Ok u) next h = absurd (cc)
+refused-first (refusals.Fault fault) (Err e) next h = h
+
+-- ---- all that was told, measured
+
+-- what is measured so far stands in front of what is measured of the glyphs that are left
+abbrev pub RowsLeft : (List ℕ → Option (Result Drawing Code)) → List (List ℕ) → List GlyphMetrics → List Row → Type 0
+RowsLeft run names metrics rows = (left : List (List ℕ)) × AreRows run left rows × (behind metrics (glyph_metrics_among run left) ≡ glyph_metrics_among run names)
+
+behind-none : (r : Result (List GlyphMetrics) Fault) → behind [] r ≡ r
+behind-none (Ok rest) = refl
+behind-none (Err fault) = refl
+
+pub all-left : (run : List ℕ → Option (Result Drawing Code)) (names : List (List ℕ)) (rows : List Row) → AreRows run names rows → RowsLeft run names [] rows
+all-left run names rows are = (names, are, behind-none (glyph_metrics_among run names))
+
+pub one-measured : (run : List ℕ → Option (Result Drawing Code)) (names : List (List ℕ)) (metrics : List GlyphMetrics) (row : Row) (rows : List Row) (glyph : GlyphMetrics)
+    → RowsLeft run names metrics (row ∷ rows) → ((name : List ℕ) → IsRow run name row → told_at (places.Glyph name) (glyph_metrics_at run name) ≡ Ok glyph)
+    → RowsLeft run names (metrics ++ glyph ∷ []) rows
+one-measured run names metrics row rows glyph ([], are, is) told = absurd are
+one-measured run names metrics row rows glyph (name ∷ left, are, is) told =
+    (left, are.1, one-told run metrics name left glyph (told name are.0) ∙ is)
+
+pub one-faulty : (run : List ℕ → Option (Result Drawing Code)) (names : List (List ℕ)) (metrics : List GlyphMetrics) (row : Row) (rows : List Row) (refused : Refusal)
+    → RowsLeft run names metrics (row ∷ rows) → ((name : List ℕ) → IsRow run name row → Refuses refused (told_at (places.Glyph name) (glyph_metrics_at run name)))
+    → Refuses refused (glyph_metrics_among run names)
+one-faulty run names metrics row rows refused ([], are, is) told = absurd are
+one-faulty run names metrics row rows refused (name ∷ left, are, is) told =
+    subst (Refuses refused) is (one-refused run metrics name left refused (told name are.0))
+
+none-among : (run : List ℕ → Option (Result Drawing Code)) → glyph_metrics_among run [] ≡ Ok []
+unfolding glyph_metrics_among
+none-among run = refl
+
+pub none-left : (run : List ℕ → Option (Result Drawing Code)) (names : List (List ℕ)) (metrics : List GlyphMetrics) → RowsLeft run names metrics [] → glyph_metrics_among run names ≡ Ok metrics
+none-left run names metrics ([], are, is) = sym is ∙ ap (behind metrics) (none-among run) ∙ ap Ok (append-nil metrics)
+none-left run names metrics (name ∷ left, are, is) = absurd are

@@ -1,0 +1,69 @@
+-- Glyphs that are compiled, run and measured one after another, so that no body of a glyph is stored.
+use Rattle.std.specs.Prelude.{◌≡◌, true, false, ◌≤◌, ◌-◌, ◌&&◌, ◌||◌, ℕ, nat_eq, Bool, List, [], ◌∷◌, ◌++◌, take, drop, Option, None, Some, Result, Ok, Err, IfSome, is_some, if◌then◌else◌}
+use Rattle.std.specs.List.{list_any}
+use Rattle.std.specs.Map.{lookup}
+use Rattle.std.specs.Option.{option_map}
+use Rattle.std.specs.Str.{bytes_eq}
+use Rattle.t1_frac.specs.declared.fault.Code.{Code}
+use Rattle.t1_parts.specs.declared.item.Item.{Item}
+use Rattle.t1_parts.specs.declared.item.Item.TheVariants as items
+use Rattle.t1_code.specs.declared.command.Command.{Command}
+use Rattle.t1_code.specs.Encoding.{is_standard_name}
+use Rattle.t1_code.specs.Words.{commands}
+use Rattle.t1_run.specs.Run.{FontBodies, Drawing, font, own}
+use Rattle.t1_font.specs.declared.open_source.OpenSource.{OpenSource}
+use Rattle.t1_font.specs.declared.in_turn.Row.{Row}
+use Rattle.t1_font.specs.declared.in_turn.Row.TheVariants as rows
+use Rattle.t1_font.specs.ToRun.{commands_or_none, glyph_to_run, subr_stored}
+use Rattle.t1_run.specs.declared.outline.Composite.{Composite}
+use Rattle.t1_run.specs.Composite.{HasStandardParts}
+use Rattle.t1_font.specs.MeasuredGlyphs.{glyph_metrics_at}
+use Rattle.t1_font.specs.Runs.{Kept, kept_of}
+
+-- profile: the bodies that a run asks for, of a source of which these Subrs were compiled
+abbrev pub open_font : OpenSource → FontBodies
+open_font source = font (subr_stored source.subrs.now) (glyph_to_run source.items.now)
+
+-- ---- what stays of a run
+
+-- profile: the run ended with parts
+abbrev pub is_composite : Option (Result Drawing Code) → Bool
+is_composite (Some (Ok drawing)) = is_some drawing.composite
+is_composite _ = false
+
+-- profile: a run stays where its glyph may be a part of a composite, or is one
+abbrev pub stays : List ℕ → Option (Result Drawing Code) → Bool
+stays g run = is_standard_name g || is_composite run
+
+-- profile: the runs that stay among those of some glyphs
+abbrev pub staying : (List ℕ → Option (Result Drawing Code)) → List (List ℕ) → List ℕ → Option (Result Drawing Code)
+staying run names g = if list_any (bytes_eq g) names && stays g (run g) then run g else None
+
+-- profile: what is told of a glyph at its turn: its metrics, its fault, or that its run stays
+abbrev pub IsRow : (List ℕ → Option (Result Drawing Code)) → List ℕ → Row → Type 0
+IsRow run name (rows.Measured glyph) = glyph_metrics_at run name ≡ Ok glyph
+IsRow run name (rows.Kept kept) = (kept.now ≡ name) × (stays name (run name) ≡ true)
+IsRow run name (rows.Faulty faulty code) = (faulty.now ≡ name) × (glyph_metrics_at run name ≡ Err code)
+
+-- profile: the same of these glyphs, in their order
+abbrev pub AreRows : (List ℕ → Option (Result Drawing Code)) → List (List ℕ) → List Row → Type 0
+AreRows run [] [] = Unit {0}
+AreRows run (name ∷ names) (row ∷ rows) = IsRow run name row × AreRows run names rows
+AreRows run [] (row ∷ rows) = ⊥
+AreRows run (name ∷ names) [] = ⊥
+
+-- profile: a glyph's run is that of the font; nothing is said of another item
+abbrev pub RunsAs : Item → (List ℕ → Option (Result Drawing Code)) → FontBodies → Type 0
+RunsAs (items.Glyph name words closing) run m = run name ≡ own m name
+RunsAs _ run m = Unit {0}
+
+-- profile: what is run of a glyph's words is the body of the first glyph of its name
+abbrev pub IsFirstOfName : List Item → Item → Type 0
+IsFirstOfName all (items.Glyph name words closing) = glyph_to_run all name ≡ Some (commands_or_none (commands words))
+IsFirstOfName all _ = Unit {0}
+
+-- profile: the runs that stay are there, the parts of composites have names of StandardEncoding, and no other glyph was run
+pub record RunsStay (run : List ℕ → Option (Result Drawing Code)) (names : List (List ℕ)) (runs : List Kept) : Type 0 where
+  pub kept : (g : List ℕ) → kept_of runs g ≡ staying run names g
+  pub parts : (g : List ℕ) (d : Drawing) (c : Composite) → run g ≡ Some (Ok d) → d.composite ≡ Some c → HasStandardParts c
+  pub absent : (g : List ℕ) → list_any (bytes_eq g) names ≡ false → run g ≡ None

@@ -1,0 +1,150 @@
+//! Glyphs that are compiled, run and measured one after another. No body of a glyph is stored, and of the runs those alone that
+//! another glyph may ask for: of the names of StandardEncoding, and of composites.
+ghost use Rattle.std.specs.Prelude.{◌≡◌, ◌&&◌, List, ℕ, Option, Result, Ok, Some, None, true, IfOk, OnOk, if◌then◌else◌};
+ghost use Rattle.std.specs.Str.{bytes_eq};
+ghost use Rattle.t1_frac.specs.Outcome.{Gives};
+ghost use Rattle.t1_frac.specs.declared.fault.Place.TheVariants as places;
+ghost use Rattle.t1_code.specs.Words.{commands};
+ghost use Rattle.t1_run.specs.Run.{Drawing, own};
+ghost use Rattle.t1_frac.specs.declared.fault.Code.{Code as CodeOf};
+ghost use Rattle.t1_afm.specs.Box.{drawn_box};
+ghost use Rattle.t1_font.specs.Bodies.{words_check};
+ghost use Rattle.t1_font.specs.InTurn.{open_font, stays, IsRow};
+ghost use Rattle.t1_font.specs.MeasuredGlyphs.{glyph_metrics_by};
+ghost use Rattle.t1_font.specs.ToRun.{commands_or_none, glyph_to_run};
+ghost use Rattle.t1_font.specs.Runs.{drawing_kept, kept_of, run_kept, IsTracedAs};
+
+use crate::glyph_metrics::GlyphMetrics;
+use crate::numbers::SubrNumbers;
+use crate::open_source::OpenSource;
+use crate::runs::{Runs, kept_run_of};
+use std::alloc::{AllocError, Global};
+use t1_code::{Command, compile_onto, is_standard_name};
+use t1_extent::KeptRun;
+use t1_frac::{Bytes, Code, Place, Refusal, SourceText, Words};
+use t1_run::{Meter, Segment};
+
+/// What is told of a glyph at its turn.
+#[derive(Drop)]
+pub(crate) enum Row<'a> {
+    /// What is measured of it.
+    Measured(GlyphMetrics<'a>),
+    /// Its run stays, and it is measured when all runs that stay are there.
+    Kept(&'a [u8]),
+    /// Its run has a fault, and no other glyph can ask for it.
+    Faulty(&'a [u8], Code),
+}
+
+/// What is measured of a glyph without parts.
+fn plain_metrics<'a>(
+    alloc: Global,
+    name: &'a [u8],
+    run: &KeptRun,
+) -> Result<GlyphMetrics<'a>, AllocError>
+    requires { run.now.drawing.composite ≡ None }
+    ensures { IfOk result (λ glyph. glyph_metrics_by name.now run.now.drawing (drawn_box run.now.drawing.segments) ≡ Ok glyph) }
+{
+    Ok(GlyphMetrics {
+        name: SourceText::borrowed(name),
+        width: run.width(),
+        entered: SubrNumbers::copied(alloc, run.entered())?,
+        parts: None,
+        bbox: run.bbox(),
+    })
+}
+
+/// Whether a run stays.
+fn is_staying(name: &[u8], kept: &Result<KeptRun, Code>) -> bool
+    ensures { result ≡ stays name.now (Some (drawing_kept kept.now)) }
+{
+    if is_standard_name(name) {
+        return true;
+    }
+    match kept {
+        Ok(run) => run.composite().is_some(),
+        Err(_) => false,
+    }
+}
+
+/// What is told of a glyph by its run, which is kept where it stays.
+pub(crate) fn row_of<'a>(
+    alloc: Global,
+    runs: &mut Runs,
+    name: &'a [u8],
+    kept: Result<KeptRun, Code>,
+) -> Result<Row<'a>, AllocError>
+    requires { IsTracedAs name.now (Some kept) }
+    ensures row { (run : List ℕ → Option (Result Drawing CodeOf)) → run name.now ≡ Some (drawing_kept kept) → IfOk result (IsRow run name.now) }
+    ensures kept { OnOk result ((g : List ℕ) → run_kept runs.new g ≡ (if bytes_eq g name.now && stays name.now (Some (drawing_kept kept)) then Some kept else run_kept runs.old g)) }
+{
+    if is_staying(name, &kept) {
+        runs.keep(alloc, name, kept)?;
+        return Ok(Row::Kept(name));
+    }
+    match kept {
+        Ok(run) => Ok(Row::Measured(plain_metrics(alloc, name, &run)?)),
+        Err(code) => Ok(Row::Faulty(name, code)),
+    }
+}
+
+/// Memory that one glyph after another uses: for the commands of its body, and for the segments of its run.
+#[derive(Drop)]
+pub(crate) struct Scratch {
+    body: Vec<Command>,
+    room: Vec<Segment>,
+    meter: Meter,
+}
+
+impl Scratch {
+    pub(crate) fn new(alloc: Global) -> Scratch {
+        Scratch {
+            body: Vec::new(alloc),
+            room: Vec::new(alloc),
+            meter: Meter::new(),
+        }
+    }
+}
+
+/// Puts the commands of a glyph's words in the place of what stood there, or answers their fault with the glyph's name.
+#[tactic(auto, unfolding(crate::specs::Bodies::words_check))]
+fn compile_glyph(
+    alloc: Global,
+    body: &mut Vec<Command>,
+    name: &[u8],
+    words: &Words,
+) -> Result<(), Refusal>
+    ensures checked { Gives (λ x. x) result (words_check (places.Glyph name.now) words.now) }
+    ensures body { OnOk result (body.new.items ≡ commands_or_none (commands words.now)) }
+{
+    body.clear();
+    match compile_onto(body, words) {
+        Err(refusal) => Err(refusal.at(Place::Glyph(Bytes::copied(alloc, name)?))),
+        compiled => compiled,
+    }
+}
+
+/// Compiles and runs a glyph: what is told of it, or the fault of its words. Its run is kept where it stays.
+pub(crate) fn glyph_turn<'a>(
+    alloc: Global,
+    source: &OpenSource,
+    name: &'a [u8],
+    words: &Words,
+    runs: &mut Runs,
+    scratch: &mut Scratch,
+) -> Result<Row<'a>, Refusal>
+    requires { glyph_to_run source.now.items.now name.now ≡ Some (commands_or_none (commands words.now)) }
+    ensures checked { Gives (λ _. tt) result (words_check (places.Glyph name.now) words.now) }
+    ensures row { (run : List ℕ → Option (Result Drawing CodeOf)) → run name.now ≡ own (open_font source.now) name.now → IfOk result (IsRow run name.now) }
+    ensures kept { (run : List ℕ → Option (Result Drawing CodeOf)) → run name.now ≡ own (open_font source.now) name.now → OnOk result ((g : List ℕ) → kept_of runs.new g ≡ (if bytes_eq g name.now && stays name.now (run name.now) then run name.now else kept_of runs.old g)) }
+{
+    compile_glyph(alloc, &mut scratch.body, name, words)?;
+    let kept = kept_run_of(
+        alloc,
+        source,
+        name,
+        &scratch.body,
+        &mut scratch.room,
+        &mut scratch.meter,
+    )?;
+    Ok(row_of(alloc, runs, name, kept)?)
+}
