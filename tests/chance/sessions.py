@@ -166,7 +166,7 @@ class Tally:
     """What became of the commands."""
 
     def __init__(self):
-        self.ends, self.told, self.deep = Counter(), Counter(), Counter()
+        self.ends, self.reported, self.deep = Counter(), Counter(), Counter()
 
     def count(self, words, answer, session):
         kind = next((it for it in KINDS if b" ".join(words).startswith(it.encode())), "others")
@@ -174,7 +174,7 @@ class Tally:
         end = "refused" if answer.startswith(b"refused") else "accepted"
         self.ends[kind, end] += 1
         if end == "refused":
-            self.told[answer.split()[1].decode()] += 1
+            self.reported[answer.split()[1].decode()] += 1
         elif kind != "print" and session.batch is None and session.font:
             self.deep += Counter(depths(session.font))
 
@@ -187,8 +187,8 @@ class Tally:
         edits = [kind for kind in KINDS if kind not in ("begin", "commit", "abort", "print pfa", "print pfb N")]
         taken, refused = (sum(self.ends[kind, end] for kind in edits) for end in ("accepted", "refused"))
         yield f"of {taken + refused} edits {100 * taken // max(1, taken + refused)}% were accepted"
-        told = sorted(self.told, key=lambda it: (it[0] == "F", len(it), it))
-        yield "refused by: " + ", ".join(f"{it} {self.told[it]}" for it in told)
+        reported = sorted(self.reported, key=lambda it: (it[0] == "F", len(it), it))
+        yield "refused by: " + ", ".join(f"{it} {self.reported[it]}" for it in reported)
         deep = [f"{self.deep[it]} of depth {it}" for it in sorted(self.deep)]
         yield "composites in fonts after accepted edits: " + (", ".join(deep) or "none")
 

@@ -18,7 +18,7 @@ over_whole n a = record { num = a.num; den = n * a.den }
 abbrev pub weighted : ℕ → ℕ → ℕ → ℕ → Fraction → Fraction → Fraction → Fraction → Fraction
 weighted u v w x a b c d = plus (plus (times u a) (times v b)) (plus (times w c) (times x d))
 
--- Type 1 Font Format, chapter 6, rrcurveto: a Bézier cubic at k/64, by its Bernstein sum over 64^3; j is 64 - k
+-- Type 1 Font Format, Chapter 6, rrcurveto: a Bézier cubic at k/64, by its Bernstein sum over 64^3; j is 64 - k
 abbrev pub bernstein : ℕ → ℕ → Fraction → Fraction → Fraction → Fraction → Fraction
 bernstein j k a b c d = over_whole 262144 (weighted (j * j * j) (3 * j * j * k) (3 * j * k * k) (k * k * k) a b c d)
 

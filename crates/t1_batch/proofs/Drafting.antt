@@ -106,12 +106,12 @@ edit-drafted entries s old k edit new ps e well was = record {
 
 module _ (old : Draft) (edit : Edit) (change : Change) (source new : SourceParts) (pairs ps : List Pair) (entry : Option EditedEntry) (es mid made : List EditedEntry)
     (view : record { source = source; pairs = pairs; entries = map entry_edit es } ≡ old)
-    (told : edited source pairs edit ≡ Ok (changed change source pairs))
+    (reported : edited source pairs edit ≡ Ok (changed change source pairs))
     (source-is : new ≡ (changed change source pairs).0) (pairs-are : ps ≡ (changed change source pairs).1)
     (named-is : option_map entry_edit entry ≡ option_map (marked (adds edit)) (entry_key edit))
     (room : mid ≡ es) (more : made ≡ mid ++ option_to_list entry) where
   is-made : edited source pairs edit ≡ Ok (new, ps)
-  is-made = told ∙ ap Ok (sym (λ j. (source-is j, pairs-are j)))
+  is-made = reported ∙ ap Ok (sym (λ j. (source-is j, pairs-are j)))
 
   are-noted : map entry_edit made ≡ map entry_edit es ++ edited_entries edit
   are-noted = entries-noted source pairs edit new ps entry es made is-made named-is (more ∙ ap (λ l. l ++ option_to_list entry) room)

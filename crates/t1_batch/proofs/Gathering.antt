@@ -11,7 +11,7 @@ use Rattle.t1_run.specs.Run.{Key}
 use Rattle.t1_cache.specs.Users.{key_of}
 use Rattle.t1_rerun.specs.declared.entry_change.EntryChange.{EntryChange}
 use Rattle.t1_batch.specs.declared.entries.EditedEntry.{EditedEntry}
-use Rattle.t1_batch.specs.Passing.{all_marked, all_removed, behind_item, behind_items, changes_by, item_put, items_put, none_sought, removed_at, without, Sought}
+use Rattle.t1_batch.specs.Passing.{all_marked, all_removed, after_item, after_items, changes_by, item_put, items_put, none_sought, removed_at, without, Sought}
 
 abbrev pub Outcome : Type 0
 Outcome = Result (List EntryChange) Fault
@@ -26,19 +26,19 @@ front-twice done more (Err fault) = refl
 
 module _ (whole : Outcome) (m : Sought) (done : List EntryChange) (i : Item) (is : List Item) (was : whole ≡ in_front done (items_put m (i ∷ is))) where
   -- an item without a fault
-  pub item-more : (n : Sought) (new : List EntryChange) (change : Option EntryChange) → item_put m i ≡ Ok change → ((k : Key) → n k ≡ behind_item i m k)
+  pub item-more : (n : Sought) (new : List EntryChange) (change : Option EntryChange) → item_put m i ≡ Ok change → ((k : Key) → n k ≡ after_item i m k)
       → new ≡ done ++ option_to_list change → whole ≡ in_front new (items_put n is)
   item-more n new change put left gathered =
       was
-      ∙ ap (λ r. in_front done (r >>= λ c. in_front (option_to_list c) (items_put (behind_item i m) is))) put
-      ∙ front-twice done (option_to_list change) (items_put (behind_item i m) is)
-      ∙ ap (λ l. in_front l (items_put (behind_item i m) is)) (sym gathered)
+      ∙ ap (λ r. in_front done (r >>= λ c. in_front (option_to_list c) (items_put (after_item i m) is))) put
+      ∙ front-twice done (option_to_list change) (items_put (after_item i m) is)
+      ∙ ap (λ l. in_front l (items_put (after_item i m) is)) (sym gathered)
       ∙ ap (λ s. in_front new (items_put s is)) (sym (λ j. λ k. left k j))
   -- an item with one
 
 -- the marks after an item
-pub behind-more : (i : Item) (is : List Item) (m n : Sought) → ((k : Key) → n k ≡ behind_item i m k) → (k : Key) → behind_items is n k ≡ behind_items (i ∷ is) m k
-behind-more i is m n left k = ap (λ s. behind_items is s k) (λ j. λ x. left x j)
+pub after-more : (i : Item) (is : List Item) (m n : Sought) → ((k : Key) → n k ≡ after_item i m k) → (k : Key) → after_items is n k ≡ after_items (i ∷ is) m k
+after-more i is m n left k = ap (λ s. after_items is s k) (λ j. λ x. left x j)
 
 -- ---- entries that were removed
 
@@ -60,12 +60,12 @@ module _ (es : List EditedEntry) (is : List Item) (m : Sought) (marks : (k : Key
   pub all-refused : (refusal : Refusal) → Refuses refusal (items_put m is) → Refuses refusal (changes_by es is)
   all-refused refusals.Memory h = tt
   all-refused (refusals.Fault fault) h =
-      ap (λ r. r >>= λ changes. Ok (changes ++ all_removed (behind_items is (all_marked es none_sought)) es)) (put-same ∙ h)
+      ap (λ r. r >>= λ changes. Ok (changes ++ all_removed (after_items is (all_marked es none_sought)) es)) (put-same ∙ h)
 
-  pub all-gathered : (n : Sought) (front new : List EntryChange) → items_put m is ≡ Ok front → ((k : Key) → n k ≡ behind_items is m k)
+  pub all-gathered : (n : Sought) (front new : List EntryChange) → items_put m is ≡ Ok front → ((k : Key) → n k ≡ after_items is m k)
       → new ≡ front ++ all_removed n es → changes_by es is ≡ Ok new
   all-gathered n front new put left gathered =
-      ap (λ r. r >>= λ changes. Ok (changes ++ all_removed (behind_items is (all_marked es none_sought)) es)) (put-same ∙ put)
-      ∙ ap (λ s. Ok (front ++ all_removed (behind_items is s) es)) (sym (λ j. λ k. marks k j))
+      ap (λ r. r >>= λ changes. Ok (changes ++ all_removed (after_items is (all_marked es none_sought)) es)) (put-same ∙ put)
+      ∙ ap (λ s. Ok (front ++ all_removed (after_items is s) es)) (sym (λ j. λ k. marks k j))
       ∙ ap (λ s. Ok (front ++ all_removed s es)) (sym (λ j. λ k. left k j))
       ∙ ap Ok (sym gathered)

@@ -5,5 +5,5 @@ pub mod Members
 pub mod Ordering
 pub mod Passing
 pub mod Removing
+pub mod Reporting
 pub mod Sounding
-pub mod Telling

@@ -12,7 +12,7 @@ use Rattle.std.proofs.lemmas.List.Folds.{list_any-append}
 use Rattle.t1_frac.specs.declared.fault.Code.{Code}
 use Rattle.t1_frac.specs.declared.fault.Place.{Place}
 use Rattle.t1_frac.specs.declared.fault.Place.TheVariants as places
-use Rattle.t1_frac.specs.Outcome.{told_at, ◌>>=◌}
+use Rattle.t1_frac.specs.Outcome.{reported_at, ◌>>=◌}
 use Rattle.t1_code.specs.declared.command.Command.{Command}
 use Rattle.t1_code.specs.Words.{commands}
 use Rattle.t1_parts.specs.declared.item.Item.{Item}
@@ -30,7 +30,7 @@ use Rattle.t1_rerun.specs.Settled.{changed_keys, AreDistinctKeys}
 use Rattle.t1_rerun.specs.Steps.{changed}
 use Rattle.t1_batch.specs.declared.entries.EditedEntry.{EditedEntry}
 use Rattle.t1_batch.specs.Batch.{entry_edit, keys}
-use Rattle.t1_batch.specs.Passing.{all_marked, behind_items, items_put, marked, put_of, with_mark, without, Sought}
+use Rattle.t1_batch.specs.Passing.{all_marked, after_items, items_put, marked, put_of, with_mark, without, Sought}
 use Rattle.t1_batch.proofs.Gathering.{in_front, Outcome}
 
 -- ---- keys
@@ -108,20 +108,20 @@ at-glyph g (items.Section b n a ∷ is) = at-glyph g is
 at-glyph g (items.Subr n words c ∷ is) = at-glyph g is
 at-glyph g (items.Glyph h words c ∷ is) = ap (λ b. bytes_eq g h || b) (at-glyph g is)
 
-behind-step : (key : Key) (m : Sought) (k : Key) (has : Bool) → cond has None (without key m k) ≡ cond (key_eq k key || has) None (m k)
-behind-step key m k has = ap (cond has None) (without-at key k m) ∙ by (key_eq k key) has where
+after-step : (key : Key) (m : Sought) (k : Key) (has : Bool) → cond has None (without key m k) ≡ cond (key_eq k key || has) None (m k)
+after-step key m k has = ap (cond has None) (without-at key k m) ∙ by (key_eq k key) has where
   by : (b has : Bool) → cond has None (cond b None (m k)) ≡ cond (b || has) None (m k)
   by true true = refl
   by true false = refl
   by false has = refl
 
 -- what is left is what was looked for and isn't there
-pub behind-at : (is : List Item) (m : Sought) (k : Key) → behind_items is m k ≡ cond (has_at k is) None (m k)
-behind-at [] m k = refl
-behind-at (items.Plain l ∷ is) m k = behind-at is m k
-behind-at (items.Section b n a ∷ is) m k = behind-at is m k
-behind-at (items.Subr n words c ∷ is) m k = behind-at is (without (Subr n) m) k ∙ behind-step (Subr n) m k (has_at k is)
-behind-at (items.Glyph g words c ∷ is) m k = behind-at is (without (Glyph g) m) k ∙ behind-step (Glyph g) m k (has_at k is)
+pub after-at : (is : List Item) (m : Sought) (k : Key) → after_items is m k ≡ cond (has_at k is) None (m k)
+after-at [] m k = refl
+after-at (items.Plain l ∷ is) m k = after-at is m k
+after-at (items.Section b n a ∷ is) m k = after-at is m k
+after-at (items.Subr n words c ∷ is) m k = after-at is (without (Subr n) m) k ∙ after-step (Subr n) m k (has_at k is)
+after-at (items.Glyph g words c ∷ is) m k = after-at is (without (Glyph g) m) k ∙ after-step (Glyph g) m k (has_at k is)
 
 -- ---- a pass without a fault
 
@@ -159,7 +159,7 @@ met is m d place words cs e passes = by (m (key_of d)) refl e where
   tail = items_put (without (key_of d) m) is
 
   put : (moved : Bool) → m (key_of d) ≡ Some moved → (r : Result (List Command) Code) → commands words ≡ r
-      → ((told_at place r >>= λ body. Ok (Some (changed d (Some body) moved))) >>= λ change. in_front (option_to_list change) tail) ≡ Ok cs
+      → ((reported_at place r >>= λ body. Ok (Some (changed d (Some body) moved))) >>= λ change. in_front (option_to_list change) tail) ≡ Ok cs
       → Met (Passes is) m d words cs
   put moved mark (Ok body) compiled e =
       let f = front-ok (changed d (Some body) moved ∷ []) tail cs e in
@@ -224,7 +224,7 @@ changed-append (c ∷ cs) ds = ap (λ l. key_of c.named ∷ l) (changed-append c
 
 -- what comes after has none of the entries that were met
 abbrev Apart : List Item → Sought → List EntryChange → Type 0
-Apart is m back = (k : Key) → behind_items is m k ≡ None → list_any (key_eq k) (changed_keys back) ≡ false
+Apart is m back = (k : Key) → after_items is m k ≡ None → list_any (key_eq k) (changed_keys back) ≡ false
 
 distinct-met : (is : List Item) (m : Sought) (d : Named) (words : List (List ℕ)) (cs back : List EntryChange)
     → ((n : Sought) (rest : List EntryChange) → Passes is n rest → Apart is n back → AreDistinctKeys (changed_keys (rest ++ back)))
@@ -245,7 +245,7 @@ distinct-met is m d words cs back rest (inr x) apart =
         (keys-any (key_of d) x.rest ∙ tallied always (key_of d) is (without (key_of d) m) x.rest x.others
         ∙ ap (λ r. has_at (key_of d) is && mark_is always r) (gone (key_of d) m) ∙ and-false (has_at (key_of d) is))
         (apart (key_of d)
-        (behind-at is (without (key_of d) m) (key_of d) ∙ ap (cond (has_at (key_of d) is) None) (gone (key_of d) m) ∙ none (has_at (key_of d) is)))
+        (after-at is (without (key_of d) m) (key_of d) ∙ ap (cond (has_at (key_of d) is) None) (gone (key_of d) m) ∙ none (has_at (key_of d) is)))
 
 pub distinct : (is : List Item) (back : List EntryChange) → AreDistinctKeys (changed_keys back) → (m : Sought) (cs : List EntryChange) → Passes is m cs → Apart is m back
     → AreDistinctKeys (changed_keys (cs ++ back))

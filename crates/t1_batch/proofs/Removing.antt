@@ -12,7 +12,7 @@ use Rattle.t1_frac.specs.declared.fault.Code.{Code}
 use Rattle.t1_frac.specs.declared.fault.Fault.{Fault}
 use Rattle.t1_frac.specs.declared.fault.Place.{Place}
 use Rattle.t1_frac.specs.declared.fault.Place.TheVariants as places
-use Rattle.t1_frac.specs.Outcome.{told_at, ◌>>=◌}
+use Rattle.t1_frac.specs.Outcome.{reported_at, ◌>>=◌}
 use Rattle.t1_code.specs.declared.command.Command.{Command}
 use Rattle.t1_code.specs.Words.{commands}
 use Rattle.t1_parts.specs.declared.item.Item.{Item}
@@ -171,8 +171,8 @@ check-entry d place words ks is m sound marks rest = by (m (key_of d)) refl wher
   skipped none (inr fine) = fine
 
   put : (moved : Bool) (r : Result (List Command) Code)
-      → (is-fine (told_at place r) >>= λ checked. bodies_check is)
-      ≡ unit ((told_at place r >>= λ body. Ok (Some (changed d (Some body) moved))) >>= λ change. in_front (option_to_list change) tail)
+      → (is-fine (reported_at place r) >>= λ checked. bodies_check is)
+      ≡ unit ((reported_at place r >>= λ body. Ok (Some (changed d (Some body) moved))) >>= λ change. in_front (option_to_list change) tail)
   put moved (Ok body) = rest ∙ unit-front (changed d (Some body) moved ∷ []) tail
   put moved (Err code) = refl
 
@@ -192,8 +192,8 @@ module _ (ks : List Key) (earlier : List Item) (i : Item) (m : Sought) (marks : 
   seeks-past : Seeks ks (earlier ++ i ∷ []) m
   seeks-past k h = marks k (sooner k h).0
 
-  seeks-behind : (key : Key) → ((k : Key) → is_at k i ≡ key_eq k key) → Seeks ks (earlier ++ i ∷ []) (without key m)
-  seeks-behind key at k h =
+  seeks-after : (key : Key) → ((k : Key) → is_at k i ≡ key_eq k key) → Seeks ks (earlier ++ i ∷ []) (without key m)
+  seeks-after key at k h =
       let s = sooner k h in
       let off : key_eq k key ≡ false = sym (at k) ∙ (or_parts (is_at k i) false s.1).0 in
       ap is_some (without-at key k m) ∙ ap (λ b. is_some (cond b None (m k))) off ∙ marks k s.0
@@ -212,12 +212,12 @@ checked ks l (items.Subr n words c ∷ is) earlier m stand sound marks =
     check-entry (named.Subr n) (places.Subr n) words ks (is ++ items.Plain l ∷ []) m sound.0
     (marks (Subr n) (ap (λ p. list_any p earlier) (λ j. λ i. same-subr n i j) ∙ stand.0.2))
     (checked ks l is (earlier ++ items.Subr n words c ∷ []) (without (Subr n) m) stand.1 sound.1
-    (seeks-behind ks earlier (items.Subr n words c) m marks (Subr n) (λ k. refl)))
+    (seeks-after ks earlier (items.Subr n words c) m marks (Subr n) (λ k. refl)))
 checked ks l (items.Glyph g words c ∷ is) earlier m stand sound marks =
     check-entry (named.Glyph g) (places.Glyph g) words ks (is ++ items.Plain l ∷ []) m sound.0
     (marks (Glyph g) (ap (λ p. list_any p earlier) (λ j. λ i. same-glyph g i j) ∙ stand.0.1))
     (checked ks l is (earlier ++ items.Glyph g words c ∷ []) (without (Glyph g) m) stand.1 sound.1
-    (seeks-behind ks earlier (items.Glyph g words c) m marks (Glyph g) (λ k. refl)))
+    (seeks-after ks earlier (items.Glyph g words c) m marks (Glyph g) (λ k. refl)))
 
 -- ---- the glyphs that stand last
 
@@ -231,15 +231,15 @@ module _ (old : SourceParts) (marks : Sought) where
   abbrev Knows : List (List ℕ) → Type 0
   Knows names = (g : List ℕ) → list_any (bytes_eq g) names ≡ true → marks (Glyph g) ≡ None → has_glyph old g ≡ true
 
-  abbrev Told : List (List ℕ) → (Sought → List EntryChange → Type 0) → Type 0
-  Told names P = (m : Sought) (cs : List EntryChange) → P m cs → Agrees names m → filter is-last names ≡ last_glyphs old cs
+  abbrev Reported : List (List ℕ) → (Sought → List EntryChange → Type 0) → Type 0
+  Reported names P = (m : Sought) (cs : List EntryChange) → P m cs → Agrees names m → filter is-last names ≡ last_glyphs old cs
 
-  last-subr : (n : ℕ) (words : List (List ℕ)) (names : List (List ℕ)) (P : Sought → List EntryChange → Type 0) → Told names P
+  last-subr : (n : ℕ) (words : List (List ℕ)) (names : List (List ℕ)) (P : Sought → List EntryChange → Type 0) → Reported names P
       → (m : Sought) (cs : List EntryChange) → Met P m (named.Subr n) words cs → Agrees names m → filter is-last names ≡ last_glyphs old cs
   last-subr n words names P rest m cs (inl h) agrees = rest (without (Subr n) m) cs h.1 agrees
   last-subr n words names P rest m cs (inr x) agrees = rest (without (Subr n) m) x.rest x.others agrees ∙ sym (ap (last_glyphs old) x.whole)
 
-  last-met : (g : List ℕ) (words : List (List ℕ)) (names : List (List ℕ)) (P : Sought → List EntryChange → Type 0) → list_any (bytes_eq g) names ≡ false → Told names P
+  last-met : (g : List ℕ) (words : List (List ℕ)) (names : List (List ℕ)) (P : Sought → List EntryChange → Type 0) → list_any (bytes_eq g) names ≡ false → Reported names P
       → Knows (g ∷ names) → (m : Sought) (cs : List EntryChange) → Met P m (named.Glyph g) words cs → Agrees (g ∷ names) m
       → filter is-last (g ∷ names) ≡ last_glyphs old cs
   last-met g words names P apart rest knows m cs p agrees = by p where

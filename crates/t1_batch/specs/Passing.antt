@@ -8,7 +8,7 @@ use Rattle.std.specs.declared.vec.Vec.{Vec}
 use Rattle.t1_frac.specs.declared.fault.Fault.{Fault}
 use Rattle.t1_frac.specs.declared.fault.Place.{Place}
 use Rattle.t1_frac.specs.declared.fault.Place.TheVariants as places
-use Rattle.t1_frac.specs.Outcome.{told_at, ◌>>=◌}
+use Rattle.t1_frac.specs.Outcome.{reported_at, ◌>>=◌}
 use Rattle.t1_code.specs.Words.{commands}
 use Rattle.t1_parts.specs.declared.item.Item.{Item}
 use Rattle.t1_parts.specs.declared.item.Item.TheVariants as items
@@ -66,7 +66,7 @@ without key m k = if key_eq key k then None else m k
 -- profile: an entry that is looked for, with the commands of its words, or their fault at its place
 abbrev pub put_of : Option Bool → Named → Place → List (List ℕ) → Result (Option EntryChange) Fault
 put_of None named place words = Ok None
-put_of (Some moved) named place words = told_at place (commands words) >>= λ body. Ok (Some (changed named (Some body) moved))
+put_of (Some moved) named place words = reported_at place (commands words) >>= λ body. Ok (Some (changed named (Some body) moved))
 
 -- profile: the same, of an item
 abbrev pub item_put : Sought → Item → Result (Option EntryChange) Fault
@@ -76,21 +76,21 @@ item_put m (items.Plain line) = Ok None
 item_put m (items.Section before n after) = Ok None
 
 -- profile: what is still looked for after an item
-abbrev pub behind_item : Item → Sought → Sought
-behind_item (items.Subr n words closing) m = without (Subr n) m
-behind_item (items.Glyph g words closing) m = without (Glyph g) m
-behind_item (items.Plain line) m = m
-behind_item (items.Section before n after) m = m
+abbrev pub after_item : Item → Sought → Sought
+after_item (items.Subr n words closing) m = without (Subr n) m
+after_item (items.Glyph g words closing) m = without (Glyph g) m
+after_item (items.Plain line) m = m
+after_item (items.Section before n after) m = m
 
 -- profile: what is still looked for after these items
-abbrev pub behind_items : List Item → Sought → Sought
-behind_items [] m = m
-behind_items (i ∷ is) m = behind_items is (behind_item i m)
+abbrev pub after_items : List Item → Sought → Sought
+after_items [] m = m
+after_items (i ∷ is) m = after_items is (after_item i m)
 
 -- profile: the entries that are looked for, in the order of the items, or the first fault of one
 abbrev pub items_put : Sought → List Item → Result (List EntryChange) Fault
 items_put m [] = Ok []
-items_put m (i ∷ is) = item_put m i >>= λ change. items_put (behind_item i m) is >>= λ changes. Ok (option_to_list change ++ changes)
+items_put m (i ∷ is) = item_put m i >>= λ change. items_put (after_item i m) is >>= λ changes. Ok (option_to_list change ++ changes)
 
 -- ---- the entries that were not met were removed
 
@@ -107,4 +107,4 @@ all_removed m (e ∷ es) = option_to_list (removed_at (m (key_of e.named)) e.nam
 -- profile, batches: what became of entries in a source after edits that name them, or the first fault of one
 abbrev pub changes_by : List EditedEntry → List Item → Result (List EntryChange) Fault
 changes_by es is =
-    items_put (all_marked es none_sought) is >>= λ changes. Ok (changes ++ all_removed (behind_items is (all_marked es none_sought)) es)
+    items_put (all_marked es none_sought) is >>= λ changes. Ok (changes ++ all_removed (after_items is (all_marked es none_sought)) es)

@@ -11,7 +11,7 @@ ghost use Rattle.t1_font.specs.Bodies.{bodies_check};
 ghost use Rattle.t1_cache.specs.declared.records.Named.TheVariants as named;
 ghost use Rattle.t1_cache.specs.Users.{key_of};
 ghost use Rattle.t1_batch.specs.Batch.{entry_edit, keys, AreBatchChanges, IsEditedBy};
-ghost use Rattle.t1_batch.specs.Passing.{all_removed, behind_item, behind_items, changes_by, item_put, items_put, mark_at, put_of, removed_at, without};
+ghost use Rattle.t1_batch.specs.Passing.{all_removed, after_item, after_items, changes_by, item_put, items_put, mark_at, put_of, removed_at, without};
 
 use crate::entries::EditedEntry;
 use crate::marks::Marks;
@@ -71,7 +71,7 @@ fn item_change(
     item: &Item,
 ) -> Result<Option<EntryChange>, Refusal>
     ensures change { Gives (λ change. change) result (item_put (mark_at marks.old) item.now) }
-    ensures others { (k : Key) → mark_at marks.new k ≡ behind_item item.now (mark_at marks.old) k }
+    ensures others { (k : Key) → mark_at marks.new k ≡ after_item item.now (mark_at marks.old) k }
 {
     match item {
         Item::Subr(number, words, _) => subr_change(alloc, marks, *number, words),
@@ -101,7 +101,7 @@ fn changes_of_items(
     items: &[Item],
 ) -> Result<Vec<EntryChange>, Refusal>
     ensures changes { Gives (λ changes. changes.items) result (items_put (mark_at marks.old) items.now) }
-    ensures others { OnOk result ((k : Key) → mark_at marks.new k ≡ behind_items items.now (mark_at marks.old) k) }
+    ensures others { OnOk result ((k : Key) → mark_at marks.new k ≡ after_items items.now (mark_at marks.old) k) }
 {
     let mut changes = Vec::new(alloc);
     for item in items {

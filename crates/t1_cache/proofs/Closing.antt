@@ -29,10 +29,10 @@ closing-first name uses ks = record { seeds = λ g h. h; users = λ p u h. absur
 pub closing-more : {K : Type 0} (name : K → List ℕ) (seed : List ℕ → Bool) (uses : List ℕ → List ℕ → Bool) (ks new more : List K) (at : ℕ) (d : K) (n : List ℕ)
     → IsClosing name seed uses ks at → at < length ks → n ≡ name (get_or ks at d) → new ≡ ks ++ more
     → ((g : List ℕ) → has name new g ≡ (has name ks g || uses n g)) → IsClosing name seed uses new (at + 1)
-closing-more name seed uses ks new more at d n was h is behind names = record {
+closing-more name seed uses ks new more at d n was h is following names = record {
   seeds = λ g s. kept g (was.seeds g s);
   users = λ p u there used.
-      let before : take (at + 1) new ≡ take (at + 1) ks = ap (take (at + 1)) behind ∙ take-append-le (at + 1) ks more (omega (arith, h)) in
+      let before : take (at + 1) new ≡ take (at + 1) ks = ap (take (at + 1)) following ∙ take-append-le (at + 1) ks more (omega (arith, h)) in
       let first : (has name (take at ks) p || bytes_eq p n) ≡ true =
       sym (list_any_more (λ k. bytes_eq p (name k)) ks at d h ∙ ap (λ m. has name (take at ks) p || bytes_eq p m) (sym is))
       ∙ sym (ap (λ l. has name l p) before) ∙ there in

@@ -131,9 +131,9 @@ none-later test once earlier (i ∷ is) there h = by (test i) refl (none-later t
   by true on rest = let never : true ≡ false = sym there ∙ once earlier i h.0 on in absurd (cc)
   by false off rest = rest
 
-none-behind : (test : Item → Bool) → Once test → ((l : List ℕ) → test (items.Plain l) ≡ false) → (s : SourceParts) → IsWellFormed s
+none-following : (test : Item → Bool) → Once test → ((l : List ℕ) → test (items.Plain l) ≡ false) → (s : SourceParts) → IsWellFormed s
     → (a : List Item) (x : Item) (b : List Item) → s.items ≡ a ++ x ∷ b → test x ≡ true → list_any test b ≡ false
-none-behind test once plain s well a x b whole on =
+none-following test once plain s well a x b whole on =
     let p = well.items in
     let split = before_last test p.inner (items.Plain p.closefile) a x b (plain p.closefile) on (sym p.whole ∙ whole) in
     let stand : Stand [] (a ++ x ∷ split.0) = subst (Stand []) split.2 p.stand in
@@ -151,7 +151,7 @@ put-body test f needs once plain s well at y there =
     let x = p.found.here in
     let b = p.found.after in
     ap (first f) (ap (λ t. slice_set t at y) p.found.whole ∙ set_there a x b at y p.place)
-    ∙ first-here test f needs a y b p.first (none-behind test once plain s well a x b p.found.whole p.found.passes)
+    ∙ first-here test f needs a y b p.first (none-following test once plain s well a x b p.found.whole p.found.passes)
 
 out-body : (test : Item → Bool) (f : Reads) → Needs test f → Once test → ((l : List ℕ) → test (items.Plain l) ≡ false) → (s : SourceParts) → IsWellFormed s
     → (at : ℕ) → position test s.items ≡ Some at → first f (remove s.items at) ≡ None
@@ -161,7 +161,7 @@ out-body test f needs once plain s well at there =
     let x = p.found.here in
     let b = p.found.after in
     ap (first f) (ap (λ t. remove t at) p.found.whole ∙ removed_there a x b at p.place)
-    ∙ first-out test f needs a b p.first (none-behind test once plain s well a x b p.found.whole p.found.passes)
+    ∙ first-out test f needs a b p.first (none-following test once plain s well a x b p.found.whole p.found.passes)
 
 in-body : (test : Item → Bool) (f : Reads) → Needs test f → (is : List Item) (at : ℕ) (y : Item) → list_any test is ≡ false → first f (insert is at y) ≡ f y
 in-body test f needs is at y none =

@@ -4,7 +4,7 @@ use Rattle.std.specs.Prelude.{Result, Ok, Err}
 use Rattle.std.specs.List.{AllByRecursion, list_any}
 use Rattle.std.specs.Str.{bytes_eq}
 use Rattle.std.proofs.lemmas.Bool.{not_from_false, or_parts}
-use Rattle.t1_frac.specs.Outcome.{told_at, ◌>>=◌}
+use Rattle.t1_frac.specs.Outcome.{reported_at, ◌>>=◌}
 use Rattle.t1_frac.specs.declared.fault.Code.{Code}
 use Rattle.t1_frac.specs.declared.fault.Fault.{Fault}
 use Rattle.t1_frac.specs.declared.fault.Place.{Place}
@@ -15,7 +15,7 @@ use Rattle.t1_run.specs.Composite.{outline}
 use Rattle.t1_run.specs.Footprint.{uses, is_part}
 use Rattle.t1_run.specs.Run.{FontBodies, Key, Subr, Glyph, Drawing, own}
 use Rattle.t1_font.specs.Bodies.{bodies}
-use Rattle.t1_font.specs.Glyphs.{Glyph as Told, run_there, placed_parts_of, glyph_of, glyphs_by, glyph_names}
+use Rattle.t1_font.specs.Glyphs.{Glyph as Reported, run_there, placed_parts_of, glyph_of, glyphs_by, glyph_names}
 use Rattle.t1_run.specs.Touched.{is_named, meets_run, meets_parts, touched_within, is_touched}
 use Rattle.t1_run.proofs.Untouched.{untouched_kept}
 use Rattle.t1_cache.specs.Edited.{is_stale}
@@ -42,15 +42,15 @@ all-where P q (x ∷ xs) h = let p = one-cond P x (filter q xs) (q x) h in (p.0,
 
 -- ---- the first fault among a part of the glyphs
 
-checked-one : (place : Place) (r : Result Told Code) (rest : Result (List Told) Fault)
-    → check (told_at place r >>= (λ g. rest >>= (λ gs. Ok (g ∷ gs)))) ≡ (check (told_at place r) >>= λ _. check rest)
+checked-one : (place : Place) (r : Result Reported Code) (rest : Result (List Reported) Fault)
+    → check (reported_at place r >>= (λ g. rest >>= (λ gs. Ok (g ∷ gs)))) ≡ (check (reported_at place r) >>= λ _. check rest)
 checked-one place (Ok g) (Ok gs) = refl
 checked-one place (Ok g) (Err fault) = refl
 checked-one place (Err code) rest = refl
 
 -- a glyph has no fault
 abbrev pub IsFine : (List ℕ → Option (Result Drawing Code)) → (List ℕ → Result (List Segment) Code) → List ℕ → Type 0
-IsFine run outline g = (told : Told) × (glyph_of g (run g) (outline g) ≡ Ok told)
+IsFine run outline g = (reported : Reported) × (glyph_of g (run g) (outline g) ≡ Ok reported)
 
 among-part : (run : List ℕ → Option (Result Drawing Code)) (outline : List ℕ → Result (List Segment) Code) (p : List ℕ → Bool) (names : List (List ℕ))
     → AllByRecursion (λ g. p g ≡ false → IsFine run outline g) names
@@ -61,22 +61,22 @@ among-part run outline p (g ∷ names) h = one (p g) h.0 (among-part run outline
       → check (glyphs_by run outline (g ∷ names)) ≡ check (glyphs_by run outline (cond t (g ∷ filter p names) (filter p names)))
   one true h e =
       checked-one (places.Glyph g) (glyph_of g (run g) (outline g)) (glyphs_by run outline names)
-      ∙ ap (λ r. check (told_at (places.Glyph g) (glyph_of g (run g) (outline g))) >>= (λ _. r)) e
+      ∙ ap (λ r. check (reported_at (places.Glyph g) (glyph_of g (run g) (outline g))) >>= (λ _. r)) e
       ∙ sym (checked-one (places.Glyph g) (glyph_of g (run g) (outline g)) (glyphs_by run outline (filter p names)))
   one false h e =
       checked-one (places.Glyph g) (glyph_of g (run g) (outline g)) (glyphs_by run outline names)
-      ∙ ap (λ r. check (told_at (places.Glyph g) r) >>= (λ _. check (glyphs_by run outline names))) (h refl).1
+      ∙ ap (λ r. check (reported_at (places.Glyph g) r) >>= (λ _. check (glyphs_by run outline names))) (h refl).1
       ∙ e
 
 -- of glyphs without a fault each one is fine
-pub fine-told : (run : List ℕ → Option (Result Drawing Code)) (outline : List ℕ → Result (List Segment) Code) (names : List (List ℕ)) (gs : List Told)
+pub fine-reported : (run : List ℕ → Option (Result Drawing Code)) (outline : List ℕ → Result (List Segment) Code) (names : List (List ℕ)) (gs : List Reported)
     → glyphs_by run outline names ≡ Ok gs → AllByRecursion (IsFine run outline) names
-fine-told run outline [] gs e = tt
-fine-told run outline (g ∷ names) gs e =
-    one (glyph_of g (run g) (outline g)) refl (glyphs_by run outline names) refl (λ xs there. fine-told run outline names xs there) e where
-      one : (r : Result Told Code) → glyph_of g (run g) (outline g) ≡ r → (rest : Result (List Told) Fault) → glyphs_by run outline names ≡ rest
-          → ((xs : List Told) → glyphs_by run outline names ≡ Ok xs → AllByRecursion (IsFine run outline) names)
-          → (told_at (places.Glyph g) r >>= (λ x. rest >>= (λ xs. Ok (x ∷ xs)))) ≡ Ok gs
+fine-reported run outline [] gs e = tt
+fine-reported run outline (g ∷ names) gs e =
+    one (glyph_of g (run g) (outline g)) refl (glyphs_by run outline names) refl (λ xs there. fine-reported run outline names xs there) e where
+      one : (r : Result Reported Code) → glyph_of g (run g) (outline g) ≡ r → (rest : Result (List Reported) Fault) → glyphs_by run outline names ≡ rest
+          → ((xs : List Reported) → glyphs_by run outline names ≡ Ok xs → AllByRecursion (IsFine run outline) names)
+          → (reported_at (places.Glyph g) r >>= (λ x. rest >>= (λ xs. Ok (x ∷ xs)))) ≡ Ok gs
           → IsFine run outline g × AllByRecursion (IsFine run outline) names
       one (Ok x) here (Ok xs) there others e = ((x, here), others xs there)
       one (Ok x) here (Err fault) there others e = absurd (cc)
@@ -101,18 +101,18 @@ unfolding is_touched
 unnamed m keys g h =
     named-meets keys g (own m g) (or_parts (meets_run keys g (own m g)) (meets_parts (touched_within 3 m keys) (own m g)) h).0
 
-pub drew : (g : List ℕ) (run : Option (Result Drawing Code)) (o : Result (List Segment) Code) (told : Told) → glyph_of g run o ≡ Ok told
+pub drew : (g : List ℕ) (run : Option (Result Drawing Code)) (o : Result (List Segment) Code) (reported : Reported) → glyph_of g run o ≡ Ok reported
     → (segments : List Segment) × (o ≡ Ok segments)
-drew g run o told e =
-    let first = bind_ok (run_there run) (λ d. o >>= (λ s. placed_parts_of d.bearing d.composite >>= (λ a. Ok (record { name = g; drawing = d; outline = s; parts = a })))) told e in
-    let second = bind_ok o (λ s. placed_parts_of first.0.bearing first.0.composite >>= (λ a. Ok (record { name = g; drawing = first.0; outline = s; parts = a }))) told first.2 in
+drew g run o reported e =
+    let first = bind_ok (run_there run) (λ d. o >>= (λ s. placed_parts_of d.bearing d.composite >>= (λ a. Ok (record { name = g; drawing = d; outline = s; parts = a })))) reported e in
+    let second = bind_ok o (λ s. placed_parts_of first.0.bearing first.0.composite >>= (λ a. Ok (record { name = g; drawing = first.0; outline = s; parts = a }))) reported first.2 in
     (second.0, second.1)
 
 pub first_fault_stale : FirstFaultLaw
 first_fault_stale keys old new was edit e =
     let m = bodies old.items in
     let n = bodies new.items in
-    let fine : AllByRecursion (IsFine (own m) (outline m)) (glyph_names old.items) = fine-told (own m) (outline m) (glyph_names old.items) was e in
+    let fine : AllByRecursion (IsFine (own m) (outline m)) (glyph_names old.items) = fine-reported (own m) (outline m) (glyph_names old.items) was e in
     let others = subst (AllByRecursion (IsFine (own m) (outline m))) edit.order (all-passing (IsFine (own m) (outline m)) (λ g. not (is_named keys g)) (glyph_names old.items) fine) in
     among-part (own n) (outline n) (is_stale old keys) (glyph_names new.items)
     (all-weaken (λ g. not (is_named keys g) ≡ true → IsFine (own m) (outline m) g) (λ g. is_stale old keys g ≡ false → IsFine (own n) (outline n) g)

@@ -20,8 +20,8 @@ use Rattle.t1_cache.specs.Renewed.{names_of}
 use Rattle.t1_cache.specs.Users.{has}
 
 -- keys are put in after the others
-pub inserted-behind : {K : Type 0} (eq : K → K → Bool) (ks : List K) (k : K) → (more : List K) × (insert_key eq ks k ≡ ks ++ more)
-inserted-behind eq ks k =
+pub inserted-after : {K : Type 0} (eq : K → K → Bool) (ks : List K) (k : K) → (more : List K) × (insert_key eq ks k ≡ ks ++ more)
+inserted-after eq ks k =
     elim (cases_Bool (list_any (eq k) ks)) [
       | inl there ↦ ([], rw there (sym (append-nil ks)))
       | inr absent ↦ (k ∷ [], rw absent refl)
@@ -90,12 +90,12 @@ pub taken-out : {K : Type 0} (name : K → List ℕ) (old new : List K) (n : Lis
     → ((q : K) → has name new (name q) ≡ cond (bytes_eq n (name q)) false (has name old (name q)))
     → (u : List ℕ) → has name new u ≡ (has name old u && not (bytes_eq u n))
 taken-out name old new n at u = by (has name new u) (has name old u) refl refl where
-  told : (k : _) → name k ≡ u → has name new u ≡ (has name old u && not (bytes_eq u n))
-  told k e = sym (ap (has name new) e) ∙ at k ∙ ap (λ v. cond (bytes_eq n v) false (has name old v)) e ∙ but-one n u (has name old u)
+  reported : (k : _) → name k ≡ u → has name new u ≡ (has name old u && not (bytes_eq u n))
+  reported k e = sym (ap (has name new) e) ∙ at k ∙ ap (λ v. cond (bytes_eq n v) false (has name old v)) e ∙ but-one n u (has name old u)
 
   by : (a b : Bool) → has name new u ≡ a → has name old u ≡ b → has name new u ≡ (has name old u && not (bytes_eq u n))
-  by true b e f = let w = witness name new u e in told w.0 w.1
-  by false true e f = let w = witness name old u f in told w.0 w.1
+  by true b e f = let w = witness name new u e in reported w.0 w.1
+  by false true e f = let w = witness name old u f in reported w.0 w.1
   by false false e f = e ∙ sym (ap (λ b. b && not (bytes_eq u n)) f)
 
 -- ---- names that a set or a map has once each

@@ -10,7 +10,7 @@ use Rattle.t1_run.specs.Run.{FontBodies, own}
 use Rattle.t1_font.specs.Bodies.{bodies}
 use Rattle.t1_font.specs.Glyphs.{glyph_of, glyph_names}
 use Rattle.t1_cache.specs.There.{NamesThereLaw}
-use Rattle.t1_cache.proofs.Judging.{IsFine, fine-told}
+use Rattle.t1_cache.proofs.Judging.{IsFine, fine-reported}
 use Rattle.t1_cache.proofs.Newest.{found}
 use Rattle.t1_font.proofs.Lookups.{bytes_tell}
 use Rattle.t1_font.proofs.Measuring.{own-none}
@@ -37,15 +37,15 @@ fine-there m g fine = by (m.glyphs g) refl where
   by : (b : Option (List Command)) → m.glyphs g ≡ b → (body : List Command) × (m.glyphs g ≡ Some body)
   by (Some body) e = (body, e)
   by None e =
-      let told : glyph_of g None (outline m g) ≡ Ok fine.0 = ap (λ r. glyph_of g r (outline m g)) (sym (own-none m g e)) ∙ fine.1 in
+      let reported : glyph_of g None (outline m g) ≡ Ok fine.0 = ap (λ r. glyph_of g r (outline m g)) (sym (own-none m g e)) ∙ fine.1 in
       absurd (cc)
 
 pub names_there : NamesThereLaw
 names_there s = record {
   named = λ g body e. found (λ x. list_any (bytes_eq x) (glyph_names s.items) ≡ true) g body s.items (all-among (λ x. list_any (bytes_eq x) (glyph_names s.items) ≡ true) (glyph_names s.items) (λ x there. there)) e;
-  there = λ told e g among.
+  there = λ reported e g among.
       let run = own (bodies s.items) in
       let draws = outline (bodies s.items) in
       fine-there (bodies s.items) g
-      (one-among (IsFine run draws) (glyph_names s.items) g (fine-told run draws (glyph_names s.items) told (glyphs-of s told e)) among);
+      (one-among (IsFine run draws) (glyph_names s.items) g (fine-reported run draws (glyph_names s.items) reported (glyphs-of s reported e)) among);
 }

@@ -26,7 +26,7 @@ use Rattle.t1_run.specs.Touched.{is_key_of, is_named}
 use Rattle.t1_run.proofs.Untouched.{untouched_kept}
 use Rattle.t1_cache.specs.Edited.{is_stale}
 use Rattle.t1_cache.specs.Laws.{NewestLaw}
-use Rattle.t1_cache.proofs.Judging.{IsFine, fine-told, unnamed, drew}
+use Rattle.t1_cache.proofs.Judging.{IsFine, fine-reported, unnamed, drew}
 
 -- ---- runs that are those of a font give its outlines
 
@@ -81,7 +81,7 @@ unfolding outline
 newest_drawn keys old new was edit e run again kept g body there =
     (runs g body there, within-same (bodies new.items) run runs 4 g body there) where
       fine : AllByRecursion (IsFine (own (bodies old.items)) (outline (bodies old.items))) (glyph_names old.items)
-      fine = fine-told (own (bodies old.items)) (outline (bodies old.items)) (glyph_names old.items) was e
+      fine = fine-reported (own (bodies old.items)) (outline (bodies old.items)) (glyph_names old.items) was e
 
       runs : (h : List ℕ) (b : List Command) → (bodies new.items).glyphs h ≡ Some b → run h ≡ own (bodies new.items) h
       runs h b here =

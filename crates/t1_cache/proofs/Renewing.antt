@@ -3,7 +3,7 @@ use Rattle.std.proofs.Common.{◌≡◌, ℕ, false, List, [], ◌∷◌, map, r
 use Rattle.std.specs.Prelude.{Result, Ok, Err}
 use Rattle.std.specs.List.{AllByRecursion}
 use Rattle.std.proofs.lemmas.Bool.{cases_Bool}
-use Rattle.t1_frac.specs.Outcome.{told_at, ◌>>=◌}
+use Rattle.t1_frac.specs.Outcome.{reported_at, ◌>>=◌}
 use Rattle.t1_frac.specs.declared.fault.Code.{Code}
 use Rattle.t1_frac.specs.declared.fault.Fault.{Fault}
 use Rattle.t1_frac.specs.declared.fault.Place.TheVariants as places
@@ -14,7 +14,7 @@ use Rattle.t1_run.specs.Run.{FontBodies, Drawing, own}
 use Rattle.t1_afm.specs.Box.{drawn_box}
 use Rattle.t1_font.specs.Bodies.{bodies}
 use Rattle.t1_font.specs.declared.glyph_metrics.PlacedParts.{PlacedParts}
-use Rattle.t1_font.specs.Glyphs.{Glyph as Told, placed_parts_of, glyph_of, glyphs, glyph_names}
+use Rattle.t1_font.specs.Glyphs.{Glyph as Reported, placed_parts_of, glyph_of, glyphs, glyph_names}
 use Rattle.t1_font.specs.Assembly.{file_check}
 use Rattle.t1_font.specs.SourceChecks.{source_glyphs}
 use Rattle.t1_run.proofs.Untouched.{untouched_kept}
@@ -40,13 +40,13 @@ some x y e = cc
 
 -- ---- what is reported of the glyphs of a font
 
-pub record TellsOne (m : FontBodies) (g : List ℕ) (t : Told) : Type 0 where
+pub record ReportsOne (m : FontBodies) (g : List ℕ) (t : Reported) : Type 0 where
   pub name : g ≡ t.name
   pub run : own m g ≡ Some (Ok t.drawing)
   pub draws : outline m g ≡ Ok t.outline
 
-abbrev IsTold : Result Told Code → Told → Type 0
-IsTold r t = r ≡ Ok t
+abbrev IsReported : Result Reported Code → Reported → Type 0
+IsReported r t = r ≡ Ok t
 
 abbrev Runs : Option (Result Drawing Code) → Drawing → Type 0
 Runs r d = r ≡ Some (Ok d)
@@ -54,35 +54,35 @@ Runs r d = r ≡ Some (Ok d)
 abbrev Draws : Result (List Segment) Code → List Segment → Type 0
 Draws r s = r ≡ Ok s
 
-told-one : (g : List ℕ) (run : Option (Result Drawing Code)) (o : Result (List Segment) Code) (t : Told) → glyph_of g run o ≡ Ok t
+reported-one : (g : List ℕ) (run : Option (Result Drawing Code)) (o : Result (List Segment) Code) (t : Reported) → glyph_of g run o ≡ Ok t
     → (g ≡ t.name) × ((run ≡ Some (Ok t.drawing)) × (o ≡ Ok t.outline))
-told-one g None o t e = absurd (cc)
-told-one g (Some (Err code)) o t e = absurd (cc)
-told-one g (Some (Ok d)) (Err code) t e = absurd (cc)
-told-one g (Some (Ok d)) (Ok s) t e = by (placed_parts_of d.bearing d.composite) e where
-  by : (r : Result (Option PlacedParts) Code) → IsTold (r >>= (λ a. Ok (record { name = g; drawing = d; outline = s; parts = a }))) t
+reported-one g None o t e = absurd (cc)
+reported-one g (Some (Err code)) o t e = absurd (cc)
+reported-one g (Some (Ok d)) (Err code) t e = absurd (cc)
+reported-one g (Some (Ok d)) (Ok s) t e = by (placed_parts_of d.bearing d.composite) e where
+  by : (r : Result (Option PlacedParts) Code) → IsReported (r >>= (λ a. Ok (record { name = g; drawing = d; outline = s; parts = a }))) t
       → (g ≡ t.name) × (Runs (Some (Ok d)) t.drawing × Draws (Ok s) t.outline)
   by (Err code) e = absurd (cc)
   by (Ok a) e =
-      let x : Told = record { name = g; drawing = d; outline = s; parts = a } in
+      let x : Reported = record { name = g; drawing = d; outline = s; parts = a } in
       let is : x ≡ t = given (Ok x) x t refl e in
       (ap (λ y. y.name) is, (ap (λ y. Some (Ok y.drawing)) is, ap (λ y. Ok y.outline) is))
 
-told-more : (m : FontBodies) (g : List ℕ) (names : List (List ℕ)) (told : List Told) → glyphs m (g ∷ names) ≡ Ok told
-    → (t : Told) × ((ts : List Told) × (TellsOne m g t × ((glyphs m names ≡ Ok ts) × (told ≡ t ∷ ts))))
-told-more m g names told e = by (glyph_of g (own m g) (outline m g)) refl (glyphs m names) refl e where
-  by : (r : Result Told Code) → glyph_of g (own m g) (outline m g) ≡ r → (rest : Result (List Told) Fault) → glyphs m names ≡ rest
-      → (told_at (places.Glyph g) r >>= (λ x. rest >>= (λ xs. Ok (x ∷ xs)))) ≡ Ok told
-      → (t : Told) × ((ts : List Told) × (TellsOne m g t × ((glyphs m names ≡ Ok ts) × (told ≡ t ∷ ts))))
+reported-more : (m : FontBodies) (g : List ℕ) (names : List (List ℕ)) (reported : List Reported) → glyphs m (g ∷ names) ≡ Ok reported
+    → (t : Reported) × ((ts : List Reported) × (ReportsOne m g t × ((glyphs m names ≡ Ok ts) × (reported ≡ t ∷ ts))))
+reported-more m g names reported e = by (glyph_of g (own m g) (outline m g)) refl (glyphs m names) refl e where
+  by : (r : Result Reported Code) → glyph_of g (own m g) (outline m g) ≡ r → (rest : Result (List Reported) Fault) → glyphs m names ≡ rest
+      → (reported_at (places.Glyph g) r >>= (λ x. rest >>= (λ xs. Ok (x ∷ xs)))) ≡ Ok reported
+      → (t : Reported) × ((ts : List Reported) × (ReportsOne m g t × ((glyphs m names ≡ Ok ts) × (reported ≡ t ∷ ts))))
   by (Ok t) here (Ok ts) there e =
-      let one = told-one g (own m g) (outline m g) t here in
-      (t, (ts, (record { name = one.0; run = one.1.0; draws = one.1.1 }, (there, sym (given (Ok (t ∷ ts)) (t ∷ ts) told refl e)))))
+      let one = reported-one g (own m g) (outline m g) t here in
+      (t, (ts, (record { name = one.0; run = one.1.0; draws = one.1.1 }, (there, sym (given (Ok (t ∷ ts)) (t ∷ ts) reported refl e)))))
   by (Ok t) here (Err fault) there e = absurd (cc)
   by (Err code) here rest there e = absurd (cc)
 
 -- ---- records from scratch
 
-scratch-one : (m : FontBodies) (g : List ℕ) (t : Told) (k : Kept) → TellsOne m g t → shown k ≡ shown_from t → IsFromScratch m k
+scratch-one : (m : FontBodies) (g : List ℕ) (t : Reported) (k : Kept) → ReportsOne m g t → shown k ≡ shown_from t → IsFromScratch m k
 scratch-one m g t k one e =
     let at : k.name ≡ g = ap (λ s. s.name) e ∙ sym one.name in
     record {
@@ -93,21 +93,21 @@ scratch-one m g t k one e =
       box = ap (λ s. s.box) e;
     }
 
-pub scratch-all : (m : FontBodies) (names : List (List ℕ)) (told : List Told) (kept : List Kept) → glyphs m names ≡ Ok told → map shown kept ≡ map shown_from told
+pub scratch-all : (m : FontBodies) (names : List (List ℕ)) (reported : List Reported) (kept : List Kept) → glyphs m names ≡ Ok reported → map shown kept ≡ map shown_from reported
     → AllByRecursion (IsFromScratch m) kept
-scratch-all m names told [] e same = tt
-scratch-all m [] told (k ∷ kept) e same =
-    let none : [] ≡ told = given (Ok []) [] told refl e in
+scratch-all m names reported [] e same = tt
+scratch-all m [] reported (k ∷ kept) e same =
+    let none : [] ≡ reported = given (Ok []) [] reported refl e in
     let never : shown k ∷ map shown kept ≡ [] = same ∙ ap (map shown_from) (sym none) in
     absurd (cc)
-scratch-all m (g ∷ names) told (k ∷ kept) e same =
-    let more = told-more m g names told e in
+scratch-all m (g ∷ names) reported (k ∷ kept) e same =
+    let more = reported-more m g names reported e in
     let both : shown k ∷ map shown kept ≡ shown_from more.0 ∷ map shown_from more.1.0 = same ∙ ap (map shown_from) more.1.1.1.1 in (
       scratch-one m g more.0 k more.1.1.0 (heads (shown k) (shown_from more.0) (map shown kept) (map shown_from more.1.0) both),
       scratch-all m names more.1.0 kept more.1.1.1.0 (tails (shown k) (shown_from more.0) (map shown kept) (map shown_from more.1.0) both),
     )
 
-shown-one : (m : FontBodies) (g : List ℕ) (t : Told) (k : Kept) → TellsOne m g t → k.name ≡ g → IsFromScratch m k → shown k ≡ shown_from t
+shown-one : (m : FontBodies) (g : List ℕ) (t : Reported) (k : Kept) → ReportsOne m g t → k.name ≡ g → IsFromScratch m k → shown k ≡ shown_from t
 shown-one m g t k one at is =
     let name : k.name ≡ t.name = at ∙ one.name in
     let drawing : k.run.drawing ≡ t.drawing = given (Ok k.run.drawing) k.run.drawing t.drawing refl (some (Ok k.run.drawing) (Ok t.drawing) (sym is.run ∙ ap (own m) at ∙ one.run)) in
@@ -115,13 +115,13 @@ shown-one m g t k one at is =
     let box : k.box ≡ drawn_box t.outline = is.box ∙ ap drawn_box draws in
     (λ j. record { name = name j; drawing = drawing j; keeps_trace = is.trace j; box = box j })
 
-pub shown-all : (m : FontBodies) (names : List (List ℕ)) (told : List Told) (records : List Kept) → glyphs m names ≡ Ok told → map (λ k. k.name) records ≡ names
-    → AllByRecursion (IsFromScratch m) records → map shown records ≡ map shown_from told
-shown-all m [] told [] e order all = ap (map shown_from) (given (Ok []) [] told refl e)
-shown-all m [] told (k ∷ records) e order all = absurd (cc)
-shown-all m (g ∷ names) told [] e order all = absurd (cc)
-shown-all m (g ∷ names) told (k ∷ records) e order all =
-    let more = told-more m g names told e in
+pub shown-all : (m : FontBodies) (names : List (List ℕ)) (reported : List Reported) (records : List Kept) → glyphs m names ≡ Ok reported → map (λ k. k.name) records ≡ names
+    → AllByRecursion (IsFromScratch m) records → map shown records ≡ map shown_from reported
+shown-all m [] reported [] e order all = ap (map shown_from) (given (Ok []) [] reported refl e)
+shown-all m [] reported (k ∷ records) e order all = absurd (cc)
+shown-all m (g ∷ names) reported [] e order all = absurd (cc)
+shown-all m (g ∷ names) reported (k ∷ records) e order all =
+    let more = reported-more m g names reported e in
     let first = shown-one m g more.0 k more.1.1.0 (heads k.name g (map (λ k. k.name) records) names order) all.0 in
     let rest = shown-all m names more.1.0 records more.1.1.1.0 (tails k.name g (map (λ k. k.name) records) names order) all.1 in
     ap (λ s. s ∷ map shown records) first ∙ ap (λ l. shown_from more.0 ∷ l) rest ∙ ap (map shown_from) (sym more.1.1.1.1)
@@ -133,40 +133,40 @@ one-of P [] k all i = absurd i
 one-of P (x ∷ kept) k all (inl e) = subst P e all.0
 one-of P (x ∷ kept) k all (inr i) = one-of P kept k all.1 i
 
-pub glyphs-of : (s : SourceParts) (told : List Told) → source_glyphs s ≡ Ok told → glyphs (bodies s.items) (glyph_names s.items) ≡ Ok told
-glyphs-of s told e = by (file_check s) e where
-  by : (r : Result (Unit {0}) Fault) → (r >>= λ checked. glyphs (bodies s.items) (glyph_names s.items)) ≡ Ok told → glyphs (bodies s.items) (glyph_names s.items) ≡ Ok told
+pub glyphs-of : (s : SourceParts) (reported : List Reported) → source_glyphs s ≡ Ok reported → glyphs (bodies s.items) (glyph_names s.items) ≡ Ok reported
+glyphs-of s reported e = by (file_check s) e where
+  by : (r : Result (Unit {0}) Fault) → (r >>= λ checked. glyphs (bodies s.items) (glyph_names s.items)) ≡ Ok reported → glyphs (bodies s.items) (glyph_names s.items) ≡ Ok reported
   by (Ok checked) e = e
   by (Err fault) e = absurd (cc)
 
 -- the records bear the names of the glyphs
-names-told : (m : FontBodies) (names : List (List ℕ)) (told : List Told) → glyphs m names ≡ Ok told → map (λ t. t.name) told ≡ names
-names-told m [] told e = ap (map (λ t. t.name)) (sym (given (Ok []) [] told refl e))
-names-told m (g ∷ names) told e =
-    let more = told-more m g names told e in
+names-reported : (m : FontBodies) (names : List (List ℕ)) (reported : List Reported) → glyphs m names ≡ Ok reported → map (λ t. t.name) reported ≡ names
+names-reported m [] reported e = ap (map (λ t. t.name)) (sym (given (Ok []) [] reported refl e))
+names-reported m (g ∷ names) reported e =
+    let more = reported-more m g names reported e in
     ap (map (λ t. t.name)) more.1.1.1.1
     ∙ ap (λ x. x ∷ map (λ t. t.name) more.1.0) (sym more.1.1.0.name)
-    ∙ ap (λ l. g ∷ l) (names-told m names more.1.0 more.1.1.1.0)
+    ∙ ap (λ l. g ∷ l) (names-reported m names more.1.0 more.1.1.1.0)
 
 kept-shown : (records : List Kept) → map (λ k. k.name) records ≡ map (λ s. s.name) (map shown records)
 kept-shown [] = refl
 kept-shown (k ∷ records) = ap (λ l. k.name ∷ l) (kept-shown records)
 
-told-shown : (told : List Told) → map (λ s. s.name) (map shown_from told) ≡ map (λ t. t.name) told
-told-shown [] = refl
-told-shown (t ∷ told) = ap (λ l. t.name ∷ l) (told-shown told)
+reported-shown : (reported : List Reported) → map (λ s. s.name) (map shown_from reported) ≡ map (λ t. t.name) reported
+reported-shown [] = refl
+reported-shown (t ∷ reported) = ap (λ l. t.name ∷ l) (reported-shown reported)
 
 pub names_kept : KeptNamesLaw
 names_kept s records keeps =
-    kept-shown records ∙ ap (map (λ s. s.name)) keeps.from_scratch ∙ told-shown keeps.glyphs
-    ∙ names-told (bodies s.items) (glyph_names s.items) keeps.glyphs (glyphs-of s keeps.glyphs keeps.faultless)
+    kept-shown records ∙ ap (map (λ s. s.name)) keeps.from_scratch ∙ reported-shown keeps.glyphs
+    ∙ names-reported (bodies s.items) (glyph_names s.items) keeps.glyphs (glyphs-of s keeps.glyphs keeps.faultless)
 
 pub renewed : RenewalLaw
-renewed keys old new edit told e kept records was order all =
+renewed keys old new edit reported e kept records was order all =
     record {
-      glyphs = told;
+      glyphs = reported;
       faultless = e;
-      from_scratch = shown-all n (glyph_names new.items) told records (glyphs-of new told e) order (all-weaken (IsRenewed keys old new kept) (IsFromScratch n) each records all);
+      from_scratch = shown-all n (glyph_names new.items) reported records (glyphs-of new reported e) order (all-weaken (IsRenewed keys old new kept) (IsFromScratch n) each records all);
     }
   where
     m : FontBodies

@@ -132,8 +132,8 @@ names-stay reruns (k ∷ kept) =
     ∙ ap (λ l. k.name ∷ l) (names-stay reruns kept)
 
 pub records_rerun : RerunsLaw
-records_rerun keys old new edit told e kept before reruns was order fresh scratch stale =
-    renewed keys old new edit told e kept (with_reruns reruns before) was (names-stay reruns before ∙ order)
+records_rerun keys old new edit reported e kept before reruns was order fresh scratch stale =
+    renewed keys old new edit reported e kept (with_reruns reruns before) was (names-stay reruns before ∙ order)
     (all-with (λ k. has (λ r. r.name.items) reruns k.name ≡ is_stale old keys k.name) (λ k. is_stale old keys k.name ≡ false → IsOneOf kept k)
     (IsRenewed keys old new kept) (λ k. with_rerun (rerun_of reruns k.name) k) each before
     (all-named (λ k. has (λ r. r.name.items) reruns k.name ≡ is_stale old keys k.name) before

@@ -7,7 +7,7 @@ use Rattle.t1_run.specs.Composite.{outline}
 use Rattle.t1_run.specs.Touched.{SameBut, is_touched, is_user}
 use Rattle.t1_parts.specs.SourceParts.{SourceParts}
 use Rattle.t1_font.specs.Bodies.{bodies}
-use Rattle.t1_font.specs.Glyphs.{Glyph as Told}
+use Rattle.t1_font.specs.Glyphs.{Glyph as Reported}
 use Rattle.t1_font.specs.SourceChecks.{source_glyphs}
 use Rattle.t1_cache.specs.declared.records.Records.{Records}
 use Rattle.t1_cache.specs.Tables.{AreStale, AreTables}
@@ -19,7 +19,7 @@ AllDraw m = (g : List ℕ) (body : List Command) → m.glyphs g ≡ Some body �
 
 -- profile: of a source without a fault, each glyph that is there draws
 abbrev pub AllDrawLaw : Type 0
-AllDrawLaw = (s : SourceParts) (told : List Told) → source_glyphs s ≡ Ok told → AllDraw (bodies s.items)
+AllDrawLaw = (s : SourceParts) (reported : List Reported) → source_glyphs s ≡ Ok reported → AllDraw (bodies s.items)
 
 -- profile: of a font without a fault, a glyph that isn't stale has the same own run in the edited font, or none in both
 abbrev pub KeptRunLaw : Type 0

@@ -7,7 +7,7 @@ use Rattle.t1_afm.specs.declared.bbox.BBox.{BBox}
 use Rattle.t1_afm.specs.Box.{drawn_box}
 use Rattle.t1_extent.specs.Kept.{traces}
 use Rattle.t1_font.specs.Bodies.{bodies}
-use Rattle.t1_font.specs.Glyphs.{Glyph as Told, glyph_names}
+use Rattle.t1_font.specs.Glyphs.{Glyph as Reported, glyph_names}
 use Rattle.t1_font.specs.SourceChecks.{source_glyphs}
 use Rattle.t1_cache.specs.declared.records.Records.{Records}
 use Rattle.t1_cache.specs.Renewed.{Kept, kept_of, recorded_run}
@@ -24,12 +24,12 @@ abbrev pub shown : Kept → Shown
 shown k = record { name = k.name; drawing = k.run.drawing; keeps_trace = traces k.name k.run; box = k.box }
 
 -- profile: the same, of a glyph from scratch, whose trace is kept unless it can't be a part
-abbrev pub shown_from : Told → Shown
+abbrev pub shown_from : Reported → Shown
 shown_from g = record { name = g.name; drawing = g.drawing; keeps_trace = true; box = drawn_box g.outline }
 
 -- profile: the source has no fault, and the records are those of its glyphs from scratch, in source order
 pub record KeepsAll (s : SourceParts) (records : List Kept) : Type 0 where
-  pub glyphs : List Told
+  pub glyphs : List Reported
   pub faultless : source_glyphs s ≡ Ok glyphs
   pub from_scratch : map shown records ≡ map shown_from glyphs
 

@@ -18,7 +18,7 @@ use Rattle.t1_run.specs.Run.{Key, Subr, Glyph, Drawing, own}
 use Rattle.t1_run.specs.Composite.{outline_within, outline}
 use Rattle.t1_code.specs.declared.command.Command.{Command}
 use Rattle.t1_font.specs.Bodies.{bodies}
-use Rattle.t1_font.specs.Glyphs.{Glyph as Told, glyphs, glyph_names}
+use Rattle.t1_font.specs.Glyphs.{Glyph as Reported, glyphs, glyph_names}
 use Rattle.t1_cache.specs.Edited.{IsEditedAt, named, names_after, is_stale, stale}
 
 -- profile: whether glyphs have no fault, or their first one
@@ -28,7 +28,7 @@ check r = r >>= λ _. Ok tt
 -- profile: the first fault of the glyphs of an edited source is that of its stale glyphs
 abbrev pub FirstFaultLaw : Type 0
 FirstFaultLaw =
-    (keys : List Key) (old new : SourceParts) (was : List Told) → IsEditedAt keys old new → glyphs (bodies old.items) (glyph_names old.items) ≡ Ok was
+    (keys : List Key) (old new : SourceParts) (was : List Reported) → IsEditedAt keys old new → glyphs (bodies old.items) (glyph_names old.items) ≡ Ok was
     → check (glyphs (bodies new.items) (glyph_names new.items)) ≡ check (glyphs (bodies new.items) (stale old keys new))
 
 -- profile: an entry's key is among these
@@ -77,7 +77,7 @@ CountLaw =
 -- outlines by these runs are those of the edited font
 abbrev pub NewestLaw : Type 0
 NewestLaw =
-    (keys : List Key) (old new : SourceParts) (was : List Told) → IsEditedAt keys old new → glyphs (bodies old.items) (glyph_names old.items) ≡ Ok was
+    (keys : List Key) (old new : SourceParts) (was : List Reported) → IsEditedAt keys old new → glyphs (bodies old.items) (glyph_names old.items) ≡ Ok was
     → (run : List ℕ → Option (Result Drawing Code))
     → ((g : List ℕ) (body : List Command) → (bodies new.items).glyphs g ≡ Some body → is_stale old keys g ≡ true → run g ≡ own (bodies new.items) g)
     → ((g : List ℕ) (body : List Command) → (bodies new.items).glyphs g ≡ Some body → is_stale old keys g ≡ false → run g ≡ own (bodies old.items) g)

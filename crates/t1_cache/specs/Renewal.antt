@@ -15,7 +15,7 @@ use Rattle.t1_afm.specs.declared.bbox.BBox.{BBox}
 use Rattle.t1_run.specs.Composite.{outline}
 use Rattle.t1_afm.specs.Box.{drawn_box}
 use Rattle.t1_font.specs.Bodies.{bodies}
-use Rattle.t1_font.specs.Glyphs.{Glyph as Told, glyph_names}
+use Rattle.t1_font.specs.Glyphs.{Glyph as Reported, glyph_names}
 use Rattle.t1_font.specs.SourceChecks.{source_glyphs}
 use Rattle.t1_cache.specs.Edited.{IsEditedAt, is_stale, named}
 use Rattle.t1_cache.specs.Kept.{KeepsAll}
@@ -45,7 +45,7 @@ pub record IsRenewed (keys : List Key) (old new : SourceParts) (kept : List Kept
 -- source, where it has no fault
 abbrev pub RenewalLaw : Type 0
 RenewalLaw =
-    (keys : List Key) (old new : SourceParts) → IsEditedAt keys old new → (told : List Told) → source_glyphs new ≡ Ok told
+    (keys : List Key) (old new : SourceParts) → IsEditedAt keys old new → (reported : List Reported) → source_glyphs new ≡ Ok reported
     → (kept records : List Kept) → KeepsAll old kept → map (λ k. k.name) records ≡ glyph_names new.items
     → AllByRecursion (IsRenewed keys old new kept) records → KeepsAll new records
 
@@ -57,7 +57,7 @@ kept_by r = record { name = r.name.items; run = r.run; box = r.bbox }
 -- again, are those of the edited source, where it has no fault
 abbrev pub RerunsLaw : Type 0
 RerunsLaw =
-    (keys : List Key) (old new : SourceParts) → IsEditedAt keys old new → (told : List Told) → source_glyphs new ≡ Ok told
+    (keys : List Key) (old new : SourceParts) → IsEditedAt keys old new → (reported : List Reported) → source_glyphs new ≡ Ok reported
     → (kept before : List Kept) (reruns : List Rerun) → KeepsAll old kept → map (λ k. k.name) before ≡ glyph_names new.items
     → AllByRecursion (λ k. is_stale old keys k.name ≡ false → IsOneOf kept k) before
     → AllByRecursion (λ r. IsFromScratch (bodies new.items) (kept_by r)) reruns

@@ -7,7 +7,7 @@ use Rattle.t1_parts.specs.SourceParts.{SourceParts}
 use Rattle.t1_run.specs.Run.{FontBodies, Key, own, body_at}
 use Rattle.t1_run.specs.Touched.{is_user}
 use Rattle.t1_font.specs.Bodies.{bodies}
-use Rattle.t1_font.specs.Glyphs.{Glyph as Told, glyph_names}
+use Rattle.t1_font.specs.Glyphs.{Glyph as Reported, glyph_names}
 use Rattle.t1_font.specs.SourceChecks.{source_glyphs}
 
 -- profile: each Subr that a run without a fault enters, and each part of its composite, has a body in the font
@@ -18,7 +18,7 @@ UsesThereLaw = (m : FontBodies) (g : List ℕ) (k : Key) → is_user k (own m g)
 -- a body
 pub record NamesThere (s : SourceParts) : Type 0 where
   pub named : (g : List ℕ) (body : List Command) → (bodies s.items).glyphs g ≡ Some body → list_any (bytes_eq g) (glyph_names s.items) ≡ true
-  pub there : (told : List Told) → source_glyphs s ≡ Ok told → (g : List ℕ) → list_any (bytes_eq g) (glyph_names s.items) ≡ true
+  pub there : (reported : List Reported) → source_glyphs s ≡ Ok reported → (g : List ℕ) → list_any (bytes_eq g) (glyph_names s.items) ≡ true
       → (body : List Command) × ((bodies s.items).glyphs g ≡ Some body)
 
 -- profile: this is so for every source

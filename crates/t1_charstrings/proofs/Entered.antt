@@ -8,12 +8,12 @@ use Rattle.std.specs.Result.{result_ok}
 use Rattle.std.specs.Str.{bytes_eq}
 use Rattle.std.specs.declared.alloc.Global.{Global}
 use Rattle.std.specs.declared.vec.Vec.{Vec}
-use Rattle.std.proofs.lemmas.Bool.Decides.{leb_tells}
+use Rattle.std.proofs.lemmas.Bool.Decides.{leb_answers}
 use Rattle.indexmap.specs.IndexMap.{hasher_of, spare}
 use Rattle.indexmap.specs.Layout.{hash_map}
 use Rattle.t1_frac.specs.declared.fault.Fault.{Fault}
 use Rattle.t1_frac.specs.declared.fault.Place.TheVariants as places
-use Rattle.t1_frac.specs.Outcome.{told_at, ◌>>=◌}
+use Rattle.t1_frac.specs.Outcome.{reported_at, ◌>>=◌}
 use Rattle.t1_code.specs.declared.command.Command.{Command}
 use Rattle.t1_code.specs.Words.{commands}
 use Rattle.t1_code.proofs.Encrypting.{length-eexec}
@@ -30,9 +30,9 @@ use Rattle.t1_source.proofs.EditedCountLaws.{set_counted}
 use Rattle.t1_run.specs.Run.{Key, Subr, Glyph, body_at, key_eq}
 use Rattle.t1_font.specs.Assembly.{counts_check, file_check, length_check}
 use Rattle.t1_font.specs.Bodies.{bodies, bodies_check, body_check, words_check}
-use Rattle.t1_font.proofs.Compiling.{told-ok}
+use Rattle.t1_font.proofs.Compiling.{reported-ok}
 use Rattle.t1_font.proofs.Counted.{counted-source}
-use Rattle.t1_font.proofs.LengthLaws.{long_told}
+use Rattle.t1_font.proofs.LengthLaws.{long_reported}
 use Rattle.t1_charstrings.specs.declared.entries.Charstrings.{Charstrings}
 use Rattle.t1_charstrings.specs.Batch.{line_by, over, AreFresh, IsBatchOf, IsEditOf}
 use Rattle.t1_charstrings.specs.Changed.{Sets}
@@ -68,21 +68,21 @@ unfolding words_check
 entered (items.Plain l) is check = absurd (cc)
 entered (items.Section before count after) is check = absurd (cc)
 entered (items.Subr n ws closing) is check =
-    let body = compiled (told_at (places.Subr n) (commands ws)) check in
+    let body = compiled (reported_at (places.Subr n) (commands ws)) check in
     record {
       key = Subr n;
       body = body.0;
       has = numbers_tell.itself n;
-      own = ap (λ b. cond b (result_ok (commands ws)) None) (numbers_tell.itself n) ∙ told-ok (places.Subr n) (commands ws) body.0 body.1;
+      own = ap (λ b. cond b (result_ok (commands ws)) None) (numbers_tell.itself n) ∙ reported-ok (places.Subr n) (commands ws) body.0 body.1;
       check = check;
     }
 entered (items.Glyph g ws closing) is check =
-    let body = compiled (told_at (places.Glyph g) (commands ws)) check in
+    let body = compiled (reported_at (places.Glyph g) (commands ws)) check in
     record {
       key = Glyph g;
       body = body.0;
       has = bytes_tell.itself g;
-      own = ap (λ b. cond b (result_ok (commands ws)) None) (bytes_tell.itself g) ∙ told-ok (places.Glyph g) (commands ws) body.0 body.1;
+      own = ap (λ b. cond b (result_ok (commands ws)) None) (bytes_tell.itself g) ∙ reported-ok (places.Glyph g) (commands ws) body.0 body.1;
       check = check;
     }
 
@@ -178,9 +178,9 @@ unfolding file_check
 len_small s n faultless known =
     let text = known.0 in
     let short = ok-first (length_check s) (counts_check s.items) faultless in
-    elim (leb_tells (length text) (2 ^ 32)) [
+    elim (leb_answers (length text) (2 ^ 32)) [
       | inl h ↦ omega (arith, h.1, known.2)
-      | inr h ↦ let long = long_told s text known.1 (omega (arith, h.1, length-eexec text)) in let never = sym short ∙ long in absurd (cc)
+      | inr h ↦ let long = long_reported s text known.1 (omega (arith, h.1, length-eexec text)) in let never = sym short ∙ long in absurd (cc)
     ]
 
 -- a line isn't longer than the text

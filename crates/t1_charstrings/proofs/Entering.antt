@@ -65,8 +65,8 @@ past k i is off = first-body k i is ∙ ap (λ r. option_or r (body_at (bodies i
 here : (k : Key) (i : Item) (is : List Item) (b : List Command) → body_in k i ≡ Some b → body_at (bodies (i ∷ is)) k ≡ Some b
 here k i is b h = first-body k i is ∙ ap (λ r. option_or r (body_at (bodies is) k)) h
 
-behind : (k : Key) (i : Item) (is js : List Item) → body_at (bodies is) k ≡ body_at (bodies js) k → body_at (bodies (i ∷ is)) k ≡ body_at (bodies (i ∷ js)) k
-behind k i is js h = first-body k i is ∙ ap (option_or (body_in k i)) h ∙ sym (first-body k i js)
+following : (k : Key) (i : Item) (is js : List Item) → body_at (bodies is) k ≡ body_at (bodies js) k → body_at (bodies (i ∷ is)) k ≡ body_at (bodies (i ∷ js)) k
+following k i is js h = first-body k i is ∙ ap (option_or (body_in k i)) h ∙ sym (first-body k i js)
 
 none-there : (k : Key) (is : List Item) → list_any (has_key k) is ≡ false → body_at (bodies is) k ≡ None
 none-there (Subr n) [] h = refl
@@ -85,7 +85,7 @@ pub put-other : (k key : Key) (is : List Item) (at : ℕ) (x : Item) → at < le
     → body_at (bodies (slice_set is at x)) k ≡ body_at (bodies is) k
 put-other k key [] at x within was on off = absurd (omega (arith, within))
 put-other k key (i ∷ is) zero x within was on off = past k x is (other-key k key x on off) ∙ sym (past k i is (other-key k key i was off))
-put-other k key (i ∷ is) (suc at) x within was on off = behind k i (slice_set is at x) is (put-other k key is at x (omega (arith, within)) was on off)
+put-other k key (i ∷ is) (suc at) x within was on off = following k i (slice_set is at x) is (put-other k key is at x (omega (arith, within)) was on off)
 
 pub remove-own : (key : Key) (is : List Item) (at : ℕ) → at < length is → Alone (has_key key) at is → body_at (bodies (remove is at)) key ≡ None
 remove-own key [] at within alone = absurd (omega (arith, within))
@@ -96,7 +96,7 @@ pub remove-other : (k key : Key) (is : List Item) (at : ℕ) → at < length is 
     → body_at (bodies (remove is at)) k ≡ body_at (bodies is) k
 remove-other k key [] at within was off = absurd (omega (arith, within))
 remove-other k key (i ∷ is) zero within was off = sym (past k i is (other-key k key i was off))
-remove-other k key (i ∷ is) (suc at) within was off = behind k i (remove is at) is (remove-other k key is at (omega (arith, within)) was off)
+remove-other k key (i ∷ is) (suc at) within was off = following k i (remove is at) is (remove-other k key is at (omega (arith, within)) was off)
 
 pub insert-own : (key : Key) (is : List Item) (at : ℕ) (x : Item) (b : List Command) → at ≤ length is → list_any (has_key key) is ≡ false → body_in key x ≡ Some b
     → body_at (bodies (insert is at x)) key ≡ Some b
@@ -110,7 +110,7 @@ pub insert-other : (k key : Key) (is : List Item) (at : ℕ) (x : Item) → at �
     → body_at (bodies (insert is at x)) k ≡ body_at (bodies is) k
 insert-other k key is zero x within on off = past k x is (other-key k key x on off)
 insert-other k key [] (suc at) x within on off = absurd (omega (arith, within))
-insert-other k key (i ∷ is) (suc at) x within on off = behind k i (insert is at x) is (insert-other k key is at x (omega (arith, within)) on off)
+insert-other k key (i ∷ is) (suc at) x within on off = following k i (insert is at x) is (insert-other k key is at x (omega (arith, within)) on off)
 
 raised-body : (subrs glyphs : ℕ) (k : Key) (i : Item) → body_in k (raised_item subrs glyphs i) ≡ body_in k i
 raised-body subrs glyphs (Subr n) (items.Plain l) = refl
@@ -175,26 +175,26 @@ no-lead key (items.Glyph g ws closing) on = refl
 says : (i : Item) (is : List Item) → said_lead i ≡ None → filter_map said_lead (i ∷ is) ≡ filter_map said_lead is
 says i is none = rw none refl
 
-says-behind : (i : Item) (is js : List Item) → filter_map said_lead is ≡ filter_map said_lead js → filter_map said_lead (i ∷ is) ≡ filter_map said_lead (i ∷ js)
-says-behind i is js h = rw h refl
+says-after : (i : Item) (is js : List Item) → filter_map said_lead is ≡ filter_map said_lead js → filter_map said_lead (i ∷ is) ≡ filter_map said_lead (i ∷ js)
+says-after i is js h = rw h refl
 
 pub lead-put : (key : Key) (is : List Item) (at : ℕ) (x : Item) → at < length is → has_key key (item_at is at) ≡ true → has_key key x ≡ true
     → filter_map said_lead (slice_set is at x) ≡ filter_map said_lead is
 lead-put key [] at x within was on = absurd (omega (arith, within))
 lead-put key (i ∷ is) zero x within was on = says x is (no-lead key x on) ∙ sym (says i is (no-lead key i was))
-lead-put key (i ∷ is) (suc at) x within was on = says-behind i (slice_set is at x) is (lead-put key is at x (omega (arith, within)) was on)
+lead-put key (i ∷ is) (suc at) x within was on = says-after i (slice_set is at x) is (lead-put key is at x (omega (arith, within)) was on)
 
 pub lead-remove : (key : Key) (is : List Item) (at : ℕ) → at < length is → has_key key (item_at is at) ≡ true
     → filter_map said_lead (remove is at) ≡ filter_map said_lead is
 lead-remove key [] at within was = absurd (omega (arith, within))
 lead-remove key (i ∷ is) zero within was = sym (says i is (no-lead key i was))
-lead-remove key (i ∷ is) (suc at) within was = says-behind i (remove is at) is (lead-remove key is at (omega (arith, within)) was)
+lead-remove key (i ∷ is) (suc at) within was = says-after i (remove is at) is (lead-remove key is at (omega (arith, within)) was)
 
 pub lead-insert : (key : Key) (is : List Item) (at : ℕ) (x : Item) → at ≤ length is → has_key key x ≡ true
     → filter_map said_lead (insert is at x) ≡ filter_map said_lead is
 lead-insert key is zero x within on = says x is (no-lead key x on)
 lead-insert key [] (suc at) x within on = absurd (omega (arith, within))
-lead-insert key (i ∷ is) (suc at) x within on = says-behind i (insert is at x) is (lead-insert key is at x (omega (arith, within)) on)
+lead-insert key (i ∷ is) (suc at) x within on = says-after i (insert is at x) is (lead-insert key is at x (omega (arith, within)) on)
 
 -- ---- counts
 

@@ -9,7 +9,7 @@ use Rattle.t1_frac.specs.declared.fault.Refusal.TheVariants as refusals
 use Rattle.t1_frac.specs.Outcome.{Refuses}
 use Rattle.t1_font.specs.Assembly.{file_check}
 use Rattle.t1_font.specs.Bodies.{bodies, bodies_check}
-use Rattle.t1_font.proofs.LengthLaws.{body_fault_told}
+use Rattle.t1_font.proofs.LengthLaws.{body_fault_reported}
 use Rattle.t1_charstrings.specs.declared.entries.Charstrings.{Charstrings}
 use Rattle.t1_charstrings.specs.declared.settling.ReadyCharstrings.TheVariants as ready
 use Rattle.t1_charstrings.specs.Changed.{AreUnchanged}
@@ -36,4 +36,4 @@ all_ready s old c len kept known = record { room = tt; kept = λ new same. uncha
 -- the fault of a body is that of the file
 pub bodies_refused : (s : SourceParts) (refused : Refusal) → Refuses refused (bodies_check s.items) → Refuses refused (file_check s)
 bodies_refused s refusals.Memory h = tt
-bodies_refused s (refusals.Fault fault) h = body_fault_told s fault h
+bodies_refused s (refusals.Fault fault) h = body_fault_reported s fault h

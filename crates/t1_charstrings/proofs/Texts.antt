@@ -9,7 +9,7 @@ use Rattle.t1_frac.specs.declared.fault.Code.{Code}
 use Rattle.t1_frac.specs.declared.fault.Fault.{Fault}
 use Rattle.t1_frac.specs.declared.fault.Place.{Place}
 use Rattle.t1_frac.specs.declared.fault.Place.TheVariants as places
-use Rattle.t1_frac.specs.Outcome.{told_at, ◌>>=◌}
+use Rattle.t1_frac.specs.Outcome.{reported_at, ◌>>=◌}
 use Rattle.t1_parts.specs.declared.item.Item.{Item}
 use Rattle.t1_parts.specs.declared.item.Item.TheVariants as items
 use Rattle.t1_parts.specs.Entries.{is_glyph, is_subr}
@@ -87,8 +87,8 @@ Serves front all at = (k : Key) (body : List Command) → body_at (bodies all) k
 
 line-of : (front : ℕ) (name closing : List ℕ) (place : Place) (key : Key) (r : Result (List Command) Code) (kept : Option Kept)
     → ((body : List Command) → result_ok r ≡ Some body → kept ≡ Some (encrypted front key body))
-    → ◌≡◌ {A = Result (Unit {0}) Fault} (told_at place r >>= λ _. Ok tt) (Ok tt)
-    → ◌≡◌ {A = Result (List ℕ) Fault} (told_at place r >>= λ body. Ok (entry_text (head_of key) name (encrypted_charstring front (charstring body)) closing))
+    → ◌≡◌ {A = Result (Unit {0}) Fault} (reported_at place r >>= λ _. Ok tt) (Ok tt)
+    → ◌≡◌ {A = Result (List ℕ) Fault} (reported_at place r >>= λ body. Ok (entry_text (head_of key) name (encrypted_charstring front (charstring body)) closing))
     (Ok (entry_line name closing kept))
 line-of front name closing place key (Ok body) kept is h = sym (ap (λ k. Ok (entry_line name closing k)) (is body refl))
 line-of front name closing place key (Err code) kept is h = absurd (cc)

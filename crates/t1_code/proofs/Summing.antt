@@ -49,8 +49,8 @@ few_are_one count size short = elim (cases_lt 0 count) [
 ]
 
 -- a byte that begins a block, and those after it
-ceil_behind : (count size : ℕ) → 1 ≤ size → div_ceil (suc count) size ≡ 1 + div_ceil (count - (size - 1)) size
-ceil_behind count size some = elim (cases_lt count size) [
+ceil_after : (count size : ℕ) → 1 ≤ size → div_ceil (suc count) size ≡ 1 + div_ceil (count - (size - 1)) size
+ceil_after count size some = elim (cases_lt count size) [
   | inl p ↦ (
       let e : count - (size - 1) ≡ 0 = omega (arith, p, some) in
       let one = ceil_one (suc count) size (omega arith) (omega (arith, p)) in
@@ -71,7 +71,7 @@ blocks_counted size room [] some =
 blocks_counted size zero (x ∷ bytes) some =
     let e : suc (length bytes) - 0 ≡ suc (length bytes) = omega arith in
     let blocks = blocks_from size (size - 1) bytes in
-    omega (arith, ap (λ n. div_ceil n size) e, onto_length x blocks (blocks_some size (size - 1) bytes), blocks_counted size (size - 1) bytes some, ceil_behind (length bytes) size some)
+    omega (arith, ap (λ n. div_ceil n size) e, onto_length x blocks (blocks_some size (size - 1) bytes), blocks_counted size (size - 1) bytes some, ceil_after (length bytes) size some)
 blocks_counted size (suc room) (x ∷ bytes) some =
     let e : suc (length bytes) - suc room ≡ length bytes - room = omega arith in
     omega (arith, ap (λ n. div_ceil n size) e, onto_length x (blocks_from size room bytes) (blocks_some size room bytes), blocks_counted size room bytes some)

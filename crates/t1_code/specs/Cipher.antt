@@ -24,16 +24,16 @@ pub record IsCipher (key : ℕ) (plain encrypted : List ℕ) : Type 0 where
   pub each : (i : ℕ) → i < length plain → slice_index encrypted i ≡ bit_xor (slice_index plain i) (key_after key (take i encrypted) / 256)
 
 -- profile: the leading bytes of encrypted text are zeros
-abbrev pub encrypted_behind : ℕ → ℕ → List ℕ → List ℕ
-encrypted_behind key lead plain = cipher key (replicate lead 0 ++ plain)
+abbrev pub encrypted_after : ℕ → ℕ → List ℕ → List ℕ
+encrypted_after key lead plain = cipher key (replicate lead 0 ++ plain)
 
 -- Type 1 Font Format, Chapter 7
 abbrev pub encrypted_charstring : ℕ → List ℕ → List ℕ
-encrypted_charstring lead plain = encrypted_behind 4330 lead plain
+encrypted_charstring lead plain = encrypted_after 4330 lead plain
 
 -- Type 1 Font Format, Chapter 7: eexec, with four leading bytes
 unfoldable pub eexec : List ℕ → List ℕ
-eexec plain = encrypted_behind 55665 4 plain
+eexec plain = encrypted_after 55665 4 plain
 
 -- Type 1 Font Format, Chapter 7: the encrypted charstring of a body's words, or the fault of the words
 unfoldable pub encrypted_words : ℕ → List (List ℕ) → Result (List ℕ) Code

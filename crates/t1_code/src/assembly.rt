@@ -1,6 +1,6 @@
 //! The charstrings of bodies, straight from their words.
 ghost use Rattle.std.specs.Prelude.{◌≡◌, length, take, OnErr};
-ghost use Rattle.t1_frac.specs.Outcome.{Gives, told_at};
+ghost use Rattle.t1_frac.specs.Outcome.{Gives, reported_at};
 ghost use Rattle.t1_frac.specs.Words.{words as words_of};
 ghost use Rattle.t1_frac.specs.declared.fault.Place.TheVariants.{Nowhere};
 ghost use Rattle.t1_code.specs.Words.{commands_of_words};
@@ -17,7 +17,7 @@ use t1_frac::{Code, Refusal, Words};
 /// there.
 #[tactic(auto, using(crate::proofs::Adding::coded_step, crate::proofs::Adding::front_grows))]
 fn push_words(code: &mut Vec<u8>, text: &[u8]) -> Result<(), Refusal>
-    ensures value { Gives (λ _. code.new.items) result (told_at Nowhere (charstring_onto code.old.items (commands_of_words (words_of text.now)))) }
+    ensures value { Gives (λ _. code.new.items) result (reported_at Nowhere (charstring_onto code.old.items (commands_of_words (words_of text.now)))) }
     ensures front { take (length code.old.items) code.new.items ≡ code.old.items }
 {
     let mut rest = text;
@@ -32,7 +32,7 @@ fn push_words(code: &mut Vec<u8>, text: &[u8]) -> Result<(), Refusal>
 /// first word's fault that has one. At a fault and where memory runs out the code is as it was.
 #[tactic(auto, unfolding(crate::specs::Words::commands))]
 pub fn assemble_onto(code: &mut Vec<u8>, words: &Words) -> Result<(), Refusal>
-    ensures value { Gives (λ _. code.new.items) result (told_at Nowhere (onto code.old.items (charstring_of_words words.now))) }
+    ensures value { Gives (λ _. code.new.items) result (reported_at Nowhere (onto code.old.items (charstring_of_words words.now))) }
     ensures err { OnErr result (code.new.items ≡ code.old.items) }
 {
     let text = words.as_bytes();
@@ -54,7 +54,7 @@ pub fn assemble_onto(code: &mut Vec<u8>, words: &Words) -> Result<(), Refusal>
 /// of a font; at a fault and where memory runs out what it holds isn't said, and the next call clears it.
 #[tactic(auto, unfolding(crate::specs::Cipher::encrypted_words), using(crate::proofs::Adding::encrypted_at))]
 pub fn encrypt_words(code: &mut Vec<u8>, lead: u8, words: &Words) -> Result<(), Refusal>
-    ensures { Gives (λ _. code.new.items) result (told_at Nowhere (encrypted_words lead words.now)) }
+    ensures { Gives (λ _. code.new.items) result (reported_at Nowhere (encrypted_words lead words.now)) }
 {
     code.clear();
     code.resize(usize::from(lead), 0)?;
@@ -66,7 +66,7 @@ pub fn encrypt_words(code: &mut Vec<u8>, lead: u8, words: &Words) -> Result<(), 
 /// The charstring of a body's words, not encrypted, or the fault of the words as `assemble_onto` gives it.
 #[tactic(auto, using(crate::proofs::Adding::onto_nothing))]
 pub fn assemble(alloc: Global, words: &Words) -> Result<Vec<u8>, Refusal>
-    ensures { Gives (λ code. code.items) result (told_at Nowhere (charstring_of_words words.now)) }
+    ensures { Gives (λ code. code.items) result (reported_at Nowhere (charstring_of_words words.now)) }
 {
     let mut code = Vec::new(alloc);
     assemble_onto(&mut code, words)?;

@@ -1,6 +1,6 @@
 //! Charstring and eexec encryption.
 ghost use Rattle.std.specs.Prelude.{◌≡◌, ◌/◌, ◌%◌, IfOk, bit_xor};
-ghost use Rattle.t1_code.specs.Cipher.{cipher, key_after, next_key, encrypted_behind};
+ghost use Rattle.t1_code.specs.Cipher.{cipher, key_after, next_key, encrypted_after};
 
 use std::alloc::{AllocError, Global};
 use std::marker::Model;
@@ -79,7 +79,7 @@ impl Cipher {
 
 /// The cipher text of leading zero bytes and the plain bytes.
 pub fn encrypt(alloc: Global, key: u16, lead: u8, plain: &[u8]) -> Result<Vec<u8>, AllocError>
-    ensures { IfOk result (λ encrypted. encrypted.items ≡ encrypted_behind key lead plain.now) }
+    ensures { IfOk result (λ encrypted. encrypted.items ≡ encrypted_after key lead plain.now) }
 {
     let mut bytes = vec![in alloc; 0; usize::from(lead)]?;
     bytes.extend_from_slice(plain)?;

@@ -3,7 +3,7 @@ ghost use Rattle.std.specs.Prelude.{◌≡◌, ◌<◌, ◌≤◌, ◌+◌, ◌-
 ghost use Rattle.t1_code.specs.Parts.{file_of, hexadecimal_file_of, length_of};
 ghost use Rattle.t1_code.specs.Pfa.{hexadecimal_lines};
 ghost use Rattle.t1_code.specs.Pfb.{blocks_from, segments};
-ghost use Rattle.t1_frac.specs.Outcome.{told_at};
+ghost use Rattle.t1_frac.specs.Outcome.{reported_at};
 ghost use Rattle.t1_frac.specs.declared.fault.Place.TheVariants.{Nowhere};
 
 use crate::parts::Parts;
@@ -52,7 +52,7 @@ fn lines_len(len: usize) -> u64
 pub fn pfb_len(parts: &Parts, size: usize) -> Result<u64, Code>
     requires some { 1 ≤ size }
     requires short { size ≤ 2 ^ 31 - 1 }
-    ensures { told_at Nowhere result ≡ length_of (file_of size parts.now) }
+    ensures { reported_at Nowhere result ≡ length_of (file_of size parts.now) }
 {
     let private_len = private_part_len(parts)?;
     let clear = segments_len(parts.clear.len(), size);
@@ -63,7 +63,7 @@ pub fn pfb_len(parts: &Parts, size: usize) -> Result<u64, Code>
 
 /// How many bytes `write_pfa` writes, or F23 where it refuses. It takes no memory.
 pub fn pfa_len(parts: &Parts) -> Result<u64, Code>
-    ensures { told_at Nowhere result ≡ length_of (hexadecimal_file_of parts.now) }
+    ensures { reported_at Nowhere result ≡ length_of (hexadecimal_file_of parts.now) }
 {
     let private_len = private_part_len(parts)?;
     let private = lines_len(private_len);

@@ -1,6 +1,6 @@
 //! The words of a body, read as commands.
 ghost use Rattle.std.specs.Prelude.{◌≡◌, ◌<◌, [], ◌∷◌, false, nat_lt, length, take, IfSome, MatchOption};
-ghost use Rattle.t1_frac.specs.Outcome.{Gives, told_at};
+ghost use Rattle.t1_frac.specs.Outcome.{Gives, reported_at};
 ghost use Rattle.t1_frac.specs.Words.{trimmed_front, words};
 ghost use Rattle.t1_frac.specs.declared.fault.Place.TheVariants.{Nowhere};
 ghost use Rattle.t1_code.specs.Words.{number_command, in_32_bits, first_word, after_others, command_of_word, command_then, commands_of_words, commands};
@@ -111,7 +111,7 @@ pub(crate) fn is_too_long(text: &[u8]) -> bool
 
 /// Adds the commands of a text's words. At a fault and where memory runs out some of them may stand there.
 fn read_words(read: &mut Vec<Command>, text: &[u8]) -> Result<(), Refusal>
-    ensures value { Gives (λ _. read.new.items) result (told_at Nowhere (after_others read.old.items (commands_of_words (words text.now)))) }
+    ensures value { Gives (λ _. read.new.items) result (reported_at Nowhere (after_others read.old.items (commands_of_words (words text.now)))) }
     ensures front { take (length read.old.items) read.new.items ≡ read.old.items }
 {
     let mut rest = text;
@@ -127,7 +127,7 @@ fn read_words(read: &mut Vec<Command>, text: &[u8]) -> Result<(), Refusal>
 /// the body's may stand after them.
 #[tactic(auto, unfolding(crate::specs::Words::commands))]
 pub fn compile_onto(others: &mut Vec<Command>, words: &Words) -> Result<(), Refusal>
-    ensures value { Gives (λ _. others.new.items) result (told_at Nowhere (after_others others.old.items (commands words.now))) }
+    ensures value { Gives (λ _. others.new.items) result (reported_at Nowhere (after_others others.old.items (commands words.now))) }
     ensures front { take (length others.old.items) others.new.items ≡ others.old.items }
 {
     let text = words.as_bytes();
@@ -140,7 +140,7 @@ pub fn compile_onto(others: &mut Vec<Command>, words: &Words) -> Result<(), Refu
 /// The commands of a body's words, or their fault as `compile_onto` gives it.
 #[tactic(auto, using(crate::proofs::Reading::after_nothing))]
 pub fn compile(alloc: Global, words: &Words) -> Result<Body, Refusal>
-    ensures { Gives (λ body. body) result (told_at Nowhere (commands words.now)) }
+    ensures { Gives (λ body. body) result (reported_at Nowhere (commands words.now)) }
 {
     // a word takes some five bytes with the blank after it, so that the vector seldom grows
     let mut body = Vec::with_capacity(alloc, words.as_bytes().len() / 4)?;

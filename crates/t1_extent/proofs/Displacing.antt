@@ -214,12 +214,12 @@ displaced_once by outline current start place (Ok to) r h hb rides f g =
           ∙ ap (move_check by) (extremes_shifted (apart start place) (corners outline) (corners current) (apart_number start place hs hq) n rides.moved.corners)
           ∙ ap limit_check (some_twice by start place (extremes (corners outline)) hn hs hq (some_lowest (corners outline) n))
           ∙ ap (λ p. move_check (apart start p) (extremes (corners outline))) (sym is),
-      told r g,
+      reported r g,
     )
   where
-    told : (t : Result (List Segment) Code) → moved_outline by current ≡ t → IfOk t (λ moved. AreWithin moved × (summary moved ≡ shifted_summary (apart start to) (summary outline)))
-    told (Err c) e = tt
-    told (Ok next) e =
+    reported : (t : Result (List Segment) Code) → moved_outline by current ≡ t → IfOk t (λ moved. AreWithin moved × (summary moved ≡ shifted_summary (apart start to) (summary outline)))
+    reported (Err c) e = tt
+    reported (Ok next) e =
         let on = rides_on by outline current next start place to h hb rides e f in
         (on.within, moved_by_law (apart start to) outline next (apart_number start to (point_number start h.start_place) (point_number to on.point)) (numbers outline h.within) on.moved)
 

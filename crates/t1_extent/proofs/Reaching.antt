@@ -22,7 +22,7 @@ use Rattle.t1_extent.specs.declared.reached.Reached.{Reached}
 use Rattle.t1_extent.specs.Exacts.{extremes_of, AreFine}
 use Rattle.t1_extent.specs.Extremes.{Extremes, corners, extremes, unite, rounded, shifted_by, limit_check, move_check, moved_box, IsWhole, IsWholeSegment, MovesEasily, is_whole_segment, is_whole_outline}
 use Rattle.t1_extent.specs.Laws.{Summary, summary, shifted_summary, AreWithin, IsDistance}
-use Rattle.t1_extent.specs.Reached.{IsDrawnBy, IsExact, IsNear, IsReach, MovesReach, TellsAtOnce, grain_of}
+use Rattle.t1_extent.specs.Reached.{IsDrawnBy, IsExact, IsNear, IsReach, MovesReach, ReportsAtOnce, grain_of}
 use Rattle.t1_extent.proofs.BoxLaws.{drawn_box_law, box_moves_law}
 use Rattle.t1_extent.proofs.Checking.{passed}
 use Rattle.t1_extent.proofs.Displacing.{whole_corners, some_lowest}
@@ -119,10 +119,10 @@ pub record IsMovedTo (by : Point) (outline moved : List Segment) : Type 0 where
   pub within : AreWithin moved
   pub same : summary moved ≡ shifted_summary by (summary outline)
 
-moved_told : (by : Point) (outline : List Segment) (r : Result (List Segment) Code) → moved_outline by outline ≡ r → passed r ≡ Ok tt
+moved_reported : (by : Point) (outline : List Segment) (r : Result (List Segment) Code) → moved_outline by outline ≡ r → passed r ≡ Ok tt
     → IfOk r AreWithin → IfOk r (λ moved. summary moved ≡ shifted_summary by (summary outline)) → (moved : List Segment) × IsMovedTo by outline moved
-moved_told by outline (Ok moved) e p w s = (moved, record { is = e; within = w; same = s })
-moved_told by outline (Err c) e p w s = absurd (cc)
+moved_reported by outline (Ok moved) e p w s = (moved, record { is = e; within = w; same = s })
+moved_reported by outline (Err c) e p w s = absurd (cc)
 
 checked : (by : Point) (r : Reached) (outline : List Segment) → IsDistance by → MovesReach by r → IsReach r outline
     → passed (moved_outline by outline) ≡ move_check by (option_map extremes_of r.corners)
@@ -131,7 +131,7 @@ checked by r outline hb easy h = check_law by outline hb h.within (moves_easily 
 pub moves_to : (by : Point) (r : Reached) (outline : List Segment) → IsDistance by → MovesReach by r → IsReach r outline
     → move_check by (option_map extremes_of r.corners) ≡ Ok tt → (moved : List Segment) × IsMovedTo by outline moved
 moves_to by r outline hb easy h e =
-    moved_told by outline (moved_outline by outline) refl (checked by r outline hb easy h ∙ e)
+    moved_reported by outline (moved_outline by outline) refl (checked by r outline hb easy h ∙ e)
     (outline_within by outline (distance_number by hb) (numbers outline h.within)) (moved_law by outline hb h.within)
 
 pub refused_by : (r : Result (List Segment) Code) (c : Code) → passed r ≡ Err c → r ≡ Err c
@@ -157,7 +157,7 @@ pub moved_whole : (by : Point) (r : Reached) (extent drawn united : Option Exten
     → ((n : ℕ) → IsWhole by → IfSome extent (AreFine n) → IfSome drawn (AreFine n))
     → option_map extremes_of united ≡ option_map (shifted_by by) (option_map extremes_of r.corners)
     → ((n : ℕ) → IsWhole by → IfSome r.corners (AreFine n) → IfSome united (AreFine n))
-    → TellsAtOnce (Ok (record { drawn = Whole drawn; corners = united })) (moved_outline by outline)
+    → ReportsAtOnce (Ok (record { drawn = Whole drawn; corners = united })) (moved_outline by outline)
 moved_whole by r extent drawn united outline hb easy w h er ok ed fd ec fc =
     let m = moves_to by r outline hb easy h ok in
     let x : IsDrawnBy (Whole extent) outline = subst (λ d. IsDrawnBy d outline) er h.drawn in
@@ -180,7 +180,7 @@ pub moved_fraction : (by : Point) (r : Reached) (extent drawn united : Option Ex
     → option_map extremes_of united ≡ option_map (shifted_by by) (option_map extremes_of r.corners)
     → (IsDistance by → IfSome r.corners (AreFine 1) → IfSome united (AreFine (2 ^ 20)))
     → bbox ≡ option_map rounded (option_map extremes_of drawn)
-    → TellsAtOnce (Ok (record { drawn = Mixed bbox; corners = united })) (moved_outline by outline)
+    → ReportsAtOnce (Ok (record { drawn = Mixed bbox; corners = united })) (moved_outline by outline)
 moved_fraction by r extent drawn united bbox outline hb easy h er ok ed ec fc eb =
     let m = moves_to by r outline hb easy h ok in
     let x : IsDrawnBy (Whole extent) outline = subst (λ d. IsDrawnBy d outline) er h.drawn in
@@ -261,7 +261,7 @@ pub moved_rounded : (by : Point) (r : Reached) (bbox to : Option BBox) (united :
     → option_map extremes_of united ≡ option_map (shifted_by by) (option_map extremes_of r.corners)
     → ((n : ℕ) → IsWhole by → IfSome r.corners (AreFine n) → IfSome united (AreFine n))
     → to ≡ option_map (moved_box by) bbox
-    → TellsAtOnce (Ok (record { drawn = Mixed to; corners = united })) (moved_outline by outline)
+    → ReportsAtOnce (Ok (record { drawn = Mixed to; corners = united })) (moved_outline by outline)
 moved_rounded by r bbox to united outline hb easy w h er ok ec fc et =
     let m = moves_to by r outline hb easy h ok in
     let x : bbox ≡ drawn_box outline = subst (λ d. IsDrawnBy d outline) er h.drawn in
@@ -294,7 +294,7 @@ pub leads_on : (r s t : Reached) (x : Segment) (one rest whole : Result (List Se
 leads_on r s t x one rest whole l is k unite =
     (l.0 ++ (x ∷ []), unite l.0 (x ∷ []) l.1 k, l.2 ∙ ap (λ u. u >>= λ ss. Ok (l.0 ++ ss)) is ∙ appended l.0 x rest)
 
-pub leads_end : (r : Reached) (rest whole : Result (List Segment) Code) → Leads r rest whole → rest ≡ Ok [] → TellsAtOnce (Ok r) whole
+pub leads_end : (r : Reached) (rest whole : Result (List Segment) Code) → Leads r rest whole → rest ≡ Ok [] → ReportsAtOnce (Ok r) whole
 leads_end r rest whole l is = (l.0, l.2 ∙ ap (λ u. u >>= λ ss. Ok (l.0 ++ ss)) is ∙ ap Ok (append-nil l.0), l.1)
 
 pub leads_refused : (r : Reached) (rest whole : Result (List Segment) Code) (c : Code) → Leads r rest whole → rest ≡ Err c → whole ≡ Err c

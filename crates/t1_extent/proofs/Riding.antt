@@ -12,7 +12,7 @@ use Rattle.t1_extent.specs.Exacts.{extremes_of, AreFine}
 use Rattle.t1_extent.specs.Extremes.{corners, extremes, rounded, shifted_by, limit_check, move_check}
 use Rattle.t1_extent.specs.Figures.{apart, IsFigure, IsFigureOf, IsWholeFigure}
 use Rattle.t1_extent.specs.Laws.{Summary, IsDistance}
-use Rattle.t1_extent.specs.Reached.{TellsAtOnce}
+use Rattle.t1_extent.specs.Reached.{ReportsAtOnce}
 use Rattle.t1_extent.specs.Turns.{in_turn, through, point_through}
 use Rattle.t1_extent.proofs.BoxLaws.{drawn_box_law}
 use Rattle.t1_extent.proofs.Checking.{passed}
@@ -34,7 +34,7 @@ riding figure moves last outline to h hm hl ok is =
     subst (λ t. Displaced outline figure.start t (through moves last outline)) (sym is)
     (displaced moves last outline figure.start
     (record { within = h.within; whole = each_whole outline h.whole; start_whole = figure.whole; start_place = figure.place })
-    h.told.start (all_by IsDistance moves hm) hl ok)
+    h.reported.start (all_by IsDistance moves hm) hl ok)
 
 checked_at : (figure : Figure) (outline : List Segment) (to d : Point) (r : Result (List Segment) Code) → IsFigure figure outline → d ≡ apart figure.start to
     → Displaced outline figure.start (Ok to) r → passed r ≡ move_check d (Some (extremes_of figure.corners))
@@ -58,7 +58,7 @@ figure_draws figure outline to d (Ok moved) c h is k e f =
 pub figure_reaches : (figure : Figure) (outline : List Segment) (to d : Point) (r : Result (List Segment) Code) (drawn corners' : Extent) → IsFigure figure outline → d ≡ apart figure.start to
     → Displaced outline figure.start (Ok to) r → move_check d (Some (extremes_of figure.corners)) ≡ Ok tt
     → extremes_of drawn ≡ shifted_by d (extremes_of figure.drawn) → extremes_of corners' ≡ shifted_by d (extremes_of figure.corners) → AreFine (2 ^ 20) corners'
-    → TellsAtOnce (Ok (record { drawn = Mixed (Some (rounded (extremes_of drawn))); corners = Some corners' })) r
+    → ReportsAtOnce (Ok (record { drawn = Mixed (Some (rounded (extremes_of drawn))); corners = Some corners' })) r
 figure_reaches figure outline to d (Err x) drawn corners' h is k e ed ec fine = let p = checked_at figure outline to d (Err x) h is k ∙ e in absurd (cc)
 figure_reaches figure outline to d (Ok moved) drawn corners' h is k e ed ec fine =
     let points_are : Some (extremes_of drawn) ≡ extremes (points moved) =

@@ -45,4 +45,4 @@ IsFigureOf (Some figure) outline = IsFigure figure outline
 pub record IsWholeFigure (figure : Option Figure) (outline : List Segment) : Type 0 where
   pub within : AreWithin outline
   pub whole : is_whole_outline outline ≡ true
-  pub told : IsFigureOf figure outline
+  pub reported : IsFigureOf figure outline

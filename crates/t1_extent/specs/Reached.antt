@@ -1,7 +1,7 @@
 -- How far outlines reach, and what a call says of them.
 use Rattle.std.specs.Prelude.{◌≡◌, ℕ, ◌^◌, ◌≤◌, ◌⊎◌, ◌+ℤ◌, List, option_map, IfSome, Result, Ok, Err, true}
 use Rattle.std.specs.Int.RustNames.{unsigned_abs}
-use Rattle.t1_frac.specs.Outcome.{Refuses, told_at}
+use Rattle.t1_frac.specs.Outcome.{Refuses, reported_at}
 use Rattle.t1_frac.specs.declared.fault.Code.{Code}
 use Rattle.t1_frac.specs.declared.fault.Place.TheVariants.{Nowhere}
 use Rattle.t1_frac.specs.declared.fault.Refusal.{Refusal}
@@ -56,11 +56,11 @@ abbrev pub IsReachOfSome : Reached → Type 0
 IsReachOfSome reached = (outline : List Segment) × IsReach reached outline
 
 -- profile: a call answers how far the outline reaches that a definition gives, or its fault, unless memory ran out
-abbrev pub Tells : Result Reached Refusal → Result (List Segment) Code → Type 0
-Tells (Ok reached) given = (outline : List Segment) × (given ≡ Ok outline) × IsReach reached outline
-Tells (Err refused) given = Refuses refused (told_at Nowhere given)
+abbrev pub Reports : Result Reached Refusal → Result (List Segment) Code → Type 0
+Reports (Ok reached) given = (outline : List Segment) × (given ≡ Ok outline) × IsReach reached outline
+Reports (Err refused) given = Refuses refused (reported_at Nowhere given)
 
 -- profile: the same, of a call that takes no memory
-abbrev pub TellsAtOnce : Result Reached Code → Result (List Segment) Code → Type 0
-TellsAtOnce (Ok reached) given = (outline : List Segment) × (given ≡ Ok outline) × IsReach reached outline
-TellsAtOnce (Err code) given = given ≡ Err code
+abbrev pub ReportsAtOnce : Result Reached Code → Result (List Segment) Code → Type 0
+ReportsAtOnce (Ok reached) given = (outline : List Segment) × (given ≡ Ok outline) × IsReach reached outline
+ReportsAtOnce (Err code) given = given ≡ Err code

@@ -33,7 +33,7 @@ impl Figure {
     ghost use Rattle.t1_extent.specs.Extremes.{IsWholeSegment};
     ghost use Rattle.t1_extent.specs.Figures.{first_point as first_point_of, IsFigureOf, IsWholeFigure};
     ghost use Rattle.t1_extent.specs.Laws.{IsDistance};
-    ghost use Rattle.t1_extent.specs.Reached.{IsReach, TellsAtOnce};
+    ghost use Rattle.t1_extent.specs.Reached.{IsReach, ReportsAtOnce};
     ghost use Rattle.t1_extent.specs.Turns.{in_turn, through as through_of};
 
     /// The first point of an outline.
@@ -88,7 +88,7 @@ impl Figure {
     ) -> Result<Reached, Code>
         requires moves { All IsDistance moves.now }
         requires last { IsDistance last.now }
-        ensures { (outline : List Segment) → IsWholeFigure figure outline → IsOk (in_turn moves.now outline) → TellsAtOnce result (through_of moves.now last.now outline) }
+        ensures { (outline : List Segment) → IsWholeFigure figure outline → IsOk (in_turn moves.now outline) → ReportsAtOnce result (through_of moves.now last.now outline) }
     {
         let Some(figure) = figure else {
             return Ok(Reached::nothing());

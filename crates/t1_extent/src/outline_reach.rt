@@ -1,13 +1,13 @@
 //! How far the outlines of glyphs reach whose runs are kept.
 
 ghost use Rattle.std.specs.Prelude.{◌≡◌, true, All, Ok, IsOk};
-ghost use Rattle.t1_frac.specs.Outcome.{Gives, told_at};
+ghost use Rattle.t1_frac.specs.Outcome.{Gives, reported_at};
 ghost use Rattle.t1_frac.specs.declared.fault.Place.TheVariants.{Nowhere};
 ghost use Rattle.t1_code.specs.Encoding.{is_standard_name};
 ghost use Rattle.t1_run.specs.Composite.{outline_within};
 ghost use Rattle.t1_extent.specs.Extremes.{is_whole as is_whole_of};
 ghost use Rattle.t1_extent.specs.Laws.{IsDistance};
-ghost use Rattle.t1_extent.specs.Reached.{Tells, TellsAtOnce};
+ghost use Rattle.t1_extent.specs.Reached.{Reports, ReportsAtOnce};
 ghost use Rattle.t1_extent.specs.Turns.{in_turn, through, given_in_turn, given_through, given_moved, given_box};
 
 use crate::figure::Figure;
@@ -27,7 +27,7 @@ fn own_through(run: &KeptRun, moves: &[Point], last: &Point) -> Result<Reached, 
     requires last { IsDistance last.now }
     requires traced { run.now.is_traced ≡ true }
     requires passed { IsOk (in_turn moves.now run.now.drawing.segments) }
-    ensures { TellsAtOnce result (through moves.now last.now run.now.drawing.segments) }
+    ensures { ReportsAtOnce result (through moves.now last.now run.now.drawing.segments) }
 {
     match run.trace() {
         Trace::Whole(figure) => Figure::through(figure, moves, last),
@@ -49,7 +49,7 @@ fn moved_reach<R: KeptRuns>(
     requires last { IsDistance last.now }
     requires part { is_standard_name name.now ≡ true }
     requires passed { IsOk (given_in_turn moves.now (outline_within (R.drawn runs.now) depth name.now)) }
-    ensures { Tells result (given_through moves.now last.now (outline_within (R.drawn runs.now) depth name.now)) }
+    ensures { Reports result (given_through moves.now last.now (outline_within (R.drawn runs.now) depth name.now)) }
 {
     let run = match runs.run_of(name) {
         None => return Err(Refusal::from(Code::F45)),
@@ -87,10 +87,10 @@ fn accent_reach<R: KeptRuns>(
     by: &Move,
 ) -> Result<Reached, Refusal>
     requires part { is_standard_name name.now ≡ true }
-    requires accent { Tells (Ok accent.now) (outline_within (R.drawn runs.now) depth name.now) }
+    requires accent { Reports (Ok accent.now) (outline_within (R.drawn runs.now) depth name.now) }
     requires distance { IsDistance by.now.by }
     requires whole { by.now.is_whole ≡ is_whole_of by.now.by }
-    ensures { Tells result (given_moved by.now.by (outline_within (R.drawn runs.now) depth name.now)) }
+    ensures { Reports result (given_moved by.now.by (outline_within (R.drawn runs.now) depth name.now)) }
 {
     if by.is_whole || accent.is_whole() {
         return Ok(accent.moved(&by.by)?);
@@ -105,7 +105,7 @@ fn reach_at<R: KeptRuns>(
     depth: u8,
     name: &[u8],
 ) -> Result<Reached, Refusal>
-    ensures { Tells result (outline_within (R.drawn runs.now) depth name.now) }
+    ensures { Reports result (outline_within (R.drawn runs.now) depth name.now) }
 {
     let run = match runs.run_of(name) {
         None => return Err(Refusal::from(Code::F45)),
@@ -129,7 +129,7 @@ fn reach_at<R: KeptRuns>(
 /// How far the outline of a glyph reaches, whose composites nest four deep at most, or its first fault. No segments of
 /// its parts are joined.
 pub fn reach_of<R: KeptRuns>(alloc: Global, runs: &R, name: &[u8]) -> Result<Reached, Refusal>
-    ensures { Tells result (outline_within (R.drawn runs.now) 4 name.now) }
+    ensures { Reports result (outline_within (R.drawn runs.now) 4 name.now) }
 {
     reach_at(alloc, runs, 4, name)
 }
@@ -139,7 +139,7 @@ pub fn box_of<R: KeptRuns>(alloc: Global, runs: &R, name: &[u8]) -> Result<Optio
     ensures { Gives
         (λ bbox. bbox)
         result
-        (told_at Nowhere (given_box (outline_within (R.drawn runs.now) 4 name.now))) }
+        (reported_at Nowhere (given_box (outline_within (R.drawn runs.now) 4 name.now))) }
 {
     let reached = reach_of(alloc, runs, name)?;
     Ok(reached.bbox())

@@ -7,7 +7,7 @@ ghost use Rattle.t1_afm.specs.Box.{drawn_box};
 ghost use Rattle.t1_extent.specs.Extremes.{rounded, limit_check, move_check, shifted_by, moved_box as moved_box_of, IsWhole};
 ghost use Rattle.t1_extent.specs.Exacts.{extremes_of, AreFine};
 ghost use Rattle.t1_extent.specs.Laws.{IsDistance};
-ghost use Rattle.t1_extent.specs.Reached.{IsExact, IsNear, IsReach, IsReachOfSome, MovesReach, TellsAtOnce};
+ghost use Rattle.t1_extent.specs.Reached.{IsExact, IsNear, IsReach, IsReachOfSome, MovesReach, ReportsAtOnce};
 
 use crate::boxes::moved_box;
 use crate::corners::{corners_extent, unite};
@@ -113,7 +113,7 @@ impl Reached {
     /// Whether all coordinates of the outline are known to be whole.
     pub fn is_whole(&self) -> bool
         ensures exact { result ≡ true → IsExact self.now.drawn }
-        ensures told { IsExact self.now.drawn → result ≡ true }
+        ensures reported { IsExact self.now.drawn → result ≡ true }
     {
         match self.drawn {
             Drawn::Whole(_) => true,
@@ -141,7 +141,7 @@ impl Reached {
         requires reach { IsReachOfSome self.now }
         requires distance { IsDistance by.now }
         requires easy { MovesReach by.now self.now }
-        ensures { (outline : List Segment) → IsReach self.now outline → TellsAtOnce result (moved_outline by.now outline) }
+        ensures { (outline : List Segment) → IsReach self.now outline → ReportsAtOnce result (moved_outline by.now outline) }
     {
         let corners = moved_extent(self.corners, by)?;
         match self.drawn {

@@ -92,7 +92,7 @@ impl Sides {
         ensures bottom { result ≡ true → self.now.bottom ≡ pos 262144 *ℤ others.now.bottom }
         ensures right { result ≡ true → self.now.right ≡ pos 262144 *ℤ others.now.right }
         ensures top { result ≡ true → self.now.top ≡ pos 262144 *ℤ others.now.top }
-        ensures told { self.now.left ≡ pos 262144 *ℤ others.now.left → self.now.bottom ≡ pos 262144 *ℤ others.now.bottom → self.now.right ≡ pos 262144 *ℤ others.now.right → self.now.top ≡ pos 262144 *ℤ others.now.top → result ≡ true }
+        ensures reported { self.now.left ≡ pos 262144 *ℤ others.now.left → self.now.bottom ≡ pos 262144 *ℤ others.now.bottom → self.now.right ≡ pos 262144 *ℤ others.now.right → self.now.top ≡ pos 262144 *ℤ others.now.top → result ≡ true }
     {
         self.horizontal().are_whole(&others.horizontal())
             && self.vertical().are_whole(&others.vertical())

@@ -2,7 +2,7 @@
 
 ghost use Rattle.std.specs.Prelude.{◌≡◌, IfOk, IsOk};
 ghost use Rattle.t1_run.specs.Composite.{IsPoint, IsWithin};
-ghost use Rattle.t1_extent.specs.Reached.{TellsAtOnce};
+ghost use Rattle.t1_extent.specs.Reached.{ReportsAtOnce};
 ghost use Rattle.t1_extent.specs.Turns.{in_turn, through, point_through as point_through_of, segment_through as segment_through_of};
 
 use crate::reached::Reached;
@@ -44,7 +44,7 @@ pub(crate) fn segments_through(
     last: &Point,
 ) -> Result<Reached, Code>
     requires { IsOk (in_turn moves.now segments.now) }
-    ensures { TellsAtOnce result (through moves.now last.now segments.now) }
+    ensures { ReportsAtOnce result (through moves.now last.now segments.now) }
 {
     let mut reached = Reached::nothing();
     for segment in segments {

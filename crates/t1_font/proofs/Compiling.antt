@@ -6,7 +6,7 @@ use Rattle.std.specs.Option.{option_or}
 use Rattle.std.specs.Result.{result_ok}
 use Rattle.t1_frac.specs.declared.fault.Code.{Code}
 use Rattle.t1_frac.specs.declared.fault.Place.{Place}
-use Rattle.t1_frac.specs.Outcome.{told_at}
+use Rattle.t1_frac.specs.Outcome.{reported_at}
 use Rattle.t1_parts.specs.declared.item.Item.{Item}
 use Rattle.t1_run.specs.Run.{FontBodies, Subr, Glyph}
 use Rattle.t1_font.specs.Bodies.{SameBodies}
@@ -42,6 +42,6 @@ same-maps m n subrs glyphs (Glyph g) = glyphs g
 pub item-first : (xs : List Item) (i : ℕ) (x : Item) → i < length xs → x ≡ get_or xs i x → drop i xs ≡ x ∷ drop (i + 1) xs
 item-first xs i x h e = rw (add-one, drop-cons xs i x) (ap (λ y. y ∷ drop (suc i) xs) (sym e))
 
-pub told-ok : {X : Type 0} (place : Place) (r : Result X Code) (x : X) → told_at place r ≡ Ok x → result_ok r ≡ Some x
-told-ok place (Ok y) x e = cc
-told-ok place (Err code) x e = absurd (cc)
+pub reported-ok : {X : Type 0} (place : Place) (r : Result X Code) (x : X) → reported_at place r ≡ Ok x → result_ok r ≡ Some x
+reported-ok place (Ok y) x e = cc
+reported-ok place (Err code) x e = absurd (cc)

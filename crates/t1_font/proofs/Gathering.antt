@@ -7,7 +7,7 @@ use Rattle.t1_frac.specs.declared.fault.Place.{Place}
 use Rattle.t1_frac.specs.declared.fault.Place.TheVariants as places
 use Rattle.t1_frac.specs.declared.fault.Refusal.{Refusal}
 use Rattle.t1_frac.specs.declared.fault.Refusal.TheVariants as refusals
-use Rattle.t1_frac.specs.Outcome.{told_at, ◌>>=◌, Refuses}
+use Rattle.t1_frac.specs.Outcome.{reported_at, ◌>>=◌, Refuses}
 use Rattle.t1_run.specs.Composite.{outline_within}
 use Rattle.t1_run.specs.Run.{Drawing}
 use Rattle.t1_font.specs.declared.glyph_metrics.GlyphMetrics.{GlyphMetrics}
@@ -20,43 +20,43 @@ abbrev Runs : Type 0
 Runs = List ℕ → Option (Result Drawing Code)
 
 -- a list stands in front of what a definition gives
-abbrev pub behind : {X : Type 0} → List X → Result (List X) Fault → Result (List X) Fault
-behind front (Ok rest) = Ok (front ++ rest)
-behind front (Err fault) = Err fault
+abbrev pub put_after : {X : Type 0} → List X → Result (List X) Fault → Result (List X) Fault
+put_after front (Ok rest) = Ok (front ++ rest)
+put_after front (Err fault) = Err fault
 
-told-first : (place : Place) (r : Result Glyph Code) (rest : Result (List Glyph) Fault)
-    → ((told_at place r >>= (λ g. rest >>= (λ gs. Ok (g ∷ gs)))) >>= (λ gs. Ok (map glyph_metrics gs)))
-    ≡ (told_at place (r >>= (λ g. Ok (glyph_metrics g))) >>= (λ s. (rest >>= (λ gs. Ok (map glyph_metrics gs))) >>= (λ ss. Ok (s ∷ ss))))
-told-first place (Ok g) (Ok gs) = refl
-told-first place (Ok g) (Err fault) = refl
-told-first place (Err code) rest = refl
+reported-first : (place : Place) (r : Result Glyph Code) (rest : Result (List Glyph) Fault)
+    → ((reported_at place r >>= (λ g. rest >>= (λ gs. Ok (g ∷ gs)))) >>= (λ gs. Ok (map glyph_metrics gs)))
+    ≡ (reported_at place (r >>= (λ g. Ok (glyph_metrics g))) >>= (λ s. (rest >>= (λ gs. Ok (map glyph_metrics gs))) >>= (λ ss. Ok (s ∷ ss))))
+reported-first place (Ok g) (Ok gs) = refl
+reported-first place (Ok g) (Err fault) = refl
+reported-first place (Err code) rest = refl
 
 pub metrics-first : (runs : Runs) (name : List ℕ) (names : List (List ℕ))
-    → glyph_metrics_among runs (name ∷ names) ≡ (told_at (places.Glyph name) (glyph_metrics_at runs name) >>= (λ s. glyph_metrics_among runs names >>= (λ ss. Ok (s ∷ ss))))
+    → glyph_metrics_among runs (name ∷ names) ≡ (reported_at (places.Glyph name) (glyph_metrics_at runs name) >>= (λ s. glyph_metrics_among runs names >>= (λ ss. Ok (s ∷ ss))))
 unfolding glyph_metrics_among glyph_metrics_at
 metrics-first runs name names =
-    told-first (places.Glyph name) (glyph_of name (runs name) (outline_within runs 4 name)) (glyphs_by runs (outline_within runs 4) names)
+    reported-first (places.Glyph name) (glyph_of name (runs name) (outline_within runs 4 name)) (glyphs_by runs (outline_within runs 4) names)
 
-behind-one : {X : Type 0} (front : List X) (x : X) (rest : Result (List X) Fault) → behind (front ++ x ∷ []) rest ≡ behind front (rest >>= (λ xs. Ok (x ∷ xs)))
-behind-one front x (Ok xs) = ap Ok (append_assoc front (x ∷ []) xs)
-behind-one front x (Err fault) = refl
+after-one : {X : Type 0} (front : List X) (x : X) (rest : Result (List X) Fault) → put_after (front ++ x ∷ []) rest ≡ put_after front (rest >>= (λ xs. Ok (x ∷ xs)))
+after-one front x (Ok xs) = ap Ok (append_assoc front (x ∷ []) xs)
+after-one front x (Err fault) = refl
 
 -- a glyph that was reported stands in front of the others
-pub one-told : (runs : Runs) (front : List GlyphMetrics) (name : List ℕ) (names : List (List ℕ)) (s : GlyphMetrics)
-    → told_at (places.Glyph name) (glyph_metrics_at runs name) ≡ Ok s → behind (front ++ s ∷ []) (glyph_metrics_among runs names) ≡ behind front (glyph_metrics_among runs (name ∷ names))
-one-told runs front name names s e =
-    behind-one front s (glyph_metrics_among runs names)
-    ∙ sym (ap (λ r. behind front (r >>= (λ t. glyph_metrics_among runs names >>= (λ ss. Ok (t ∷ ss))))) e)
-    ∙ sym (ap (behind front) (metrics-first runs name names))
+pub one-reported : (runs : Runs) (front : List GlyphMetrics) (name : List ℕ) (names : List (List ℕ)) (s : GlyphMetrics)
+    → reported_at (places.Glyph name) (glyph_metrics_at runs name) ≡ Ok s → put_after (front ++ s ∷ []) (glyph_metrics_among runs names) ≡ put_after front (glyph_metrics_among runs (name ∷ names))
+one-reported runs front name names s e =
+    after-one front s (glyph_metrics_among runs names)
+    ∙ sym (ap (λ r. put_after front (r >>= (λ t. glyph_metrics_among runs names >>= (λ ss. Ok (t ∷ ss))))) e)
+    ∙ sym (ap (put_after front) (metrics-first runs name names))
 
-refuses-behind : {X : Type 0} (refused : Refusal) (front : List X) (r : Result (List X) Fault) → Refuses refused r → Refuses refused (behind front r)
-refuses-behind refusals.Memory front r h = tt
-refuses-behind (refusals.Fault fault) front (Ok xs) h = absurd (cc)
-refuses-behind (refusals.Fault fault) front (Err e) h = cc
+refuses-after : {X : Type 0} (refused : Refusal) (front : List X) (r : Result (List X) Fault) → Refuses refused r → Refuses refused (put_after front r)
+refuses-after refusals.Memory front r h = tt
+refuses-after (refusals.Fault fault) front (Ok xs) h = absurd (cc)
+refuses-after (refusals.Fault fault) front (Err e) h = cc
 
 -- the first fault refuses all
 pub one-refused : (runs : Runs) (front : List GlyphMetrics) (name : List ℕ) (names : List (List ℕ)) (refused : Refusal)
-    → Refuses refused (told_at (places.Glyph name) (glyph_metrics_at runs name)) → Refuses refused (behind front (glyph_metrics_among runs (name ∷ names)))
+    → Refuses refused (reported_at (places.Glyph name) (glyph_metrics_at runs name)) → Refuses refused (put_after front (glyph_metrics_among runs (name ∷ names)))
 one-refused runs front name names refused h =
-    subst (λ r. Refuses refused (behind front r)) (sym (metrics-first runs name names))
-    (refuses-behind refused front _ (refuses-then refused (told_at (places.Glyph name) (glyph_metrics_at runs name)) (λ s. glyph_metrics_among runs names >>= (λ ss. Ok (s ∷ ss))) h))
+    subst (λ r. Refuses refused (put_after front r)) (sym (metrics-first runs name names))
+    (refuses-after refused front _ (refuses-then refused (reported_at (places.Glyph name) (glyph_metrics_at runs name)) (λ s. glyph_metrics_among runs names >>= (λ ss. Ok (s ∷ ss))) h))

@@ -1,4 +1,4 @@
--- What is told of a glyph at its turn.
+-- What is reported of a glyph at its turn.
 use Rattle.std.proofs.Common.{append-nil, ◌≡◌, ◌∙◌, ◌+◌, ◌<◌, length, get_or, take, drop, ℕ, Bool, true, false, cond, List, [], ◌∷◌, ◌++◌, Option, Some, None, is_some, refl, sym, ap, subst, inl, inr}
 use Rattle.std.specs.Prelude.{Result, Ok, Err, ◌||◌, ◌&&◌}
 use Rattle.std.specs.List.{list_any}
@@ -13,7 +13,7 @@ use Rattle.t1_frac.specs.declared.fault.Fault.{Fault}
 use Rattle.t1_frac.specs.declared.fault.Refusal.{Refusal}
 use Rattle.t1_frac.specs.declared.fault.Refusal.TheVariants as refusals
 use Rattle.t1_frac.specs.declared.fault.Place.TheVariants as places
-use Rattle.t1_frac.specs.Outcome.{◌>>=◌, told_at, Refuses}
+use Rattle.t1_frac.specs.Outcome.{◌>>=◌, reported_at, Refuses}
 use Rattle.t1_code.specs.Encoding.{is_standard_name}
 use Rattle.t1_run.specs.declared.outline.Composite.{Composite}
 use Rattle.t1_run.specs.Run.{Drawing, font, own}
@@ -31,7 +31,7 @@ use Rattle.t1_font.specs.InTurn.{stays, staying, AreRows, IsRow, RunsAs}
 use Rattle.t1_font.specs.ToRun.{commands_or_none, font_to_run, glyph_to_run, SubrsStandFirst}
 use Rattle.t1_font.specs.MeasuredGlyphs.{glyph_metrics_among, glyph_metrics_at, glyph_metrics_by}
 use Rattle.t1_font.proofs.Compiling.{item-first, same-maps}
-use Rattle.t1_font.proofs.Gathering.{behind, one-told, one-refused}
+use Rattle.t1_font.proofs.Gathering.{put_after, one-reported, one-refused}
 use Rattle.t1_run.proofs.Asked.{bytes_same}
 use Rattle.t1_font.proofs.Measuring.{own-same}
 use Rattle.std.proofs.Math.Bool.{or-false}
@@ -147,37 +147,37 @@ refused-first refusals.Memory r next h = tt
 refused-first (refusals.Fault fault) (Ok u) next h = absurd (cc)
 refused-first (refusals.Fault fault) (Err e) next h = h
 
--- ---- all that was told, measured
+-- ---- all that was reported, measured
 
 -- what is measured so far stands in front of what is measured of the glyphs that are left
 abbrev pub RowsLeft : (List ℕ → Option (Result Drawing Code)) → List (List ℕ) → List GlyphMetrics → List Row → Type 0
-RowsLeft run names metrics rows = (left : List (List ℕ)) × AreRows run left rows × (behind metrics (glyph_metrics_among run left) ≡ glyph_metrics_among run names)
+RowsLeft run names metrics rows = (left : List (List ℕ)) × AreRows run left rows × (put_after metrics (glyph_metrics_among run left) ≡ glyph_metrics_among run names)
 
-behind-none : (r : Result (List GlyphMetrics) Fault) → behind [] r ≡ r
-behind-none (Ok rest) = refl
-behind-none (Err fault) = refl
+after-none : (r : Result (List GlyphMetrics) Fault) → put_after [] r ≡ r
+after-none (Ok rest) = refl
+after-none (Err fault) = refl
 
 pub all-left : (run : List ℕ → Option (Result Drawing Code)) (names : List (List ℕ)) (rows : List Row) → AreRows run names rows → RowsLeft run names [] rows
-all-left run names rows are = (names, are, behind-none (glyph_metrics_among run names))
+all-left run names rows are = (names, are, after-none (glyph_metrics_among run names))
 
 pub one-measured : (run : List ℕ → Option (Result Drawing Code)) (names : List (List ℕ)) (metrics : List GlyphMetrics) (row : Row) (rows : List Row) (glyph : GlyphMetrics)
-    → RowsLeft run names metrics (row ∷ rows) → ((name : List ℕ) → IsRow run name row → told_at (places.Glyph name) (glyph_metrics_at run name) ≡ Ok glyph)
+    → RowsLeft run names metrics (row ∷ rows) → ((name : List ℕ) → IsRow run name row → reported_at (places.Glyph name) (glyph_metrics_at run name) ≡ Ok glyph)
     → RowsLeft run names (metrics ++ glyph ∷ []) rows
-one-measured run names metrics row rows glyph ([], are, is) told = absurd are
-one-measured run names metrics row rows glyph (name ∷ left, are, is) told =
-    (left, are.1, one-told run metrics name left glyph (told name are.0) ∙ is)
+one-measured run names metrics row rows glyph ([], are, is) reported = absurd are
+one-measured run names metrics row rows glyph (name ∷ left, are, is) reported =
+    (left, are.1, one-reported run metrics name left glyph (reported name are.0) ∙ is)
 
 pub one-faulty : (run : List ℕ → Option (Result Drawing Code)) (names : List (List ℕ)) (metrics : List GlyphMetrics) (row : Row) (rows : List Row) (refused : Refusal)
-    → RowsLeft run names metrics (row ∷ rows) → ((name : List ℕ) → IsRow run name row → Refuses refused (told_at (places.Glyph name) (glyph_metrics_at run name)))
+    → RowsLeft run names metrics (row ∷ rows) → ((name : List ℕ) → IsRow run name row → Refuses refused (reported_at (places.Glyph name) (glyph_metrics_at run name)))
     → Refuses refused (glyph_metrics_among run names)
-one-faulty run names metrics row rows refused ([], are, is) told = absurd are
-one-faulty run names metrics row rows refused (name ∷ left, are, is) told =
-    subst (Refuses refused) is (one-refused run metrics name left refused (told name are.0))
+one-faulty run names metrics row rows refused ([], are, is) reported = absurd are
+one-faulty run names metrics row rows refused (name ∷ left, are, is) reported =
+    subst (Refuses refused) is (one-refused run metrics name left refused (reported name are.0))
 
 none-among : (run : List ℕ → Option (Result Drawing Code)) → glyph_metrics_among run [] ≡ Ok []
 unfolding glyph_metrics_among
 none-among run = refl
 
 pub none-left : (run : List ℕ → Option (Result Drawing Code)) (names : List (List ℕ)) (metrics : List GlyphMetrics) → RowsLeft run names metrics [] → glyph_metrics_among run names ≡ Ok metrics
-none-left run names metrics ([], are, is) = sym is ∙ ap (behind metrics) (none-among run) ∙ ap Ok (append-nil metrics)
+none-left run names metrics ([], are, is) = sym is ∙ ap (put_after metrics) (none-among run) ∙ ap Ok (append-nil metrics)
 none-left run names metrics (name ∷ left, are, is) = absurd are

@@ -43,8 +43,8 @@ pub lookup-taken : {K X : Type 0} (name : K → List ℕ) (old new : List (K × 
     → ((q : K) → lookup (λ k. bytes_eq (name q) (name k)) new ≡ cond (bytes_eq n (name q)) None (lookup (λ k. bytes_eq (name q) (name k)) old))
     → (g : List ℕ) → lookup (λ k. bytes_eq g (name k)) new ≡ cond (bytes_eq n g) None (lookup (λ k. bytes_eq g (name k)) old)
 lookup-taken {K} {X} name old new n at g = by (lookup (λ k. bytes_eq g (name k)) new) (lookup (λ k. bytes_eq g (name k)) old) refl refl where
-  told : (k : K) → name k ≡ g → lookup (λ k. bytes_eq g (name k)) new ≡ cond (bytes_eq n g) None (lookup (λ k. bytes_eq g (name k)) old)
-  told k e = rw (← e) (at k)
+  reported : (k : K) → name k ≡ g → lookup (λ k. bytes_eq g (name k)) new ≡ cond (bytes_eq n g) None (lookup (λ k. bytes_eq g (name k)) old)
+  reported k e = rw (← e) (at k)
 
   none : (b : Bool) → ◌≡◌ {A = Option X} None (cond b None None)
   none true = refl
@@ -52,8 +52,8 @@ lookup-taken {K} {X} name old new n at g = by (lookup (λ k. bytes_eq g (name k)
 
   by : (a b : Option X) → lookup (λ k. bytes_eq g (name k)) new ≡ a → lookup (λ k. bytes_eq g (name k)) old ≡ b
       → lookup (λ k. bytes_eq g (name k)) new ≡ cond (bytes_eq n g) None (lookup (λ k. bytes_eq g (name k)) old)
-  by (Some x) b e f = let w = key-found name g new x e in told w.0 w.1
-  by None (Some y) e f = let w = key-found name g old y f in told w.0 w.1
+  by (Some x) b e f = let w = key-found name g new x e in reported w.0 w.1
+  by None (Some y) e f = let w = key-found name g old y f in reported w.0 w.1
   by None None e f = e ∙ none (bytes_eq n g) ∙ sym (ap (cond (bytes_eq n g) None) f)
 
 -- ---- the runs of some glyphs, one after another

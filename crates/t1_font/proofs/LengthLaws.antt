@@ -11,7 +11,7 @@ use Rattle.t1_frac.specs.declared.fault.Place.{Place}
 use Rattle.t1_frac.specs.declared.fault.Code.TheVariants.{F23}
 use Rattle.t1_frac.specs.declared.fault.Place.TheVariants as places
 use Rattle.t1_frac.specs.declared.fault.Place.TheVariants.{Nowhere}
-use Rattle.t1_frac.specs.Outcome.{fault_at, told_at, ◌>>=◌, Refuses}
+use Rattle.t1_frac.specs.Outcome.{fault_at, reported_at, ◌>>=◌, Refuses}
 use Rattle.t1_parts.specs.declared.item.Item.{Item}
 use Rattle.t1_parts.specs.declared.item.Item.TheVariants.{Plain, Section, Subr, Glyph}
 use Rattle.t1_parts.specs.SourceParts.{SourceParts}
@@ -51,7 +51,7 @@ entry_short head name code closing h =
 within_of : (front : ℕ) (name head closing : List ℕ) (n most : ℕ) (place : Place) (r : Result (List Command) Code)
     → ((read : List Command) → r ≡ Ok read → length (charstring read) ≤ 5 * n)
     → front ≤ 255 → most < 2 ^ 31 → front + length name + length head + 5 * n + length closing + 40 ≤ most
-    → IfOk (told_at place r >>= λ body. Ok (entry_text head name (encrypted_charstring front (charstring body)) closing)) (λ line. length line ≤ most)
+    → IfOk (reported_at place r >>= λ body. Ok (entry_text head name (encrypted_charstring front (charstring body)) closing)) (λ line. length line ≤ most)
 within_of front name head closing n most place (Ok read) short small below room =
     let code = short read refl in
     let wide : length (encrypted_charstring front (charstring read)) ≡ front + length (charstring read) =
@@ -97,8 +97,8 @@ checked_item : (lead : ℕ) (operator : List ℕ) (item : Item) → body_check i
 unfolding words_check entry_line
 checked_item lead operator (Plain line) = refl
 checked_item lead operator (Section before count after) = refl
-checked_item lead operator (Subr number words closing) = checked_body (told_at (places.Subr number) (commands words)) _
-checked_item lead operator (Glyph name words closing) = checked_body (told_at (places.Glyph name) (commands words)) _
+checked_item lead operator (Subr number words closing) = checked_body (reported_at (places.Subr number) (commands words)) _
+checked_item lead operator (Glyph name words closing) = checked_body (reported_at (places.Glyph name) (commands words)) _
 
 checked_both : (a b : Result (List ℕ) Fault)
     → ◌≡◌ {A = Result (Unit {0}) Fault} ((a >>= λ line. Ok (tt {0})) >>= λ x. (b >>= λ rest. Ok (tt {0}))) ((a >>= λ line. b >>= λ rest. Ok (line ++ rest)) >>= λ text. Ok (tt {0}))
@@ -120,9 +120,9 @@ fault_of (Ok text) fault h = absurd (cc)
 fault_of (Err other) fault h = cc
 
 -- the first fault of a body is the file's
-pub body_fault_told : (source : SourceParts) (fault : Fault) → bodies_check source.items ≡ Err fault → file_check source ≡ Err fault
+pub body_fault_reported : (source : SourceParts) (fault : Fault) → bodies_check source.items ≡ Err fault → file_check source ≡ Err fault
 unfolding file_check length_check source_file
-body_fault_told source fault h =
+body_fault_reported source fault h =
     let known = fault_of (private_text (lead source) (operator source) source.items) fault (sym (checked_text (lead source) (operator source) source.items) ∙ h) in
     rw known refl
 
@@ -148,15 +148,15 @@ unfolding length_check
 length_checked source h = checked_from (source_file whole_file source) h
 
 -- a part of the file is too long, or none is
-pub long_told : (s : SourceParts) (text : List ℕ) → private_text (lead s) (operator s) s.items ≡ Ok text
+pub long_reported : (s : SourceParts) (text : List ℕ) → private_text (lead s) (operator s) s.items ≡ Ok text
     → 2 ^ 31 - 1 < max (max (length (joined s.clear)) (length (eexec text))) (length (trailer_text s.tail)) → length_check s ≡ Err (fault_at Nowhere F23)
 unfolding length_check source_file
-long_told s text known h = rw (known, long_part (joined s.clear) text (trailer_text s.tail) h) refl
+long_reported s text known h = rw (known, long_part (joined s.clear) text (trailer_text s.tail) h) refl
 
-pub short_told : (s : SourceParts) (text : List ℕ) → private_text (lead s) (operator s) s.items ≡ Ok text
+pub short_reported : (s : SourceParts) (text : List ℕ) → private_text (lead s) (operator s) s.items ≡ Ok text
     → max (max (length (joined s.clear)) (length (eexec text))) (length (trailer_text s.tail)) ≤ 2 ^ 31 - 1 → length_check s ≡ Ok tt
 unfolding length_check source_file
-short_told s text known h = rw (known, no_long_part (joined s.clear) text (trailer_text s.tail) h) refl
+short_reported s text known h = rw (known, no_long_part (joined s.clear) text (trailer_text s.tail) h) refl
 
 unlength : (r : Result (List ℕ) Fault) (fault : Fault) → ◌≡◌ {A = Result ℕ Fault} (r >>= λ text. Ok (min (length text) (2 ^ 64 - 1))) (Err fault) → r ≡ Err fault
 unlength (Ok text) fault h = absurd (cc)

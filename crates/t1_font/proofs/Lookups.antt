@@ -9,17 +9,17 @@ use Rattle.std.proofs.lemmas.Slice.Eq.{bytes_eq-Decides}
 use Rattle.indexmap.specs.IndexMap.{insert_entry}
 
 -- a test that says whether two names are the same
-pub record Tells {Q : Type 0} (eq : Q → Q → Bool) : Type 0 where
+pub record Distinguishes {Q : Type 0} (eq : Q → Q → Bool) : Type 0 where
   pub same : (a b : Q) → eq a b ≡ true → a ≡ b
   pub itself : (a : Q) → eq a a ≡ true
 
-pub bytes_tell : Tells bytes_eq
+pub bytes_tell : Distinguishes bytes_eq
 bytes_tell = record { same = λ a b e. (bytes_eq-Decides a b).0 e; itself = λ a. (bytes_eq-Decides a a).1 refl }
 
 nat-itself : (a : ℕ) → nat_eq a a ≡ true
 nat-itself a = grind (arith, nat_tests)
 
-pub numbers_tell : Tells nat_eq
+pub numbers_tell : Distinguishes nat_eq
 numbers_tell = record { same = eqb-true; itself = nat-itself }
 
 pub bytes-turned : (a b : List ℕ) → bytes_eq a b ≡ bytes_eq b a
@@ -49,7 +49,7 @@ swap false true x y r h = refl
 swap false false x y r h = refl
 
 -- a value that is put in at a name is found there, and nothing else changes
-pub inserted-at : {Q K X : Type 0} (eq : Q → Q → Bool) → Tells eq → (name : K → Q) (p : Q) (k : K) (v : X) (es : List (K × X))
+pub inserted-at : {Q K X : Type 0} (eq : Q → Q → Bool) → Distinguishes eq → (name : K → Q) (p : Q) (k : K) (v : X) (es : List (K × X))
     → lookup (λ x. eq p (name x)) (insert_entry (λ x y. eq (name x) (name y)) es k v) ≡ cond (eq p (name k)) (Some v) (lookup (λ x. eq p (name x)) es)
 inserted-at eq t name p k v [] = refl
 inserted-at eq t name p k v (e ∷ es) = by (eq (name k) (name e.0)) refl (inserted-at eq t name p k v es) where
@@ -69,7 +69,7 @@ inserted-at eq t name p k v (e ∷ es) = by (eq (name k) (name e.0)) refl (inser
 
 -- ---- a value that is taken out
 
-pub lookup-but : {Q K R : Type 0} (eq : Q → Q → Bool) → Tells eq → (name : K → Q) (p q : Q) (es : List (K × R))
+pub lookup-but : {Q K R : Type 0} (eq : Q → Q → Bool) → Distinguishes eq → (name : K → Q) (p q : Q) (es : List (K × R))
     → lookup (λ x. eq q (name x)) (filter (λ e. not (eq p (name e.0))) es) ≡ cond (eq q p) None (lookup (λ x. eq q (name x)) es)
 lookup-but {R} eq t name p q [] = none (eq q p) where
   none : (b : Bool) → None ≡ cond {A = Option R} b None None

@@ -14,7 +14,7 @@ use Rattle.t1_frac.specs.declared.fault.Place.{Place}
 use Rattle.t1_frac.specs.declared.fault.Place.TheVariants as places
 use Rattle.t1_frac.specs.declared.fault.Refusal.{Refusal}
 use Rattle.t1_frac.specs.declared.fault.Refusal.TheVariants as refusals
-use Rattle.t1_frac.specs.Outcome.{told_at, ◌>>=◌, Refuses}
+use Rattle.t1_frac.specs.Outcome.{reported_at, ◌>>=◌, Refuses}
 use Rattle.t1_parts.specs.declared.item.Item.{Item}
 use Rattle.t1_parts.specs.declared.item.Item.TheVariants.{Plain, Section, Subr, Glyph}
 use Rattle.t1_code.specs.declared.command.Command.{Command}
@@ -46,7 +46,7 @@ pub words-there : (place : Place) (words : List (List ℕ)) (rest : Option (List
     → is_some (option_or (result_ok (commands words)) rest) ≡ true
 unfolding words_check
 words-there place words rest u e = checked (commands words) e where
-  checked : (r : Result (List Command) Code) → (told_at place r >>= λ _. Ok u) ≡ Ok u → is_some (option_or (result_ok r) rest) ≡ true
+  checked : (r : Result (List Command) Code) → (reported_at place r >>= λ _. Ok u) ≡ Ok u → is_some (option_or (result_ok r) rest) ≡ true
   checked (Ok cs) e = refl
   checked (Err code) e = absurd (cc)
 
@@ -154,15 +154,15 @@ boxes-are : (gs : List Drawn) → map (λ s. s.bbox) (map glyph_metrics gs) ≡ 
 boxes-are [] = refl
 boxes-are (g ∷ gs) = ap (λ boxes. drawn_box g.outline ∷ boxes) (boxes-are gs)
 
-told-all : (r : Result (List Drawn) Fault) (metrics : List GlyphMetrics) (box : BBox) → (r >>= (λ gs. Ok (map glyph_metrics gs))) ≡ Ok metrics
+reported-all : (r : Result (List Drawn) Fault) (metrics : List GlyphMetrics) (box : BBox) → (r >>= (λ gs. Ok (map glyph_metrics gs))) ≡ Ok metrics
     → box ≡ united (map (λ s. s.bbox) metrics)
     → (r >>= whole) ≡ Ok (record { metrics = metrics; font_box = box })
-told-all (Ok gs) metrics box e f =
+reported-all (Ok gs) metrics box e f =
     let same : map glyph_metrics gs ≡ metrics = cc in
     let boxes = font_box_of_boxes (map (λ g. g.outline) gs) ∙ ap united (sym (boxes-are gs)) ∙ ap (λ l. united (map (λ s. s.bbox) l)) same ∙ sym f in
     ap (λ l. Ok (record { metrics = l; font_box = font_box (map (λ g. g.outline) gs) })) same
     ∙ ap (λ b. Ok (record { metrics = metrics; font_box = b })) boxes
-told-all (Err fault) metrics box e f = absurd (cc)
+reported-all (Err fault) metrics box e f = absurd (cc)
 
 fault-of-all : (refused : Refusal) (r : Result (List Drawn) Fault) → Refuses refused (r >>= (λ gs. Ok (map glyph_metrics gs)))
     → Refuses refused (r >>= whole)
@@ -170,11 +170,11 @@ fault-of-all refusals.Memory r h = tt
 fault-of-all (refusals.Fault fault) (Ok gs) h = absurd (cc)
 fault-of-all (refusals.Fault fault) (Err e) h = cc
 
-pub all-told : (items : List Item) (run : List ℕ → Option (Result Drawing Code)) (metrics : List GlyphMetrics) (box : BBox) → KeepsOwn run items
+pub all-reported : (items : List Item) (run : List ℕ → Option (Result Drawing Code)) (metrics : List GlyphMetrics) (box : BBox) → KeepsOwn run items
     → glyph_metrics_among run (glyph_names items) ≡ Ok metrics → box ≡ united (map (λ s. s.bbox) metrics) → measured items ≡ Ok (record { metrics = metrics; font_box = box })
-all-told items run metrics box kept told boxes =
+all-reported items run metrics box kept reported boxes =
     measured-is items
-    ∙ told-all (glyphs (bodies items) (glyph_names items)) metrics box (sym (metrics-are run items (glyph_names items) kept) ∙ told) boxes
+    ∙ reported-all (glyphs (bodies items) (glyph_names items)) metrics box (sym (metrics-are run items (glyph_names items) kept) ∙ reported) boxes
 
 pub all-refused : (items : List Item) (run : List ℕ → Option (Result Drawing Code)) (refused : Refusal) → KeepsOwn run items
     → Refuses refused (glyph_metrics_among run (glyph_names items)) → Refuses refused (measured items)

@@ -8,7 +8,7 @@ use Rattle.std.specs.Str.{bytes_eq}
 use Rattle.t1_frac.specs.declared.fault.Code.{Code}
 use Rattle.t1_frac.specs.declared.fault.Place.{Place}
 use Rattle.t1_frac.specs.declared.fault.Place.TheVariants as places
-use Rattle.t1_frac.specs.Outcome.{told_at, ◌>>=◌}
+use Rattle.t1_frac.specs.Outcome.{reported_at, ◌>>=◌}
 use Rattle.t1_parts.specs.declared.item.Item.{Item}
 use Rattle.t1_parts.specs.declared.item.Item.TheVariants.{Plain, Section, Subr, Glyph}
 use Rattle.t1_code.specs.declared.command.Command.{Command}
@@ -28,7 +28,7 @@ words-run : (place : Place) (words : List (List ℕ)) (rest : Option (List Comma
     → Some (commands_or_none (commands words)) ≡ option_or (result_ok (commands words)) rest
 unfolding words_check
 words-run place words rest e = by (commands words) e where
-  by : (r : Result (List Command) Code) → (told_at place r >>= (λ _. Ok (tt {0}))) ≡ Ok (tt {0}) → Some (commands_or_none r) ≡ option_or (result_ok r) rest
+  by : (r : Result (List Command) Code) → (reported_at place r >>= (λ _. Ok (tt {0}))) ≡ Ok (tt {0}) → Some (commands_or_none r) ≡ option_or (result_ok r) rest
   by (Ok body) e = refl
   by (Err code) e = absurd (cc)
 

@@ -5,7 +5,7 @@ use Rattle.t1_frac.specs.declared.fault.Code.{Code}
 use Rattle.t1_frac.specs.declared.fault.Fault.{Fault}
 use Rattle.t1_frac.specs.declared.fault.Place.{Place}
 use Rattle.t1_frac.specs.declared.fault.Place.TheVariants as places
-use Rattle.t1_frac.specs.Outcome.{told_at, ◌>>=◌}
+use Rattle.t1_frac.specs.Outcome.{reported_at, ◌>>=◌}
 use Rattle.t1_run.specs.declared.outline.Composite.{Composite}
 use Rattle.t1_run.specs.declared.outline.Point.{Point}
 use Rattle.t1_run.specs.declared.outline.Segment.{Segment}
@@ -73,16 +73,16 @@ outline-of : (m : FontBodies) (name : List ℕ) → outline_of (glyph_of name (o
 unfolding outline
 outline-of m name = first name (outline_within (own m) 3) (own m name)
 
-told-each : (place : Place) (r : Result Glyph Code) (rest : Result (List Glyph) Fault)
-    → ((told_at place r >>= (λ g. rest >>= (λ gs. Ok (g ∷ gs)))) >>= (λ gs. Ok (map (λ g. g.outline) gs)))
-    ≡ (told_at place (outline_of r) >>= (λ segments. (rest >>= (λ gs. Ok (map (λ g. g.outline) gs))) >>= (λ more. Ok (segments ∷ more))))
-told-each place (Ok g) (Ok gs) = refl
-told-each place (Ok g) (Err fault) = refl
-told-each place (Err code) rest = refl
+reported-each : (place : Place) (r : Result Glyph Code) (rest : Result (List Glyph) Fault)
+    → ((reported_at place r >>= (λ g. rest >>= (λ gs. Ok (g ∷ gs)))) >>= (λ gs. Ok (map (λ g. g.outline) gs)))
+    ≡ (reported_at place (outline_of r) >>= (λ segments. (rest >>= (λ gs. Ok (map (λ g. g.outline) gs))) >>= (λ more. Ok (segments ∷ more))))
+reported-each place (Ok g) (Ok gs) = refl
+reported-each place (Ok g) (Err fault) = refl
+reported-each place (Err code) rest = refl
 
 pub outlines_are : OutlinesLaw
 outlines_are m [] = refl
 outlines_are m (name ∷ names) =
-    told-each (places.Glyph name) (glyph_of name (own m name) (outline m name)) (glyphs m names)
-    ∙ ap (λ r. told_at (places.Glyph name) r >>= (λ segments. (glyphs m names >>= (λ gs. Ok (map (λ g. g.outline) gs))) >>= (λ more. Ok (segments ∷ more)))) (outline-of m name)
-    ∙ ap (λ r. told_at (places.Glyph name) (outline m name) >>= (λ segments. r >>= (λ more. Ok (segments ∷ more)))) (outlines_are m names)
+    reported-each (places.Glyph name) (glyph_of name (own m name) (outline m name)) (glyphs m names)
+    ∙ ap (λ r. reported_at (places.Glyph name) r >>= (λ segments. (glyphs m names >>= (λ gs. Ok (map (λ g. g.outline) gs))) >>= (λ more. Ok (segments ∷ more)))) (outline-of m name)
+    ∙ ap (λ r. reported_at (places.Glyph name) (outline m name) >>= (λ segments. r >>= (λ more. Ok (segments ∷ more)))) (outlines_are m names)

@@ -7,24 +7,24 @@ use Rattle.t1_frac.specs.declared.fault.Refusal.TheVariants as refusals
 use Rattle.t1_frac.specs.declared.fault.Code.{Code}
 use Rattle.t1_frac.specs.declared.fault.Fault.{Fault}
 use Rattle.t1_frac.specs.declared.fault.Place.{Place}
-use Rattle.t1_frac.specs.Outcome.{told_at, ◌>>=◌, Refuses}
+use Rattle.t1_frac.specs.Outcome.{reported_at, ◌>>=◌, Refuses}
 use Rattle.t1_code.specs.declared.command.Command.{Command}
 use Rattle.t1_code.specs.Words.{commands}
 use Rattle.t1_code.specs.Charstring.{charstring}
 use Rattle.t1_code.specs.Cipher.{encrypted_charstring, encrypted_words}
 use Rattle.t1_code.specs.Pfb.{closing_text, entry_text}
 use Rattle.t1_parts.specs.declared.item.Item.{Item}
-use Rattle.t1_font.specs.Assembly.{behind, entry_line, item_line, private_text}
+use Rattle.t1_font.specs.Assembly.{put_after, entry_line, item_line, private_text}
 
 entry_at : (lead : ℕ) (operator : List ℕ) (place : Place) (head closing : List ℕ) (read : Result (List Command) Code)
-    → (told_at place read >>= λ body. Ok (entry_text head operator (encrypted_charstring lead (charstring body)) closing))
-    ≡ (told_at place ((read >>= λ cs. Ok (charstring cs)) >>= λ plain. Ok (encrypted_charstring lead plain)) >>= λ code. Ok (entry_text head operator code closing))
+    → (reported_at place read >>= λ body. Ok (entry_text head operator (encrypted_charstring lead (charstring body)) closing))
+    ≡ (reported_at place ((read >>= λ cs. Ok (charstring cs)) >>= λ plain. Ok (encrypted_charstring lead plain)) >>= λ code. Ok (entry_text head operator code closing))
 entry_at lead operator place head closing (Ok cs) = refl
 entry_at lead operator place head closing (Err code) = refl
 
 -- an entry's line, by its encrypted charstring
 entry_coded : (lead : ℕ) (operator : List ℕ) (place : Place) (head : List ℕ) (words : List (List ℕ)) (closing : List ℕ)
-    → entry_line lead operator place head words closing ≡ (told_at place (encrypted_words lead words) >>= λ code. Ok (entry_text head operator code closing))
+    → entry_line lead operator place head words closing ≡ (reported_at place (encrypted_words lead words) >>= λ code. Ok (entry_text head operator code closing))
 unfolding entry_line encrypted_words
 entry_coded lead operator place head words closing = entry_at lead operator place head closing (commands words)
 
@@ -38,48 +38,48 @@ headed text head operator code closing =
     ∙ ap (λ l. l ++ 32 ∷ operator) (sym (append_assoc text head (32 ∷ decimal (length code)))))))
 
 -- an entry's line after the text, by slices of its charstring and its closing text
-pub entry_behind : (text : List ℕ) (lead : ℕ) (operator : List ℕ) (place : Place) (head : List ℕ) (words : List (List ℕ)) (closing code bytes end new : List ℕ)
-    → told_at place (encrypted_words lead words) ≡ Ok code → bytes ≡ code → end ≡ closing → new ≡ text ++ entry_text head operator bytes end
-    → behind text (entry_line lead operator place head words closing) ≡ Ok new
-entry_behind text lead operator place head words closing code bytes end new coded same end_is is =
+pub entry_after : (text : List ℕ) (lead : ℕ) (operator : List ℕ) (place : Place) (head : List ℕ) (words : List (List ℕ)) (closing code bytes end new : List ℕ)
+    → reported_at place (encrypted_words lead words) ≡ Ok code → bytes ≡ code → end ≡ closing → new ≡ text ++ entry_text head operator bytes end
+    → put_after text (entry_line lead operator place head words closing) ≡ Ok new
+entry_after text lead operator place head words closing code bytes end new coded same end_is is =
     rw (entry_coded lead operator place head words closing, coded, is, same, end_is) refl
 
 -- the fault of an entry's body
 pub entry_fault : (text : List ℕ) (lead : ℕ) (operator : List ℕ) (place : Place) (head : List ℕ) (words : List (List ℕ)) (closing : List ℕ) (fault : Fault)
-    → told_at place (encrypted_words lead words) ≡ Err fault
-    → behind text (entry_line lead operator place head words closing) ≡ Err fault
+    → reported_at place (encrypted_words lead words) ≡ Err fault
+    → put_after text (entry_line lead operator place head words closing) ≡ Err fault
 entry_fault text lead operator place head words closing fault coded =
     rw (entry_coded lead operator place head words closing, coded) refl
 
 -- ---- one more item
 
-item_behind : (text : List ℕ) (line rest : Result (List ℕ) Fault) (new : List ℕ) → behind text line ≡ Ok new
-    → behind text (line >>= λ l. rest >>= λ ls. Ok (l ++ ls)) ≡ behind new rest
-item_behind text (Ok line) (Ok rest) new e = let same : text ++ line ≡ new = cc in ap (λ l. Ok l) (sym (append_assoc text line rest) ∙ ap (λ l. l ++ rest) same)
-item_behind text (Ok line) (Err fault) new e = refl
-item_behind text (Err fault) rest new e = absurd (cc)
+item_after : (text : List ℕ) (line rest : Result (List ℕ) Fault) (new : List ℕ) → put_after text line ≡ Ok new
+    → put_after text (line >>= λ l. rest >>= λ ls. Ok (l ++ ls)) ≡ put_after new rest
+item_after text (Ok line) (Ok rest) new e = let same : text ++ line ≡ new = cc in ap (λ l. Ok l) (sym (append_assoc text line rest) ∙ ap (λ l. l ++ rest) same)
+item_after text (Ok line) (Err fault) new e = refl
+item_after text (Err fault) rest new e = absurd (cc)
 
-item_faulty : (text : List ℕ) (line rest : Result (List ℕ) Fault) (fault : Fault) → behind text line ≡ Err fault
-    → behind text (line >>= λ l. rest >>= λ ls. Ok (l ++ ls)) ≡ Err fault
+item_faulty : (text : List ℕ) (line rest : Result (List ℕ) Fault) (fault : Fault) → put_after text line ≡ Err fault
+    → put_after text (line >>= λ l. rest >>= λ ls. Ok (l ++ ls)) ≡ Err fault
 item_faulty text (Ok line) rest fault e = absurd (cc)
 item_faulty text (Err other) rest fault e = e
 
 -- the items from the place i on
 pub next_item : (lead : ℕ) (operator : List ℕ) (items : List Item) (i : ℕ) (item : Item) (text new : List ℕ) (whole : Result (List ℕ) Fault)
-    → i < length items → item ≡ get_or items i item → behind text (item_line lead operator item) ≡ Ok new
-    → behind text (private_text lead operator (drop i items)) ≡ whole → behind new (private_text lead operator (drop (i + 1) items)) ≡ whole
+    → i < length items → item ≡ get_or items i item → put_after text (item_line lead operator item) ≡ Ok new
+    → put_after text (private_text lead operator (drop i items)) ≡ whole → put_after new (private_text lead operator (drop (i + 1) items)) ≡ whole
 next_item lead operator items i item text new whole inside is line so_far =
-    let split = at_drop_more (λ rest. behind text (private_text lead operator rest)) items i item inside in
-    let named = ap (λ x. behind text (private_text lead operator (x ∷ drop (i + 1) items))) is in
-    sym (item_behind text (item_line lead operator item) (private_text lead operator (drop (i + 1) items)) new line) ∙ named ∙ sym split ∙ so_far
+    let split = at_drop_more (λ rest. put_after text (private_text lead operator rest)) items i item inside in
+    let named = ap (λ x. put_after text (private_text lead operator (x ∷ drop (i + 1) items))) is in
+    sym (item_after text (item_line lead operator item) (private_text lead operator (drop (i + 1) items)) new line) ∙ named ∙ sym split ∙ so_far
 
 pub refused_item : (lead : ℕ) (operator : List ℕ) (items : List Item) (i : ℕ) (item : Item) (text : List ℕ) (refusal : Refusal) (whole : Result (List ℕ) Fault)
-    → i < length items → item ≡ get_or items i item → Refuses refusal (behind text (item_line lead operator item))
-    → behind text (private_text lead operator (drop i items)) ≡ whole → Refuses refusal whole
+    → i < length items → item ≡ get_or items i item → Refuses refusal (put_after text (item_line lead operator item))
+    → put_after text (private_text lead operator (drop i items)) ≡ whole → Refuses refusal whole
 refused_item lead operator items i item text refusals.Memory whole inside is line so_far = tt
 refused_item lead operator items i item text (refusals.Fault fault) whole inside is line so_far =
-    let split = at_drop_more (λ rest. behind text (private_text lead operator rest)) items i item inside in
-    let named = ap (λ x. behind text (private_text lead operator (x ∷ drop (i + 1) items))) is in
+    let split = at_drop_more (λ rest. put_after text (private_text lead operator rest)) items i item inside in
+    let named = ap (λ x. put_after text (private_text lead operator (x ∷ drop (i + 1) items))) is in
     sym so_far ∙ split ∙ sym named ∙ item_faulty text (item_line lead operator item) (private_text lead operator (drop (i + 1) items)) fault line
 
 -- ---- how long the lines are
@@ -87,7 +87,7 @@ refused_item lead operator items i item text (refusals.Fault fault) whole inside
 abbrev pub added : ℕ → Result (List ℕ) Fault → Result ℕ Fault
 added total rest = rest >>= λ text. Ok (min (total + length text) (2 ^ 64 - 1))
 
-line_more : (line rest : Result (List ℕ) Fault) (new : List ℕ) (total next : ℕ) → behind [] line ≡ Ok new → next ≡ min (total + length new) (2 ^ 64 - 1)
+line_more : (line rest : Result (List ℕ) Fault) (new : List ℕ) (total next : ℕ) → put_after [] line ≡ Ok new → next ≡ min (total + length new) (2 ^ 64 - 1)
     → added total (line >>= λ l. rest >>= λ ls. Ok (l ++ ls)) ≡ added next rest
 line_more (Ok line) (Ok rest) new total next e sum =
     let same : line ≡ new = cc in
@@ -95,14 +95,14 @@ line_more (Ok line) (Ok rest) new total next e sum =
 line_more (Ok line) (Err fault) new total next e sum = refl
 line_more (Err fault) rest new total next e sum = absurd (cc)
 
-line_faulty : (line rest : Result (List ℕ) Fault) (total : ℕ) (fault : Fault) → behind [] line ≡ Err fault
+line_faulty : (line rest : Result (List ℕ) Fault) (total : ℕ) (fault : Fault) → put_after [] line ≡ Err fault
     → added total (line >>= λ l. rest >>= λ ls. Ok (l ++ ls)) ≡ Err fault
 line_faulty (Ok line) rest total fault e = absurd (cc)
 line_faulty (Err other) rest total fault e = cc
 
 -- the lines from the place i on
 pub next_len : (lead : ℕ) (operator : List ℕ) (items : List Item) (i : ℕ) (item : Item) (new : List ℕ) (total next : ℕ) (whole : Result ℕ Fault)
-    → i < length items → item ≡ get_or items i item → behind [] (item_line lead operator item) ≡ Ok new → next ≡ min (total + length new) (2 ^ 64 - 1)
+    → i < length items → item ≡ get_or items i item → put_after [] (item_line lead operator item) ≡ Ok new → next ≡ min (total + length new) (2 ^ 64 - 1)
     → added total (private_text lead operator (drop i items)) ≡ whole → added next (private_text lead operator (drop (i + 1) items)) ≡ whole
 next_len lead operator items i item new total next whole inside is line sum so_far =
     let split = at_drop_more (λ rest. added total (private_text lead operator rest)) items i item inside in
@@ -110,7 +110,7 @@ next_len lead operator items i item new total next whole inside is line sum so_f
     sym (line_more (item_line lead operator item) (private_text lead operator (drop (i + 1) items)) new total next line sum) ∙ named ∙ sym split ∙ so_far
 
 pub refused_len : (lead : ℕ) (operator : List ℕ) (items : List Item) (i : ℕ) (item : Item) (total : ℕ) (refusal : Refusal) (whole : Result ℕ Fault)
-    → i < length items → item ≡ get_or items i item → Refuses refusal (behind [] (item_line lead operator item))
+    → i < length items → item ≡ get_or items i item → Refuses refusal (put_after [] (item_line lead operator item))
     → added total (private_text lead operator (drop i items)) ≡ whole → Refuses refusal whole
 refused_len lead operator items i item total refusals.Memory whole inside is line so_far = tt
 refused_len lead operator items i item total (refusals.Fault fault) whole inside is line so_far =

@@ -14,21 +14,21 @@ use Rattle.t1_font.specs.Usage.{usage_table}
 abbrev whole : List Glyph → MeasuredFont
 whole gs = record { metrics = map glyph_metrics gs; font_box = font_box (map (λ g. g.outline) gs) }
 
-checked-by : (checked : Result (Unit {0}) Fault) (found : Result (List Glyph) Fault) (told : List Glyph → MeasuredFont)
+checked-by : (checked : Result (Unit {0}) Fault) (found : Result (List Glyph) Fault) (reported : List Glyph → MeasuredFont)
     → ◌≡◌ {A = Result (Unit {0}) Fault}
     ((checked >>= λ c. found) >>= λ gs. Ok (tt {0}))
-    ((checked >>= λ c. found >>= λ gs. Ok (told gs)) >>= λ font. Ok (tt {0}))
-checked-by (Ok c) (Ok gs) told = refl
-checked-by (Ok c) (Err fault) told = refl
-checked-by (Err fault) found told = refl
+    ((checked >>= λ c. found >>= λ gs. Ok (reported gs)) >>= λ font. Ok (tt {0}))
+checked-by (Ok c) (Ok gs) reported = refl
+checked-by (Ok c) (Err fault) reported = refl
+checked-by (Err fault) found reported = refl
 
-used-by : (checked : Result (Unit {0}) Fault) (found : Result (List Glyph) Fault) (told : List Glyph → MeasuredFont) (table : MeasuredFont → List ℕ)
+used-by : (checked : Result (Unit {0}) Fault) (found : Result (List Glyph) Fault) (reported : List Glyph → MeasuredFont) (table : MeasuredFont → List ℕ)
     → ◌≡◌ {A = Result (List ℕ) Fault}
-    ((checked >>= λ c. found) >>= λ gs. Ok (table (told gs)))
-    ((checked >>= λ c. found >>= λ gs. Ok (told gs)) >>= λ font. Ok (table font))
-used-by (Ok c) (Ok gs) told table = refl
-used-by (Ok c) (Err fault) told table = refl
-used-by (Err fault) found told table = refl
+    ((checked >>= λ c. found) >>= λ gs. Ok (table (reported gs)))
+    ((checked >>= λ c. found >>= λ gs. Ok (reported gs)) >>= λ font. Ok (table font))
+used-by (Ok c) (Ok gs) reported table = refl
+used-by (Ok c) (Err fault) reported table = refl
+used-by (Err fault) found reported table = refl
 
 pub by-source-metrics : (s : SourceParts) → BySourceMetrics s
 unfolding measured_source measured

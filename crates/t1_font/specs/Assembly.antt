@@ -6,7 +6,7 @@ use Rattle.t1_frac.specs.declared.fault.Code.TheVariants.{F23}
 use Rattle.t1_frac.specs.declared.fault.Fault.{Fault}
 use Rattle.t1_frac.specs.declared.fault.Place.{Place}
 use Rattle.t1_frac.specs.declared.fault.Place.TheVariants as places
-use Rattle.t1_frac.specs.Outcome.{fault_at, told_at, ◌>>=◌}
+use Rattle.t1_frac.specs.Outcome.{fault_at, reported_at, ◌>>=◌}
 use Rattle.t1_parts.specs.declared.item.Item.{Item}
 use Rattle.t1_parts.specs.declared.item.Item.TheVariants.{Plain, Section, Subr, Glyph}
 use Rattle.t1_parts.specs.SourceParts.{SourceParts}
@@ -23,7 +23,7 @@ use Rattle.t1_code.specs.Pfb.{entry_text, pfb_of, whole_file}
 -- Type 1 Font Format, Chapter 2: an entry's line, with its body's encrypted charstring; or the body's fault, at the entry
 unfoldable pub entry_line : ℕ → List ℕ → Place → List ℕ → List (List ℕ) → List ℕ → Result (List ℕ) Fault
 entry_line lead operator place head words closing =
-    told_at place (commands words) >>= λ body. Ok (entry_text head operator (encrypted_charstring lead (charstring body)) closing)
+    reported_at place (commands words) >>= λ body. Ok (entry_text head operator (encrypted_charstring lead (charstring body)) closing)
 
 -- Type 1 Font Format, Chapter 2: the line of an item of the private part
 abbrev pub item_line : ℕ → List ℕ → Item → Result (List ℕ) Fault
@@ -65,6 +65,6 @@ unfoldable pub file_check : SourceParts → Result (Unit {0}) Fault
 file_check source = length_check source >>= λ checked. counts_check source.items
 
 -- profile: a text stands in front of what a definition gives
-abbrev pub behind : List ℕ → Result (List ℕ) Fault → Result (List ℕ) Fault
-behind front (Ok rest) = Ok (front ++ rest)
-behind front (Err fault) = Err fault
+abbrev pub put_after : List ℕ → Result (List ℕ) Fault → Result (List ℕ) Fault
+put_after front (Ok rest) = Ok (front ++ rest)
+put_after front (Err fault) = Err fault

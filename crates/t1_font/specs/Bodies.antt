@@ -8,7 +8,7 @@ use Rattle.std.specs.declared.vec.Vec.{Vec}
 use Rattle.t1_frac.specs.declared.fault.Fault.{Fault}
 use Rattle.t1_frac.specs.declared.fault.Place.{Place}
 use Rattle.t1_frac.specs.declared.fault.Place.TheVariants as places
-use Rattle.t1_frac.specs.Outcome.{told_at, ◌>>=◌}
+use Rattle.t1_frac.specs.Outcome.{reported_at, ◌>>=◌}
 use Rattle.t1_parts.specs.declared.item.Item.{Item}
 use Rattle.t1_parts.specs.declared.item.Item.TheVariants.{Subr, Glyph}
 use Rattle.t1_code.specs.declared.command.Command.{Command}
@@ -45,7 +45,7 @@ bodies items = font (subr_among items) (glyph_among items)
 
 -- profile: words are commands, or have their fault at this place
 unfoldable pub words_check : Place → List (List ℕ) → Result (Unit {0}) Fault
-words_check place words = told_at place (commands words) >>= λ _. Ok tt
+words_check place words = reported_at place (commands words) >>= λ _. Ok tt
 
 -- profile: the fault of an item's body, at its entry, where it has one
 abbrev pub body_check : Item → Result (Unit {0}) Fault

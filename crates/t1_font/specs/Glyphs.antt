@@ -4,7 +4,7 @@ use Rattle.t1_frac.specs.declared.fault.Code.{Code}
 use Rattle.t1_frac.specs.declared.fault.Code.TheVariants.{F45}
 use Rattle.t1_frac.specs.declared.fault.Fault.{Fault}
 use Rattle.t1_frac.specs.declared.fault.Place.TheVariants as places
-use Rattle.t1_frac.specs.Outcome.{told_at, ◌>>=◌}
+use Rattle.t1_frac.specs.Outcome.{reported_at, ◌>>=◌}
 use Rattle.t1_parts.specs.declared.item.Item.{Item}
 use Rattle.t1_parts.specs.declared.item.Item.TheVariants as items
 use Rattle.t1_run.specs.declared.outline.Composite.{Composite}
@@ -23,7 +23,7 @@ name_in _ = []
 abbrev pub glyph_names : List Item → List (List ℕ)
 glyph_names items = flat_map name_in items
 
--- Type 1 Font Format, chapter 6 (seac): the parts of a composite, and how far its accent is moved
+-- Type 1 Font Format, Chapter 6 (seac): the parts of a composite, and how far its accent is moved
 abbrev pub placed_parts_of : Point → Option Composite → Result (Option PlacedParts) Code
 placed_parts_of bearing None = Ok None
 placed_parts_of bearing (Some c) = accent_move bearing c >>= (λ by. Ok (Some (record { base = c.base; accent = c.accent; by = by })))
@@ -52,7 +52,7 @@ glyph_of name run outline =
 abbrev pub glyphs_by : (List ℕ → Option (Result Drawing Code)) → (List ℕ → Result (List Segment) Code) → List (List ℕ) → Result (List Glyph) Fault
 glyphs_by run outline [] = Ok []
 glyphs_by run outline (name ∷ names) =
-    told_at (places.Glyph name) (glyph_of name (run name) (outline name)) >>= (λ glyph.
+    reported_at (places.Glyph name) (glyph_of name (run name) (outline name)) >>= (λ glyph.
     glyphs_by run outline names >>= (λ glyphs.
     Ok (glyph ∷ glyphs)))
 

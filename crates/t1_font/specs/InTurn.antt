@@ -39,7 +39,7 @@ stays g run = is_standard_name g || is_composite run
 abbrev pub staying : (List ℕ → Option (Result Drawing Code)) → List (List ℕ) → List ℕ → Option (Result Drawing Code)
 staying run names g = if list_any (bytes_eq g) names && stays g (run g) then run g else None
 
--- profile: what is told of a glyph at its turn: its metrics, its fault, or that its run stays
+-- profile: what is reported of a glyph at its turn: its metrics, its fault, or that its run stays
 abbrev pub IsRow : (List ℕ → Option (Result Drawing Code)) → List ℕ → Row → Type 0
 IsRow run name (rows.Measured glyph) = glyph_metrics_at run name ≡ Ok glyph
 IsRow run name (rows.Kept kept) = (kept.now ≡ name) × (stays name (run name) ≡ true)

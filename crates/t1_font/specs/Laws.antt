@@ -2,7 +2,7 @@
 use Rattle.std.specs.Prelude.{◌≡◌, ℕ, List, [], ◌∷◌, filter, map, Result, Ok}
 use Rattle.t1_frac.specs.declared.fault.Fault.{Fault}
 use Rattle.t1_frac.specs.declared.fault.Place.TheVariants as places
-use Rattle.t1_frac.specs.Outcome.{told_at, ◌>>=◌}
+use Rattle.t1_frac.specs.Outcome.{reported_at, ◌>>=◌}
 use Rattle.t1_parts.specs.Counts.{is_glyph_entry}
 use Rattle.t1_parts.specs.Printing.{text}
 use Rattle.t1_parts.specs.Reading.{reads}
@@ -20,7 +20,7 @@ use Rattle.t1_font.specs.Glyphs.{glyphs}
 abbrev pub outlines : FontBodies → List (List ℕ) → Result (List (List Segment)) Fault
 outlines m [] = Ok []
 outlines m (name ∷ names) =
-    told_at (places.Glyph name) (outline m name) >>= (λ segments. outlines m names >>= (λ rest. Ok (segments ∷ rest)))
+    reported_at (places.Glyph name) (outline m name) >>= (λ segments. outlines m names >>= (λ rest. Ok (segments ∷ rest)))
 
 -- profile: the first fault of glyphs is that of their outlines, and without a fault the outlines are theirs
 abbrev pub OutlinesLaw : Type 0

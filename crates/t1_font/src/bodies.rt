@@ -3,7 +3,7 @@ ghost use Rattle.std.specs.Prelude.{◌≡◌, ◌==◌, ℕ, List, None, IfOk, 
 ghost use Rattle.std.specs.Option.{option_or};
 ghost use Rattle.std.specs.Result.{result_ok};
 ghost use Rattle.std.specs.Str.{bytes_eq};
-ghost use Rattle.t1_frac.specs.Outcome.{Gives, told_at};
+ghost use Rattle.t1_frac.specs.Outcome.{Gives, reported_at};
 ghost use Rattle.t1_frac.specs.declared.fault.Place.TheVariants as places;
 ghost use Rattle.t1_code.specs.Words.{commands};
 ghost use Rattle.t1_font.specs.Bodies.{bodies, bodies_check, body_check, words_check, glyph_in, glyph_kept, plain_bodies, subr_in, subr_kept, SameBodies};
@@ -17,7 +17,7 @@ use t1_source::Item;
 
 /// The commands of a Subr's words, or their fault with the Subr's number.
 pub fn compiled_subr(alloc: Global, number: u16, words: &Words) -> Result<Body, Refusal>
-    ensures { Gives (λ body. body) result (told_at (places.Subr number) (commands words.now)) }
+    ensures { Gives (λ body. body) result (reported_at (places.Subr number) (commands words.now)) }
 {
     match compile(alloc, words) {
         Err(refusal) => Err(refusal.at(Place::Subr(number))),
@@ -27,7 +27,7 @@ pub fn compiled_subr(alloc: Global, number: u16, words: &Words) -> Result<Body, 
 
 /// The commands of a glyph's words, or their fault with the glyph's name.
 pub fn compiled_glyph(alloc: Global, name: &[u8], words: &Words) -> Result<Body, Refusal>
-    ensures { Gives (λ body. body) result (told_at (places.Glyph name.now) (commands words.now)) }
+    ensures { Gives (λ body. body) result (reported_at (places.Glyph name.now) (commands words.now)) }
 {
     match compile(alloc, words) {
         Err(refusal) => Err(refusal.at(Place::Glyph(Bytes::copied(alloc, name)?))),

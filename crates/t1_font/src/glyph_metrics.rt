@@ -1,6 +1,6 @@
 //! What is measured of glyphs.
 ghost use Rattle.std.specs.Prelude.{◌≡◌, map, Ok, Err, MatchResult};
-ghost use Rattle.t1_frac.specs.Outcome.{Gives, told_at};
+ghost use Rattle.t1_frac.specs.Outcome.{Gives, reported_at};
 ghost use Rattle.t1_frac.specs.declared.fault.Place.TheVariants as places;
 ghost use Rattle.t1_afm.specs.Box.{united};
 ghost use Rattle.t1_font.specs.Glyphs.{placed_parts_of, run_there};
@@ -36,7 +36,7 @@ pub struct GlyphMetrics<'a> {
 
 /// The parts of a composite, and how far its accent is moved.
 fn placed_parts(alloc: Global, run: &KeptRun) -> Result<Option<PlacedParts>, Refusal>
-    ensures { Gives (λ parts. parts) result (told_at places.Nowhere (placed_parts_of run.now.drawing.bearing run.now.drawing.composite)) }
+    ensures { Gives (λ parts. parts) result (reported_at places.Nowhere (placed_parts_of run.now.drawing.bearing run.now.drawing.composite)) }
 {
     let Some(parts) = run.composite() else {
         return Ok(None);
@@ -72,7 +72,7 @@ pub fn metrics_of_run<'a>(
     ensures { Gives
         (λ glyph. glyph)
         result
-        (told_at places.Nowhere (glyph_metrics_by name.now run.now.drawing bbox)) }
+        (reported_at places.Nowhere (glyph_metrics_by name.now run.now.drawing bbox)) }
 {
     Ok(GlyphMetrics {
         name: SourceText::borrowed(name),
@@ -93,7 +93,7 @@ fn unplaced_metrics<'a, R: KeptRuns>(
     ensures { Gives
         (λ glyph. glyph)
         result
-        (told_at places.Nowhere (glyph_metrics_at (R.drawn runs.now) name.now)) }
+        (reported_at places.Nowhere (glyph_metrics_at (R.drawn runs.now) name.now)) }
 {
     let run = run_of(runs, name)?;
     let bbox = box_of(alloc, runs, name)?;
@@ -109,7 +109,7 @@ pub(crate) fn placed_metrics<'a, R: KeptRuns>(
     ensures { Gives
         (λ glyph. glyph)
         result
-        (told_at (places.Glyph name.now) (glyph_metrics_at (R.drawn runs.now) name.now)) }
+        (reported_at (places.Glyph name.now) (glyph_metrics_at (R.drawn runs.now) name.now)) }
 {
     match unplaced_metrics(alloc, runs, name) {
         Err(refusal) => Err(refusal.at(Place::Glyph(Bytes::copied(alloc, name)?))),

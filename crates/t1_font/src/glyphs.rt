@@ -91,7 +91,7 @@ pub fn measured<'a>(
 ) -> Result<MeasuredGlyphs<'a>, Refusal>
     requires checked { bodies_check items.now ≡ Ok tt }
     requires bodies { SameBodies (plain_bodies bodies.now) (bodies_of items.now) }
-    ensures told { Gives (λ glyphs. glyphs) result (measured items.now) }
+    ensures reported { Gives (λ glyphs. glyphs) result (measured items.now) }
     ensures counted { Counts (length (glyph_names items.now)) meter.old meter.new result }
 {
     let names = glyph_names(alloc, items)?;

@@ -24,7 +24,7 @@ use t1_extent::KeptRun;
 use t1_frac::{Bytes, Code, Place, Refusal, SourceText, Words};
 use t1_run::{Meter, Segment};
 
-/// What is told of a glyph at its turn.
+/// What is reported of a glyph at its turn.
 #[derive(Drop)]
 pub(crate) enum Row<'a> {
     /// What is measured of it.
@@ -66,7 +66,7 @@ fn is_staying(name: &[u8], kept: &Result<KeptRun, Code>) -> bool
     }
 }
 
-/// What is told of a glyph by its run, which is kept where it stays.
+/// What is reported of a glyph by its run, which is kept where it stays.
 pub(crate) fn row_of<'a>(
     alloc: Global,
     runs: &mut Runs,
@@ -123,7 +123,7 @@ fn compile_glyph(
     }
 }
 
-/// Compiles and runs a glyph: what is told of it, or the fault of its words. Its run is kept where it stays.
+/// Compiles and runs a glyph: what is reported of it, or the fault of its words. Its run is kept where it stays.
 pub(crate) fn glyph_turn<'a>(
     alloc: Global,
     source: &OpenSource,

@@ -159,7 +159,7 @@ pub fn check_counts(items: &[Item]) -> Result<(), Fault>
 
 /// The compiled bodies of a source whose PFB file and text have no fault; or their fault: the first of a body, at its
 /// entry, else F23.
-#[tactic(auto, using(crate::proofs::LengthLaws::body_fault_told), unfolding(crate::specs::Assembly::file_check))]
+#[tactic(auto, using(crate::proofs::LengthLaws::body_fault_reported), unfolding(crate::specs::Assembly::file_check))]
 pub fn checked_bodies(alloc: Global, source: &Source) -> Result<Plain, Refusal>
     ensures file { Gives (λ _. tt) result (file_check source.now) }
     ensures no_fault { IfOk result (λ _. bodies_check source.now.items ≡ Ok tt) }

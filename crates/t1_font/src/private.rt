@@ -2,10 +2,10 @@
 ghost use Rattle.std.specs.Prelude.{◌≡◌, ◌∷◌, ◌++◌, [], OnOk, codes, decimal};
 ghost use Rattle.t1_frac.specs.Ascii.{line_feed, slash};
 ghost use Rattle.t1_frac.specs.declared.fault.Place.TheVariants as places;
-ghost use Rattle.t1_frac.specs.Outcome.{Gives, told_at};
+ghost use Rattle.t1_frac.specs.Outcome.{Gives, reported_at};
 ghost use Rattle.t1_code.specs.Cipher.{encrypted_words};
 ghost use Rattle.t1_code.specs.Pfb.{closing_text, entry_text};
-ghost use Rattle.t1_font.specs.Assembly.{behind, item_line, private_text};
+ghost use Rattle.t1_font.specs.Assembly.{put_after, item_line, private_text};
 ghost use Rattle.t1_font.specs.Lengths.{private_length};
 
 use itoa::Buffer;
@@ -96,7 +96,7 @@ fn push_glyph(
 
 /// Puts the encrypted charstring of a Subr in the place of what the buffer holds.
 fn encrypt_subr(code: &mut Vec<u8>, lead: u8, number: u16, words: &Words) -> Result<(), Refusal>
-    ensures { Gives (λ _. code.new.items) result (told_at (places.Subr number) (encrypted_words lead words.now)) }
+    ensures { Gives (λ _. code.new.items) result (reported_at (places.Subr number) (encrypted_words lead words.now)) }
 {
     match encrypt_words(code, lead, words) {
         Err(refusal) => Err(refusal.at(Place::Subr(number))),
@@ -112,7 +112,7 @@ fn encrypt_glyph(
     name: &[u8],
     words: &Words,
 ) -> Result<(), Refusal>
-    ensures { Gives (λ _. code.new.items) result (told_at (places.Glyph name.now) (encrypted_words lead words.now)) }
+    ensures { Gives (λ _. code.new.items) result (reported_at (places.Glyph name.now) (encrypted_words lead words.now)) }
 {
     match encrypt_words(code, lead, words) {
         Err(refusal) => Err(refusal.at(Place::Glyph(Bytes::copied(alloc, name)?))),
@@ -131,7 +131,7 @@ fn push_item(
     operator: &[u8],
     item: &Item,
 ) -> Result<(), Refusal>
-    ensures { Gives (λ _. text.new.items) result (behind text.old.items (item_line lead operator.now item.now)) }
+    ensures { Gives (λ _. text.new.items) result (put_after text.old.items (item_line lead operator.now item.now)) }
 {
     match item {
         Item::Plain(line) => Ok(push_line(text, line.as_slice())?),

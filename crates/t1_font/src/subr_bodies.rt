@@ -2,7 +2,7 @@
 ghost use Rattle.std.specs.Prelude.{◌≡◌, ◌==◌, ℕ, None, OnOk, if◌then◌else◌, take, length};
 ghost use Rattle.std.specs.Option.{option_copied, option_or};
 ghost use Rattle.std.specs.Result.{result_ok};
-ghost use Rattle.t1_frac.specs.Outcome.{Gives, told_at};
+ghost use Rattle.t1_frac.specs.Outcome.{Gives, reported_at};
 ghost use Rattle.t1_frac.specs.declared.fault.Place.TheVariants as places;
 ghost use Rattle.t1_code.specs.Words.{after_others, commands};
 ghost use Rattle.t1_font.specs.Bodies.{words_check};
@@ -41,7 +41,7 @@ impl Model for SubrBodies {
 
 /// Adds the commands of a Subr's words to others, or answers their fault with the Subr's number.
 fn compile_subr(others: &mut Vec<Command>, number: u16, words: &Words) -> Result<(), Refusal>
-    ensures value { Gives (λ _. others.new.items) result (told_at (places.Subr number) (after_others others.old.items (commands words.now))) }
+    ensures value { Gives (λ _. others.new.items) result (reported_at (places.Subr number) (after_others others.old.items (commands words.now))) }
     ensures front { take (length others.old.items) others.new.items ≡ others.old.items }
 {
     match compile_onto(others, words) {

@@ -3,7 +3,7 @@ ghost use Rattle.std.specs.Prelude.{◌≡◌, ◌++◌, ◌||◌, is_some, ℕ,
 ghost use Rattle.std.specs.List.{list_any};
 ghost use Rattle.std.specs.Option.{option_or};
 ghost use Rattle.std.specs.Str.{bytes_eq};
-ghost use Rattle.t1_frac.specs.Outcome.{Gives, told_at};
+ghost use Rattle.t1_frac.specs.Outcome.{Gives, reported_at};
 ghost use Rattle.t1_frac.specs.declared.fault.Place.TheVariants as places;
 ghost use Rattle.t1_frac.specs.declared.fault.Code.{Code as CodeOf};
 ghost use Rattle.t1_run.specs.Run.{Drawing, font, own};
@@ -118,7 +118,7 @@ impl<'a> Turns<'a> {
     }
 }
 
-/// What is told of the glyphs of a source, in the order of their entries, and the runs that stay; or the first fault of a body,
+/// What is reported of the glyphs of a source, in the order of their entries, and the runs that stay; or the first fault of a body,
 /// at its entry. Subrs are compiled and glyphs are compiled and run in this order, each once.
 pub(crate) fn turns_of<'a>(alloc: Global, items: &'a [Item]) -> Result<Turns<'a>, Refusal>
     requires firsts { All (IsFirstOfName items.now) items.now }
@@ -135,10 +135,10 @@ pub(crate) fn turns_of<'a>(alloc: Global, items: &'a [Item]) -> Result<Turns<'a>
     Ok(turns)
 }
 
-/// What is measured of a glyph of which this is told, or its first fault, at the glyph.
+/// What is measured of a glyph of which this is reported, or its first fault, at the glyph.
 #[tactic(auto, using(crate::proofs::StayingLaws::staying_metrics))]
 fn metrics_of_row<'a>(alloc: Global, runs: &Runs, row: Row<'a>) -> Result<GlyphMetrics<'a>, Refusal>
-    ensures { (run : List ℕ → Option (Result Drawing CodeOf)) (names : List (List ℕ)) (name : List ℕ) → IsRow run name row.entry → RunsStay run names runs.now → Gives (λ glyph. glyph) result (told_at (places.Glyph name) (glyph_metrics_at run name)) }
+    ensures { (run : List ℕ → Option (Result Drawing CodeOf)) (names : List (List ℕ)) (name : List ℕ) → IsRow run name row.entry → RunsStay run names runs.now → Gives (λ glyph. glyph) result (reported_at (places.Glyph name) (glyph_metrics_at run name)) }
 {
     match row {
         Row::Measured(glyph) => Ok(glyph),
@@ -150,7 +150,7 @@ fn metrics_of_row<'a>(alloc: Global, runs: &Runs, row: Row<'a>) -> Result<GlyphM
     }
 }
 
-/// What is measured of the glyphs of which this is told, in their order, or the first fault of a glyph.
+/// What is measured of the glyphs of which this is reported, in their order, or the first fault of a glyph.
 fn metrics_of_rows<'a>(
     alloc: Global,
     runs: &Runs,
@@ -166,7 +166,7 @@ fn metrics_of_rows<'a>(
 }
 
 /// The same of a source whose PFB file and text have no fault; or their fault: the first of a body, at its entry, else F23.
-#[tactic(auto, using(crate::proofs::LengthLaws::body_fault_told), unfolding(crate::specs::Assembly::file_check))]
+#[tactic(auto, using(crate::proofs::LengthLaws::body_fault_reported), unfolding(crate::specs::Assembly::file_check))]
 fn checked_turns<'a>(alloc: Global, source: &'a Source) -> Result<Turns<'a>, Refusal>
     requires firsts { All (IsFirstOfName source.now.items) source.now.items }
     requires subrs { SubrsStandFirst source.now.items }

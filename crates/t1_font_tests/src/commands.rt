@@ -102,7 +102,7 @@ fn knows_blank_lines(rt: HostRuntime) -> Result<(), Fail> {
 }
 
 #[test]
-fn tells_a_broken_rule(rt: HostRuntime) -> Result<(), Fail> {
+fn reports_a_broken_rule(rt: HostRuntime) -> Result<(), Fail> {
     let answer = answer_of(Err(Cause::Rule(Rule::E5)))?;
     assert!(rt; matches!(answer, Answer::Broken(Rule::E5)));
     Ok(())

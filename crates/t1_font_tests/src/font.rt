@@ -173,7 +173,7 @@ fn first_fault(alloc: Global, glyphs: &str) -> Result<Option<(Code, Vec<u8>)>, F
 }
 
 #[test]
-fn tells_the_fault_of_a_part_at_the_composite(rt: HostRuntime) -> Result<(), Fail> {
+fn reports_the_fault_of_a_part_at_the_composite(rt: HostRuntime) -> Result<(), Fail> {
     let glyphs = "/Aacute {\n0 600 hsbw 0 0 0 65 65 seac\n}\n/A {\n0 600 hsbw 1 0 div endchar\n}\n";
     let Some((code, name)) = first_fault(rt.alloc(), glyphs)? else {
         return Err(Fail::new("no fault"));
@@ -193,7 +193,7 @@ const USES: &str = "\
     U space ;\n";
 
 #[test]
-fn tells_the_uses_of_the_demo_font(rt: HostRuntime) -> Result<(), Fail> {
+fn reports_the_uses_of_the_demo_font(rt: HostRuntime) -> Result<(), Fail> {
     let alloc = rt.alloc();
     let source = read_source(alloc, DEMO.as_bytes())?;
     let glyphs = glyphs_of(alloc, &source, &mut Meter::new())?;
@@ -254,7 +254,7 @@ const FAULTY: &str = "\
     mark currentfile closefile\n";
 
 #[test]
-fn tells_the_first_fault_of_the_bodies(rt: HostRuntime) -> Result<(), Fail> {
+fn reports_the_first_fault_of_the_bodies(rt: HostRuntime) -> Result<(), Fail> {
     let source = read_source(rt.alloc(), FAULTY.as_bytes())?;
     let Err(Refusal::Fault(fault)) = pfb_of_source(rt.alloc(), &source, 40) else {
         return Err(Fail::new("no fault"));

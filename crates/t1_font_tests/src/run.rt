@@ -36,7 +36,7 @@ fn steps_of(alloc: Global, bodies: &Plain, name: &[u8]) -> Result<Result<u32, Co
         return Err(Fail::new("no such glyph"));
     }
     match run(alloc, bodies, name, &mut Meter::new()) {
-        Ok(told) => Ok(Ok(told.steps())),
+        Ok(reported) => Ok(Ok(reported.steps())),
         Err(Refusal::Fault(fault)) => Ok(Err(fault.code)),
         Err(Refusal::Memory) => Err(Fail::new("memory")),
     }

@@ -128,7 +128,7 @@ fn keeps_tail(rt: HostRuntime) -> Result<(), Fail> {
 }
 
 #[test]
-fn tells_items(rt: HostRuntime) -> Result<(), Fail> {
+fn reports_items(rt: HostRuntime) -> Result<(), Fail> {
     let source = small(rt.alloc())?;
     assert!(rt;
         matches!(
@@ -158,14 +158,14 @@ fn copies_an_item(rt: HostRuntime) -> Result<(), Fail> {
 }
 
 #[test]
-fn tells_the_standard_encoding(rt: HostRuntime) -> Result<(), Fail> {
+fn reports_the_standard_encoding(rt: HostRuntime) -> Result<(), Fail> {
     let source = small(rt.alloc())?;
     assert!(rt; source.standard());
     Ok(())
 }
 
 #[test]
-fn tells_an_array(rt: HostRuntime) -> Result<(), Fail> {
+fn reports_an_array(rt: HostRuntime) -> Result<(), Fail> {
     let source = slotted(rt.alloc())?;
     assert!(rt; !source.standard());
     Ok(())

@@ -3,7 +3,7 @@ use Rattle.std.proofs.Common.{◌≡◌, Result, Ok, Err, refl, ap}
 use Rattle.std.specs.Result.{OnErr}
 use Rattle.t1_frac.specs.declared.fault.Code.{Code}
 use Rattle.t1_frac.specs.declared.fault.Place.{Place}
-use Rattle.t1_frac.specs.Outcome.{told_at, ◌>>=◌}
+use Rattle.t1_frac.specs.Outcome.{reported_at, ◌>>=◌}
 
 -- what holds anyway holds after an error
 pub on_err : {X E P : Type 0} (r : Result X E) → P → OnErr r P
@@ -15,6 +15,6 @@ pub bind_ok : {E A B : Type 0} (r : Result A E) (f : A → Result B E) (b : B) �
 bind_ok (Ok a) f b e = (a, refl, e)
 bind_ok (Err x) f b e = cc
 
-pub told_ok : {X : Type 0} (place : Place) (r : Result X Code) (x : X) → told_at place r ≡ Ok x → r ≡ Ok x
-told_ok place (Ok y) x e = let same : y ≡ x = cc in ap Ok same
-told_ok place (Err c) x e = cc
+pub reported_ok : {X : Type 0} (place : Place) (r : Result X Code) (x : X) → reported_at place r ≡ Ok x → r ≡ Ok x
+reported_ok place (Ok y) x e = let same : y ≡ x = cc in ap Ok same
+reported_ok place (Err c) x e = cc

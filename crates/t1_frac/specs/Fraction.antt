@@ -5,7 +5,7 @@ use Rattle.std.specs.Int.{int_div_euclid, IsGcd}
 use Rattle.std.specs.Int.RustNames.{int_div, unsigned_abs}
 use Rattle.std.specs.Ordering.{int_cmp}
 
--- Type 1 Font Format, chapter 6, div: a quotient is kept as a fraction; only pairs with a denominator above 0 are numbers
+-- Type 1 Font Format, Chapter 6, div: a quotient is kept as a fraction; only pairs with a denominator above 0 are numbers
 pub record Fraction : Type 0 where
   pub num : ℤ
   pub den : ℕ

@@ -21,9 +21,9 @@ placed place (refusals.Fault fault) = refusals.Fault (fault_at place fault.code)
 placed place refusals.Memory = refusals.Memory
 
 -- profile, faults: the outcome, with its fault reported at this place
-abbrev pub told_at : {X : Type 0} → Place → Result X Code → Result X Fault
-told_at place (Ok x) = Ok x
-told_at place (Err code) = Err (fault_at place code)
+abbrev pub reported_at : {X : Type 0} → Place → Result X Code → Result X Fault
+reported_at place (Ok x) = Ok x
+reported_at place (Err code) = Err (fault_at place code)
 
 infixl 10 ◌>>=◌
 -- profile, faults: the second step, where the first gave a value; else the first one's fault

@@ -45,7 +45,7 @@ use Rattle.t1_held.specs.Held.{IsHeld}
 use Rattle.t1_held.specs.declared.edits.Edits.{Edits}
 use Rattle.t1_held.specs.declared.edits.Edits.TheVariants as edits
 use Rattle.t1_held.specs.Edits.{made_by, made_of, AreChanges, AreRight, IsPreparedEdit}
-use Rattle.t1_font.specs.Glyphs.{Glyph as Told}
+use Rattle.t1_font.specs.Glyphs.{Glyph as Reported}
 use Rattle.t1_font.specs.MeasuredGlyphs.{MeasuredFont, measured}
 use Rattle.t1_font.specs.SourceChecks.{measured_source}
 use Rattle.t1_font.proofs.Counted.{counted-source}
@@ -63,7 +63,7 @@ file_checked s e =
     (measured-file s font.0 font.1).1
 
 pub right_checked : (s : SourceParts) (records : Records) → IsRight s records → source_check s ≡ Ok tt
-right_checked s records right = ap (λ (r : Result (List Told) Fault). r >>= λ glyphs. Ok (tt {0})) right.kept.faultless
+right_checked s records right = ap (λ (r : Result (List Reported) Fault). r >>= λ glyphs. Ok (tt {0})) right.kept.faultless
 
 pub counts_checked : (s : SourceParts) → source_check s ≡ Ok tt → list_all is_counted s.items ≡ true
 counts_checked s e = counted-source s (file_checked s e)

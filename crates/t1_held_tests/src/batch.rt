@@ -91,7 +91,7 @@ fn replaced_twice(alloc: Global) -> Result<(usize, Option<usize>, bool), Fail> {
 }
 
 #[test]
-fn tells_an_entry_once_with_its_last_body(rt: HostRuntime) -> Result<(), Fail> {
+fn reports_an_entry_once_with_its_last_body(rt: HostRuntime) -> Result<(), Fail> {
     let change = replaced_twice(rt.alloc())?;
     assert!(rt; change == (1, Some(4), false));
     Ok(())
@@ -103,7 +103,7 @@ fn removed(alloc: Global) -> Result<(usize, Option<usize>, bool), Fail> {
 }
 
 #[test]
-fn tells_a_removed_glyph(rt: HostRuntime) -> Result<(), Fail> {
+fn reports_a_removed_glyph(rt: HostRuntime) -> Result<(), Fail> {
     let change = removed(rt.alloc())?;
     assert!(rt; change == (1, None, false));
     Ok(())
@@ -115,7 +115,7 @@ fn added_again(alloc: Global) -> Result<(usize, Option<usize>, bool), Fail> {
 }
 
 #[test]
-fn tells_a_glyph_that_was_added_again_as_moved(rt: HostRuntime) -> Result<(), Fail> {
+fn reports_a_glyph_that_was_added_again_as_moved(rt: HostRuntime) -> Result<(), Fail> {
     let change = added_again(rt.alloc())?;
     assert!(rt; change == (1, Some(4), true));
     Ok(())
@@ -127,7 +127,7 @@ fn removed_again(alloc: Global) -> Result<(usize, Option<usize>, bool), Fail> {
 }
 
 #[test]
-fn tells_a_glyph_that_was_removed_again(rt: HostRuntime) -> Result<(), Fail> {
+fn reports_a_glyph_that_was_removed_again(rt: HostRuntime) -> Result<(), Fail> {
     let change = removed_again(rt.alloc())?;
     assert!(rt; change == (1, None, false));
     Ok(())
@@ -147,7 +147,7 @@ fn is_in_order(alloc: Global) -> Result<bool, Fail> {
 }
 
 #[test]
-fn tells_entries_in_the_order_of_the_source(rt: HostRuntime) -> Result<(), Fail> {
+fn reports_entries_in_the_order_of_the_source(rt: HostRuntime) -> Result<(), Fail> {
     let ordered = is_in_order(rt.alloc())?;
     assert!(rt; ordered);
     Ok(())
@@ -174,9 +174,9 @@ fn has_fault_at_4(alloc: Global) -> Result<bool, Fail> {
 }
 
 #[test]
-fn tells_the_first_fault_of_the_source(rt: HostRuntime) -> Result<(), Fail> {
-    let told = has_fault_at_4(rt.alloc())?;
-    assert!(rt; told);
+fn reports_the_first_fault_of_the_source(rt: HostRuntime) -> Result<(), Fail> {
+    let reported = has_fault_at_4(rt.alloc())?;
+    assert!(rt; reported);
     Ok(())
 }
 

@@ -162,9 +162,9 @@ fn has_fault_at_4(alloc: Global, body: &[u8]) -> Result<bool, Fail> {
 }
 
 #[test]
-fn tells_the_fault_of_an_edit_at_its_entry(rt: HostRuntime) -> Result<(), Fail> {
-    let told = has_fault_at_4(rt.alloc(), b"100 178 nonsense return")?;
-    assert!(rt; told);
+fn reports_the_fault_of_an_edit_at_its_entry(rt: HostRuntime) -> Result<(), Fail> {
+    let reported = has_fault_at_4(rt.alloc(), b"100 178 nonsense return")?;
+    assert!(rt; reported);
     Ok(())
 }
 

@@ -5,7 +5,7 @@ use Rattle.std.specs.Cmp.Lexicographic.{slice_cmp}
 use Rattle.t1_frac.specs.declared.fault.Fault.{Fault}
 use Rattle.t1_pairs.specs.declared.pairs.Pair.{Pair}
 use Rattle.t1_frac.specs.Words.{words}
-use Rattle.t1_frac.specs.Outcome.{◌>>=◌, told_at}
+use Rattle.t1_frac.specs.Outcome.{◌>>=◌, reported_at}
 use Rattle.t1_pairs.specs.Kerning.{line_pairs, pairs_from, pairs_with, put_pair, put_all_pairs}
 use Rattle.std.specs.Prelude.{ℤ}
 use Rattle.std.specs.BTreeMap.{insert_entry}
@@ -26,15 +26,15 @@ after_none qs (Ok ps) = refl
 after_none qs (Err f) = refl
 
 -- a line that says a pair
-pub pair_step : (qs : List Pair) (n : ℕ) (l : List ℕ) (ls : List (List ℕ)) (p : Pair) → told_at (Line n) (line_pairs (words l)) ≡ Ok (p ∷ []) → pairs_with qs n (l ∷ ls) ≡ pairs_with (put_pair p qs) (n + 1) ls
+pub pair_step : (qs : List Pair) (n : ℕ) (l : List ℕ) (ls : List (List ℕ)) (p : Pair) → reported_at (Line n) (line_pairs (words l)) ≡ Ok (p ∷ []) → pairs_with qs n (l ∷ ls) ≡ pairs_with (put_pair p qs) (n + 1) ls
 pair_step qs n l ls p e = rw e (after_pair qs p (pairs_from (n + 1) ls))
 
 -- a line that says nothing
-pub none_step : (qs : List Pair) (n : ℕ) (l : List ℕ) (ls : List (List ℕ)) → told_at (Line n) (line_pairs (words l)) ≡ Ok [] → pairs_with qs n (l ∷ ls) ≡ pairs_with qs (n + 1) ls
+pub none_step : (qs : List Pair) (n : ℕ) (l : List ℕ) (ls : List (List ℕ)) → reported_at (Line n) (line_pairs (words l)) ≡ Ok [] → pairs_with qs n (l ∷ ls) ≡ pairs_with qs (n + 1) ls
 none_step qs n l ls e = rw e (after_none qs (pairs_from (n + 1) ls))
 
 -- the first faulty line decides
-pub pairs_fault : (qs : List Pair) (n : ℕ) (l : List ℕ) (ls : List (List ℕ)) (f : Fault) → told_at (Line n) (line_pairs (words l)) ≡ Err f → pairs_with qs n (l ∷ ls) ≡ Err f
+pub pairs_fault : (qs : List Pair) (n : ℕ) (l : List ℕ) (ls : List (List ℕ)) (f : Fault) → reported_at (Line n) (line_pairs (words l)) ≡ Err f → pairs_with qs n (l ∷ ls) ≡ Err f
 pairs_fault qs n l ls f e = rw e refl
 
 abbrev pub pair_of_entry : {A B : Type 0} → (Vec ℕ A × Vec ℕ B) × ℤ → Pair

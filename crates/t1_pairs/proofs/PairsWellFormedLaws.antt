@@ -5,14 +5,14 @@ use Rattle.std.proofs.lemmas.Bool.{and_parts, and_from, cases_Bool}
 use Rattle.std.proofs.lemmas.List.Folds.{list_all-append}
 use Rattle.t1_frac.specs.declared.fault.Code.TheVariants.{F12}
 use Rattle.t1_frac.specs.declared.fault.Place.TheVariants.{Line}
-use Rattle.t1_frac.specs.Outcome.{told_at, ◌>>=◌}
+use Rattle.t1_frac.specs.Outcome.{reported_at, ◌>>=◌}
 use Rattle.t1_frac.specs.Words.{words}
 use Rattle.t1_pairs.specs.declared.pairs.Pair.{Pair}
 use Rattle.t1_text.specs.Tokens.{first_is}
 use Rattle.t1_frac.specs.Numbers.{is_number_word, number_written}
 use Rattle.t1_text.specs.Names.{is_name}
 use Rattle.t1_pairs.specs.Kerning.{kerning_value, small, pair_of, kpx_of, is_left_out, line_pairs, pairs_from, pairs_with, put_pair, put_all_pairs, is_kerning_value, is_kerning_pair, precedes, are_ordered, are_pairs}
-use Rattle.t1_frac.proofs.OutcomeLaws.{bind_ok, told_ok}
+use Rattle.t1_frac.proofs.OutcomeLaws.{bind_ok, reported_ok}
 use Rattle.t1_pairs.proofs.PutLaws.{put_keeps, put_ordered}
 
 -- a value that was read is in range
@@ -66,12 +66,12 @@ line_good ws ps e =
 from_good : (n : ℕ) (ls : List (List ℕ)) (ps : List Pair) → pairs_from n ls ≡ Ok ps → list_all is_kerning_pair ps ≡ true
 from_good n [] ps e = let same : [] ≡ ps = cc in ap (list_all is_kerning_pair) (sym same)
 from_good n (l ∷ ls) ps e =
-    let first = bind_ok (told_at (Line n) (line_pairs (words l))) (λ qs. pairs_from (n + 1) ls >>= λ more. Ok (qs ++ more)) ps e in
-    let here = line_good (words l) first.0 (told_ok (Line n) (line_pairs (words l)) first.0 first.1) in
+    let first = bind_ok (reported_at (Line n) (line_pairs (words l))) (λ qs. pairs_from (n + 1) ls >>= λ more. Ok (qs ++ more)) ps e in
+    let here = line_good (words l) first.0 (reported_ok (Line n) (line_pairs (words l)) first.0 first.1) in
     let later = bind_ok (pairs_from (n + 1) ls) (λ more. Ok (first.0 ++ more)) ps first.2 in
-    let behind = from_good (n + 1) ls later.0 later.1 in
+    let following = from_good (n + 1) ls later.0 later.1 in
     let same : first.0 ++ later.0 ≡ ps = (let is : Ok (first.0 ++ later.0) ≡ Ok ps = later.2 in cc) in
-    ap (list_all is_kerning_pair) (sym same) ∙ list_all-append is_kerning_pair first.0 later.0 ∙ and_from _ _ here behind
+    ap (list_all is_kerning_pair) (sym same) ∙ list_all-append is_kerning_pair first.0 later.0 ∙ and_from _ _ here following
 
 -- a pair put in
 pub put_pairs : (p : Pair) (ps : List Pair) → is_kerning_pair p ≡ true → are_pairs ps ≡ true → are_pairs (put_pair p ps) ≡ true

@@ -63,20 +63,20 @@ put_keeps test p a b (q ∷ qs) h =
     keeps_step test p q qs (put_pair p qs) (pair_cmp p q) a (b q parts.0) parts.0 parts.1 (put_keeps test p a b qs parts.1)
 
 -- what stands after a pair stands after one before it
-all_behind : (p q : Pair) → pair_cmp p q ≡ Less → (rs : List Pair) → list_all (precedes q) rs ≡ true → list_all (precedes p) rs ≡ true
-all_behind p q h [] k = refl
-all_behind p q h (r ∷ rs) k =
+all_after : (p q : Pair) → pair_cmp p q ≡ Less → (rs : List Pair) → list_all (precedes q) rs ≡ true → list_all (precedes p) rs ≡ true
+all_after p q h [] k = refl
+all_after p q h (r ∷ rs) k =
     let parts = and_parts _ _ k in
-    and_from _ _ (ap is_lt (pair_total.trans p q r h (less (pair_cmp q r) parts.0))) (all_behind p q h rs parts.1)
+    and_from _ _ (ap is_lt (pair_total.trans p q r h (less (pair_cmp q r) parts.0))) (all_after p q h rs parts.1)
 
-behind : (p q : Pair) → pair_cmp p q ≡ Greater → precedes q p ≡ true
-behind p q h = ap is_lt (pair_total.antisymm q p ∙ ap ordering_reverse h)
+following : (p q : Pair) → pair_cmp p q ≡ Greater → precedes q p ≡ true
+following p q h = ap is_lt (pair_total.antisymm q p ∙ ap ordering_reverse h)
 
 ordered_step : (p q : Pair) (qs : List Pair) (o : Ordering) → pair_cmp p q ≡ o → list_all (precedes q) qs ≡ true → are_ordered qs ≡ true → are_ordered (put_pair p qs) ≡ true
     → are_ordered (match_ordering o (p ∷ q ∷ qs) (valued q p.value ∷ qs) (q ∷ put_pair p qs)) ≡ true
-ordered_step p q qs Less e a b c = and_from _ _ (and_from _ _ (ap is_lt e) (all_behind p q e qs a)) (and_from _ _ a b)
+ordered_step p q qs Less e a b c = and_from _ _ (and_from _ _ (ap is_lt e) (all_after p q e qs a)) (and_from _ _ a b)
 ordered_step p q qs Equal e a b c = and_from _ _ a b
-ordered_step p q qs Greater e a b c = and_from _ _ (put_keeps (precedes q) p (behind p q e) (λ r h. h) qs a) c
+ordered_step p q qs Greater e a b c = and_from _ _ (put_keeps (precedes q) p (following p q e) (λ r h. h) qs a) c
 
 -- ordered pairs stay so
 pub put_ordered : (p : Pair) (qs : List Pair) → are_ordered qs ≡ true → are_ordered (put_pair p qs) ≡ true

@@ -11,7 +11,7 @@ use Rattle.t1_frac.specs.declared.fault.Code.{Code}
 use Rattle.t1_frac.specs.declared.fault.Code.TheVariants.{F12, F13}
 use Rattle.t1_frac.specs.declared.fault.Fault.{Fault}
 use Rattle.t1_frac.specs.declared.fault.Place.TheVariants.{Line}
-use Rattle.t1_frac.specs.Outcome.{told_at, ◌>>=◌}
+use Rattle.t1_frac.specs.Outcome.{reported_at, ◌>>=◌}
 use Rattle.t1_frac.specs.Numbers.{is_number_word, number_written}
 use Rattle.t1_frac.specs.Words.{words}
 use Rattle.t1_pairs.specs.declared.pairs.Pair.{Pair}
@@ -55,7 +55,7 @@ line_pairs ws =
 -- profile, kerning files: the pairs of the lines from number n on, in their order, or the first fault
 abbrev pub pairs_from : ℕ → List (List ℕ) → Result (List Pair) Fault
 pairs_from n [] = Ok []
-pairs_from n (l ∷ ls) = told_at (Line n) (line_pairs (words l)) >>= λ ps. pairs_from (n + 1) ls >>= λ more. Ok (ps ++ more)
+pairs_from n (l ∷ ls) = reported_at (Line n) (line_pairs (words l)) >>= λ ps. pairs_from (n + 1) ls >>= λ more. Ok (ps ++ more)
 
 -- profile, kerning files: the order of two pairs by the bytes of the left, then the right name
 abbrev pub pair_cmp : Pair → Pair → Ordering

@@ -56,7 +56,7 @@ ghost use Rattle.std.specs.Prelude.{◌≡◌, ◌∷◌, ◌+◌, ◌<◌, ◌�
 ghost use Rattle.std.specs.List.{insert, remove};
 ghost use Rattle.t1_frac.specs.Ascii.{line_feed};
 ghost use Rattle.t1_frac.specs.declared.fault.Place.TheVariants as places;
-ghost use Rattle.t1_frac.specs.Outcome.{Gives, told_at};
+ghost use Rattle.t1_frac.specs.Outcome.{Gives, reported_at};
 ghost use Rattle.t1_frac.specs.Words.{words};
 ghost use Rattle.t1_text.specs.Lines.{lines};
 ghost use Rattle.t1_text.specs.Tokens.{first_is};
@@ -186,7 +186,7 @@ fn line_pair(alloc: Global, number: u64, line: &[u8]) -> Result<Option<Pair>, Re
     ensures { Gives
         (λ pair. option_to_list pair)
         result
-        (told_at (places.Line number) (line_pairs (words line.now))) }
+        (reported_at (places.Line number) (line_pairs (words line.now))) }
 {
     if first_word_is(b"KPX", line) {
         let Some(pair) = kpx_of(alloc, line)? else {

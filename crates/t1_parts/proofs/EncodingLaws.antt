@@ -6,18 +6,18 @@ use Rattle.std.proofs.lemmas.List.{drop_more, length-take, take_min}
 use Rattle.t1_frac.specs.declared.fault.Code.{Code}
 use Rattle.t1_frac.specs.declared.fault.Fault.{Fault}
 use Rattle.t1_frac.specs.declared.fault.Place.TheVariants.{Line}
-use Rattle.t1_frac.specs.Outcome.{told_at}
+use Rattle.t1_frac.specs.Outcome.{reported_at}
 use Rattle.t1_parts.specs.Encoding.{is_standard, ends_array, array_lines, opening_check, later_check, array_check, lines_check, encoding_check}
 use Rattle.t1_text.specs.Tokens.{tokens}
 
 -- a line that passes leaves the later ones
-pub line_passes : (check : List ℕ → Result (Unit {0}) Code) (n k : ℕ) (l : List ℕ) (ls : List (List ℕ)) → k < length ls → l ≡ get_or ls k l → told_at (Line n) (check l) ≡ Ok tt
+pub line_passes : (check : List ℕ → Result (Unit {0}) Code) (n k : ℕ) (l : List ℕ) (ls : List (List ℕ)) → k < length ls → l ≡ get_or ls k l → reported_at (Line n) (check l) ≡ Ok tt
     → lines_check check n (drop k ls) ≡ lines_check check (n + 1) (drop (k + 1) ls)
 line_passes check n k l ls h is e =
     ap (lines_check check n) (drop_more ls k l h ∙ ap (λ x. x ∷ drop (k + 1) ls) (sym is)) ∙ (rw e refl)
 
 -- the first fault decides
-pub line_stops : (check : List ℕ → Result (Unit {0}) Code) (n k : ℕ) (l : List ℕ) (ls : List (List ℕ)) (f : Fault) → k < length ls → l ≡ get_or ls k l → told_at (Line n) (check l) ≡ Err f
+pub line_stops : (check : List ℕ → Result (Unit {0}) Code) (n k : ℕ) (l : List ℕ) (ls : List (List ℕ)) (f : Fault) → k < length ls → l ≡ get_or ls k l → reported_at (Line n) (check l) ≡ Err f
     → lines_check check n (drop k ls) ≡ Err f
 line_stops check n k l ls f h is e =
     ap (lines_check check n) (drop_more ls k l h ∙ ap (λ x. x ∷ drop (k + 1) ls) (sym is)) ∙ (rw e refl)

@@ -8,13 +8,13 @@ use Rattle.t1_text.proofs.LineLaws.{line_len, after_line, first_line_lem}
 use Rattle.t1_parts.specs.Pieces.{IsAfter}
 use Rattle.t1_frac.specs.declared.fault.Fault.{Fault}
 use Rattle.t1_parts.specs.Entries.{NumberedItem, Taken}
-use Rattle.t1_frac.specs.Outcome.{told_at, Refuses, ◌>>=◌}
+use Rattle.t1_frac.specs.Outcome.{reported_at, Refuses, ◌>>=◌}
 use Rattle.t1_frac.specs.declared.fault.Refusal.{Refusal}
-use Rattle.t1_frac.specs.declared.fault.Refusal.TheVariants.{Memory, Fault as Told}
+use Rattle.t1_frac.specs.declared.fault.Refusal.TheVariants.{Memory, Fault as Reported}
 use Rattle.t1_parts.specs.Numbered.{numbered, try_fold}
 use Rattle.t1_parts.specs.Private.{item_at, ItemsSoFar, read_on, items_of}
 use Rattle.t1_frac.specs.declared.fault.Place.TheVariants.{Line}
-use Rattle.t1_frac.proofs.OutcomeLaws.{bind_ok, told_ok}
+use Rattle.t1_frac.proofs.OutcomeLaws.{bind_ok, reported_ok}
 
 -- the earlier items and those of these lines, of which the first has number n and belongs to none of the earlier items
 abbrev pub items_from : List NumberedItem → ℕ → List (List ℕ) → Result (List NumberedItem) Fault
@@ -34,7 +34,7 @@ first_line : (n : ℕ) → nat_lt n n ≡ false
 first_line n = le-ltb n n (omega arith)
 
 -- an item read
-pub read_step : (earlier : List NumberedItem) (n : ℕ) (l : List ℕ) (ls : List (List ℕ)) (x : Taken) → told_at (Line n) (item_at earlier l ls) ≡ Ok x → x.1 ≤ length ls
+pub read_step : (earlier : List NumberedItem) (n : ℕ) (l : List ℕ) (ls : List (List ℕ)) (x : Taken) → reported_at (Line n) (item_at earlier l ls) ≡ Ok x → x.1 ≤ length ls
     → items_from earlier n (l ∷ ls) ≡ items_from (earlier ++ (n, x.0) ∷ []) (n + (1 + x.1)) (drop x.1 ls)
 read_step earlier n l ls x e h =
     let first = first_line n in
@@ -44,7 +44,7 @@ read_step earlier n l ls x e h =
 
 -- an item read from the lines of some bytes
 pub item_read : (earlier : List NumberedItem) (n : ℕ) (bytes after : List ℕ) (x : Taken) → 0 < length bytes
-    → ((l : List ℕ) (ls : List (List ℕ)) → lines bytes ≡ l ∷ ls → told_at (Line n) (item_at earlier l ls) ≡ Ok x) → IsAfter (x.1 + 1) bytes after
+    → ((l : List ℕ) (ls : List (List ℕ)) → lines bytes ≡ l ∷ ls → reported_at (Line n) (item_at earlier l ls) ≡ Ok x) → IsAfter (x.1 + 1) bytes after
     → items_from earlier n (lines bytes) ≡ items_from (earlier ++ (n, x.0) ∷ []) (n + (x.1 + 1)) (lines after)
 item_read earlier n bytes after x some read h =
     let l = take (line_len bytes) bytes in
@@ -54,14 +54,14 @@ item_read earlier n bytes after x some read h =
     let within : x.1 ≤ length ls = omega (arith, h.0, size) in
     ap (items_from earlier n) first ∙ read_step earlier n l ls x (read l ls first) within
     ∙ ap (λ m. items_from (earlier ++ (n, x.0) ∷ []) m (drop x.1 ls)) (omega arith)
-    ∙ ap (items_from (earlier ++ (n, x.0) ∷ []) (n + (x.1 + 1))) (sym (h.1 ∙ ap (drop (x.1 + 1)) first ∙ behind x.1 l ls))
+    ∙ ap (items_from (earlier ++ (n, x.0) ∷ []) (n + (x.1 + 1))) (sym (h.1 ∙ ap (drop (x.1 + 1)) first ∙ following x.1 l ls))
   where
-    behind : (k : ℕ) (l : List ℕ) (ls : List (List ℕ)) → drop (k + 1) (l ∷ ls) ≡ drop k ls
-    behind k l ls = let size : k + 1 ≡ suc k = omega arith in ap (λ m. drop m (l ∷ ls)) size
+    following : (k : ℕ) (l : List ℕ) (ls : List (List ℕ)) → drop (k + 1) (l ∷ ls) ≡ drop k ls
+    following k l ls = let size : k + 1 ≡ suc k = omega arith in ap (λ m. drop m (l ∷ ls)) size
 
 -- the first fault decides
 pub item_fault : (earlier : List NumberedItem) (n : ℕ) (bytes : List ℕ) (f : Fault) → 0 < length bytes
-    → ((l : List ℕ) (ls : List (List ℕ)) → lines bytes ≡ l ∷ ls → told_at (Line n) (item_at earlier l ls) ≡ Err f) → items_from earlier n (lines bytes) ≡ Err f
+    → ((l : List ℕ) (ls : List (List ℕ)) → lines bytes ≡ l ∷ ls → reported_at (Line n) (item_at earlier l ls) ≡ Err f) → items_from earlier n (lines bytes) ≡ Err f
 item_fault earlier n bytes f some read =
     let first = first_line_lem bytes some in
     let here = first_line n in
@@ -76,9 +76,9 @@ before_last ls last =
 
 -- what refuses the first item refuses all
 pub item_refused : (earlier : List NumberedItem) (n : ℕ) (bytes : List ℕ) (r : Refusal) → 0 < length bytes
-    → ((l : List ℕ) (ls : List (List ℕ)) → lines bytes ≡ l ∷ ls → Refuses r (told_at (Line n) (item_at earlier l ls))) → Refuses r (items_from earlier n (lines bytes))
+    → ((l : List ℕ) (ls : List (List ℕ)) → lines bytes ≡ l ∷ ls → Refuses r (reported_at (Line n) (item_at earlier l ls))) → Refuses r (items_from earlier n (lines bytes))
 item_refused earlier n bytes Memory some h = tt
-item_refused earlier n bytes (Told f) some h = item_fault earlier n bytes f some h
+item_refused earlier n bytes (Reported f) some h = item_fault earlier n bytes f some h
 
 -- a line that is passed over keeps what holds of the items read and the lines left
 abbrev pub KeptByLine : (List NumberedItem → List (List ℕ) → Type 0) → Type 0
@@ -100,8 +100,8 @@ read_keeps P line item read n (l ∷ ls) all h e =
       | inl before ↦ read_keeps P line item read (n + 1) ls all (line read.items l ls h) (rw before at e)
       | inr first ↦
           let made : Taken → ItemsSoFar = λ x. record { items = read.items ++ (n, x.0) ∷ []; next = n + 1 + x.1 } in
-          let r = made_ok (told_at (Line n) (item_at read.items l ls)) made (λ next. try_fold read_on next (numbered (n + 1) ls)) all (rw first at e) in
-          read_keeps P line item (made r.0) (n + 1) ls all (item read.items n l ls r.0 h (told_ok (Line n) (item_at read.items l ls) r.0 r.1)) r.2
+          let r = made_ok (reported_at (Line n) (item_at read.items l ls)) made (λ next. try_fold read_on next (numbered (n + 1) ls)) all (rw first at e) in
+          read_keeps P line item (made r.0) (n + 1) ls all (item read.items n l ls r.0 h (reported_ok (Line n) (item_at read.items l ls) r.0 r.1)) r.2
     ]
 
 -- what holds of no items and all lines, and is kept, holds of all items

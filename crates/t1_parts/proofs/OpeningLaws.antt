@@ -51,10 +51,10 @@ after_opened : (text first line : List ℕ) (ls : List (List ℕ)) (bytes after 
 after_opened text first line ls bytes after m (inl e) all h =
     let size = ap length e in
     let same = ap length all in
-    (omega (arith, h.0, size, same), h.1 ∙ ap (drop (m + 1)) e ∙ behind ∙ sym (ap (drop (m + 1)) all))
+    (omega (arith, h.0, size, same), h.1 ∙ ap (drop (m + 1)) e ∙ following ∙ sym (ap (drop (m + 1)) all))
   where
-    behind : drop (m + 1) (first ∷ ls) ≡ drop (m + 1) (line ∷ ls)
-    behind = let n : m + 1 ≡ suc m = omega arith in ap (λ k. drop k (first ∷ ls)) n ∙ sym (ap (λ k. drop k (line ∷ ls)) n)
+    following : drop (m + 1) (first ∷ ls) ≡ drop (m + 1) (line ∷ ls)
+    following = let n : m + 1 ≡ suc m = omega arith in ap (λ k. drop k (first ∷ ls)) n ∙ sym (ap (λ k. drop k (line ∷ ls)) n)
 after_opened text first line ls bytes after m (inr e) all h =
     let none = ap (λ t. length (lines t)) e.0 in
     absurd (omega (arith, h.0, none))

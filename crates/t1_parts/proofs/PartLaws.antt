@@ -78,9 +78,9 @@ pub parts_cut : (ls clear : List (List ℕ)) (eexec : List ℕ) (rest private : 
 unfolding parts_of
 parts_cut ls clear eexec rest private closefile tail cut next =
     let at = cut_position is_eexec clear eexec rest cut.1 cut.2 in
-    let behind = cut_dropped clear eexec rest ∙ next.0 in
-    let second = ap (position is_closefile) behind ∙ cut_position is_closefile private closefile tail next.1 next.2 in
-    rw cut.0 (rw (at, second) (ap_both (λ c r. Ok (record { clear = c; private = take (length private + 1) r; tail = drop (length private + 1) r })) _ _ _ _ (cut_taken clear eexec rest) behind
+    let following = cut_dropped clear eexec rest ∙ next.0 in
+    let second = ap (position is_closefile) following ∙ cut_position is_closefile private closefile tail next.1 next.2 in
+    rw cut.0 (rw (at, second) (ap_both (λ c r. Ok (record { clear = c; private = take (length private + 1) r; tail = drop (length private + 1) r })) _ _ _ _ (cut_taken clear eexec rest) following
     ∙ ap_both (λ p t. Ok (record { clear = clear ++ eexec ∷ []; private = p; tail = t })) _ _ _ _ (cut_taken private closefile tail) (cut_dropped private closefile tail)))
 
 -- ---- bytes cut after whole lines

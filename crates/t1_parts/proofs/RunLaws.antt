@@ -119,7 +119,7 @@ around_run i (c ∷ rest) ps p t qs h e =
       | inl blank ↦ around_longer i c rest ps ps p t qs h (λ other us on more. rw blank more) (around_run (i + 1) rest ps p t qs h (rw blank at e))
       | inr word ↦ elim (cases_Bool (c == 37)) [
         | inl comment ↦ absurd (none_longer ps qs (p, t) (rw (word, comment) at e))
-        | inr none ↦ behind i c rest ps p t qs h word none e (λ xs d. around_run (i + 1) rest xs p t qs h d)
+        | inr none ↦ following i c rest ps p t qs h word none e (λ xs d. around_run (i + 1) rest xs p t qs h d)
       ]
     ]
   where
@@ -137,10 +137,10 @@ around_run i (c ∷ rest) ps p t qs h e =
     joined_step i c rest x z xs word none no_bracket on_rest is other us on more =
         other_place i c other word none no_bracket ∙ (let here : goes_on other ≡ true = on ∙ on_rest in rw here (ap (onto_place i c) more ∙ ap (λ y. y ∷ (xs ++ us)) (sym is)))
 
-    behind : (i c : ℕ) (rest : List ℕ) (ps : List (ℕ × List ℕ)) (p : ℕ) (t : List ℕ) (qs : List (ℕ × List ℕ)) → is_run t ≡ true → is_blank c ≡ false → (c == 37) ≡ false
+    following : (i c : ℕ) (rest : List ℕ) (ps : List (ℕ × List ℕ)) (p : ℕ) (t : List ℕ) (qs : List (ℕ × List ℕ)) → is_run t ≡ true → is_blank c ≡ false → (c == 37) ≡ false
         → places_from i (c ∷ rest) ≡ ps ++ (p, t) ∷ qs → ((xs : List (ℕ × List ℕ)) → places_from (i + 1) rest ≡ xs ++ (p, t) ∷ qs → AroundRun (i + 1) rest xs p t qs) → AroundRun i (c ∷ rest) ps p t qs
-    behind i c rest [] p t qs h word none e more = around_first i c rest p t qs h word none e
-    behind i c rest (x ∷ xs) p t qs h word none e more =
+    following i c rest [] p t qs h word none e more = around_first i c rest p t qs h word none e
+    following i c rest (x ∷ xs) p t qs h word none e more =
         elim (cases_Bool (is_bracket c)) [
           | inl bracket ↦
               let split : (i, c ∷ []) ∷ places_from (i + 1) rest ≡ x ∷ (xs ++ (p, t) ∷ qs) = rw (word, none, bracket) at e in

@@ -22,12 +22,12 @@ abbrev pub IsAbsent : List ℕ → List ℕ → Type 0
 IsAbsent text bytes = (front back : List ℕ) → ¬ (bytes ≡ front ++ (text ++ back))
 
 -- bytes whose front has the text have it
-more_behind : (text bytes front back : List ℕ) (n : ℕ) → take n bytes ≡ front ++ (text ++ back) → bytes ≡ front ++ (text ++ (back ++ drop n bytes))
-more_behind text bytes front back n e =
+more_after : (text bytes front back : List ℕ) (n : ℕ) → take n bytes ≡ front ++ (text ++ back) → bytes ≡ front ++ (text ++ (back ++ drop n bytes))
+more_after text bytes front back n e =
     sym (take-append-drop n bytes) ∙ ap (λ t. t ++ drop n bytes) e ∙ append_assoc front (text ++ back) (drop n bytes) ∙ ap (λ t. front ++ t) (append_assoc text back (drop n bytes))
 
 absent_front : (text bytes : List ℕ) (n : ℕ) → IsAbsent text bytes → IsAbsent text (take n bytes)
-absent_front text bytes n h front back e = h front (back ++ drop n bytes) (more_behind text bytes front back n e)
+absent_front text bytes n h front back e = h front (back ++ drop n bytes) (more_after text bytes front back n e)
 
 absent_back : (text bytes : List ℕ) (n : ℕ) → IsAbsent text bytes → IsAbsent text (drop n bytes)
 absent_back text bytes n h front back e =
@@ -60,8 +60,8 @@ none_ended text bytes h = within (length bytes) bytes (omega arith) h
         let first = first_line_lem (c ∷ rest) (omega arith) in
         let fewer = line_gone (c ∷ rest) (omega arith) in
         let line = not_ended text (take (line_len (c ∷ rest)) (c ∷ rest)) (absent_front text (c ∷ rest) (line_len (c ∷ rest)) h) in
-        let behind = subst (IsAbsent text) (taken_of (c ∷ rest)) (absent_back text (c ∷ rest) (taken_len (c ∷ rest)) h) in
-        let more = within n (after_line (c ∷ rest)) (omega (arith, small, fewer)) behind in
+        let following = subst (IsAbsent text) (taken_of (c ∷ rest)) (absent_back text (c ∷ rest) (taken_len (c ∷ rest)) h) in
+        let more = within n (after_line (c ∷ rest)) (omega (arith, small, fewer)) following in
         ap (list_any (ends_in text)) first ∙ rw (line, more) refl
 
 -- ---- by the places where a text stands
@@ -84,7 +84,7 @@ absent_all text bytes h front back e =
 -- one that is, in the bytes before it
 absent_before : (text bytes : List ℕ) (place start : ℕ) → NoneBefore (OccursAt bytes text) 0 (length bytes + 1) place → start ≤ place → 0 < length text → IsAbsent text (take start bytes)
 absent_before text bytes place start first within some front back e =
-    let here = subst (λ b. OccursAt b text (length front)) (sym (more_behind text bytes front back start e)) (stands text front (back ++ drop start bytes)) in
+    let here = subst (λ b. OccursAt b text (length front)) (sym (more_after text bytes front back start e)) (stands text front (back ++ drop start bytes)) in
     let all = ap length e in
     let size = length-take start bytes in
     let sum = length-append front (text ++ back) in
@@ -141,11 +141,11 @@ line_found text bytes front rest place start some is first here f within line cu
     let small : start ≤ length bytes = omega (arith, size, within, fits) in
     let all : bytes ≡ front ++ drop place bytes = sym (take-append-drop place bytes) ∙ ap (λ t. t ++ drop place bytes) (sym f) in
     let same : take start front ≡ take start bytes = sym (take-append-le start front (drop place bytes) within) ∙ ap (take start) (sym all) in
-    let behind : drop start bytes ≡ drop start front ++ drop place bytes = ap (drop start) all ∙ drop-append-le start front (drop place bytes) within in
+    let following : drop start bytes ≡ drop start front ++ drop place bytes = ap (drop start) all ∙ drop-append-le start front (drop place bytes) within in
     let at : place ≡ place + 0 = omega arith in
     let byte : stays (slice_index bytes place) ≡ true = ap (λ n. stays (slice_index bytes n)) at ∙ ap stays (here.reads 0 some) ∙ first_stays text some is in
     let begins : begins_with 10 (drop start bytes) ≡ false =
-    ap (begins_with 10) behind ∙ line_before (drop start front) (drop place bytes) line (on_line bytes place (omega (arith, fits, some)) byte) in
+    ap (begins_with 10) following ∙ line_before (drop start front) (drop place bytes) line (on_line bytes place (omega (arith, fits, some)) byte) in
     let whole = subst (λ t. (back : List ℕ) → begins_with 10 back ≡ false → lines (t ++ back) ≡ lines t ++ lines back) same cut in
     let left = length-drop start bytes in
     let before : length bytes - length (drop start bytes) ≡ start = omega (arith, left, small) in

@@ -4,7 +4,7 @@ use Rattle.t1_frac.specs.declared.fault.Code.{Code}
 use Rattle.t1_frac.specs.declared.fault.Code.TheVariants.{F4}
 use Rattle.t1_frac.specs.declared.fault.Fault.{Fault}
 use Rattle.t1_frac.specs.declared.fault.Place.TheVariants.{Line}
-use Rattle.t1_frac.specs.Outcome.{told_at, ◌>>=◌}
+use Rattle.t1_frac.specs.Outcome.{reported_at, ◌>>=◌}
 use Rattle.t1_parts.specs.declared.item.Item.{Item}
 use Rattle.t1_parts.specs.declared.item.Item.TheVariants.{Plain}
 use Rattle.t1_text.specs.Tokens.{tokens}
@@ -50,7 +50,7 @@ pub record ItemsSoFar : Type 0 where
 abbrev pub read_on : ItemsSoFar → NumberedLine → Result ItemsSoFar Fault
 read_on read l =
     if nat_lt l.number read.next then Ok read
-    else told_at (Line l.number) (item_at read.items l.line l.after) >>= λ x.
+    else reported_at (Line l.number) (item_at read.items l.line l.after) >>= λ x.
     Ok (record { items = read.items ++ (l.number, x.0) ∷ []; next = l.number + 1 + x.1 })
 
 -- profile, private part: the items of these lines, of which the first has number n, or the first fault

@@ -4,7 +4,7 @@ ghost use Rattle.std.specs.Prelude.{◌≡◌, ◌+◌, ◌≤◌, ◌<◌, ◌^
 ghost use Rattle.std.specs.List.{list_any, position, position_or_len};
 ghost use Rattle.t1_frac.specs.Ascii.{digit_seven, digit_zero};
 ghost use Rattle.t1_frac.specs.declared.fault.Place.TheVariants as places;
-ghost use Rattle.t1_frac.specs.Outcome.{told_at};
+ghost use Rattle.t1_frac.specs.Outcome.{reported_at};
 ghost use Rattle.t1_text.specs.Tokens.{tokens};
 ghost use Rattle.t1_text.specs.Names.{up_to};
 ghost use Rattle.t1_parts.specs.Encoding.{opens_encoding, ends_array, is_standard, is_array, is_bad_slot, array_lines, from_encoding, opening_check, later_check, array_check, lines_check, clear_check, chooses_standard, code_of_token, slot_of_tokens, octal_of};
@@ -201,7 +201,7 @@ fn is_bad_slot(line: &[u8]) -> bool
 /// Judges a line of the array, or one after it.
 #[tactic(auto, unfolding(crate::specs::Encoding::later_check, crate::specs::Encoding::array_check))]
 fn check_line(number: u64, in_array: bool, line: &[u8]) -> Result<(), Fault>
-    ensures { result ≡ told_at (places.Line number) ((if in_array then array_check else later_check) line.now) }
+    ensures { result ≡ reported_at (places.Line number) ((if in_array then array_check else later_check) line.now) }
 {
     if opens_encoding(line) {
         return Err(fault_on(number, Code::F5));

@@ -3,7 +3,7 @@
 ghost use Rattle.std.specs.Prelude.{◌≡◌, ◌≤◌, ◌+◌, ◌∷◌, ℕ, List, length, IfOk, option_map};
 ghost use Rattle.t1_frac.specs.Ascii.{slash};
 ghost use Rattle.t1_frac.specs.declared.fault.Place.TheVariants as places;
-ghost use Rattle.t1_frac.specs.Outcome.{Gives, told_at};
+ghost use Rattle.t1_frac.specs.Outcome.{Gives, reported_at};
 ghost use Rattle.t1_text.specs.Lines.{begins_with, lines};
 ghost use Rattle.t1_text.specs.Tokens.{tokens};
 ghost use Rattle.t1_parts.specs.Entries.{glyph_name, opens_subr, opens_glyph, opened_body, subr_entry, glyph_entry};
@@ -50,7 +50,7 @@ pub fn subr_entry<'a>(
     ensures value { (ls : List (List ℕ)) → lines bytes.now ≡ line.now ∷ ls → Gives
         (λ taken. (taken.item, taken.more))
         result
-        (told_at (places.Line number) (subr_entry earlier.now token.now (opened_body line.now ls))) }
+        (reported_at (places.Line number) (subr_entry earlier.now token.now (opened_body line.now ls))) }
     ensures named { IfOk result (λ taken. option_map (λ n. n.now) taken.name ≡ glyph_name taken.item) }
     ensures after { (ls : List (List ℕ)) → lines bytes.now ≡ line.now ∷ ls → IfOk result (λ taken. IsAfter (taken.more + 1) bytes.now taken.after.now) }
 {
@@ -113,7 +113,7 @@ pub fn glyph_entry<'a>(
     ensures value { (ls : List (List ℕ)) → lines bytes.now ≡ line.now ∷ ls → Gives
         (λ taken. (taken.item, taken.more))
         result
-        (told_at (places.Line number) (glyph_entry earlier.now token.now (opened_body line.now ls))) }
+        (reported_at (places.Line number) (glyph_entry earlier.now token.now (opened_body line.now ls))) }
     ensures named { IfOk result (λ taken. option_map (λ n. n.now) taken.name ≡ glyph_name taken.item) }
     ensures after { (ls : List (List ℕ)) → lines bytes.now ≡ line.now ∷ ls → IfOk result (λ taken. IsAfter (taken.more + 1) bytes.now taken.after.now) }
 {

@@ -2,7 +2,7 @@
 
 ghost use Rattle.std.specs.Prelude.{◌≡◌, ◌+◌, ◌<◌, ◌^◌, ◌++◌, ◌∷◌, [], ℕ, List, None, Ok, Err, length, option_map, IfOk, MatchResult};
 ghost use Rattle.t1_frac.specs.declared.fault.Place.TheVariants as places;
-ghost use Rattle.t1_frac.specs.Outcome.{Gives, told_at};
+ghost use Rattle.t1_frac.specs.Outcome.{Gives, reported_at};
 ghost use Rattle.t1_text.specs.Lines.{lines};
 ghost use Rattle.t1_parts.specs.Entries.{glyph_name};
 ghost use Rattle.t1_parts.specs.Pieces.{IsAfter};
@@ -21,8 +21,8 @@ use t1_text::{fault_on, first_line};
 fn line_at<'a>(earlier: &Gathered, number: u64, line: &'a [u8]) -> Result<Item<'a>, Fault>
     ensures value { MatchResult
         result
-        (λ item. told_at (places.Line number) (line_at earlier.now line.now) ≡ Ok (item, 0))
-        (λ fault. told_at (places.Line number) (line_at earlier.now line.now) ≡ Err fault) }
+        (λ item. reported_at (places.Line number) (line_at earlier.now line.now) ≡ Ok (item, 0))
+        (λ fault. reported_at (places.Line number) (line_at earlier.now line.now) ≡ Err fault) }
     ensures unnamed { IfOk result (λ item. glyph_name item ≡ None) }
 {
     let subrs = count_between(b"/Subrs", b"array", line);
@@ -50,7 +50,7 @@ fn item_at<'a>(
     ensures value { (l : List ℕ) (ls : List (List ℕ)) → lines bytes.now ≡ l ∷ ls → Gives
         (λ taken. (taken.item, taken.more))
         result
-        (told_at (places.Line number) (item_at earlier.now l ls)) }
+        (reported_at (places.Line number) (item_at earlier.now l ls)) }
     ensures named { IfOk result (λ taken. option_map (λ n. n.now) taken.name ≡ glyph_name taken.item) }
     ensures after { IfOk result (λ taken. IsAfter (taken.more + 1) bytes.now taken.after.now) }
 {

@@ -15,7 +15,7 @@ use Rattle.t1_run.specs.Overlay.{changed}
 use Rattle.t1_run.specs.Run.{FontBodies, Key, Subr, Glyph, body_at, key_eq}
 use Rattle.t1_font.specs.Bodies.{bodies, SameBodies}
 use Rattle.t1_font.specs.Assembly.{file_check}
-use Rattle.t1_font.specs.Glyphs.{Glyph as Told, glyphs, glyph_names}
+use Rattle.t1_font.specs.Glyphs.{Glyph as Reported, glyphs, glyph_names}
 use Rattle.t1_font.specs.SourceChecks.{source_check, source_glyphs}
 use Rattle.t1_cache.specs.declared.records.Named.{Named}
 use Rattle.t1_cache.specs.declared.records.Records.{Records}
@@ -188,9 +188,9 @@ as-list changes change old new records ordered is j =
 
 -- ---- the entry that an edit changes
 
-told-file : (s : SourceParts) (told : List Told) → source_glyphs s ≡ Ok told → file_check s ≡ Ok tt
-told-file s told e = by (file_check s) e where
-  by : (r : Result (Unit {0}) Fault) → (r >>= λ checked. glyphs (bodies s.items) (glyph_names s.items)) ≡ Ok told → r ≡ Ok tt
+reported-file : (s : SourceParts) (reported : List Reported) → source_glyphs s ≡ Ok reported → file_check s ≡ Ok tt
+reported-file s reported e = by (file_check s) e where
+  by : (r : Result (Unit {0}) Fault) → (r >>= λ checked. glyphs (bodies s.items) (glyph_names s.items)) ≡ Ok reported → r ≡ Ok tt
   by (Ok checked) e = refl
   by (Err fault) e = absurd (cc)
 
@@ -199,7 +199,7 @@ pub entry-changed : (records : Records) (edit : Edit) (new : SourceParts) → Is
     → ((old new : SourceParts) → IsMade edit old new → IsChanged edit old new change) → (changes : List EntryChange) → changes ≡ option_to_list change
     → MayBePrepared changes records (glyph_names new.items)
 entry-changed records edit new e file change changed changes alone =
-    let compiled = bodies-fine e.old (told-file e.old e.right.kept.glyphs e.right.kept.faultless) in
+    let compiled = bodies-fine e.old (reported-file e.old e.right.kept.glyphs e.right.kept.faultless) in
     let is = changed e.old new (record { pairs = e.pairs; made_pairs = e.made_pairs; compiled = compiled; well = e.well; well_made = e.well_made; made = e.made }) in (
       e.old,
       (

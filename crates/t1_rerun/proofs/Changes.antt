@@ -39,7 +39,7 @@ use Rattle.t1_rerun.specs.Settled.{changed_keys, last_glyphs, was_moved, HasBody
 use Rattle.t1_rerun.specs.Steps.{after_all, is_last, new_run, seen, some_inserts, LacksRun, Seen}
 use Rattle.t1_cache.proofs.Rerunning.{names-stay, all-named}
 use Rattle.t1_cache.proofs.Lists.{all-weaken}
-use Rattle.t1_rerun.proofs.Settled.{has-body, is_moved, kept-names, moved-at, renewed-one, ready, rerun-stale, rerun-there, settled, told-of}
+use Rattle.t1_rerun.proofs.Settled.{has-body, is_moved, kept-names, moved-at, renewed-one, ready, rerun-stale, rerun-there, settled, reported-of}
 use Rattle.t1_rerun.proofs.Stepping.{bodies-stepped, inserted-named, kept-stepped, leaves, leaves-as, may-join-stepped, named-key, names-stepped, users-stepped, IsServed}
 
 -- ---- keys
@@ -131,7 +131,7 @@ module _ (changes : List EntryChange) (old new : SourceParts) (before : Records)
   old-has = has-body old j.right.kept.glyphs j.right.kept.faultless
 
   new-has : (g : List ℕ) → has_glyph new g ≡ is_some (n.glyphs g)
-  new-has = has-body new (told-of new j.faultless).0 (told-of new j.faultless).1
+  new-has = has-body new (reported-of new j.faultless).0 (reported-of new j.faultless).1
 
   old-body : (k : Key) → body_at (record_bodies before) k ≡ body_at m k
   old-body k = at-same (record_bodies before) m k (j.right.compiled k)

@@ -13,7 +13,7 @@ use Rattle.t1_frac.specs.declared.fault.Place.{Place}
 use Rattle.t1_frac.specs.declared.fault.Place.TheVariants as places
 use Rattle.t1_frac.specs.declared.fault.Refusal.{Refusal}
 use Rattle.t1_frac.specs.declared.fault.Refusal.TheVariants as refusals
-use Rattle.t1_frac.specs.Outcome.{told_at, ◌>>=◌, Gives, Refuses}
+use Rattle.t1_frac.specs.Outcome.{reported_at, ◌>>=◌, Gives, Refuses}
 use Rattle.t1_code.specs.declared.command.Command.{Command}
 use Rattle.t1_code.specs.Words.{commands}
 use Rattle.t1_parts.specs.declared.item.Item.{Item}
@@ -35,7 +35,7 @@ use Rattle.t1_run.specs.Run.{Key, Subr, Glyph}
 use Rattle.t1_run.specs.Touched.{is_key_of}
 use Rattle.t1_font.specs.Assembly.{file_check}
 use Rattle.t1_font.specs.Bodies.{bodies_check, body_check, words_check}
-use Rattle.t1_font.proofs.LengthLaws.{body_fault_told}
+use Rattle.t1_font.proofs.LengthLaws.{body_fault_reported}
 use Rattle.t1_font.proofs.Checking.{raised-checks, check-both}
 use Rattle.t1_cache.specs.Edited.{body_after, named, IsEditedAt}
 use Rattle.t1_cache.specs.Users.{key_of}
@@ -120,7 +120,7 @@ unit_of r = r >>= λ _. Ok tt
 
 words-put : (key : Key) (place : Place) (words : List (List ℕ)) → words_check place words ≡ unit_of (put_key key place words)
 unfolding words_check
-words-put key place words = by (told_at place (commands words)) where
+words-put key place words = by (reported_at place (commands words)) where
   by : (r : Result (List Command) Fault) → (r >>= λ _. Ok tt) ≡ unit_of (r >>= λ body. Ok (Some (record { key = key; body = Some body; moved = false })))
   by (Ok b) = refl
   by (Err fault) = refl
@@ -185,7 +185,7 @@ edits_checked s k (Unkern left right) made ps fine e = same-checks s made fine (
 put-keys : (key : Key) (place : Place) (words : List (List ℕ)) (c : Option KeyChange) → put_key key place words ≡ Ok c
     → (option_map (λ x. x.key) c ≡ Some key) × (option_map (λ x. x.body) c ≡ Some (result_ok (commands words)))
 put-keys key place words c e = by (commands words) e where
-  by : (r : Result (List Command) Code) → (told_at place r >>= λ body. Ok (Some (record { key = key; body = Some body; moved = false }))) ≡ Ok c
+  by : (r : Result (List Command) Code) → (reported_at place r >>= λ body. Ok (Some (record { key = key; body = Some body; moved = false }))) ≡ Ok c
       → (option_map (λ x. x.key) c ≡ Some key) × (option_map (λ x. x.body) c ≡ Some (result_ok r))
   by (Ok body) e =
       let same : Some (record { key = key; body = Some body; moved = false }) ≡ c = cc in
@@ -193,13 +193,13 @@ put-keys key place words c e = by (commands words) e where
   by (Err code) e = absurd (cc)
 
 -- what is said of the entry: its key is that of the edit, and its body the one after it
-abbrev Tells : Edit → Option KeyChange → Type 0
-Tells edit c = (option_map (λ x. x.key) c ≡ entry_key edit) × (option_map (λ x. x.body) c ≡ option_map (λ k. body_after edit) (entry_key edit))
+abbrev Reports : Edit → Option KeyChange → Type 0
+Reports edit c = (option_map (λ x. x.key) c ≡ entry_key edit) × (option_map (λ x. x.body) c ≡ option_map (λ k. body_after edit) (entry_key edit))
 
-number-told : (v : ℤ) (words : List (List ℕ)) (c : Option KeyChange) → put_number (number_within v) words ≡ Ok c
+number-reported : (v : ℤ) (words : List (List ℕ)) (c : Option KeyChange) → put_number (number_within v) words ≡ Ok c
     → (option_map (λ x. x.key) c ≡ number_key v) × (option_map (λ x. x.body) c ≡ option_map (λ k. result_ok (commands words)) (number_key v))
-number-told (negsuc n) words c e = let same : None ≡ c = cc in (ap (option_map (λ x. x.key)) (sym same), ap (option_map (λ x. x.body)) (sym same))
-number-told (pos n) words c e =
+number-reported (negsuc n) words c e = let same : None ≡ c = cc in (ap (option_map (λ x. x.key)) (sym same), ap (option_map (λ x. x.body)) (sym same))
+number-reported (pos n) words c e =
     elim (cases_Bool (nat_le n 65535)) [
       | inl on ↦ let its = put-keys (Subr n) (places.Subr n) words c (rw on at e) in rw on its
       | inr off ↦
@@ -208,10 +208,10 @@ number-told (pos n) words c e =
           rw off (ap (option_map (λ x. x.key)) (sym same), ap (option_map (λ x. x.body)) (sym same))
     ]
 
-removed-told : (v : ℤ) (c : Option KeyChange) → removed_number (number_within v) ≡ c
+removed-reported : (v : ℤ) (c : Option KeyChange) → removed_number (number_within v) ≡ c
     → (option_map (λ x. x.key) c ≡ number_key v) × (option_map (λ x. x.body) c ≡ option_map (λ k. None) (number_key v))
-removed-told (negsuc n) c same = (ap (option_map (λ x. x.key)) (sym same), ap (option_map (λ x. x.body)) (sym same))
-removed-told (pos n) c e =
+removed-reported (negsuc n) c same = (ap (option_map (λ x. x.key)) (sym same), ap (option_map (λ x. x.body)) (sym same))
+removed-reported (pos n) c e =
     elim (cases_Bool (nat_le n 65535)) [
       | inl on ↦
           let same : Some (record { key = Subr n; body = None; moved = false }) ≡ c = rw on at e in
@@ -221,24 +221,24 @@ removed-told (pos n) c e =
           rw off (ap (option_map (λ x. x.key)) (sym same), ap (option_map (λ x. x.body)) (sym same))
     ]
 
-none-told : (c : Option KeyChange) → ◌≡◌ {A = Result (Option KeyChange) Fault} (Ok None) (Ok c)
+none-reported : (c : Option KeyChange) → ◌≡◌ {A = Result (Option KeyChange) Fault} (Ok None) (Ok c)
     → (option_map (λ x. x.key) c ≡ None) × (option_map (λ x. x.body) c ≡ None)
-none-told c e = let same : None ≡ c = cc in (ap (option_map (λ x. x.key)) (sym same), ap (option_map (λ x. x.body)) (sym same))
+none-reported c e = let same : None ≡ c = cc in (ap (option_map (λ x. x.key)) (sym same), ap (option_map (λ x. x.body)) (sym same))
 
-entry-told : (edit : Edit) (c : Option KeyChange) → edit_change edit ≡ Ok c → Tells edit c
-entry-told (ReplaceGlyph g body) c e = put-keys (Glyph g) (places.Glyph g) (body_words body) c e
-entry-told (AddGlyph g body) c e = put-keys (Glyph g) (places.Glyph g) (body_words body) c e
-entry-told (RemoveGlyph g) c e =
+entry-reported : (edit : Edit) (c : Option KeyChange) → edit_change edit ≡ Ok c → Reports edit c
+entry-reported (ReplaceGlyph g body) c e = put-keys (Glyph g) (places.Glyph g) (body_words body) c e
+entry-reported (AddGlyph g body) c e = put-keys (Glyph g) (places.Glyph g) (body_words body) c e
+entry-reported (RemoveGlyph g) c e =
     let same : Some (record { key = Glyph g; body = None; moved = false }) ≡ c = cc in
     (ap (option_map (λ x. x.key)) (sym same), ap (option_map (λ x. x.body)) (sym same))
-entry-told (ReplaceSubr n body) c e = number-told n (body_words body) c e
-entry-told (AddSubr n body) c e = number-told n (body_words body) c e
-entry-told (RemoveSubr n) c e = let same : removed_number (number_within n) ≡ c = cc in removed-told n c same
-entry-told (Encode code g) c e = none-told c e
-entry-told (Unencode code) c e = none-told c e
-entry-told (LenIv n) c e = none-told c e
-entry-told (Kern left right v) c e = none-told c e
-entry-told (Unkern left right) c e = none-told c e
+entry-reported (ReplaceSubr n body) c e = number-reported n (body_words body) c e
+entry-reported (AddSubr n body) c e = number-reported n (body_words body) c e
+entry-reported (RemoveSubr n) c e = let same : removed_number (number_within n) ≡ c = cc in removed-reported n c same
+entry-reported (Encode code g) c e = none-reported c e
+entry-reported (Unencode code) c e = none-reported c e
+entry-reported (LenIv n) c e = none-reported c e
+entry-reported (Kern left right v) c e = none-reported c e
+entry-reported (Unkern left right) c e = none-reported c e
 
 -- no edit moves
 abbrev IsStill : Option KeyChange → Type 0
@@ -246,7 +246,7 @@ IsStill c = option_map (λ x. x.moved) c ≡ option_map (λ x. false) c
 
 put-still : (key : Key) (place : Place) (words : List (List ℕ)) (c : Option KeyChange) → put_key key place words ≡ Ok c → IsStill c
 put-still key place words c e = by (commands words) e where
-  by : (r : Result (List Command) Code) → (told_at place r >>= λ body. Ok (Some (record { key = key; body = Some body; moved = false }))) ≡ Ok c → IsStill c
+  by : (r : Result (List Command) Code) → (reported_at place r >>= λ body. Ok (Some (record { key = key; body = Some body; moved = false }))) ≡ Ok c → IsStill c
   by (Ok body) e = let same : Some (record { key = key; body = Some body; moved = false }) ≡ c = cc in subst IsStill same refl
   by (Err code) e = absurd (cc)
 
@@ -292,20 +292,20 @@ module _ (edit : Edit) (old new : SourceParts) (is : IsMade edit old new) where
 
   pub words-refused : (refusal : Refusal) → Refuses refusal (edit_change edit) → Refuses refusal (file_check new)
   words-refused refusals.Memory h = tt
-  words-refused (refusals.Fault fault) h = body_fault_told new fault (checked-is ∙ ap unit_of h)
+  words-refused (refusals.Fault fault) h = body_fault_reported new fault (checked-is ∙ ap unit_of h)
 
-  module _ (change : Option EntryChange) (told : edit_change edit ≡ Ok (option_map key_change change)) where
+  module _ (change : Option EntryChange) (reported : edit_change edit ≡ Ok (option_map key_change change)) where
     keys-are : changed_keys (option_to_list change) ≡ named edit
     keys-are =
-        keys-listed change ∙ ap option_to_list (entry-told edit (option_map key_change change) told).0
+        keys-listed change ∙ ap option_to_list (entry-reported edit (option_map key_change change) reported).0
         ∙ key-named old is.pairs edit new is.made_pairs is.made
 
     its-body : (change : Option EntryChange) → edit_change edit ≡ Ok (option_map key_change change) → changed_keys (option_to_list change) ≡ named edit
         → AllByRecursion (HasBody new) (option_to_list change)
-    its-body None told keys = tt
-    its-body (Some x) told keys = (
+    its-body None reported keys = tt
+    its-body (Some x) reported keys = (
       body_edited old is.pairs edit new is.made_pairs is.well is.made (key_of x.named) (subst (λ ks. Includes ks (key_of x.named)) keys (inl refl))
-          ∙ by (entry_key edit) (entry-told edit (Some (key_change x)) told),
+          ∙ by (entry_key edit) (entry-reported edit (Some (key_change x)) reported),
       tt,
     )
       where
@@ -314,20 +314,20 @@ module _ (edit : Edit) (old new : SourceParts) (is : IsMade edit old new) where
         by (Some key) h = let same : x.body ≡ body_after edit = cc in sym same
 
     unmoved : (g : List ℕ) → was_moved (option_to_list change) g ≡ false
-    unmoved = still change (entry-still edit (option_map key_change change) told)
+    unmoved = still change (entry-still edit (option_map key_change change) reported)
 
     pub is-changed : IsChanged edit old new change
     is-changed = record {
       keys = keys-are;
       edited = subst (λ keys. IsEditedAt keys old new) (sym keys-are) (edits_named old is.pairs edit new is.made_pairs is.made);
-      bodies = its-body change told keys-are;
+      bodies = its-body change reported keys-are;
       unmoved = unmoved;
-      compiled = checked-is ∙ ap unit_of told;
+      compiled = checked-is ∙ ap unit_of reported;
       order = one-order (option_to_list change) old new unmoved (edited-order old is.pairs edit new is.made_pairs is.well is.well_made is.made);
     }
 
   -- of each outcome
-  pub change-told : (r : Result (Option EntryChange) Refusal) → Gives (option_map key_change) r (edit_change edit)
+  pub change-reported : (r : Result (Option EntryChange) Refusal) → Gives (option_map key_change) r (edit_change edit)
       → MatchResult r (IsChanged edit old new) (λ refusal. Refuses refusal (file_check new))
-  change-told (Ok change) h = is-changed change h
-  change-told (Err refusal) h = words-refused refusal h
+  change-reported (Ok change) h = is-changed change h
+  change-reported (Err refusal) h = words-refused refusal h

@@ -22,7 +22,7 @@ use Rattle.t1_run.proofs.Agreeing.{own_same}
 use Rattle.t1_font.specs.declared.glyph_metrics.GlyphMetrics.{GlyphMetrics}
 use Rattle.t1_font.specs.Assembly.{file_check}
 use Rattle.t1_font.specs.Bodies.{bodies, bodies_check, SameBodies}
-use Rattle.t1_font.specs.Glyphs.{Glyph as Told, glyphs, glyphs_by, glyph_names}
+use Rattle.t1_font.specs.Glyphs.{Glyph as Reported, glyphs, glyphs_by, glyph_names}
 use Rattle.t1_font.specs.MeasuredGlyphs.{glyph_metrics, glyph_metrics_among}
 use Rattle.t1_font.specs.Runs.{Kept as KeptRun, drawing_kept, run_kept, kept_of as run_of, own_among, counted, AreTraced, Counts, CountsSome, IsAfter, IsTracedAs}
 use Rattle.t1_font.specs.SourceChecks.{source_check}
@@ -52,16 +52,16 @@ own-alike m n same g = sym (own_same m n g (record { same = λ key i. same key }
 
 -- ---- what is reported of a font's glyphs
 
-told-by : (m : FontBodies) (names : List (List ℕ)) → glyph_metrics_among (own m) names ≡ (glyphs m names >>= (λ gs. Ok (map glyph_metrics gs)))
+reported-by : (m : FontBodies) (names : List (List ℕ)) → glyph_metrics_among (own m) names ≡ (glyphs m names >>= (λ gs. Ok (map glyph_metrics gs)))
 unfolding glyph_metrics_among
-told-by m names =
+reported-by m names =
     ap (λ o. glyphs_by (own m) o names >>= (λ gs. Ok (map glyph_metrics gs))) (same-function (outline_within (own m) 4) (outline m) (outline-is m))
 
-glyphs-told : (m : FontBodies) (names : List (List ℕ)) (metrics : List GlyphMetrics) → glyph_metrics_among (own m) names ≡ Ok metrics
-    → (told : List Told) × (glyphs m names ≡ Ok told)
-glyphs-told m names metrics e = by (glyphs m names) refl (sym (told-by m names) ∙ e) where
-  by : (r : Result (List Told) Fault) → glyphs m names ≡ r → (r >>= (λ gs. Ok (map glyph_metrics gs))) ≡ Ok metrics → (told : List Told) × (glyphs m names ≡ Ok told)
-  by (Ok told) is e = (told, is)
+glyphs-reported : (m : FontBodies) (names : List (List ℕ)) (metrics : List GlyphMetrics) → glyph_metrics_among (own m) names ≡ Ok metrics
+    → (reported : List Reported) × (glyphs m names ≡ Ok reported)
+glyphs-reported m names metrics e = by (glyphs m names) refl (sym (reported-by m names) ∙ e) where
+  by : (r : Result (List Reported) Fault) → glyphs m names ≡ r → (r >>= (λ gs. Ok (map glyph_metrics gs))) ≡ Ok metrics → (reported : List Reported) × (glyphs m names ≡ Ok reported)
+  by (Ok reported) is e = (reported, is)
   by (Err fault) is e = absurd (cc)
 
 -- ---- a source whose file has no fault
@@ -82,8 +82,8 @@ module _ (s : SourceParts) (file : file_check s ≡ Ok tt) where
     keeps : KeepsOwn (run_of runs) s.items
     keeps = keeps-own bs s.items runs same (λ g. kept g ∙ ap (λ l. own_among bs l g) are)
 
-    own-told : glyph_metrics_among (run_of runs) (map (λ name. name.now) names) ≡ glyph_metrics_among (own m) (glyph_names s.items)
-    own-told =
+    own-reported : glyph_metrics_among (run_of runs) (map (λ name. name.now) names) ≡ glyph_metrics_among (own m) (glyph_names s.items)
+    own-reported =
         ap (glyph_metrics_among (run_of runs)) are
         ∙ ap (λ run. glyph_metrics_among run (glyph_names s.items)) (same-function (run_of runs) (own m) keeps)
 
@@ -91,19 +91,19 @@ module _ (s : SourceParts) (file : file_check s ≡ Ok tt) where
     pub first-fault : (refusal : Refusal) → Refuses refusal (glyph_metrics_among (run_of runs) (map (λ name. name.now) names)) → Refuses refusal (source_check s)
     first-fault refusal h =
         subst (Refuses refusal) (sym checked-is)
-        (by refusal (glyphs m (glyph_names s.items)) (subst (Refuses refusal) (own-told ∙ told-by m (glyph_names s.items)) h))
+        (by refusal (glyphs m (glyph_names s.items)) (subst (Refuses refusal) (own-reported ∙ reported-by m (glyph_names s.items)) h))
       where
-        by : (refusal : Refusal) (r : Result (List Told) Fault) → Refuses refusal (r >>= (λ gs. Ok (map glyph_metrics gs))) → Refuses refusal (check r)
+        by : (refusal : Refusal) (r : Result (List Reported) Fault) → Refuses refusal (r >>= (λ gs. Ok (map glyph_metrics gs))) → Refuses refusal (check r)
         by refusals.Memory r h = tt
         by (refusals.Fault fault) (Ok ts) h = absurd (cc)
         by (refusals.Fault fault) (Err e) h = cc
 
-    module _ (metrics : List GlyphMetrics) (told : glyph_metrics_among (run_of runs) (map (λ name. name.now) names) ≡ Ok metrics) where
+    module _ (metrics : List GlyphMetrics) (reported : glyph_metrics_among (run_of runs) (map (λ name. name.now) names) ≡ Ok metrics) where
       all : AllByRecursion (IsMeasured (own m)) metrics × (measured_names metrics ≡ glyph_names s.items)
-      all = measured-all (own m) (glyph_names s.items) metrics (sym own-told ∙ told)
+      all = measured-all (own m) (glyph_names s.items) metrics (sym own-reported ∙ reported)
 
-      its-glyphs : (ts : List Told) × (glyphs m (glyph_names s.items) ≡ Ok ts)
-      its-glyphs = glyphs-told m (glyph_names s.items) metrics (sym own-told ∙ told)
+      its-glyphs : (ts : List Reported) × (glyphs m (glyph_names s.items) ≡ Ok ts)
+      its-glyphs = glyphs-reported m (glyph_names s.items) metrics (sym own-reported ∙ reported)
 
       pub names-measured : map (λ name. name.now) names ≡ measured_names metrics
       names-measured = are ∙ sym all.1

@@ -10,7 +10,7 @@ use Rattle.t1_frac.specs.declared.fault.Fault.{Fault}
 use Rattle.t1_frac.specs.declared.fault.Place.TheVariants as places
 use Rattle.t1_frac.specs.declared.fault.Refusal.{Refusal}
 use Rattle.t1_frac.specs.declared.fault.Refusal.TheVariants as refusals
-use Rattle.t1_frac.specs.Outcome.{told_at, ◌>>=◌, Refuses}
+use Rattle.t1_frac.specs.Outcome.{reported_at, ◌>>=◌, Refuses}
 use Rattle.t1_code.specs.declared.command.Command.{Command}
 use Rattle.t1_parts.specs.SourceParts.{SourceParts}
 use Rattle.t1_run.specs.declared.outline.Segment.{Segment}
@@ -24,7 +24,7 @@ use Rattle.t1_font.specs.declared.glyph_metrics.GlyphMetrics.{GlyphMetrics}
 use Rattle.t1_font.specs.declared.glyph_metrics.PlacedParts.{PlacedParts}
 use Rattle.t1_font.specs.Assembly.{file_check}
 use Rattle.t1_font.specs.Bodies.{bodies, SameBodies}
-use Rattle.t1_font.specs.Glyphs.{Glyph as Told, glyph_of, placed_parts_of, glyphs_by, glyphs, glyph_names}
+use Rattle.t1_font.specs.Glyphs.{Glyph as Reported, glyph_of, placed_parts_of, glyphs_by, glyphs, glyph_names}
 use Rattle.t1_font.specs.MeasuredGlyphs.{glyph_metrics, glyph_metrics_among}
 use Rattle.t1_font.specs.Runs.{Kept as KeptRun, drawing_kept, run_kept, kept_of as run_of, own_among, AreTraced, IsTracedAs}
 use Rattle.t1_font.specs.SourceChecks.{source_glyphs, source_check}
@@ -62,13 +62,13 @@ glyphs-same : (run run' : Runs) (o o' : Outlines) (names : List (List ℕ)) → 
     → glyphs_by run o names ≡ glyphs_by run' o' names
 glyphs-same run run' o o' [] h = refl
 glyphs-same run run' o o' (g ∷ names) h =
-    ap (λ r. told_at (places.Glyph g) (glyph_of g r (o g)) >>= (λ x. glyphs_by run o names >>= (λ xs. Ok (x ∷ xs)))) h.0.0
-    ∙ ap (λ r. told_at (places.Glyph g) (glyph_of g (run' g) r) >>= (λ x. glyphs_by run o names >>= (λ xs. Ok (x ∷ xs)))) h.0.1
-    ∙ ap (λ r. told_at (places.Glyph g) (glyph_of g (run' g) (o' g)) >>= (λ x. r >>= (λ xs. Ok (x ∷ xs)))) (glyphs-same run run' o o' names h.1)
+    ap (λ r. reported_at (places.Glyph g) (glyph_of g r (o g)) >>= (λ x. glyphs_by run o names >>= (λ xs. Ok (x ∷ xs)))) h.0.0
+    ∙ ap (λ r. reported_at (places.Glyph g) (glyph_of g (run' g) r) >>= (λ x. glyphs_by run o names >>= (λ xs. Ok (x ∷ xs)))) h.0.1
+    ∙ ap (λ r. reported_at (places.Glyph g) (glyph_of g (run' g) (o' g)) >>= (λ x. r >>= (λ xs. Ok (x ∷ xs)))) (glyphs-same run run' o o' names h.1)
 
 -- ---- what is measured
 
-measured-one : (run : Runs) (g : List ℕ) (t : Told) → glyph_of g (run g) (outline_within run 4 g) ≡ Ok t
+measured-one : (run : Runs) (g : List ℕ) (t : Reported) → glyph_of g (run g) (outline_within run 4 g) ≡ Ok t
     → IsMeasured run (glyph_metrics t) × (t.name ≡ g)
 measured-one run g t e = by (run g) refl (outline_within run 4 g) refl e where
   parts : (d : Drawing) (s : List Segment) → run g ≡ Some (Ok d) → outline_within run 4 g ≡ Ok s → (r : Result (Option PlacedParts) Code)
@@ -85,14 +85,14 @@ measured-one run g t e = by (run g) refl (outline_within run 4 g) refl e where
   by (Some (Ok d)) ran (Err code) draws e = absurd (cc)
   by (Some (Ok d)) ran (Ok s) draws e = parts d s ran draws (placed_parts_of d.bearing d.composite) e
 
-measured-told : (run : Runs) (names : List (List ℕ)) (ts : List Told) → glyphs_by run (outline_within run 4) names ≡ Ok ts
+measured-reported : (run : Runs) (names : List (List ℕ)) (ts : List Reported) → glyphs_by run (outline_within run 4) names ≡ Ok ts
     → AllByRecursion (IsMeasured run) (map glyph_metrics ts) × (map (λ m. m.name) (map glyph_metrics ts) ≡ names)
-measured-told run [] ts e = let same : [] ≡ ts = cc in subst (λ l. AllByRecursion (IsMeasured run) (map glyph_metrics l) × (map (λ m. m.name) (map glyph_metrics l) ≡ [])) same (tt, refl)
-measured-told run (g ∷ names) ts e =
-    one (glyph_of g (run g) (outline_within run 4 g)) refl (glyphs_by run (outline_within run 4) names) refl (measured-told run names) e where
-      one : (r : Result Told Code) → glyph_of g (run g) (outline_within run 4 g) ≡ r → (rest : Result (List Told) Fault) → glyphs_by run (outline_within run 4) names ≡ rest
-          → ((xs : List Told) → glyphs_by run (outline_within run 4) names ≡ Ok xs → AllByRecursion (IsMeasured run) (map glyph_metrics xs) × (map (λ m. m.name) (map glyph_metrics xs) ≡ names))
-          → (told_at (places.Glyph g) r >>= (λ x. rest >>= (λ xs. Ok (x ∷ xs)))) ≡ Ok ts
+measured-reported run [] ts e = let same : [] ≡ ts = cc in subst (λ l. AllByRecursion (IsMeasured run) (map glyph_metrics l) × (map (λ m. m.name) (map glyph_metrics l) ≡ [])) same (tt, refl)
+measured-reported run (g ∷ names) ts e =
+    one (glyph_of g (run g) (outline_within run 4 g)) refl (glyphs_by run (outline_within run 4) names) refl (measured-reported run names) e where
+      one : (r : Result Reported Code) → glyph_of g (run g) (outline_within run 4 g) ≡ r → (rest : Result (List Reported) Fault) → glyphs_by run (outline_within run 4) names ≡ rest
+          → ((xs : List Reported) → glyphs_by run (outline_within run 4) names ≡ Ok xs → AllByRecursion (IsMeasured run) (map glyph_metrics xs) × (map (λ m. m.name) (map glyph_metrics xs) ≡ names))
+          → (reported_at (places.Glyph g) r >>= (λ x. rest >>= (λ xs. Ok (x ∷ xs)))) ≡ Ok ts
           → AllByRecursion (IsMeasured run) (map glyph_metrics ts) × (map (λ m. m.name) (map glyph_metrics ts) ≡ g ∷ names)
       one (Ok x) here (Ok xs) there others e =
           let same : x ∷ xs ≡ ts = cc in
@@ -107,12 +107,12 @@ pub measured-all : (run : Runs) (names : List (List ℕ)) (metrics : List GlyphM
     → AllByRecursion (IsMeasured run) metrics × (map (λ m. m.name) metrics ≡ names)
 unfolding glyph_metrics_among
 measured-all run names metrics e = by (glyphs_by run (outline_within run 4) names) refl e where
-  by : (r : Result (List Told) Fault) → glyphs_by run (outline_within run 4) names ≡ r → (r >>= (λ ts. Ok (map glyph_metrics ts))) ≡ Ok metrics
+  by : (r : Result (List Reported) Fault) → glyphs_by run (outline_within run 4) names ≡ r → (r >>= (λ ts. Ok (map glyph_metrics ts))) ≡ Ok metrics
       → AllByRecursion (IsMeasured run) metrics × (map (λ m. m.name) metrics ≡ names)
-  by (Ok ts) told e =
+  by (Ok ts) reported e =
       let same : map glyph_metrics ts ≡ metrics = cc in
-      subst (λ l. AllByRecursion (IsMeasured run) l × (map (λ m. m.name) l ≡ names)) same (measured-told run names ts told)
-  by (Err fault) told e = absurd (cc)
+      subst (λ l. AllByRecursion (IsMeasured run) l × (map (λ m. m.name) l ≡ names)) same (measured-reported run names ts reported)
+  by (Err fault) reported e = absurd (cc)
 
 -- a glyph that was measured has its run among those that are kept
 pub measured-names : (g : List ℕ) (metrics : List GlyphMetrics) → list_any (λ m. bytes_eq g m.name) metrics ≡ list_any (bytes_eq g) (map (λ m. m.name) metrics)
@@ -167,8 +167,8 @@ have-runs m names records there runs runs-are metrics measured =
 
 -- ---- an edited source
 
-module _ (keys : List Key) (old new : SourceParts) (told : List Told) (edit : IsEditedAt keys old new) (was : source_glyphs old ≡ Ok told)
-    (records : Records) (kept : map shown (map kept_of records.glyphs.entries) ≡ map shown_from told)
+module _ (keys : List Key) (old new : SourceParts) (reported : List Reported) (edit : IsEditedAt keys old new) (was : source_glyphs old ≡ Ok reported)
+    (records : Records) (kept : map shown (map kept_of records.glyphs.entries) ≡ map shown_from reported)
     (m : FontBodies) (bodies-are : SameBodies m (bodies new.items))
     (there : AllByRecursion (λ g. (b : List Command) × ((bodies new.items).glyphs g ≡ Some b)) (stale old keys new)) where
   abbrev newest : Runs
@@ -177,11 +177,11 @@ module _ (keys : List Key) (old new : SourceParts) (told : List Told) (edit : Is
   newest-all : (names : List (List ℕ)) → AllByRecursion (λ g. (b : List Command) × ((bodies new.items).glyphs g ≡ Some b)) names
       → AllByRecursion (λ g. (newest g ≡ own (bodies new.items) g) × (outline_within newest 4 g ≡ outline (bodies new.items) g)) names
   newest-all [] h = tt
-  newest-all (g ∷ names) h = (newest-is keys old new told edit was records kept m bodies-are g h.0.0 h.0.1, newest-all names h.1)
+  newest-all (g ∷ names) h = (newest-is keys old new reported edit was records kept m bodies-are g h.0.0 h.0.1, newest-all names h.1)
 
-  told-are : glyph_metrics_among newest (stale old keys new) ≡ (glyphs (bodies new.items) (stale old keys new) >>= (λ gs. Ok (map glyph_metrics gs)))
+  reported-are : glyph_metrics_among newest (stale old keys new) ≡ (glyphs (bodies new.items) (stale old keys new) >>= (λ gs. Ok (map glyph_metrics gs)))
   unfolding glyph_metrics_among
-  told-are =
+  reported-are =
       ap (λ r. r >>= (λ gs. Ok (map glyph_metrics gs)))
       (glyphs-same newest (own (bodies new.items)) (outline_within newest 4) (outline (bodies new.items)) (stale old keys new) (newest-all (stale old keys new) there))
 
@@ -189,19 +189,19 @@ module _ (keys : List Key) (old new : SourceParts) (told : List Told) (edit : Is
     checked-is : source_check new ≡ check (glyphs (bodies new.items) (stale old keys new))
     checked-is =
         ap (λ r. (r >>= λ checked. glyphs (bodies new.items) (glyph_names new.items)) >>= λ gs. Ok tt) file
-        ∙ first_fault_stale keys old new told edit (glyphs-of old told was)
+        ∙ first_fault_stale keys old new reported edit (glyphs-of old reported was)
 
     -- where the stale glyphs were measured, the source has no fault
     pub faultless : (metrics : List GlyphMetrics) → glyph_metrics_among newest (stale old keys new) ≡ Ok metrics → source_check new ≡ Ok tt
-    faultless metrics e = checked-is ∙ by (glyphs (bodies new.items) (stale old keys new)) (sym told-are ∙ e) where
-      by : (r : Result (List Told) Fault) → (r >>= (λ gs. Ok (map glyph_metrics gs))) ≡ Ok metrics → check r ≡ Ok tt
+    faultless metrics e = checked-is ∙ by (glyphs (bodies new.items) (stale old keys new)) (sym reported-are ∙ e) where
+      by : (r : Result (List Reported) Fault) → (r >>= (λ gs. Ok (map glyph_metrics gs))) ≡ Ok metrics → check r ≡ Ok tt
       by (Ok ts) e = refl
       by (Err fault) e = absurd (cc)
 
     -- and their first fault is the source's
     pub refused : (refused : Refusal) → Refuses refused (glyph_metrics_among newest (stale old keys new)) → Refuses refused (source_check new)
-    refused refusal h = subst (Refuses refusal) (sym checked-is) (by refusal (glyphs (bodies new.items) (stale old keys new)) (subst (Refuses refusal) told-are h)) where
-      by : (refusal : Refusal) (r : Result (List Told) Fault) → Refuses refusal (r >>= (λ gs. Ok (map glyph_metrics gs))) → Refuses refusal (check r)
+    refused refusal h = subst (Refuses refusal) (sym checked-is) (by refusal (glyphs (bodies new.items) (stale old keys new)) (subst (Refuses refusal) reported-are h)) where
+      by : (refusal : Refusal) (r : Result (List Reported) Fault) → Refuses refusal (r >>= (λ gs. Ok (map glyph_metrics gs))) → Refuses refusal (check r)
       by refusals.Memory r h = tt
       by (refusals.Fault fault) (Ok ts) h = absurd (cc)
       by (refusals.Fault fault) (Err e) h = cc
@@ -213,7 +213,7 @@ module _ (keys : List Key) (old new : SourceParts) (told : List Told) (edit : Is
 
     -- a glyph whose run is kept and draws this has it in the edited font
     kept-own : (g : List ℕ) (r : Result Drawing Code) → run_of runs g ≡ Some r → own (bodies new.items) g ≡ Some r
-    kept-own g r e = sym (own-is keys old new told edit was records kept m bodies-are g) ∙ by (list_any (bytes_eq g) (stale old keys new)) (sym (runs-are g) ∙ e) where
+    kept-own g r e = sym (own-is keys old new reported edit was records kept m bodies-are g) ∙ by (list_any (bytes_eq g) (stale old keys new)) (sym (runs-are g) ∙ e) where
       by : (b : Bool) → cond b (own m g) None ≡ Some r → own m g ≡ Some r
       by true h = h
       by false h = let never : ◌≡◌ {A = Option (Result Drawing Code)} None (Some r) = h in absurd (cc)
@@ -228,7 +228,7 @@ module _ (keys : List Key) (old new : SourceParts) (told : List Told) (edit : Is
           segments = box.1.0;
           run = ran;
           trace = subst (IsTracedAs g) is.run (traced g);
-          draws = sym (newest-is keys old new told edit was records kept m bodies-are g body.0 body.1).1 ∙ box.1.1.1.0;
+          draws = sym (newest-is keys old new reported edit was records kept m bodies-are g body.0 body.1).1 ∙ box.1.1.1.0;
           box = box.1.1.1.1;
         }
 
@@ -266,6 +266,6 @@ module _ (keys : List Key) (old new : SourceParts) (told : List Told) (edit : Is
         → (list_any (bytes_eq u) (stale old keys new) && is_user k (own_among m (stale old keys new) u)) ≡ (found u && is_user k (own n u))
     by true h =
         ap (λ t. t && is_user k (cond t (own m u) None)) h
-        ∙ ap (is_user k) (own-is keys old new told edit was records kept m bodies-are u)
+        ∙ ap (is_user k) (own-is keys old new reported edit was records kept m bodies-are u)
         ∙ sym (ap (λ t. t && is_user k (own n u)) (passes (found u) refl h))
     by false h = ap (λ t. t && is_user k (cond t (own m u) None)) h ∙ away (n.glyphs u) refl (found u) refl h

@@ -12,10 +12,10 @@ pub mod OrderNames
 pub mod Preparing
 pub mod Reaching
 pub mod Reordering
+pub mod Reporting
 pub mod Settled
 pub mod Single
 pub mod Stepping
 pub mod Steps
 pub mod Taking
-pub mod Telling
 pub mod Traces

@@ -15,7 +15,7 @@ use Rattle.t1_run.specs.Touched.{is_named, meets_run, meets_parts, touched_withi
 use Rattle.t1_run.proofs.Agreeing.{own_same}
 use Rattle.t1_run.proofs.FoundByUsers.{found_are_touched}
 use Rattle.t1_font.specs.Bodies.{bodies, glyph_among, SameBodies}
-use Rattle.t1_font.specs.Glyphs.{Glyph as Told, glyph_names}
+use Rattle.t1_font.specs.Glyphs.{Glyph as Reported, glyph_names}
 use Rattle.t1_font.specs.SourceChecks.{source_glyphs}
 use Rattle.t1_run.proofs.Asked.{bytes_self}
 use Rattle.t1_font.proofs.Measuring.{own-none}
@@ -60,7 +60,7 @@ named-touched m keys g e h =
 
 -- ---- an edited source
 
-module _ (keys : List Key) (old new : SourceParts) (told : List Told) (edit : IsEditedAt keys old new) (was : source_glyphs old ≡ Ok told) where
+module _ (keys : List Key) (old new : SourceParts) (reported : List Reported) (edit : IsEditedAt keys old new) (was : source_glyphs old ≡ Ok reported) where
   -- a glyph of the edited source is found where it is stale
   found-stale : (found : List ℕ → Bool) → AreStale (bodies old.items) keys found → (g : List ℕ) (b : List Command) → (bodies new.items).glyphs g ≡ Some b
       → found g ≡ is_stale old keys g
@@ -78,7 +78,7 @@ module _ (keys : List Key) (old new : SourceParts) (told : List Told) (edit : Is
     by : (body : Option (List Command)) → m.glyphs g ≡ body → found g ≡ is_stale old keys g
     by None e = named (is_named keys g) refl e
     by (Some body) e =
-        let drew = all_draw old told was g body e in
+        let drew = all_draw old reported was g body e in
         found_are_touched m keys found stale.closed stale.found g drew.0 drew.1
 
   -- those found, in the order of the edited source, are its stale glyphs
@@ -98,11 +98,11 @@ own-body m g r e = by (m.glyphs g) refl where
   by None h = let never : ◌≡◌ {A = Option (Result Drawing Code)} None (Some r) = sym (own-none m g h) ∙ e in absurd (cc)
   by (Some b) h = (b, h)
 
-module _ (keys : List Key) (old new : SourceParts) (told : List Told) (edit : IsEditedAt keys old new) (was : source_glyphs old ≡ Ok told)
-    (records : Records) (kept : map shown (map kept_of records.glyphs.entries) ≡ map shown_from told) where
+module _ (keys : List Key) (old new : SourceParts) (reported : List Reported) (edit : IsEditedAt keys old new) (was : source_glyphs old ≡ Ok reported)
+    (records : Records) (kept : map shown (map kept_of records.glyphs.entries) ≡ map shown_from reported) where
   -- the run of a glyph's record, or none, is that of the font
   pub recorded-own : (g : List ℕ) → recorded_run records g ≡ own (bodies old.items) g
-  recorded-own = runs_recorded old records (record { glyphs = told; faultless = was; from_scratch = kept })
+  recorded-own = runs_recorded old records (record { glyphs = reported; faultless = was; from_scratch = kept })
 
   module _ (m : FontBodies) (bodies-are : SameBodies m (bodies new.items)) where
     pub own-is : (g : List ℕ) → own m g ≡ own (bodies new.items) g
@@ -112,7 +112,7 @@ module _ (keys : List Key) (old new : SourceParts) (told : List Told) (edit : Is
     pub newest-is : (g : List ℕ) (b : List Command) → (bodies new.items).glyphs g ≡ Some b
         → (newest_among m (stale old keys new) records g ≡ own (bodies new.items) g)
         × (outline_within (newest_among m (stale old keys new) records) 4 g ≡ outline (bodies new.items) g)
-    newest-is = newest_drawn keys old new told edit (glyphs-of old told was) (newest_among m (stale old keys new) records) again fresh where
+    newest-is = newest_drawn keys old new reported edit (glyphs-of old reported was) (newest_among m (stale old keys new) records) again fresh where
       again : (g : List ℕ) (b : List Command) → (bodies new.items).glyphs g ≡ Some b → is_stale old keys g ≡ true
           → newest_among m (stale old keys new) records g ≡ own (bodies new.items) g
       again g b there on =

@@ -113,10 +113,10 @@ step-by run run' count records c (steps.InsertGlyph name r) same is =
     (is.0, (is.1.0, (is.1.1.0, (is.1.1.1.0, sym (same name.items is.0) ∙ is.1.1.1.1))))
 
 -- the keys after others are others
-pub apart-behind : (xs : List EntryChange) (c : EntryChange) (done : List EntryChange) → AreDistinctKeys (changed_keys (xs ++ c ∷ done))
+pub apart-after : (xs : List EntryChange) (c : EntryChange) (done : List EntryChange) → AreDistinctKeys (changed_keys (xs ++ c ∷ done))
     → list_any (key_eq (key_of c.named)) (changed_keys done) ≡ false
-apart-behind [] c done d = d.0
-apart-behind (x ∷ xs) c done d = apart-behind xs c done d.1
+apart-after [] c done d = d.0
+apart-after (x ∷ xs) c done d = apart-after xs c done d.1
 
 module _ (run : List ℕ → Option (TracedRun × Option BBox)) (count : Key → ℕ) (records : Records) (done : List EntryChange) (made : List Step)
     (are : AreStepsOf run count records done made) where

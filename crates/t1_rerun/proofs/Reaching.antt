@@ -119,13 +119,13 @@ module _ (edits : List Named) (old new : SourceParts) (records : Records) (m : F
       subst (AllByRecursion (λ g. (b : List Command) × ((bodies new.items).glyphs g ≡ Some b))) is-stale
       (all-passing (λ g. (b : List Command) × ((bodies new.items).glyphs g ≡ Some b)) found (glyph_names new.items) there)
 
-  told-stale : (metrics : List GlyphMetrics) → glyph_metrics_among (newest_among m some records) some ≡ Ok metrics
+  reported-stale : (metrics : List GlyphMetrics) → glyph_metrics_among (newest_among m some records) some ≡ Ok metrics
       → glyph_metrics_among (newest_among m (stale old (map key_of edits) new) records) (stale old (map key_of edits) new) ≡ Ok metrics
-  told-stale metrics told = subst (λ l. glyph_metrics_among (newest_among m l records) l ≡ Ok metrics) stale-names told
+  reported-stale metrics reported = subst (λ l. glyph_metrics_among (newest_among m l records) l ≡ Ok metrics) stale-names reported
 
   pub is-faultless : (metrics : List GlyphMetrics) → glyph_metrics_among (newest_among m some records) some ≡ Ok metrics → source_check new ≡ Ok tt
-  is-faultless metrics told =
-      faultless (map key_of edits) old new e.right.kept.glyphs e.edited e.right.kept.faultless records e.right.kept.from_scratch m e.bodies stale-there e.file metrics (told-stale metrics told)
+  is-faultless metrics reported =
+      faultless (map key_of edits) old new e.right.kept.glyphs e.edited e.right.kept.faultless records e.right.kept.from_scratch m e.bodies stale-there e.file metrics (reported-stale metrics reported)
 
   pub is-refused : (refusal : Refusal) → Refuses refusal (glyph_metrics_among (newest_among m some records) some) → Refuses refusal (source_check new)
   is-refused refusal h =
@@ -139,12 +139,12 @@ module _ (edits : List Named) (old new : SourceParts) (records : Records) (m : F
       → ((k : Key) (u : List ℕ) → has_pair renewal.leaves.items k u ≡ (found u && is_user k (recorded_run records u)))
       → ((k : Key) (u : List ℕ) → has_pair renewal.joins.items k u ≡ (list_any (bytes_eq u) some && is_user k (run_of runs u)))
       → IsRenewal (map key_of edits) old new renewal
-  is-renewal metrics told runs runs-are traced renewal each named leaves joins = record {
+  is-renewal metrics reported runs runs-are traced renewal each named leaves joins = record {
     found = found;
     reached = reached;
     scratch = all-map (IsFromScratch (bodies new.items)) kept_by renewal.reruns.items
-        (scratch-reruns (map key_of edits) old new e.right.kept.glyphs e.edited e.right.kept.faultless records e.right.kept.from_scratch m e.bodies stale-there runs runs-stale traced metrics (told-stale metrics told) renewal.reruns.items each);
-    names = names-gathered (map key_of edits) old new e.right.kept.glyphs e.edited e.right.kept.faultless records e.right.kept.from_scratch m e.bodies stale-there runs runs-stale traced metrics (told-stale metrics told) renewal.reruns.items named;
+        (scratch-reruns (map key_of edits) old new e.right.kept.glyphs e.edited e.right.kept.faultless records e.right.kept.from_scratch m e.bodies stale-there runs runs-stale traced metrics (reported-stale metrics reported) renewal.reruns.items each);
+    names = names-gathered (map key_of edits) old new e.right.kept.glyphs e.edited e.right.kept.faultless records e.right.kept.from_scratch m e.bodies stale-there runs runs-stale traced metrics (reported-stale metrics reported) renewal.reruns.items named;
     leaves = λ k u. leaves k u ∙ ap (λ r. found u && is_user k r) (recorded-own (map key_of edits) old new e.right.kept.glyphs e.edited e.right.kept.faultless records e.right.kept.from_scratch u);
     joins = λ k u. joins k u ∙ ap (λ r. list_any (bytes_eq u) some && is_user k r) (runs-are u)
         ∙ ap (λ l. list_any (bytes_eq u) l && is_user k (own_among m l u)) stale-names

@@ -12,7 +12,7 @@ use Rattle.t1_frac.specs.declared.fault.Fault.{Fault}
 use Rattle.t1_frac.specs.declared.fault.Place.TheVariants as places
 use Rattle.t1_frac.specs.declared.fault.Refusal.{Refusal}
 use Rattle.t1_frac.specs.declared.fault.Refusal.TheVariants as refusals
-use Rattle.t1_frac.specs.Outcome.{told_at, ◌>>=◌, Refuses}
+use Rattle.t1_frac.specs.Outcome.{reported_at, ◌>>=◌, Refuses}
 use Rattle.t1_code.specs.declared.command.Command.{Command}
 use Rattle.t1_parts.specs.SourceParts.{SourceParts}
 use Rattle.t1_run.specs.declared.outline.Segment.{Segment}
@@ -24,11 +24,11 @@ use Rattle.t1_afm.specs.Box.{drawn_box}
 use Rattle.t1_font.specs.declared.glyph_metrics.GlyphMetrics.{GlyphMetrics}
 use Rattle.t1_font.specs.Assembly.{file_check}
 use Rattle.t1_font.specs.Bodies.{bodies, bodies_check, SameBodies}
-use Rattle.t1_font.specs.Glyphs.{Glyph as Told, glyph_names, glyph_of, glyphs_by}
+use Rattle.t1_font.specs.Glyphs.{Glyph as Reported, glyph_names, glyph_of, glyphs_by}
 use Rattle.t1_font.specs.MeasuredGlyphs.{glyph_metrics, glyph_metrics_among}
 use Rattle.t1_font.specs.Runs.{Kept as KeptRun, kept_of as run_of, own_among, AreTraced}
 use Rattle.t1_font.specs.SourceChecks.{source_check}
-use Rattle.t1_font.proofs.LengthLaws.{body_fault_told}
+use Rattle.t1_font.proofs.LengthLaws.{body_fault_reported}
 use Rattle.t1_font.proofs.Measuring.{names-there, same-function}
 use Rattle.t1_cache.specs.declared.records.Named.{Named}
 use Rattle.t1_cache.specs.declared.records.Records.{Records}
@@ -98,25 +98,25 @@ module _ (f : List ℕ → Option (List Command)) (keys : List (Bor (List ℕ)))
 -- ---- glyphs in another order
 
 -- what is reported of each glyph
-abbrev IsTold : Runs → Outlines → List ℕ → Type 0
-IsTold run o g = (t : Told) × (told_at (places.Glyph g) (glyph_of g (run g) (o g)) ≡ Ok t)
+abbrev IsReported : Runs → Outlines → List ℕ → Type 0
+IsReported run o g = (t : Reported) × (reported_at (places.Glyph g) (glyph_of g (run g) (o g)) ≡ Ok t)
 
-told-each : (run : Runs) (o : Outlines) (names : List (List ℕ)) (ts : List Told) → glyphs_by run o names ≡ Ok ts → AllByRecursion (IsTold run o) names
-told-each run o [] ts e = tt
-told-each run o (g ∷ names) ts e =
-    one (told_at (places.Glyph g) (glyph_of g (run g) (o g))) refl (glyphs_by run o names) refl (told-each run o names) e
+reported-each : (run : Runs) (o : Outlines) (names : List (List ℕ)) (ts : List Reported) → glyphs_by run o names ≡ Ok ts → AllByRecursion (IsReported run o) names
+reported-each run o [] ts e = tt
+reported-each run o (g ∷ names) ts e =
+    one (reported_at (places.Glyph g) (glyph_of g (run g) (o g))) refl (glyphs_by run o names) refl (reported-each run o names) e
   where
-    one : (r : Result Told Fault) → told_at (places.Glyph g) (glyph_of g (run g) (o g)) ≡ r → (rest : Result (List Told) Fault) → glyphs_by run o names ≡ rest
-        → ((xs : List Told) → glyphs_by run o names ≡ Ok xs → AllByRecursion (IsTold run o) names)
-        → (r >>= (λ x. rest >>= (λ xs. Ok (x ∷ xs)))) ≡ Ok ts → AllByRecursion (IsTold run o) (g ∷ names)
+    one : (r : Result Reported Fault) → reported_at (places.Glyph g) (glyph_of g (run g) (o g)) ≡ r → (rest : Result (List Reported) Fault) → glyphs_by run o names ≡ rest
+        → ((xs : List Reported) → glyphs_by run o names ≡ Ok xs → AllByRecursion (IsReported run o) names)
+        → (r >>= (λ x. rest >>= (λ xs. Ok (x ∷ xs)))) ≡ Ok ts → AllByRecursion (IsReported run o) (g ∷ names)
     one (Ok x) here (Ok xs) there others e = ((x, here), others xs there)
     one (Ok x) here (Err fault) there others e = absurd (cc)
     one (Err fault) here rest there others e = absurd (cc)
 
-each-told : (run : Runs) (o : Outlines) (names : List (List ℕ)) → AllByRecursion (IsTold run o) names → (ts : List Told) × (glyphs_by run o names ≡ Ok ts)
-each-told run o [] all = ([], refl)
-each-told run o (g ∷ names) all =
-    let rest = each-told run o names all.1 in
+each-reported : (run : Runs) (o : Outlines) (names : List (List ℕ)) → AllByRecursion (IsReported run o) names → (ts : List Reported) × (glyphs_by run o names ≡ Ok ts)
+each-reported run o [] all = ([], refl)
+each-reported run o (g ∷ names) all =
+    let rest = each-reported run o names all.1 in
     (all.0.0 ∷ rest.0, ap (λ r. r >>= (λ x. glyphs_by run o names >>= (λ xs. Ok (x ∷ xs)))) all.0.1 ∙ ap (λ r. r >>= (λ xs. Ok (all.0.0 ∷ xs))) rest.1)
 
 -- glyphs that are among those that were measured are measured
@@ -124,13 +124,13 @@ measured-within : (run : Runs) (xs ys : List (List ℕ)) (ms : List GlyphMetrics
     → ((g : List ℕ) → list_any (bytes_eq g) ys ≡ true → list_any (bytes_eq g) xs ≡ true) → (ns : List GlyphMetrics) × (glyph_metrics_among run ys ≡ Ok ns)
 unfolding glyph_metrics_among
 measured-within run xs ys ms e within = by (glyphs_by run (outline_within run 4) xs) refl e where
-  by : (r : Result (List Told) Fault) → glyphs_by run (outline_within run 4) xs ≡ r → (r >>= (λ ts. Ok (map glyph_metrics ts))) ≡ Ok ms
+  by : (r : Result (List Reported) Fault) → glyphs_by run (outline_within run 4) xs ≡ r → (r >>= (λ ts. Ok (map glyph_metrics ts))) ≡ Ok ms
       → (ns : List GlyphMetrics) × ((glyphs_by run (outline_within run 4) ys >>= (λ ts. Ok (map glyph_metrics ts))) ≡ Ok ns)
-  by (Ok ts) told e =
-      let again = each-told run (outline_within run 4) ys
-      (all-within (IsTold run (outline_within run 4)) xs ys (told-each run (outline_within run 4) xs ts told) within) in
+  by (Ok ts) reported e =
+      let again = each-reported run (outline_within run 4) ys
+      (all-within (IsReported run (outline_within run 4)) xs ys (reported-each run (outline_within run 4) xs ts reported) within) in
       (map glyph_metrics again.0, ap (λ r. r >>= (λ ts. Ok (map glyph_metrics ts))) again.1)
-  by (Err fault) told e = absurd (cc)
+  by (Err fault) reported e = absurd (cc)
 
 has-box-name : (ms : List GlyphMetrics) (g : List ℕ) (box : Option BBox) → HasBox ms g box → list_any (bytes_eq g) (map (λ m. m.name) ms) ≡ true
 has-box-name [] g box h = absurd h
@@ -153,8 +153,8 @@ box-there run (n ∷ ns) g box s all draws is h = by (bytes_eq g n.name) refl h 
 -- the same boxes
 boxes-again : (run : Runs) (xs ys : List (List ℕ)) (ms ns : List GlyphMetrics) → glyph_metrics_among run xs ≡ Ok ms → glyph_metrics_among run ys ≡ Ok ns
     → ((g : List ℕ) → list_any (bytes_eq g) xs ≡ list_any (bytes_eq g) ys) → (g : List ℕ) (box : Option BBox) → HasBox ms g box → HasBox ns g box
-boxes-again run xs ys ms ns told again same g box h =
-    let before = measured-all run xs ms told in
+boxes-again run xs ys ms ns reported again same g box h =
+    let before = measured-all run xs ms reported in
     let after = measured-all run ys ns again in
     let its = box-measured run ms g box before.0 h in
     box-there run ns g box its.1.0 after.0 its.1.1.1.0 its.1.1.1.1
@@ -163,15 +163,15 @@ boxes-again run xs ys ms ns told again same g box h =
 reruns-again : (run : Runs) (xs ys : List (List ℕ)) (ms ns : List GlyphMetrics) → glyph_metrics_among run xs ≡ Ok ms → glyph_metrics_among run ys ≡ Ok ns
     → ((g : List ℕ) → list_any (bytes_eq g) xs ≡ list_any (bytes_eq g) ys) → (runs : List KeptRun) (rs : List Rerun)
     → AllByRecursion (IsRerun runs ms) rs → AllByRecursion (IsRerun runs ns) rs
-reruns-again run xs ys ms ns told again same runs rs all =
+reruns-again run xs ys ms ns reported again same runs rs all =
     all-weaken (IsRerun runs ms) (IsRerun runs ns)
-    (λ r is. record { run = is.run; box = boxes-again run xs ys ms ns told again same r.name.items r.bbox is.box }) rs all
+    (λ r is. record { run = is.run; box = boxes-again run xs ys ms ns reported again same r.name.items r.bbox is.box }) rs all
 
 names-again : (run : Runs) (xs ys : List (List ℕ)) (ms ns : List GlyphMetrics) → glyph_metrics_among run xs ≡ Ok ms → glyph_metrics_among run ys ≡ Ok ns
     → ((g : List ℕ) → list_any (bytes_eq g) xs ≡ list_any (bytes_eq g) ys)
     → (g : List ℕ) → list_any (λ m. bytes_eq g m.name) ms ≡ list_any (λ m. bytes_eq g m.name) ns
-names-again run xs ys ms ns told again same g =
-    measured-names g ms ∙ ap (list_any (bytes_eq g)) (measured-all run xs ms told).1 ∙ same g
+names-again run xs ys ms ns reported again same g =
+    measured-names g ms ∙ ap (list_any (bytes_eq g)) (measured-all run xs ms reported).1 ∙ same g
     ∙ ap (list_any (bytes_eq g)) (sym (measured-all run ys ns again).1) ∙ sym (measured-names g ns)
 
 -- ---- judged in an order, or reported in another
@@ -197,11 +197,11 @@ judged-refused (refusals.Fault fault) (Err first) (Ok ys) ok h =
 judged-refused (refusals.Fault fault) (Err first) (Err other) ok h = h
 
 -- a fault of one order, or the first of the other, is what both report
-pub first-told : {X Y : Type 0} (r : Result X Fault) (s : Result Y Fault) (refusal refused : Refusal) → Refuses refusal r → FirstIn refusal s refused → Refuses refused (judged_in r s)
-first-told {X} {Y} r s refusals.Memory refused h first = subst (λ x. Refuses x (judged_in r s)) (sym first) tt
-first-told {X} {Y} r (Ok there) (refusals.Fault fault) refused h first =
+pub first-reported : {X Y : Type 0} (r : Result X Fault) (s : Result Y Fault) (refusal refused : Refusal) → Refuses refusal r → FirstIn refusal s refused → Refuses refused (judged_in r s)
+first-reported {X} {Y} r s refusals.Memory refused h first = subst (λ x. Refuses x (judged_in r s)) (sym first) tt
+first-reported {X} {Y} r (Ok there) (refusals.Fault fault) refused h first =
     subst (λ r. Refuses {Y = X} refused (judged_in {X = X} {Y = Y} r (Ok there))) (sym h) (refuses-alike X refused fault first)
-first-told {X} {Y} r (Err other) (refusals.Fault fault) refused h first =
+first-reported {X} {Y} r (Err other) (refusals.Fault fault) refused h first =
     subst (λ r. Refuses {Y = X} refused (judged_in {X = X} {Y = Y} r (Err other))) (sym h) (refuses-alike X refused other first)
 
 -- ---- an edit
@@ -211,7 +211,7 @@ bodies-fine s file = by (bodies_check s.items) refl where
   by : (r : Result (Unit {0}) Fault) → bodies_check s.items ≡ r → r ≡ Ok tt
   by (Ok checked) e = refl
   by (Err fault) e =
-      let never : ◌≡◌ {A = Result (Unit {0}) Fault} (Ok tt) (Err fault) = sym file ∙ body_fault_told s fault e in
+      let never : ◌≡◌ {A = Result (Unit {0}) Fault} (Ok tt) (Err fault) = sym file ∙ body_fault_reported s fault e in
       absurd (cc)
 
 lent : (names : List (List ℕ)) → (lent_names : List (Bor (List ℕ))) × (map (λ name. name.now) lent_names ≡ names)
@@ -276,25 +276,25 @@ module _ (edits : List Named) (old new : SourceParts) (records : Records) (m : F
   abbrev run : Runs
   run = newest_among m these records
 
-  told-ordered : (ns : List GlyphMetrics) → glyph_metrics_among run ordered ≡ Ok ns → glyph_metrics_among (newest_among m ordered records) ordered ≡ Ok ns
-  told-ordered ns told = ap (λ r. glyph_metrics_among r ordered) (sym newest-alike) ∙ told
+  reported-ordered : (ns : List GlyphMetrics) → glyph_metrics_among run ordered ≡ Ok ns → glyph_metrics_among (newest_among m ordered records) ordered ≡ Ok ns
+  reported-ordered ns reported = ap (λ r. glyph_metrics_among r ordered) (sym newest-alike) ∙ reported
 
   measured-ordered : (ms : List GlyphMetrics) → judged_in (glyph_metrics_among run these) (glyph_metrics_among run ordered) ≡ Ok ms
       → (ns : List GlyphMetrics) × (glyph_metrics_among run ordered ≡ Ok ns)
-  measured-ordered ms told =
-      measured-within run these ordered ms (judged-ok (glyph_metrics_among run these) (glyph_metrics_among run ordered) ms told) (λ g h. alike g ∙ h)
+  measured-ordered ms reported =
+      measured-within run these ordered ms (judged-ok (glyph_metrics_among run these) (glyph_metrics_among run ordered) ms reported) (λ g h. alike g ∙ h)
 
   pub no-fault : (ms : List GlyphMetrics) → judged_in (glyph_metrics_among run these) (glyph_metrics_among run ordered) ≡ Ok ms → source_check new ≡ Ok tt
-  no-fault ms told =
-      let its = measured-ordered ms told in
-      is-faultless edits old new records m names e have found reached ordered refl its.0 (told-ordered its.0 its.1)
+  no-fault ms reported =
+      let its = measured-ordered ms reported in
+      is-faultless edits old new records m names e have found reached ordered refl its.0 (reported-ordered its.0 its.1)
 
   pub first-fault : (refusal : Refusal) → Refuses refusal (judged_in (glyph_metrics_among run these) (glyph_metrics_among run ordered)) → Refuses refusal (source_check new)
   first-fault refusal h =
       is-refused edits old new records m names e have found reached ordered refl refusal
       (subst (λ r. Refuses refusal (glyph_metrics_among r ordered)) newest-alike
       (judged-refused refusal (glyph_metrics_among run these) (glyph_metrics_among run ordered)
-      (λ ns told. measured-within run ordered these ns told (λ g h. sym (alike g) ∙ h)) h))
+      (λ ns reported. measured-within run ordered these ns reported (λ g h. sym (alike g) ∙ h)) h))
 
   pub renewal-is : (ms : List GlyphMetrics) → judged_in (glyph_metrics_among run these) (glyph_metrics_among run ordered) ≡ Ok ms
       → (runs : List KeptRun) → ((g : List ℕ) → run_of runs g ≡ own_among m these g) → AreTraced runs → (renewal : Renewal)
@@ -303,10 +303,10 @@ module _ (edits : List Named) (old new : SourceParts) (records : Records) (m : F
       → ((k : Key) (u : List ℕ) → has_pair renewal.leaves.items k u ≡ (found u && is_user k (recorded_run records u)))
       → ((k : Key) (u : List ℕ) → has_pair renewal.joins.items k u ≡ (list_any (bytes_eq u) these && is_user k (run_of runs u)))
       → IsRenewal (map key_of edits) old new renewal
-  renewal-is ms told runs runs-are traced renewal each named leaves joins =
-      let its = measured-ordered ms told in
-      let first = judged-ok (glyph_metrics_among run these) (glyph_metrics_among run ordered) ms told in
-      is-renewal edits old new records m names e have found reached ordered refl its.0 (told-ordered its.0 its.1) runs
+  renewal-is ms reported runs runs-are traced renewal each named leaves joins =
+      let its = measured-ordered ms reported in
+      let first = judged-ok (glyph_metrics_among run these) (glyph_metrics_among run ordered) ms reported in
+      is-renewal edits old new records m names e have found reached ordered refl its.0 (reported-ordered its.0 its.1) runs
       (λ g. runs-are g ∙ ap (λ b. cond b (own m g) None) (alike g)) traced renewal
       (reruns-again run these ordered ms its.0 first its.1 alike runs renewal.reruns.items each)
       (λ g. named g ∙ names-again run these ordered ms its.0 first its.1 alike g)

@@ -12,7 +12,7 @@ use Rattle.t1_run.specs.Run.{FontBodies, Key, own}
 use Rattle.t1_run.specs.Touched.{is_user}
 use Rattle.t1_frac.specs.declared.fault.Code.{Code}
 use Rattle.t1_font.specs.Bodies.{bodies, SameBodies}
-use Rattle.t1_font.specs.Glyphs.{Glyph as Told, glyph_of, glyph_names}
+use Rattle.t1_font.specs.Glyphs.{Glyph as Reported, glyph_of, glyph_names}
 use Rattle.t1_font.specs.SourceChecks.{source_glyphs, source_check}
 use Rattle.t1_cache.specs.declared.records.Records.{Records}
 use Rattle.t1_cache.specs.declared.records.Rerun.{Rerun}
@@ -25,7 +25,7 @@ use Rattle.t1_cache.specs.Renewed.{Kept, kept_of, rerun_of, with_rerun}
 use Rattle.t1_cache.specs.Users.{has_pair, lists}
 use Rattle.t1_cache.proofs.Drawing.{all_draw}
 use Rattle.t1_cache.proofs.Joining.{run_kept, moved}
-use Rattle.t1_cache.proofs.Judging.{fine-told, IsFine}
+use Rattle.t1_cache.proofs.Judging.{fine-reported, IsFine}
 use Rattle.t1_font.proofs.Lookups.{bytes_tell}
 use Rattle.t1_font.proofs.Measuring.{own-none}
 use Rattle.t1_cache.proofs.Renewing.{glyphs-of, names_kept, renewed, one-of}
@@ -43,13 +43,13 @@ is_moved renewal records k u = (lists records k u && not (has_pair renewal.leave
 
 -- ---- which glyphs a source has
 
-module _ (s : SourceParts) (told : List Told) (fine : source_glyphs s ≡ Ok told) where
+module _ (s : SourceParts) (reported : List Reported) (fine : source_glyphs s ≡ Ok reported) where
   no-glyph : (g : List ℕ) → (bodies s.items).glyphs g ≡ None → (b : Bool) → has_glyph s g ≡ b → b ≡ false
   no-glyph g none false h = refl
   no-glyph g none true h =
-      let all = fine-told (own (bodies s.items)) (outline (bodies s.items)) (glyph_names s.items) told (glyphs-of s told fine) in
+      let all = fine-reported (own (bodies s.items)) (outline (bodies s.items)) (glyph_names s.items) reported (glyphs-of s reported fine) in
       let one = all-at (IsFine (own (bodies s.items)) (outline (bodies s.items))) (glyph_names s.items) all g h in
-      let never : ◌≡◌ {A = Result Told Code} (glyph_of g None (outline (bodies s.items) g)) (Ok one.0) =
+      let never : ◌≡◌ {A = Result Reported Code} (glyph_of g None (outline (bodies s.items) g)) (Ok one.0) =
       ap (λ r. glyph_of g r (outline (bodies s.items) g)) (sym (own-none (bodies s.items) g none)) ∙ one.1 in
       absurd (cc)
 
@@ -102,10 +102,10 @@ module _ (keys : List Key) (old : SourceParts) (reruns left : List Rerun) (kept 
 
 -- ---- a source that was edited
 
-pub told-of : (s : SourceParts) → source_check s ≡ Ok tt → (told : List Told) × (source_glyphs s ≡ Ok told)
-told-of s e = by (source_glyphs s) refl e where
-  by : (r : Result (List Told) Fault) → source_glyphs s ≡ r → ◌≡◌ {A = Result (Unit {0}) Fault} (check r) (Ok tt) → (told : List Told) × (source_glyphs s ≡ Ok told)
-  by (Ok told) here e = (told, here)
+pub reported-of : (s : SourceParts) → source_check s ≡ Ok tt → (reported : List Reported) × (source_glyphs s ≡ Ok reported)
+reported-of s e = by (source_glyphs s) refl e where
+  by : (r : Result (List Reported) Fault) → source_glyphs s ≡ r → ◌≡◌ {A = Result (Unit {0}) Fault} (check r) (Ok tt) → (reported : List Reported) × (source_glyphs s ≡ Ok reported)
+  by (Ok reported) here e = (reported, here)
   by (Err fault) here e = absurd (cc)
 
 module _ (keys : List Key) (old new : SourceParts) (before : Records) (renewal : Renewal) (edit : IsEditedAt keys old new) (right : IsRight old before)
@@ -162,7 +162,7 @@ module _ (keys : List Key) (old new : SourceParts) (before : Records) (renewal :
   pub keeps-all : (records : List Kept) → map (λ k. k.name) records ≡ glyph_names new.items → AllByRecursion (IsRenewedBy keys old reruns kept) records
       → KeepsAll new records
   keeps-all records order all =
-      renewed keys old new edit (told-of new fine).0 (told-of new fine).1 kept records right.kept order
+      renewed keys old new edit (reported-of new fine).0 (reported-of new fine).1 kept records right.kept order
       (all-weaken (IsRenewedBy keys old reruns kept) (IsRenewed keys old new kept)
       (λ k r. record { stale = λ on. one-of (IsFromScratch n) (map kept_by reruns) k is.scratch (r.stale on); fresh = r.fresh })
       records all)

@@ -8,7 +8,7 @@ use Rattle.std.specs.declared.vec.Vec.{Vec}
 use Rattle.std.proofs.lemmas.Bool.{and_parts}
 use Rattle.t1_parts.specs.SourceParts.{SourceParts}
 use Rattle.t1_extent.specs.Kept.{traces}
-use Rattle.t1_font.specs.Glyphs.{Glyph as Told}
+use Rattle.t1_font.specs.Glyphs.{Glyph as Reported}
 use Rattle.t1_cache.specs.declared.records.GlyphRecord.{GlyphRecord}
 use Rattle.t1_cache.specs.declared.records.Records.{Records}
 use Rattle.t1_cache.specs.Kept.{keep_traces, shown, shown_from}
@@ -31,7 +31,7 @@ found_trace (x ∷ es) g r h e =
         subst (λ k. traces g k.run ≡ true) is (ap (λ n. traces n x.1.run) (bytes_same g x.0.items same) ∙ here)
     by false other here later h = later h
 
-all-traced : (ks : List Kept) (ts : List Told) → map shown ks ≡ map shown_from ts → list_all (λ (k : Kept). traces k.name k.run) ks ≡ true
+all-traced : (ks : List Kept) (ts : List Reported) → map shown ks ≡ map shown_from ts → list_all (λ (k : Kept). traces k.name k.run) ks ≡ true
 all-traced [] ts e = refl
 all-traced (k ∷ ks) [] e = absurd (cc)
 all-traced (k ∷ ks) (t ∷ ts) e =

@@ -5,7 +5,7 @@ use Rattle.std.specs.Option.{option_to_list}
 use Rattle.t1_frac.specs.declared.fault.Fault.{Fault}
 use Rattle.t1_frac.specs.declared.fault.Place.{Place}
 use Rattle.t1_frac.specs.declared.fault.Place.TheVariants as places
-use Rattle.t1_frac.specs.Outcome.{told_at, ◌>>=◌}
+use Rattle.t1_frac.specs.Outcome.{reported_at, ◌>>=◌}
 use Rattle.t1_code.specs.declared.command.Command.{Command}
 use Rattle.t1_code.specs.Words.{commands}
 use Rattle.t1_parts.specs.SourceParts.{SourceParts}
@@ -39,7 +39,7 @@ key_change change = record { key = key_of change.named; body = change.body; move
 
 -- profile: a Subr or a glyph gets the commands of words, or these have their fault at its place
 abbrev pub put_key : Key → Place → List (List ℕ) → Result (Option KeyChange) Fault
-put_key key place words = told_at place (commands words) >>= λ body. Ok (Some (record { key = key; body = Some body; moved = false }))
+put_key key place words = reported_at place (commands words) >>= λ body. Ok (Some (record { key = key; body = Some body; moved = false }))
 
 -- profile: the same, of a Subr by its number; none has a number past 16 bits
 abbrev pub put_number : Option ℕ → List (List ℕ) → Result (Option KeyChange) Fault

@@ -90,7 +90,7 @@ fn judged<'a, B: StoredBodies, O: GlyphOrder>(
 ) -> Result<(Runs, Vec<GlyphMetrics<'a>>), Refusal>
     requires there { All (λ name. IsSome (B.glyphs bodies.now name.now)) stale.now }
     requires traced { keep_traces records.now ≡ true }
-    ensures told { Gives (λ made. made.1.items) result (judged_in (glyph_metrics_among (newest_among (font (B.subrs bodies.now) (B.glyphs bodies.now)) (map (λ name. name.now) stale.now) records.now) (map (λ name. name.now) stale.now)) (glyph_metrics_among (newest_among (font (B.subrs bodies.now) (B.glyphs bodies.now)) (map (λ name. name.now) stale.now) records.now) (filter (has (λ name. name.now) found.now.keys) (O.ordered order.now)))) }
+    ensures reported { Gives (λ made. made.1.items) result (judged_in (glyph_metrics_among (newest_among (font (B.subrs bodies.now) (B.glyphs bodies.now)) (map (λ name. name.now) stale.now) records.now) (map (λ name. name.now) stale.now)) (glyph_metrics_among (newest_among (font (B.subrs bodies.now) (B.glyphs bodies.now)) (map (λ name. name.now) stale.now) records.now) (filter (has (λ name. name.now) found.now.keys) (O.ordered order.now)))) }
     ensures kept { IfOk result (λ made. (g : List ℕ) → kept_of made.0 g ≡ own_among (font (B.subrs bodies.now) (B.glyphs bodies.now)) (map (λ name. name.now) stale.now) g) }
     ensures traced { IfOk result (λ made. AreTraced made.0) }
     ensures after { IfOk result (λ made. (g : List ℕ) → IsAfter meter.old (run_kept made.0 g)) }

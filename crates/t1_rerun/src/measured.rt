@@ -1,6 +1,6 @@
 //! The metrics of a font whose records are kept.
 ghost use Rattle.std.specs.Prelude.{map};
-ghost use Rattle.t1_frac.specs.Outcome.{Gives, told_at};
+ghost use Rattle.t1_frac.specs.Outcome.{Gives, reported_at};
 ghost use Rattle.t1_frac.specs.declared.fault.Place.TheVariants.{Nowhere};
 ghost use Rattle.t1_parts.specs.SourceParts.{SourceParts};
 ghost use Rattle.t1_font.specs.SourceChecks.{measured_source};
@@ -15,7 +15,7 @@ use t1_frac::Refusal;
 
 /// What is reported of each glyph that has a record, in their order.
 fn kept_glyphs(alloc: Global, records: &Records) -> Result<Vec<GlyphMetrics<'_>>, Refusal>
-    ensures { Gives (λ metrics. metrics.items) result (told_at Nowhere (kept_metrics (map kept_of records.now.glyphs.entries))) }
+    ensures { Gives (λ metrics. metrics.items) result (reported_at Nowhere (kept_metrics (map kept_of records.now.glyphs.entries))) }
 {
     let mut metrics = Vec::with_capacity(alloc, records.glyphs.len())?;
     for at in 0..records.glyphs.len() {

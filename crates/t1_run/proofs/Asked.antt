@@ -224,32 +224,32 @@ body-stops m body = words-stop m (call_within m 10) (call_within-stops m 10) bod
 
 -- ---- what a drawing says
 
-record Told (m : FontBodies) (d : Drawing) (asked : List Key) : Type 0 where
+record Reported (m : FontBodies) (d : Drawing) (asked : List Key) : Type 0 where
   keys : Asks d.composite d.entered asked
   subrs : HasSubrs m d.entered
   parts : HasParts m d.composite
   steps : d.steps ≤ 100000
 
-told-metric : (m : FontBodies) (metric : Option Metric) (composite : Option Composite) (p : Progress) (d : Drawing)
-    → Over m composite p → drawing_of metric composite p.state ≡ Ok d → Told m d p.asked
-told-metric m None composite p d h e = absurd (cc)
-told-metric m (Some metric) composite p d h e =
+reported-metric : (m : FontBodies) (metric : Option Metric) (composite : Option Composite) (p : Progress) (d : Drawing)
+    → Over m composite p → drawing_of metric composite p.state ≡ Ok d → Reported m d p.asked
+reported-metric m None composite p d h e = absurd (cc)
+reported-metric m (Some metric) composite p d h e =
     let same : record { width = metric.width; bearing = metric.bearing; segments = p.state.segments; composite = composite; entered = p.state.entered; steps = p.state.steps } ≡ d = cc in
-    subst (λ d'. Told m d' p.asked) same (record { keys = h.keys; subrs = h.subrs; parts = h.parts; steps = h.steps })
+    subst (λ d'. Reported m d' p.asked) same (record { keys = h.keys; subrs = h.subrs; parts = h.parts; steps = h.steps })
 
-told-stop : (m : FontBodies) (e : Stop) (d : Drawing) → Stops m e → outcome_of e ≡ Ok d → Told m d (asked_by e)
-told-stop m (OutOfWords p) d h e = absurd (cc)
-told-stop m (Returned p) d h e = absurd (cc)
-told-stop m (Completed composite p) d h e = told-metric m p.state.metric composite p d h e
-told-stop m (Failed fault asked) d h e = absurd (cc)
+reported-stop : (m : FontBodies) (e : Stop) (d : Drawing) → Stops m e → outcome_of e ≡ Ok d → Reported m d (asked_by e)
+reported-stop m (OutOfWords p) d h e = absurd (cc)
+reported-stop m (Returned p) d h e = absurd (cc)
+reported-stop m (Completed composite p) d h e = reported-metric m p.state.metric composite p d h e
+reported-stop m (Failed fault asked) d h e = absurd (cc)
 
-told-body : (m : FontBodies) (b : Option (List Command)) (d : Drawing) → own_of m b ≡ Some (Ok d) → Told m d (asked_of m b)
-told-body m None d e = absurd (cc)
-told-body m (Some body) d e = told-stop m (body_stop m body) d (body-stops m body) (cc)
+reported-body : (m : FontBodies) (b : Option (List Command)) (d : Drawing) → own_of m b ≡ Some (Ok d) → Reported m d (asked_of m b)
+reported-body m None d e = absurd (cc)
+reported-body m (Some body) d e = reported-stop m (body_stop m body) d (body-stops m body) (cc)
 
-told-own : (m : FontBodies) (g : List ℕ) (d : Drawing) → own m g ≡ Some (Ok d) → Told m d (asked_of m (m.glyphs g))
+reported-own : (m : FontBodies) (g : List ℕ) (d : Drawing) → own m g ≡ Some (Ok d) → Reported m d (asked_of m (m.glyphs g))
 unfolding own
-told-own m g d e = told-body m (m.glyphs g) d e
+reported-own m g d e = reported-body m (m.glyphs g) d e
 
 -- ---- the laws
 
@@ -273,13 +273,13 @@ uses-all g d asked h (Glyph x) = (only, all) where
 
 pub exact : ExactLaw
 unfolding foot
-exact m g d e k = uses-all g d (asked_of m (m.glyphs g)) (told-own m g d e).keys k
+exact m g d e k = uses-all g d (asked_of m (m.glyphs g)) (reported-own m g d e).keys k
 
 pub parts_there : PartsLaw
-parts_there m g d e = (told-own m g d e).parts
+parts_there m g d e = (reported-own m g d e).parts
 
 pub subrs_there : (m : FontBodies) (g : List ℕ) (d : Drawing) → own m g ≡ Some (Ok d) → HasSubrs m d.entered
-subrs_there m g d e = (told-own m g d e).subrs
+subrs_there m g d e = (reported-own m g d e).subrs
 
 pub steps_within : (m : FontBodies) (g : List ℕ) (d : Drawing) → own m g ≡ Some (Ok d) → d.steps ≤ 100000
-steps_within m g d e = (told-own m g d e).steps
+steps_within m g d e = (reported-own m g d e).steps

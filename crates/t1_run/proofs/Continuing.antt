@@ -1,7 +1,7 @@
 -- A run with a stack of waiting bodies is the run that recurses.
 use Rattle.std.proofs.Common.{◌≡◌, ℕ, zero, suc, ◌+◌, ◌<◌, ◌≤◌, List, [], ◌∷◌, length, refl, sym, ◌∙◌, ap, arith, Option, Some, None}
 use Rattle.std.specs.Prelude.{Result, Ok, Err}
-use Rattle.t1_frac.specs.Outcome.{Refuses, told_at, fault_at}
+use Rattle.t1_frac.specs.Outcome.{Refuses, reported_at, fault_at}
 use Rattle.t1_frac.specs.declared.fault.Code.{Code}
 use Rattle.t1_frac.specs.declared.fault.Code.TheVariants.{F32, F33}
 use Rattle.t1_frac.specs.declared.fault.Place.TheVariants.{Nowhere}
@@ -158,20 +158,20 @@ outcome-partless {m = m} {cs = cs} {waiting = waiting} {s' = s'} {a = a} {fault 
 -- ---- what refuses a word, or the search for parts, refuses the run
 
 pub refused-step : {m : FontBodies} {body cs : List Command} {waiting : List (List Command)} {s : State} {c : Command} (refusal : Refusal)
-    → Continues m body (c ∷ cs) waiting s → RefusesStep refusal (step c s) → Refuses refusal (told_at Nowhere (outcome_of (body_stop m body)))
+    → Continues m body (c ∷ cs) waiting s → RefusesStep refusal (step c s) → Refuses refusal (reported_at Nowhere (outcome_of (body_stop m body)))
 refused-step refusals.Memory h e = tt
-refused-step (refusals.Fault f) h e = ap (told_at Nowhere) (outcome-fault h e.1) ∙ ap Err (sym e.0)
+refused-step (refusals.Fault f) h e = ap (reported_at Nowhere) (outcome-fault h e.1) ∙ ap Err (sym e.0)
 
 refused_at : {m : FontBodies} {body cs : List Command} {waiting : List (List Command)} {s s' : State} {c : Command} {a : Accent}
     → Continues m body (c ∷ cs) waiting s → step c s ≡ Compose a s' → (r : Result Composite Code) → composite_of m.glyphs a ≡ r
-    → (refusal : Refusal) → Refuses refusal (told_at Nowhere r) → Refuses refusal (told_at Nowhere (outcome_of (body_stop m body)))
+    → (refusal : Refusal) → Refuses refusal (reported_at Nowhere r) → Refuses refusal (reported_at Nowhere (outcome_of (body_stop m body)))
 refused_at h e r found refusals.Memory refused = tt
 refused_at h e (Ok parts) found (refusals.Fault f) refused = absurd (cc)
 refused_at h e (Err fault) found (refusals.Fault f) refused =
     let same : fault_at Nowhere fault ≡ f = cc in
-    ap (told_at Nowhere) (outcome-partless h e found) ∙ ap Err same
+    ap (reported_at Nowhere) (outcome-partless h e found) ∙ ap Err same
 
 pub refused-parts : {m : FontBodies} {body cs : List Command} {waiting : List (List Command)} {s s' : State} {c : Command} {a : Accent} (refusal : Refusal)
-    → Continues m body (c ∷ cs) waiting s → step c s ≡ Compose a s' → Refuses refusal (told_at Nowhere (composite_of m.glyphs a))
-    → Refuses refusal (told_at Nowhere (outcome_of (body_stop m body)))
+    → Continues m body (c ∷ cs) waiting s → step c s ≡ Compose a s' → Refuses refusal (reported_at Nowhere (composite_of m.glyphs a))
+    → Refuses refusal (reported_at Nowhere (outcome_of (body_stop m body)))
 refused-parts {m = m} {a = a} refusal h e refused = refused_at h e (composite_of m.glyphs a) refl refusal refused

@@ -12,7 +12,7 @@ use Rattle.t1_run.specs.declared.outline.Segment.TheVariants.{Line, Curve}
 use Rattle.t1_run.specs.Step.{moved}
 use Rattle.t1_run.specs.Run.{FontBodies, Key, Drawing, own, foot}
 
--- Type 1 Font Format, chapter 6 (seac): how far the accent's origin is moved, by the composite's own side bearing
+-- Type 1 Font Format, Chapter 6 (seac): how far the accent's origin is moved, by the composite's own side bearing
 abbrev pub accent_move : Point → Composite → Result Point Code
 accent_move bearing c =
     coordinate_sum bearing.x c.adx >>= (λ right.
@@ -41,7 +41,7 @@ abbrev pub moved_outline : Point → List Segment → Result (List Segment) Code
 moved_outline by [] = Ok []
 moved_outline by (s ∷ ss) = moved_segment by s >>= (λ s'. moved_outline by ss >>= (λ ss'. Ok (s' ∷ ss')))
 
--- Type 1 Font Format, chapter 6 (seac): the own segments, the base's outline, and the accent's outline moved
+-- Type 1 Font Format, Chapter 6 (seac): the own segments, the base's outline, and the accent's outline moved
 abbrev pub joined_by : Composite → Drawing → List Segment → List Segment → Result (List Segment) Code
 joined_by c d base accent =
     accent_move d.bearing c >>= (λ by.
@@ -101,7 +101,7 @@ outline_foot m glyph = foot_within m 4 glyph
 
 -- ---- parts by their names
 
--- Type 1 Font Format, chapter 6 (seac): the base and the accent have codes of StandardEncoding
+-- Type 1 Font Format, Chapter 6 (seac): the base and the accent have codes of StandardEncoding
 pub record HasStandardParts (c : Composite) : Type 0 where
   pub base : is_standard_name c.base ≡ true
   pub accent : is_standard_name c.accent ≡ true

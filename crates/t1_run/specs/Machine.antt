@@ -2,7 +2,7 @@
 use Rattle.std.specs.Prelude.{◌≡◌, ℕ, List, [], ◌∷◌, ◌++◌, map, reverse, take, Option, Some, None, Result, Ok, Err}
 use Rattle.std.specs.Option.{option_map}
 use Rattle.std.specs.Borrow.{Bor}
-use Rattle.t1_frac.specs.Outcome.{fault_at, told_at, Gives}
+use Rattle.t1_frac.specs.Outcome.{fault_at, reported_at, Gives}
 use Rattle.t1_frac.specs.declared.fault.Code.{Code}
 use Rattle.t1_frac.specs.declared.fault.Place.TheVariants.{Nowhere}
 use Rattle.t1_frac.specs.declared.fault.Refusal.{Refusal}
@@ -33,12 +33,12 @@ state_of s = record {
 }
 
 -- profile: the step that an answer stands for, with the state after it
-abbrev pub told : Control → State → Step
-told controls.Next s = Next s
-told (controls.Call n) s = Call n s
-told controls.Back s = Back s
-told controls.End s = End s
-told (controls.Compose a) s = Compose a s
+abbrev pub reported : Control → State → Step
+reported controls.Next s = Next s
+reported (controls.Call n) s = Call n s
+reported controls.Back s = Back s
+reported controls.End s = End s
+reported (controls.Compose a) s = Compose a s
 
 -- profile: a step is refused by its fault, or for want of memory
 abbrev pub RefusesStep : Refusal → Step → Type 0
@@ -55,14 +55,14 @@ answered step (Ok value) s = step value s
 answered step (Err code) s = Fault code
 
 -- profile: a call makes this step: its value and the state that it leaves stand for it, or it refuses as the step does
-abbrev pub Tells : {A : Type 0} → (A → State → Step) → Step → Result A Refusal → StateFields → Type 0
-Tells step made (Ok value) now = made ≡ step value (state_of now)
-Tells step made (Err refused) now = RefusesStep refused made
+abbrev pub Reports : {A : Type 0} → (A → State → Step) → Step → Result A Refusal → StateFields → Type 0
+Reports step made (Ok value) now = made ≡ step value (state_of now)
+Reports step made (Err refused) now = RefusesStep refused made
 
 -- profile: a call answers what the own body of a glyph of the maps draws, or its fault at no place, unless memory ran out
 abbrev pub GivesOwn : Result NumberedRun Refusal → Option (Result Drawing Code) → Type 0
 GivesOwn result None = ⊥
-GivesOwn result (Some outcome) = Gives (λ run. run.drawing) result (told_at Nowhere outcome)
+GivesOwn result (Some outcome) = Gives (λ run. run.drawing) result (reported_at Nowhere outcome)
 
 -- profile: the othersubr's effect, as the code names it
 abbrev pub effect_of : Effect → State → Step

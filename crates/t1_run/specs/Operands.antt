@@ -16,7 +16,7 @@ topmost n stack = drop (length stack - n) stack
 abbrev pub below : ℕ → List Fraction → List Fraction
 below n stack = take (length stack - n) stack
 
--- Type 1 Font Format, chapter 6 (charstring command list): how many values a command takes from the top of the stack
+-- Type 1 Font Format, Chapter 6 (charstring command list): how many values a command takes from the top of the stack
 abbrev pub takes : Command → ℕ
 takes (Num n) = 0
 takes HStem = 2

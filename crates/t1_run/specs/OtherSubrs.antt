@@ -9,41 +9,41 @@ use Rattle.t1_run.specs.State.{State, Flex}
 use Rattle.t1_run.specs.Operands.{topmost, below, operand_fault, size_fault}
 use Rattle.t1_run.specs.Step.{Step, Next, Fault, refuse, unless_fault, with_stack}
 
--- Type 1 Font Format, chapter 8: the othersubrs that are run, by their number and their count of arguments
+-- Type 1 Font Format, Chapter 8: the othersubrs that are run, by their number and their count of arguments
 abbrev pub is_supported : ℤ → ℤ → Bool
 is_supported (pos number) (pos n) =
     (number == 0 && n == 3) || (number == 1 && n == 0) || (number == 2 && n == 0) || (number == 3 && n == 1)
     || ((number == 12 || number == 13) && nat_le n 22)
 is_supported _ _ = false
 
--- Type 1 Font Format, chapter 8 (flex): a flex starts at the current point
+-- Type 1 Font Format, Chapter 8 (flex): a flex starts at the current point
 abbrev pub start_flex : Option Flex → State → Step
 start_flex None s = Next (record s { flex = Some (record { before = s.current; recorded = [] }); results = [] })
 start_flex (Some _) s = Fault F41
 
--- Type 1 Font Format, chapter 8 (flex): the current point is recorded, seven at most
+-- Type 1 Font Format, Chapter 8 (flex): the current point is recorded, seven at most
 abbrev pub add_flex : Option Flex → State → Step
 add_flex None s = Fault F41
 add_flex (Some f) s =
     refuse (nat_le 7 (length f.recorded)) F41
     (Next (record s { flex = Some (record { before = f.before; recorded = f.recorded ++ s.current ∷ [] }); results = [] }))
 
--- Type 1 Font Format, chapter 8 (flex): two curves through seven recorded points; the first of them is for reference alone
+-- Type 1 Font Format, Chapter 8 (flex): two curves through seven recorded points; the first of them is for reference alone
 abbrev pub flex_curves : Point → List Point → Option (List Segment)
 flex_curves before (reference ∷ p2 ∷ p3 ∷ p4 ∷ p5 ∷ p6 ∷ p7 ∷ []) = Some (Curve before p2 p3 p4 ∷ Curve p4 p5 p6 p7 ∷ [])
 flex_curves _ _ = None
 
--- Type 1 Font Format, chapter 8 (flex): the curves are drawn, and the end point's two coordinates are left for pop
+-- Type 1 Font Format, Chapter 8 (flex): the curves are drawn, and the end point's two coordinates are left for pop
 abbrev pub draw_flex : Option (List Segment) → List Fraction → State → Step
 draw_flex (Some curves) (height ∷ x ∷ y ∷ []) s = Next (record s { flex = None; segments = s.segments ++ curves; results = x ∷ y ∷ [] })
 draw_flex _ _ s = Fault F41
 
--- Type 1 Font Format, chapter 8 (flex): a flex that was started ends with its curves
+-- Type 1 Font Format, Chapter 8 (flex): a flex that was started ends with its curves
 abbrev pub end_flex : Option Flex → List Fraction → State → Step
 end_flex None arguments s = Fault F41
 end_flex (Some f) arguments s = draw_flex (flex_curves f.before f.recorded) arguments s
 
--- Type 1 Font Format, chapter 8: the othersubr's effect, where its arguments have left the stack
+-- Type 1 Font Format, Chapter 8: the othersubr's effect, where its arguments have left the stack
 abbrev pub other_effect : ℕ → List Fraction → State → Step
 other_effect number arguments s =
     if number == 0 then end_flex s.flex arguments s

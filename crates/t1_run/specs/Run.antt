@@ -82,7 +82,7 @@ entering n s = record s { entered = entered_with n s.entered }
 
 -- ---- composites
 
--- Type 1 Font Format, chapter 6 (seac): the glyph name of a code of StandardEncoding
+-- Type 1 Font Format, Chapter 6 (seac): the glyph name of a code of StandardEncoding
 abbrev pub encoded : ℤ → Option (List ℕ)
 encoded (pos code) = if nat_lt code 256 then standard_name code else None
 encoded (negsuc code) = None
@@ -113,7 +113,7 @@ composed (Err fault) p = Failed fault p.asked
 
 -- ---- words and calls
 
--- Type 1 Font Format, chapter 6 (return): where a Subr is over, the caller goes on
+-- Type 1 Font Format, Chapter 6 (return): where a Subr is over, the caller goes on
 abbrev pub go_on : Runner → Stop → Stop
 go_on next (OutOfWords p) = next p
 go_on next (Returned p) = next p
@@ -129,12 +129,12 @@ act m caller next (End s) asked = Completed None (reached s asked)
 act m caller next (Compose a s) asked = composed (composite_of m.glyphs a) (reached s (asking_parts (encoded a.base) (encoded a.accent) m.glyphs asked))
 act m caller next (Fault fault) asked = Failed fault asked
 
--- Type 1 Font Format, chapter 6: the words one after another
+-- Type 1 Font Format, Chapter 6: the words one after another
 abbrev pub words : FontBodies → Caller → List Command → Runner
 words m caller [] p = OutOfWords p
 words m caller (c ∷ cs) p = act m caller (words m caller cs) (step c p.state) p.asked
 
--- Type 1 Font Format, chapter 6 (callsubr): a Subr's body, run by this runner; F32 where there is no such Subr
+-- Type 1 Font Format, Chapter 6 (callsubr): a Subr's body, run by this runner; F32 where there is no such Subr
 abbrev pub called : (List Command → Runner) → Option (List Command) → Caller
 called run None n p = Failed F32 p.asked
 called run (Some body) n p = run body (reached (entering n p.state) p.asked)
@@ -186,7 +186,7 @@ drawing_of (Some metric) composite s =
       steps = s.steps;
     })
 
--- Type 1 Font Format, chapter 6 (endchar): a glyph's own body ends by endchar or seac
+-- Type 1 Font Format, Chapter 6 (endchar): a glyph's own body ends by endchar or seac
 abbrev pub outcome_of : Stop → Result Drawing Code
 outcome_of (OutOfWords p) = Err F35
 outcome_of (Returned p) = Err F34

@@ -5,12 +5,12 @@ use Rattle.t1_run.specs.declared.outline.Point.{Point}
 use Rattle.t1_run.specs.declared.outline.Segment.{Segment}
 use Rattle.t1_run.specs.declared.outline.Metric.{Metric}
 
--- Type 1 Font Format, chapter 8 (flex): the current point before a flex, and the points recorded so far
+-- Type 1 Font Format, Chapter 8 (flex): the current point before a flex, and the points recorded so far
 pub record Flex : Type 0 where
   pub before : Point
   pub recorded : List Point
 
--- Type 1 Font Format, chapter 6: what the commands of a charstring change
+-- Type 1 Font Format, Chapter 6: what the commands of a charstring change
 pub record State : Type 0 where
   -- the operand stack, its lowest value first
   pub stack : List Fraction

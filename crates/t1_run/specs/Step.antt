@@ -85,21 +85,21 @@ push a s = refuse (nat_le 24 (length s.stack)) F31 (Next (with_stack (s.stack ++
 abbrev pub zero_fraction : Fraction
 zero_fraction = whole (pos 0)
 
--- Type 1 Font Format, chapter 6: a point by its distance from another, x before y
+-- Type 1 Font Format, Chapter 6: a point by its distance from another, x before y
 abbrev pub moved : Point → Fraction → Fraction → Result Point Code
 moved p dx dy = coordinate_sum p.x dx >>= (λ x. coordinate_sum p.y dy >>= (λ y. Ok (record { x = x; y = y })))
 
--- Type 1 Font Format, chapter 6 (rmoveto): the current point moves, and nothing is drawn
+-- Type 1 Font Format, Chapter 6 (rmoveto): the current point moves, and nothing is drawn
 abbrev pub move_by : Fraction → Fraction → State → Step
 move_by dx dy s = attempt (moved s.current dx dy) (λ p. Next (cleared (at_point p s)))
 
--- Type 1 Font Format, chapter 6 (rlineto): a line from the current point
+-- Type 1 Font Format, Chapter 6 (rlineto): a line from the current point
 abbrev pub line_by : Fraction → Fraction → State → Step
 line_by dx dy s =
     attempt (moved s.current dx dy) (λ p.
     Next (cleared (record s { current = p; segments = s.segments ++ Line s.current p ∷ [] })))
 
--- Type 1 Font Format, chapter 6 (rrcurveto): a curve from the current point, each further point by its distance from the one before
+-- Type 1 Font Format, Chapter 6 (rrcurveto): a curve from the current point, each further point by its distance from the one before
 abbrev pub curve_by : Fraction → Fraction → Fraction → Fraction → Fraction → Fraction → State → Step
 curve_by dx1 dy1 dx2 dy2 dx3 dy3 s =
     attempt (moved s.current dx1 dy1) (λ p1.
@@ -109,7 +109,7 @@ curve_by dx1 dy1 dx2 dy2 dx3 dy3 s =
 
 -- ---- metrics, numbers, Subrs
 
--- Type 1 Font Format, chapter 6 (sbw): the side bearing, which is the current point too, and the width
+-- Type 1 Font Format, Chapter 6 (sbw): the side bearing, which is the current point too, and the width
 abbrev pub set_metric : Fraction → Fraction → Fraction → Fraction → State → Step
 set_metric sbx sby wx wy s =
     Next (cleared (record s {
@@ -117,16 +117,16 @@ set_metric sbx sby wx wy s =
       current = record { x = sbx; y = sby };
     }))
 
--- Type 1 Font Format, chapter 6 (div): the quotient replaces both
+-- Type 1 Font Format, Chapter 6 (div): the quotient replaces both
 abbrev pub divide : Fraction → Fraction → State → Step
 divide a b s = attempt (quotient a b) (λ q. Next (with_stack (below 2 s.stack ++ q ∷ []) s))
 
--- Type 1 Font Format, chapter 6 (callsubr): no Subr has a negative number
+-- Type 1 Font Format, Chapter 6 (callsubr): no Subr has a negative number
 abbrev pub call : ℤ → State → Step
 call (pos n) s = Call n s
 call (negsuc n) s = Fault F32
 
--- Type 1 Font Format, chapter 6 (pop): the next result is pushed
+-- Type 1 Font Format, Chapter 6 (pop): the next result is pushed
 abbrev pub pop_result : List Fraction → State → Step
 pop_result [] s = Fault F43
 pop_result (a ∷ rest) s = push a (record s { results = rest })

@@ -9,7 +9,7 @@ use Rattle.t1_run.specs.Operands.{topmost, below, takes, operand_faults}
 use Rattle.t1_run.specs.OtherSubrs.{other_subr}
 use Rattle.t1_run.specs.Step.{Step, Next, Back, End, Compose, refuse, unless_fault, with_one, with_two, with_four, with_five, with_six, with_stack, cleared, at_point, push, zero_fraction, move_by, line_by, curve_by, set_metric, divide, call, pop_result}
 
--- Type 1 Font Format, chapter 6: the commands that draw lines and curves
+-- Type 1 Font Format, Chapter 6: the commands that draw lines and curves
 abbrev pub draws : Command → Bool
 draws RLineTo = true
 draws HLineTo = true
@@ -25,7 +25,7 @@ draws_or_ends Seac = true
 draws_or_ends EndChar = true
 draws_or_ends c = draws c
 
--- Type 1 Font Format, chapter 6 (hsbw): the side bearing comes before what is drawn
+-- Type 1 Font Format, Chapter 6 (hsbw): the side bearing comes before what is drawn
 abbrev pub needs_bearing : Command → Bool
 needs_bearing ClosePath = true
 needs_bearing RMoveTo = true
@@ -33,7 +33,7 @@ needs_bearing HMoveTo = true
 needs_bearing VMoveTo = true
 needs_bearing c = draws_or_ends c
 
--- Type 1 Font Format, chapter 6 (hsbw, sbw): the commands that set the side bearing
+-- Type 1 Font Format, Chapter 6 (hsbw, sbw): the commands that set the side bearing
 abbrev pub sets_bearing : Command → Bool
 sets_bearing Hsbw = true
 sets_bearing Sbw = true
@@ -47,7 +47,7 @@ breaks_bearing c s = (needs_bearing c && not (is_some s.metric)) || (sets_bearin
 abbrev pub breaks_flex : Command → State → Bool
 breaks_flex c s = draws_or_ends c && is_some s.flex
 
--- Type 1 Font Format, chapter 6 (charstring command list): what each command does with its operands
+-- Type 1 Font Format, Chapter 6 (charstring command list): what each command does with its operands
 abbrev pub rule : Command → List Fraction → State → Step
 rule (Num n) values s = push (whole n) s
 rule HStem values s = Next (cleared s)
@@ -80,7 +80,7 @@ rule HVCurveTo values s = with_four values (λ dx1 dx2 dy2 dy3. curve_by dx1 zer
 
 -- ---- kinds of commands
 
--- Type 1 Font Format, chapter 6: the commands that set the current point and draw nothing
+-- Type 1 Font Format, Chapter 6: the commands that set the current point and draw nothing
 abbrev pub places : Command → Bool
 places RMoveTo = true
 places HMoveTo = true
@@ -90,14 +90,14 @@ places Sbw = true
 places SetCurrentPoint = true
 places _ = false
 
--- Type 1 Font Format, chapter 6: the commands that put a value on the operand stack
+-- Type 1 Font Format, Chapter 6: the commands that put a value on the operand stack
 abbrev pub computes : Command → Bool
 computes (Num n) = true
 computes Pop = true
 computes Div = true
 computes _ = false
 
--- Type 1 Font Format, chapter 6: the commands after which the next word of the same body comes
+-- Type 1 Font Format, Chapter 6: the commands after which the next word of the same body comes
 abbrev pub goes_on : Command → Bool
 goes_on CallSubr = false
 goes_on Return = false

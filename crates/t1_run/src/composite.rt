@@ -1,7 +1,7 @@
 //! The outline of a composite.
 
 ghost use Rattle.std.specs.Prelude.{◌≡◌, All, IfOk, MatchResult, OnOk};
-ghost use Rattle.t1_frac.specs.Outcome.{Gives, Refuses, told_at};
+ghost use Rattle.t1_frac.specs.Outcome.{Gives, Refuses, reported_at};
 ghost use Rattle.t1_run.specs.Composite.{accent_move as move_of, moved_outline, joined, IsWithin};
 ghost use Rattle.t1_run.specs.Machine.{AppendsMoved};
 
@@ -29,7 +29,7 @@ fn push_moved(outline: &mut Vec<Segment>, segments: &[Segment], by: &Point) -> R
     ensures moved { MatchResult
         result
         (λ _. AppendsMoved (moved_outline by.now segments.now) outline.old.items outline.new.items)
-        (λ refused. Refuses refused (told_at Place.Nowhere (moved_outline by.now segments.now))) }
+        (λ refused. Refuses refused (reported_at Place.Nowhere (moved_outline by.now segments.now))) }
     ensures within { OnOk result (All IsWithin outline.old.items → All IsWithin outline.new.items) }
 {
     for segment in segments {
@@ -51,7 +51,7 @@ pub fn join(
     ensures joined { Gives
         (λ outline. outline.items)
         result
-        (told_at Place.Nowhere (joined own.now.drawing base.now accent.now)) }
+        (reported_at Place.Nowhere (joined own.now.drawing base.now accent.now)) }
     ensures within { IfOk result (λ outline. All IsWithin base.now → All IsWithin outline.items) }
 {
     let mut outline = Vec::new(alloc);

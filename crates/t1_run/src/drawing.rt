@@ -1,7 +1,7 @@
 //! Moves, lines, curves and metrics.
 
 ghost use Rattle.std.specs.Prelude.{◌≡◌, [], ◌∷◌, ◌++◌, ◌≤◌, true, length, OnOk};
-ghost use Rattle.t1_run.specs.Machine.{state_of, going_on, answered, Tells};
+ghost use Rattle.t1_run.specs.Machine.{state_of, going_on, answered, Reports};
 ghost use Rattle.t1_run.specs.Operands.{takes, topmost};
 ghost use Rattle.t1_run.specs.Step.{moved as moved_by, move_by as move_of, line_by as line_of, curve_by as curve_of, set_metric as metric_of, Next, cleared, at_point};
 ghost use Rattle.t1_run.specs.Words.{rule, draws as draws_of, places as places_of};
@@ -36,7 +36,7 @@ impl State {
     /// Moves the current point, and draws nothing.
     #[inline(always)]
     fn move_by(&mut self, dx: Frac, dy: Frac) -> Result<(), Code>
-        ensures told { move_of dx dy (state_of self.old) ≡ answered going_on result (state_of self.new) }
+        ensures reported { move_of dx dy (state_of self.old) ≡ answered going_on result (state_of self.new) }
         ensures steps { self.new.steps ≡ self.old.steps }
     {
         self.current = moved(&self.current, &dx, &dy)?;
@@ -47,7 +47,7 @@ impl State {
     /// Draws a line from the current point.
     #[inline(always)]
     fn line_by(&mut self, dx: Frac, dy: Frac) -> Result<(), Refusal>
-        ensures told { Tells going_on (line_of dx dy (state_of self.old)) result self.new }
+        ensures reported { Reports going_on (line_of dx dy (state_of self.old)) result self.new }
         ensures steps { self.new.steps ≡ self.old.steps }
     {
         let start = self.current;
@@ -66,7 +66,7 @@ impl State {
         second: (Frac, Frac),
         third: (Frac, Frac),
     ) -> Result<(), Refusal>
-        ensures told { Tells going_on (curve_of first.0 first.1 second.0 second.1 third.0 third.1 (state_of self.old)) result self.new }
+        ensures reported { Reports going_on (curve_of first.0 first.1 second.0 second.1 third.0 third.1 (state_of self.old)) result self.new }
         ensures steps { self.new.steps ≡ self.old.steps }
     {
         let start = self.current;
@@ -82,7 +82,7 @@ impl State {
     /// Sets the side bearing and the width.
     #[inline(always)]
     fn set_metric(&mut self, sbx: Frac, sby: Frac, wx: Frac, wy: Frac)
-        ensures told { metric_of sbx sby wx wy (state_of self.old) ≡ Next (state_of self.new) }
+        ensures reported { metric_of sbx sby wx wy (state_of self.old) ≡ Next (state_of self.new) }
         ensures steps { self.new.steps ≡ self.old.steps }
     {
         self.current = Point { x: sbx, y: sby };
@@ -97,7 +97,7 @@ impl State {
     /// Sets the current point.
     #[inline(always)]
     fn set_point(&mut self, x: Frac, y: Frac)
-        ensures told { cleared (at_point (record { x = x; y = y }) (state_of self.old)) ≡ state_of self.new }
+        ensures reported { cleared (at_point (record { x = x; y = y }) (state_of self.old)) ≡ state_of self.new }
         ensures steps { self.new.steps ≡ self.old.steps }
     {
         self.current = Point { x, y };
@@ -109,7 +109,7 @@ impl State {
     pub fn draw(&mut self, command: Command) -> Result<(), Refusal>
         requires kind { draws_of command ≡ true }
         requires enough { takes command ≤ length self.old.operands }
-        ensures told { Tells going_on (rule command (topmost (takes command) self.old.operands) (state_of self.old)) result self.new }
+        ensures reported { Reports going_on (rule command (topmost (takes command) self.old.operands) (state_of self.old)) result self.new }
         ensures steps { self.new.steps ≡ self.old.steps }
     {
         let zero = Frac::whole(0);
@@ -147,7 +147,7 @@ impl State {
     pub fn place(&mut self, command: Command) -> Result<(), Code>
         requires kind { places_of command ≡ true }
         requires enough { takes command ≤ length self.old.operands }
-        ensures told { rule command (topmost (takes command) self.old.operands) (state_of self.old) ≡ answered going_on result (state_of self.new) }
+        ensures reported { rule command (topmost (takes command) self.old.operands) (state_of self.old) ≡ answered going_on result (state_of self.new) }
         ensures steps { self.new.steps ≡ self.old.steps }
     {
         let zero = Frac::whole(0);

@@ -1,7 +1,7 @@
 //! The run of a glyph's own body.
 
 ghost use Rattle.std.specs.Prelude.{◌≡◌, ◌+◌, ◌-◌, ◌^◌, [], ℕ, List, Some, min, IsSome, IfOk};
-ghost use Rattle.t1_frac.specs.Outcome.{Gives, told_at};
+ghost use Rattle.t1_frac.specs.Outcome.{Gives, reported_at};
 ghost use Rattle.t1_run.specs.Machine.{GivesOwn};
 ghost use Rattle.t1_run.specs.Run.{body_stop, outcome_of, own, font};
 
@@ -28,7 +28,7 @@ fn run_body<'a, B: Bodies>(
     ensures drawing { Gives
         (λ run. run.drawing)
         result
-        (told_at Place.Nowhere (outcome_of (body_stop (font (B.subrs bodies.now) (B.glyphs bodies.now)) body.now))) }
+        (reported_at Place.Nowhere (outcome_of (body_stop (font (B.subrs bodies.now) (B.glyphs bodies.now)) body.now))) }
     ensures serial { IfOk result (λ run. run.serial ≡ serial) }
 {
     let mut state = State::new(alloc, segments);

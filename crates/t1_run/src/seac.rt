@@ -2,7 +2,7 @@
 
 ghost use Rattle.std.specs.Prelude.{◌≡◌};
 ghost use Rattle.std.specs.Option.{option_map};
-ghost use Rattle.t1_frac.specs.Outcome.{Gives, told_at};
+ghost use Rattle.t1_frac.specs.Outcome.{Gives, reported_at};
 ghost use Rattle.t1_run.specs.Run.{encoded as encoded_of, composite_of};
 
 use crate::bodies::Bodies;
@@ -28,7 +28,7 @@ pub fn find_parts<B: Bodies>(
     bodies: &B,
     accent: &Accent,
 ) -> Result<Composite, Refusal>
-    ensures { Gives (λ parts. parts) result (told_at Place.Nowhere (composite_of (B.glyphs bodies.now) accent.now)) }
+    ensures { Gives (λ parts. parts) result (reported_at Place.Nowhere (composite_of (B.glyphs bodies.now) accent.now)) }
 {
     let base_name = encoded(accent.base).ok_or(Code::F44)?.as_bytes();
     let accent_name = encoded(accent.accent).ok_or(Code::F44)?.as_bytes();

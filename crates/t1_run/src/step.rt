@@ -2,7 +2,7 @@
 
 ghost use Rattle.std.specs.Prelude.{◌≡◌, ◌+◌, ◌≤◌, OnOk, IfErr, true, false, None, length};
 ghost use Rattle.t1_frac.specs.Limits.{exceeds};
-ghost use Rattle.t1_run.specs.Machine.{state_of, going_on, answered, told, Tells};
+ghost use Rattle.t1_run.specs.Machine.{state_of, going_on, answered, reported, Reports};
 ghost use Rattle.t1_run.specs.Operands.{topmost, below, takes as takes_of, is_whole, operand_faults};
 ghost use Rattle.t1_run.specs.Step.{push as push_of, pop_result as pop_of, divide as divide_of, call as call_of, Call, Compose, Fault, with_stack};
 ghost use Rattle.t1_run.specs.Words.{step as step_of, execute as execute_of, rule as rule_of, computes as computes_of, goes_on};
@@ -20,7 +20,7 @@ impl State {
     /// Pushes a value.
     #[inline(always)]
     fn push(&mut self, value: Frac) -> Result<(), Code>
-        ensures told { push_of value (state_of self.old) ≡ answered going_on result (state_of self.new) }
+        ensures reported { push_of value (state_of self.old) ≡ answered going_on result (state_of self.new) }
         ensures steps { self.new.steps ≡ self.old.steps }
     {
         if self.operands.as_slice().len() >= 24 {
@@ -33,7 +33,7 @@ impl State {
     /// Takes a result.
     #[inline(always)]
     fn pop_result(&mut self) -> Result<(), Code>
-        ensures told { pop_of self.old.results (state_of self.old) ≡ answered going_on result (state_of self.new) }
+        ensures reported { pop_of self.old.results (state_of self.old) ≡ answered going_on result (state_of self.new) }
         ensures steps { self.new.steps ≡ self.old.steps }
     {
         let Some(value) = self.results.pop() else {
@@ -46,7 +46,7 @@ impl State {
     #[inline(always)]
     fn divide(&mut self, dividend: Frac, divisor: Frac) -> Result<(), Code>
         requires { 2 ≤ length self.old.operands }
-        ensures told { divide_of dividend divisor (state_of self.old) ≡ answered going_on result (state_of self.new) }
+        ensures reported { divide_of dividend divisor (state_of self.old) ≡ answered going_on result (state_of self.new) }
         ensures steps { self.new.steps ≡ self.old.steps }
     {
         let quotient = dividend.div(&divisor)?;
@@ -62,7 +62,7 @@ impl State {
         requires some { 1 ≤ length self.old.operands }
         requires whole { is_whole number ≡ true }
         requires small { exceeds 32000 number ≡ false }
-        ensures told { call_of number.num (with_stack (below 1 (state_of self.old).stack) (state_of self.old)) ≡ answered Call result (state_of self.new) }
+        ensures reported { call_of number.num (with_stack (below 1 (state_of self.old).stack) (state_of self.old)) ≡ answered Call result (state_of self.new) }
         ensures steps { self.new.steps ≡ self.old.steps }
     {
         let number = number.num();
@@ -78,7 +78,7 @@ impl State {
     #[inline(always)]
     fn compose(&mut self) -> Accent
         requires { 5 ≤ length self.old.operands }
-        ensures told { rule_of Command.Seac (topmost 5 self.old.operands) (state_of self.old) ≡ Compose result (state_of self.new) }
+        ensures reported { rule_of Command.Seac (topmost 5 self.old.operands) (state_of self.old) ≡ Compose result (state_of self.new) }
         ensures steps { self.new.steps ≡ self.old.steps }
     {
         let [asb, adx, ady, base, accent] = self.operands.top_five();
@@ -97,7 +97,7 @@ impl State {
     fn compute(&mut self, command: Command) -> Result<(), Code>
         requires kind { computes_of command ≡ true }
         requires enough { takes_of command ≤ length self.old.operands }
-        ensures told { rule_of command (topmost (takes_of command) self.old.operands) (state_of self.old) ≡ answered going_on result (state_of self.new) }
+        ensures reported { rule_of command (topmost (takes_of command) self.old.operands) (state_of self.old) ≡ answered going_on result (state_of self.new) }
         ensures steps { self.new.steps ≡ self.old.steps }
     {
         match command {
@@ -116,7 +116,7 @@ impl State {
     fn carry_out(&mut self, command: Command) -> Result<(), Refusal>
         requires kind { goes_on command ≡ true }
         requires enough { takes_of command ≤ length self.old.operands }
-        ensures told { Tells going_on (rule_of command (topmost (takes_of command) self.old.operands) (state_of self.old)) result self.new }
+        ensures reported { Reports going_on (rule_of command (topmost (takes_of command) self.old.operands) (state_of self.old)) result self.new }
         ensures steps { self.new.steps ≡ self.old.steps }
     {
         match command {
@@ -155,7 +155,7 @@ impl State {
     fn apply(&mut self, command: Command) -> Result<Control, Refusal>
         requires enough { takes_of command ≤ length self.old.operands }
         requires faultless { operand_faults command (topmost (takes_of command) self.old.operands) ≡ None }
-        ensures told { Tells told (rule_of command (topmost (takes_of command) self.old.operands) (state_of self.old)) result self.new }
+        ensures reported { Reports reported (rule_of command (topmost (takes_of command) self.old.operands) (state_of self.old)) result self.new }
         ensures steps { self.new.steps ≡ self.old.steps }
     {
         match command {
@@ -226,7 +226,7 @@ impl State {
     /// A command by the order of its tests.
     #[inline(always)]
     fn execute(&mut self, command: Command) -> Result<Control, Refusal>
-        ensures told { Tells told (execute_of command (state_of self.old)) result self.new }
+        ensures reported { Reports reported (execute_of command (state_of self.old)) result self.new }
         ensures steps { self.new.steps ≡ self.old.steps }
     {
         self.test_by_name(command)?;
@@ -236,7 +236,7 @@ impl State {
     /// One word: F47 where a run has made its last step already.
     #[inline(always)]
     pub fn step(&mut self, command: Command) -> Result<Control, Refusal>
-        ensures told { Tells told (step_of command (state_of self.old)) result self.new }
+        ensures reported { Reports reported (step_of command (state_of self.old)) result self.new }
         ensures counted { OnOk result (self.new.steps ≡ self.old.steps + 1) }
         ensures bounded { OnOk result (self.new.steps ≤ 100000) }
     {

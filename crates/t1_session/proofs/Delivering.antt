@@ -16,7 +16,7 @@ use Rattle.t1_font.specs.FontMetrics.{metrics_of}
 use Rattle.t1_font.specs.MeasuredGlyphs.{MeasuredFont, measured}
 use Rattle.t1_font.specs.SourceChecks.{measured_source}
 use Rattle.t1_session.specs.Files.{assembled, assembled_pfa, metrics_file}
-use Rattle.t1_session.specs.Delivery.{Delivers, told_by_writing}
+use Rattle.t1_session.specs.Delivery.{Delivers, reported_by_writing}
 
 -- the PFB file of the bytes of a source
 pub file_read : (size : ℕ) (bytes : List ℕ) (s : SourceParts) → reads bytes ≡ Ok s → assembled size bytes ≡ source_file size s
@@ -32,14 +32,14 @@ pfa_read bytes s read = rw read refl
 pub metrics_parts : (source kerning : List ℕ) (s : SourceParts) (ps : List Pair) (glyphs : MeasuredFont)
     → reads source ≡ Ok s → pairs kerning ≡ Ok ps → measured_source s ≡ Ok glyphs → metrics_file source kerning ≡ Ok (afm (metrics_of s ps glyphs))
 unfolding metrics_file measured_source
-metrics_parts source kerning s ps glyphs read paired told = rw (read, paired) (by (file_check s) told) where
+metrics_parts source kerning s ps glyphs read paired reported = rw (read, paired) (by (file_check s) reported) where
   by : (r : Result (Unit {0}) Fault) → (r >>= (λ _. measured s.items)) ≡ Ok glyphs
       → (r >>= (λ _. measured s.items >>= (λ gs. Ok (afm (metrics_of s ps gs))))) ≡ Ok (afm (metrics_of s ps glyphs))
   by (Ok u) h = rw h refl
   by (Err fault) h = absurd (cc)
 
 module _ {W : Type 0} (contents : W → Option (List ℕ)) (old new : Tally W) (text given : Result (List ℕ) Fault) (same : given ≡ text) where
-  pub delivers_failure : (e : OutError) → Prints {T = Unit {0}} contents old new text (Err e) → Delivers {T = Unit {0}} contents old new given (Err (told_by_writing e))
+  pub delivers_failure : (e : OutError) → Prints {T = Unit {0}} contents old new text (Err e) → Delivers {T = Unit {0}} contents old new given (Err (reported_by_writing e))
   delivers_failure out.Write p = (p.0, same ∙ p.1, p.2)
   delivers_failure (out.Fault fault) p = (same ∙ p.0, p.1)
   delivers_failure out.Memory p = p

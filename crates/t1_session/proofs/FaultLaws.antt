@@ -10,13 +10,13 @@ use Rattle.t1_font.specs.FontMetrics.{metrics_of}
 use Rattle.t1_font.specs.Assembly.{file_check}
 use Rattle.t1_session.specs.Files.{MetricsTellFirstFault, metrics_file}
 
-same_fault : (checked : Result (Unit {0}) Fault) (found : Result (List Glyph) Fault) (told : List Glyph → MeasuredFont) (file : MeasuredFont → List ℕ)
+same_fault : (checked : Result (Unit {0}) Fault) (found : Result (List Glyph) Fault) (reported : List Glyph → MeasuredFont) (file : MeasuredFont → List ℕ)
     → ◌≡◌ {A = Result (Unit {0}) Fault}
-    ((checked >>= λ c. (found >>= λ glyphs. Ok (told glyphs)) >>= λ measured. Ok (file measured)) >>= λ text. Ok (tt {0}))
+    ((checked >>= λ c. (found >>= λ glyphs. Ok (reported glyphs)) >>= λ measured. Ok (file measured)) >>= λ text. Ok (tt {0}))
     ((checked >>= λ c. found) >>= λ glyphs. Ok (tt {0}))
-same_fault (Ok c) (Ok glyphs) told file = refl
-same_fault (Ok c) (Err fault) told file = refl
-same_fault (Err fault) found told file = refl
+same_fault (Ok c) (Ok glyphs) reported file = refl
+same_fault (Ok c) (Err fault) reported file = refl
+same_fault (Err fault) found reported file = refl
 
 pub metrics_tell_first : MetricsTellFirstFault
 unfolding metrics_file measured

@@ -10,15 +10,15 @@ use Rattle.t1_session.specs.declared.error.ServeError.{ServeError}
 use Rattle.t1_session.specs.declared.error.ServeError.TheVariants as errors
 
 -- profile: a fault of what is loaded is reported in Load
-abbrev pub told_by_refusal : Refusal → ServeError
-told_by_refusal (refusals.Fault fault) = errors.Load fault
-told_by_refusal refusals.Memory = errors.Memory
+abbrev pub reported_by_refusal : Refusal → ServeError
+reported_by_refusal (refusals.Fault fault) = errors.Load fault
+reported_by_refusal refusals.Memory = errors.Memory
 
 -- profile: a fault of what is written is reported in Load too
-abbrev pub told_by_writing : OutError → ServeError
-told_by_writing (out.Fault fault) = errors.Load fault
-told_by_writing out.Write = errors.Write
-told_by_writing out.Memory = errors.Memory
+abbrev pub reported_by_writing : OutError → ServeError
+reported_by_writing (out.Fault fault) = errors.Load fault
+reported_by_writing out.Write = errors.Write
+reported_by_writing out.Memory = errors.Memory
 
 -- profile: a call that writes what a definition gives: the whole text at Ok; a beginning of it and one failed call at
 -- Write; nothing at Load, whose fault is the definition's, and nothing where memory ran out. It reads nothing.

@@ -21,9 +21,9 @@ pub enum ServeError {
 
 impl From<Refusal> for ServeError {
     ghost use Rattle.std.specs.Prelude.{◌≡◌};
-    ghost use Rattle.t1_session.specs.Delivery.{told_by_refusal};
+    ghost use Rattle.t1_session.specs.Delivery.{reported_by_refusal};
 
-    ghost from_gives = { λ refused error. error ≡ told_by_refusal refused };
+    ghost from_gives = { λ refused error. error ≡ reported_by_refusal refused };
 
     fn from(refused: Refusal) -> ServeError {
         match refused {
@@ -35,9 +35,9 @@ impl From<Refusal> for ServeError {
 
 impl From<OutError> for ServeError {
     ghost use Rattle.std.specs.Prelude.{◌≡◌};
-    ghost use Rattle.t1_session.specs.Delivery.{told_by_writing};
+    ghost use Rattle.t1_session.specs.Delivery.{reported_by_writing};
 
-    ghost from_gives = { λ failed error. error ≡ told_by_writing failed };
+    ghost from_gives = { λ failed error. error ≡ reported_by_writing failed };
 
     fn from(failed: OutError) -> ServeError {
         match failed {

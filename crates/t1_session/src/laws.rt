@@ -13,7 +13,7 @@ pub fn a_session_is_faultless()
 {}
 
 /// The AFM file of a source and its pairs, which were read, is refused by the source's first fault and by nothing else.
-pub fn metrics_tell_the_first_fault()
+pub fn metrics_report_the_first_fault()
     ensures { MetricsTellFirstFault }
 {}
 

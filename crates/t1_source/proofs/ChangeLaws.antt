@@ -51,8 +51,8 @@ put-raised s g (i ∷ items) zero x h same e = placed i x same (ap tail e) where
   placed (Glyph h ws c) (Subr n vs d) same e = absurd same
   placed (Glyph h ws c) (Glyph k vs d) same e = ap (λ t. Glyph k vs d ∷ t) e
 put-raised s g (i ∷ items) (suc at) x h same e =
-    let behind = put-raised s g items at x (omega (arith, h)) same (rest-fixed s g i items e) in
-    (λ j. first-fixed s g i items e j ∷ behind j)
+    let following = put-raised s g items at x (omega (arith, h)) same (rest-fixed s g i items e) in
+    (λ j. first-fixed s g i items e j ∷ following j)
 
 subrs_put : (items : List Item) (at : ℕ) (x : Item) → at < length items → IsInPlaceOf (slice_index_or items at (Plain [])) x
     → subrs_needed (slice_set items at x) ≡ subrs_needed items
@@ -72,12 +72,12 @@ subrs_put (i ∷ items) zero x h same = placed i x same where
   placed (Glyph h ws c) (Section b n a) same = absurd same
   placed (Glyph h ws c) (Subr n vs d) same = absurd same
   placed (Glyph h ws c) (Glyph k vs d) same = refl
-subrs_put (i ∷ items) (suc at) x h same = behind i (subrs_put items at x (omega (arith, h)) same) where
-  behind : (i : Item) → subrs_needed (slice_set items at x) ≡ subrs_needed items → subrs_needed (i ∷ slice_set items at x) ≡ subrs_needed (i ∷ items)
-  behind (Plain l) e = e
-  behind (Section b n a) e = e
-  behind (Subr n ws c) e = ap (max (n + 1)) e
-  behind (Glyph g ws c) e = e
+subrs_put (i ∷ items) (suc at) x h same = following i (subrs_put items at x (omega (arith, h)) same) where
+  following : (i : Item) → subrs_needed (slice_set items at x) ≡ subrs_needed items → subrs_needed (i ∷ slice_set items at x) ≡ subrs_needed (i ∷ items)
+  following (Plain l) e = e
+  following (Section b n a) e = e
+  following (Subr n ws c) e = ap (max (n + 1)) e
+  following (Glyph g ws c) e = e
 
 -- the glyphs counted from a number on
 count_from : ℕ → List Item → ℕ
@@ -153,12 +153,12 @@ subrs_less (Glyph g ws c) items = omega arith
 subrs_removed : (items : List Item) (at : ℕ) → subrs_needed (remove items at) ≤ subrs_needed items
 subrs_removed [] at = rw (remove-none at) (omega arith)
 subrs_removed (i ∷ items) zero = subrs_less i items
-subrs_removed (i ∷ items) (suc at) = behind i (subrs_removed items at) where
-  behind : (i : Item) → subrs_needed (remove items at) ≤ subrs_needed items → subrs_needed (i ∷ remove items at) ≤ subrs_needed (i ∷ items)
-  behind (Plain l) h = h
-  behind (Section b n a) h = h
-  behind (Subr n ws c) h = omega (arith, h)
-  behind (Glyph g ws c) h = h
+subrs_removed (i ∷ items) (suc at) = following i (subrs_removed items at) where
+  following : (i : Item) → subrs_needed (remove items at) ≤ subrs_needed items → subrs_needed (i ∷ remove items at) ≤ subrs_needed (i ∷ items)
+  following (Plain l) h = h
+  following (Section b n a) h = h
+  following (Subr n ws c) h = omega (arith, h)
+  following (Glyph g ws c) h = h
 
 from-less : (m n : ℕ) (items : List Item) → m ≤ n → count_from m items ≤ count_from n items
 unfolding count_from

@@ -7,7 +7,7 @@ use Rattle.std.proofs.lemmas.List.{length-map, map-append, append-nil}
 use Rattle.std.proofs.lemmas.List.Folds.{list_all-append}
 use Rattle.std.proofs.Math.Seq.{drop-append_seam, take-append_seam}
 use Rattle.t1_frac.specs.declared.fault.Place.TheVariants.{Line}
-use Rattle.t1_frac.specs.Outcome.{told_at}
+use Rattle.t1_frac.specs.Outcome.{reported_at}
 use Rattle.t1_parts.specs.declared.item.Item.{Item}
 use Rattle.t1_parts.specs.declared.item.Item.TheVariants.{Plain, Section, Subr, Glyph}
 use Rattle.t1_text.specs.Tokens.{tokens}
@@ -145,7 +145,7 @@ item_read : (earlier : List NumberedItem) (n : ℕ) (i : Item) (rest : List (Lis
 item_read earlier n i rest a =
     let more = earlier ++ (n, i) ∷ [] in
     ap (λ ls. items_from earlier n (ls ++ rest)) a.lines
-    ∙ read_step earlier n a.head (a.others ++ rest) (i, length a.others) (ap (told_at (Line n)) (a.read rest)) (omega (arith, length-append a.others rest))
+    ∙ read_step earlier n a.head (a.others ++ rest) (i, length a.others) (ap (reported_at (Line n)) (a.read rest)) (omega (arith, length-append a.others rest))
     ∙ ap (items_from more (n + (1 + length a.others))) (drop-append_seam a.others rest)
 
 -- what is read of printed items

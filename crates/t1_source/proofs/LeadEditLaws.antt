@@ -60,21 +60,21 @@ silent None h = refl
 silent (Some t) h = cc
 
 -- items that say nothing stand before the first that does
-said_behind : (a others : List Item) → list_any says_lead a ≡ false → filter_map said_lead (a ++ others) ≡ filter_map said_lead others
-said_behind [] others h = refl
-said_behind (i ∷ a) others h =
+said_after : (a others : List Item) → list_any says_lead a ≡ false → filter_map said_lead (a ++ others) ≡ filter_map said_lead others
+said_after [] others h = refl
+said_after (i ∷ a) others h =
     let parts = or_parts (says_lead i) (list_any says_lead a) h in
-    ap (λ o. cons_option o (filter_map said_lead (a ++ others))) (silent (said_lead i) parts.0) ∙ said_behind a others parts.1
+    ap (λ o. cons_option o (filter_map said_lead (a ++ others))) (silent (said_lead i) parts.0) ∙ said_after a others parts.1
 
-well_behind : (a others : List Item) → list_any says_lead a ≡ false → says_lead_well (a ++ others) ≡ says_lead_well others
-well_behind a others h = ap first_well (said_behind a others h)
+well_after : (a others : List Item) → list_any says_lead a ≡ false → says_lead_well (a ++ others) ≡ says_lead_well others
+well_after a others h = ap first_well (said_after a others h)
 
 -- the number that is said
 lead_said : (a : List Item) (m : List ℕ) (b : List Item) (n : ℕ) → list_any says_lead a ≡ false → n ≤ 64 → after_token key (tokens m) ≡ Some (Some (decimal n)) → lead_among (a ++ Plain m ∷ b) ≡ n
 lead_said a m b n none small said =
     let value = spelled (decimal n) n (decimal_spells n (omega (arith, small))) in
     let within = le-leb n 64 small in
-    ap first_lead (said_behind a (Plain m ∷ b) none ∙ ap (λ o. cons_option o (filter_map said_lead b)) said) ∙ (rw (value, within) refl)
+    ap first_lead (said_after a (Plain m ∷ b) none ∙ ap (λ o. cons_option o (filter_map said_lead b)) said) ∙ (rw (value, within) refl)
 
 -- what the first one says
 said_of : (o : Option (Option (List ℕ))) (rest : List (Option (List ℕ))) → is_some o ≡ true → first_well (cons_option o rest) ≡ true → (t : Option (List ℕ)) × (o ≡ Some t) × (is_some (lead_of_token t) ≡ true)
@@ -101,23 +101,23 @@ module _ (items a : List Item) (l : List ℕ) (b : List Item) (m : List ℕ) (n 
   put_section = any_middle is_glyphs_line a (Plain m) b refl ∙ sym (any_middle is_glyphs_line a (Plain l) b refl) ∙ ap (list_any is_glyphs_line) (sym whole) ∙ p.section
 
   put_well : says_lead_well (a ++ Plain m ∷ b) ≡ true
-  put_well = well_behind a (Plain m ∷ b) none ∙ cons_well (said_lead (Plain m)) (filter_map said_lead b) (Some (decimal n)) again.said (lead_fine n small)
+  put_well = well_after a (Plain m ∷ b) none ∙ cons_well (said_lead (Plain m)) (filter_map said_lead b) (Some (decimal n)) again.said (lead_fine n small)
 
   -- the closefile line
   put_last : b ≡ [] → Plain p.closefile ≡ Plain l → p.inner ≡ a → IsPrivate (raised (a ++ Plain m ∷ b))
-  put_last none_behind same before =
+  put_last none_after same before =
       let text : p.closefile ≡ l = ap line_of same in
       let line : is_line m ≡ true = again.line (ap is_line (sym text) ∙ p.line) in
       let closes : is_closefile m ≡ true = again.last (ap is_closefile (sym text) ∙ p.last) in
-      private_well_formed (a ++ Plain m ∷ b) a m (ap (λ t. a ++ Plain m ∷ t) none_behind) (rw before at p.stand) line closes put_section put_well
+      private_well_formed (a ++ Plain m ∷ b) a m (ap (λ t. a ++ Plain m ∷ t) none_after) (rw before at p.stand) line closes put_section put_well
 
   -- another line
   put_inner : (c : List Item) → b ≡ c ++ Plain p.closefile ∷ [] → p.inner ≡ a ++ Plain l ∷ c → IsPrivate (raised (a ++ Plain m ∷ b))
-  put_inner c behind before =
+  put_inner c following before =
       let old : Stand [] (a ++ Plain l ∷ c) = rw before at p.stand in
       let back = stand_back [] a (Plain l ∷ c) old in
       private_well_formed (a ++ Plain m ∷ b) (a ++ Plain m ∷ c) p.closefile
-      (ap (λ t. a ++ Plain m ∷ t) behind ∙ sym (append_assoc a (Plain m ∷ c) (Plain p.closefile ∷ [])))
+      (ap (λ t. a ++ Plain m ∷ t) following ∙ sym (append_assoc a (Plain m ∷ c) (Plain p.closefile ∷ [])))
       (stand_both [] a (Plain m ∷ c) (stand_front [] a (Plain l ∷ c) old) (plain_stands a l m n again back.0, stand_serves (a ++ Plain l ∷ []) (a ++ Plain m ∷ []) c (same_serves a c l m) back.1))
       p.line p.last put_section put_well
 
@@ -207,7 +207,7 @@ line_put_in items a x b n p whole section none unsaid small =
     (stand_both [] a (Plain m ∷ x ∷ c) (stand_front [] a (x ∷ c) old) (new_stands a n small none, stand_serves a (a ++ Plain m ∷ []) (x ∷ c) (new_serves a (x ∷ c) m) back))
     p.line p.last
     (any_middle is_glyphs_line a (Plain m) (x ∷ b) refl ∙ ap (list_any is_glyphs_line) (sym whole) ∙ p.section)
-    (well_behind a (Plain m ∷ x ∷ b) before ∙ cons_well (said_lead (Plain m)) (filter_map said_lead (x ∷ b)) (Some (decimal n)) (new_again n small).said (lead_fine n small))
+    (well_after a (Plain m ∷ x ∷ b) before ∙ cons_well (said_lead (Plain m)) (filter_map said_lead (x ∷ b)) (Some (decimal n)) (new_again n small).said (lead_fine n small))
 
 -- ---- the edit
 
@@ -260,7 +260,7 @@ lead_placed items n (Some at) p small e =
     let b = f.found.after in
     let whole : items ≡ a ++ Plain l ∷ b = f.found.whole ∙ ap (λ x. a ++ x ∷ b) form.1 in
     let here : line_at at items ≡ l = ap (λ t. line_at at t) whole ∙ ap line_of (got_there a (Plain l) b at (Plain []) f.place) in
-    let well : says_lead_well (Plain l ∷ b) ≡ true = sym (well_behind a (Plain l ∷ b) f.first) ∙ ap says_lead_well (sym whole) ∙ p.lead in
+    let well : says_lead_well (Plain l ∷ b) ≡ true = sym (well_after a (Plain l ∷ b) f.first) ∙ ap says_lead_well (sym whole) ∙ p.lead in
     let said = said_of (said_lead (Plain l)) (filter_map said_lead b) (ap says_lead (sym form.1) ∙ f.found.passes) well in
     let digits = lead_digits said.0 said.2 in
     let again = lead_again l digits.0 n (omega (arith, small)) digits.2 (said.1 ∙ ap Some digits.1) in

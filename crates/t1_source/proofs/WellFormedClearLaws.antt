@@ -11,7 +11,7 @@ use Rattle.t1_frac.specs.declared.fault.Code.{Code}
 use Rattle.t1_frac.specs.declared.fault.Code.TheVariants.{F5, F6}
 use Rattle.t1_frac.specs.declared.fault.Fault.{Fault}
 use Rattle.t1_frac.specs.declared.fault.Place.TheVariants.{Line}
-use Rattle.t1_frac.specs.Outcome.{fault_at, told_at, ◌>>=◌}
+use Rattle.t1_frac.specs.Outcome.{fault_at, reported_at, ◌>>=◌}
 use Rattle.t1_frac.specs.Words.{trimmed_front}
 use Rattle.t1_source.specs.declared.edit.Rule.{Rule}
 use Rattle.t1_source.specs.declared.edit.Rule.TheVariants.{E3, E4, E5, E10}
@@ -23,7 +23,7 @@ use Rattle.t1_parts.specs.Encoding.{code_of_token, slot_of_tokens, opens_encodin
 use Rattle.t1_parts.specs.Parts.{is_eexec}
 use Rattle.t1_source.specs.Editing.{keeps, number_up_to, good_name, ArrayParts, array_parts, is_slot, is_slot_of, slot_line, encoded_lines, through_last, with_clear, encoded, unencoded}
 use Rattle.t1_source.specs.WellFormed.{IsClear, IsWellFormed}
-use Rattle.t1_frac.proofs.OutcomeLaws.{bind_ok, told_ok}
+use Rattle.t1_frac.proofs.OutcomeLaws.{bind_ok, reported_ok}
 use Rattle.t1_source.proofs.RuleLaws.{kept_ok}
 use Rattle.t1_text.proofs.NumberLaws.{decimal_spells, spelled}
 use Rattle.t1_text.proofs.TokenLaws.{other_first}
@@ -95,8 +95,8 @@ all_passed : (check : List ℕ → Result (Unit {0}) Code) (test : List ℕ → 
     → list_all test ls ≡ true
 all_passed check test passed n [] e = refl
 all_passed check test passed n (l ∷ ls) e =
-    let step = bind_ok (told_at (Line n) (check l)) (λ fine. lines_check check (n + 1) ls) tt e in
-    and_from (test l) (list_all test ls) (passed l (told_ok (Line n) (check l) tt step.1)) (all_passed check test passed (n + 1) ls step.2)
+    let step = bind_ok (reported_at (Line n) (check l)) (λ fine. lines_check check (n + 1) ls) tt e in
+    and_from (test l) (list_all test ls) (passed l (reported_ok (Line n) (check l) tt step.1)) (all_passed check test passed (n + 1) ls step.2)
 
 all_pass : (check : List ℕ → Result (Unit {0}) Code) (test : List ℕ → Bool) → ((l : List ℕ) → test l ≡ true → check l ≡ Ok tt) → (n : ℕ) (ls : List (List ℕ)) → list_all test ls ≡ true
     → lines_check check n ls ≡ Ok tt
@@ -221,9 +221,9 @@ checks_parts : (n : ℕ) (opening : List ℕ) (ls rest : List (List ℕ)) → ar
 checks_parts n opening ls rest inner e =
     let passed = encoding_passed n opening (ls ++ rest) e in
     let after = n + 1 + length (array_lines (opening ∷ (ls ++ rest))) in
-    let behind : drop (length (array_lines (opening ∷ (ls ++ rest)))) (ls ++ rest) ≡ rest = ap (λ t. drop (length t) (ls ++ rest)) inner ∙ drop-append_seam ls rest in (
+    let following : drop (length (array_lines (opening ∷ (ls ++ rest)))) (ls ++ rest) ≡ rest = ap (λ t. drop (length t) (ls ++ rest)) inner ∙ drop-append_seam ls rest in (
       all_passed array_check is_fine array_passed (n + 1) ls (ap (lines_check array_check (n + 1)) (sym inner) ∙ passed.1),
-      none_all opens_encoding rest (all_passed later_check (λ l. not (opens_encoding l)) later_passed after rest (ap (lines_check later_check after) (sym behind) ∙ passed.2)),
+      none_all opens_encoding rest (all_passed later_check (λ l. not (opens_encoding l)) later_passed after rest (ap (lines_check later_check after) (sym following) ∙ passed.2)),
     )
 
 checks_join : (n : ℕ) (opening : List ℕ) (ls rest : List (List ℕ)) → array_lines (opening ∷ (ls ++ rest)) ≡ ls → opening_check n opening (ls ++ rest) ≡ Ok tt → list_all is_fine ls ≡ true → list_any opens_encoding rest ≡ false
@@ -255,7 +255,7 @@ array_of clear parts check e =
     let same : made at ≡ parts = cc in
     let from : drop at clear ≡ opening ∷ (ls ++ ending ∷ rest) = ap (λ k. drop k clear) f.place ∙ ap (drop (length before)) whole ∙ drop-append_seam before (opening ∷ (ls ++ ending ∷ rest)) in
     let next : at + 1 ≡ length before + 1 = ap (λ k. k + 1) f.place in
-    let behind : drop (at + 1) clear ≡ ls ++ ending ∷ rest = ap (λ k. drop k clear) next ∙ ap (drop (length before + 1)) whole ∙ drop-append-add before (opening ∷ (ls ++ ending ∷ rest)) 1 in
+    let following : drop (at + 1) clear ≡ ls ++ ending ∷ rest = ap (λ k. drop k clear) next ∙ ap (drop (length before + 1)) whole ∙ drop-append-add before (opening ∷ (ls ++ ending ∷ rest)) 1 in
     let inner : array_lines (drop at clear) ≡ ls = ap array_lines from ∙ lines_there opening ls ending rest other r.1.first r.1.found.passes in
     record {
       before = before;
@@ -272,7 +272,7 @@ array_of clear parts check e =
       ends = r.1.found.passes;
       front = sym (ap (λ p. p.front) same) ∙ ap (λ k. take k clear) next ∙ ap (take (length before + 1)) whole ∙ take-append-add before (opening ∷ (ls ++ ending ∷ rest)) 1;
       lines = sym (ap (λ p. p.lines) same) ∙ inner;
-      back = sym (ap (λ p. p.back) same) ∙ ap (λ t. drop (length t) (drop (at + 1) clear)) inner ∙ ap (drop (length ls)) behind ∙ drop-append_seam ls (ending ∷ rest);
+      back = sym (ap (λ p. p.back) same) ∙ ap (λ t. drop (length t) (drop (at + 1) clear)) inner ∙ ap (drop (length ls)) following ∙ drop-append_seam ls (ending ∷ rest);
     }
 
 all_parts : (f : List ℕ → Bool) (a b : List (List ℕ)) → list_all f (a ++ b) ≡ true → (list_all f a ≡ true) × (list_all f b ≡ true)
@@ -299,7 +299,7 @@ array_clear clear parts r ls h good =
     let fine = all_left is_fine (λ l. not (ends_array l)) ls outer.1 in
     let old = all_parts is_line r.before (r.opening ∷ (r.ls ++ r.ending ∷ r.rest)) (ap (list_all is_line) (sym r.whole) ∙ h.0) in
     let opened = and_parts (is_line r.opening) (list_all is_line (r.ls ++ r.ending ∷ r.rest)) old.1 in
-    let behind = (all_parts is_line r.ls (r.ending ∷ r.rest) opened.1).1 in
+    let following = (all_parts is_line r.ls (r.ending ∷ r.rest) opened.1).1 in
     let split : clear ≡ (r.before ++ r.opening ∷ r.ls) ++ r.ending ∷ r.rest = r.whole ∙ sym (append_assoc r.before (r.opening ∷ r.ls) (r.ending ∷ r.rest)) in
     let ends = ends_parts is_eexec (r.before ++ r.opening ∷ r.ls) r.ending r.rest (ap (λ t. position_or_len is_eexec t + 1) (sym split) ∙ h.1 ∙ ap length split) in
     let front = any_parts is_eexec r.before (r.opening ∷ r.ls) ends.0 in
@@ -311,7 +311,7 @@ array_clear clear parts r ls h good =
     let array : list_any ends_array new ≡ true = list_any-append ends_array ls (r.ending ∷ r.rest) ∙ (let on = r.ends in rw on (or_on (list_any ends_array ls))) in
     let opening : opening_check n r.opening new ≡ Ok tt = (let off = r.other in let on = r.array in rw (off, on, array) refl) in
     let inner = lines_there r.opening ls r.ending r.rest r.other (none_all ends_array ls fine.1) r.ends in (
-      all_both is_line r.before (r.opening ∷ new) old.0 (and_from (is_line r.opening) (list_all is_line new) opened.0 (all_both is_line ls (r.ending ∷ r.rest) lines.0 behind)),
+      all_both is_line r.before (r.opening ∷ new) old.0 (and_from (is_line r.opening) (list_all is_line new) opened.0 (all_both is_line ls (r.ending ∷ r.rest) lines.0 following)),
       ap (λ t. position_or_len is_eexec t + 1) (sym joined) ∙ last ∙ ap length joined,
       check_there r.before r.opening new r.first r.opens ∙ checks_join n r.opening ls (r.ending ∷ r.rest) inner opening fine.0 later.1,
     )
@@ -423,9 +423,9 @@ encoded_good code g ls h on =
     elim (cases_Bool (nat_le 1 last)) [
       | inl replaced ↦ rw replaced (all_set is_array_line ls (last - 1) (slot_line code g) h on)
       | inr new ↦ elim (cases_Bool (nat_le 1 slots)) [
-        | inl behind ↦
+        | inl following ↦
             let later : list_all is_array_line (slot_line code g ∷ drop slots ls) ≡ true = and_from (is_array_line (slot_line code g)) (list_all is_array_line (drop slots ls)) on (all_drop is_array_line slots ls h) in
-            rw (new, behind) (all_both is_array_line (take slots ls) (slot_line code g ∷ drop slots ls) (all_take is_array_line slots ls h) later)
+            rw (new, following) (all_both is_array_line (take slots ls) (slot_line code g ∷ drop slots ls) (all_take is_array_line slots ls h) later)
         | inr none ↦ rw (new, none) (all_both is_array_line ls (slot_line code g ∷ []) h one)
       ]
     ]

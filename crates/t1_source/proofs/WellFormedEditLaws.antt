@@ -139,13 +139,13 @@ put_in items a x b y p whole entry sy number name stands =
     let back = stand_back [] a (x ∷ c) old in
     let before : Stand [] front = stand_both [] a (x ∷ []) (stand_front [] a (x ∷ c) old) (back.0, tt) in
     let all : items ≡ front ++ b = whole ∙ sym (append_assoc a (x ∷ []) b) in
-    let behind : (test : Item → Bool) → list_any test c ≡ true → list_any test items ≡ true = λ test on.
+    let following : (test : Item → Bool) → list_any test c ≡ true → list_any test items ≡ true = λ test on.
     ap (list_any test) all ∙ list_any-append test front b ∙ ap (λ t. list_any test front || list_any test t) r.1 ∙ ap (λ t. list_any test front || t) (list_any-append test c (Plain p.closefile ∷ [])) ∙ any_in (list_any test front) (list_any test c) _ on in
     let serves : Serves front (front ++ y ∷ []) c = record {
       subrs = sym (any_middle is_subrs_line front y [] sy.subrs ∙ ap (list_any is_subrs_line) (append-nil front));
       glyphs = sym (any_middle is_glyphs_line front y [] sy.glyphs ∙ ap (list_any is_glyphs_line) (append-nil front));
-      number = λ n on none. none_both (is_subr n) front (y ∷ []) none (only (is_subr n y) (number n (behind (is_subr n) on)));
-      name = λ g on none. none_both (is_glyph g) front (y ∷ []) none (only (is_glyph g y) (name g (behind (is_glyph g) on)));
+      number = λ n on none. none_both (is_subr n) front (y ∷ []) none (only (is_subr n y) (number n (following (is_subr n) on)));
+      name = λ g on none. none_both (is_glyph g) front (y ∷ []) none (only (is_glyph g y) (name g (following (is_glyph g) on)));
     } in
     private_well_formed (front ++ y ∷ b) (front ++ y ∷ c) p.closefile
     (ap (λ t. front ++ y ∷ t) r.1 ∙ sym (append_assoc front (y ∷ c) (Plain p.closefile ∷ [])))

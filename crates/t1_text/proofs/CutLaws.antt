@@ -17,7 +17,7 @@ end_len (c ∷ rest) = if c == 13 && begins_with 10 rest then 2 else 1
 abbrev pub taken_len : List ℕ → ℕ
 taken_len bytes = line_len bytes + end_len (drop (line_len bytes) bytes)
 
--- the first line of bytes that are cut behind it
+-- the first line of bytes that are cut following it
 abbrev Cut : List ℕ → ℕ → Type 0
 Cut bytes j = lines (take (taken_len bytes + j) bytes) ≡ take (line_len bytes) bytes ∷ lines (take j (after_line bytes))
 
@@ -79,14 +79,14 @@ cut_alone c j h =
     nothing zero = refl
     nothing (suc j) = refl
 
-pub cut_behind : (bytes : List ℕ) (j : ℕ) → 0 < length bytes → Cut bytes j
-cut_behind [] j h = absurd (omega arith)
-cut_behind (c ∷ []) j h = elim (cases_Bool (stays c)) [
+pub cut_following : (bytes : List ℕ) (j : ℕ) → 0 < length bytes → Cut bytes j
+cut_following [] j h = absurd (omega arith)
+cut_following (c ∷ []) j h = elim (cases_Bool (stays c)) [
   | inl on ↦ cut_alone c j on
   | inr off ↦ cut_end c [] j off
 ]
-cut_behind (c ∷ d ∷ rest) j h = elim (cases_Bool (stays c)) [
-  | inl on ↦ cut_stays c (d ∷ rest) j on (cut_behind (d ∷ rest) j (omega arith))
+cut_following (c ∷ d ∷ rest) j h = elim (cases_Bool (stays c)) [
+  | inl on ↦ cut_stays c (d ∷ rest) j on (cut_following (d ∷ rest) j (omega arith))
   | inr off ↦ cut_end c (d ∷ rest) j off
 ]
 
@@ -139,7 +139,7 @@ taken_some (c ∷ rest) h = elim (cases_Bool (stays c)) [
   | inr off ↦ rw (ended_len c rest off) (end_some c rest)
 ]
 
--- the bytes of the first line and its end are those that aren't behind it
+-- the bytes of the first line and its end are those that aren't following it
 pub taken_of : (bytes : List ℕ) → drop (taken_len bytes) bytes ≡ after_line bytes
 taken_of [] = refl
 taken_of (c ∷ rest) = elim (cases_Bool (stays c)) [
@@ -149,7 +149,7 @@ taken_of (c ∷ rest) = elim (cases_Bool (stays c)) [
   | inr off ↦ rw (ended_len c rest off) (after_its_end c rest)
 ]
 
--- bytes cut behind their first line, by the bytes that are left after it
+-- bytes cut following their first line, by the bytes that are left after it
 pub cut_after : (bytes after : List ℕ) (j : ℕ) → 0 < length bytes → after ≡ after_line bytes
     → lines (take (length bytes - length after + j) bytes) ≡ take (line_len bytes) bytes ∷ lines (take j after)
 cut_after bytes after j h e =
@@ -157,7 +157,7 @@ cut_after bytes after j h e =
     let same : length (drop (taken_len bytes) bytes) ≡ length after = ap length (taken_of bytes ∙ sym e) in
     let within = taken_within bytes in
     let size : length bytes - length after + j ≡ taken_len bytes + j = omega (arith, left, same, within) in
-    rw e (ap (λ k. lines (take k bytes)) (sym (ap (λ a. length bytes - length a + j) e) ∙ size) ∙ cut_behind bytes j h)
+    rw e (ap (λ k. lines (take k bytes)) (sym (ap (λ a. length bytes - length a + j) e) ∙ size) ∙ cut_following bytes j h)
 
 -- what is left after the first line is shorter
 pub line_gone : (bytes : List ℕ) → 0 < length bytes → length (after_line bytes) < length bytes
@@ -173,8 +173,8 @@ pub line_before : (bytes : List ℕ) → take (length (take (line_len bytes) byt
 line_before bytes = ap (λ k. take k bytes) (length-take-le (line_len bytes) bytes (prefix_len-le-length stays bytes))
 
 -- and the bytes after it at the back
-pub line_behind : (bytes : List ℕ) → drop (length bytes - length (after_line bytes)) bytes ≡ after_line bytes
-line_behind bytes =
+pub line_after : (bytes : List ℕ) → drop (length bytes - length (after_line bytes)) bytes ≡ after_line bytes
+line_after bytes =
     let left = length-drop (taken_len bytes) bytes in
     let same : length (drop (taken_len bytes) bytes) ≡ length (after_line bytes) = ap length (taken_of bytes) in
     let within = taken_within bytes in

@@ -208,8 +208,8 @@ cut_where front back h k =
     ap lines (sym (append-nil front)) ∙ lines_over [] front [] refl refl ∙ ap (λ l. whole [] front ++ lines (l ++ [])) h ∙ append-nil (whole [] front) in
     lines_over [] front back refl k ∙ ap (λ l. whole [] front ++ lines (l ++ back)) h ∙ ap (λ ls. ls ++ lines back) (sym alone)
 
-pub cut_behind_end : (bytes : List ℕ) (end : ℕ) → end < length bytes → is_line_end (slice_index bytes end) ≡ true → IsCutAt (end + 1) bytes
-cut_behind_end bytes end within h back k =
+pub cut_following_end : (bytes : List ℕ) (end : ℕ) → end < length bytes → is_line_end (slice_index bytes end) ≡ true → IsCutAt (end + 1) bytes
+cut_following_end bytes end within h back k =
     let size : suc end ≡ end + 1 = omega arith in
     cut_where (take (end + 1) bytes) back (ap (λ n. left [] (take n bytes)) (sym size) ∙ nothing_left [] bytes end within h) k
 

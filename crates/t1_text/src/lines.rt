@@ -62,7 +62,7 @@ pub fn cut_line(bytes: &[u8]) -> (&[u8], &[u8])
 }
 
 /// The first line of some bytes, and the bytes after its end.
-#[tactic(auto, using(crate::proofs::LineLaws::first_line_lem, crate::proofs::CutLaws::cut_after, crate::proofs::CutLaws::line_gone, crate::proofs::CutLaws::line_before, crate::proofs::CutLaws::line_behind))]
+#[tactic(auto, using(crate::proofs::LineLaws::first_line_lem, crate::proofs::CutLaws::cut_after, crate::proofs::CutLaws::line_gone, crate::proofs::CutLaws::line_before, crate::proofs::CutLaws::line_after))]
 pub fn first_line(bytes: &[u8]) -> (&[u8], &[u8])
     requires { 0 < length bytes.now }
     ensures lines { lines bytes.now ≡ result.0.now ∷ lines result.1.now }

@@ -77,10 +77,10 @@ impl From<ServeError> for Stop {
 
 impl From<Refusal> for Stop {
     ghost use Rattle.std.specs.Prelude.{◌≡◌};
-    ghost use Rattle.t1_session.specs.Delivery.{told_by_refusal};
+    ghost use Rattle.t1_session.specs.Delivery.{reported_by_refusal};
     ghost use Rattle.t1edit.specs.declared.status.Stop.TheVariants.{Failed};
 
-    ghost from_gives = { λ refused stop. stop ≡ Failed (told_by_refusal refused) };
+    ghost from_gives = { λ refused stop. stop ≡ Failed (reported_by_refusal refused) };
 
     fn from(refused: Refusal) -> Stop {
         Stop::Failed(ServeError::from(refused))

@@ -1,6 +1,6 @@
 use Rattle.std.proofs.Common.{◌≡◌, drop}
 use Rattle.t1_run.specs.Run.{Key}
-use Rattle.t1_batch.specs.Passing.{behind_items, items_put, mark_at}
+use Rattle.t1_batch.specs.Passing.{after_items, items_put, mark_at}
 use Rattle.t1_batch.proofs.Gathering.{in_front}
 use Rattle.t1_batch.proofs.changes.changes_of_items.Given as goal
 
@@ -8,5 +8,5 @@ use Rattle.t1_batch.proofs.changes.changes_of_items.Given as goal
 abbrev pub invariant-loop-item : goal.invariant-loop-item
 invariant-loop-item l = record {
   changes : items_put (mark_at l.fn.marks) l.items ≡ in_front l.changes.items (items_put (mark_at l.marks) (drop l.item-index l.items));
-  others : (k : Key) → behind_items (drop l.item-index l.items) (mark_at l.marks) k ≡ behind_items l.items (mark_at l.fn.marks) k;
+  others : (k : Key) → after_items (drop l.item-index l.items) (mark_at l.marks) k ≡ after_items l.items (mark_at l.fn.marks) k;
 }

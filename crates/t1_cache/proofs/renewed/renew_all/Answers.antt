@@ -8,17 +8,17 @@ pub loop-name-preserved : goal.loop-name-preserved
 loop-name-preserved c =
     let rest = c.pop.new.self.items in
     let r : Rerun = c.in-Some.field-0 in
-    let told = c.renew.ensures in
+    let reported = c.renew.ensures in
     let was = c.loop-name.invariant in
     let kept = map kept_of c.loop-name.glyphs.entries in
     record {
       records =
-          ap (with_reruns rest) (told.records ∙ ap (λ g. with_run g r.run r.bbox kept) c.as_slice.ensures.value)
-          ∙ last-rerun rest r c.loop-name.glyphs.entries told.once
+          ap (with_reruns rest) (reported.records ∙ ap (λ g. with_run g r.run r.bbox kept) c.as_slice.ensures.value)
+          ∙ last-rerun rest r c.loop-name.glyphs.entries reported.once
           ∙ ap (λ l. with_reruns l kept) (sym c.in-Some.ensures.items)
           ∙ was.records;
-      users = λ p. told.users p ∙ was.users p;
-      bodies = λ p. told.bodies p ∙ was.bodies p;
+      users = λ p. reported.users p ∙ was.users p;
+      bodies = λ p. reported.bodies p ∙ was.bodies p;
     }
 
 pub returns-clause-records : goal.returns-clause-records

@@ -11,17 +11,17 @@ loop-name-preserved c =
     let rest = c.pop.new.self.entries in
     let e : Vec ℕ Global × NewRun = (c.in-Some.name, c.in-Some.new) in
     let r : Rerun = rerun_by_name e in
-    let told = c.renew.ensures in
+    let reported = c.renew.ensures in
     let was = c.loop-name.invariant in
     let kept = map kept_of c.loop-name.glyphs.entries in
     record {
       records =
-          ap (with_reruns (reruns_by_name rest)) (told.records ∙ ap (λ g. with_run g r.run r.bbox kept) c.as_slice.ensures.value)
-          ∙ last-rerun (reruns_by_name rest) r c.loop-name.glyphs.entries told.once
+          ap (with_reruns (reruns_by_name rest)) (reported.records ∙ ap (λ g. with_run g r.run r.bbox kept) c.as_slice.ensures.value)
+          ∙ last-rerun (reruns_by_name rest) r c.loop-name.glyphs.entries reported.once
           ∙ ap (λ l. with_reruns l kept) (sym (last-by-name rest e) ∙ sym (ap reruns_by_name c.in-Some.ensures.entries))
           ∙ was.records;
-      users = λ p. told.users p ∙ was.users p;
-      bodies = λ p. told.bodies p ∙ was.bodies p;
+      users = λ p. reported.users p ∙ was.users p;
+      bodies = λ p. reported.bodies p ∙ was.bodies p;
     }
 
 pub returns-clause-records : goal.returns-clause-records

@@ -15,16 +15,16 @@ loop-named-preserved c =
     let key = key_of item.0 in
     let old = users_at c.loop-named.records in
     let new = users_at c.make_room_at.new.records in
-    let told = c.in_ok-make_room_at.ensures in
+    let reported = c.in_ok-make_room_at.ensures in
     let was = c.loop-named.invariant in
     let more = λ (k : Key). wanted-more joins i item k c.loop-named-test.true c.loop-named-item.is in
     record {
-      counts = λ k. told.counts k ∙ ap (λ n. cond (key_eq k key) (n + 1) n) (was.counts k) ∙ sym (more k);
+      counts = λ k. reported.counts k ∙ ap (λ n. cond (key_eq k key) (n + 1) n) (was.counts k) ∙ sym (more k);
       room = λ k.
           subst (λ n. MayJoin n (new k)) (sym (more k))
-          (room-more old new key (wanted (take i joins)) told.sets (subst (λ n. MayJoin (n + 1) (new key)) (was.counts key) told.room) was.room k);
-      sets = λ k. roomier-twice (users_at c.args.records.now k) (old k) (new k) (was.sets k) (told.sets k);
-      rest = told.rest ∙ was.rest;
+          (room-more old new key (wanted (take i joins)) reported.sets (subst (λ n. MayJoin (n + 1) (new key)) (was.counts key) reported.room) was.room k);
+      sets = λ k. roomier-twice (users_at c.args.records.now k) (old k) (new k) (was.sets k) (reported.sets k);
+      rest = reported.rest ∙ was.rest;
     }
 
 pub returns-clause-room : goal.returns-clause-room

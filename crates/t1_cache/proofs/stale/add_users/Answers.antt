@@ -4,7 +4,7 @@ use Rattle.std.specs.Str.{bytes_eq}
 use Rattle.std.proofs.Math.Bool.{or_assoc}
 use Rattle.t1_cache.specs.Users.{has}
 use Rattle.t1_font.proofs.Naming.{name-inserted}
-use Rattle.t1_cache.proofs.Names.{one-more, inserted-behind}
+use Rattle.t1_cache.proofs.Names.{one-more, inserted-after}
 use Rattle.t1_cache.proofs.stale.add_users.Goals as goal
 
 pub loop-name-preserved : goal.loop-name-preserved
@@ -14,7 +14,7 @@ loop-name-preserved c =
     let k = c.as_slice.result in
     let users = c.as_slice-name-items.result.now in
     let i = c.loop-name.name-index in
-    let more = inserted-behind (λ x y. bytes_eq x.now y.now) keys k in
+    let more = inserted-after (λ x y. bytes_eq x.now y.now) keys k in
     let was = c.loop-name.invariant in
     record {
       names = λ g.

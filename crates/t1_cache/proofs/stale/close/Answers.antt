@@ -18,13 +18,13 @@ loop-at-smaller c =
 
 pub loop-at-preserved : goal.loop-at-preserved
 loop-at-preserved c =
-    let told = c.in_ok-add_users_of.ensures in
+    let reported = c.in_ok-add_users_of.ensures in
     let h : c.loop-at.at < length c.loop-at.found.keys = omega (arith, c.loop-at-test.true, c.len.ensures.len) in
     let keys = c.loop-at.found.keys in
     let at = c.loop-at.at in
-    closing-more (λ name. name.now) (has (λ name. name.now) c.args.found.now.keys) (λ p. among (glyph_users c.args.glyphs.now.entries p)) keys c.add_users_of.new.found.keys told.after.0 at
+    closing-more (λ name. name.now) (has (λ name. name.now) c.args.found.now.keys) (λ p. among (glyph_users c.args.glyphs.now.entries p)) keys c.add_users_of.new.found.keys reported.after.0 at
     (record { ref_ptr = (0, 0); now = [] }) (get_or {A = Bor (List ℕ)} c.as_slice.result.now at (record { ref_ptr = (0, 0); now = [] })).now
-    c.loop-at.invariant h (ap (λ l. (get_or {A = Bor (List ℕ)} l at (record { ref_ptr = (0, 0); now = [] })).now) c.as_slice.ensures.keys) told.after.1 told.names
+    c.loop-at.invariant h (ap (λ l. (get_or {A = Bor (List ℕ)} l at (record { ref_ptr = (0, 0); now = [] })).now) c.as_slice.ensures.keys) reported.after.1 reported.names
 
 pub returns-clause-once : goal.returns-clause-once
 returns-clause-once c = names-once (λ name. name.now) c.loop-at.found.keys c.len.ensures.unique

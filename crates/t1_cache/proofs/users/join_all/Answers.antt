@@ -20,17 +20,17 @@ pub loop-named-preserved : goal.loop-named-preserved
 loop-named-preserved c =
     let rest = c.pop.new.self.items in
     let p : Named × Vec ℕ Global = (c.in-Some.named, c.in-Some.name) in
-    let told = c.join.ensures in
+    let reported = c.join.ensures in
     let was = c.loop-named.invariant in
     let had = lists c.loop-named.records in
     record {
       room = λ k.
-          told.room k (wanted rest k)
+          reported.room k (wanted rest k)
           (subst (λ n. HasRoom n (users_at c.loop-named.records k)) (ap (λ l. wanted l k) c.in-Some.ensures.items ∙ wanted-last rest p k) (was.room k));
       users = λ k u.
-          ap (λ b. b || has_pair rest k u) (told.users k u)
+          ap (λ b. b || has_pair rest k u) (reported.users k u)
           ∙ joined-last rest p k u (had k u)
           ∙ sym (ap (λ l. had k u || has_pair l k u) c.in-Some.ensures.items)
           ∙ was.users k u;
-      rest = told.rest ∙ was.rest;
+      rest = reported.rest ∙ was.rest;
     }

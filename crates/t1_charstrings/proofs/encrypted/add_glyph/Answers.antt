@@ -5,7 +5,7 @@ use Rattle.t1_frac.specs.declared.fault.Place.TheVariants as places
 use Rattle.t1_code.specs.Words.{commands}
 use Rattle.t1_run.specs.Run.{Glyph}
 use Rattle.indexmap.proofs.CallerLemmas.{insert_entry-new}
-use Rattle.t1_font.proofs.Compiling.{lookup-last, none-there, told-ok}
+use Rattle.t1_font.proofs.Compiling.{lookup-last, none-there, reported-ok}
 use Rattle.t1_charstrings.specs.Entries.{encrypted, glyph_kept}
 use Rattle.t1_charstrings.proofs.Gathered.{glyph-there}
 use Rattle.t1_charstrings.proofs.encrypted.add_glyph.Goals as goal
@@ -24,4 +24,4 @@ returns-clause-kept c = λ g.
     ∙ ap (λ e. option_or (glyph_kept old.entries g) (cond (bytes_eq g name) (Some e) None)) c.in_ok-entry.ensures
     ∙ ap (option_or (glyph_kept old.entries g)) (glyph-there c.args.lead g name body)
     ∙ ap (λ r. option_or (glyph_kept old.entries g) (option_map (encrypted c.args.lead (Glyph g)) (cond (bytes_eq g name) r None)))
-    (sym (told-ok (places.Glyph name) (commands c.args.words.now) body c.in_ok-body.ensures))
+    (sym (reported-ok (places.Glyph name) (commands c.args.words.now) body c.in_ok-body.ensures))

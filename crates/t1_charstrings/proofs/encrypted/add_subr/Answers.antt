@@ -5,7 +5,7 @@ use Rattle.t1_frac.specs.declared.fault.Place.TheVariants as places
 use Rattle.t1_code.specs.Words.{commands}
 use Rattle.t1_run.specs.Run.{Subr}
 use Rattle.indexmap.proofs.CallerLemmas.{insert_entry-new}
-use Rattle.t1_font.proofs.Compiling.{lookup-last, none-there, told-ok}
+use Rattle.t1_font.proofs.Compiling.{lookup-last, none-there, reported-ok}
 use Rattle.t1_charstrings.specs.Entries.{encrypted, subr_kept}
 use Rattle.t1_charstrings.proofs.Gathered.{subr-there}
 use Rattle.t1_charstrings.proofs.encrypted.add_subr.Goals as goal
@@ -22,4 +22,4 @@ returns-clause-kept c = λ n.
     ∙ ap (λ e. option_or (subr_kept old.entries n) (cond (n == number) (Some e) None)) c.in_ok-entry.ensures
     ∙ ap (option_or (subr_kept old.entries n)) (subr-there c.args.lead n number body)
     ∙ ap (λ r. option_or (subr_kept old.entries n) (option_map (encrypted c.args.lead (Subr n)) (cond (n == number) r None)))
-    (sym (told-ok (places.Subr number) (commands c.args.words.now) body c.in_ok-body.ensures))
+    (sym (reported-ok (places.Subr number) (commands c.args.words.now) body c.in_ok-body.ensures))

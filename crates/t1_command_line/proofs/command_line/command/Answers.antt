@@ -37,11 +37,11 @@ with_session = with_subcommand with_check session
 pub returns : goal.returns
 returns c =
     let versioned : app_of c.version.result ≡ versioning (app_of c.new.result) = ap app_of_fields c.version.ensures in
-    let told : app_of c.after_long_help.result ≡ app_of c.version.result =
+    let reported : app_of c.after_long_help.result ≡ app_of c.version.result =
     ap app_of_fields c.after_long_help.ensures ∙ ap app_of_fields c.after_help.ensures ∙ ap app_of_fields c.about.ensures in
     let required : app_of c.subcommand_required.result ≡ requiring (app_of c.after_long_help.result) = ap app_of_fields c.subcommand_required.ensures in
     let named : app_of c.subcommand_required.result ≡ before =
-    required ∙ ap requiring (told ∙ versioned ∙ ap versioning c.new.ensures.app) in
+    required ∙ ap requiring (reported ∙ versioned ∙ ap versioning c.new.ensures.app) in
     let plain = λ (a : App). a.top.is_plain in
     let shape = λ (a : App). a.top in
     let first : app_of c.in_ok-subcommand.field-0 ≡ with_assemble =

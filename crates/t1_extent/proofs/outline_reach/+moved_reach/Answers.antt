@@ -5,9 +5,9 @@ use Rattle.std.proofs.lemmas.List.Elements.{All-cons}
 use Rattle.t1_run.specs.Composite.{outline_within}
 use Rattle.t1_extent.specs.Kept.{drawing_lent}
 use Rattle.t1_extent.specs.Laws.{IsDistance}
-use Rattle.t1_extent.specs.Reached.{Tells}
+use Rattle.t1_extent.specs.Reached.{Reports}
 use Rattle.t1_extent.specs.Turns.{through, given_in_turn, given_through}
-use Rattle.t1_extent.proofs.Walking.{lonely, refused_told, walks, stuck, own_moved_refused, base_moved_refused, accent_moved_refused, moved_told}
+use Rattle.t1_extent.proofs.Walking.{lonely, refused_reported, walks, stuck, own_moved_refused, base_moved_refused, accent_moved_refused, moved_reported}
 use Rattle.t1_extent.proofs.outline_reach.+moved_reach.Goals as goal
 
 pub returns-in_err-own_through : goal.returns-in_err-own_through
@@ -17,7 +17,7 @@ returns-in_err-own_through g t c =
     let own = sym (ap (λ kept. Some (drawing_lent kept)) c.in-Some-Ok.field-0-is) ∙ c.in-Some-Ok.ensures.drawn in
     let is = lonely run c.args.depth c.args.name.now d own c.in_default.ensures.parts in
     let p = err_from_is_err_and c.from_residual.result c.from_residual.ensures.1 in
-    rw (p.1, p.2) (refused_told c.in_err-own_through.field-0.0 _ (ap (given_through c.args.moves.now c.args.last.now) is ∙ c.in_err-own_through.ensures))
+    rw (p.1, p.2) (refused_reported c.in_err-own_through.field-0.0 _ (ap (given_through c.args.moves.now c.args.last.now) is ∙ c.in_err-own_through.ensures))
 
 pub returns-in_default : goal.returns-in_default
 returns-in_default g t c =
@@ -25,8 +25,8 @@ returns-in_default g t c =
     let d = c.in-Some-Ok.run'.now.drawing in
     let own = sym (ap (λ kept. Some (drawing_lent kept)) c.in-Some-Ok.field-0-is) ∙ c.in-Some-Ok.ensures.drawn in
     let is = lonely run c.args.depth c.args.name.now d own c.in_default.ensures.parts in
-    let told = c.in_ok-own_through.ensures in
-    (told.0, ap (given_through c.args.moves.now c.args.last.now) is ∙ told.1, told.2)
+    let reported = c.in_ok-own_through.ensures in
+    (reported.0, ap (given_through c.args.moves.now c.args.last.now) is ∙ reported.1, reported.2)
 
 pub returns-in_err-accent_move : goal.returns-in_err-accent_move
 returns-in_err-accent_move g t c =
@@ -63,7 +63,7 @@ returns-in_err-own g t c =
     let whole = given_through c.args.moves.now c.args.last.now (outline_within run c.args.depth c.args.name.now) in
     let drawn = through c.args.moves.now c.args.last.now d.segments in
     let p = err_from_is_err_and c.from_residual-in_err-own.result c.from_residual-in_err-own.ensures.1 in
-    rw (p.1, p.2) (refused_told c.in_err-own.field-0.0 whole (own_moved_refused drawn base accent whole c.in_err-own.field-0.0 w.parts c.in_err-own.ensures))
+    rw (p.1, p.2) (refused_reported c.in_err-own.field-0.0 whole (own_moved_refused drawn base accent whole c.in_err-own.field-0.0 w.parts c.in_err-own.ensures))
 
 pub moved_reach-requires : goal.moved_reach-requires
 moved_reach-requires g t c =
@@ -91,7 +91,7 @@ returns-in_err-base g t c =
     let whole = given_through c.args.moves.now c.args.last.now (outline_within run c.args.depth c.args.name.now) in
     let drawn = through c.args.moves.now c.args.last.now d.segments in
     let p = err_from_is_err_and c.from_residual-in_err-base.result c.from_residual-in_err-base.ensures.1 in
-    let b = subst (λ n. Tells (Err c.in_err-base.field-0.0) (given_through c.args.moves.now c.args.last.now (part n))) c.as_slice.ensures c.in_err-base.ensures in
+    let b = subst (λ n. Reports (Err c.in_err-base.field-0.0) (given_through c.args.moves.now c.args.last.now (part n))) c.as_slice.ensures c.in_err-base.ensures in
     rw (p.1, p.2) (base_moved_refused drawn base accent whole c.in_ok-own.own c.in_err-base.field-0.0 w.parts c.in_ok-own.ensures b)
 
 pub moved_reach-requires-2 : goal.moved_reach-requires-2
@@ -127,10 +127,10 @@ returns-in_err-accent g t c =
     let drawn = through c.args.moves.now c.args.last.now d.segments in
     let moves' = c.as_slice-3.result.now in
     let same : moves' ≡ c.in_ok-accent_move.accent_move.by ∷ c.args.moves.now = c.as_slice-3.ensures.value ∙ c.in_ok-inner.ensures in
-    let b = subst (λ n. Tells (Ok c.in_ok-base.base) (given_through c.args.moves.now c.args.last.now (part n))) c.as_slice.ensures c.in_ok-base.ensures in
+    let b = subst (λ n. Reports (Ok c.in_ok-base.base) (given_through c.args.moves.now c.args.last.now (part n))) c.as_slice.ensures c.in_ok-base.ensures in
     let p = err_from_is_err_and c.from_residual-in_err-accent.result c.from_residual-in_err-accent.ensures.1 in
-    let a = subst (λ n. Tells (Err c.in_err-accent.field-0.0) (given_through (c.in_ok-accent_move.accent_move.by ∷ c.args.moves.now) c.args.last.now (part n))) c.as_slice-2.ensures
-    (subst (λ ms. Tells (Err c.in_err-accent.field-0.0) (given_through ms c.args.last.now (part c.as_slice-2.result.now))) same c.in_err-accent.ensures) in
+    let a = subst (λ n. Reports (Err c.in_err-accent.field-0.0) (given_through (c.in_ok-accent_move.accent_move.by ∷ c.args.moves.now) c.args.last.now (part n))) c.as_slice-2.ensures
+    (subst (λ ms. Reports (Err c.in_err-accent.field-0.0) (given_through ms c.args.last.now (part c.as_slice-2.result.now))) same c.in_err-accent.ensures) in
     rw (p.1, p.2) (accent_moved_refused drawn base accent whole c.in_ok-own.own c.in_ok-base.base c.in_err-accent.field-0.0 w.parts c.in_ok-own.ensures b a)
 
 pub united-requires-2-clause-one : goal.united-requires-2-clause-one
@@ -154,7 +154,7 @@ returns g t c =
     let drawn = through c.args.moves.now c.args.last.now d.segments in
     let moves' = c.as_slice-3.result.now in
     let same : moves' ≡ c.in_ok-accent_move.accent_move.by ∷ c.args.moves.now = c.as_slice-3.ensures.value ∙ c.in_ok-inner.ensures in
-    let b = subst (λ n. Tells (Ok c.in_ok-base.base) (given_through c.args.moves.now c.args.last.now (part n))) c.as_slice.ensures c.in_ok-base.ensures in
-    let a = subst (λ n. Tells (Ok c.in_ok-accent.accent) (given_through (c.in_ok-accent_move.accent_move.by ∷ c.args.moves.now) c.args.last.now (part n))) c.as_slice-2.ensures
-    (subst (λ ms. Tells (Ok c.in_ok-accent.accent) (given_through ms c.args.last.now (part c.as_slice-2.result.now))) same c.in_ok-accent.ensures) in
-    moved_told drawn base accent whole c.in_ok-own.own c.in_ok-base.base c.in_ok-accent.accent c.united.result c.united-2.result w.parts c.in_ok-own.ensures b a c.united.ensures c.united-2.ensures
+    let b = subst (λ n. Reports (Ok c.in_ok-base.base) (given_through c.args.moves.now c.args.last.now (part n))) c.as_slice.ensures c.in_ok-base.ensures in
+    let a = subst (λ n. Reports (Ok c.in_ok-accent.accent) (given_through (c.in_ok-accent_move.accent_move.by ∷ c.args.moves.now) c.args.last.now (part n))) c.as_slice-2.ensures
+    (subst (λ ms. Reports (Ok c.in_ok-accent.accent) (given_through ms c.args.last.now (part c.as_slice-2.result.now))) same c.in_ok-accent.ensures) in
+    moved_reported drawn base accent whole c.in_ok-own.own c.in_ok-base.base c.in_ok-accent.accent c.united.result c.united-2.result w.parts c.in_ok-own.ensures b a c.united.ensures c.united-2.ensures

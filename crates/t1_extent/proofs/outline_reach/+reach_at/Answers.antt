@@ -4,9 +4,9 @@ use Rattle.std.proofs.lemmas.Result.{err_from_is_err_and}
 use Rattle.t1_frac.specs.declared.fault.Code.TheVariants.{F45}
 use Rattle.t1_run.specs.Composite.{outline_within, accent_move}
 use Rattle.t1_extent.specs.Kept.{drawing_lent}
-use Rattle.t1_extent.specs.Reached.{Tells}
+use Rattle.t1_extent.specs.Reached.{Reports}
 use Rattle.t1_extent.specs.Turns.{given_moved}
-use Rattle.t1_extent.proofs.Walking.{missing, faulty, lonely, composed, refuses-code, refused_told, base_refused, accent_refused, move_refused, moved_refused, composite_told}
+use Rattle.t1_extent.proofs.Walking.{missing, faulty, lonely, composed, refuses-code, refused_reported, base_refused, accent_refused, move_refused, moved_refused, composite_reported}
 use Rattle.t1_extent.proofs.outline_reach.+reach_at.Goals as goal
 
 pub returns-in-None : goal.returns-in-None
@@ -37,7 +37,7 @@ returns-in_err-base g t c =
     let part = outline_within run (c.args.depth - 1) in
     let eq = composed run c.args.depth c.args.name.now d parts c.if-depth-eq0.false own c.in-Some.ensures.parts in
     let p = err_from_is_err_and c.from_residual.result c.from_residual.ensures.1 in
-    let base = subst (λ n. Tells (Err c.in_err-base.field-0.0) (part n)) c.as_slice.ensures c.in_err-base.ensures in
+    let base = subst (λ n. Reports (Err c.in_err-base.field-0.0) (part n)) c.as_slice.ensures c.in_err-base.ensures in
     rw (p.1, p.2, eq) (base_refused d (part parts.base) (part parts.accent) c.in_err-base.field-0.0 base)
 
 pub returns-in_err-accent : goal.returns-in_err-accent
@@ -48,9 +48,9 @@ returns-in_err-accent g t c =
     let own = sym (ap (λ kept. Some (drawing_lent kept)) c.in-Some-Ok.field-0-is) ∙ c.in-Some-Ok.ensures.drawn in
     let part = outline_within run (c.args.depth - 1) in
     let eq = composed run c.args.depth c.args.name.now d parts c.if-depth-eq0.false own c.in-Some.ensures.parts in
-    let base = subst (λ n. Tells (Ok c.in_ok-base.base) (part n)) c.as_slice.ensures c.in_ok-base.ensures in
+    let base = subst (λ n. Reports (Ok c.in_ok-base.base) (part n)) c.as_slice.ensures c.in_ok-base.ensures in
     let p = err_from_is_err_and c.from_residual-in_err-accent.result c.from_residual-in_err-accent.ensures.1 in
-    let accent = subst (λ n. Tells (Err c.in_err-accent.field-0.0) (part n)) c.as_slice-name.ensures c.in_err-accent.ensures in
+    let accent = subst (λ n. Reports (Err c.in_err-accent.field-0.0) (part n)) c.as_slice-name.ensures c.in_err-accent.ensures in
     rw (p.1, p.2, eq) (accent_refused d (part parts.base) (part parts.accent) c.in_err-accent.field-0.0 c.in_ok-base.base base accent)
 
 pub returns-in_err-by : goal.returns-in_err-by
@@ -61,11 +61,11 @@ returns-in_err-by g t c =
     let own = sym (ap (λ kept. Some (drawing_lent kept)) c.in-Some-Ok.field-0-is) ∙ c.in-Some-Ok.ensures.drawn in
     let part = outline_within run (c.args.depth - 1) in
     let eq = composed run c.args.depth c.args.name.now d parts c.if-depth-eq0.false own c.in-Some.ensures.parts in
-    let base = subst (λ n. Tells (Ok c.in_ok-base.base) (part n)) c.as_slice.ensures c.in_ok-base.ensures in
-    let accent = subst (λ n. Tells (Ok c.in_ok-accent.accent) (part n)) c.as_slice-name.ensures c.in_ok-accent.ensures in
+    let base = subst (λ n. Reports (Ok c.in_ok-base.base) (part n)) c.as_slice.ensures c.in_ok-base.ensures in
+    let accent = subst (λ n. Reports (Ok c.in_ok-accent.accent) (part n)) c.as_slice-name.ensures c.in_ok-accent.ensures in
     let p = err_from_is_err_and c.from_residual-in_err-by.result c.from_residual-in_err-by.ensures.1 in
     let move = subst (λ b. accent_move b parts ≡ Err c.in_err-by.field-0.0) c.side_bearing.ensures c.in_err-by.ensures.moved in
-    rw (p.1, p.2, eq) (refused_told c.in_err-by.field-0.0 _
+    rw (p.1, p.2, eq) (refused_reported c.in_err-by.field-0.0 _
     (move_refused parts d (part parts.base) (part parts.accent) c.in_ok-base.base c.in_ok-accent.accent c.in_err-by.field-0.0 (sym c.in-Some.ensures.parts) base accent move))
 
 pub returns-in_err-moved : goal.returns-in_err-moved
@@ -76,11 +76,11 @@ returns-in_err-moved g t c =
     let own = sym (ap (λ kept. Some (drawing_lent kept)) c.in-Some-Ok.field-0-is) ∙ c.in-Some-Ok.ensures.drawn in
     let part = outline_within run (c.args.depth - 1) in
     let eq = composed run c.args.depth c.args.name.now d parts c.if-depth-eq0.false own c.in-Some.ensures.parts in
-    let base = subst (λ n. Tells (Ok c.in_ok-base.base) (part n)) c.as_slice.ensures c.in_ok-base.ensures in
-    let accent = subst (λ n. Tells (Ok c.in_ok-accent.accent) (part n)) c.as_slice-name.ensures c.in_ok-accent.ensures in
+    let base = subst (λ n. Reports (Ok c.in_ok-base.base) (part n)) c.as_slice.ensures c.in_ok-base.ensures in
+    let accent = subst (λ n. Reports (Ok c.in_ok-accent.accent) (part n)) c.as_slice-name.ensures c.in_ok-accent.ensures in
     let move = subst (λ b. accent_move b parts ≡ Ok c.in_ok-by.by.by) c.side_bearing.ensures c.in_ok-by.ensures.moved in
     let p = err_from_is_err_and c.from_residual-in_err-moved.result c.from_residual-in_err-moved.ensures.1 in
-    let moved = subst (λ n. Tells (Err c.in_err-moved.field-0.0) (given_moved c.in_ok-by.by.by (part n))) c.as_slice-name.ensures c.in_err-moved.ensures in
+    let moved = subst (λ n. Reports (Err c.in_err-moved.field-0.0) (given_moved c.in_ok-by.by.by (part n))) c.as_slice-name.ensures c.in_err-moved.ensures in
     rw (p.1, p.2, eq) (moved_refused parts d (part parts.base) (part parts.accent) c.in_ok-base.base c.in_ok-accent.accent c.in_ok-by.by.by c.in_err-moved.field-0.0 (sym c.in-Some.ensures.parts) base accent move moved)
 
 pub united-requires-2-clause-one : goal.united-requires-2-clause-one
@@ -96,10 +96,10 @@ returns g t c =
     let own = sym (ap (λ kept. Some (drawing_lent kept)) c.in-Some-Ok.field-0-is) ∙ c.in-Some-Ok.ensures.drawn in
     let part = outline_within run (c.args.depth - 1) in
     let eq = composed run c.args.depth c.args.name.now d parts c.if-depth-eq0.false own c.in-Some.ensures.parts in
-    let base = subst (λ n. Tells (Ok c.in_ok-base.base) (part n)) c.as_slice.ensures c.in_ok-base.ensures in
-    let accent = subst (λ n. Tells (Ok c.in_ok-accent.accent) (part n)) c.as_slice-name.ensures c.in_ok-accent.ensures in
+    let base = subst (λ n. Reports (Ok c.in_ok-base.base) (part n)) c.as_slice.ensures c.in_ok-base.ensures in
+    let accent = subst (λ n. Reports (Ok c.in_ok-accent.accent) (part n)) c.as_slice-name.ensures c.in_ok-accent.ensures in
     let move = subst (λ b. accent_move b parts ≡ Ok c.in_ok-by.by.by) c.side_bearing.ensures c.in_ok-by.ensures.moved in
-    let moved = subst (λ n. Tells (Ok c.in_ok-moved.moved) (given_moved c.in_ok-by.by.by (part n))) c.as_slice-name.ensures c.in_ok-moved.ensures in
-    subst (Tells (Ok c.united-2.result)) (sym eq)
-    (composite_told parts d (part parts.base) (part parts.accent) c.reached-2.result c.in_ok-base.base c.in_ok-accent.accent c.in_ok-moved.moved c.united.result c.united-2.result c.in_ok-by.by.by
+    let moved = subst (λ n. Reports (Ok c.in_ok-moved.moved) (given_moved c.in_ok-by.by.by (part n))) c.as_slice-name.ensures c.in_ok-moved.ensures in
+    subst (Reports (Ok c.united-2.result)) (sym eq)
+    (composite_reported parts d (part parts.base) (part parts.accent) c.reached-2.result c.in_ok-base.base c.in_ok-accent.accent c.in_ok-moved.moved c.united.result c.united-2.result c.in_ok-by.by.by
     (sym c.in-Some.ensures.parts) c.reached-2.ensures base accent move moved c.united.ensures c.united-2.ensures)

@@ -2,7 +2,7 @@ use Rattle.std.proofs.Common.{◌<◌, ◌∙◌, ap, drop, length, subst, sym, 
 use Rattle.std.specs.Prelude.{Ok, ◌∷◌}
 use Rattle.std.proofs.lemmas.Result.{err_from_is_err_and}
 use Rattle.t1_frac.specs.Outcome.{◌>>=◌}
-use Rattle.t1_extent.specs.Reached.{TellsAtOnce}
+use Rattle.t1_extent.specs.Reached.{ReportsAtOnce}
 use Rattle.t1_extent.proofs.Reaching.{leads_on, leads_end, leads_refused}
 use Rattle.t1_extent.proofs.Turning.{each_through, through_each, rest_at, rest_end}
 use Rattle.t1_extent.proofs.turns.segments_through.Goals as goal
@@ -36,6 +36,6 @@ returns c =
     let moves = c.args.moves.now in
     let last = c.args.last.now in
     let xs = c.args.segments.now in
-    subst (TellsAtOnce (Ok c.loop-segment.reached)) (sym (through_each moves last xs c.requires))
+    subst (ReportsAtOnce (Ok c.loop-segment.reached)) (sym (through_each moves last xs c.requires))
     (leads_end c.loop-segment.reached (each_through moves last (drop c.loop-segment.segment-index xs)) (each_through moves last xs) c.loop-segment.invariant
     (rest_end moves last xs c.loop-segment.segment-index c.loop-segment-test.false))

@@ -3,7 +3,7 @@ use Rattle.std.specs.Borrow.{Bor}
 use Rattle.std.proofs.lemmas.Result.{err_from_is_err_and}
 use Rattle.t1_frac.specs.Outcome.{Refuses}
 use Rattle.t1_font.specs.MeasuredGlyphs.{glyph_metrics_among}
-use Rattle.t1_font.proofs.Gathering.{behind, one-told, one-refused}
+use Rattle.t1_font.proofs.Gathering.{put_after, one-reported, one-refused}
 use Rattle.t1_font.proofs.Keeping.{name-first}
 use Rattle.t1_font.proofs.glyph_metrics.glyph_metrics_of.Goals as goal
 
@@ -15,9 +15,9 @@ loop-name-preserved g c =
     let none : Bor (List ℕ) = record { ref_ptr = (0, 0); now = [] } in
     let rest = map (λ name. name.now) (drop (i + 1) names) in
     let front = c.loop-name.metrics.items in
-    ap (λ metrics. behind metrics (glyph_metrics_among runs rest)) c.in_ok-push.ensures.items
-    ∙ one-told runs front (get_or names i none).now rest c.in_ok-placed_metrics.field-0 c.in_ok-placed_metrics.ensures
-    ∙ sym (ap (λ (l : List (Bor (List ℕ))). behind front (glyph_metrics_among runs (map (λ name. name.now) l))) (name-first names i none (omega arith)))
+    ap (λ metrics. put_after metrics (glyph_metrics_among runs rest)) c.in_ok-push.ensures.items
+    ∙ one-reported runs front (get_or names i none).now rest c.in_ok-placed_metrics.field-0 c.in_ok-placed_metrics.ensures
+    ∙ sym (ap (λ (l : List (Bor (List ℕ))). put_after front (glyph_metrics_among runs (map (λ name. name.now) l))) (name-first names i none (omega arith)))
     ∙ c.loop-name.invariant
 
 pub returns-in_err-placed_metrics : goal.returns-in_err-placed_metrics
@@ -30,5 +30,5 @@ returns-in_err-placed_metrics g c =
     let front = c.loop-name.metrics.items in
     let refused = c.in_err-placed_metrics.field-0.0 in
     let p = err_from_is_err_and c.from_residual.result c.from_residual.ensures.1 in
-    let whole = sym (ap (λ (l : List (Bor (List ℕ))). behind front (glyph_metrics_among runs (map (λ name. name.now) l))) (name-first names i none (omega arith))) ∙ c.loop-name.invariant in
+    let whole = sym (ap (λ (l : List (Bor (List ℕ))). put_after front (glyph_metrics_among runs (map (λ name. name.now) l))) (name-first names i none (omega arith))) ∙ c.loop-name.invariant in
     rw (p.1, p.2) (subst (Refuses refused) whole (one-refused runs front (get_or names i none).now rest refused c.in_err-placed_metrics.ensures))

@@ -5,7 +5,7 @@ use Rattle.t1_afm.specs.Box.{united}
 use Rattle.t1_run.specs.Run.{own}
 use Rattle.t1_font.specs.Glyphs.{glyph_names}
 use Rattle.t1_font.specs.ToRun.{font_to_run}
-use Rattle.t1_font.proofs.Measuring.{all-told, all-refused}
+use Rattle.t1_font.proofs.Measuring.{all-reported, all-refused}
 use Rattle.t1_font.proofs.MeasuringTurns.{runs-own, runs-stay}
 use Rattle.t1_font.proofs.turns.measured_turns.Goals as goal
 
@@ -19,6 +19,6 @@ returns-in_err-metrics c = λ items. λ checked. λ rows. λ kept.
 pub returns : goal.returns
 returns c = λ items. λ checked. λ rows. λ kept.
     let run = own (font_to_run items) in
-    all-told items run c.in_ok-metrics.metrics.items (united (map (λ s. s.bbox) c.in_ok-metrics.metrics.items)) (runs-own items checked)
+    all-reported items run c.in_ok-metrics.metrics.items (united (map (λ s. s.bbox) c.in_ok-metrics.metrics.items)) (runs-own items checked)
     (c.in_ok-metrics.ensures run (glyph_names items) rows (runs-stay items c.args.turns.runs kept)) refl
     ∙ ap Ok (sym c.of.ensures)

@@ -8,7 +8,7 @@ use Rattle.t1_font.specs.Runs.{kept_of}
 use Rattle.t1_font.specs.ToRun.{font_to_run, subr_stored}
 use Rattle.t1_font.proofs.turns.turns_of.Given as goal
 
--- what was told of the items so far, and the bodies of those that are left
+-- what was reported of the items so far, and the bodies of those that are left
 abbrev pub invariant-loop-item : goal.invariant-loop-item
 invariant-loop-item l = record {
   checked : bodies_check (drop l.item-index l.items) ≡ bodies_check l.items;

@@ -10,8 +10,8 @@ use Rattle.t1_rerun.specs.Newest.{judged_in}
 use Rattle.t1_font.proofs.Measuring.{same-function}
 use Rattle.t1_rerun.proofs.judging.judged.Goals as goal
 
-pub returns-in_err-metrics-clause-told : goal.returns-in_err-metrics-clause-told
-returns-in_err-metrics-clause-told g c =
+pub returns-in_err-metrics-clause-reported : goal.returns-in_err-metrics-clause-reported
+returns-in_err-metrics-clause-reported g c =
     let p = err_from_is_err_and c.from_residual-in_err-metrics.result c.from_residual-in_err-metrics.ensures.1 in
     let records = c.args.records.now in
     let these = map (λ name. name.now) c.args.stale.now in
@@ -20,8 +20,8 @@ returns-in_err-metrics-clause-told g c =
     (subst (λ run. Refuses c.in_err-metrics.field-0.0 (judged_in (glyph_metrics_among run these) (glyph_metrics_among run ordered)))
     (same-function _ _ (λ x. ap (λ r. option_or r (recorded_run records x)) (c.in_ok-runs.ensures.kept x))) c.in_err-metrics.ensures)
 
-pub returns-clause-told : goal.returns-clause-told
-returns-clause-told g c =
+pub returns-clause-reported : goal.returns-clause-reported
+returns-clause-reported g c =
     let records = c.args.records.now in
     let these = map (λ name. name.now) c.args.stale.now in
     let ordered = filter (has (λ name. name.now) c.args.found.now.keys) (g.O.GlyphOrder.ordered c.args.order.now) in

@@ -39,7 +39,7 @@ renewal_of-requires g c =
     ∙ ap (λ l. filter (λ x. is_some (m.glyphs x)) (map (λ name. name.now) l)) c.as_slice.ensures.keys in
     subst (AllByRecursion (HasRun c.in_ok-runs.runs)) (sym c.deref-3.ensures.value)
     (have-runs m these c.args.records.now (those-there m.glyphs keys these is) c.in_ok-runs.runs c.in_ok-runs.ensures.kept c.in_ok-runs.metrics.items
-    (judged-ok _ _ c.in_ok-runs.metrics.items c.in_ok-runs.ensures.told))
+    (judged-ok _ _ c.in_ok-runs.metrics.items c.in_ok-runs.ensures.reported))
 
 pub returns-in_err-runs-clause-checked : goal.returns-in_err-runs-clause-checked
 returns-in_err-runs-clause-checked g c = λ old new e.
@@ -53,7 +53,7 @@ returns-in_err-runs-clause-checked g c = λ old new e.
     let reached = c.in_ok-found.ensures.stale (bodies old.items) e.right.users in
     let are = those-are m.glyphs keys these is in
     let p = err_from_is_err_and c.from_residual-in_err-runs.result c.from_residual-in_err-runs.ensures.1 in
-    rw (p.1, p.2) (first-fault c.args.edits.now old new c.args.records.now m names e found reached these are c.in_err-runs.field-0.0 c.in_err-runs.ensures.told)
+    rw (p.1, p.2) (first-fault c.args.edits.now old new c.args.records.now m names e found reached these are c.in_err-runs.field-0.0 c.in_err-runs.ensures.reported)
 
 pub returns-in_err-runs-clause-counted : goal.returns-in_err-runs-clause-counted
 returns-in_err-runs-clause-counted g c = λ old new e.
@@ -100,7 +100,7 @@ returns-clause-checked g c = λ old new e.
     let found = has (λ name. name.now) keys in
     let reached = c.in_ok-found.ensures.stale (bodies old.items) e.right.users in
     let are = those-are m.glyphs keys these is in
-    no-fault c.args.edits.now old new c.args.records.now m names e found reached these are c.in_ok-runs.metrics.items c.in_ok-runs.ensures.told
+    no-fault c.args.edits.now old new c.args.records.now m names e found reached these are c.in_ok-runs.metrics.items c.in_ok-runs.ensures.reported
 
 pub returns-clause-renewal : goal.returns-clause-renewal
 returns-clause-renewal g c = λ old new e.
@@ -116,7 +116,7 @@ returns-clause-renewal g c = λ old new e.
     let runs = c.in_ok-runs.runs in
     let renewal = c.in_ok-renewal_of.field-0 in
     renewal-is c.args.edits.now old new c.args.records.now m names e found reached these are
-    c.in_ok-runs.metrics.items c.in_ok-runs.ensures.told runs c.in_ok-runs.ensures.kept c.in_ok-runs.ensures.traced renewal
+    c.in_ok-runs.metrics.items c.in_ok-runs.ensures.reported runs c.in_ok-runs.ensures.kept c.in_ok-runs.ensures.traced renewal
     (subst (λ ms. AllByRecursion (IsRerun runs ms) renewal.reruns.items) c.deref-3.ensures.value c.in_ok-renewal_of.ensures.each)
     (λ x. c.in_ok-renewal_of.ensures.names x ∙ ap (list_any (λ y. bytes_eq x y.name)) c.deref-3.ensures.value)
     (λ k u. c.in_ok-renewal_of.ensures.leaves k u ∙ ap (λ l. has (λ name. name.now) l u && is_user k (recorded_run c.args.records.now u)) c.as_slice-2.ensures.keys)

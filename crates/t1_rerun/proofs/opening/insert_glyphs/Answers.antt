@@ -39,15 +39,15 @@ loop-glyph-preserved c =
     let now = c.loop-glyph.records in
     let new = c.insert_glyph.new.records in
     let name = c.in_ok-name.ensures.items ∙ c.as_slice-name.ensures in
-    let told = c.in_ok-insert_glyph.ensures in
+    let reported = c.in_ok-insert_glyph.ensures in
     glyph-built c.args.records.now c.args.bodies.entries bodies c.args.runs runs c.args.metrics.now c.loop-glyph.glyph-index now
     c.requires.distinct c.loop-glyph.invariant m c.loop-glyph-test.true c.glyph-item.is
     c.in-Some.body (sym c.in-Some.is ∙ c.taken_body.ensures.body ∙ ap (glyph_kept bodies) c.as_slice-name.ensures)
     c.in-Some-taken.run' (sym c.in-Some-taken.is ∙ c.taken.ensures.run ∙ ap (λ n. run_in (run_kept runs n)) c.as_slice-name.ensures)
     c.taken_body.new.bodies.entries (λ g. c.taken_body.ensures.others g ∙ ap (λ n. cond (bytes_eq n g) None (glyph_kept bodies g)) c.as_slice-name.ensures)
     c.taken.new.runs (λ g. c.taken.ensures.others g ∙ ap (λ n. cond (bytes_eq n g) None (run_kept runs g)) c.as_slice-name.ensures)
-    new (subst (λ n. SetsBody (Glyph n) (Some c.in-Some.body) now new) name told.bodies) told.users
-    (told.kept ∙ ap (λ n. map kept_of now.glyphs.entries ++ kept n c.in-Some-taken.run' m.bbox ∷ []) name)
+    new (subst (λ n. SetsBody (Glyph n) (Some c.in-Some.body) now new) name reported.bodies) reported.users
+    (reported.kept ∙ ap (λ n. map kept_of now.glyphs.entries ++ kept n c.in-Some-taken.run' m.bbox ∷ []) name)
 
 pub insert_glyph-requires : goal.insert_glyph-requires
 insert_glyph-requires c =

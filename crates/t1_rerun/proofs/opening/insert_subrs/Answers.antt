@@ -8,6 +8,6 @@ insert_subr-requires c =
 
 pub loop-number-preserved : goal.loop-number-preserved
 loop-number-preserved c =
-    let told = c.in_ok-insert_subr.ensures in
+    let reported = c.in_ok-insert_subr.ensures in
     subr-inserted c.args.records.now c.args.bodies.entries c.loop-number.left.entries c.pop.new.self.entries c.loop-number.records c.in-Some.number c.in-Some.body
-    c.in-Some.ensures.entries c.loop-number.invariant c.insert_subr.new.records c.in-Some.ensures.updates.1 told.bodies told.users told.kept
+    c.in-Some.ensures.entries c.loop-number.invariant c.insert_subr.new.records c.in-Some.ensures.updates.1 reported.bodies reported.users reported.kept

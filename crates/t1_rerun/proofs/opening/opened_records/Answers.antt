@@ -62,9 +62,9 @@ records_of-requires-clause-names c =
     let kept = λ (g : List ℕ). c.in_ok-runs.ensures.kept g ∙ ap (λ l. own_among bs (map (λ name. name.now) l) g) c.deref.ensures.value in
     let its = c.in_ok-bodies.ensures in
     let metrics = c.in_ok-metrics.metrics.items in
-    let told = ap (λ l. glyph_metrics_among (run_of runs) (map (λ name. name.now) l)) (sym c.deref-2.ensures.value) ∙ c.in_ok-metrics.ensures in
+    let reported = ap (λ l. glyph_metrics_among (run_of runs) (map (λ name. name.now) l)) (sym c.deref-2.ensures.value) ∙ c.in_ok-metrics.ensures in
     ap (map (λ name. name.now)) c.deref-3.ensures.value
-    ∙ names-measured s its.file bs its.bodies its.no_fault names are runs kept metrics told
+    ∙ names-measured s its.file bs its.bodies its.no_fault names are runs kept metrics reported
     ∙ ap measured_names (sym c.deref-4.ensures.value)
 
 pub records_of-requires-clause-measured : goal.records_of-requires-clause-measured
@@ -77,9 +77,9 @@ records_of-requires-clause-measured c =
     let kept = λ (g : List ℕ). c.in_ok-runs.ensures.kept g ∙ ap (λ l. own_among bs (map (λ name. name.now) l) g) c.deref.ensures.value in
     let its = c.in_ok-bodies.ensures in
     let metrics = c.in_ok-metrics.metrics.items in
-    let told = ap (λ l. glyph_metrics_among (run_of runs) (map (λ name. name.now) l)) (sym c.deref-2.ensures.value) ∙ c.in_ok-metrics.ensures in
+    let reported = ap (λ l. glyph_metrics_among (run_of runs) (map (λ name. name.now) l)) (sym c.deref-2.ensures.value) ∙ c.in_ok-metrics.ensures in
     subst (AreMeasured bs runs) (sym c.deref-4.ensures.value)
-    (are-measured s its.file bs its.bodies its.no_fault names are runs kept metrics told c.text_of_source_read.ensures)
+    (are-measured s its.file bs its.bodies its.no_fault names are runs kept metrics reported c.text_of_source_read.ensures)
 
 pub returns-clause-checked : goal.returns-clause-checked
 returns-clause-checked c =
@@ -91,8 +91,8 @@ returns-clause-checked c =
     let kept = λ (g : List ℕ). c.in_ok-runs.ensures.kept g ∙ ap (λ l. own_among bs (map (λ name. name.now) l) g) c.deref.ensures.value in
     let its = c.in_ok-bodies.ensures in
     let metrics = c.in_ok-metrics.metrics.items in
-    let told = ap (λ l. glyph_metrics_among (run_of runs) (map (λ name. name.now) l)) (sym c.deref-2.ensures.value) ∙ c.in_ok-metrics.ensures in
-    no-fault s its.file bs its.bodies its.no_fault names are runs kept metrics told
+    let reported = ap (λ l. glyph_metrics_among (run_of runs) (map (λ name. name.now) l)) (sym c.deref-2.ensures.value) ∙ c.in_ok-metrics.ensures in
+    no-fault s its.file bs its.bodies its.no_fault names are runs kept metrics reported
 
 pub returns-clause-right : goal.returns-clause-right
 returns-clause-right c =
@@ -104,10 +104,10 @@ returns-clause-right c =
     let kept = λ (g : List ℕ). c.in_ok-runs.ensures.kept g ∙ ap (λ l. own_among bs (map (λ name. name.now) l) g) c.deref.ensures.value in
     let its = c.in_ok-bodies.ensures in
     let metrics = c.in_ok-metrics.metrics.items in
-    let told = ap (λ l. glyph_metrics_among (run_of runs) (map (λ name. name.now) l)) (sym c.deref-2.ensures.value) ∙ c.in_ok-metrics.ensures in
+    let reported = ap (λ l. glyph_metrics_among (run_of runs) (map (λ name. name.now) l)) (sym c.deref-2.ensures.value) ∙ c.in_ok-metrics.ensures in
     let records = c.in_ok-records_of.field-0 in
     let made = c.in_ok-records_of.ensures in
-    are-right s its.file bs its.bodies its.no_fault names are runs kept metrics told c.in_ok-runs.ensures.traced records made.compiled made.users
+    are-right s its.file bs its.bodies its.no_fault names are runs kept metrics reported c.in_ok-runs.ensures.traced records made.compiled made.users
     (made.order ∙ ap measured_names c.deref-4.ensures.value)
     (subst (λ l. AllByRecursion (IsRecorded runs l) (map kept_of records.glyphs.entries)) c.deref-4.ensures.value made.each)
 

@@ -9,16 +9,16 @@ use Rattle.t1_charstrings.proofs.batch.settling.put_glyphs.Goals as goal
 pub loop-name-preserved : goal.loop-name-preserved
 loop-name-preserved c =
     let was = c.loop-name.invariant in
-    let told = c.insert_glyph-put.ensures in
+    let reported = c.insert_glyph-put.ensures in
     let some = c.in-Some.ensures in
     record {
       glyphs = λ fits g.
           put-last (λ k. bytes_eq g k.items) c.loop-name.left.entries c.pop.new.self.entries c.in-Some.name c.in-Some.entry
           (glyph_kept c.loop-name.charstrings.glyphs.entries g) (glyph_kept c.insert_glyph-put.new.charstrings.glyphs.entries g) some.entries
-          (on-ok c.insert_glyph-put.result (told.succeeds (omega (arith, some.len, was.room fits))) told.sets (Glyph g))
+          (on-ok c.insert_glyph-put.result (reported.succeeds (omega (arith, some.len, was.room fits))) reported.sets (Glyph g))
           ∙ was.glyphs fits g;
-      room = λ fits. omega (arith, told.room.0, some.len, was.room fits);
-      subrs = told.room.1 ∙ was.subrs;
+      room = λ fits. omega (arith, reported.room.0, some.len, was.room fits);
+      subrs = reported.room.1 ∙ was.subrs;
     }
 
 pub returns-clause-glyphs : goal.returns-clause-glyphs

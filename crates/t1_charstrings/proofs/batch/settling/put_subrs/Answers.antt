@@ -9,16 +9,16 @@ use Rattle.t1_charstrings.proofs.batch.settling.put_subrs.Goals as goal
 pub loop-number-preserved : goal.loop-number-preserved
 loop-number-preserved c =
     let was = c.loop-number.invariant in
-    let told = c.insert_subr-put.ensures in
+    let reported = c.insert_subr-put.ensures in
     let some = c.in-Some.ensures in
     record {
       subrs = λ fits n.
           put-last (nat_eq n) c.loop-number.left.entries c.pop.new.self.entries c.in-Some.number c.in-Some.entry
           (subr_kept c.loop-number.charstrings.subrs.entries n) (subr_kept c.insert_subr-put.new.charstrings.subrs.entries n) some.entries
-          (on-ok c.insert_subr-put.result (told.succeeds (omega (arith, some.len, was.room fits))) told.sets (Subr n))
+          (on-ok c.insert_subr-put.result (reported.succeeds (omega (arith, some.len, was.room fits))) reported.sets (Subr n))
           ∙ was.subrs fits n;
-      room = λ fits. omega (arith, told.room.0, some.len, was.room fits);
-      glyphs = told.room.1 ∙ was.glyphs;
+      room = λ fits. omega (arith, reported.room.0, some.len, was.room fits);
+      glyphs = reported.room.1 ∙ was.glyphs;
     }
 
 pub returns-clause-subrs : goal.returns-clause-subrs

@@ -9,7 +9,7 @@ use Rattle.t1_extent.proofs.figure.Figure.through.Goals as goal
 pub returns-in_default : goal.returns-in_default
 returns-in_default c = λ outline h ok. (
   [],
-  ap (through c.args.moves.now c.args.last.now) (no_figure c.args.figure outline c.in_default.not-Some h.told) ∙ nothing_through c.args.moves.now c.args.last.now,
+  ap (through c.args.moves.now c.args.last.now) (no_figure c.args.figure outline c.in_default.not-Some h.reported) ∙ nothing_through c.args.moves.now c.args.last.now,
   c.nothing.ensures.reach,
 )
 
@@ -26,14 +26,14 @@ returns-in_err-corners c =
     rw (p.1, p.2) (λ outline h ok.
     let is = subst (λ f. IsWholeFigure f outline) c.in-Some.is h in
     let k = riding c.in-Some.figure c.args.moves.now c.args.last.now outline (Ok c.in_ok-place.place) is c.requires.moves c.requires.last ok c.in_ok-place.ensures.moved in
-    figure_refused c.in-Some.figure outline c.in_ok-place.place (distance_of c.between-by.result) (through c.args.moves.now c.args.last.now outline) _ is.told
+    figure_refused c.in-Some.figure outline c.in_ok-place.place (distance_of c.between-by.result) (through c.args.moves.now c.args.last.now outline) _ is.reported
     c.between-by.ensures.value k c.in_err-corners.ensures.outcome)
 
 pub returns-in_err-drawn : goal.returns-in_err-drawn
 returns-in_err-drawn c = λ outline h ok.
     let is = subst (λ f. IsWholeFigure f outline) c.in-Some.is h in
     let k = riding c.in-Some.figure c.args.moves.now c.args.last.now outline (Ok c.in_ok-place.place) is c.requires.moves c.requires.last ok c.in_ok-place.ensures.moved in
-    absurd (figure_draws c.in-Some.figure outline c.in_ok-place.place (distance_of c.between-by.result) (through c.args.moves.now c.args.last.now outline) _ is.told
+    absurd (figure_draws c.in-Some.figure outline c.in_ok-place.place (distance_of c.between-by.result) (through c.args.moves.now c.args.last.now outline) _ is.reported
     c.between-by.ensures.value k c.in_ok-corners.ensures.outcome c.in_err-drawn.ensures.outcome)
 
 pub returns : goal.returns
@@ -42,5 +42,5 @@ returns c = λ outline h ok.
     let k = riding c.in-Some.figure c.args.moves.now c.args.last.now outline (Ok c.in_ok-place.place) is c.requires.moves c.requires.last ok c.in_ok-place.ensures.moved in
     rw c.rounded.ensures
     (figure_reaches c.in-Some.figure outline c.in_ok-place.place (distance_of c.between-by.result) (through c.args.moves.now c.args.last.now outline) c.in_ok-drawn.drawn c.in_ok-corners.corners
-    is.told c.between-by.ensures.value k c.in_ok-corners.ensures.outcome c.in_ok-drawn.ensures.value c.in_ok-corners.ensures.value
+    is.reported c.between-by.ensures.value k c.in_ok-corners.ensures.outcome c.in_ok-drawn.ensures.value c.in_ok-corners.ensures.value
     (c.in_ok-corners.ensures.fine c.in-Some.figure.corners_fine))

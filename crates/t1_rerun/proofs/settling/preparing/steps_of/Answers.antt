@@ -5,7 +5,7 @@ use Rattle.t1_cache.specs.Room.{count_at}
 use Rattle.t1_rerun.specs.Settled.{changed_keys, AreDistinctKeys}
 use Rattle.t1_rerun.specs.Steps.{new_run, some_inserts, AreStepsOf}
 use Rattle.std.proofs.Common.{cond, None, ◌≡◌}
-use Rattle.t1_rerun.proofs.Preparing.{apart-behind, count-next, next-step, runs-left}
+use Rattle.t1_rerun.proofs.Preparing.{apart-after, count-next, next-step, runs-left}
 use Rattle.t1_rerun.proofs.settling.preparing.steps_of.Goals as goal
 
 pub loop-change-preserved : goal.loop-change-preserved
@@ -20,7 +20,7 @@ loop-change-preserved c =
     let count = count_at c.args.counts.now in
     let records = c.args.records.now in
     let all = was.all ∙ ap (λ l. l ++ was.done) c.in-Some.ensures.items ∙ append_assoc rest (change ∷ []) was.done in
-    let apart = apart-behind rest change was.done (subst (λ l. AreDistinctKeys (changed_keys l)) all c.requires) in
+    let apart = apart-after rest change was.done (subst (λ l. AreDistinctKeys (changed_keys l)) all c.requires) in
     record {
       done = change ∷ was.done;
       all = all;

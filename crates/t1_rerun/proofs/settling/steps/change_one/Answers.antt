@@ -5,8 +5,8 @@ use Rattle.t1_rerun.proofs.settling.steps.change_one.Goals as goal
 
 pub returns-in-InsertGlyph-clause-seen : goal.returns-in-InsertGlyph-clause-seen
 returns-in-InsertGlyph-clause-seen c =
-    let told = c.put_last_glyph.ensures in
+    let reported = c.put_last_glyph.ensures in
     let step = steps.InsertGlyph c.in-InsertGlyph.name c.in-InsertGlyph.record in
     let made : seen c.put_last_glyph.new.records ≡ after step (seen c.args.records.now) =
-    (λ j. record { bodies = λ k. told.bodies k j; users = λ k. told.users k j; kept = told.kept j }) in
+    (λ j. record { bodies = λ k. reported.bodies k j; users = λ k. reported.users k j; kept = reported.kept j }) in
     made ∙ ap (λ s. after s (seen c.args.records.now)) (sym c.in-InsertGlyph.is)

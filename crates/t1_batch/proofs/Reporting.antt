@@ -17,7 +17,7 @@ use Rattle.t1_run.proofs.Within.{each-append}
 use Rattle.t1_font.specs.Assembly.{file_check}
 use Rattle.t1_font.specs.Bodies.{bodies_check}
 use Rattle.t1_font.specs.Glyphs.{glyph_names}
-use Rattle.t1_font.proofs.LengthLaws.{body_fault_told}
+use Rattle.t1_font.proofs.LengthLaws.{body_fault_reported}
 use Rattle.t1_cache.specs.Users.{key_of}
 use Rattle.t1_cache.proofs.Distinct.{names_distinct}
 use Rattle.t1_cache.proofs.Lists.{all-weaken}
@@ -27,11 +27,11 @@ use Rattle.t1_rerun.specs.Settled.{changed_keys, last_glyphs, was_moved, AreDist
 use Rattle.t1_cache.proofs.Filtering.{among-passing, filter-as, passed}
 use Rattle.t1_batch.specs.declared.entries.EditedEntry.{EditedEntry}
 use Rattle.t1_batch.specs.Batch.{entry_edit, keys, was_added, AreBatchChanges, EntryEdit, IsEditedBy, IsSoundBut}
-use Rattle.t1_batch.specs.Passing.{all_marked, all_removed, behind_items, changes_by, items_put, none_sought, Sought}
+use Rattle.t1_batch.specs.Passing.{all_marked, all_removed, after_items, changes_by, items_put, none_sought, Sought}
 use Rattle.t1_batch.proofs.Gathering.{Outcome}
 use Rattle.t1_batch.proofs.Members.{same_edited}
 use Rattle.t1_font.proofs.Keys.{glyph-key}
-use Rattle.t1_batch.proofs.Passing.{absent, all-put, always, at-glyph, behind-at, distinct, has_at, itself, keys-any, mark_is, marks-added, marks-named, passes, tallied, tally, IsPut, Passes}
+use Rattle.t1_batch.proofs.Passing.{absent, all-put, always, at-glyph, after-at, distinct, has_at, itself, keys-any, mark_is, marks-added, marks-named, passes, tallied, tally, IsPut, Passes}
 use Rattle.t1_batch.proofs.Removing.{all-last, checked, each-removed, last-append, removed-any, removed-distinct, removed-last, removed-unmoved, unit, IsRemoved}
 
 -- ---- an outcome
@@ -54,7 +54,7 @@ module _ (es : List EditedEntry) (old new : SourceParts) (fine : bodies_check ol
   entries = map entry_edit es
 
   abbrev left : Sought
-  left = behind_items new.items marks
+  left = after_items new.items marks
 
   abbrev back : List EntryChange
   back = all_removed left es
@@ -73,7 +73,7 @@ module _ (es : List EditedEntry) (old new : SourceParts) (fine : bodies_check ol
 
   refused : (refusal : Refusal) → Refuses refusal (changes_by es new.items) → Refuses refusal (file_check new)
   refused refusals.Memory h = tt
-  refused (refusals.Fault fault) h = body_fault_told new fault (checked-all ∙ ap unit (put-fault (items_put marks new.items) back fault h))
+  refused (refusals.Fault fault) h = body_fault_reported new fault (checked-all ∙ ap unit (put-fault (items_put marks new.items) back fault h))
 
   -- a glyph that isn't named was there before
   there-before : (g : List ℕ) → list_any (bytes_eq g) (glyph_names new.items) ≡ true → marks (Glyph g) ≡ None → has_glyph old g ≡ true
@@ -97,7 +97,7 @@ module _ (es : List EditedEntry) (old new : SourceParts) (fine : bodies_check ol
         ∙ list_any-append (λ c. always c.moved && key_eq k (key_of c.named)) front back
         ∙ ap (λ b. b || tally always k back) (tallied always k new.items marks front pass)
         ∙ ap (λ b. (has_at k new.items && mark_is always (marks k)) || b)
-        (removed-any k es left ∙ ap (λ r. is_some r && list_any (key_eq k) (keys entries)) (behind-at new.items marks k))
+        (removed-any k es left ∙ ap (λ r. is_some r && list_any (key_eq k) (keys entries)) (after-at new.items marks k))
         ∙ by (has_at k new.items) (marks k) (list_any (key_eq k) (keys entries)) (sought-is k)
       where
         by : (has : Bool) (r : Option Bool) (any : Bool) → is_some r ≡ any → ((has && mark_is always r) || (is_some (cond has None r) && any)) ≡ any
@@ -113,7 +113,7 @@ module _ (es : List EditedEntry) (old new : SourceParts) (fine : bodies_check ol
 
     not-there : (c : EntryChange) → IsRemoved left c → HasBody new c
     not-there c h =
-        absent new.items (key_of c.named) (out (has_at (key_of c.named) new.items) (sym (ap is_some (behind-at new.items marks (key_of c.named))) ∙ h.mark))
+        absent new.items (key_of c.named) (out (has_at (key_of c.named) new.items) (sym (ap is_some (after-at new.items marks (key_of c.named))) ∙ h.mark))
         ∙ sym h.body
       where
         out : (b : Bool) → is_some (cond b None (marks (key_of c.named))) ≡ true → b ≡ false
@@ -170,11 +170,11 @@ module _ (es : List EditedEntry) (old new : SourceParts) (fine : bodies_check ol
     }
 
   made : (cs : List EntryChange) → changes_by es new.items ≡ Ok cs → AreBatchChanges old new (keys entries) cs
-  made cs told =
-      let p = put-ok (items_put marks new.items) back cs told in
+  made cs reported =
+      let p = put-ok (items_put marks new.items) back cs reported in
       subst (AreBatchChanges old new (keys entries)) (sym p.2) (all-right p.0 p.1)
 
-  pub batch-told : (result : Result (Vec EntryChange Global) Refusal) → Gives (λ changes. changes.items) result (changes_by es new.items)
+  pub batch-reported : (result : Result (Vec EntryChange Global) Refusal) → Gives (λ changes. changes.items) result (changes_by es new.items)
       → MatchResult result (λ changes. AreBatchChanges old new (keys entries) changes.items) (λ refusal. Refuses refusal (file_check new))
-  batch-told (Ok changes) told = made changes.items told
-  batch-told (Err refusal) told = refused refusal told
+  batch-reported (Ok changes) reported = made changes.items reported
+  batch-reported (Err refusal) reported = refused refusal reported
