@@ -10,114 +10,7 @@ use t1_frac::{Code, Fault, Place, Refusal};
 use t1_pairs::read_pairs;
 use t1_run::Meter;
 use t1_source::{Source, read_source};
-
-/// The demo font.
-const DEMO: &str = "\
-    %!PS-AdobeFont-1.0: Demo 001.000\n\
-    /FontInfo 5 dict dup begin\n\
-    /version (001.000) readonly def\n\
-    /FullName (Demo Roman) readonly def\n\
-    /Weight (Medium) readonly def\n\
-    /ItalicAngle 0 def\n\
-    /isFixedPitch false def\n\
-    end readonly def\n\
-    /FontName /Demo def\n\
-    /Encoding StandardEncoding def\n\
-    /FontBBox{0 0 0 0}readonly def\n\
-    currentfile eexec\n\
-    dup /Private 8 dict dup begin\n\
-    /RD {string currentfile exch readstring pop} executeonly def\n\
-    /Subrs 5 array\n\
-    dup 0 {\n\
-    \t3 0 callothersubr\n\
-    \tpop\n\
-    \tpop\n\
-    \tsetcurrentpoint\n\
-    \treturn\n\
-    \t} NP\n\
-    dup 1 {\n\
-    \t0 1 callothersubr\n\
-    \treturn\n\
-    \t} NP\n\
-    dup 2 {\n\
-    \t0 2 callothersubr\n\
-    \treturn\n\
-    \t} NP\n\
-    dup 3 {\n\
-    \treturn\n\
-    \t} NP\n\
-    dup 4 {\n\
-    \t100 178 rlineto\n\
-    \treturn\n\
-    \t} NP\n\
-    ND\n\
-    2 index /CharStrings 6 dict dup begin\n\
-    /.notdef {\n\
-    \t0 250 hsbw\n\
-    \tendchar\n\
-    \t} ND\n\
-    /Aacute {\n\
-    \t10 600 hsbw\n\
-    \t93 170 214 65 194 seac\n\
-    \t} ND\n\
-    /A {\n\
-    \t10 600 hsbw\n\
-    \t300 hlineto\n\
-    \t700 vlineto\n\
-    \tclosepath\n\
-    \tendchar\n\
-    \t} ND\n\
-    /acute {\n\
-    \t93 333 hsbw\n\
-    \t500 vmoveto\n\
-    \t4 callsubr\n\
-    \tclosepath\n\
-    \tendchar\n\
-    \t} ND\n\
-    /V {\n\
-    \t15 722 hsbw\n\
-    \t0 700 rmoveto\n\
-    \t100 -700 rlineto\n\
-    \tclosepath\n\
-    \tendchar\n\
-    \t} ND\n\
-    /space {\n\
-    \t0 250 hsbw\n\
-    \tendchar\n\
-    \t} ND\n\
-    end\n\
-    end\n\
-    mark currentfile closefile\n\
-    cleartomark\n\
-    ";
-
-const AFM: &str = "\
-    StartFontMetrics 4.1\n\
-    FontName Demo\n\
-    FullName Demo Roman\n\
-    Weight Medium\n\
-    ItalicAngle 0\n\
-    IsFixedPitch false\n\
-    FontBBox 10 0 310 892\n\
-    Version 001.000\n\
-    EncodingScheme AdobeStandardEncoding\n\
-    StartCharMetrics 6\n\
-    C 32 ; WX 250 ; N space ; B 0 0 0 0 ;\n\
-    C 65 ; WX 600 ; N A ; B 10 0 310 700 ;\n\
-    C 86 ; WX 722 ; N V ; B 15 0 115 700 ;\n\
-    C 194 ; WX 333 ; N acute ; B 93 500 193 678 ;\n\
-    C -1 ; WX 250 ; N .notdef ; B 0 0 0 0 ;\n\
-    C -1 ; WX 600 ; N Aacute ; B 10 0 310 892 ;\n\
-    EndCharMetrics\n\
-    StartKernData\n\
-    StartKernPairs 1\n\
-    KPX A V -92\n\
-    EndKernPairs\n\
-    EndKernData\n\
-    StartComposites 1\n\
-    CC Aacute 2 ; PCC A 0 0 ; PCC acute 87 214 ;\n\
-    EndComposites\n\
-    EndFontMetrics\n";
+use t1_test_fonts::{DEMO, DEMO_METRICS, SMALL};
 
 /// The glyphs of a source.
 fn glyphs_of<'a>(
@@ -138,7 +31,7 @@ fn measures_the_demo_font(rt: HostRuntime) -> Result<(), Fail> {
     let metrics = metrics(alloc, &source, &pairs, &glyphs)?;
     let mut out = Counted::new(Vec::new(alloc));
     write_afm(&metrics, &mut out)?;
-    assert_eq!(rt; out.into_inner().as_slice(), AFM.as_bytes());
+    assert_eq!(rt; out.into_inner().as_slice(), DEMO_METRICS.as_bytes());
     Ok(())
 }
 
@@ -203,19 +96,6 @@ fn reports_the_uses_of_the_demo_font(rt: HostRuntime) -> Result<(), Fail> {
     );
     Ok(())
 }
-
-/// The small font.
-const SMALL: &str = "\
-    %!\n\
-    /Encoding StandardEncoding def\n\
-    currentfile eexec\n\
-    /CharStrings 1 dict dup begin\n\
-    /space {\n\
-    \t0 250 hsbw\n\
-    \tendchar\n\
-    \t} ND\n\
-    end\n\
-    mark currentfile closefile\n";
 
 #[test]
 fn writes_the_small_font_in_hexadecimal(rt: HostRuntime) -> Result<(), Fail> {

@@ -1,5 +1,4 @@
-//! Batches on a font of a Subr and three glyphs, with memory that doesn't run out.
-use crate::fonts::THREE;
+//! Batches on the demo font, with memory that doesn't run out.
 use std::alloc::Global;
 use std::test::Fail;
 use t1_batch::{Batch, batch_changes};
@@ -9,6 +8,7 @@ use t1_frac::{Bytes, Fault, Place, Refusal};
 use t1_pairs::read_pairs;
 use t1_rerun::EntryChange;
 use t1_source::{Cause, Edit, Rule, read_source};
+use t1_test_fonts::DEMO;
 
 fn bytes(alloc: Global, text: &str) -> Result<Bytes, Fail> {
     Ok(Bytes::copied(alloc, text.as_bytes())?)
@@ -33,7 +33,7 @@ fn remove_glyph(alloc: Global, name: &str) -> Result<Edit, Fail> {
 
 /// A batch on the font, without edits.
 fn no_edits(alloc: Global) -> Result<Batch<'static>, Fail> {
-    let source = read_source(alloc, THREE.as_bytes())?;
+    let source = read_source(alloc, DEMO.as_bytes())?;
     let pairs = read_pairs(alloc, b"")?;
     Ok(Batch::of(alloc, &source, &pairs)?)
 }

@@ -2,7 +2,7 @@
 
 mod batch;
 
-use crate::fonts::{SMALL, SPACE, read};
+use crate::fonts::read;
 use std::alloc::Global;
 use std::test::Fail;
 use t1_charstrings::{
@@ -12,32 +12,7 @@ use t1_charstrings::{
 use t1_code::{Body, Counted, Pfa, Pfb, WHOLE_PARTS, compile};
 use t1_font::pfb_of_source;
 use t1_frac::Words;
-
-/// A font with a Subr, with two bytes in front of each charstring.
-const SUBR: &str = "\
-    /Encoding StandardEncoding def\n\
-    currentfile eexec\n\
-    /lenIV 2 def\n\
-    /Subrs 5 array\n\
-    dup 4 {\n\
-    \t100 178 rlineto\n\
-    \treturn\n\
-    \t}\n\
-    ND\n\
-    2 index /CharStrings 2 dict dup begin\n\
-    /A {\n\
-    \t10 600 hsbw\n\
-    \t300 hlineto\n\
-    \t4 callsubr\n\
-    \tclosepath\n\
-    \tendchar\n\
-    \t} ND\n\
-    /space {\n\
-    \t0 250 hsbw\n\
-    \tendchar\n\
-    \t} ND\n\
-    end\n\
-    mark currentfile closefile\n";
+use t1_test_fonts::{SHORT_LEAD, SMALL, SMALL_CHARSTRING};
 
 /// The PFB file of a source, with its kept charstrings.
 fn kept_pfb(alloc: Global, text: &str, size: usize) -> Result<Vec<u8>, Fail> {
@@ -63,9 +38,9 @@ fn writes_the_small_font(rt: HostRuntime) -> Result<(), Fail> {
 #[test]
 fn writes_what_is_assembled(rt: HostRuntime) -> Result<(), Fail> {
     let alloc = rt.alloc();
-    let whole = pfb_of_source(alloc, &read(alloc, SUBR)?, WHOLE_PARTS)?;
+    let whole = pfb_of_source(alloc, &read(alloc, SHORT_LEAD)?, WHOLE_PARTS)?;
     assert_eq!(rt;
-        kept_pfb(alloc, SUBR, WHOLE_PARTS)?.as_slice(),
+        kept_pfb(alloc, SHORT_LEAD, WHOLE_PARTS)?.as_slice(),
         whole.as_slice()
     );
     Ok(())

@@ -1,10 +1,10 @@
-//! What is held of a font of three glyphs, with memory that doesn't run out.
+//! What is held of the demo font, with memory that doesn't run out.
 ghost use Rattle.std.specs.Prelude.{IfOk};
 ghost use Rattle.t1_held.specs.Held.{IsHeld};
 
 mod edits;
 
-use crate::fonts::{SMALL, SPACE, THREE, read};
+use crate::fonts::read;
 use std::alloc::Global;
 use std::test::Fail;
 use t1_afm::BBox;
@@ -16,6 +16,7 @@ use t1_held::{Edits, Held, held_metrics, held_of, prepare_edits, settle, write_h
 use t1_pairs::read_pairs;
 use t1_run::Meter;
 use t1_source::{Edit, Source};
+use t1_test_fonts::{DEMO, SHORT_LEAD, SMALL, SMALL_CHARSTRING};
 
 /// A font after an edit, what is held of it then, and how many runs were counted.
 fn edited<'a>(alloc: Global, text: &'a str, edit: &Edit) -> Result<(Source<'a>, Held, u64), Fail>
@@ -45,7 +46,7 @@ fn subr_4(alloc: Global) -> Result<Edit, Fail> {
 
 /// How many runs are counted with an edit of Subr 4, and the font's box then.
 fn rises(alloc: Global) -> Result<(u64, BBox), Fail> {
-    let (_, held, runs) = edited(alloc, THREE, &subr_4(alloc)?)?;
+    let (_, held, runs) = edited(alloc, DEMO, &subr_4(alloc)?)?;
     let glyphs = held_metrics(alloc, &held)?;
     Ok((runs, glyphs.font_box()))
 }
@@ -59,7 +60,7 @@ fn runs_what_an_edit_makes_stale(rt: HostRuntime) -> Result<(), Fail> {
         top: 992,
     };
     let rises = rises(rt.alloc())?;
-    assert!(rt; rises == (5, risen));
+    assert!(rt; rises == (8, risen));
     Ok(())
 }
 
@@ -74,7 +75,7 @@ fn held_pfb(alloc: Global, held: &Held, source: &Source) -> Result<Vec<u8>, Fail
 
 /// Whether the file with what is held after an edit is that of the edited source from scratch.
 fn writes_as_from_scratch(alloc: Global, edit: &Edit) -> Result<bool, Fail> {
-    let (source, held, _) = edited(alloc, THREE, edit)?;
+    let (source, held, _) = edited(alloc, DEMO, edit)?;
     let kept = held_pfb(alloc, &held, &source)?;
     let made = pfb_of_source(alloc, &source, WHOLE_PARTS)?;
     Ok(kept.as_slice() == made.as_slice())
@@ -97,7 +98,7 @@ fn writes_charstrings_by_another_len_iv(rt: HostRuntime) -> Result<(), Fail> {
 
 /// How long the PFA file is with what is held after an edit.
 fn hexadecimal_len(alloc: Global, edit: &Edit) -> Result<usize, Fail> {
-    let (source, held, _) = edited(alloc, THREE, edit)?;
+    let (source, held, _) = edited(alloc, DEMO, edit)?;
     let mut out = Counted::new(Vec::new(alloc));
     write_held_file(alloc, &held, &source, &Pfa, &mut out)?;
     Ok(out.into_inner().len())
@@ -106,7 +107,7 @@ fn hexadecimal_len(alloc: Global, edit: &Edit) -> Result<usize, Fail> {
 #[test]
 fn writes_in_hexadecimal(rt: HostRuntime) -> Result<(), Fail> {
     let len = hexadecimal_len(rt.alloc(), &Edit::LenIv(0))?;
-    assert!(rt; len == 1006);
+    assert!(rt; len == 1781);
     Ok(())
 }
 
@@ -140,7 +141,7 @@ fn committed<'a>(
 /// How many runs are counted with a batch that edits Subr 4 and lenIV, and whether the file with what is held then is that of
 /// the batch's source from scratch.
 fn commits(alloc: Global) -> Result<(u64, bool), Fail> {
-    let (source, held, runs) = committed(alloc, THREE, &subr_4(alloc)?, &Edit::LenIv(1))?;
+    let (source, held, runs) = committed(alloc, DEMO, &subr_4(alloc)?, &Edit::LenIv(1))?;
     let kept = held_pfb(alloc, &held, &source)?;
     let made = pfb_of_source(alloc, &source, WHOLE_PARTS)?;
     Ok((runs, kept.as_slice() == made.as_slice()))
@@ -149,7 +150,7 @@ fn commits(alloc: Global) -> Result<(u64, bool), Fail> {
 #[test]
 fn commits_a_batch(rt: HostRuntime) -> Result<(), Fail> {
     let (runs, same) = commits(rt.alloc())?;
-    assert!(rt; runs == 5 && same);
+    assert!(rt; runs == 8 && same);
     Ok(())
 }
 
@@ -162,7 +163,7 @@ fn glyph_a(alloc: Global) -> Result<Edit, Fail> {
 /// The same of a batch that removes A and adds it again.
 fn adds_again(alloc: Global) -> Result<(u64, bool), Fail> {
     let removed = Edit::RemoveGlyph(Bytes::copied(alloc, b"A")?);
-    let (source, held, runs) = committed(alloc, THREE, &removed, &glyph_a(alloc)?)?;
+    let (source, held, runs) = committed(alloc, DEMO, &removed, &glyph_a(alloc)?)?;
     let kept = held_pfb(alloc, &held, &source)?;
     let made = pfb_of_source(alloc, &source, WHOLE_PARTS)?;
     Ok((runs, kept.as_slice() == made.as_slice()))
@@ -171,6 +172,6 @@ fn adds_again(alloc: Global) -> Result<(u64, bool), Fail> {
 #[test]
 fn commits_a_glyph_that_was_added_again(rt: HostRuntime) -> Result<(), Fail> {
     let (runs, same) = adds_again(rt.alloc())?;
-    assert!(rt; runs == 5 && same);
+    assert!(rt; runs == 8 && same);
     Ok(())
 }

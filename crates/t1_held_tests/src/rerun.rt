@@ -1,10 +1,9 @@
-//! The records of a font of three glyphs, with memory that doesn't run out.
+//! The records of the demo font, with memory that doesn't run out.
 ghost use Rattle.std.specs.Prelude.{◌≡◌, true, IfOk};
 ghost use Rattle.t1_source.specs.WellFormed.{IsWellFormed};
 ghost use Rattle.t1_cache.specs.Kept.{keep_traces};
 ghost use Rattle.t1_rerun.specs.Renewing.{IsEdited};
 
-use crate::fonts::THREE;
 use std::alloc::Global;
 use std::test::Fail;
 use t1_afm::BBox;
@@ -18,19 +17,20 @@ use t1_rerun::{
 };
 use t1_run::Meter;
 use t1_source::{Change, Edit, Source, read_source};
+use t1_test_fonts::DEMO;
 
-/// The source of the three glyphs.
-fn three_source(alloc: Global) -> Result<Source<'static>, Fail>
+/// The source of the demo font.
+fn demo_source(alloc: Global) -> Result<Source<'static>, Fail>
     ensures { IfOk result IsWellFormed }
 {
-    Ok(read_source(alloc, THREE.as_bytes())?)
+    Ok(read_source(alloc, DEMO.as_bytes())?)
 }
 
-/// The records of the three glyphs, in the order Aacute, A, acute.
-fn three(alloc: Global, meter: &mut Meter) -> Result<Records, Fail>
+/// The records of the demo font.
+fn demo(alloc: Global, meter: &mut Meter) -> Result<Records, Fail>
     ensures { IfOk result (λ records. keep_traces records ≡ true) }
 {
-    let source = read_source(alloc, THREE.as_bytes())?;
+    let source = read_source(alloc, DEMO.as_bytes())?;
     let records = opened_records(alloc, &source, meter)?;
     Ok(records)
 }
@@ -65,14 +65,14 @@ fn sides(left: i32, bottom: i32, right: i32, top: i32) -> BBox {
 #[test]
 fn opens_records_by_one_run_of_each_glyph(rt: HostRuntime) -> Result<(), Fail> {
     let mut meter = Meter::new();
-    let records = three(rt.alloc(), &mut meter)?;
-    assert_eq!(rt; (meter.count(), records.glyphs.len()), (3, 3));
+    let records = demo(rt.alloc(), &mut meter)?;
+    assert_eq!(rt; (meter.count(), records.glyphs.len()), (6, 6));
     Ok(())
 }
 
 #[test]
 fn opens_records_with_boxes_and_users(rt: HostRuntime) -> Result<(), Fail> {
-    let records = three(rt.alloc(), &mut Meter::new())?;
+    let records = demo(rt.alloc(), &mut Meter::new())?;
     let composite = has(&records, "Aacute", sides(10, 0, 310, 892), &[]);
     let base = has(&records, "A", sides(10, 0, 310, 700), &["Aacute"]);
     let accent = has(&records, "acute", sides(93, 500, 193, 678), &["Aacute"]);
@@ -82,7 +82,7 @@ fn opens_records_with_boxes_and_users(rt: HostRuntime) -> Result<(), Fail> {
 
 #[test]
 fn opens_records_with_users_of_subrs(rt: HostRuntime) -> Result<(), Fail> {
-    let records = three(rt.alloc(), &mut Meter::new())?;
+    let records = demo(rt.alloc(), &mut Meter::new())?;
     let entered = match records.subrs.get(&4) {
         None => false,
         Some(record) => are(&record.users, &["acute"]),
@@ -91,9 +91,9 @@ fn opens_records_with_users_of_subrs(rt: HostRuntime) -> Result<(), Fail> {
     Ok(())
 }
 
-/// What is measured of the three glyphs by their records.
+/// What is measured of the glyphs by their records.
 fn measured(alloc: Global) -> Result<(usize, BBox), Fail> {
-    let records = three(alloc, &mut Meter::new())?;
+    let records = demo(alloc, &mut Meter::new())?;
     let measured = measured_records(alloc, &records)?;
     Ok((measured.metrics().len(), measured.font_box()))
 }
@@ -101,15 +101,15 @@ fn measured(alloc: Global) -> Result<(usize, BBox), Fail> {
 #[test]
 fn measures_records(rt: HostRuntime) -> Result<(), Fail> {
     let measured = measured(rt.alloc())?;
-    assert!(rt; measured == (3, sides(10, 0, 310, 892)));
+    assert!(rt; measured == (6, sides(10, 0, 310, 892)));
     Ok(())
 }
 
-/// How many glyphs are run again where Subr 4 is edited, and how many runs are counted with the first three.
+/// How many glyphs are run again where Subr 4 is edited, and how many runs are counted with the first six.
 fn reruns(alloc: Global) -> Result<(usize, u64), Fail> {
-    let source = three_source(alloc)?;
+    let source = demo_source(alloc)?;
     let mut meter = Meter::new();
-    let records = three(alloc, &mut meter)?;
+    let records = demo(alloc, &mut meter)?;
     let edits = [Named::Subr(4)];
     let renewal = rerun(alloc, &records, &records, &source, &edits, &mut meter)?;
     Ok((renewal.reruns.len(), meter.count()))
@@ -118,7 +118,7 @@ fn reruns(alloc: Global) -> Result<(usize, u64), Fail> {
 #[test]
 fn runs_stale_glyphs_again(rt: HostRuntime) -> Result<(), Fail> {
     let reruns = reruns(rt.alloc())?;
-    assert!(rt; reruns == (2, 5));
+    assert!(rt; reruns == (2, 8));
     Ok(())
 }
 
@@ -170,7 +170,7 @@ fn reports_the_fault_of_an_edit_at_its_entry(rt: HostRuntime) -> Result<(), Fail
 
 /// How many glyphs stand in order where A is removed.
 fn names_without_a(alloc: Global) -> Result<usize, Fail> {
-    let source = read_source(alloc, THREE.as_bytes())?;
+    let source = read_source(alloc, DEMO.as_bytes())?;
     let pairs = read_pairs(alloc, b"")?;
     let change: Change = source.prepared(&pairs, &Edit::RemoveGlyph(Bytes::copied(alloc, b"A")?))?;
     let order = Prepared {
@@ -184,13 +184,13 @@ fn names_without_a(alloc: Global) -> Result<usize, Fail> {
 #[test]
 fn orders_glyphs_with_a_change(rt: HostRuntime) -> Result<(), Fail> {
     let names = names_without_a(rt.alloc())?;
-    assert!(rt; names == 2);
+    assert!(rt; names == 5);
     Ok(())
 }
 
-/// The records of the three glyphs after an edit, and how many runs were counted in all.
+/// The records of the demo font after an edit, and how many runs were counted in all.
 fn renewed(alloc: Global, edit: &Edit) -> Result<(Records, u64), Fail> {
-    let source = read_source(alloc, THREE.as_bytes())?;
+    let source = read_source(alloc, DEMO.as_bytes())?;
     let pairs = read_pairs(alloc, b"")?;
     let mut meter = Meter::new();
     let mut records = opened_records(alloc, &source, &mut meter)?;
@@ -228,7 +228,7 @@ fn are_raised(records: &Records) -> bool {
 fn rises(alloc: Global) -> Result<bool, Fail> {
     let edit = subr_4(alloc, b"100 278 rlineto return")?;
     let (records, runs) = renewed(alloc, &edit)?;
-    Ok(are_raised(&records) && runs == 5)
+    Ok(are_raised(&records) && runs == 8)
 }
 
 #[test]

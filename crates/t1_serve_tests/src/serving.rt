@@ -7,20 +7,15 @@ use t1_frac::{Code, Fault, Place};
 use t1_session::{
     ServeError, Session, assemble_blocks, assemble_pfa, assemble_source, measure_source, serve,
 };
+use t1_test_fonts::SMALL;
 
 mod files;
 
-/// A font of one glyph, in two parts.
-const FRONT: &[u8] = b"%!\n";
-
-const BACK: &[u8] =
-    b"/Encoding StandardEncoding def\ncurrentfile eexec\n/CharStrings 1 dict dup begin\n/space {\n\t0 250 hsbw\n\tendchar\n\t} ND\nend\nmark currentfile closefile\n";
-
-/// Its AFM file.
+/// The AFM file of the small font.
 const METRICS: &[u8] =
     b"StartFontMetrics 4.1\nFontBBox 0 0 0 0\nEncodingScheme AdobeStandardEncoding\nStartCharMetrics 1\nC 32 ; WX 250 ; N space ; B 0 0 0 0 ;\nEndCharMetrics\nEndFontMetrics\n";
 
-/// Commands on it, and their answers.
+/// Commands on the small font, and their answers.
 const TURNS: [(&[u8], &[u8]); 31] = [
     (b"print kern\n", b"data 0\n\n"),
     (
@@ -137,11 +132,9 @@ impl Write for Short {
     }
 }
 
-/// A font of one glyph.
+/// The small font.
 fn font(alloc: Global) -> Result<Vec<u8>, Fail> {
-    let mut font = Vec::from_slice(alloc, FRONT)?;
-    font.extend_from_slice(BACK)?;
-    Ok(font)
+    Ok(Vec::from_slice(alloc, SMALL.as_bytes())?)
 }
 
 /// The commands.
@@ -271,12 +264,13 @@ fn stops_in_a_print(rt: HostRuntime) -> Result<(), Fail> {
 #[test]
 fn writes_at_most_4096_bytes_a_call(rt: HostRuntime) -> Result<(), Fail> {
     let alloc = rt.alloc();
-    let mut font = Vec::from_slice(alloc, FRONT)?;
+    let (first, others) = SMALL.as_bytes().split_at(3);
+    let mut font = Vec::from_slice(alloc, first)?;
     for _ in 0..5_000 {
         font.push(b'%')?;
     }
     font.push(b'\n')?;
-    font.extend_from_slice(BACK)?;
+    font.extend_from_slice(others)?;
     let mut reader = Counted::new(b"print source\nprint pfb\n".as_slice());
     let mut writer = Counted::new(Short::new(alloc, usize::MAX, usize::MAX, true));
     serve(alloc, &font, b"", &mut reader, &mut writer)?;
@@ -319,6 +313,17 @@ fn prints_the_pfb(rt: HostRuntime) -> Result<(), Fail> {
     Ok(())
 }
 
+/// Whether a call was refused for a fault of the first line of the pairs.
+fn is_faulty_pair(result: &Result<(), ServeError>) -> bool {
+    matches!(
+        result,
+        Err(ServeError::Load(Fault {
+            code: Code::F12,
+            place: Place::Line(1)
+        }))
+    )
+}
+
 #[test]
 fn loads(rt: HostRuntime) -> Result<(), Fail> {
     let alloc = rt.alloc();
@@ -336,15 +341,7 @@ fn loads(rt: HostRuntime) -> Result<(), Fail> {
         )
     );
     let result = serve(alloc, &font, b"KPX A V -9.5", &mut reader, &mut writer);
-    assert!(rt;
-        matches!(
-            result,
-            Err(ServeError::Load(Fault {
-                code: Code::F12,
-                place: Place::Line(1)
-            }))
-        )
-    );
+    assert!(rt; is_faulty_pair(&result));
     assert_eq!(rt; reader.into_inner(), b"print kern\n".as_slice());
     assert_eq!(rt; writer.into_inner().as_slice(), b"".as_slice());
     Ok(())
@@ -388,15 +385,7 @@ fn measures_no_faulty_pairs(rt: HostRuntime) -> Result<(), Fail> {
     let alloc = rt.alloc();
     let mut out = Counted::new(Vec::new(alloc));
     let result = measure_source(alloc, &font(alloc)?, b"KPX A V -9.5", &mut out);
-    assert!(rt;
-        matches!(
-            result,
-            Err(ServeError::Load(Fault {
-                code: Code::F12,
-                place: Place::Line(1)
-            }))
-        )
-    );
+    assert!(rt; is_faulty_pair(&result));
     assert_eq!(rt; out.into_inner().len(), 0);
     Ok(())
 }

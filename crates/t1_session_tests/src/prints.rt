@@ -6,36 +6,7 @@ use t1_code::Counted;
 use t1_frac::Bytes;
 use t1_session::Session;
 use t1_source::Edit;
-
-/// The AFM file of the demo font with one kerning pair.
-const METRICS: &str = "\
-    StartFontMetrics 4.1\n\
-    FontName Demo\n\
-    FullName Demo Roman\n\
-    Weight Medium\n\
-    ItalicAngle 0\n\
-    IsFixedPitch false\n\
-    FontBBox 10 0 310 892\n\
-    Version 001.000\n\
-    EncodingScheme AdobeStandardEncoding\n\
-    StartCharMetrics 6\n\
-    C 32 ; WX 250 ; N space ; B 0 0 0 0 ;\n\
-    C 65 ; WX 600 ; N A ; B 10 0 310 700 ;\n\
-    C 86 ; WX 722 ; N V ; B 15 0 115 700 ;\n\
-    C 194 ; WX 333 ; N acute ; B 93 500 193 678 ;\n\
-    C -1 ; WX 250 ; N .notdef ; B 0 0 0 0 ;\n\
-    C -1 ; WX 600 ; N Aacute ; B 10 0 310 892 ;\n\
-    EndCharMetrics\n\
-    StartKernData\n\
-    StartKernPairs 1\n\
-    KPX A V -92\n\
-    EndKernPairs\n\
-    EndKernData\n\
-    StartComposites 1\n\
-    CC Aacute 2 ; PCC A 0 0 ; PCC acute 87 214 ;\n\
-    EndComposites\n\
-    EndFontMetrics\n\
-    ";
+use t1_test_fonts::DEMO_METRICS;
 
 /// A session of the demo font after a kern.
 fn kerned(alloc: Global) -> Result<Session<'static>, Fail> {
@@ -76,6 +47,6 @@ fn a_kern_is_among_the_pairs(rt: HostRuntime) -> Result<(), Fail> {
 fn a_kern_is_in_the_metrics(rt: HostRuntime) -> Result<(), Fail> {
     let mut out = Counted::new(Vec::new(rt.alloc()));
     kerned(rt.alloc())?.print_afm(&mut out)?;
-    assert!(rt; out.into_inner().as_slice() == METRICS.as_bytes());
+    assert!(rt; out.into_inner().as_slice() == DEMO_METRICS.as_bytes());
     Ok(())
 }

@@ -39,7 +39,7 @@ fn fresh(alloc: Global) -> Result<Charstrings, Fail> {
 #[test]
 fn counts_fresh_lines(rt: HostRuntime) -> Result<(), Fail> {
     let alloc = rt.alloc();
-    let charstrings = charstrings_of(alloc, &read(alloc, SUBR)?)?;
+    let charstrings = charstrings_of(alloc, &read(alloc, SHORT_LEAD)?)?;
     let len = batch_len(&charstrings, &fresh(alloc)?, &read(alloc, EDITED)?);
     // 97 bytes of five lines, 22 of the Subr's, and 19 and 21 of the glyphs'.
     assert_eq!(rt; len, 159);
@@ -53,7 +53,7 @@ fn puts_a_fresh_subr(rt: HostRuntime) -> Result<(), Fail> {
     put_fresh_subr(alloc, 4, &mut fresh, 3, &body(alloc, "0 250 hsbw endchar")?)?;
     let kept = match fresh.subrs.get(&3) {
         None => false,
-        Some(entry) => entry.charstring() == SPACE.as_slice(),
+        Some(entry) => entry.charstring() == SMALL_CHARSTRING.as_slice(),
     };
     assert_eq!(rt; kept, true);
     Ok(())

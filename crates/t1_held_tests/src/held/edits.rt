@@ -2,32 +2,7 @@
 
 use super::*;
 
-/// A font with a Subr that no glyph enters, with two bytes in front of each charstring.
-const SUBR: &str = "\
-    /Encoding StandardEncoding def\n\
-    currentfile eexec\n\
-    /lenIV 2 def\n\
-    /Subrs 5 array\n\
-    dup 4 {\n\
-    \t100 178 rlineto\n\
-    \treturn\n\
-    \t}\n\
-    ND\n\
-    2 index /CharStrings 2 dict dup begin\n\
-    /A {\n\
-    \t10 600 hsbw\n\
-    \t300 hlineto\n\
-    \tclosepath\n\
-    \tendchar\n\
-    \t} ND\n\
-    /space {\n\
-    \t0 250 hsbw\n\
-    \tendchar\n\
-    \t} ND\n\
-    end\n\
-    mark currentfile closefile\n";
-
-/// The charstring of space without leading bytes.
+/// The charstring of the small font's glyph without leading bytes.
 const BARE_SPACE: [u8; 5] = [0x9B, 0x23, 0xB0, 0xBB, 0x08];
 
 /// What is held of a font after an edit.
@@ -86,7 +61,7 @@ fn counts_an_added_glyph(rt: HostRuntime) -> Result<(), Fail> {
 fn encrypts_an_added_glyph(rt: HostRuntime) -> Result<(), Fail> {
     let alloc = rt.alloc();
     let held = held_after(alloc, SMALL, &added(alloc)?)?;
-    assert_eq!(rt; keeps(&held, "A", &SPACE), true);
+    assert_eq!(rt; keeps(&held, "A", &SMALL_CHARSTRING), true);
     Ok(())
 }
 
@@ -95,13 +70,13 @@ fn removes_a_glyph(rt: HostRuntime) -> Result<(), Fail> {
     let alloc = rt.alloc();
     let edit = Edit::RemoveGlyph(bytes(alloc, "space")?);
     // 97 bytes of five lines, 22 of the Subr's, and 24 of the glyph that is left.
-    assert_eq!(rt; held_after(alloc, SUBR, &edit)?.private_len, 143);
+    assert_eq!(rt; held_after(alloc, SHORT_LEAD, &edit)?.private_len, 143);
     Ok(())
 }
 
 #[test]
 fn removes_a_subr(rt: HostRuntime) -> Result<(), Fail> {
-    let held = held_after(rt.alloc(), SUBR, &Edit::RemoveSubr(4))?;
+    let held = held_after(rt.alloc(), SHORT_LEAD, &Edit::RemoveSubr(4))?;
     assert_eq!(rt; counts(&held), (0, 2));
     Ok(())
 }
@@ -110,7 +85,7 @@ fn removes_a_subr(rt: HostRuntime) -> Result<(), Fail> {
 fn adds_a_subr(rt: HostRuntime) -> Result<(), Fail> {
     let alloc = rt.alloc();
     let edit = Edit::AddSubr(7, bytes(alloc, "return")?);
-    assert_eq!(rt; counts(&held_after(alloc, SUBR, &edit)?), (2, 2));
+    assert_eq!(rt; counts(&held_after(alloc, SHORT_LEAD, &edit)?), (2, 2));
     Ok(())
 }
 
@@ -146,7 +121,10 @@ fn keeps_the_length_under_kerning(rt: HostRuntime) -> Result<(), Fail> {
 
 #[test]
 fn keeps_charstrings_under_kerning(rt: HostRuntime) -> Result<(), Fail> {
-    assert_eq!(rt; keeps(&kerned(rt.alloc())?, "space", &SPACE), true);
+    assert_eq!(rt;
+        keeps(&kerned(rt.alloc())?, "space", &SMALL_CHARSTRING),
+        true
+    );
     Ok(())
 }
 
@@ -154,7 +132,7 @@ fn keeps_charstrings_under_kerning(rt: HostRuntime) -> Result<(), Fail> {
 fn batched(alloc: Global) -> Result<Held, Fail> {
     let replaced = replaced(alloc, "A", "20 700 hsbw endchar")?;
     let removed = Edit::RemoveGlyph(bytes(alloc, "space")?);
-    let (_source, held, _runs) = committed(alloc, SUBR, &replaced, &removed)?;
+    let (_source, held, _runs) = committed(alloc, SHORT_LEAD, &replaced, &removed)?;
     Ok(held)
 }
 
