@@ -56,7 +56,7 @@ max_append : (f : Point → ℤ) (a : ℤ) (ps : List Point) (q : Point) (qs : L
 max_append f a [] q qs = fold_max a (f q) (map f qs)
 max_append f a (p ∷ ps) q qs = max_append f (int_max a (f p)) ps q qs
 
-same_box : (l l' b b' r r' t t' : ℤ) → l ≡ l' → b ≡ b' → r ≡ r' → t ≡ t'
+pub same_box : (l l' b b' r r' t t' : ℤ) → l ≡ l' → b ≡ b' → r ≡ r' → t ≡ t'
     → ◌≡◌ {A = BBox} (record { left = l; bottom = b; right = r; top = t }) (record { left = l'; bottom = b'; right = r'; top = t' })
 same_box l l' b b' r r' t t' e f g h = rw (e, f, g, h) refl
 

@@ -2,6 +2,7 @@ pub mod Between
 pub mod Boxes
 pub mod Convex
 pub mod Differences
+pub mod EndSums
 pub mod Ends
 pub mod Fonts
 pub mod Longs

@@ -8,6 +8,15 @@ ghost use Rattle.t1_afm.specs.Bounds.{IsInRange, over_cube};
 
 use crate::span::Span;
 
+/// The numerator of a whole coordinate over 64^3.
+pub fn numerator(n: i64) -> i64
+    requires { unsigned_abs n ≤ 2 ^ 20 }
+    ensures value { result ≡ pos 262144 *ℤ n }
+    ensures size { unsigned_abs result ≤ 2 ^ 38 }
+{
+    262_144 * n
+}
+
 /// A cubic along one axis, by the whole coordinates of its four points.
 #[derive(Clone, Copy, Debug)]
 pub struct WholeCubic {
@@ -124,7 +133,7 @@ impl WholeCubic {
     }
 
     /// The least and the greatest of the 65 values, value by value.
-    pub fn sums(&self) -> Sums
+    fn sampled_sums(&self) -> Sums
         ensures least { result.least ≡ least_sum self.now.start self.now.first self.now.second self.now.end }
         ensures greatest { result.greatest ≡ greatest_sum self.now.start self.now.first self.now.second self.now.end }
         ensures least_range { IsInRange (over_cube result.least) }
@@ -144,8 +153,30 @@ impl WholeCubic {
         Sums { least, greatest }
     }
 
-    /// The span around the 65 values, value by value.
-    fn sampled_span(&self) -> Span
+    /// The least and the greatest of the 65 values. Where the four points reach no further than the ends, as in most curves
+    /// of a font, neither do the values between.
+    pub fn sums(&self) -> Sums
+        ensures least { result.least ≡ least_sum self.now.start self.now.first self.now.second self.now.end }
+        ensures greatest { result.greatest ≡ greatest_sum self.now.start self.now.first self.now.second self.now.end }
+        ensures least_range { IsInRange (over_cube result.least) }
+        ensures greatest_range { IsInRange (over_cube result.greatest) }
+        ensures least_size { unsigned_abs result.least ≤ 2 ^ 38 }
+        ensures greatest_size { unsigned_abs result.greatest ≤ 2 ^ 38 }
+        ensures span { record { low = floor_of (over_cube result.least); high = ceiling_of (over_cube result.greatest) } ≡ span_of (whole_values self.now) }
+    {
+        let low = self.start.min(self.end);
+        let high = self.start.max(self.end);
+        if low <= self.first.min(self.second) && self.first.max(self.second) <= high {
+            return Sums {
+                least: numerator(low),
+                greatest: numerator(high),
+            };
+        }
+        self.sampled_sums()
+    }
+
+    /// The span around the 65 values.
+    pub(crate) fn span(&self) -> Span
         ensures { result ≡ span_of (whole_values self.now) }
     {
         let sums = self.sums();
@@ -153,21 +184,5 @@ impl WholeCubic {
             low: floor(sums.least),
             high: ceil(sums.greatest),
         }
-    }
-
-    /// The span around the 65 values. Where the four points reach no further than the ends, as in most curves of a
-    /// font, neither do the values between.
-    pub(crate) fn span(&self) -> Span
-        ensures { result ≡ span_of (whole_values self.now) }
-    {
-        let low = self.start.min(self.end);
-        let high = self.start.max(self.end);
-        if low <= self.first.min(self.second) && self.first.max(self.second) <= high {
-            return Span {
-                low: low as i32,
-                high: high as i32,
-            };
-        }
-        self.sampled_span()
     }
 }

@@ -23,6 +23,7 @@ use Rattle.t1_cache.specs.Kept.{shown, shown_from, KeptNamesLaw}
 use Rattle.t1_cache.specs.Renewed.{Kept}
 use Rattle.t1_cache.specs.Renewal.{IsFromScratch, IsOneOf, IsRenewed, RenewalLaw}
 use Rattle.t1_cache.proofs.Lists.{all-weaken}
+use Rattle.t1_extent.proofs.Curves.{some_is}
 
 -- ---- equations of lists and results
 
@@ -34,9 +35,6 @@ tails x y xs ys e = cc
 
 given : {X E : Type 0} (r : Result X E) (x y : X) → r ≡ Ok x → r ≡ Ok y → x ≡ y
 given r x y e f = let h : Ok x ≡ Ok y = sym e ∙ f in cc
-
-some : {X : Type 0} (x y : X) → Some x ≡ Some y → x ≡ y
-some x y e = cc
 
 -- ---- what is reported of the glyphs of a font
 
@@ -110,7 +108,7 @@ scratch-all m (g ∷ names) reported (k ∷ kept) e same =
 shown-one : (m : FontBodies) (g : List ℕ) (t : Reported) (k : Kept) → ReportsOne m g t → k.name ≡ g → IsFromScratch m k → shown k ≡ shown_from t
 shown-one m g t k one at is =
     let name : k.name ≡ t.name = at ∙ one.name in
-    let drawing : k.run.drawing ≡ t.drawing = given (Ok k.run.drawing) k.run.drawing t.drawing refl (some (Ok k.run.drawing) (Ok t.drawing) (sym is.run ∙ ap (own m) at ∙ one.run)) in
+    let drawing : k.run.drawing ≡ t.drawing = given (Ok k.run.drawing) k.run.drawing t.drawing refl (some_is (Ok k.run.drawing) (Ok t.drawing) (sym is.run ∙ ap (own m) at ∙ one.run)) in
     let draws : is.segments ≡ t.outline = given (outline m k.name) is.segments t.outline is.draws (ap (outline m) at ∙ one.draws) in
     let box : k.box ≡ drawn_box t.outline = is.box ∙ ap drawn_box draws in
     (λ j. record { name = name j; drawing = drawing j; keeps_trace = is.trace j; box = box j })

@@ -26,6 +26,7 @@ use Rattle.t1_charstrings.specs.Sums.{has_key, item_at}
 use Rattle.t1_charstrings.proofs.Adding.{Alone}
 use Rattle.t1_font.proofs.Lookups.{bytes_tell, numbers_tell}
 use Rattle.t1_font.proofs.Keys.{key-same}
+use Rattle.t1_charstrings.proofs.Texts.{both_fine}
 
 -- an item's body, where it is the entry of this key
 abbrev pub body_in : Key → Item → Option (List Command)
@@ -131,10 +132,6 @@ raised-bodies subrs glyphs k (i ∷ is) =
 
 -- ---- their faults
 
-both : (a b : Result (Unit {0}) Fault) → (a >>= λ _. b) ≡ Ok tt → (a ≡ Ok tt) × (b ≡ Ok tt)
-both (Ok tt) b h = (refl, h)
-both (Err fault) b h = absurd (cc)
-
 then-ok : (a b : Result (Unit {0}) Fault) → b ≡ Ok tt → (a >>= λ _. b) ≡ a
 then-ok (Ok tt) b h = h
 then-ok (Err fault) b h = refl
@@ -144,23 +141,23 @@ after-ok i rest h = ap (λ r. r >>= λ _. rest) h
 
 pub check-put : (is : List Item) (at : ℕ) (x : Item) → at < length is → bodies_check is ≡ Ok tt → bodies_check (slice_set is at x) ≡ body_check x
 check-put [] at x within sound = absurd (omega (arith, within))
-check-put (i ∷ is) zero x within sound = then-ok (body_check x) (bodies_check is) (both (body_check i) (bodies_check is) sound).1
+check-put (i ∷ is) zero x within sound = then-ok (body_check x) (bodies_check is) (both_fine (body_check i) (bodies_check is) sound).1
 check-put (i ∷ is) (suc at) x within sound =
-    let h = both (body_check i) (bodies_check is) sound in
+    let h = both_fine (body_check i) (bodies_check is) sound in
     after-ok i (bodies_check (slice_set is at x)) h.0 ∙ check-put is at x (omega (arith, within)) h.1
 
 pub check-insert : (is : List Item) (at : ℕ) (x : Item) → at ≤ length is → bodies_check is ≡ Ok tt → bodies_check (insert is at x) ≡ body_check x
 check-insert is zero x within sound = then-ok (body_check x) (bodies_check is) sound
 check-insert [] (suc at) x within sound = absurd (omega (arith, within))
 check-insert (i ∷ is) (suc at) x within sound =
-    let h = both (body_check i) (bodies_check is) sound in
+    let h = both_fine (body_check i) (bodies_check is) sound in
     after-ok i (bodies_check (insert is at x)) h.0 ∙ check-insert is at x (omega (arith, within)) h.1
 
 pub check-remove : (is : List Item) (at : ℕ) → at < length is → bodies_check is ≡ Ok tt → bodies_check (remove is at) ≡ Ok tt
 check-remove [] at within sound = absurd (omega (arith, within))
-check-remove (i ∷ is) zero within sound = (both (body_check i) (bodies_check is) sound).1
+check-remove (i ∷ is) zero within sound = (both_fine (body_check i) (bodies_check is) sound).1
 check-remove (i ∷ is) (suc at) within sound =
-    let h = both (body_check i) (bodies_check is) sound in
+    let h = both_fine (body_check i) (bodies_check is) sound in
     after-ok i (bodies_check (remove is at)) h.0 ∙ check-remove is at (omega (arith, within)) h.1
 
 -- ---- lenIV

@@ -36,11 +36,8 @@ use Rattle.t1_charstrings.proofs.Totals.{insert_sum, len-of}
 
 -- ---- what is needed with an item more
 
-glyphs-cons : (i : Item) (is : List Item) → glyphs_needed (i ∷ is) ≡ cond (is_glyph_entry i) 1 0 + glyphs_needed is
-glyphs-cons i is = sum_by-cons (λ y. cond (is_glyph_entry y) 1 0) i is
-
 pub glyphs_first : (i : Item) (is : List Item) → glyphs_needed (i ∷ is) ≡ cond (is_glyph_entry i) 1 0 + glyphs_needed is
-glyphs_first i is = glyphs-cons i is
+glyphs_first i is = sum_by-cons (λ y. cond (is_glyph_entry y) 1 0) i is
 
 abbrev need : Item → ℕ
 need (items.Subr n ws closing) = n + 1
@@ -67,7 +64,7 @@ glyphs-inserted is zero x within = refl
 glyphs-inserted [] (suc at) x within = absurd (omega (arith, within))
 glyphs-inserted (i ∷ is) (suc at) x within =
     let rest = glyphs-inserted is at x (omega (arith, within)) in
-    omega (arith, rest, glyphs-cons i (insert is at x), glyphs-cons x is, glyphs-cons x (i ∷ is), glyphs-cons i is)
+    omega (arith, rest, glyphs_first i (insert is at x), glyphs_first x is, glyphs_first x (i ∷ is), glyphs_first i is)
 
 -- ---- raised items
 

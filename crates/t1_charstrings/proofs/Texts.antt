@@ -114,16 +114,16 @@ line-kept front name at all each earlier (items.Glyph g ws closing) is whole fir
     line-of front name closing (places.Glyph g) (Glyph g) (commands ws) (at (Glyph g))
     (λ body e. each (Glyph g) body (own ∙ ap (λ r. option_or r (glyph_among is g)) e)) sound
 
-both : (a b : Result (Unit {0}) Fault) → (a >>= λ _. b) ≡ Ok tt → (a ≡ Ok tt) × (b ≡ Ok tt)
-both (Ok tt) b h = (refl, h)
-both (Err fault) b h = absurd (cc)
+pub both_fine : (a b : Result (Unit {0}) Fault) → (a >>= λ _. b) ≡ Ok tt → (a ≡ Ok tt) × (b ≡ Ok tt)
+both_fine (Ok tt) b h = (refl, h)
+both_fine (Err fault) b h = absurd (cc)
 
 text-kept : (front : ℕ) (name : List ℕ) (at : Key → Option Kept) (all : List Item) → Serves front all at
     → (earlier is : List Item) → all ≡ earlier ++ is → AreFirst earlier is → bodies_check is ≡ Ok tt
     → private_text front name is ≡ Ok (text_by at name is)
 text-kept front name at all each earlier [] whole first sound = refl
 text-kept front name at all each earlier (i ∷ is) whole first sound =
-    let checks = both (body_check i) (bodies_check is) sound in
+    let checks = both_fine (body_check i) (bodies_check is) sound in
     let line = line-kept front name at all each earlier i is whole first.0 checks.0 in
     let rest = text-kept front name at all each (earlier ++ i ∷ []) is (whole ∙ sym (append_assoc earlier (i ∷ []) is)) first.1 checks.1 in
     rw (line, rest) refl

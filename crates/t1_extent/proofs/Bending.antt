@@ -24,11 +24,9 @@ use Rattle.t1_extent.proofs.Siding.{cubed}
 use Rattle.t1_extent.proofs.Summaries.{within_numbers}
 use Rattle.t1_extent.proofs.Sums.{lesser_over, greater_over, least_of_values, greatest_of_values}
 use Rattle.t1_extent.proofs.Uniting.{IsUnion, outlines_united}
+use Rattle.t1_afm.proofs.Ends.{with_den}
 
 -- ---- one axis
-
-with_den : (n : ℤ) (d e : ℕ) → d ≡ e → ◌≡◌ {A = Fraction} (record { num = n; den = d }) (record { num = n; den = e })
-with_den n d e h = rw h refl
 
 as_whole : (a : Fraction) → a.den ≡ 1 → whole a.num ≡ a
 as_whole a e = with_den a.num 1 a.den (sym e)

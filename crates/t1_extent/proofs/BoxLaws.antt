@@ -15,7 +15,8 @@ use Rattle.t1_extent.specs.Extremes.{Extremes, at_point, reaching, extremes, rou
 use Rattle.t1_extent.specs.Laws.{Summary, summary, shifted_summary, AreWithin, DrawnBoxLaw, BoxMovesLaw}
 use Rattle.t1_extent.proofs.Exacts.{floor_value, ceiling_value}
 use Rattle.t1_extent.proofs.Flags.{whole_is}
-use Rattle.t1_extent.proofs.Folding.{IsNumber, AreLowest, point_lowest, points_lowest, fold_lowest, same_box}
+use Rattle.t1_extent.proofs.Folding.{IsNumber, AreLowest, point_lowest, points_lowest, fold_lowest}
+use Rattle.t1_afm.proofs.Boxes.{same_box}
 use Rattle.t1_extent.proofs.Moving.{outline_numbers}
 use Rattle.t1_extent.proofs.Shifting.{plus_above}
 use Rattle.t1_extent.proofs.Summaries.{box_law, moved_law, outline_within, distance_number, numbers}

@@ -18,6 +18,7 @@ use Rattle.t1_extent.specs.Laws.{summary, shifted_summary, AreWithin, IsDistance
 use Rattle.t1_extent.specs.Turns.{in_turn, through, point_through}
 use Rattle.t1_extent.proofs.Checking.{IsEasy, passed, fine_sum, outline_passed}
 use Rattle.t1_extent.proofs.Folding.{IsNumber, AreLowest, point_lowest, points_lowest, fold_lowest, same_extremes}
+use Rattle.t1_extent.proofs.Uniting.{extremes_lowest}
 use Rattle.t1_extent.proofs.Moving.{AreShifted, AreMoved, IsShifted, point_shifted, outline_moved, outline_numbers, corners_numbers, extremes_shifted}
 use Rattle.t1_extent.proofs.Shifting.{shifted_lowest, shifted_apart, shifted_nowhere}
 use Rattle.t1_extent.proofs.Summaries.{numbers, distance_number, point_number, point_within, outline_within, moved_by_law}
@@ -57,10 +58,6 @@ some_twice : (by s q : Point) (e : Option Extremes) → IsNumber by → IsNumber
     → option_map (shifted_by by) (option_map (shifted_by (apart s q)) e) ≡ option_map (shifted_by (apart s (shifted_place by q))) e
 some_twice by s q None hb hs hq h = refl
 some_twice by s q (Some e) hb hs hq h = ap Some (twice by s q e hb hs hq h)
-
-pub some_lowest : (ps : List Point) → AllByRecursion IsNumber ps → IfSome (extremes ps) AreLowest
-some_lowest [] h = tt
-some_lowest (p ∷ ps) h = fold_lowest (at_point p) (map at_point ps) (point_lowest p h.0) (points_lowest ps h.1)
 
 shifted_on : (by s q : Point) (ps qs rs : List Point) → IsNumber by → IsNumber s → IsNumber q → AllByRecursion IsNumber ps
     → AreShifted (apart s q) ps qs → AreShifted by qs rs → AreShifted (apart s (shifted_place by q)) ps rs
@@ -212,7 +209,7 @@ displaced_once by outline current start place (Ok to) r h hb rides f g =
     (whole_corners outline h.whole) (subst IsPoint is there) rides.moved.corners in (
       ap passed (sym g) ∙ outline_passed by current hn easy
           ∙ ap (move_check by) (extremes_shifted (apart start place) (corners outline) (corners current) (apart_number start place hs hq) n rides.moved.corners)
-          ∙ ap limit_check (some_twice by start place (extremes (corners outline)) hn hs hq (some_lowest (corners outline) n))
+          ∙ ap limit_check (some_twice by start place (extremes (corners outline)) hn hs hq (extremes_lowest (corners outline) n))
           ∙ ap (λ p. move_check (apart start p) (extremes (corners outline))) (sym is),
       reported r g,
     )

@@ -84,12 +84,9 @@ ceiling_value a h = (round_alike (lowest a) a (lowest_above a h) h (lowest_same 
 
 -- ---- rounding in 64 bits
 
-euclid_small : (z : ℤ) (d : ℕ) → unsigned_abs z ≤ 2 ^ 60 → unsigned_abs (int_div_euclid z (pos d)) ≤ 2 ^ 61
-euclid_small (pos n) d h = omega (arith, div-le_self n d, h)
-euclid_small (negsuc n) d h = omega (arith, div-le_self n d, h)
-
 pub floor_small : (z : ℤ) (d : ℕ) → unsigned_abs z ≤ 2 ^ 60 → unsigned_abs (int_div_euclid z (pos d)) ≤ 2 ^ 61
-floor_small z d h = euclid_small z d h
+floor_small (pos n) d h = omega (arith, div-le_self n d, h)
+floor_small (negsuc n) d h = omega (arith, div-le_self n d, h)
 
 -- ---- limits
 

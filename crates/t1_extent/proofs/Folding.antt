@@ -13,6 +13,7 @@ use Rattle.t1_afm.specs.Box.{box}
 use Rattle.t1_extent.specs.Extremes.{Extremes, lesser, greater, at_point, reaching, unite, extremes, boxed}
 use Rattle.t1_extent.proofs.Canonical.{lowest_above}
 use Rattle.t1_extent.proofs.Order.{IsCanonical, canonical, either, lesser_is, greater_is, lesser_canonical, greater_canonical, lesser_assoc, greater_assoc, floor_lesser, ceiling_greater}
+use Rattle.t1_afm.proofs.Boxes.{same_box}
 
 -- both denominators are above 0
 pub record IsNumber (p : Point) : Type 0 where
@@ -109,10 +110,6 @@ xs_above (p ∷ ps) h = (h.0.x, xs_above ps h.1)
 ys_above : (ps : List Point) → AllByRecursion IsNumber ps → AllByRecursion (λ p. 0 < p.y.den) ps
 ys_above [] h = tt
 ys_above (p ∷ ps) h = (h.0.y, ys_above ps h.1)
-
-pub same_box : (l l' b b' r r' t t' : ℤ) → l ≡ l' → b ≡ b' → r ≡ r' → t ≡ t'
-    → ◌≡◌ {A = BBox} (record { left = l; bottom = b; right = r; top = t }) (record { left = l'; bottom = b'; right = r'; top = t' })
-same_box l l' b b' r r' t t' e f g h = rw (e, f, g, h) refl
 
 -- the box of points is that of their extremes, rounded outward
 pub box_rounded : (ps : List Point) → AllByRecursion IsNumber ps → boxed (extremes ps) ≡ box ps

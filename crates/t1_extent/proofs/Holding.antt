@@ -12,7 +12,7 @@ use Rattle.t1_afm.specs.Differences.{sum_at, picked_sum, least_sum, greatest_sum
 use Rattle.t1_afm.proofs.Between.{IsBelow, AllAbove, AllBelow}
 use Rattle.t1_afm.proofs.Longs.{IsLong, IsPick, long, pick_long, read, read_small}
 use Rattle.t1_afm.proofs.Wholes.{sum_first, sum_last}
-use Rattle.t1_extent.proofs.Ends.{sum_above, sum_below, above_range, below_range}
+use Rattle.t1_afm.proofs.EndSums.{sum_above, sum_below, above_range, below_range}
 
 above_least : (m x : ℤ) (ys : List ℤ) → IsBelow m x → AllAbove m ys → IsBelow m (fold int_min x ys)
 above_least m x [] h hs = h

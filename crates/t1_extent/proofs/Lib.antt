@@ -12,7 +12,6 @@ pub mod Siding
 pub mod Uniting
 pub mod Slices
 pub mod Curves
-pub mod Ends
 pub mod Holding
 pub mod Bending
 pub mod Squeezing

@@ -25,13 +25,14 @@ use Rattle.t1_extent.specs.Laws.{Summary, summary, shifted_summary, AreWithin, I
 use Rattle.t1_extent.specs.Reached.{IsDrawnBy, IsExact, IsNear, IsReach, MovesReach, ReportsAtOnce, grain_of}
 use Rattle.t1_extent.proofs.BoxLaws.{drawn_box_law, box_moves_law}
 use Rattle.t1_extent.proofs.Checking.{passed}
-use Rattle.t1_extent.proofs.Displacing.{whole_corners, some_lowest}
+use Rattle.t1_extent.proofs.Displacing.{whole_corners}
 use Rattle.t1_extent.proofs.Flags.{each_whole, whole_of_both, whole_stays}
 use Rattle.t1_extent.proofs.Exacts.{four_sides}
 use Rattle.t1_extent.proofs.Folding.{AreLowest}
 use Rattle.t1_extent.proofs.Limited.{floor_limited, ceiling_limited, limits_law}
 use Rattle.t1_extent.proofs.Moving.{outline_numbers}
 use Rattle.t1_extent.proofs.Summaries.{numbers, distance_number, both_law, moved_law, check_law, outline_within}
+use Rattle.t1_extent.proofs.Uniting.{extremes_lowest}
 
 -- ---- denominators
 
@@ -236,7 +237,7 @@ small_some (Some e) h k = small_rounded e h k
 small_box : (outline : List Segment) → AreWithin outline → IfSome (drawn_box outline) IsSmall
 small_box outline h =
     subst (λ b. IfSome b IsSmall) (sym (drawn_box_law outline h))
-    (small_some (extremes (points outline)) (some_lowest (points outline) (outline_numbers outline (numbers outline h))) (limits_law outline h).0)
+    (small_some (extremes (points outline)) (extremes_lowest (points outline) (outline_numbers outline (numbers outline h))) (limits_law outline h).0)
 
 near_is : (by : Point) (b : BBox) → IsSmall (moved_box by b) → IsNear by b
 near_is by b h = record { left = omega (arith, h.left); bottom = omega (arith, h.bottom); right = omega (arith, h.right); top = omega (arith, h.top) }

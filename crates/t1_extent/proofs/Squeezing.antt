@@ -16,7 +16,7 @@ use Rattle.t1_extent.specs.Extremes.{Extremes, is_less, lesser, greater, reachin
 use Rattle.t1_extent.specs.Laws.{AreWithin}
 use Rattle.t1_extent.specs.Sides.{over, extremes_over}
 use Rattle.t1_extent.proofs.Bending.{bend_is, ends_in_bend, ends_numbers}
-use Rattle.t1_extent.proofs.Ends.{min_multiple, max_multiple}
+use Rattle.t1_afm.proofs.EndSums.{min_multiple, max_multiple}
 use Rattle.t1_extent.proofs.Folding.{same_extremes}
 use Rattle.t1_extent.proofs.Holding.{least_in_hull, greatest_in_hull}
 use Rattle.t1_extent.proofs.Moving.{segment_numbers, corner_numbers, outline_numbers, corners_numbers}

@@ -1,20 +1,13 @@
 //! The glyphs of a source.
-ghost use Rattle.std.specs.Prelude.{◌≡◌, length, map, option_map, Ok, IfOk};
+ghost use Rattle.std.specs.Prelude.{◌≡◌, map, option_map, IfOk};
 ghost use Rattle.std.specs.Option.{option_to_list};
-ghost use Rattle.t1_frac.specs.Outcome.{Gives};
 ghost use Rattle.t1_afm.specs.Box.{united};
-ghost use Rattle.t1_font.specs.Bodies.{bodies as bodies_of, bodies_check, plain_bodies, SameBodies};
 ghost use Rattle.t1_font.specs.Glyphs.{glyph_names, name_in};
-ghost use Rattle.t1_font.specs.Runs.{Counts};
-ghost use Rattle.t1_font.specs.MeasuredGlyphs.{measured};
 
-use crate::glyph_metrics::{GlyphMetrics, font_box, glyph_metrics_of};
-use crate::runs::runs_of;
+use crate::glyph_metrics::{GlyphMetrics, font_box};
 use std::alloc::{AllocError, Global};
 use std::marker::Model;
 use t1_afm::BBox;
-use t1_frac::Refusal;
-use t1_run::{Meter, Plain};
 use t1_source::Item;
 
 /// What is measured of the glyphs of a source, in the order of their entries, and the box around all that draw.
@@ -78,24 +71,4 @@ pub fn glyph_names<'a>(alloc: Global, items: &'a [Item]) -> Result<Vec<&'a [u8]>
         names.push(name)?;
     }
     Ok(names)
-}
-
-/// Runs each glyph of a source once and measures its outline: the glyphs and the font's box, or the first fault, at its
-/// glyph. The bodies are those of the entries, which have no fault. The meter counts one for each glyph, also where a fault is
-/// answered; where memory runs out, one for each that was run.
-pub fn measured<'a>(
-    alloc: Global,
-    items: &'a [Item],
-    bodies: &Plain,
-    meter: &mut Meter,
-) -> Result<MeasuredGlyphs<'a>, Refusal>
-    requires checked { bodies_check items.now ≡ Ok tt }
-    requires bodies { SameBodies (plain_bodies bodies.now) (bodies_of items.now) }
-    ensures reported { Gives (λ glyphs. glyphs) result (measured items.now) }
-    ensures counted { Counts (length (glyph_names items.now)) meter.old meter.new result }
-{
-    let names = glyph_names(alloc, items)?;
-    let runs = runs_of(alloc, bodies, &names, meter)?;
-    let metrics = glyph_metrics_of(alloc, &runs, &names)?;
-    Ok(MeasuredGlyphs::of(metrics))
 }

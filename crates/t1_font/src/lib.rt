@@ -1,9 +1,10 @@
 //! A whole font: its bodies compiled, its glyphs run once each and measured, its PFB and AFM files written.
 //!
 //! [`compiled`] gives the bodies of a private part, or the first fault of one; [`checked_bodies`] also judges the length of
-//! the PFB file, as [`check_parts`] does by the length of the private text, and the counts ([`check_counts`]). [`measured`]
-//! runs and measures the glyphs, and [`metrics`] is what the AFM file of a source and its pairs says. [`write_source_pfb`] and
-//! [`write_source_afm`] write the files, whose plain parts are [`clear_text`] and [`trailer`].
+//! the PFB file, as [`check_parts`] does by the length of the private text, and the counts ([`check_counts`]).
+//! [`measured_glyphs`] compiles, runs and measures the glyphs one after another, and [`metrics`] is what the AFM file of a source
+//! and its pairs says. [`runs_of`] and [`glyph_metrics_of`] run and measure glyphs whose bodies are stored. [`write_source_pfb`]
+//! and [`write_source_afm`] write the files, whose plain parts are [`clear_text`] and [`trailer`].
 #![tactic(auto)]
 
 mod afm_file;
@@ -34,7 +35,7 @@ pub use assembly::{
 pub use bodies::{compiled, compiled_glyph, compiled_subr};
 pub use font_metrics::metrics;
 pub use glyph_metrics::{GlyphMetrics, PlacedParts, glyph_metrics_of, metrics_of_run};
-pub use glyphs::{MeasuredGlyphs, glyph_names, measured};
+pub use glyphs::{MeasuredGlyphs, glyph_names};
 pub use lengths::{TEN_DIGITS, check_counts, check_parts, checked_bodies};
 pub use numbers::SubrNumbers;
 pub use runs::{Runs, runs_of};

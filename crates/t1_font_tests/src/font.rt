@@ -3,45 +3,22 @@ use std::alloc::Global;
 use std::test::Fail;
 use t1_afm::write_afm;
 use t1_code::Counted;
-use t1_font::{
-    MeasuredGlyphs, compiled, measured, metrics, pfa_of_source, pfb_of_source, usage_text,
-};
+use t1_font::{measured_glyphs, metrics, pfa_of_source, pfb_of_source, usage_text};
 use t1_frac::{Code, Fault, Place, Refusal};
 use t1_pairs::read_pairs;
-use t1_run::Meter;
-use t1_source::{Source, read_source};
+use t1_source::read_source;
 use t1_test_fonts::{DEMO, DEMO_METRICS, SMALL};
-
-/// The glyphs of a source.
-fn glyphs_of<'a>(
-    alloc: Global,
-    source: &'a Source,
-    meter: &mut Meter,
-) -> Result<MeasuredGlyphs<'a>, Refusal> {
-    let bodies = compiled(alloc, source.items())?;
-    measured(alloc, source.items(), &bodies, meter)
-}
 
 #[test]
 fn measures_the_demo_font(rt: HostRuntime) -> Result<(), Fail> {
     let alloc = rt.alloc();
     let source = read_source(alloc, DEMO.as_bytes())?;
     let pairs = read_pairs(alloc, b"KPX A V -92\nKPX A B 5\n")?;
-    let glyphs = glyphs_of(alloc, &source, &mut Meter::new())?;
+    let glyphs = measured_glyphs(alloc, &source)?;
     let metrics = metrics(alloc, &source, &pairs, &glyphs)?;
     let mut out = Counted::new(Vec::new(alloc));
     write_afm(&metrics, &mut out)?;
     assert_eq!(rt; out.into_inner().as_slice(), DEMO_METRICS.as_bytes());
-    Ok(())
-}
-
-#[test]
-fn counts_runs(rt: HostRuntime) -> Result<(), Fail> {
-    let alloc = rt.alloc();
-    let source = read_source(alloc, DEMO.as_bytes())?;
-    let mut meter = Meter::new();
-    let glyphs = glyphs_of(alloc, &source, &mut meter)?;
-    assert_eq!(rt; (meter.count(), glyphs.metrics().len()), (6, 6));
     Ok(())
 }
 
@@ -54,7 +31,7 @@ fn first_fault(alloc: Global, glyphs: &str) -> Result<Option<(Code, Vec<u8>)>, F
     text.extend_from_slice(glyphs.as_bytes())?;
     text.extend_from_slice(b"end\nmark currentfile closefile\n")?;
     let source = read_source(alloc, &text)?;
-    let Fault { code, place } = match glyphs_of(alloc, &source, &mut Meter::new()) {
+    let Fault { code, place } = match measured_glyphs(alloc, &source) {
         Err(Refusal::Fault(fault)) => fault,
         Err(Refusal::Memory) => return Err(Fail::new("memory")),
         Ok(_) => return Ok(None),
@@ -89,7 +66,7 @@ const USES: &str = "\
 fn reports_the_uses_of_the_demo_font(rt: HostRuntime) -> Result<(), Fail> {
     let alloc = rt.alloc();
     let source = read_source(alloc, DEMO.as_bytes())?;
-    let glyphs = glyphs_of(alloc, &source, &mut Meter::new())?;
+    let glyphs = measured_glyphs(alloc, &source)?;
     assert_eq!(rt;
         usage_text(alloc, glyphs.metrics())?.as_slice(),
         USES.as_bytes()

@@ -15,14 +15,12 @@ use Rattle.t1_run.specs.Composite.{joined, with_parts, drawn, outline_within, ou
 use Rattle.t1_run.specs.Footprint.{uses, is_part}
 use Rattle.t1_run.specs.Run.{FontBodies, Key, Subr, Glyph, Drawing, own}
 use Rattle.t1_run.specs.Touched.{is_key_of, is_user, is_met, meets_run, meets_part, meets_parts, touched_within, is_touched, IsClosed, Found, Seed, User, FoundByUsersLaw}
+use Rattle.t1_run.proofs.Asked.{bytes_self}
 
 pub both-ways : (a b : Bool) → (a ≡ true → b ≡ true) → (b ≡ true → a ≡ true) → a ≡ b
 both-ways true b h h' = sym (h refl)
 both-ways false true h h' = h' refl
 both-ways false false h h' = refl
-
-itself : (g : List ℕ) → bytes_eq g g ≡ true
-itself g = (bytes_eq-Decides g g).1 refl
 
 -- of a run without a fault, the keys that it meets are those that it uses
 met-uses : (g : List ℕ) (d : Drawing) (key : Key) → (is_key_of g key || is_user key (Some (Ok d))) ≡ uses g d key
@@ -48,9 +46,9 @@ module _ (m : FontBodies) (keys : List Key) (has : List ℕ → Bool) (closed : 
       let t = bind_ok (part c.accent) (λ accent. joined d b.0 accent) o b.2 in
       elim (or_cases (touched c.base) (touched c.accent) h) [
         | inl h' ↦ closed.users c.base g (have c.base b.0 b.1 h')
-            (ap (is_user (Glyph c.base)) e ∙ ap (is_part c.base) is ∙ or_left (bytes_eq c.base c.base) (bytes_eq c.accent c.base) (itself c.base))
+            (ap (is_user (Glyph c.base)) e ∙ ap (is_part c.base) is ∙ or_left (bytes_eq c.base c.base) (bytes_eq c.accent c.base) (bytes_self c.base))
         | inr h' ↦ closed.users c.accent g (have c.accent t.0 t.1 h')
-            (ap (is_user (Glyph c.accent)) e ∙ ap (is_part c.accent) is ∙ or_right (bytes_eq c.base c.accent) (bytes_eq c.accent c.accent) (itself c.accent))
+            (ap (is_user (Glyph c.accent)) e ∙ ap (is_part c.accent) is ∙ or_right (bytes_eq c.base c.accent) (bytes_eq c.accent c.accent) (bytes_self c.accent))
       ]
 
   run-has : (part : List ℕ → Result (List Segment) Code) (touched : List ℕ → Bool) → PartsHave part touched

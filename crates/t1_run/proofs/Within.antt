@@ -22,6 +22,8 @@ use Rattle.t1_run.specs.Operands.{size_fault}
 use Rattle.t1_run.specs.State.{origin}
 use Rattle.t1_run.specs.Step.{moved}
 use Rattle.t1_run.specs.Within.{Stays}
+use Rattle.t1_code.proofs.Segmenting.{some_of}
+use Rattle.t1_frac.proofs.Exact.{div_one_abs}
 
 -- a value of a run: in lowest terms, over a denominator of at most 2^20
 pub record IsValue (a : Fraction) : Type 0 where
@@ -104,9 +106,6 @@ pub difference-place : (a b : Fraction) → IsValue a → IsValue b → IfOk (co
 unfolding coordinate_difference
 difference-place a b h k = fits-place F40 (lowest (minus a b)) (lowest_terms (minus a b) (product_above a.den b.den h.terms.above k.terms.above)).1
 
-not_zero : (n : ℕ) → (n == 0) ≡ false → 0 < n
-not_zero n h = grind (arith, nat_tests)
-
 pub quotient-value : (a b : Fraction) → IsValue a → IfOk (quotient a b) IsValue
 unfolding quotient
 quotient-value a b h =
@@ -114,7 +113,7 @@ quotient-value a b h =
       | inl none ↦ rw none tt
       | inr some ↦
           rw some (fits-value F37 (2 ^ 31) (lowest (over a b))
-          (lowest_terms (over a b) (product_above a.den (unsigned_abs b.num) h.terms.above (not_zero (unsigned_abs b.num) some))).1)
+          (lowest_terms (over a b) (product_above a.den (unsigned_abs b.num) h.terms.above (some_of (unsigned_abs b.num) some))).1)
     ]
 
 -- ---- whole numbers
@@ -158,15 +157,12 @@ moved-placed p dx dy h hx hy =
 -- ---- moved by zero
 
 -- 1 divides every whole number
-over_one : (n : ℤ) → int_div n (pos 1) ≡ n
-over_one (pos n) = ap pos (div-one n)
-over_one (negsuc n) = ap (λ k. neg_ℤ (pos k)) (div-one (suc n))
 
 lowest-stays : (a : Fraction) → IsLowest a → lowest a ≡ a
 unfolding lowest
 lowest-stays a h =
     let one : 1 ≡ gcd (unsigned_abs a.num) a.den = gcd_is (unsigned_abs a.num) a.den 1 h.coprime in
-    let divided : ◌≡◌ {A = Fraction} (record { num = int_div a.num (pos 1); den = a.den / 1 }) a = rw (over_one a.num, div-one a.den) refl in
+    let divided : ◌≡◌ {A = Fraction} (record { num = int_div a.num (pos 1); den = a.den / 1 }) a = rw (div_one_abs a.num, div-one a.den) refl in
     ap (λ g. record { num = int_div a.num (pos g); den = a.den / g }) (sym one) ∙ divided
 
 num-stays : (n : ℤ) (d : ℕ) → n *ℤ pos 1 +ℤ pos 0 *ℤ pos d ≡ n

@@ -24,6 +24,9 @@ use Rattle.t1_parts.proofs.ItemLaws.{items_from, read_step}
 use Rattle.t1_source.proofs.SectionLineLaws.{section_again}
 use Rattle.t1_source.proofs.PrintedLaws.{decimal_count, inner_other, entry_inner, subr_inner, glyph_inner}
 
+pub and_off : (a b : Bool) → a ≡ true → (a && b) ≡ false → b ≡ false
+and_off a b on h = let rest : b ≡ false = rw on at h in rest
+
 -- a test of numbered items is one of the items
 pub has_item : (test : Item → Bool) (items : List NumberedItem) → has test items ≡ list_any test (unnumbered items)
 has_item test [] = refl
@@ -32,9 +35,6 @@ has_item test (i ∷ items) = ap (λ b. test i.1 || b) (has_item test items)
 none_opens : (o : Option (List ℕ)) → is_some o ≡ false → o ≡ None
 none_opens None h = refl
 none_opens (Some t) h = cc
-
-and_off : (a b : Bool) → a ≡ true → (a && b) ≡ false → b ≡ false
-and_off a b on h = let rest : b ≡ false = rw on at h in rest
 
 -- a line that opens no entry
 pub no_entry : (earlier : List NumberedItem) (l : List ℕ) (ls : List (List ℕ)) → opens_entry (unnumbered earlier) l ≡ false → item_at earlier l ls ≡ line_at earlier l

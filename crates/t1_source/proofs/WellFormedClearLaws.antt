@@ -34,6 +34,7 @@ use Rattle.t1_source.proofs.SourceAgainLaws.{Ends}
 use Rattle.t1_source.proofs.WellFormedItemsLaws.{given_some}
 use Rattle.t1_source.proofs.WellFormedBodyLaws.{all_take, all_drop}
 use Rattle.t1_source.proofs.ItemPlaceLaws.{First, first_at, position_first}
+use Rattle.t1_source.proofs.ItemsAgainLaws.{and_off}
 
 -- lines before others, of which none passes a test, and the last of all lines
 ends_parts : (test : List ℕ → Bool) (p : List (List ℕ)) (q : List ℕ) (r : List (List ℕ)) → Ends test (p ++ q ∷ r) → (list_any test p ≡ false) × Ends test (q ∷ r)
@@ -187,9 +188,6 @@ none_first : (test : List ℕ → Bool) (before : List (List ℕ)) (x : List ℕ
 none_first test before x after h =
     let parts = or_parts (list_any test before) (test x || list_any test after) (sym (list_any-append test before (x ∷ after)) ∙ h) in
     (or_parts (test x) (list_any test after) parts.1).0
-
-and_off : (a b : Bool) → a ≡ true → (a && b) ≡ false → b ≡ false
-and_off a b on h = let rest : b ≡ false = rw on at h in rest
 
 -- what passes from the line that opens the encoding on
 encoding_passed : (n : ℕ) (opening : List ℕ) (later : List (List ℕ)) → encoding_check n (opening ∷ later) ≡ Ok tt

@@ -6,7 +6,7 @@ use Rattle.std.proofs.lemmas.List.{length-drop, length-take-le}
 use Rattle.std.proofs.lemmas.List.Sums.{prefix_len-le-length}
 use Rattle.std.proofs.Math.Numerals.{one-add}
 use Rattle.t1_text.specs.Lines.{begins_with, lines, after_end}
-use Rattle.t1_text.proofs.LineLaws.{line_len, stays, longer, cr_lf, cr_alone, lf_ends, not_ended, after_line, first_line_lem}
+use Rattle.t1_text.proofs.LineLaws.{line_len, stays, longer, cr_lf, cr_alone, ends_lf, lf_ends, not_ended, after_line, first_line_lem}
 
 -- how many bytes a line end takes
 abbrev end_len : List ℕ → ℕ
@@ -44,10 +44,6 @@ one_end c rest j e =
     let size : 0 + end_len (c ∷ rest) + j ≡ suc j = omega (arith, e) in
     ap (λ k. take k (c ∷ rest)) size
 
-is_lf : (x y : Bool) → (x || y) ≡ true → y ≡ false → x ≡ true
-is_lf true y g off = refl
-is_lf false y g off = sym off ∙ g
-
 two_ends : (c d : ℕ) (rest : List ℕ) (j : ℕ) → end_len (c ∷ d ∷ rest) ≡ 2 → take (0 + end_len (c ∷ d ∷ rest) + j) (c ∷ d ∷ rest) ≡ c ∷ d ∷ take j rest
 two_ends c d rest j e =
     let size : 0 + end_len (c ∷ d ∷ rest) + j ≡ suc (suc j) = omega (arith, e) in
@@ -66,7 +62,7 @@ cut_end c rest j h = elim (cases_Bool (c == 13)) [
         (ap lines (one_end c rest j (rw (cr, alone) refl)) ∙ cr_alone c (take j rest) cr (front_begins j rest alone) ∙ rw (cr, alone) refl)
   ]
   | inr no_cr ↦ rw (ended_len c rest h)
-      (ap lines (one_end c rest j (rw no_cr refl)) ∙ lf_ends c (take j rest) no_cr (is_lf (c == 10) (c == 13) (not-false _ h) no_cr) ∙ rw no_cr refl)
+      (ap lines (one_end c rest j (rw no_cr refl)) ∙ lf_ends c (take j rest) no_cr (ends_lf (c == 10) (c == 13) (not-false _ h) no_cr) ∙ rw no_cr refl)
 ]
 
 cut_alone : (c j : ℕ) → stays c ≡ true → Cut (c ∷ []) j

@@ -42,7 +42,7 @@ FirstLine bytes = lines bytes ≡ take (line_len bytes) bytes ∷ lines (after_l
 pub not_ended : (c : ℕ) → stays c ≡ true → (c == 10 ≡ false) × (c == 13 ≡ false)
 not_ended c h = or_parts (c == 10) (c == 13) (not-true _ h)
 
-ends_lf : (x y : Bool) → (x || y) ≡ true → y ≡ false → x ≡ true
+pub ends_lf : (x y : Bool) → (x || y) ≡ true → y ≡ false → x ≡ true
 ends_lf true y h no_cr = refl
 ends_lf false y h no_cr = sym no_cr ∙ h
 

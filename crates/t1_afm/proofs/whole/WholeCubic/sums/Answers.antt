@@ -1,50 +1,35 @@
-use Rattle.std.proofs.Common.{arith, ◌+◌, ap, ◌∙◌}
+use Rattle.std.proofs.Common.{ap, ◌^◌, ◌∙◌, sym, subst, arith, pos, ◌*ℤ◌}
 use Rattle.std.specs.Int.{int_min, int_max}
-use Rattle.t1_afm.proofs.Longs.{read_small}
-use Rattle.t1_afm.proofs.Spans.{Spans-all}
-use Rattle.t1_afm.proofs.Sampling.{IsNext, IsStart, cubic, sampling-start, sampling-next, sampling-read, summing-start, summing-next, summing-read, summed}
+use Rattle.t1_afm.specs.Bounds.{IsInRange, over_cube}
+use Rattle.t1_afm.proofs.EndSums.{least_end, greatest_end, multiple_in_range, span_of_ends}
+use Rattle.t1_afm.proofs.Longs.{below_long, greatest_is_pick, least_is_pick, long, pick_long, read_small}
 use Rattle.t1_afm.proofs.Wholes.{sum_in_size}
 use Rattle.t1_afm.proofs.whole.WholeCubic.sums.Goals as goal
 
-pub loop-k-init : goal.loop-k-init
-loop-k-init c =
+pub returns-then-max-high : goal.returns-then-max-high
+returns-then-max-high c =
     let p = c.args.self.now in
-    let s = c.start-sample.result in
-    let e = c.start-sample.ensures in
-    let is : IsStart p s = record { value = e.value; first = e.first; second = e.second; third = e.third } in
-    let start = sampling-start p s is in
-    let same = read_small s.value (omega (arith, start.long.value)) in
-    let is_value = same ∙ start.sampled.value in
-    record { sampling = rw same start; low = summing-start int_min p _ is_value; high = summing-start int_max p _ is_value }
-
-pub loop-k-preserved : goal.loop-k-preserved
-loop-k-preserved c =
-    let p = c.args.self.now in
-    let s = c.loop-k.sample in
-    let t = c.next-sample.result in
-    let h = c.loop-k.invariant in
-    let e = c.next-sample.ensures in
-    let is : IsNext s t = record { value = e.value; first = e.first; second = e.second; third = e.third } in
-    let next = sampling-next p c.loop-k._k s t _ _ c.loop-k-test.true is h.sampling in
-    let value = read_small t.value (omega (arith, next.long.value)) in
-    let least = c.min-least.ensures.value ∙ ap (int_min _) value in
-    let greatest = c.max-greatest.ensures.value ∙ ap (int_max _) value in
+    let start = long p.start (2 ^ 20) p.start_size (omega arith) in
+    let first = long p.first (2 ^ 20) p.first_size (omega arith) in
+    let second = long p.second (2 ^ 20) p.second_size (omega arith) in
+    let end = long p.end (2 ^ 20) p.end_size (omega arith) in
+    let low = pick_long int_min least_is_pick _ _ c.min-low.result _ _ (2 ^ 20) start end (omega arith) c.min-low.ensures.value in
+    let high = pick_long int_max greatest_is_pick _ _ c.max-high.result _ _ (2 ^ 20) start end (omega arith) c.max-high.ensures.value in
+    let least = pick_long int_min least_is_pick _ _ c.min.result _ _ (2 ^ 20) first second (omega arith) c.min.ensures.value in
+    let greatest = pick_long int_max greatest_is_pick _ _ c.max.result _ _ (2 ^ 20) first second (omega arith) c.max.ensures.value in
+    let below = below_long _ _ _ _ _ _ low least c.if-low-min.true in
+    let above = below_long _ _ _ _ _ _ greatest high c.if-max-high.true in
+    let low_is = read_small c.numerator.result (omega (arith, c.numerator.ensures.size)) ∙ c.numerator.ensures.value ∙ ap (λ z. pos 262144 *ℤ z) low.same in
+    let high_is = read_small c.numerator-then-max-high.result (omega (arith, c.numerator-then-max-high.ensures.size)) ∙ c.numerator-then-max-high.ensures.value
+    ∙ ap (λ z. pos 262144 *ℤ z) high.same in
+    let least_range = subst (λ x. IsInRange (over_cube x)) (sym low_is) (multiple_in_range _ low.bound) in
+    let greatest_range = subst (λ x. IsInRange (over_cube x)) (sym high_is) (multiple_in_range _ high.bound) in
     record {
-      sampling = sampling-read _ _ t _ _ c.min-least.result c.max-greatest.result least greatest next;
-      low = summing-read int_min p (c.loop-k._k + 1) _ c.min-least.result least next.low (summing-next int_min p _ _ t.value c.loop-k-test.true next.sampled.value h.low);
-      high = summing-read int_max p (c.loop-k._k + 1) _ c.max-greatest.result greatest next.high (summing-next int_max p _ _ t.value c.loop-k-test.true next.sampled.value h.high);
-    }
-
-pub returns : goal.returns
-returns c =
-    let p = c.args.self.now in
-    let sampling = c.loop-k.invariant.sampling in
-    record {
-      least = summed int_min p c.loop-k._k _ c.loop-k-test.false c.loop-k.invariant.low;
-      greatest = summed int_max p c.loop-k._k _ c.loop-k-test.false c.loop-k.invariant.high;
-      least_range = sampling.low;
-      greatest_range = sampling.high;
-      span = Spans-all (cubic p) (c.loop-k._k + 1) _ _ (omega arith) sampling.spans;
-      least_size = sum_in_size _ sampling.low;
-      greatest_size = sum_in_size _ sampling.high;
+      least = low_is ∙ sym (least_end p.start p.first p.second p.end below);
+      greatest = high_is ∙ sym (greatest_end p.start p.first p.second p.end above);
+      least_range = least_range;
+      greatest_range = greatest_range;
+      span = span_of_ends p _ _ low_is high_is below above;
+      least_size = sum_in_size _ least_range;
+      greatest_size = sum_in_size _ greatest_range;
     }
