@@ -7,9 +7,8 @@ use Rattle.t1_text.specs.Lines.{joined}
 use Rattle.t1_parts.specs.LenIV.{lead}
 use Rattle.t1_parts.specs.Operator.{operator}
 use Rattle.t1_source.specs.WellFormed.{IsWellFormed}
-use Rattle.t1_font.specs.Assembly.{private_text, trailer_text}
+use Rattle.t1_font.specs.Assembly.{file_in, private_text, trailer_text}
 use Rattle.t1_charstrings.specs.declared.entries.Charstrings.{Charstrings}
-use Rattle.t1_charstrings.specs.Files.{file_in}
 use Rattle.t1_charstrings.specs.Kept.{AreEncrypted}
 use Rattle.t1_font.specs.Lengths.{IsPrivateLen}
 use Rattle.t1_charstrings.specs.Lines.{kept_text}

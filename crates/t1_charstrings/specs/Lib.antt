@@ -1,7 +1,6 @@
 pub mod Batch
 pub mod Changed
 pub mod Entries
-pub mod Files
 pub mod Kept
 pub mod Laws
 pub mod Lines

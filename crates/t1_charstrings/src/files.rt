@@ -1,8 +1,8 @@
 //! The files of a source, with the charstrings that are kept.
 ghost use Rattle.std.specs.List.{flat_map};
+ghost use Rattle.t1_font.specs.Assembly.{file_in};
 ghost use Rattle.t1_code.specs.Parts.{piece_text, Prints};
 ghost use Rattle.t1_source.specs.WellFormed.{IsWellFormed};
-ghost use Rattle.t1_charstrings.specs.Files.{file_in};
 ghost use Rattle.t1_charstrings.specs.Kept.{AreEncrypted};
 
 use crate::entries::Charstrings;

@@ -42,15 +42,18 @@ private_text lead operator (item ∷ items) =
 abbrev pub trailer_text : List (List ℕ) → List ℕ
 trailer_text tail = joined (replicate 8 (replicate 64 digit_zero) ++ tail)
 
+-- Type 1 Font Format, Chapter 2: the file of a source, in the form that makes it of its clear text, its private text and its trailer; or the first fault of its bodies
+abbrev pub file_in : (List ℕ → List ℕ → List ℕ → Result (List ℕ) Fault) → SourceParts → Result (List ℕ) Fault
+file_in form source =
+    private_text (lead source) (operator source) source.items >>= λ private. form (joined source.clear) private (trailer_text source.tail)
+
 -- profile: the PFB file of a source in blocks of this size, or the first fault of its bodies, or F23
 unfoldable pub source_file : ℕ → SourceParts → Result (List ℕ) Fault
-source_file size source =
-    private_text (lead source) (operator source) source.items >>= λ private. pfb_of size (joined source.clear) private (trailer_text source.tail)
+source_file size source = file_in (pfb_of size) source
 
 -- profile: the PFA file of a source, or the first fault of its bodies, or F23
 unfoldable pub source_pfa : SourceParts → Result (List ℕ) Fault
-source_pfa source =
-    private_text (lead source) (operator source) source.items >>= λ private. pfa_of (joined source.clear) private (trailer_text source.tail)
+source_pfa source = file_in pfa_of source
 
 -- profile: the first fault of the bodies, or F23 where a part of the PFB file is too long
 unfoldable pub length_check : SourceParts → Result (Unit {0}) Fault

@@ -2,15 +2,13 @@
 ghost use Rattle.std.specs.Prelude.{◌≡◌, ◌≤◌, ◌-◌, ◌^◌, IfOk};
 ghost use Rattle.t1_text.specs.Lines.{joined};
 ghost use Rattle.t1_code.specs.Parts.{Prints};
-ghost use Rattle.t1_code.specs.Pfa.{pfa_of};
-ghost use Rattle.t1_code.specs.Pfb.{pfb_of};
-ghost use Rattle.t1_font.specs.Assembly.{source_file, source_pfa, trailer_text};
+ghost use Rattle.t1_font.specs.Assembly.{file_in, source_file, source_pfa, trailer_text};
 ghost use Rattle.t1_frac.specs.Outcome.{Gives};
 
 use crate::private::private_text_of;
 use std::alloc::{AllocError, Global};
 use std::io::Write;
-use t1_code::{Counted, OutError, Parts, Piece, write_pfa, write_pfb};
+use t1_code::{Counted, FileForm, OutError, Parts, Pfa, Pfb, Piece, write_file};
 use t1_frac::{Bytes, Refusal};
 use t1_parts::push_lines;
 use t1_source::Source;
@@ -43,17 +41,15 @@ pub fn trailer(alloc: Global, tail: &[Bytes]) -> Result<Vec<u8>, AllocError>
     Ok(text)
 }
 
-/// Writes the PFB file of three parts, or answers F23 with nothing written.
-fn write_pfb_parts<W: Write>(
+/// Writes the file of three parts in a form, or answers F23 with nothing written.
+fn write_parts<F: FileForm, W: Write>(
+    form: &F,
     clear: &[u8],
     private: &[u8],
     trailer: &[u8],
-    size: usize,
     out: &mut Counted<W>,
 ) -> Result<(), OutError>
-    requires some { 1 ≤ size }
-    requires short { size ≤ 2 ^ 31 - 1 }
-    ensures { Prints W.contents out.old out.new (pfb_of size clear.now private.now trailer.now) result }
+    ensures { Prints W.contents out.old out.new (F.file form.now clear.now private.now trailer.now) result }
 {
     let pieces = [Piece::Plain(private)];
     let parts = Parts {
@@ -61,7 +57,23 @@ fn write_pfb_parts<W: Write>(
         pieces: &pieces,
         trailer,
     };
-    write_pfb(&parts, size, out)
+    write_file(form, &parts, out)
+}
+
+/// Writes the file of a source in a form: the whole file at `Ok`, a beginning of it at `Write`. A fault is the first of the
+/// bodies, at its entry, else F23; nothing is written then, nor where memory runs out.
+fn write_source<F: FileForm, W: Write>(
+    alloc: Global,
+    source: &Source,
+    form: &F,
+    out: &mut Counted<W>,
+) -> Result<(), OutError>
+    ensures { Prints W.contents out.old out.new (file_in (F.file form.now) source.now) result }
+{
+    let private = private_text_of(alloc, source.lead(), source.operator(), source.items())?;
+    let clear = clear_text(alloc, source.clear())?;
+    let trailer = trailer(alloc, source.tail())?;
+    write_parts(form, &clear, &private, &trailer, out)
 }
 
 /// Writes the PFB file of a source in segments of so many bytes, [`WHOLE_PARTS`] for one a part: the whole file at `Ok`,
@@ -78,28 +90,7 @@ pub fn write_source_pfb<W: Write>(
     requires short { size ≤ 2 ^ 31 - 1 }
     ensures { Prints W.contents out.old out.new (source_file size source.now) result }
 {
-    let private = private_text_of(alloc, source.lead(), source.operator(), source.items())?;
-    let clear = clear_text(alloc, source.clear())?;
-    let trailer = trailer(alloc, source.tail())?;
-    write_pfb_parts(&clear, &private, &trailer, size, out)
-}
-
-/// Writes the PFA file of three parts, or answers F23 with nothing written.
-fn write_pfa_parts<W: Write>(
-    clear: &[u8],
-    private: &[u8],
-    trailer: &[u8],
-    out: &mut Counted<W>,
-) -> Result<(), OutError>
-    ensures { Prints W.contents out.old out.new (pfa_of clear.now private.now trailer.now) result }
-{
-    let pieces = [Piece::Plain(private)];
-    let parts = Parts {
-        clear,
-        pieces: &pieces,
-        trailer,
-    };
-    write_pfa(&parts, out)
+    write_source(alloc, source, &Pfb::in_blocks(size), out)
 }
 
 /// Writes the PFA file of a source, with the answers of `write_source_pfb`.
@@ -111,20 +102,15 @@ pub fn write_source_pfa<W: Write>(
 ) -> Result<(), OutError>
     ensures { Prints W.contents out.old out.new (source_pfa source.now) result }
 {
-    let private = private_text_of(alloc, source.lead(), source.operator(), source.items())?;
-    let clear = clear_text(alloc, source.clear())?;
-    let trailer = trailer(alloc, source.tail())?;
-    write_pfa_parts(&clear, &private, &trailer, out)
+    write_source(alloc, source, &Pfa, out)
 }
 
-/// The PFB file of a source in segments of so many bytes, or the first fault of its bodies, or F23.
-pub fn pfb_of_source(alloc: Global, source: &Source, size: usize) -> Result<Vec<u8>, Refusal>
-    requires some { 1 ≤ size }
-    requires short { size ≤ 2 ^ 31 - 1 }
-    ensures { Gives (λ file. file.items) result (source_file size source.now) }
+/// The file of a source in a form, or the first fault of its bodies, or F23.
+fn file_of_source<F: FileForm>(alloc: Global, source: &Source, form: &F) -> Result<Vec<u8>, Refusal>
+    ensures { Gives (λ file. file.items) result (file_in (F.file form.now) source.now) }
 {
     let mut out = Counted::new(Vec::new(alloc));
-    match write_source_pfb(alloc, source, size, &mut out) {
+    match write_source(alloc, source, form, &mut out) {
         Ok(()) => Ok(out.into_inner()),
         Err(OutError::Fault(fault)) => Err(Refusal::Fault(fault)),
         // A vector fails to take bytes only where it can't grow.
@@ -132,14 +118,20 @@ pub fn pfb_of_source(alloc: Global, source: &Source, size: usize) -> Result<Vec<
     }
 }
 
+/// The PFB file of a source in segments of so many bytes, or the first fault of its bodies, or F23.
+#[tactic(auto, unfolding(crate::specs::Assembly::source_file))]
+pub fn pfb_of_source(alloc: Global, source: &Source, size: usize) -> Result<Vec<u8>, Refusal>
+    requires some { 1 ≤ size }
+    requires short { size ≤ 2 ^ 31 - 1 }
+    ensures { Gives (λ file. file.items) result (source_file size source.now) }
+{
+    file_of_source(alloc, source, &Pfb::in_blocks(size))
+}
+
 /// The PFA file of a source, or the first fault of its bodies, or F23.
+#[tactic(auto, unfolding(crate::specs::Assembly::source_pfa))]
 pub fn pfa_of_source(alloc: Global, source: &Source) -> Result<Vec<u8>, Refusal>
     ensures { Gives (λ file. file.items) result (source_pfa source.now) }
 {
-    let mut out = Counted::new(Vec::new(alloc));
-    match write_source_pfa(alloc, source, &mut out) {
-        Ok(()) => Ok(out.into_inner()),
-        Err(OutError::Fault(fault)) => Err(Refusal::Fault(fault)),
-        Err(_) => Err(Refusal::Memory),
-    }
+    file_of_source(alloc, source, &Pfa)
 }

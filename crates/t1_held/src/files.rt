@@ -1,6 +1,6 @@
 //! The files of a source, with the charstrings that are held of it.
+ghost use Rattle.t1_font.specs.Assembly.{file_in};
 ghost use Rattle.t1_code.specs.Parts.{Prints};
-ghost use Rattle.t1_charstrings.specs.Files.{file_in};
 ghost use Rattle.t1_held.specs.Held.{IsHeld};
 
 use crate::held::Held;

@@ -1,4 +1,5 @@
 //! Batches on the demo font, with memory that doesn't run out.
+use crate::fonts::bytes;
 use std::alloc::Global;
 use std::test::Fail;
 use t1_batch::{Batch, batch_changes};
@@ -9,10 +10,6 @@ use t1_pairs::read_pairs;
 use t1_rerun::EntryChange;
 use t1_source::{Cause, Edit, Rule, read_source};
 use t1_test_fonts::DEMO;
-
-fn bytes(alloc: Global, text: &str) -> Result<Bytes, Fail> {
-    Ok(Bytes::copied(alloc, text.as_bytes())?)
-}
 
 fn put_subr_4(alloc: Global, body: &str) -> Result<Edit, Fail> {
     Ok(Edit::ReplaceSubr(4, bytes(alloc, body)?))

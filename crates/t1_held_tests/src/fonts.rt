@@ -1,9 +1,10 @@
-//! Sources for these tests.
+//! Sources and texts for these tests.
 ghost use Rattle.std.specs.Prelude.{IfOk};
 ghost use Rattle.t1_source.specs.WellFormed.{IsWellFormed};
 
 use std::alloc::Global;
 use std::test::Fail;
+use t1_frac::Bytes;
 use t1_source::laws::read_source_is_well_formed;
 use t1_source::{Source, read_source};
 
@@ -13,4 +14,9 @@ pub(crate) fn read(alloc: Global, text: &str) -> Result<Source<'_>, Fail>
 {
     read_source_is_well_formed();
     Ok(read_source(alloc, text.as_bytes())?)
+}
+
+/// The bytes of a text.
+pub(crate) fn bytes(alloc: Global, text: &str) -> Result<Bytes, Fail> {
+    Ok(Bytes::copied(alloc, text.as_bytes())?)
 }

@@ -23,12 +23,11 @@ use Rattle.t1_pairs.specs.Kerning.{pairs, kern}
 use Rattle.t1_code.specs.Pfa.{pfa, pfa_of}
 use Rattle.t1_code.specs.Pfb.{has_long_part, pfb, pfb_of, whole_file}
 use Rattle.t1_afm.specs.Afm.{afm}
-use Rattle.t1_font.specs.Assembly.{counts_check, file_check, length_check, private_text, source_file, source_pfa, trailer_text}
+use Rattle.t1_font.specs.Assembly.{counts_check, file_check, file_in, length_check, private_text, source_file, source_pfa, trailer_text}
 use Rattle.t1_font.specs.FontMetrics.{metrics_of}
 use Rattle.t1_font.specs.MeasuredGlyphs.{MeasuredFont}
 use Rattle.t1_font.specs.SourceChecks.{measured_source, source_check, source_usage}
 use Rattle.t1_font.specs.Usage.{usage_table}
-use Rattle.t1_charstrings.specs.Files.{file_in}
 use Rattle.t1_held.specs.declared.held.Held.{Held}
 use Rattle.t1_held.specs.Held.{IsHeld}
 use Rattle.t1_held.proofs.HeldLaws.{file_checked, right_checked}

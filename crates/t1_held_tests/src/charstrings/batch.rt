@@ -1,30 +1,28 @@
 //! Fresh charstrings of a batch of edits.
 
 use super::*;
+use crate::fonts::bytes;
+use t1_pairs::read_pairs;
+use t1_source::{Edit, Source};
 
-/// The font with a Subr after three edits: A is replaced, B is added, and space is removed.
-const EDITED: &str = "\
-    /Encoding StandardEncoding def\n\
-    currentfile eexec\n\
-    /lenIV 2 def\n\
-    /Subrs 5 array\n\
-    dup 4 {\n\
-    \t100 178 rlineto\n\
-    \treturn\n\
-    \t}\n\
-    ND\n\
-    2 index /CharStrings 2 dict dup begin\n\
-    /A {\n\
-    \t20 700 hsbw\n\
-    \tendchar\n\
-    \t} ND\n\
-    /B {\n\
-    \t30 800 hsbw\n\
-    \t4 callsubr\n\
-    \tendchar\n\
-    \t} ND\n\
-    end\n\
-    mark currentfile closefile\n";
+/// The font after three edits: A is replaced, B is added, and space is removed.
+fn edited(alloc: Global) -> Result<Source<'static>, Fail> {
+    let edits = [
+        Edit::ReplaceGlyph(bytes(alloc, "A")?, bytes(alloc, "20 700 hsbw endchar")?),
+        Edit::AddGlyph(
+            bytes(alloc, "B")?,
+            bytes(alloc, "30 800 hsbw 4 callsubr endchar")?,
+        ),
+        Edit::RemoveGlyph(bytes(alloc, "space")?),
+    ];
+    let pairs = read_pairs(alloc, b"")?;
+    let mut source = read(alloc, SHORT_LEAD)?;
+    for edit in &edits {
+        let (made, _) = source.edited(&pairs, edit)?;
+        source = made;
+    }
+    Ok(source)
+}
 
 /// The charstrings of the glyphs that are replaced and added.
 fn fresh(alloc: Global) -> Result<Charstrings, Fail> {
@@ -40,7 +38,7 @@ fn fresh(alloc: Global) -> Result<Charstrings, Fail> {
 fn counts_fresh_lines(rt: HostRuntime) -> Result<(), Fail> {
     let alloc = rt.alloc();
     let charstrings = charstrings_of(alloc, &read(alloc, SHORT_LEAD)?)?;
-    let len = batch_len(&charstrings, &fresh(alloc)?, &read(alloc, EDITED)?);
+    let len = batch_len(&charstrings, &fresh(alloc)?, &edited(alloc)?);
     // 97 bytes of five lines, 22 of the Subr's, and 19 and 21 of the glyphs'.
     assert_eq!(rt; len, 159);
     Ok(())

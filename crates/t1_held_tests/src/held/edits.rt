@@ -1,6 +1,7 @@
 //! Charstrings and the length of the private text, held under edits.
 
 use super::*;
+use crate::fonts::bytes;
 
 /// The charstring of the small font's glyph without leading bytes.
 const BARE_SPACE: [u8; 5] = [0x9B, 0x23, 0xB0, 0xBB, 0x08];
@@ -22,11 +23,6 @@ fn keeps(held: &Held, name: &str, charstring: &[u8]) -> bool {
         None => false,
         Some(entry) => entry.charstring() == charstring,
     }
-}
-
-/// Some bytes.
-fn bytes(alloc: Global, text: &str) -> Result<Bytes, Fail> {
-    Ok(Bytes::copied(alloc, text.as_bytes())?)
 }
 
 /// A glyph replaced.
