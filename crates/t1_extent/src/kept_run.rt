@@ -17,7 +17,7 @@ use std::alloc::{AllocError, Global};
 use std::marker::Model;
 use t1_afm::{BBox, bounding_box};
 use t1_code::is_standard_name;
-use t1_run::{Composite, Point, Run, Segment};
+use t1_run::{Composite, Entered, Point, Run, Segment};
 use t1_shadow::Shadow;
 
 /// An outline of which some coordinates have fractions.
@@ -87,7 +87,7 @@ pub struct KeptRun {
     width: Point,
     bearing: Point,
     composite: Option<Composite>,
-    entered: Vec<u16>,
+    entered: Entered,
     steps: u32,
     serial: u64,
     shape: Shape,
@@ -110,7 +110,7 @@ impl Model for KeptRun {
     ghost invariant = { λ r. (r.width ≡ r.run.value.drawing.width)
         × (r.bearing ≡ r.run.value.drawing.bearing)
         × (r.composite ≡ r.run.value.drawing.composite)
-        × (r.entered.items ≡ r.run.value.drawing.entered)
+        × (r.entered ≡ r.run.value.drawing.entered)
         × (r.steps ≡ r.run.value.drawing.steps)
         × (r.serial ≡ r.run.value.serial)
         × All IsWithin r.run.value.drawing.segments

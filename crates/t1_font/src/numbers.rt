@@ -1,13 +1,15 @@
 //! Lists of Subr numbers.
 ghost use Rattle.std.specs.Prelude.{◌≡◌, IfOk};
 
+use smallvec::SmallVec;
 use std::alloc::{AllocError, Global};
 use std::marker::Model;
 
-/// Numbers of Subrs that own their memory. Contracts see the list of the numbers.
+/// Numbers of Subrs that own their memory, of which as many as most glyphs enter take no block. Contracts see the list of the
+/// numbers.
 #[derive(Debug, Drop)]
 pub struct SubrNumbers {
-    numbers: Vec<u16>,
+    numbers: SmallVec<u16, 8>,
 }
 
 impl Model for SubrNumbers {
@@ -23,7 +25,7 @@ impl SubrNumbers {
     pub fn copied(alloc: Global, numbers: &[u16]) -> Result<Self, AllocError>
         ensures { IfOk result (λ copy. copy ≡ numbers.now) }
     {
-        let numbers = Vec::from_slice(alloc, numbers)?;
+        let numbers = SmallVec::from_slice(alloc, numbers)?;
         Ok(SubrNumbers { numbers })
     }
 

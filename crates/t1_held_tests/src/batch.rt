@@ -5,7 +5,7 @@ use std::test::Fail;
 use t1_batch::{Batch, batch_changes};
 use t1_cache::Named;
 use t1_code::Body;
-use t1_frac::{Bytes, Fault, Place, Refusal};
+use t1_frac::{Fault, Place, Refusal};
 use t1_pairs::read_pairs;
 use t1_rerun::EntryChange;
 use t1_source::{Cause, Edit, Rule, read_source};

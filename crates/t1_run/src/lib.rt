@@ -24,6 +24,7 @@ mod step;
 
 pub use bodies::{Bodies, StoredBodies};
 pub use composite::{accent_move, join};
+pub use entered::Entered;
 pub use meter::Meter;
 pub use moving::{moved_point, moved_segment};
 pub use outcome::Run;

@@ -6,6 +6,7 @@ ghost use Rattle.t1_run.specs.Composite.{HasStandardParts, IsWithin};
 ghost use Rattle.t1_run.specs.Machine.{state_of};
 ghost use Rattle.t1_run.specs.Run.{drawing_of};
 
+use crate::entered::Entered;
 use crate::outline::{Composite, Metric, Point, Segment};
 use crate::state::State;
 use std::marker::Model;
@@ -17,7 +18,7 @@ pub struct Run {
     metric: Metric,
     segments: Vec<Segment>,
     composite: Option<Composite>,
-    entered: Vec<u16>,
+    entered: Entered,
     steps: u32,
     serial: u64,
 }
@@ -33,7 +34,7 @@ impl Model for Run {
         bearing = r.metric.bearing;
         segments = r.segments.items;
         composite = r.composite;
-        entered = r.entered.items;
+        entered = r.entered;
         steps = r.steps;
       };
       serial = r.serial;
@@ -72,7 +73,7 @@ impl Run {
             metric,
             segments,
             composite,
-            entered: entered.into_vec(),
+            entered,
             steps,
             serial,
         })
@@ -117,9 +118,9 @@ impl Run {
 
     /// The parts of a glyph that ended by seac, the numbers of the Subrs that the run entered, and its segments. It takes no
     /// memory.
-    pub fn into_parts(self) -> (Option<Composite>, Vec<u16>, Vec<Segment>)
+    pub fn into_parts(self) -> (Option<Composite>, Entered, Vec<Segment>)
         ensures parts { result.0 ≡ self.drawing.composite }
-        ensures entered { result.1.items ≡ self.drawing.entered }
+        ensures entered { result.1 ≡ self.drawing.entered }
         ensures segments { result.2.items ≡ self.drawing.segments }
     {
         (self.composite, self.entered, self.segments)

@@ -22,8 +22,8 @@ returns-then-max-high c =
     let low_is = read_small c.numerator.result (omega (arith, c.numerator.ensures.size)) ∙ c.numerator.ensures.value ∙ ap (λ z. pos 262144 *ℤ z) low.same in
     let high_is = read_small c.numerator-then-max-high.result (omega (arith, c.numerator-then-max-high.ensures.size)) ∙ c.numerator-then-max-high.ensures.value
     ∙ ap (λ z. pos 262144 *ℤ z) high.same in
-    let least_range = subst (λ x. IsInRange (over_cube x)) (sym low_is) (multiple_in_range _ low.bound) in
-    let greatest_range = subst (λ x. IsInRange (over_cube x)) (sym high_is) (multiple_in_range _ high.bound) in
+    let least_range = subst (λ x. IsInRange (over_cube x)) (sym low_is) (multiple_in_range (int_min p.start p.end) low.bound) in
+    let greatest_range = subst (λ x. IsInRange (over_cube x)) (sym high_is) (multiple_in_range (int_max p.start p.end) high.bound) in
     record {
       least = low_is ∙ sym (least_end p.start p.first p.second p.end below);
       greatest = high_is ∙ sym (greatest_end p.start p.first p.second p.end above);
