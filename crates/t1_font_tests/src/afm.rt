@@ -5,8 +5,8 @@ ghost use Rattle.t1_run.specs.Composite.{IsPoint, IsWithin};
 use std::alloc::Global;
 use std::test::Fail;
 use t1_afm::{
-    BBox, CharMetric, CompositeMetric, Header, KernPair, Metrics, Text, bounding_box, measure,
-    unite, write_afm,
+    BBox, CharMetric, CompositeMetric, Header, KernPair, Metrics, Text, WholeCubic, bounding_box,
+    measure, numerator, unite, write_afm,
 };
 use t1_code::Counted;
 use t1_frac::Frac;
@@ -49,6 +49,43 @@ fn boxes_curves(rt: HostRuntime) {
     ];
     assert_eq!(rt; corners(&bounding_box(&both)), [0, 0, 100, 100]);
     assert_eq!(rt; corners(&bounding_box(&[])), [0, 0, 0, 0]);
+}
+
+/// A cubic that rises to 75 half-way and falls again.
+fn arch() -> WholeCubic {
+    WholeCubic {
+        start: 0,
+        first: 100,
+        second: 100,
+        end: 0,
+    }
+}
+
+#[test]
+fn sums_the_values_of_a_cubic(rt: HostRuntime) {
+    let sums = arch().sums();
+    assert!(rt; (sums.least, sums.greatest) == (0, 19_660_800));
+}
+
+/// A cubic whose control points lie between its ends.
+fn rise() -> WholeCubic {
+    WholeCubic {
+        start: -100,
+        first: 10,
+        second: 90,
+        end: 100,
+    }
+}
+
+#[test]
+fn sums_the_ends_of_a_cubic_between_them(rt: HostRuntime) {
+    let sums = rise().sums();
+    assert!(rt; (sums.least, sums.greatest) == (-26_214_400, 26_214_400));
+}
+
+#[test]
+fn widens_a_whole_coordinate(rt: HostRuntime) {
+    assert_eq!(rt; numerator(3), 786_432);
 }
 
 fn quarters(n: i32) -> Option<Frac> {

@@ -4,7 +4,7 @@ use std::alloc::Global;
 use std::test::Fail;
 use t1_code::{Body, compile};
 use t1_frac::{Code, Frac, OwnedWords, Refusal};
-use t1_run::{Bodies, Meter, Plain, Point, Run, Segment, join, run};
+use t1_run::{Bodies, Entered, Meter, Plain, Point, Run, Segment, join, run};
 
 /// The body of some words so many times, after the first ones and before the last ones.
 fn body(alloc: Global, first: &str, count: usize, words: &str, last: &str) -> Result<Body, Fail> {
@@ -151,4 +151,20 @@ fn ends_at(outline: &[Segment], x: i32, y: i32) -> bool {
         Some(Segment::Line(_, end)) => is_at(end, x, y),
         _ => false,
     }
+}
+
+/// The numbers 7, 3 and 7 entered.
+fn entered(alloc: Global) -> Result<Entered, Fail> {
+    let mut entered = Entered::new(alloc);
+    for number in [7, 3, 7] {
+        entered.add(number)?;
+    }
+    Ok(entered)
+}
+
+#[test]
+fn sorts_entered_numbers(rt: HostRuntime) -> Result<(), Fail> {
+    let entered = entered(rt.alloc())?;
+    assert!(rt; entered.as_slice() == [3, 7]);
+    Ok(())
 }
