@@ -1,11 +1,10 @@
 //! Batches on the demo font, with memory that doesn't run out.
-use crate::fonts::bytes;
+use crate::common::{bytes, is_refused_at_4};
 use std::alloc::Global;
 use std::test::Fail;
 use t1_batch::{Batch, batch_changes};
 use t1_cache::Named;
 use t1_code::Body;
-use t1_frac::{Fault, Place, Refusal};
 use t1_pairs::read_pairs;
 use t1_rerun::EntryChange;
 use t1_source::{Cause, Edit, Rule, read_source};
@@ -157,17 +156,7 @@ fn has_fault_at_4(alloc: Global) -> Result<bool, Fail> {
         put_subr_4(alloc, "100 nonsense")?,
     ];
     let (source, _, entries) = batch(alloc, &edits)?.into_parts();
-    match batch_changes(alloc, &source, entries) {
-        Err(
-            Refusal::Fault(
-                Fault {
-                    place: Place::Subr(number),
-                    ..
-                },
-            ),
-        ) => Ok(number == 4),
-        _ => Ok(false),
-    }
+    Ok(is_refused_at_4(batch_changes(alloc, &source, entries)))
 }
 
 #[test]

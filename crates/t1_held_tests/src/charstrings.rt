@@ -2,7 +2,7 @@
 
 mod batch;
 
-use crate::fonts::read;
+use crate::common::read;
 use std::alloc::Global;
 use std::test::Fail;
 use t1_charstrings::{

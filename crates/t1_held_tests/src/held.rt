@@ -4,7 +4,7 @@ ghost use Rattle.t1_held.specs.Held.{IsHeld};
 
 mod edits;
 
-use crate::fonts::read;
+use crate::common::read;
 use std::alloc::Global;
 use std::test::Fail;
 use t1_afm::BBox;

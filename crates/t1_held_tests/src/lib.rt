@@ -9,7 +9,7 @@ mod cache;
 #[cfg(test)]
 mod charstrings;
 #[cfg(test)]
-mod fonts;
+mod common;
 #[cfg(test)]
 mod held;
 #[cfg(test)]

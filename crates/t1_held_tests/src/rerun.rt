@@ -4,12 +4,13 @@ ghost use Rattle.t1_source.specs.WellFormed.{IsWellFormed};
 ghost use Rattle.t1_cache.specs.Kept.{keep_traces};
 ghost use Rattle.t1_rerun.specs.Renewing.{IsEdited};
 
+use crate::common::is_refused_at_4;
 use std::alloc::Global;
 use std::test::Fail;
 use t1_afm::BBox;
 use t1_cache::{Named, Names, Records};
 use t1_font::checked_bodies;
-use t1_frac::{Bytes, Fault, Place, Refusal};
+use t1_frac::Bytes;
 use t1_pairs::read_pairs;
 use t1_rerun::{
     EntryChange, GlyphOrder, Prepared, change_alone, change_of_edit, measured_records,
@@ -148,17 +149,7 @@ fn compiles_the_body_of_an_edit(rt: HostRuntime) -> Result<(), Fail> {
 /// Whether the body of an edit of Subr 4 has a fault, reported at the Subr.
 fn has_fault_at_4(alloc: Global, body: &[u8]) -> Result<bool, Fail> {
     let edit = subr_4(alloc, body)?;
-    match change_of_edit(alloc, &edit) {
-        Err(
-            Refusal::Fault(
-                Fault {
-                    place: Place::Subr(number),
-                    ..
-                },
-            ),
-        ) => Ok(number == 4),
-        _ => Ok(false),
-    }
+    Ok(is_refused_at_4(change_of_edit(alloc, &edit)))
 }
 
 #[test]

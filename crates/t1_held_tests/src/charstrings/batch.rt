@@ -1,7 +1,7 @@
 //! Fresh charstrings of a batch of edits.
 
 use super::*;
-use crate::fonts::bytes;
+use crate::common::bytes;
 use t1_pairs::read_pairs;
 use t1_source::{Edit, Source};
 
