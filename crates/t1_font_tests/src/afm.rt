@@ -1,7 +1,6 @@
 //! Worked rows, with memory that doesn't run out.
 
-ghost use Rattle.t1_run.specs.Composite.{IsPoint, IsWithin};
-
+use crate::shapes::{curve, point, quarters, sides};
 use std::alloc::Global;
 use std::test::Fail;
 use t1_afm::{
@@ -12,43 +11,18 @@ use t1_code::Counted;
 use t1_frac::Frac;
 use t1_run::{Point, Segment, moved_segment};
 
-fn point(x: i16, y: i16) -> Point
-    ensures { IsPoint result }
-{
-    Point {
-        x: Frac::whole(i32::from(x)),
-        y: Frac::whole(i32::from(y)),
-    }
-}
-
-/// A curve from the origin.
-fn curve(first: [i16; 2], second: [i16; 2], end: [i16; 2]) -> Segment
-    ensures { IsWithin result }
-{
-    Segment::Curve(
-        point(0, 0),
-        point(first[0], first[1]),
-        point(second[0], second[1]),
-        point(end[0], end[1]),
-    )
-}
-
-fn corners(bbox: &BBox) -> [i32; 4] {
-    [bbox.left, bbox.bottom, bbox.right, bbox.top]
-}
-
 #[test]
 fn boxes_curves(rt: HostRuntime) {
     let bow = [curve([0, 100], [100, 100], [100, 0])];
-    assert_eq!(rt; corners(&bounding_box(&bow)), [0, 0, 100, 75]);
+    assert_eq!(rt; sides(&bounding_box(&bow)), [0, 0, 100, 75]);
     let steep = [curve([0, 1366], [0, 0], [10, 0])];
-    assert_eq!(rt; corners(&bounding_box(&steep)), [0, 0, 10, 607]);
+    assert_eq!(rt; sides(&bounding_box(&steep)), [0, 0, 10, 607]);
     let both = [
         curve([0, 40], [60, 100], [100, 100]),
         curve([0, 100], [100, 100], [100, 0]),
     ];
-    assert_eq!(rt; corners(&bounding_box(&both)), [0, 0, 100, 100]);
-    assert_eq!(rt; corners(&bounding_box(&[])), [0, 0, 0, 0]);
+    assert_eq!(rt; sides(&bounding_box(&both)), [0, 0, 100, 100]);
+    assert_eq!(rt; sides(&bounding_box(&[])), [0, 0, 0, 0]);
 }
 
 /// A cubic that rises to 75 half-way and falls again.
@@ -86,10 +60,6 @@ fn sums_the_ends_of_a_cubic_between_them(rt: HostRuntime) {
 #[test]
 fn widens_a_whole_coordinate(rt: HostRuntime) {
     assert_eq!(rt; numerator(3), 786_432);
-}
-
-fn quarters(n: i32) -> Option<Frac> {
-    Frac::whole(n).div(&Frac::whole(4)).ok()
 }
 
 fn moved_box(segment: Segment, by: &Point) -> Option<BBox> {
@@ -134,18 +104,15 @@ fn rounds_after_the_move(rt: HostRuntime) {
         top: 700,
     };
     let accent = moved_accent();
-    assert_eq!(rt;
-        accent.map(|bbox| corners(&bbox)),
-        Some([180, 714, 281, 892])
-    );
+    assert_eq!(rt; accent.map(|bbox| sides(&bbox)), Some([180, 714, 281, 892]));
     let whole = unite(Some(base), accent);
-    assert_eq!(rt; whole.map(|bbox| corners(&bbox)), Some([10, 0, 281, 892]));
+    assert_eq!(rt; whole.map(|bbox| sides(&bbox)), Some([10, 0, 281, 892]));
     assert_eq!(rt; unite(None, whole), whole);
 }
 
 #[test]
 fn boxes_curves_of_fractions(rt: HostRuntime) {
-    let bbox = moved_curve().map(|bbox| corners(&bbox));
+    let bbox = moved_curve().map(|bbox| sides(&bbox));
     assert_eq!(rt; bbox, Some([0, 0, 101, 76]));
 }
 

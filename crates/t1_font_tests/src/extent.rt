@@ -1,11 +1,12 @@
 //! Worked rows.
 
 ghost use Rattle.std.specs.Prelude.{◌≡◌, true, IfSome, Some, Ok};
-ghost use Rattle.t1_run.specs.Composite.{IsPoint, IsWithin};
-ghost use Rattle.t1_extent.specs.Extremes.{IsWhole, IsWholeSegment, limit_check};
+ghost use Rattle.t1_run.specs.Composite.{IsWithin};
+ghost use Rattle.t1_extent.specs.Extremes.{IsWholeSegment, limit_check};
 ghost use Rattle.t1_extent.specs.Exacts.{extremes_of};
 ghost use Rattle.t1_extent.specs.Kept.{traces};
 
+use crate::shapes::{curve, point, quarters, sides};
 use indexmap::IndexMap;
 use std::alloc::Global;
 use std::test::Fail;
@@ -17,33 +18,6 @@ use t1_extent::{
 };
 use t1_frac::{Code, Frac, Refusal, Words};
 use t1_run::{Bodies, Meter, Plain, Point, Segment, moved_segment, run};
-
-fn point(x: i16, y: i16) -> Point
-    ensures within { IsPoint result }
-    ensures whole { IsWhole result }
-{
-    Point {
-        x: Frac::whole(i32::from(x)),
-        y: Frac::whole(i32::from(y)),
-    }
-}
-
-/// A curve from the origin.
-fn curve(first: [i16; 2], second: [i16; 2], end: [i16; 2]) -> Segment
-    ensures within { IsWithin result }
-    ensures whole { IsWholeSegment result }
-{
-    Segment::Curve(
-        point(0, 0),
-        point(first[0], first[1]),
-        point(second[0], second[1]),
-        point(end[0], end[1]),
-    )
-}
-
-fn sides(bbox: &BBox) -> [i32; 4] {
-    [bbox.left, bbox.bottom, bbox.right, bbox.top]
-}
 
 /// The box around the drawn points of a segment.
 fn drawn_sides(segment: &Segment) -> Option<[i32; 4]>
@@ -85,10 +59,6 @@ fn compared_top() -> Option<[bool; 2]> {
 #[test]
 fn extremes_are_exact(rt: HostRuntime) {
     assert!(rt; compared_top() == Some([false, false]));
-}
-
-fn quarters(n: i32) -> Option<Frac> {
-    Frac::whole(n).div(&Frac::whole(4)).ok()
 }
 
 /// A line from 93 1/4, 500 to 193 1/4, 678.

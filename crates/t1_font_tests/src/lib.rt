@@ -19,6 +19,8 @@ mod pairs;
 #[cfg(test)]
 mod run;
 #[cfg(test)]
+mod shapes;
+#[cfg(test)]
 mod source;
 #[cfg(test)]
 mod text;
