@@ -18,7 +18,7 @@ use Rattle.t1_cache.specs.Renewed.{Kept, kept_of}
 use Rattle.t1_cache.specs.Users.{among, glyph_rest, has, subr_rest, GlyphRest, HasRoom, SubrRest, UserSet}
 use Rattle.t1_font.proofs.Keys.{key-itself, key-same, at-same, same-at}
 use Rattle.t1_font.proofs.Keeping.{map-cond}
-use Rattle.t1_font.proofs.Lookups.{Reports, inserted-at, lookup-but}
+use Rattle.t1_font.proofs.Lookups.{Distinguishes, inserted-at, lookup-but}
 use Rattle.t1_cache.proofs.Putting.{at}
 
 -- ---- a record that is put in
@@ -28,13 +28,13 @@ nothing-read read None e = refl
 nothing-read read (Some r) e = absurd (cc)
 
 -- what is read of the records is that of the one that is put in, at its name
-pub reads-inserted : {Q K R X : Type 0} (eq : Q → Q → Bool) → Reports eq → (name : K → Q) (read : R → X) (es : List (K × R)) (k : K) (r : R)
+pub reads-inserted : {Q K R X : Type 0} (eq : Q → Q → Bool) → Distinguishes eq → (name : K → Q) (read : R → X) (es : List (K × R)) (k : K) (r : R)
     → (q : Q) → option_map read (lookup (λ x. eq q (name x)) (insert_entry (λ x y. eq (name x) (name y)) es k r))
     ≡ cond (eq q (name k)) (Some (read r)) (option_map read (lookup (λ x. eq q (name x)) es))
 reads-inserted eq t name read es k r q =
     ap (option_map read) (inserted-at eq t name q k r es) ∙ map-cond read (eq q (name k)) r (lookup (λ x. eq q (name x)) es)
 
-module _ {Q K R : Type 0} (eq : Q → Q → Bool) (t : Reports eq) (name : K → Q) (users : R → UserSet) (es : List (K × R)) (k : K) (r : R)
+module _ {Q K R : Type 0} (eq : Q → Q → Bool) (t : Distinguishes eq) (name : K → Q) (users : R → UserSet) (es : List (K × R)) (k : K) (r : R)
     (absent : lookup (λ x. eq (name k) (name x)) es ≡ None) where
   there-none : (q : Q) → eq q (name k) ≡ true → at eq name users es q ≡ None
   there-none q on = ap (at eq name users es) (t.same q (name k) on) ∙ ap (option_map users) absent
@@ -56,7 +56,7 @@ module _ {Q K R : Type 0} (eq : Q → Q → Bool) (t : Reports eq) (name : K →
     by false off = had
 
 -- what is put into the record of a name, where it has one
-module _ {Q K R X : Type 0} (eq : Q → Q → Bool) (t : Reports eq) (name : K → Q) (read : R → X) (es : List (K × R)) (p : Q) (x : X) where
+module _ {Q K R X : Type 0} (eq : Q → Q → Bool) (t : Distinguishes eq) (name : K → Q) (read : R → X) (es : List (K × R)) (p : Q) (x : X) where
   put-at : (q : Q) → eq q p ≡ true → lookup (λ k. eq q (name k)) es ≡ lookup (λ k. eq p (name k)) es
   put-at q on = ap (λ n. lookup (λ k. eq n (name k)) es) (t.same q p on)
 
@@ -101,7 +101,7 @@ all-but test (e ∷ es) gone = by (test e.0) refl gone (all-but test es) where
   by false off gone rest = ap (λ l. e ∷ l) (rest (sym (ap (λ b. cond b (Some e.1) (lookup test (remove_entry test es))) off) ∙ gone))
 
 -- what is read of the records is nothing at the name that is taken out
-pub reads-removed : {Q K R X : Type 0} (eq : Q → Q → Bool) → Reports eq → (name : K → Q) (read : R → X) (es : List (K × R)) (p : Q)
+pub reads-removed : {Q K R X : Type 0} (eq : Q → Q → Bool) → Distinguishes eq → (name : K → Q) (read : R → X) (es : List (K × R)) (p : Q)
     → lookup (λ x. eq p (name x)) (remove_entry (λ x. eq p (name x)) es) ≡ None
     → (q : Q) → option_map read (lookup (λ x. eq q (name x)) (remove_entry (λ x. eq p (name x)) es)) ≡ cond (eq q p) None (option_map read (lookup (λ x. eq q (name x)) es))
 reads-removed eq t name read es p gone q =

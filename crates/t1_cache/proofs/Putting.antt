@@ -7,10 +7,10 @@ use Rattle.std.specs.Str.{bytes_eq}
 use Rattle.std.proofs.Math.Bool.{and-true, or-false}
 use Rattle.std.proofs.lemmas.Bool.{cases_Bool}
 use Rattle.t1_font.proofs.Keeping.{map-cond}
-use Rattle.t1_font.proofs.Lookups.{Reports, again}
+use Rattle.t1_font.proofs.Lookups.{Distinguishes, again}
 use Rattle.t1_cache.specs.Users.{has, among, HasRoom, UserSet}
 
-apart : {Q : Type 0} (eq : Q → Q → Bool) → Reports eq → (a b c : Q) → eq a b ≡ true → eq c b ≡ false → eq a c ≡ false
+apart : {Q : Type 0} (eq : Q → Q → Bool) → Distinguishes eq → (a b c : Q) → eq a b ≡ true → eq c b ≡ false → eq a c ≡ false
 apart eq t a b c on off =
     elim (cases_Bool (eq a c)) [
       | inl e ↦ let both : eq c b ≡ true = ap (λ x. eq x b) (sym (t.same a c e)) ∙ on in let never : true ≡ false = sym both ∙ off in absurd (cc)
@@ -18,7 +18,7 @@ apart eq t a b c on off =
     ]
 
 -- a value that is put at a name is found there, and nothing else changes
-put-at : {Q K X : Type 0} (eq : Q → Q → Bool) → Reports eq → (name : K → Q) (p n : Q) (w v : X) (es : List (K × X)) → lookup (λ k. eq n (name k)) es ≡ Some v
+put-at : {Q K X : Type 0} (eq : Q → Q → Bool) → Distinguishes eq → (name : K → Q) (p n : Q) (w v : X) (es : List (K × X)) → lookup (λ k. eq n (name k)) es ≡ Some v
     → lookup (λ k. eq p (name k)) (set_value (λ k. eq n (name k)) es w) ≡ cond (eq p n) (Some w) (lookup (λ k. eq p (name k)) es)
 put-at eq t name p n w v [] h = absurd (cc)
 put-at eq t name p n w v (e ∷ es) h =
@@ -52,19 +52,19 @@ rest-put rest (e ∷ es) test was now h stays = by (test e.0) refl (λ h'. rest-
 abbrev pub at : {Q K R : Type 0} → (Q → Q → Bool) → (K → Q) → (R → UserSet) → List (K × R) → Q → Option UserSet
 at eq name users es q = option_map users (lookup (λ k. eq q (name k)) es)
 
-pub reads-put : {Q K R X : Type 0} (eq : Q → Q → Bool) → Reports eq → (name : K → Q) (read : R → X) (es : List (K × R)) (p : Q) (was now : R)
+pub reads-put : {Q K R X : Type 0} (eq : Q → Q → Bool) → Distinguishes eq → (name : K → Q) (read : R → X) (es : List (K × R)) (p : Q) (was now : R)
     → lookup (λ k. eq p (name k)) es ≡ Some was
     → (q : Q) → option_map read (lookup (λ k. eq q (name k)) (set_value (λ k. eq p (name k)) es now)) ≡ cond (eq q p) (Some (read now)) (option_map read (lookup (λ k. eq q (name k)) es))
 reads-put eq t name read es p was now h q =
     ap (option_map read) (put-at eq t name q p now was es h) ∙ map-cond read (eq q p) now (lookup (λ k. eq q (name k)) es)
 
-pub users-put : {Q K R : Type 0} (eq : Q → Q → Bool) → Reports eq → (name : K → Q) (users : R → UserSet) (es : List (K × R)) (p : Q) (was now : R)
+pub users-put : {Q K R : Type 0} (eq : Q → Q → Bool) → Distinguishes eq → (name : K → Q) (users : R → UserSet) (es : List (K × R)) (p : Q) (was now : R)
     → lookup (λ k. eq p (name k)) es ≡ Some was
     → (q : Q) → at eq name users (set_value (λ k. eq p (name k)) es now) q ≡ cond (eq q p) (Some (users now)) (at eq name users es q)
 users-put eq t name users es p was now h q = reads-put eq t name users es p was now h q
 
 -- what is read of the records is the same, where it is the same of the one that is put
-pub reads-stay : {Q K R X : Type 0} (eq : Q → Q → Bool) → Reports eq → (name : K → Q) (read : R → X) (es : List (K × R)) (p : Q) (was now : R)
+pub reads-stay : {Q K R X : Type 0} (eq : Q → Q → Bool) → Distinguishes eq → (name : K → Q) (read : R → X) (es : List (K × R)) (p : Q) (was now : R)
     → lookup (λ k. eq p (name k)) es ≡ Some was → read now ≡ read was
     → (q : Q) → option_map read (lookup (λ k. eq q (name k)) (set_value (λ k. eq p (name k)) es now)) ≡ option_map read (lookup (λ k. eq q (name k)) es)
 reads-stay eq t name read es p was now h same q =
@@ -76,7 +76,7 @@ reads-stay eq t name read es p was now h same q =
       | inr off ↦ ap (λ b. cond b (Some (read now)) (option_map read (lookup (λ k. eq q (name k)) es))) off
     ]
 
-pub left : {Q K R : Type 0} (eq : Q → Q → Bool) → Reports eq → (name : K → Q) (users : R → UserSet) (es : List (K × R)) (p : Q) (was now : R) (user : List ℕ)
+pub left : {Q K R : Type 0} (eq : Q → Q → Bool) → Distinguishes eq → (name : K → Q) (users : R → UserSet) (es : List (K × R)) (p : Q) (was now : R) (user : List ℕ)
     → lookup (λ k. eq p (name k)) es ≡ Some was
     → ((u : List ℕ) → has (λ k. k.items) (users now).names u ≡ (has (λ k. k.items) (users was).names u && not (bytes_eq u user)))
     → (q : Q) (u : List ℕ)
@@ -94,7 +94,7 @@ left eq t name users es p was now user h out q u =
           ∙ sym (and-true (among (at eq name users es q) u)) ∙ ap (λ b. among (at eq name users es q) u && not (b && bytes_eq u user)) (sym off)
     ]
 
-pub came : {Q K R : Type 0} (eq : Q → Q → Bool) → Reports eq → (name : K → Q) (users : R → UserSet) (es : List (K × R)) (p : Q) (was now : R) (user : List ℕ)
+pub came : {Q K R : Type 0} (eq : Q → Q → Bool) → Distinguishes eq → (name : K → Q) (users : R → UserSet) (es : List (K × R)) (p : Q) (was now : R) (user : List ℕ)
     → lookup (λ k. eq p (name k)) es ≡ Some was
     → ((u : List ℕ) → has (λ k. k.items) (users now).names u ≡ (has (λ k. k.items) (users was).names u || bytes_eq u user))
     → (q : Q) (u : List ℕ)
@@ -112,7 +112,7 @@ came eq t name users es p was now user h put q u =
           ∙ sym (or-false (among (at eq name users es q) u)) ∙ ap (λ b. among (at eq name users es q) u || (b && bytes_eq u user)) (sym off)
     ]
 
-pub room-put : {Q K R : Type 0} (eq : Q → Q → Bool) → Reports eq → (name : K → Q) (users : R → UserSet) (es : List (K × R)) (p : Q) (was now : R)
+pub room-put : {Q K R : Type 0} (eq : Q → Q → Bool) → Distinguishes eq → (name : K → Q) (users : R → UserSet) (es : List (K × R)) (p : Q) (was now : R)
     → lookup (λ k. eq p (name k)) es ≡ Some was → (users was).room ≤ (users now).room + 1
     → (q : Q) (count : ℕ) → HasRoom (cond (eq q p) (count + 1) count) (at eq name users es q)
     → HasRoom count (at eq name users (set_value (λ k. eq p (name k)) es now) q)
@@ -128,7 +128,7 @@ room-put eq t name users es p was now h takes q count had =
           subst (λ b. HasRoom count (cond b (Some (users now)) (at eq name users es q))) (sym off) had'
     ])
 
-pub room-stays : {Q K R : Type 0} (eq : Q → Q → Bool) → Reports eq → (name : K → Q) (users : R → UserSet) (es : List (K × R)) (p : Q) (was now : R)
+pub room-stays : {Q K R : Type 0} (eq : Q → Q → Bool) → Distinguishes eq → (name : K → Q) (users : R → UserSet) (es : List (K × R)) (p : Q) (was now : R)
     → lookup (λ k. eq p (name k)) es ≡ Some was → (users was).room ≤ (users now).room
     → (q : Q) (count : ℕ) → HasRoom count (at eq name users es q) → HasRoom count (at eq name users (set_value (λ k. eq p (name k)) es now) q)
 room-stays eq t name users es p was now h keeps q count had =

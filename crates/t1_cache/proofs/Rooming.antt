@@ -18,7 +18,7 @@ use Rattle.t1_cache.specs.Bodies.{record_bodies}
 use Rattle.t1_cache.specs.Room.{IsRoomier, MayJoin, RoomLaw}
 use Rattle.t1_cache.specs.Users.{has_pair, key_of, HasRoom, Pairs, UserSet, users_at, wanted}
 use Rattle.t1_font.proofs.Keys.{key-same}
-use Rattle.t1_font.proofs.Lookups.{Reports, bytes_tell, inserted-at}
+use Rattle.t1_font.proofs.Lookups.{Distinguishes, bytes_tell, inserted-at}
 use Rattle.t1_cache.proofs.Putting.{at, users-put}
 use Rattle.t1_cache.proofs.There.{uses_there}
 
@@ -44,7 +44,7 @@ joins-still count (Some a) (Some b) h may = let x = h.1 in omega (arith, x, may)
 
 -- ---- room that is made at one record
 
-pub roomier-put : {Q K R : Type 0} (eq : Q → Q → Bool) → Reports eq → (name : K → Q) (users : R → UserSet) (es : List (K × R)) (p : Q) (was now : R)
+pub roomier-put : {Q K R : Type 0} (eq : Q → Q → Bool) → Distinguishes eq → (name : K → Q) (users : R → UserSet) (es : List (K × R)) (p : Q) (was now : R)
     → lookup (λ k. eq p (name k)) es ≡ Some was → IsRoomier (Some (users was)) (Some (users now))
     → (q : Q) → IsRoomier (at eq name users es q) (at eq name users (set_value (λ k. eq p (name k)) es now) q)
 roomier-put eq t name users es p was now h more q =
@@ -58,7 +58,7 @@ roomier-put eq t name users es p was now h more q =
 
 -- ---- counts
 
-pub count-inserted : {Q K : Type 0} (eq : Q → Q → Bool) → Reports eq → (name : K → Q) (es : List (K × ℕ)) (k : K) (count : ℕ)
+pub count-inserted : {Q K : Type 0} (eq : Q → Q → Bool) → Distinguishes eq → (name : K → Q) (es : List (K × ℕ)) (k : K) (count : ℕ)
     → count ≡ unwrap_or (lookup (λ x. eq (name k) (name x)) es) 0 + 1
     → (q : Q) → unwrap_or (lookup (λ x. eq q (name x)) (insert_entry (λ x y. eq (name x) (name y)) es k count)) 0
     ≡ cond (eq q (name k)) (unwrap_or (lookup (λ x. eq q (name x)) es) 0 + 1) (unwrap_or (lookup (λ x. eq q (name x)) es) 0)

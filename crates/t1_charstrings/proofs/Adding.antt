@@ -17,12 +17,12 @@ use Rattle.t1_charstrings.specs.Changed.{Sets}
 use Rattle.t1_charstrings.specs.Entries.{Kept}
 use Rattle.t1_charstrings.specs.Kept.{kept_at}
 use Rattle.t1_charstrings.specs.Lines.{entry_line, kept_line, kept_text}
-use Rattle.t1_font.proofs.Lookups.{bytes_tell, numbers_tell, Reports}
+use Rattle.t1_font.proofs.Lookups.{bytes_tell, numbers_tell, Distinguishes}
 use Rattle.t1_charstrings.specs.Sums.{has_key, item_at, section_line, section_text, InsertLenLaw, PutLenLaw, RaisedLenLaw, RemoveLenLaw}
 
 -- ---- items that don't have the key
 
-turned : {Q : Type 0} (eq : Q → Q → Bool) → Reports eq → (a b : Q) → eq a b ≡ false → eq b a ≡ false
+turned : {Q : Type 0} (eq : Q → Q → Bool) → Distinguishes eq → (a b : Q) → eq a b ≡ false → eq b a ≡ false
 turned eq t a b off = by (eq b a) refl where
   by : (c : Bool) → eq b a ≡ c → c ≡ false
   by true on = let never : true ≡ false = sym (t.itself a) ∙ ap (eq a) (sym (t.same b a on)) ∙ off in absurd (cc)
