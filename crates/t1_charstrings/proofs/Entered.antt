@@ -8,7 +8,7 @@ use Rattle.std.specs.Result.{result_ok}
 use Rattle.std.specs.Str.{bytes_eq}
 use Rattle.std.specs.declared.alloc.Global.{Global}
 use Rattle.std.specs.declared.vec.Vec.{Vec}
-use Rattle.std.proofs.lemmas.Bool.Decides.{leb_answers}
+use Rattle.std.proofs.lemmas.Bool.Decides.{leb_tells}
 use Rattle.indexmap.specs.IndexMap.{hasher_of, spare}
 use Rattle.indexmap.specs.Layout.{hash_map}
 use Rattle.t1_frac.specs.declared.fault.Fault.{Fault}
@@ -178,7 +178,7 @@ unfolding file_check
 len_small s n faultless known =
     let text = known.0 in
     let short = ok-first (length_check s) (counts_check s.items) faultless in
-    elim (leb_answers (length text) (2 ^ 32)) [
+    elim (leb_tells (length text) (2 ^ 32)) [
       | inl h ↦ omega (arith, h.1, known.2)
       | inr h ↦ let long = long_reported s text known.1 (omega (arith, h.1, length-eexec text)) in let never = sym short ∙ long in absurd (cc)
     ]
