@@ -165,6 +165,6 @@ fn entered(alloc: Global) -> Result<Entered, Fail> {
 #[test]
 fn sorts_entered_numbers(rt: HostRuntime) -> Result<(), Fail> {
     let entered = entered(rt.alloc())?;
-    assert!(rt; entered.as_slice() == [3, 7]);
+    assert_eq!(rt; entered.as_slice(), [3, 7].as_slice());
     Ok(())
 }
