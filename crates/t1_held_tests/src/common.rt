@@ -22,8 +22,8 @@ pub(crate) fn bytes(alloc: Global, text: &str) -> Result<Bytes, Fail> {
 }
 
 /// Whether a call was refused for a fault at Subr 4.
-pub(crate) fn is_refused_at_4<T: Drop>(result: Result<T, Refusal>) -> bool {
-    match result {
+pub(crate) fn is_refused_at_4<T: Drop>(answer: Result<T, Refusal>) -> bool {
+    match answer {
         Err(
             Refusal::Fault(
                 Fault {
