@@ -314,9 +314,9 @@ fn prints_the_pfb(rt: HostRuntime) -> Result<(), Fail> {
 }
 
 /// Whether a call was refused for a fault of the first line of the pairs.
-fn is_faulty_pair(result: &Result<(), ServeError>) -> bool {
+fn is_faulty_pair(answer: &Result<(), ServeError>) -> bool {
     matches!(
-        result,
+        answer,
         Err(ServeError::Load(Fault {
             code: Code::F12,
             place: Place::Line(1)
