@@ -313,17 +313,6 @@ fn prints_the_pfb(rt: HostRuntime) -> Result<(), Fail> {
     Ok(())
 }
 
-/// Whether a call was refused for a fault of the first line of the pairs.
-fn is_faulty_pair(answer: &Result<(), ServeError>) -> bool {
-    matches!(
-        answer,
-        Err(ServeError::Load(Fault {
-            code: Code::F12,
-            place: Place::Line(1)
-        }))
-    )
-}
-
 #[test]
 fn loads(rt: HostRuntime) -> Result<(), Fail> {
     let alloc = rt.alloc();
@@ -341,7 +330,15 @@ fn loads(rt: HostRuntime) -> Result<(), Fail> {
         )
     );
     let result = serve(alloc, &font, b"KPX A V -9.5", &mut reader, &mut writer);
-    assert!(rt; is_faulty_pair(&result));
+    assert!(rt;
+        matches!(
+            result,
+            Err(ServeError::Load(Fault {
+                code: Code::F12,
+                place: Place::Line(1)
+            }))
+        )
+    );
     assert_eq!(rt; reader.into_inner(), b"print kern\n".as_slice());
     assert_eq!(rt; writer.into_inner().as_slice(), b"".as_slice());
     Ok(())
@@ -385,7 +382,15 @@ fn measures_no_faulty_pairs(rt: HostRuntime) -> Result<(), Fail> {
     let alloc = rt.alloc();
     let mut out = Counted::new(Vec::new(alloc));
     let result = measure_source(alloc, &font(alloc)?, b"KPX A V -9.5", &mut out);
-    assert!(rt; is_faulty_pair(&result));
+    assert!(rt;
+        matches!(
+            result,
+            Err(ServeError::Load(Fault {
+                code: Code::F12,
+                place: Place::Line(1)
+            }))
+        )
+    );
     assert_eq!(rt; out.into_inner().len(), 0);
     Ok(())
 }
