@@ -3,6 +3,7 @@ pub mod Boxes
 pub mod Convex
 pub mod Differences
 pub mod EndSums
+pub mod EndValues
 pub mod Ends
 pub mod Fonts
 pub mod Longs

@@ -69,11 +69,12 @@ impl Cubic {
         span
     }
 
-    /// The span around the values at both ends.
+    /// The span around the values at both ends, which are the ends.
+    #[tactic(auto, using(crate::proofs::EndValues::ends_are))]
     fn ends_span(&self) -> Span
         ensures { result ≡ ends_of self.now.start self.now.first self.now.second self.now.end }
     {
-        self.span_at(0).around(&self.span_at(64))
+        line_span(&self.start, &self.end)
     }
 
     /// The span around the four points.

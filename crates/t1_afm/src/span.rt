@@ -36,17 +36,10 @@ pub(crate) fn is_whole(a: &Frac) -> bool
 /// A coordinate rounded down.
 fn rounded_down(a: &Frac) -> i32
     requires { IsCoordinate a.now }
-    ensures { result ≡ floor_of a.now }
+    ensures value { result ≡ floor_of a.now }
+    ensures size { unsigned_abs result ≤ 2 ^ 20 }
 {
     a.floor() as i32
-}
-
-/// A coordinate rounded up.
-fn rounded_up(a: &Frac) -> i32
-    requires { IsCoordinate a.now }
-    ensures { result ≡ ceiling_of a.now }
-{
-    a.ceil() as i32
 }
 
 /// The span around a coordinate that is whole.
@@ -65,13 +58,11 @@ pub(crate) fn coordinate_span(a: &Frac) -> Span
     requires { IsCoordinate a.now }
     ensures { result ≡ span_around_one a.now }
 {
-    if is_whole(a) {
+    if a.is_whole() {
         return exact_span(a.num());
     }
-    Span {
-        low: rounded_down(a),
-        high: rounded_up(a),
-    }
+    let low = rounded_down(a);
+    Span { low, high: low + 1 }
 }
 
 /// The span around two coordinates.

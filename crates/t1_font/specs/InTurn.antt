@@ -1,13 +1,10 @@
 -- Glyphs that are compiled, run and measured one after another, so that no body of a glyph is stored.
-use Rattle.std.specs.Prelude.{◌≡◌, true, false, ◌≤◌, ◌-◌, ◌&&◌, ◌||◌, ℕ, nat_eq, Bool, List, [], ◌∷◌, ◌++◌, take, drop, Option, None, Some, Result, Ok, Err, IfSome, is_some, if◌then◌else◌}
+use Rattle.std.specs.Prelude.{◌≡◌, true, false, ◌&&◌, ◌||◌, ℕ, Bool, List, [], ◌∷◌, Option, None, Some, Result, Ok, Err, is_some, if◌then◌else◌}
 use Rattle.std.specs.List.{list_any}
-use Rattle.std.specs.Map.{lookup}
-use Rattle.std.specs.Option.{option_map}
 use Rattle.std.specs.Str.{bytes_eq}
 use Rattle.t1_frac.specs.declared.fault.Code.{Code}
 use Rattle.t1_parts.specs.declared.item.Item.{Item}
 use Rattle.t1_parts.specs.declared.item.Item.TheVariants as items
-use Rattle.t1_code.specs.declared.command.Command.{Command}
 use Rattle.t1_code.specs.Encoding.{is_standard_name}
 use Rattle.t1_code.specs.Words.{commands}
 use Rattle.t1_run.specs.Run.{FontBodies, Drawing, font, own}

@@ -69,7 +69,7 @@ fn is_staying(name: &[u8], kept: &Result<KeptRun, Code>) -> bool
 /// What is reported of a glyph by its run, which is kept where it stays.
 pub(crate) fn row_of<'a>(
     alloc: Global,
-    runs: &mut Runs,
+    runs: &mut Runs<'a>,
     name: &'a [u8],
     kept: Result<KeptRun, Code>,
 ) -> Result<Row<'a>, AllocError>
@@ -78,7 +78,7 @@ pub(crate) fn row_of<'a>(
     ensures kept { OnOk result ((g : List ℕ) → run_kept runs.new g ≡ (if bytes_eq g name.now && stays name.now (Some (drawing_kept kept)) then Some kept else run_kept runs.old g)) }
 {
     if is_staying(name, &kept) {
-        runs.keep(alloc, name, kept)?;
+        runs.keep(name, kept)?;
         return Ok(Row::Kept(name));
     }
     match kept {
@@ -129,7 +129,7 @@ pub(crate) fn glyph_turn<'a>(
     source: &OpenSource,
     name: &'a [u8],
     words: &Words,
-    runs: &mut Runs,
+    runs: &mut Runs<'a>,
     scratch: &mut Scratch,
 ) -> Result<Row<'a>, Refusal>
     requires { glyph_to_run source.now.items.now name.now ≡ Some (commands_or_none (commands words.now)) }

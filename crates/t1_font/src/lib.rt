@@ -24,6 +24,7 @@ mod numbers;
 mod open_source;
 mod private;
 mod runs;
+mod slot;
 mod subr_bodies;
 mod turns;
 mod usage;

@@ -14,25 +14,25 @@ use t1_extent::{KeptRun, KeptRuns};
 use t1_frac::{Code, Refusal};
 use t1_run::{Bodies, Meter, Segment, StoredBodies, run_of_body};
 
-/// The runs of some glyphs, each with its number, or its first fault. Contracts see the list of both, each with the
-/// glyph's name. The trace of a run is kept where its glyph may be a part of a composite.
+/// The runs of some glyphs, each with its number, or its first fault, by names that stand elsewhere. Contracts see the list of
+/// both, each with the glyph's name. The trace of a run is kept where its glyph may be a part of a composite.
 #[derive(Drop)]
-pub struct Runs {
-    by_name: IndexMap<Vec<u8>, Result<KeptRun, Code>>,
+pub struct Runs<'a> {
+    by_name: IndexMap<&'a [u8], Result<KeptRun, Code>>,
 }
 
-impl Model for Runs {
+impl<'a> Model for Runs<'a> {
     ghost use Rattle.std.specs.Prelude.{List, map};
     ghost use Rattle.t1_font.specs.Runs.{AreTraced, Kept};
 
     ghost Value = { List Kept };
 
-    ghost view = { λ r. map (λ e. (e.0.items, e.1)) r.by_name.entries };
+    ghost view = { λ r. map (λ e. (e.0.now, e.1)) r.by_name.entries };
 
-    ghost invariant = { λ r. AreTraced (map (λ e. (e.0.items, e.1)) r.by_name.entries) };
+    ghost invariant = { λ r. AreTraced (map (λ e. (e.0.now, e.1)) r.by_name.entries) };
 }
 
-impl Runs {
+impl<'a> Runs<'a> {
     /// No runs.
     pub fn new(alloc: Global) -> Self
         ensures { result ≡ [] }
@@ -61,19 +61,18 @@ impl Runs {
     /// Keeps a run, or its first fault, in the place of an earlier one of that name.
     pub(crate) fn keep(
         &mut self,
-        alloc: Global,
-        name: &[u8],
+        name: &'a [u8],
         kept: Result<KeptRun, Code>,
     ) -> Result<(), AllocError>
         requires { IsTracedAs name.now (Some kept) }
         ensures { OnOk result ((g : List ℕ) → run_kept self.new g ≡ (if bytes_eq g name.now then Some kept else run_kept self.old g)) }
     {
-        self.by_name.insert(Vec::from_slice(alloc, name)?, kept)?;
+        self.by_name.insert(name, kept)?;
         Ok(())
     }
 }
 
-impl KeptRuns for Runs {
+impl KeptRuns for Runs<'_> {
     ghost use Rattle.t1_font.specs.Runs.{kept_of};
 
     ghost drawn = { kept_of };
@@ -132,12 +131,12 @@ fn kept_run<B: StoredBodies>(
 
 /// Runs the own body of each of these glyphs, and keeps its first fault where it has one. The meter counts each of them;
 /// where memory runs out, those that were run.
-pub fn runs_of<B: StoredBodies>(
+pub fn runs_of<'a, B: StoredBodies>(
     alloc: Global,
     bodies: &B,
-    names: &[&[u8]],
+    names: &[&'a [u8]],
     meter: &mut Meter,
-) -> Result<Runs, AllocError>
+) -> Result<Runs<'a>, AllocError>
     requires { All (λ name. IsSome (B.glyphs bodies.now name.now)) names.now }
     ensures kept { IfOk result (λ runs. (g : List ℕ) → kept_of runs g ≡ own_among (font (B.subrs bodies.now) (B.glyphs bodies.now)) (map (λ name. name.now) names.now) g) }
     ensures traced { IfOk result AreTraced }
@@ -149,7 +148,7 @@ pub fn runs_of<B: StoredBodies>(
     let mut room = Vec::new(alloc);
     for name in names {
         let kept = kept_run(alloc, bodies, name, &mut room, meter)?;
-        runs.keep(alloc, name, kept)?;
+        runs.keep(name, kept)?;
     }
     Ok(runs)
 }

@@ -59,23 +59,23 @@ pub(crate) struct Turns<'a> {
     pub(crate) subrs: SubrBodies,
     pub(crate) rows: Vec<Row<'a>>,
     /// The runs that stay.
-    pub(crate) runs: Runs,
+    pub(crate) runs: Runs<'a>,
     pub(crate) scratch: Scratch,
 }
 
 impl<'a> Turns<'a> {
-    /// Of no items.
-    fn new(alloc: Global) -> Self
-        ensures subrs { (n : ℕ) → subr_stored result.subrs n ≡ None }
-        ensures rows { result.rows.items ≡ [] }
-        ensures runs { result.runs ≡ [] }
+    /// Of no items, with room for what is reported of so many glyphs.
+    fn new(alloc: Global, glyphs: usize) -> Result<Self, AllocError>
+        ensures subrs { IfOk result (λ turns. (n : ℕ) → subr_stored turns.subrs n ≡ None) }
+        ensures rows { IfOk result (λ turns. turns.rows.items ≡ []) }
+        ensures runs { IfOk result (λ turns. turns.runs ≡ []) }
     {
-        Turns {
+        Ok(Turns {
             subrs: SubrBodies::new(alloc),
-            rows: Vec::new(alloc),
+            rows: Vec::with_capacity(alloc, glyphs)?,
             runs: Runs::new(alloc),
             scratch: Scratch::new(alloc),
-        }
+        })
     }
 
     /// Takes an item of a source, or answers the fault of its words.
@@ -128,7 +128,7 @@ pub(crate) fn turns_of<'a>(alloc: Global, items: &'a [Item]) -> Result<Turns<'a>
     ensures runs { IfOk result (λ turns. (g : List ℕ) → kept_of turns.runs g ≡ staying (own (font_to_run items.now)) (glyph_names items.now) g) }
 {
     let names = names_of(alloc, items)?;
-    let mut turns = Turns::new(alloc);
+    let mut turns = Turns::new(alloc, names.len())?;
     for item in items {
         turns.take(alloc, items, &names, item)?;
     }

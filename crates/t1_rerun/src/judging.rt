@@ -87,7 +87,7 @@ fn judged<'a, B: StoredBodies, O: GlyphOrder>(
     found: &IndexSet<&[u8]>,
     order: &O,
     meter: &mut Meter,
-) -> Result<(Runs, Vec<GlyphMetrics<'a>>), Refusal>
+) -> Result<(Runs<'a>, Vec<GlyphMetrics<'a>>), Refusal>
     requires there { All (λ name. IsSome (B.glyphs bodies.now name.now)) stale.now }
     requires traced { keep_traces records.now ≡ true }
     ensures reported { Gives (λ made. made.1.items) result (judged_in (glyph_metrics_among (newest_among (font (B.subrs bodies.now) (B.glyphs bodies.now)) (map (λ name. name.now) stale.now) records.now) (map (λ name. name.now) stale.now)) (glyph_metrics_among (newest_among (font (B.subrs bodies.now) (B.glyphs bodies.now)) (map (λ name. name.now) stale.now) records.now) (filter (has (λ name. name.now) found.now.keys) (O.ordered order.now)))) }

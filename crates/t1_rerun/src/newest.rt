@@ -10,7 +10,7 @@ use t1_frac::Code;
 /// Runs that were made again, and the runs of the records for all other glyphs.
 #[derive(Drop)]
 pub struct Newest<'a> {
-    pub runs: &'a Runs,
+    pub runs: &'a Runs<'a>,
     pub records: &'a Records,
     ghost traced: { keep_traces records.now ≡ true },
 }

@@ -1,14 +1,13 @@
-use Rattle.std.proofs.Common.{◌≡◌, ◌∙◌, ◌+◌, ◌++◌, [], ◌∷◌, ℕ, ap, sym, subst, drop, take, take_all, arith}
+use Rattle.std.proofs.Common.{◌≡◌, ◌∙◌, ◌+◌, ◌∷◌, ℕ, ap, sym, subst, drop, take, take_all, arith}
 use Rattle.std.proofs.lemmas.List.Elements.{All-get_or}
 use Rattle.std.specs.Option.{option_or}
 use Rattle.std.proofs.lemmas.Result.{err_from_is_err_and}
 use Rattle.t1_frac.specs.Outcome.{◌>>=◌, Refuses}
-use Rattle.t1_run.specs.Run.{font, own}
+use Rattle.t1_run.specs.Run.{own}
 use Rattle.t1_font.specs.Bodies.{bodies_check, body_check, subr_in, subr_among}
 use Rattle.t1_font.specs.Glyphs.{glyph_names}
-use Rattle.t1_font.specs.InTurn.{staying, AreRows, IsFirstOfName, RunsAs}
-use Rattle.t1_font.specs.Runs.{kept_of}
-use Rattle.t1_font.specs.ToRun.{font_to_run, glyph_to_run, subr_stored}
+use Rattle.t1_font.specs.InTurn.{staying, AreRows, IsFirstOfName}
+use Rattle.t1_font.specs.ToRun.{font_to_run, subr_stored}
 use Rattle.t1_font.proofs.Compiling.{or-assoc, item-first}
 use Rattle.t1_font.proofs.InTurnLaws.{names-next, names-known, refused-first, runs-as}
 use Rattle.t1_font.proofs.turns.turns_of.Goals as goal

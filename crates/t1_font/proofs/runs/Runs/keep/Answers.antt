@@ -9,23 +9,19 @@ use Rattle.t1_font.proofs.runs.Runs.keep.Goals as goal
 pub returns : goal.returns
 returns c = λ g.
     let old = c.self.inside.by_name.entries in
-    let key = c.in_ok-from_slice.field-0 in
-    lookup-names (λ k. k.items) (bytes_eq g) c.insert.new.self.entries
-    ∙ ap (λ es. lookup (λ k. bytes_eq g k.items) es) c.in_ok-insert.ensures.entries
-    ∙ inserted-at bytes_eq bytes_tell (λ k. k.items) g key c.args.kept old
-    ∙ ap (λ l. cond (bytes_eq g l) (Some c.args.kept) (lookup (λ k. bytes_eq g k.items) old)) c.in_ok-from_slice.ensures.items
+    lookup-names (λ k. k.now) (bytes_eq g) c.insert.new.self.entries
+    ∙ ap (λ es. lookup (λ k. bytes_eq g k.now) es) c.in_ok-insert.ensures.entries
+    ∙ inserted-at bytes_eq bytes_tell (λ k. k.now) g c.args.name c.args.kept old
     ∙ ap (cond (bytes_eq g c.args.name.now) (Some c.args.kept))
-    (sym (lookup-names (λ k. k.items) (bytes_eq g) old) ∙ ap (λ runs. run_kept runs g) c.self.view_is)
+    (sym (lookup-names (λ k. k.now) (bytes_eq g) old) ∙ ap (λ runs. run_kept runs g) c.self.view_is)
 
 pub invariant_of-self-2 : goal.invariant_of-self-2
 invariant_of-self-2 c =
     let old = c.self.inside.by_name.entries in
     let new = c.insert.new.self.entries in
-    let key = c.in_ok-from_slice.field-0 in
-    one-traced (map (λ e. (e.0.items, e.1)) old) (map (λ e. (e.0.items, e.1)) new) c.args.name.now c.args.kept
-    (λ q. lookup-names (λ k. k.items) (bytes_eq q) new
-    ∙ ap (λ es. lookup (λ k. bytes_eq q k.items) es) c.in_ok-insert.ensures.entries
-    ∙ inserted-at bytes_eq bytes_tell (λ k. k.items) q key c.args.kept old
-    ∙ ap (λ l. cond (bytes_eq q l) (Some c.args.kept) (lookup (λ k. bytes_eq q k.items) old)) c.in_ok-from_slice.ensures.items
-    ∙ ap (cond (bytes_eq q c.args.name.now) (Some c.args.kept)) (sym (lookup-names (λ k. k.items) (bytes_eq q) old)))
+    one-traced (map (λ e. (e.0.now, e.1)) old) (map (λ e. (e.0.now, e.1)) new) c.args.name.now c.args.kept
+    (λ q. lookup-names (λ k. k.now) (bytes_eq q) new
+    ∙ ap (λ es. lookup (λ k. bytes_eq q k.now) es) c.in_ok-insert.ensures.entries
+    ∙ inserted-at bytes_eq bytes_tell (λ k. k.now) q c.args.name c.args.kept old
+    ∙ ap (cond (bytes_eq q c.args.name.now) (Some c.args.kept)) (sym (lookup-names (λ k. k.now) (bytes_eq q) old)))
     c.requires c.self.invariant

@@ -1,5 +1,4 @@
-use Rattle.std.proofs.Common.{◌≡◌, ◌++◌, sym, subst}
-use Rattle.t1_font.specs.Glyphs.{name_in}
+use Rattle.std.proofs.Common.{◌≡◌, sym, subst}
 use Rattle.t1_font.specs.InTurn.{AreRows, RunsAs, staying}
 use Rattle.t1_font.specs.Runs.{kept_of}
 use Rattle.t1_run.specs.Run.{font}
