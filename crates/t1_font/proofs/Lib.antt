@@ -5,6 +5,7 @@ pub mod Drawing
 pub mod Filing
 pub mod FirstNames
 pub mod Gathering
+pub mod GroupsOfCodes
 pub mod InTurnLaws
 pub mod Keeping
 pub mod Keys
@@ -17,7 +18,6 @@ pub mod Ordering
 pub mod Outlining
 pub mod PrivateLaws
 pub mod Rows
-pub mod Slotting
 pub mod SourceMetrics
 pub mod StayingLaws
 pub mod SubrsFirst

@@ -8,7 +8,7 @@ use Rattle.t1_parts.specs.declared.item.Item.TheVariants as items
 use Rattle.t1_code.specs.Encoding.{is_standard_name}
 use Rattle.t1_code.specs.Words.{commands}
 use Rattle.t1_run.specs.Run.{FontBodies, Drawing, font, own}
-use Rattle.t1_font.specs.declared.open_source.OpenSource.{OpenSource}
+use Rattle.t1_font.specs.declared.source_bodies.SourceBodies.{SourceBodies}
 use Rattle.t1_font.specs.declared.in_turn.Row.{Row}
 use Rattle.t1_font.specs.declared.in_turn.Row.TheVariants as rows
 use Rattle.t1_font.specs.ToRun.{commands_or_none, glyph_to_run, subr_stored}
@@ -17,9 +17,9 @@ use Rattle.t1_run.specs.Composite.{HasStandardParts}
 use Rattle.t1_font.specs.MeasuredGlyphs.{glyph_metrics_at}
 use Rattle.t1_font.specs.Runs.{Kept, kept_of}
 
--- profile: the bodies that a run asks for, of a source of which these Subrs were compiled
-abbrev pub open_font : OpenSource → FontBodies
-open_font source = font (subr_stored source.subrs.now) (glyph_to_run source.items.now)
+-- profile: what a run asks for: the Subrs that are compiled so far, and the glyphs of the items
+abbrev pub source_font : SourceBodies → FontBodies
+source_font source = font (subr_stored source.subrs.now) (glyph_to_run source.items.now)
 
 -- ---- what stays of a run
 
@@ -39,7 +39,7 @@ staying run names g = if list_any (bytes_eq g) names && stays g (run g) then run
 -- profile: what is reported of a glyph at its turn: its metrics, its fault, or that its run stays
 abbrev pub IsRow : (List ℕ → Option (Result Drawing Code)) → List ℕ → Row → Type 0
 IsRow run name (rows.Measured glyph) = glyph_metrics_at run name ≡ Ok glyph
-IsRow run name (rows.Kept kept) = (kept.now ≡ name) × (stays name (run name) ≡ true)
+IsRow run name (rows.Waiting waiting) = (waiting.now ≡ name) × (stays name (run name) ≡ true)
 IsRow run name (rows.Faulty faulty code) = (faulty.now ≡ name) × (glyph_metrics_at run name ≡ Err code)
 
 -- profile: the same of these glyphs, in their order
@@ -49,7 +49,7 @@ AreRows run (name ∷ names) (row ∷ rows) = IsRow run name row × AreRows run 
 AreRows run [] (row ∷ rows) = ⊥
 AreRows run (name ∷ names) [] = ⊥
 
--- profile: a glyph's run is that of the font; nothing is said of another item
+-- profile: the run of an item that is a glyph is its own run in this font; nothing is said of another item
 abbrev pub RunsAs : Item → (List ℕ → Option (Result Drawing Code)) → FontBodies → Type 0
 RunsAs (items.Glyph name words closing) run m = run name ≡ own m name
 RunsAs _ run m = Unit {0}

@@ -1,5 +1,6 @@
 pub mod Assembly
 pub mod Bodies
+pub mod ByCode
 pub mod FontMetrics
 pub mod Glyphs
 pub mod InTurn
@@ -9,7 +10,6 @@ pub mod MeasuredGlyphs
 pub mod Metrics
 pub mod Names
 pub mod Runs
-pub mod Slots
 pub mod SourceChecks
 pub mod ToRun
 pub mod Usage

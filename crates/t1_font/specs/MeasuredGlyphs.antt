@@ -43,7 +43,8 @@ pub record MeasuredFont : Type 0 where
   pub metrics : List GlyphMetrics
   pub font_box : BBox
 
--- profile: the glyphs of a private part whose bodies have no fault, or their first fault
+-- profile: what is reported of the glyphs of a private part whose bodies have no fault, and the font's box; or the first fault of
+-- a glyph
 unfoldable pub measured : List Item → Result MeasuredFont Fault
 measured items =
     glyphs (bodies items) (glyph_names items) >>= (λ glyphs.

@@ -40,12 +40,12 @@ AreTraced runs = (g : List ℕ) → IsTracedAs g (run_kept runs g)
 abbrev pub own_among : FontBodies → List (List ℕ) → List ℕ → Option (Result Drawing Code)
 own_among m names g = if list_any (bytes_eq g) names then own m g else None
 
--- profile: a count of runs after so many more, up to the last that it can hold
+-- profile: a count after so many more runs; it stops at 2^64 - 1
 abbrev pub counted : ℕ → ℕ → ℕ
 counted count zero = count
 counted count (suc runs) = min (counted count runs + 1) (2 ^ 64 - 1)
 
--- profile: some of so many runs were counted
+-- profile: at most so many runs were counted
 abbrev pub CountsSome : ℕ → ℕ → ℕ → Type 0
 CountsSome runs old new = (made : ℕ) × (made ≤ runs) × (new ≡ counted old made)
 

@@ -43,7 +43,8 @@ AreRangesWithin len ranges = (n : ℕ) → IfSome (lookup (nat_eq n) ranges) (Is
 abbrev pub SubrsStandFirst : List Item → Type 0
 SubrsStandFirst all = (a b : List Item) (g : List ℕ) (words : List (List ℕ)) (closing : List ℕ) → all ≡ a ++ items.Glyph g words closing ∷ b → list_any is_subr_entry b ≡ false
 
--- profile: what is run of words: their commands; nothing where they have a fault, which comes before any of a run
+-- profile: what is run of words: their commands; no commands where the words have a fault, which is reported before any fault
+-- of a run
 abbrev pub commands_or_none : Result (List Command) Code → List Command
 commands_or_none (Ok body) = body
 commands_or_none (Err code) = []

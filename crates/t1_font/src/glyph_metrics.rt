@@ -21,7 +21,7 @@ pub struct PlacedParts {
     pub by: Point,
 }
 
-/// What is measured of a glyph, by its name where that stands.
+/// What is measured of a glyph. Its name isn't copied, but borrowed from where it stands.
 #[derive(Debug, Drop)]
 pub struct GlyphMetrics<'a> {
     pub name: SourceText<'a>,

@@ -1,5 +1,6 @@
-//! Glyphs that are compiled, run and measured one after another. No body of a glyph is stored, and of the runs those alone that
-//! another glyph may ask for: of the names of StandardEncoding, and of composites.
+//! Glyphs that are compiled, run and measured one after another. No body of a glyph is stored, and two kinds of runs alone are
+//! kept: of glyphs with a name of StandardEncoding, of which a composite may be made, and of composites, whose parts may come
+//! later.
 ghost use Rattle.std.specs.Prelude.{◌≡◌, ◌&&◌, List, ℕ, Option, Result, Ok, Some, None, true, IfOk, OnOk, if◌then◌else◌};
 ghost use Rattle.std.specs.Str.{bytes_eq};
 ghost use Rattle.t1_frac.specs.Outcome.{Gives};
@@ -9,15 +10,15 @@ ghost use Rattle.t1_run.specs.Run.{Drawing, own};
 ghost use Rattle.t1_frac.specs.declared.fault.Code.{Code as CodeOf};
 ghost use Rattle.t1_afm.specs.Box.{drawn_box};
 ghost use Rattle.t1_font.specs.Bodies.{words_check};
-ghost use Rattle.t1_font.specs.InTurn.{open_font, stays, IsRow};
+ghost use Rattle.t1_font.specs.InTurn.{source_font, stays, IsRow};
 ghost use Rattle.t1_font.specs.MeasuredGlyphs.{glyph_metrics_by};
 ghost use Rattle.t1_font.specs.ToRun.{commands_or_none, glyph_to_run};
 ghost use Rattle.t1_font.specs.Runs.{drawing_kept, kept_of, run_kept, IsTracedAs};
 
 use crate::glyph_metrics::GlyphMetrics;
 use crate::numbers::SubrNumbers;
-use crate::open_source::OpenSource;
 use crate::runs::{Runs, kept_run_of};
+use crate::source_bodies::SourceBodies;
 use std::alloc::{AllocError, Global};
 use t1_code::{Command, compile_onto, is_standard_name};
 use t1_extent::KeptRun;
@@ -30,7 +31,7 @@ pub(crate) enum Row<'a> {
     /// What is measured of it.
     Measured(GlyphMetrics<'a>),
     /// Its run stays, and it is measured when all runs that stay are there.
-    Kept(&'a [u8]),
+    Waiting(&'a [u8]),
     /// Its run has a fault, and no other glyph can ask for it.
     Faulty(&'a [u8], Code),
 }
@@ -67,7 +68,7 @@ fn is_staying(name: &[u8], kept: &Result<KeptRun, Code>) -> bool
 }
 
 /// What is reported of a glyph by its run, which is kept where it stays.
-pub(crate) fn row_of<'a>(
+fn row_of<'a>(
     alloc: Global,
     runs: &mut Runs<'a>,
     name: &'a [u8],
@@ -79,7 +80,7 @@ pub(crate) fn row_of<'a>(
 {
     if is_staying(name, &kept) {
         runs.keep(name, kept)?;
-        return Ok(Row::Kept(name));
+        return Ok(Row::Waiting(name));
     }
     match kept {
         Ok(run) => Ok(Row::Measured(plain_metrics(alloc, name, &run)?)),
@@ -87,7 +88,8 @@ pub(crate) fn row_of<'a>(
     }
 }
 
-/// Memory that one glyph after another uses: for the commands of its body, and for the segments of its run.
+/// What one glyph after another uses again: memory for the commands of a body and for the segments of a run, and the count of
+/// runs.
 #[derive(Drop)]
 pub(crate) struct Scratch {
     body: Vec<Command>,
@@ -126,7 +128,7 @@ fn compile_glyph(
 /// Compiles and runs a glyph: what is reported of it, or the fault of its words. Its run is kept where it stays.
 pub(crate) fn glyph_turn<'a>(
     alloc: Global,
-    source: &OpenSource,
+    source: &SourceBodies,
     name: &'a [u8],
     words: &Words,
     runs: &mut Runs<'a>,
@@ -134,8 +136,8 @@ pub(crate) fn glyph_turn<'a>(
 ) -> Result<Row<'a>, Refusal>
     requires { glyph_to_run source.now.items.now name.now ≡ Some (commands_or_none (commands words.now)) }
     ensures checked { Gives (λ _. tt) result (words_check (places.Glyph name.now) words.now) }
-    ensures row { (run : List ℕ → Option (Result Drawing CodeOf)) → run name.now ≡ own (open_font source.now) name.now → IfOk result (IsRow run name.now) }
-    ensures kept { (run : List ℕ → Option (Result Drawing CodeOf)) → run name.now ≡ own (open_font source.now) name.now → OnOk result ((g : List ℕ) → kept_of runs.new g ≡ (if bytes_eq g name.now && stays name.now (run name.now) then run name.now else kept_of runs.old g)) }
+    ensures row { (run : List ℕ → Option (Result Drawing CodeOf)) → run name.now ≡ own (source_font source.now) name.now → IfOk result (IsRow run name.now) }
+    ensures kept { (run : List ℕ → Option (Result Drawing CodeOf)) → run name.now ≡ own (source_font source.now) name.now → OnOk result ((g : List ℕ) → kept_of runs.new g ≡ (if bytes_eq g name.now && stays name.now (run name.now) then run name.now else kept_of runs.old g)) }
 {
     compile_glyph(alloc, &mut scratch.body, name, words)?;
     let kept = kept_run_of(

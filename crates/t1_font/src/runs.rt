@@ -14,8 +14,8 @@ use t1_extent::{KeptRun, KeptRuns};
 use t1_frac::{Code, Refusal};
 use t1_run::{Bodies, Meter, Segment, StoredBodies, run_of_body};
 
-/// The runs of some glyphs, each with its number, or its first fault, by names that stand elsewhere. Contracts see the list of
-/// both, each with the glyph's name. The trace of a run is kept where its glyph may be a part of a composite.
+/// The runs of some glyphs, each with its number, or its first fault, by the glyph's name, which is borrowed. Contracts see the
+/// list of names, each with its run or fault. The trace of a run is kept where its glyph may be a part of a composite.
 #[derive(Drop)]
 pub struct Runs<'a> {
     by_name: IndexMap<&'a [u8], Result<KeptRun, Code>>,
@@ -86,7 +86,8 @@ impl KeptRuns for Runs<'_> {
     }
 }
 
-/// The run of a glyph's own body, or its first fault. The room is that of the run's segments, before it and after it.
+/// The run of a glyph's own body, or its first fault. The room is memory for the segments of this run, and serves the next run
+/// after it.
 pub(crate) fn kept_run_of<B: Bodies>(
     alloc: Global,
     bodies: &B,

@@ -21,7 +21,7 @@ pub(crate) struct BodyRange {
     pub(crate) end: usize,
 }
 
-/// The bodies of Subrs, compiled. Contracts see a map from a number to a list of commands.
+/// The compiled bodies of Subrs. Contracts see the commands of all of them, and where the body of each number stands among these.
 #[derive(Drop)]
 pub(crate) struct SubrBodies {
     all: Vec<Command>,

@@ -23,8 +23,8 @@ use crate::glyphs::{MeasuredGlyphs, name_of};
 use crate::in_turn::{Row, Scratch, glyph_turn};
 use crate::kern::add_name;
 use crate::lengths::{check_counts, check_length};
-use crate::open_source::OpenSource;
 use crate::runs::Runs;
+use crate::source_bodies::SourceBodies;
 use crate::subr_bodies::SubrBodies;
 use indexmap::IndexSet;
 use std::alloc::{AllocError, Global};
@@ -55,12 +55,12 @@ fn names_of<'a>(alloc: Global, items: &'a [Item]) -> Result<IndexSet<&'a [u8]>, 
 
 /// What was made of the items so far.
 #[derive(Drop)]
-pub(crate) struct Turns<'a> {
-    pub(crate) subrs: SubrBodies,
-    pub(crate) rows: Vec<Row<'a>>,
+struct Turns<'a> {
+    subrs: SubrBodies,
+    rows: Vec<Row<'a>>,
     /// The runs that stay.
-    pub(crate) runs: Runs<'a>,
-    pub(crate) scratch: Scratch,
+    runs: Runs<'a>,
+    scratch: Scratch,
 }
 
 impl<'a> Turns<'a> {
@@ -96,7 +96,7 @@ impl<'a> Turns<'a> {
         match item {
             Item::Subr(number, words, _) => self.subrs.add(*number, words),
             Item::Glyph(name, words, _) => {
-                let source = OpenSource {
+                let source = SourceBodies {
                     subrs: &self.subrs,
                     names,
                     items,
@@ -120,7 +120,7 @@ impl<'a> Turns<'a> {
 
 /// What is reported of the glyphs of a source, in the order of their entries, and the runs that stay; or the first fault of a body,
 /// at its entry. Subrs are compiled and glyphs are compiled and run in this order, each once.
-pub(crate) fn turns_of<'a>(alloc: Global, items: &'a [Item]) -> Result<Turns<'a>, Refusal>
+fn turns_of<'a>(alloc: Global, items: &'a [Item]) -> Result<Turns<'a>, Refusal>
     requires firsts { All (IsFirstOfName items.now) items.now }
     requires subrs { SubrsStandFirst items.now }
     ensures checked { Gives (λ _. tt) result (bodies_check items.now) }
@@ -142,7 +142,7 @@ fn metrics_of_row<'a>(alloc: Global, runs: &Runs, row: Row<'a>) -> Result<GlyphM
 {
     match row {
         Row::Measured(glyph) => Ok(glyph),
-        Row::Kept(name) => placed_metrics(alloc, runs, name),
+        Row::Waiting(name) => placed_metrics(alloc, runs, name),
         Row::Faulty(name, code) => {
             let place = Place::Glyph(Bytes::copied(alloc, name)?);
             Err(Refusal::from(code).at(place))
@@ -165,7 +165,8 @@ fn metrics_of_rows<'a>(
     Ok(metrics)
 }
 
-/// The same of a source whose PFB file and text have no fault; or their fault: the first of a body, at its entry, else F23.
+/// What was made of the items of a source whose PFB file and text have no fault; or the first fault: of a body, at its entry,
+/// else F23.
 #[tactic(auto, using(crate::proofs::LengthLaws::body_fault_reported), unfolding(crate::specs::Assembly::file_check))]
 fn checked_turns<'a>(alloc: Global, source: &'a Source) -> Result<Turns<'a>, Refusal>
     requires firsts { All (IsFirstOfName source.now.items) source.now.items }

@@ -1,8 +1,5 @@
 //! A source while its glyphs are compiled and run one after another.
-ghost use Rattle.std.specs.Prelude.{◌≡◌, ◌||◌, is_some, IfOk, OnOk, ℕ, List};
-ghost use Rattle.std.specs.List.{list_any};
-ghost use Rattle.std.specs.Str.{bytes_eq};
-ghost use Rattle.t1_font.specs.Glyphs.{glyph_names};
+ghost use Rattle.std.specs.Prelude.{◌≡◌, is_some, ℕ, List};
 ghost use Rattle.t1_font.specs.ToRun.{glyph_to_run, subr_stored};
 ghost use Rattle.t1_font.specs.Names.{has_name};
 
@@ -14,15 +11,15 @@ use t1_source::Item;
 
 /// What the run of a glyph asks of a source: the Subrs, which were compiled, and the names of all glyphs.
 #[derive(Drop)]
-pub(crate) struct OpenSource<'s, 'i> {
+pub(crate) struct SourceBodies<'s, 'i> {
     pub(crate) subrs: &'s SubrBodies,
     pub(crate) names: &'s IndexSet<&'i [u8]>,
-    /// What contracts see the bodies of.
+    /// The items of the source. No code reads them; contracts see the bodies of its glyphs in them.
     pub(crate) items: &'s [Item<'i>],
     ghost known: { (g : List ℕ) → has_name names.now.keys g ≡ is_some (glyph_to_run items.now g) },
 }
 
-impl Bodies for OpenSource<'_, '_> {
+impl Bodies for SourceBodies<'_, '_> {
     ghost use Rattle.t1_font.specs.ToRun.{glyph_to_run, subr_stored};
 
     ghost subrs = { λ source n. subr_stored source.subrs.now n };
