@@ -70,7 +70,7 @@ fn insert_glyphs(
     ensures glyphs { OnOk result ((g : List ℕ) → body_at (record_bodies records.new) (Glyph g) ≡ glyph_kept bodies.entries g) }
     ensures users { OnOk result ((k : Key) (u : List ℕ) → lists records.new k u ≡ lists records.old k u) }
     ensures order { OnOk result (map (λ k. k.name) (map kept_of records.new.glyphs.entries) ≡ measured_names metrics.now) }
-    ensures each { OnOk result (AllByRecursion (IsRecorded runs metrics.now) (map kept_of records.new.glyphs.entries)) }
+    ensures each { OnOk result (AllByRecursion (IsRecorded runs.entry metrics.now) (map kept_of records.new.glyphs.entries)) }
 {
     let mut bodies_left = bodies;
     let mut runs_left = runs;
@@ -99,7 +99,7 @@ fn unused_records(
     ensures compiled { IfOk result (λ records. SameBodies (record_bodies records) (plain_bodies bodies)) }
     ensures users { IfOk result (λ records. (k : Key) (u : List ℕ) → lists records k u ≡ false) }
     ensures order { IfOk result (λ records. map (λ k. k.name) (map kept_of records.glyphs.entries) ≡ measured_names metrics.now) }
-    ensures each { IfOk result (λ records. AllByRecursion (IsRecorded runs metrics.now) (map kept_of records.glyphs.entries)) }
+    ensures each { IfOk result (λ records. AllByRecursion (IsRecorded runs.entry metrics.now) (map kept_of records.glyphs.entries)) }
 {
     let mut records = Records {
         subrs: IndexMap::new(alloc),
@@ -123,7 +123,7 @@ fn records_of(
     ensures compiled { IfOk result (λ records. SameBodies (record_bodies records) (plain_bodies bodies)) }
     ensures users { IfOk result (AreTables (plain_bodies bodies)) }
     ensures order { IfOk result (λ records. map (λ k. k.name) (map kept_of records.glyphs.entries) ≡ measured_names metrics.now) }
-    ensures each { IfOk result (λ records. AllByRecursion (IsRecorded runs metrics.now) (map kept_of records.glyphs.entries)) }
+    ensures each { IfOk result (λ records. AllByRecursion (IsRecorded runs.entry metrics.now) (map kept_of records.glyphs.entries)) }
 {
     let joins = joins_of(alloc, &runs, names)?;
     let mut records = unused_records(alloc, bodies, runs, metrics)?;

@@ -34,10 +34,10 @@ pub fn renewal_of(
     metrics: &[GlyphMetrics],
 ) -> Result<Renewal, AllocError>
     requires { AllByRecursion (HasRun runs) metrics.now }
-    ensures each { IfOk result (λ renewal. AllByRecursion (IsRerun runs metrics.now) renewal.reruns.items) }
+    ensures each { IfOk result (λ renewal. AllByRecursion (IsRerun runs.entry metrics.now) renewal.reruns.items) }
     ensures names { IfOk result (λ renewal. (g : List ℕ) → list_any (bytes_eq g) (rerun_names renewal.reruns.items) ≡ list_any (λ m. bytes_eq g m.name) metrics.now) }
     ensures leaves { IfOk result (λ renewal. (k : Key) (u : List ℕ) → has_pair renewal.leaves.items k u ≡ (has (λ name. name.now) found.now u && is_user k (recorded_run records.now u))) }
-    ensures joins { IfOk result (λ renewal. (k : Key) (u : List ℕ) → has_pair renewal.joins.items k u ≡ (has (λ name. name.now) stale.now u && is_user k (kept_of runs u))) }
+    ensures joins { IfOk result (λ renewal. (k : Key) (u : List ℕ) → has_pair renewal.joins.items k u ≡ (has (λ name. name.now) stale.now u && is_user k (kept_of runs.entry u))) }
 {
     let leaves = leaves_of(alloc, records, found)?;
     let joins = joins_of(alloc, &runs, stale)?;
