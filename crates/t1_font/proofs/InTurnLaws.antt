@@ -25,7 +25,6 @@ use Rattle.t1_source.specs.Editing.{is_subr_entry}
 use Rattle.t1_code.specs.declared.command.Command.{Command}
 use Rattle.t1_code.specs.Words.{commands}
 use Rattle.t1_font.specs.declared.in_turn.Row.{Row}
-use Rattle.t1_font.specs.declared.in_turn.Row.TheVariants as rows
 use Rattle.t1_font.specs.Bodies.{subr_among}
 use Rattle.t1_font.specs.Glyphs.{glyph_names, name_in}
 use Rattle.t1_font.specs.InTurn.{stays, staying, AreRows, IsRow, RunsAs}
@@ -167,15 +166,6 @@ pub one-measured : (run : List ℕ → Option (Result Drawing Code)) (names : Li
 one-measured run names metrics row rows glyph ([], are, is) reported = absurd are
 one-measured run names metrics row rows glyph (name ∷ left, are, is) reported =
     (left, are.1, one-reported run metrics name left glyph (reported name are.0) ∙ is)
-
--- those that are measured already
-pub measured-first : (run : List ℕ → Option (Result Drawing Code)) (names : List (List ℕ)) (metrics measured : List GlyphMetrics) (rest : List Row)
-    → RowsLeft run names metrics (map (λ glyph. rows.Measured glyph) measured ++ rest) → RowsLeft run names (metrics ++ measured) rest
-measured-first run names metrics [] rest h = subst (λ l. RowsLeft run names l rest) (sym (append-nil metrics)) h
-measured-first run names metrics (glyph ∷ measured) rest h =
-    subst (λ l. RowsLeft run names l rest) (append-assoc metrics (glyph ∷ []) measured)
-    (measured-first run names (metrics ++ glyph ∷ []) measured rest
-    (one-measured run names metrics (rows.Measured glyph) (map (λ glyph. rows.Measured glyph) measured ++ rest) glyph h (λ name. λ row. ap (reported_at (places.Glyph name)) row)))
 
 pub one-faulty : (run : List ℕ → Option (Result Drawing Code)) (names : List (List ℕ)) (metrics : List GlyphMetrics) (row : Row) (rows : List Row) (refused : Refusal)
     → RowsLeft run names metrics (row ∷ rows) → ((name : List ℕ) → IsRow run name row → Refuses refused (reported_at (places.Glyph name) (glyph_metrics_at run name)))

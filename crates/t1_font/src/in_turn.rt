@@ -30,9 +30,9 @@ use t1_run::{Meter, Segment};
 pub(crate) enum Row<'a> {
     /// What is measured of it.
     Measured(GlyphMetrics<'a>),
-    /// It is a composite, and measured when all runs that stay are there.
+    /// Its run stays, and it is measured when all runs that stay are there.
     Waiting(&'a [u8]),
-    /// Its run has a fault.
+    /// Its run has a fault, and no other glyph can ask for it.
     Faulty(&'a [u8], Code),
 }
 
@@ -67,25 +67,6 @@ fn is_staying(name: &[u8], kept: &Result<KeptRun, Code>) -> bool
     }
 }
 
-/// What is reported of a glyph by its run.
-fn row_by<'a>(
-    alloc: Global,
-    name: &'a [u8],
-    kept: &Result<KeptRun, Code>,
-) -> Result<Row<'a>, AllocError>
-    ensures { (run : List ℕ → Option (Result Drawing CodeOf)) → run name.now ≡ Some (drawing_kept kept.now) → IfOk result (IsRow run name.now) }
-{
-    match kept {
-        Ok(run) => {
-            if run.composite().is_some() {
-                return Ok(Row::Waiting(name));
-            }
-            Ok(Row::Measured(plain_metrics(alloc, name, run)?))
-        }
-        Err(code) => Ok(Row::Faulty(name, *code)),
-    }
-}
-
 /// What is reported of a glyph by its run, which is kept where it stays.
 fn row_of<'a>(
     alloc: Global,
@@ -97,11 +78,14 @@ fn row_of<'a>(
     ensures row { (run : List ℕ → Option (Result Drawing CodeOf)) → run name.now ≡ Some (drawing_kept kept) → IfOk result (IsRow run name.now) }
     ensures kept { OnOk result ((g : List ℕ) → run_kept runs.new g ≡ (if bytes_eq g name.now && stays name.now (Some (drawing_kept kept)) then Some kept else run_kept runs.old g)) }
 {
-    let row = row_by(alloc, name, &kept)?;
     if is_staying(name, &kept) {
         runs.keep(name, kept)?;
+        return Ok(Row::Waiting(name));
     }
-    Ok(row)
+    match kept {
+        Ok(run) => Ok(Row::Measured(plain_metrics(alloc, name, &run)?)),
+        Err(code) => Ok(Row::Faulty(name, code)),
+    }
 }
 
 /// What one glyph after another uses again: memory for the commands of a body and for the segments of a run, and the count of

@@ -23,7 +23,6 @@ pub mod laws;
 mod lengths;
 mod numbers;
 mod private;
-mod rows;
 mod runs;
 mod source_bodies;
 mod subr_bodies;

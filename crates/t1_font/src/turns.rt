@@ -23,7 +23,6 @@ use crate::glyphs::{MeasuredGlyphs, name_of};
 use crate::in_turn::{Row, Scratch, glyph_turn};
 use crate::kern::add_name;
 use crate::lengths::{check_counts, check_length};
-use crate::rows::Rows;
 use crate::runs::Runs;
 use crate::source_bodies::SourceBodies;
 use crate::subr_bodies::SubrBodies;
@@ -58,7 +57,7 @@ fn names_of<'a>(alloc: Global, items: &'a [Item]) -> Result<IndexSet<&'a [u8]>, 
 #[derive(Drop)]
 struct Turns<'a> {
     subrs: SubrBodies,
-    rows: Rows<'a>,
+    rows: Vec<Row<'a>>,
     /// The runs that stay.
     runs: Runs<'a>,
     scratch: Scratch,
@@ -68,12 +67,12 @@ impl<'a> Turns<'a> {
     /// Of no items, with room for what is reported of so many glyphs.
     fn new(alloc: Global, glyphs: usize) -> Result<Self, AllocError>
         ensures subrs { IfOk result (λ turns. (n : ℕ) → subr_stored turns.subrs n ≡ None) }
-        ensures rows { IfOk result (λ turns. turns.rows ≡ []) }
+        ensures rows { IfOk result (λ turns. turns.rows.items ≡ []) }
         ensures runs { IfOk result (λ turns. turns.runs ≡ []) }
     {
         Ok(Turns {
             subrs: SubrBodies::new(alloc),
-            rows: Rows::with_room(alloc, glyphs)?,
+            rows: Vec::with_capacity(alloc, glyphs)?,
             runs: Runs::new(alloc),
             scratch: Scratch::new(alloc),
         })
@@ -91,7 +90,7 @@ impl<'a> Turns<'a> {
         requires first { IsFirstOfName items.now item.now }
         ensures checked { Gives (λ x. x) result (body_check item.now) }
         ensures subrs { OnOk result ((n : ℕ) → subr_stored self.new.subrs n ≡ option_or (subr_stored self.old.subrs n) (subr_in item.now n)) }
-        ensures rows { (run : List ℕ → Option (Result Drawing CodeOf)) (gs : List (List ℕ)) → RunsAs item.now run (font (subr_stored self.old.subrs) (glyph_to_run items.now)) → AreRows run gs self.old.rows → OnOk result (AreRows run (gs ++ name_in item.now) self.new.rows) }
+        ensures rows { (run : List ℕ → Option (Result Drawing CodeOf)) (gs : List (List ℕ)) → RunsAs item.now run (font (subr_stored self.old.subrs) (glyph_to_run items.now)) → AreRows run gs self.old.rows.items → OnOk result (AreRows run (gs ++ name_in item.now) self.new.rows.items) }
         ensures runs { (run : List ℕ → Option (Result Drawing CodeOf)) (gs : List (List ℕ)) → RunsAs item.now run (font (subr_stored self.old.subrs) (glyph_to_run items.now)) → ((g : List ℕ) → kept_of self.old.runs g ≡ staying run gs g) → OnOk result ((g : List ℕ) → kept_of self.new.runs g ≡ staying run (gs ++ name_in item.now) g) }
     {
         match item {
@@ -125,7 +124,7 @@ fn turns_of<'a>(alloc: Global, items: &'a [Item]) -> Result<Turns<'a>, Refusal>
     requires firsts { All (IsFirstOfName items.now) items.now }
     requires subrs { SubrsStandFirst items.now }
     ensures checked { Gives (λ _. tt) result (bodies_check items.now) }
-    ensures rows { IfOk result (λ turns. AreRows (own (font_to_run items.now)) (glyph_names items.now) turns.rows) }
+    ensures rows { IfOk result (λ turns. AreRows (own (font_to_run items.now)) (glyph_names items.now) turns.rows.items) }
     ensures runs { IfOk result (λ turns. (g : List ℕ) → kept_of turns.runs g ≡ staying (own (font_to_run items.now)) (glyph_names items.now) g) }
 {
     let names = names_of(alloc, items)?;
@@ -155,13 +154,12 @@ fn metrics_of_row<'a>(alloc: Global, runs: &Runs, row: Row<'a>) -> Result<GlyphM
 fn metrics_of_rows<'a>(
     alloc: Global,
     runs: &Runs,
-    rows: Rows<'a>,
+    rows: Vec<Row<'a>>,
 ) -> Result<Vec<GlyphMetrics<'a>>, Refusal>
-    ensures { (run : List ℕ → Option (Result Drawing CodeOf)) (names : List (List ℕ)) → AreRows run names rows.entry → RunsStay run names runs.now → Gives (λ metrics. metrics.items) result (glyph_metrics_among run names) }
+    ensures { (run : List ℕ → Option (Result Drawing CodeOf)) (names : List (List ℕ)) → AreRows run names rows.entry.items → RunsStay run names runs.now → Gives (λ metrics. metrics.items) result (glyph_metrics_among run names) }
 {
-    let Rows { measured, rest } = rows;
-    let mut metrics = measured;
-    for row in rest {
+    let mut metrics = Vec::with_capacity(alloc, rows.len())?;
+    for row in rows {
         metrics.push(metrics_of_row(alloc, runs, row)?)?;
     }
     Ok(metrics)
@@ -175,7 +173,7 @@ fn checked_turns<'a>(alloc: Global, source: &'a Source) -> Result<Turns<'a>, Ref
     requires subrs { SubrsStandFirst source.now.items }
     ensures file { Gives (λ _. tt) result (file_check source.now) }
     ensures no_fault { IfOk result (λ _. bodies_check source.now.items ≡ Ok tt) }
-    ensures rows { IfOk result (λ turns. AreRows (own (font_to_run source.now.items)) (glyph_names source.now.items) turns.rows) }
+    ensures rows { IfOk result (λ turns. AreRows (own (font_to_run source.now.items)) (glyph_names source.now.items) turns.rows.items) }
     ensures runs { IfOk result (λ turns. (g : List ℕ) → kept_of turns.runs g ≡ staying (own (font_to_run source.now.items)) (glyph_names source.now.items) g) }
 {
     let turns = turns_of(alloc, source.items())?;
@@ -186,7 +184,7 @@ fn checked_turns<'a>(alloc: Global, source: &'a Source) -> Result<Turns<'a>, Ref
 
 /// What is measured of these glyphs, and the box around those that draw, or the first fault of a glyph.
 fn measured_turns<'a>(alloc: Global, turns: Turns<'a>) -> Result<MeasuredGlyphs<'a>, Refusal>
-    ensures { (items : List ItemOf) → bodies_check items ≡ Ok tt → AreRows (own (font_to_run items)) (glyph_names items) turns.entry.rows → ((g : List ℕ) → kept_of turns.entry.runs g ≡ staying (own (font_to_run items)) (glyph_names items) g) → Gives (λ glyphs. glyphs) result (measured items) }
+    ensures { (items : List ItemOf) → bodies_check items ≡ Ok tt → AreRows (own (font_to_run items)) (glyph_names items) turns.entry.rows.items → ((g : List ℕ) → kept_of turns.entry.runs g ≡ staying (own (font_to_run items)) (glyph_names items) g) → Gives (λ glyphs. glyphs) result (measured items) }
 {
     let Turns { rows, runs, .. } = turns;
     let metrics = metrics_of_rows(alloc, &runs, rows)?;
