@@ -4,6 +4,7 @@ pub mod Divisors
 pub mod Exact
 pub mod NumberLaws
 pub mod OutcomeLaws
+pub mod Primes
 pub mod Rounded
 pub mod Rows
 pub mod SameLowest

@@ -1,11 +1,16 @@
-use Rattle.std.proofs.Common.{arith}
+use Rattle.std.proofs.Common.{arith, refl}
 use Rattle.std.proofs.lemmas.Nat.Gcd.{IsGcd-from_zero, IsGcd-from_mod}
 use Rattle.t1_frac.proofs.Divisors.{gcd_is}
 use Rattle.t1_frac.proofs.Exact.{IsGcd-one}
+use Rattle.t1_frac.proofs.Primes.{coprime}
 use Rattle.t1_frac.proofs.gcd.gcd_64.Goals as goal
 
 pub loop-y-preserved : goal.loop-y-preserved
 loop-y-preserved c g h = c.loop-y.invariant g (IsGcd-from_mod _ _ g h)
+
+pub returns-then-is_small_prime : goal.returns-then-is_small_prime
+returns-then-is_small_prime c =
+    gcd_is _ _ _ (c.loop-y.invariant _ (coprime c.loop-y.x c.loop-y.y _ (c.is_small_prime.ensures c.if-is_small_prime.true) refl (omega (arith, c.if-rest-gt0.true)) (omega (arith, c.loop-y-test.true))))
 
 pub returns-then-y-eq1 : goal.returns-then-y-eq1
 returns-then-y-eq1 c = gcd_is _ _ _ (c.loop-y.invariant _ (IsGcd-one _ _ (omega arith)))
