@@ -1,14 +1,9 @@
 -- The values of a cubic at its ends are its ends.
-use Rattle.std.proofs.Common.{◌≡◌, ℕ, ◌+◌, ◌*◌, ◌<◌, ◌≤◌, ℤ, pos, ◌+ℤ◌, ◌*ℤ◌, neg_ℤ, Bool, true, false, [], ◌∷◌, arith, refl, ap, ◌∙◌, mul-pos}
-use Rattle.std.specs.Prelude.{◌==◌}
-use Rattle.std.proofs.Math.Dec.{ltb}
-use Rattle.std.proofs.lemmas.Bool.{ltb-true, ltb-false}
-use Rattle.std.proofs.Math.Nat.{lt_of_mul-lt-mul_right, mul-le-mul_right}
-use borrow.Author.Differences.{up, down, sum_is_lem, product_is, neg_is, same_in}
-use Rattle.t1_frac.specs.Fraction.{Fraction, IsLowest, IsSame, whole, negated, floor_of, ceiling_of}
+use Rattle.std.proofs.Common.{◌≡◌, ℕ, ◌*◌, ◌<◌, ℤ, pos, ◌+ℤ◌, ◌*ℤ◌, [], ◌∷◌, arith, ap, ◌∙◌, mul-pos}
+use borrow.Author.Differences.{up, down, sum_is_lem, product_is, same_in}
+use Rattle.t1_frac.specs.Fraction.{Fraction, IsSame}
 use Rattle.t1_frac.specs.Limits.{IsCoordinate}
-use Rattle.t1_frac.proofs.Rounded.{floor_is, round_alike}
-use Rattle.t1_frac.proofs.SameLowest.{whole_is_over_one}
+use Rattle.t1_frac.proofs.Rounded.{round_alike}
 use Rattle.t1_afm.specs.declared.span.Span.{Span}
 use Rattle.t1_afm.specs.Points.{cubic_at}
 use Rattle.t1_afm.specs.Spans.{span_of, span_around, span_around_one, ends_of}
@@ -71,44 +66,3 @@ ends_are a b c d ha hb hc hd =
     let some : 0 < 262144 * ((a.den * b.den) * (c.den * d.den)) = mul-pos {m = 262144} (omega arith) (mul-pos (mul-pos ha.above hb.above) (mul-pos hc.above hd.above)) in
     ap (λ (s : Span). span_around s (span_around_one (cubic_at a b c d 64))) (around_same (cubic_at a b c d 0) a some ha.above (first_same a b c d))
     ∙ ap (λ (s : Span). span_around (span_around_one a) s) (around_same (cubic_at a b c d 64) d some hd.above (last_same a b c d))
-
--- ---- a coordinate that isn't whole
-
--- its ceiling is the next whole number after its floor
-pub ceiling_next : (a : Fraction) → IsLowest a → (a.den == 1) ≡ false → ceiling_of a ≡ floor_of a +ℤ pos 1
-ceiling_next a lowest broken = by (ltb (up f + up g) (down f + down g)) refl where
-  f : ℤ
-  f = floor_of a
-
-  g : ℤ
-  g = floor_of (negated a)
-
-  n : ℤ
-  n = a.num
-
-  d : ℕ
-  d = a.den
-
-  under : up f * d + down n ≤ up n + down f * d
-  under = (floor_is n d lowest.above).below
-
-  over : up g * d + up n ≤ down n + down g * d
-  over = omega (arith, (floor_is (neg_ℤ n) d lowest.above).below, neg_is n)
-
-  close : down n + down g * d < up n + up g * d + d
-  close = omega (arith, (floor_is (neg_ℤ n) d lowest.above).above, neg_is n)
-
-  before : up n + down f * d < down n + up f * d + d
-  before = (floor_is n d lowest.above).above
-
-  few : down f + down g < up f + up g + 2
-  few = lt_of_mul-lt-mul_right d (omega (arith, before, close))
-
-  by : (b : Bool) → ltb (up f + up g) (down f + down g) ≡ b → ceiling_of a ≡ f +ℤ pos 1
-  by true more = same_in _ _ (omega (arith, ltb-true _ _ more, few, neg_is g, sum_is_lem f (pos 1)))
-  by false same =
-      let least : (down f + down g) * d ≤ (up f + up g) * d = mul-le-mul_right d (ltb-false _ _ same) in
-      let even : IsSame a (whole f) = same_in _ _ (omega (arith, product_is n (pos 1), product_is f (pos d), under, over, least)) in
-      let one : d ≡ 1 = (whole_is_over_one a lowest).1 f even in
-      let never : (1 == 1) ≡ false = rw one at broken in
-      absurd (cc)

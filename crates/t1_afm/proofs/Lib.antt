@@ -1,5 +1,6 @@
 pub mod Between
 pub mod Boxes
+pub mod Ceilings
 pub mod Convex
 pub mod Differences
 pub mod EndSums

@@ -3,11 +3,11 @@
 ghost use Rattle.std.specs.Prelude.{◌≡◌, ◌≤◌};
 ghost use Rattle.t1_frac.specs.Limits.{IsCoordinate};
 ghost use Rattle.t1_afm.specs.Points.{cubic_at, cubic_values};
-ghost use Rattle.t1_afm.specs.Spans.{span_of, span_around_one, ends_of, hull_of};
+ghost use Rattle.t1_afm.specs.Spans.{span_of, span_around_one};
 ghost use Rattle.t1_afm.specs.Bounds.{IsInRange, fraction_of};
 
 use crate::ratio::{Ratio, WeightedPair};
-use crate::span::{Span, is_whole, line_span};
+use crate::span::{Span, line_span};
 use crate::whole::WholeCubic;
 use t1_frac::Frac;
 
@@ -69,31 +69,13 @@ impl Cubic {
         span
     }
 
-    /// The span around the values at both ends, which are the ends.
-    #[tactic(auto, using(crate::proofs::EndValues::ends_are))]
-    fn ends_span(&self) -> Span
-        ensures { result ≡ ends_of self.now.start self.now.first self.now.second self.now.end }
-    {
-        line_span(&self.start, &self.end)
-    }
-
-    /// The span around the four points.
-    fn hull_span(&self) -> Span
-        ensures { result ≡ hull_of self.now.start self.now.first self.now.second self.now.end }
-    {
-        let front = line_span(&self.start, &self.first);
-        let back = line_span(&self.second, &self.end);
-        front.around(&back)
-    }
-
-    /// The span around the 65 values. Where the four points reach no further than the ends, neither do the values
-    /// between.
+    /// The span around the 65 values. Where the inner points reach no further than the ends, neither do the values between.
     fn fraction_span(&self) -> Span
         ensures { result ≡ span_of (cubic_values self.now.start self.now.first self.now.second self.now.end) }
     {
-        let ends = self.ends_span();
-        let hull = self.hull_span();
-        if ends.low <= hull.low && hull.high <= ends.high {
+        let ends = line_span(&self.start, &self.end);
+        let inner = line_span(&self.first, &self.second);
+        if ends.low <= inner.low && inner.high <= ends.high {
             return ends;
         }
         self.sampled_span()
@@ -103,10 +85,10 @@ impl Cubic {
     pub(crate) fn span(&self) -> Span
         ensures { result ≡ span_of (cubic_values self.now.start self.now.first self.now.second self.now.end) }
     {
-        if is_whole(&self.start)
-            && is_whole(&self.first)
-            && is_whole(&self.second)
-            && is_whole(&self.end)
+        if self.start.is_whole()
+            && self.first.is_whole()
+            && self.second.is_whole()
+            && self.end.is_whole()
         {
             let cubic = WholeCubic {
                 start: self.start.num(),

@@ -1,8 +1,8 @@
 //! The whole numbers around coordinates of one axis.
 
-ghost use Rattle.std.specs.Prelude.{◌≡◌, ◌≤◌, ◌^◌, [], ◌∷◌, true};
+ghost use Rattle.std.specs.Prelude.{◌≡◌, ◌≤◌, ◌^◌, [], ◌∷◌};
 ghost use Rattle.std.specs.Int.RustNames.{unsigned_abs};
-ghost use Rattle.t1_frac.specs.Fraction.{whole, floor_of, ceiling_of};
+ghost use Rattle.t1_frac.specs.Fraction.{whole, floor_of};
 ghost use Rattle.t1_frac.specs.Limits.{IsCoordinate};
 ghost use Rattle.t1_afm.specs.Spans.{span_of, span_around, span_around_one};
 
@@ -25,12 +25,6 @@ impl Span {
             high: self.high.max(other.high),
         }
     }
-}
-
-pub(crate) fn is_whole(a: &Frac) -> bool
-    ensures { result ≡ true → a.now.den ≡ 1 }
-{
-    a.den() == 1
 }
 
 /// A coordinate rounded down.

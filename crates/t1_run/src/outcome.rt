@@ -12,7 +12,7 @@ use crate::state::State;
 use std::marker::Model;
 use t1_frac::Code;
 
-/// What the run of a glyph's own body answered. It is made by `run` alone, and can't be cloned.
+/// What the run of a glyph's own body answered. It is made by `run` and `run_of_body` alone, and can't be cloned.
 #[derive(Debug, Drop)]
 pub struct Run {
     metric: Metric,

@@ -1,7 +1,7 @@
 use Rattle.std.proofs.Common.{arith, ◌∙◌, sym}
 use Rattle.std.proofs.lemmas.Int.{ints}
 use Rattle.t1_afm.proofs.Between.{same_span}
-use Rattle.t1_afm.proofs.EndValues.{ceiling_next}
+use Rattle.t1_afm.proofs.Ceilings.{ceiling_next}
 use Rattle.t1_afm.proofs.span.coordinate_span.Goals as goal
 
 pub returns : goal.returns
