@@ -1,6 +1,6 @@
 //! The names of StandardEncoding.
-ghost use Rattle.std.specs.Prelude.{◌≡◌, option_map};
-ghost use Rattle.t1_code.specs.Encoding.{standard_name as name_of, named_in, is_standard_name as is_named, has_name};
+ghost use Rattle.std.specs.Prelude.{◌≡◌, map, option_map};
+ghost use Rattle.t1_code.specs.Encoding.{standard_name as name_of, named_in, is_standard_name as is_named, has_name, standard_names};
 
 /// Each code of StandardEncoding that has a name, and the name.
 const NAMES: [(u8, &str); 149] = [
@@ -161,6 +161,14 @@ pub fn standard_name(code: u8) -> Option<&'static str>
     ensures { option_map (λ name. name.now) result ≡ name_of code }
 {
     find(&NAMES, code)
+}
+
+/// StandardEncoding: each code that has a name, from the lowest on, with the name.
+#[tactic(auto, unfolding(crate::specs::Encoding::standard_names))]
+pub fn standard_table() -> &'static [(u8, &'static str)]
+    ensures { map (λ row. (row.0, row.1.now)) result.now ≡ standard_names }
+{
+    &NAMES
 }
 
 /// The name beside this code in a table.

@@ -29,7 +29,7 @@ pub use chunk::{Chunk, put_plain, put_slices};
 pub use cipher::encrypt;
 pub use command::Command;
 pub use counted::{Counted, MAX_PUT};
-pub use encoding::{is_standard_name, standard_name};
+pub use encoding::{is_standard_name, standard_name, standard_table};
 pub use file_len::{pfa_len, pfb_len};
 pub use form::{FileForm, write_file};
 pub use parts::{OutError, Parts, Piece};

@@ -1,13 +1,15 @@
 -- Searching the lowest code of a name, and the names that slots give to codes.
-use Rattle.std.proofs.Common.{◌≡◌, ℕ, suc, Bool, true, false, ◌+◌, ◌-◌, ◌<◌, ◌≤◌, ◌==◌, ◌≢◌, if◌then◌else◌, Option, Some, None, List, [], ◌∷◌, ◌++◌, length, take, get_or, set, filter_map, option_map, refl, inl, inr, sym, ◌∙◌, ap, arith}
+use Rattle.std.proofs.Common.{◌≡◌, ℕ, suc, Bool, true, false, ◌+◌, ◌-◌, ◌<◌, ◌≤◌, ◌==◌, ◌≢◌, if◌then◌else◌, Option, Some, None, List, [], ◌∷◌, ◌++◌, length, map, take, get_or, set, filter_map, option_map, refl, inl, inr, sym, ◌∙◌, ap, arith}
+use Rattle.std.specs.Prelude.{nat_eq}
 use Rattle.std.specs.List.{find, range_with_len, last_or}
+use Rattle.std.specs.Map.{lookup}
 use Rattle.std.specs.Borrow.{Bor}
 use Rattle.std.specs.Str.{bytes_eq}
 use Rattle.std.proofs.lemmas.List.{take_more, get_or-set_same, get_or-set_other, append-nil}
 use Rattle.std.proofs.lemmas.List.Elements.{filter_map-append}
 use Rattle.std.proofs.lemmas.Bool.{eq-eqb, cases_Bool, eqb-true}
 use Rattle.t1_text.specs.Tokens.{tokens, is_token}
-use Rattle.t1_code.specs.Encoding.{standard_name}
+use Rattle.t1_code.specs.Encoding.{named_in, standard_name, standard_names}
 use Rattle.t1_parts.specs.Encoding.{slot_of_tokens, slots}
 use Rattle.t1_parts.specs.SourceParts.{SourceParts}
 use Rattle.t1_parts.specs.Reading.{standard}
@@ -122,20 +124,10 @@ name_more ls k l c name names h is e within before code small =
           ∙ sym (on ∙ slot_elsewhere (slots_on (take k ls)) code c name.now other)
     ]
 
--- one code more of a table
-pub table_more : (given : ℕ → Option (List ℕ)) (names : List (Option (Bor (List ℕ)))) (c : ℕ) (name : Option (Bor (List ℕ))) → c < length names
-    → option_map (λ n. n.now) name ≡ given c
-    → ((code : ℕ) → code < c → name_at names code ≡ given code)
-    → (code : ℕ) → code < c + 1 → name_at (set names c name) code ≡ given code
-table_more given names c name within is before code low =
-    elim (cases_Bool (c == code)) [
-      | inl equal ↦
-          let at : c ≡ code = eqb-true c code equal in
-          ap (name_at (set names c name)) (sym at) ∙ ap (option_map (λ n. n.now)) (get_or-set_same names c name None within) ∙ is ∙ ap given at
-      | inr other ↦
-          ap (option_map (λ n. n.now)) (get_or-set_other names c code name None (differ c code other))
-          ∙ before code (omega (arith, differ c code other, low))
-    ]
+-- a table with these rows names as StandardEncoding
+pub named_standard : (table : List (ℕ × Bor (List ℕ))) (code : ℕ) → map (λ row. (row.0, row.1.now)) table ≡ standard_names → named_in table code ≡ standard_name code
+unfolding standard_name
+named_standard table code is = ap (lookup (nat_eq code)) is
 
 -- the names of codes in the standard encoding, and in an array
 pub standard_named : (s : SourceParts) (code : ℕ) → standard s ≡ true → standard_name code ≡ name_of_code s code

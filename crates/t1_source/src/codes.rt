@@ -6,7 +6,7 @@ ghost use Rattle.t1_text.specs.Tokens.{tokens, is_token};
 ghost use Rattle.t1_parts.specs.Encoding.{slot_of_tokens, slots};
 ghost use Rattle.t1_source.specs.Codes.{slot_name, lowest_code, name_at};
 
-use t1_code::standard_name;
+use t1_code::{standard_name, standard_table};
 use t1_frac::Bytes;
 use t1_parts::{array_of, slot_of};
 use t1_text::same;
@@ -67,25 +67,17 @@ pub fn array_code(clear: &[Bytes], name: &[u8]) -> Option<u8>
     None
 }
 
-/// The name that the standard encoding gives a code.
-fn standard_bytes<'a>(code: u8) -> Option<&'a [u8]>
-    ensures { option_map (λ name. name.now) result ≡ name_of code }
-{
-    match standard_name(code) {
-        Some(name) => Some(name.as_bytes()),
-        None => None,
-    }
-}
-
 /// The names that the standard encoding gives the codes from 0 to 255.
 pub fn standard_names<'a>() -> [Option<&'a [u8]>; 256]
     ensures { (code : ℕ) → code < 256 → name_at result code ≡ name_of code }
 {
+    let table = standard_table();
     let mut names: [Option<&'a [u8]>; 256] = [None; 256];
-    let mut code: u16 = 0;
-    while code < 256 {
-        names[code as usize] = standard_bytes(code as u8);
-        code += 1;
+    let mut rest = table.len();
+    while rest > 0 {
+        rest -= 1;
+        let (code, name) = &table[rest];
+        names[usize::from(*code)] = Some(name.as_bytes());
     }
     names
 }

@@ -1,11 +1,11 @@
-use Rattle.std.proofs.Common.{◌≡◌, ℕ, ◌<◌, ◌≤◌, ◌-◌, length}
-use Rattle.t1_code.specs.Encoding.{standard_name}
+use Rattle.std.proofs.Common.{◌≡◌, ℕ, ◌<◌, ◌≤◌, length, drop}
+use Rattle.t1_code.specs.Encoding.{named_in}
 use Rattle.t1_source.specs.Codes.{name_at}
 use Rattle.t1_source.proofs.codes.standard_names.Given as goal
 
--- the names of the codes so far
-abbrev pub invariant-loop-code : goal.invariant-loop-code
-invariant-loop-code l = (l.code ≤ 256) × (length l.names ≡ 256) × ((k : ℕ) → k < l.code → name_at l.names k ≡ standard_name k)
+-- the names of the codes of the last rows
+abbrev pub invariant-loop-rest : goal.invariant-loop-rest
+invariant-loop-rest l = (l.rest ≤ length l.table) × (length l.names ≡ 256) × ((code : ℕ) → code < 256 → name_at l.names code ≡ named_in (drop l.rest l.table) code)
 
-abbrev pub decreases-loop-code : goal.decreases-loop-code
-decreases-loop-code l = 256 - l.code
+abbrev pub decreases-loop-rest : goal.decreases-loop-rest
+decreases-loop-rest l = l.rest
