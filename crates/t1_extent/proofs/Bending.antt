@@ -1,5 +1,5 @@
 -- The extremes of a whole outline's drawn points, from those of its ends and of its curves.
-use Rattle.std.proofs.Common.{◌≡◌, ℕ, List, [], ◌∷◌, ℤ, pos, ◌*ℤ◌, arith, refl, ap, ◌∙◌, sym, Some, None}
+use Rattle.std.proofs.Common.{◌≡◌, List, [], ◌∷◌, ℤ, pos, ◌*ℤ◌, arith, refl, ap, ◌∙◌, sym, Some, None}
 use Rattle.std.specs.Prelude.{map}
 use Rattle.std.specs.Int.{int_min, int_max}
 use Rattle.std.specs.List.{reduce, AllByRecursion}

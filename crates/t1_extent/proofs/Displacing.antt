@@ -17,7 +17,7 @@ use Rattle.t1_extent.specs.Figures.{first_point, apart}
 use Rattle.t1_extent.specs.Laws.{summary, shifted_summary, AreWithin, IsDistance}
 use Rattle.t1_extent.specs.Turns.{in_turn, through, point_through}
 use Rattle.t1_extent.proofs.Checking.{IsEasy, passed, fine_sum, outline_passed}
-use Rattle.t1_extent.proofs.Folding.{IsNumber, AreLowest, point_lowest, points_lowest, fold_lowest, same_extremes}
+use Rattle.t1_extent.proofs.Folding.{IsNumber, AreLowest, points_lowest, same_extremes}
 use Rattle.t1_extent.proofs.Uniting.{extremes_lowest}
 use Rattle.t1_extent.proofs.Moving.{AreShifted, AreMoved, IsShifted, point_shifted, outline_moved, outline_numbers, corners_numbers, extremes_shifted}
 use Rattle.t1_extent.proofs.Shifting.{shifted_lowest, shifted_apart, shifted_nowhere}

@@ -1,5 +1,5 @@
 -- Extremes of lists of points, one list after another, and their box.
-use Rattle.std.proofs.Common.{◌≡◌, ◌<◌, List, [], ◌∷◌, ◌++◌, map, refl, ap, ◌∙◌, append-nil, Some, ℤ}
+use Rattle.std.proofs.Common.{◌≡◌, ◌<◌, List, [], ◌∷◌, ◌++◌, map, refl, ap, ◌∙◌, append-nil, Some}
 use Rattle.std.specs.Prelude.{fold}
 use Rattle.std.specs.Int.{int_min, int_max}
 use Rattle.std.specs.List.{reduce, AllByRecursion}
@@ -8,7 +8,6 @@ use Rattle.t1_frac.specs.Fraction.{Fraction, lowest, floor_of, ceiling_of}
 use Rattle.t1_frac.proofs.Exact.{lowest_same}
 use Rattle.t1_frac.proofs.Rounded.{round_alike}
 use Rattle.t1_run.specs.declared.outline.Point.{Point}
-use Rattle.t1_afm.specs.declared.bbox.BBox.{BBox}
 use Rattle.t1_afm.specs.Box.{box}
 use Rattle.t1_extent.specs.Extremes.{Extremes, lesser, greater, at_point, reaching, unite, extremes, boxed}
 use Rattle.t1_extent.proofs.Canonical.{lowest_above}

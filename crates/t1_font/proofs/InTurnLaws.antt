@@ -1,12 +1,12 @@
 -- What is reported of a glyph at its turn.
-use Rattle.std.proofs.Common.{append-nil, ◌≡◌, ◌∙◌, ◌+◌, ◌<◌, length, get_or, take, drop, ℕ, Bool, true, false, cond, List, [], ◌∷◌, ◌++◌, Option, Some, None, is_some, refl, sym, ap, subst, inl, inr}
+use Rattle.std.proofs.Common.{append-nil, ◌≡◌, ◌∙◌, ◌+◌, ◌<◌, length, get_or, take, drop, ℕ, Bool, true, false, cond, List, [], ◌∷◌, ◌++◌, map, Option, Some, None, is_some, refl, sym, ap, subst, inl, inr}
 use Rattle.std.specs.Prelude.{Result, Ok, Err, ◌||◌, ◌&&◌}
 use Rattle.std.specs.List.{list_any}
 use Rattle.std.specs.Option.{option_or}
 use Rattle.std.specs.Str.{bytes_eq}
 use Rattle.std.proofs.lemmas.Bool.{cases_Bool}
 use Rattle.std.proofs.lemmas.List.Folds.{list_any-append}
-use Rattle.std.proofs.lemmas.List.{take_more, take-append-drop}
+use Rattle.std.proofs.lemmas.List.{append_assoc, take_more, take-append-drop}
 use Rattle.std.proofs.lemmas.Grind.{flat_map-append}
 use Rattle.t1_frac.specs.declared.fault.Code.{Code}
 use Rattle.t1_frac.specs.declared.fault.Fault.{Fault}
@@ -14,8 +14,6 @@ use Rattle.t1_frac.specs.declared.fault.Refusal.{Refusal}
 use Rattle.t1_frac.specs.declared.fault.Refusal.TheVariants as refusals
 use Rattle.t1_frac.specs.declared.fault.Place.TheVariants as places
 use Rattle.t1_frac.specs.Outcome.{◌>>=◌, reported_at, Refuses}
-use Rattle.t1_code.specs.Encoding.{is_standard_name}
-use Rattle.t1_run.specs.declared.outline.Composite.{Composite}
 use Rattle.t1_run.specs.Run.{Drawing, font, own}
 use Rattle.t1_afm.specs.Box.{drawn_box}
 use Rattle.t1_font.specs.declared.glyph_metrics.GlyphMetrics.{GlyphMetrics}
@@ -25,6 +23,7 @@ use Rattle.t1_source.specs.Editing.{is_subr_entry}
 use Rattle.t1_code.specs.declared.command.Command.{Command}
 use Rattle.t1_code.specs.Words.{commands}
 use Rattle.t1_font.specs.declared.in_turn.Row.{Row}
+use Rattle.t1_font.specs.declared.in_turn.Row.TheVariants as rows
 use Rattle.t1_font.specs.Bodies.{subr_among}
 use Rattle.t1_font.specs.Glyphs.{glyph_names, name_in}
 use Rattle.t1_font.specs.InTurn.{stays, staying, AreRows, IsRow, RunsAs}
@@ -46,14 +45,6 @@ pub plain-metrics : (run : List ℕ → Option (Result Drawing Code)) (name : Li
     → glyph_metrics_by name d (drawn_box d.segments) ≡ Ok glyph → glyph_metrics_at run name ≡ Ok glyph
 unfolding glyph_metrics_at
 plain-metrics run name d glyph h none by = let e = rw none at by in rw (h, none) e
-
--- a run that doesn't stay has no parts
-pub not-composite : (name : List ℕ) (d : Drawing) → stays name (Some (Ok d)) ≡ false → d.composite ≡ None
-not-composite name d h = by (is_standard_name name) d.composite h where
-  by : (b : Bool) (c : Option Composite) → (b || is_some c) ≡ false → c ≡ None
-  by b None e = refl
-  by true (Some c) e = absurd (cc)
-  by false (Some c) e = absurd (cc)
 
 -- ---- one glyph more
 
@@ -166,6 +157,15 @@ pub one-measured : (run : List ℕ → Option (Result Drawing Code)) (names : Li
 one-measured run names metrics row rows glyph ([], are, is) reported = absurd are
 one-measured run names metrics row rows glyph (name ∷ left, are, is) reported =
     (left, are.1, one-reported run metrics name left glyph (reported name are.0) ∙ is)
+
+-- those that are measured already
+pub measured-first : (run : List ℕ → Option (Result Drawing Code)) (names : List (List ℕ)) (metrics measured : List GlyphMetrics) (rest : List Row)
+    → RowsLeft run names metrics (map (λ glyph. rows.Measured glyph) measured ++ rest) → RowsLeft run names (metrics ++ measured) rest
+measured-first run names metrics [] rest h = subst (λ l. RowsLeft run names l rest) (sym (append-nil metrics)) h
+measured-first run names metrics (glyph ∷ measured) rest h =
+    subst (λ l. RowsLeft run names l rest) (append_assoc metrics (glyph ∷ []) measured)
+    (measured-first run names (metrics ++ glyph ∷ []) measured rest
+    (one-measured run names metrics (rows.Measured glyph) (map (λ glyph. rows.Measured glyph) measured ++ rest) glyph h (λ name. λ row. ap (reported_at (places.Glyph name)) row)))
 
 pub one-faulty : (run : List ℕ → Option (Result Drawing Code)) (names : List (List ℕ)) (metrics : List GlyphMetrics) (row : Row) (rows : List Row) (refused : Refusal)
     → RowsLeft run names metrics (row ∷ rows) → ((name : List ℕ) → IsRow run name row → Refuses refused (reported_at (places.Glyph name) (glyph_metrics_at run name)))

@@ -19,6 +19,7 @@ pub mod Outlining
 pub mod PrivateLaws
 pub mod Rows
 pub mod SourceMetrics
+pub mod StandardTable
 pub mod StayingLaws
 pub mod SubrsFirst
 pub mod UsageRows

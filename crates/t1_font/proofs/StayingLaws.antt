@@ -12,13 +12,9 @@ use Rattle.t1_run.specs.declared.outline.Composite.{Composite}
 use Rattle.t1_run.specs.declared.outline.Segment.{Segment}
 use Rattle.t1_run.specs.Composite.{HasStandardParts, outline_within, drawn, with_parts, joined}
 use Rattle.t1_run.specs.Run.{Drawing}
-use Rattle.t1_font.specs.InTurn.{stays, staying, is_composite}
+use Rattle.t1_font.specs.InTurn.{stays, staying, is_composite, HaveStandardParts}
 use Rattle.t1_font.specs.Glyphs.{glyph_of}
 use Rattle.t1_font.specs.MeasuredGlyphs.{glyph_metrics, glyph_metrics_at}
-
--- the parts of all composites have names of StandardEncoding
-abbrev pub HaveStandardParts : (List ℕ → Option (Result Drawing Code)) → Type 0
-HaveStandardParts run = (g : List ℕ) (d : Drawing) (c : Composite) → run g ≡ Some (Ok d) → d.composite ≡ Some c → HasStandardParts c
 
 module _ (run other : List ℕ → Option (Result Drawing Code)) (parts : HaveStandardParts run)
     (alike : (g : List ℕ) → is_standard_name g ≡ true → other g ≡ run g) where

@@ -11,7 +11,8 @@ use Rattle.t1_run.specs.Run.{FontBodies, Drawing, font, own}
 use Rattle.t1_font.specs.declared.source_bodies.SourceBodies.{SourceBodies}
 use Rattle.t1_font.specs.declared.in_turn.Row.{Row}
 use Rattle.t1_font.specs.declared.in_turn.Row.TheVariants as rows
-use Rattle.t1_font.specs.ToRun.{commands_or_none, glyph_to_run, subr_stored}
+use Rattle.t1_font.specs.Glyphs.{glyph_names}
+use Rattle.t1_font.specs.ToRun.{commands_or_none, font_to_run, glyph_to_run, subr_stored}
 use Rattle.t1_run.specs.declared.outline.Composite.{Composite}
 use Rattle.t1_run.specs.Composite.{HasStandardParts}
 use Rattle.t1_font.specs.MeasuredGlyphs.{glyph_metrics_at}
@@ -36,7 +37,7 @@ stays g run = is_standard_name g || is_composite run
 abbrev pub staying : (List ℕ → Option (Result Drawing Code)) → List (List ℕ) → List ℕ → Option (Result Drawing Code)
 staying run names g = if list_any (bytes_eq g) names && stays g (run g) then run g else None
 
--- profile: what is reported of a glyph at its turn: its metrics, its fault, or that its run stays
+-- profile: what is reported of a glyph at its turn: its metrics, its fault, or that it is measured later, by its run, which stays
 abbrev pub IsRow : (List ℕ → Option (Result Drawing Code)) → List ℕ → Row → Type 0
 IsRow run name (rows.Measured glyph) = glyph_metrics_at run name ≡ Ok glyph
 IsRow run name (rows.Waiting waiting) = (waiting.now ≡ name) × (stays name (run name) ≡ true)
@@ -49,6 +50,11 @@ AreRows run (name ∷ names) (row ∷ rows) = IsRow run name row × AreRows run 
 AreRows run [] (row ∷ rows) = ⊥
 AreRows run (name ∷ names) [] = ⊥
 
+-- profile: what was made of items: what is reported of each glyph at its turn, and the runs that stay
+pub record AreTurnsOf (items : List Item) (reported : List Row) (kept : List Kept) : Type 0 where
+  pub rows : AreRows (own (font_to_run items)) (glyph_names items) reported
+  pub runs : (g : List ℕ) → kept_of kept g ≡ staying (own (font_to_run items)) (glyph_names items) g
+
 -- profile: the run of an item that is a glyph is its own run in this font; nothing is said of another item
 abbrev pub RunsAs : Item → (List ℕ → Option (Result Drawing Code)) → FontBodies → Type 0
 RunsAs (items.Glyph name words closing) run m = run name ≡ own m name
@@ -59,8 +65,12 @@ abbrev pub IsFirstOfName : List Item → Item → Type 0
 IsFirstOfName all (items.Glyph name words closing) = glyph_to_run all name ≡ Some (commands_or_none (commands words))
 IsFirstOfName all _ = Unit {0}
 
+-- profile: the parts of all composites have names of StandardEncoding
+abbrev pub HaveStandardParts : (List ℕ → Option (Result Drawing Code)) → Type 0
+HaveStandardParts run = (g : List ℕ) (d : Drawing) (c : Composite) → run g ≡ Some (Ok d) → d.composite ≡ Some c → HasStandardParts c
+
 -- profile: the runs that stay are there, the parts of composites have names of StandardEncoding, and no other glyph was run
 pub record RunsStay (run : List ℕ → Option (Result Drawing Code)) (names : List (List ℕ)) (runs : List Kept) : Type 0 where
   pub kept : (g : List ℕ) → kept_of runs g ≡ staying run names g
-  pub parts : (g : List ℕ) (d : Drawing) (c : Composite) → run g ≡ Some (Ok d) → d.composite ≡ Some c → HasStandardParts c
+  pub parts : HaveStandardParts run
   pub absent : (g : List ℕ) → list_any (bytes_eq g) names ≡ false → run g ≡ None

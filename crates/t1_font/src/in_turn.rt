@@ -19,8 +19,9 @@ use crate::glyph_metrics::GlyphMetrics;
 use crate::numbers::SubrNumbers;
 use crate::runs::{Runs, kept_run_of};
 use crate::source_bodies::SourceBodies;
+use crate::standard_names::StandardNames;
 use std::alloc::{AllocError, Global};
-use t1_code::{Command, compile_onto, is_standard_name};
+use t1_code::{Command, compile_onto};
 use t1_extent::KeptRun;
 use t1_frac::{Bytes, Code, Place, Refusal, SourceText, Words};
 use t1_run::{Meter, Segment};
@@ -30,9 +31,9 @@ use t1_run::{Meter, Segment};
 pub(crate) enum Row<'a> {
     /// What is measured of it.
     Measured(GlyphMetrics<'a>),
-    /// Its run stays, and it is measured when all runs that stay are there.
+    /// It is a composite, and measured when all runs that stay are there.
     Waiting(&'a [u8]),
-    /// Its run has a fault, and no other glyph can ask for it.
+    /// Its run has a fault.
     Faulty(&'a [u8], Code),
 }
 
@@ -55,10 +56,10 @@ fn plain_metrics<'a>(
 }
 
 /// Whether a run stays.
-fn is_staying(name: &[u8], kept: &Result<KeptRun, Code>) -> bool
+fn is_staying(standard: &StandardNames, name: &[u8], kept: &Result<KeptRun, Code>) -> bool
     ensures { result ≡ stays name.now (Some (drawing_kept kept.now)) }
 {
-    if is_standard_name(name) {
+    if standard.contain(name) {
         return true;
     }
     match kept {
@@ -67,9 +68,29 @@ fn is_staying(name: &[u8], kept: &Result<KeptRun, Code>) -> bool
     }
 }
 
+/// What is reported of a glyph by its run.
+fn row_by<'a>(
+    alloc: Global,
+    name: &'a [u8],
+    kept: &Result<KeptRun, Code>,
+) -> Result<Row<'a>, AllocError>
+    ensures { (run : List ℕ → Option (Result Drawing CodeOf)) → run name.now ≡ Some (drawing_kept kept.now) → IfOk result (IsRow run name.now) }
+{
+    match kept {
+        Ok(run) => {
+            if run.composite().is_some() {
+                return Ok(Row::Waiting(name));
+            }
+            Ok(Row::Measured(plain_metrics(alloc, name, run)?))
+        }
+        Err(code) => Ok(Row::Faulty(name, *code)),
+    }
+}
+
 /// What is reported of a glyph by its run, which is kept where it stays.
 fn row_of<'a>(
     alloc: Global,
+    standard: &StandardNames,
     runs: &mut Runs<'a>,
     name: &'a [u8],
     kept: Result<KeptRun, Code>,
@@ -78,32 +99,31 @@ fn row_of<'a>(
     ensures row { (run : List ℕ → Option (Result Drawing CodeOf)) → run name.now ≡ Some (drawing_kept kept) → IfOk result (IsRow run name.now) }
     ensures kept { OnOk result ((g : List ℕ) → run_kept runs.new g ≡ (if bytes_eq g name.now && stays name.now (Some (drawing_kept kept)) then Some kept else run_kept runs.old g)) }
 {
-    if is_staying(name, &kept) {
+    let row = row_by(alloc, name, &kept)?;
+    if is_staying(standard, name, &kept) {
         runs.keep(name, kept)?;
-        return Ok(Row::Waiting(name));
     }
-    match kept {
-        Ok(run) => Ok(Row::Measured(plain_metrics(alloc, name, &run)?)),
-        Err(code) => Ok(Row::Faulty(name, code)),
-    }
+    Ok(row)
 }
 
-/// What one glyph after another uses again: memory for the commands of a body and for the segments of a run, and the count of
-/// runs.
+/// What one glyph after another uses again: the names of StandardEncoding, memory for the commands of a body and for the segments
+/// of a run, and the count of runs.
 #[derive(Drop)]
 pub(crate) struct Scratch {
+    standard: StandardNames,
     body: Vec<Command>,
     room: Vec<Segment>,
     meter: Meter,
 }
 
 impl Scratch {
-    pub(crate) fn new(alloc: Global) -> Scratch {
-        Scratch {
+    pub(crate) fn new(alloc: Global) -> Result<Scratch, AllocError> {
+        Ok(Scratch {
+            standard: StandardNames::new(alloc)?,
             body: Vec::new(alloc),
             room: Vec::new(alloc),
             meter: Meter::new(),
-        }
+        })
     }
 }
 
@@ -148,5 +168,5 @@ pub(crate) fn glyph_turn<'a>(
         &mut scratch.room,
         &mut scratch.meter,
     )?;
-    Ok(row_of(alloc, runs, name, kept)?)
+    Ok(row_of(alloc, &scratch.standard, runs, name, kept)?)
 }

@@ -6,23 +6,24 @@ ghost use Rattle.std.specs.Str.{bytes_eq};
 ghost use Rattle.t1_frac.specs.Outcome.{Gives, reported_at};
 ghost use Rattle.t1_frac.specs.declared.fault.Place.TheVariants as places;
 ghost use Rattle.t1_frac.specs.declared.fault.Code.{Code as CodeOf};
-ghost use Rattle.t1_run.specs.Run.{Drawing, font, own};
+ghost use Rattle.t1_run.specs.Run.{Drawing, font};
 ghost use Rattle.t1_font.specs.Bodies.{bodies_check, body_check, subr_in};
 ghost use Rattle.t1_font.specs.Glyphs.{glyph_names, name_in};
-ghost use Rattle.t1_font.specs.InTurn.{staying, AreRows, IsFirstOfName, IsRow, RunsAs, RunsStay};
+ghost use Rattle.t1_font.specs.InTurn.{staying, AreRows, AreTurnsOf, IsFirstOfName, IsRow, RunsAs, RunsStay};
 ghost use Rattle.t1_font.specs.MeasuredGlyphs.{glyph_metrics_among, glyph_metrics_at, measured};
 ghost use Rattle.t1_font.specs.Names.{has_name};
 ghost use Rattle.t1_font.specs.SourceChecks.{measured_source};
 ghost use Rattle.t1_font.specs.Assembly.{file_check};
 ghost use Rattle.t1_parts.specs.declared.item.Item.{Item as ItemOf};
 ghost use Rattle.t1_font.specs.Runs.{kept_of};
-ghost use Rattle.t1_font.specs.ToRun.{font_to_run, glyph_to_run, subr_stored, SubrsStandFirst};
+ghost use Rattle.t1_font.specs.ToRun.{glyph_to_run, subr_stored, SubrsStandFirst};
 
 use crate::glyph_metrics::{GlyphMetrics, placed_metrics};
 use crate::glyphs::{MeasuredGlyphs, name_of};
 use crate::in_turn::{Row, Scratch, glyph_turn};
 use crate::kern::add_name;
 use crate::lengths::{check_counts, check_length};
+use crate::reported::Rows;
 use crate::runs::Runs;
 use crate::source_bodies::SourceBodies;
 use crate::subr_bodies::SubrBodies;
@@ -57,7 +58,7 @@ fn names_of<'a>(alloc: Global, items: &'a [Item]) -> Result<IndexSet<&'a [u8]>, 
 #[derive(Drop)]
 struct Turns<'a> {
     subrs: SubrBodies,
-    rows: Vec<Row<'a>>,
+    rows: Rows<'a>,
     /// The runs that stay.
     runs: Runs<'a>,
     scratch: Scratch,
@@ -67,14 +68,14 @@ impl<'a> Turns<'a> {
     /// Of no items, with room for what is reported of so many glyphs.
     fn new(alloc: Global, glyphs: usize) -> Result<Self, AllocError>
         ensures subrs { IfOk result (λ turns. (n : ℕ) → subr_stored turns.subrs n ≡ None) }
-        ensures rows { IfOk result (λ turns. turns.rows.items ≡ []) }
+        ensures rows { IfOk result (λ turns. turns.rows ≡ []) }
         ensures runs { IfOk result (λ turns. turns.runs ≡ []) }
     {
         Ok(Turns {
             subrs: SubrBodies::new(alloc),
-            rows: Vec::with_capacity(alloc, glyphs)?,
+            rows: Rows::with_room(alloc, glyphs)?,
             runs: Runs::new(alloc),
-            scratch: Scratch::new(alloc),
+            scratch: Scratch::new(alloc)?,
         })
     }
 
@@ -90,7 +91,7 @@ impl<'a> Turns<'a> {
         requires first { IsFirstOfName items.now item.now }
         ensures checked { Gives (λ x. x) result (body_check item.now) }
         ensures subrs { OnOk result ((n : ℕ) → subr_stored self.new.subrs n ≡ option_or (subr_stored self.old.subrs n) (subr_in item.now n)) }
-        ensures rows { (run : List ℕ → Option (Result Drawing CodeOf)) (gs : List (List ℕ)) → RunsAs item.now run (font (subr_stored self.old.subrs) (glyph_to_run items.now)) → AreRows run gs self.old.rows.items → OnOk result (AreRows run (gs ++ name_in item.now) self.new.rows.items) }
+        ensures rows { (run : List ℕ → Option (Result Drawing CodeOf)) (gs : List (List ℕ)) → RunsAs item.now run (font (subr_stored self.old.subrs) (glyph_to_run items.now)) → AreRows run gs self.old.rows → OnOk result (AreRows run (gs ++ name_in item.now) self.new.rows) }
         ensures runs { (run : List ℕ → Option (Result Drawing CodeOf)) (gs : List (List ℕ)) → RunsAs item.now run (font (subr_stored self.old.subrs) (glyph_to_run items.now)) → ((g : List ℕ) → kept_of self.old.runs g ≡ staying run gs g) → OnOk result ((g : List ℕ) → kept_of self.new.runs g ≡ staying run (gs ++ name_in item.now) g) }
     {
         match item {
@@ -124,8 +125,7 @@ fn turns_of<'a>(alloc: Global, items: &'a [Item]) -> Result<Turns<'a>, Refusal>
     requires firsts { All (IsFirstOfName items.now) items.now }
     requires subrs { SubrsStandFirst items.now }
     ensures checked { Gives (λ _. tt) result (bodies_check items.now) }
-    ensures rows { IfOk result (λ turns. AreRows (own (font_to_run items.now)) (glyph_names items.now) turns.rows.items) }
-    ensures runs { IfOk result (λ turns. (g : List ℕ) → kept_of turns.runs g ≡ staying (own (font_to_run items.now)) (glyph_names items.now) g) }
+    ensures turns { IfOk result (λ turns. AreTurnsOf items.now turns.rows turns.runs) }
 {
     let names = names_of(alloc, items)?;
     let mut turns = Turns::new(alloc, names.len())?;
@@ -154,12 +154,13 @@ fn metrics_of_row<'a>(alloc: Global, runs: &Runs, row: Row<'a>) -> Result<GlyphM
 fn metrics_of_rows<'a>(
     alloc: Global,
     runs: &Runs,
-    rows: Vec<Row<'a>>,
+    rows: Rows<'a>,
 ) -> Result<Vec<GlyphMetrics<'a>>, Refusal>
-    ensures { (run : List ℕ → Option (Result Drawing CodeOf)) (names : List (List ℕ)) → AreRows run names rows.entry.items → RunsStay run names runs.now → Gives (λ metrics. metrics.items) result (glyph_metrics_among run names) }
+    ensures { (run : List ℕ → Option (Result Drawing CodeOf)) (names : List (List ℕ)) → AreRows run names rows.entry → RunsStay run names runs.now → Gives (λ metrics. metrics.items) result (glyph_metrics_among run names) }
 {
-    let mut metrics = Vec::with_capacity(alloc, rows.len())?;
-    for row in rows {
+    let Rows { measured, rest } = rows;
+    let mut metrics = measured;
+    for row in rest {
         metrics.push(metrics_of_row(alloc, runs, row)?)?;
     }
     Ok(metrics)
@@ -173,8 +174,7 @@ fn checked_turns<'a>(alloc: Global, source: &'a Source) -> Result<Turns<'a>, Ref
     requires subrs { SubrsStandFirst source.now.items }
     ensures file { Gives (λ _. tt) result (file_check source.now) }
     ensures no_fault { IfOk result (λ _. bodies_check source.now.items ≡ Ok tt) }
-    ensures rows { IfOk result (λ turns. AreRows (own (font_to_run source.now.items)) (glyph_names source.now.items) turns.rows.items) }
-    ensures runs { IfOk result (λ turns. (g : List ℕ) → kept_of turns.runs g ≡ staying (own (font_to_run source.now.items)) (glyph_names source.now.items) g) }
+    ensures turns { IfOk result (λ turns. AreTurnsOf source.now.items turns.rows turns.runs) }
 {
     let turns = turns_of(alloc, source.items())?;
     check_length(alloc, source)?;
@@ -184,7 +184,7 @@ fn checked_turns<'a>(alloc: Global, source: &'a Source) -> Result<Turns<'a>, Ref
 
 /// What is measured of these glyphs, and the box around those that draw, or the first fault of a glyph.
 fn measured_turns<'a>(alloc: Global, turns: Turns<'a>) -> Result<MeasuredGlyphs<'a>, Refusal>
-    ensures { (items : List ItemOf) → bodies_check items ≡ Ok tt → AreRows (own (font_to_run items)) (glyph_names items) turns.entry.rows.items → ((g : List ℕ) → kept_of turns.entry.runs g ≡ staying (own (font_to_run items)) (glyph_names items) g) → Gives (λ glyphs. glyphs) result (measured items) }
+    ensures { (items : List ItemOf) → bodies_check items ≡ Ok tt → AreTurnsOf items turns.entry.rows turns.entry.runs → Gives (λ glyphs. glyphs) result (measured items) }
 {
     let Turns { rows, runs, .. } = turns;
     let metrics = metrics_of_rows(alloc, &runs, rows)?;

@@ -36,19 +36,19 @@ loop-item-preserved c =
       checked = sym (ap (λ r. r >>= (λ _. bodies_check rest)) c.in_ok-take.ensures.checked) ∙ sym (ap bodies_check split) ∙ c.loop-item.invariant.checked;
       subrs = λ n.
           ap (λ r. option_or r (subr_among rest n)) (c.in_ok-take.ensures.subrs n) ∙ or-assoc (subrs n) (subr_in item n) (subr_among rest n) ∙ left n;
-      rows = subst (λ gs. AreRows run gs c.take.new.self.rows.items) (sym names) (c.in_ok-take.ensures.rows run (glyph_names (take i items)) as_font c.loop-item.invariant.rows);
+      rows = subst (λ gs. AreRows run gs c.take.new.self.rows) (sym names) (c.in_ok-take.ensures.rows run (glyph_names (take i items)) as_font c.loop-item.invariant.rows);
       runs = λ g. c.in_ok-take.ensures.runs run (glyph_names (take i items)) as_font c.loop-item.invariant.runs g ∙ sym (ap (λ gs. staying run gs g) names);
     }
 
-pub returns-clause-rows : goal.returns-clause-rows
-returns-clause-rows c =
+pub returns-clause-turns : goal.returns-clause-turns
+returns-clause-turns c =
     let items = c.args.items.now in
-    subst (λ l. AreRows (own (font_to_run items)) (glyph_names l) c.loop-item.turns.rows.items) (take_all c.loop-item.item-index items (omega arith)) c.loop-item.invariant.rows
-
-pub returns-clause-runs : goal.returns-clause-runs
-returns-clause-runs c = λ g.
-    let items = c.args.items.now in
-    c.loop-item.invariant.runs g ∙ ap (λ l. staying (own (font_to_run items)) (glyph_names l) g) (take_all c.loop-item.item-index items (omega arith))
+    let run = own (font_to_run items) in
+    let whole = take_all c.loop-item.item-index items (omega arith) in
+    record {
+      rows = subst (λ l. AreRows run (glyph_names l) c.loop-item.turns.rows) whole c.loop-item.invariant.rows;
+      runs = λ g. c.loop-item.invariant.runs g ∙ ap (λ l. staying run (glyph_names l) g) whole;
+    }
 
 pub returns-in_err-take-clause-checked : goal.returns-in_err-take-clause-checked
 returns-in_err-take-clause-checked c =

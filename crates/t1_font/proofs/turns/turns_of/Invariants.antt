@@ -13,6 +13,6 @@ abbrev pub invariant-loop-item : goal.invariant-loop-item
 invariant-loop-item l = record {
   checked : bodies_check (drop l.item-index l.items) ≡ bodies_check l.items;
   subrs : (n : ℕ) → option_or (subr_stored l.turns.subrs n) (subr_among (drop l.item-index l.items) n) ≡ subr_among l.items n;
-  rows : AreRows (own (font_to_run l.items)) (glyph_names (take l.item-index l.items)) l.turns.rows.items;
+  rows : AreRows (own (font_to_run l.items)) (glyph_names (take l.item-index l.items)) l.turns.rows;
   runs : (g : List ℕ) → kept_of l.turns.runs g ≡ staying (own (font_to_run l.items)) (glyph_names (take l.item-index l.items)) g;
 }

@@ -11,8 +11,8 @@ returns-in_ok-push-in-Glyph-clause-rows c = λ run. λ gs. λ runs. λ before.
     let is = c.in-Glyph.is in
     let m = font (subr_stored c.args.self.now.subrs) (glyph_to_run c.args.items.now) in
     let own = subst (λ item. RunsAs item run m) is runs in
-    rw (is, c.in_ok-push-in-Glyph.ensures.items)
-    (rows-more run gs c.in-Glyph.name c.args.self.now.rows.items c.in_ok-row-in-Glyph.row before
+    rw (is, c.in_ok-push-in-Glyph.ensures)
+    (rows-more run gs c.in-Glyph.name c.args.self.now.rows c.in_ok-row-in-Glyph.row before
     (subst (λ name. Rattle.t1_font.specs.InTurn.IsRow run name c.in_ok-row-in-Glyph.row) c.as_slice.ensures
     (c.in_ok-row-in-Glyph.ensures.row run (subst (λ name. run name ≡ Rattle.t1_run.specs.Run.own m name) (sym c.as_slice.ensures) own))))
 
