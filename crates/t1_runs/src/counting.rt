@@ -40,9 +40,7 @@ fn count_step<W: Write>(
     line: &[u8],
     out: &mut W,
 ) -> Result<(), Stop> {
-    let Some(step) = step_of(alloc, line)? else {
-        return Err(Stop::NoStep);
-    };
+    let step = step_of(alloc, line)?;
     let outcome = outcome(perform(session, step))?;
     let runs = session.runs();
     write!(out, "{runs} {outcome}\n")?;

@@ -155,9 +155,7 @@ fn try_step<W: Write>(
     line: &[u8],
     out: &mut W,
 ) -> Result<(), Stop> {
-    let Some(step) = step_of(alloc, line)? else {
-        return Err(Stop::NoStep);
-    };
+    let step = step_of(alloc, line)?;
     let answer = answer_of(performed(alloc, session, step, out)?)?;
     out.write_all(&text_of(alloc, &answer)?)?;
     put_prints(alloc, session, out)

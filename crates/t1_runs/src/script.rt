@@ -1,6 +1,7 @@
 //! The steps of a script, one a line: the commands of a session that edit, where the words of a body stand after the name
 //! or the number of its entry.
 
+use crate::stop::Stop;
 use std::alloc::{AllocError, Global};
 use t1_frac::{Bytes, next_word, number_word};
 use t1_source::Edit;
@@ -107,16 +108,17 @@ fn edit_of(alloc: Global, words: &Words<'_>) -> Result<Option<Edit>, AllocError>
     }
 }
 
-/// The step of a line, where it is one.
-pub fn step_of(alloc: Global, line: &[u8]) -> Result<Option<Step>, AllocError> {
+/// The step of a line.
+pub fn step_of(alloc: Global, line: &[u8]) -> Result<Step, Stop> {
     let words = words_of(line);
     if words.verb == b"begin".as_slice() {
-        Ok(Some(Step::Begin))
+        Ok(Step::Begin)
     } else if words.verb == b"commit".as_slice() {
-        Ok(Some(Step::Commit))
+        Ok(Step::Commit)
     } else if words.verb == b"abort".as_slice() {
-        Ok(Some(Step::Abort))
+        Ok(Step::Abort)
     } else {
-        Ok(edit_of(alloc, &words)?.map(Step::Edit))
+        let edit = edit_of(alloc, &words)?.ok_or(Stop::NoStep)?;
+        Ok(Step::Edit(edit))
     }
 }

@@ -1,11 +1,26 @@
 //! How many runs the commits of batches make, and edits under nested accents, on the demo font. The counts are those of the
 //! dependents of all edits together, by hand.
-use crate::runs::{demo, glyph_edit, subr_edit, uses};
+use crate::runs::{apply, demo, glyph_edit, runs, subr_edit, uses};
 use std::alloc::Global;
 use std::test::Fail;
 use t1_frac::{Bytes, Code, Place};
 use t1_session::Session;
 use t1_source::{Cause, Edit, Rule};
+
+/// Begins a batch.
+fn begin(session: &mut Session) -> Result<(), Cause> {
+    session.begin()
+}
+
+/// Commits a batch.
+fn commit(session: &mut Session) -> Result<(), Cause> {
+    session.commit()
+}
+
+/// Aborts a batch.
+fn abort(session: &mut Session) -> Result<(), Cause> {
+    session.abort()
+}
 
 /// Another glyph.
 fn new_glyph(alloc: Global, name: &[u8], body: &[u8]) -> Result<Edit, Fail> {
@@ -21,13 +36,13 @@ fn no_glyph(alloc: Global, name: &[u8]) -> Result<Edit, Fail> {
 /// The counts at the opening, in a batch whose first edit of Subr 4 has a fault, and after its commit.
 fn mended(alloc: Global) -> Result<[u64; 3], Fail> {
     let mut session = demo(alloc)?;
-    let opened = session.runs();
-    session.begin()?;
-    session.apply(subr_edit(alloc, 4, b"1 0 div return")?)?;
-    session.apply(subr_edit(alloc, 4, b"50 50 rlineto return")?)?;
-    let drafted = session.runs();
-    session.commit()?;
-    Ok([opened, drafted, session.runs()])
+    let opened = runs(&session);
+    begin(&mut session)?;
+    apply(&mut session, subr_edit(alloc, 4, b"1 0 div return")?)?;
+    apply(&mut session, subr_edit(alloc, 4, b"50 50 rlineto return")?)?;
+    let drafted = runs(&session);
+    commit(&mut session)?;
+    Ok([opened, drafted, runs(&session)])
 }
 
 #[test]
@@ -40,11 +55,14 @@ fn a_commit_runs_once_what_two_edits_touch(rt: HostRuntime) -> Result<(), Fail> 
 /// The usage table after a batch that removes a glyph and adds it again, and the count of runs.
 fn moved(alloc: Global) -> Result<(Vec<u8>, u64), Fail> {
     let mut session = demo(alloc)?;
-    session.begin()?;
-    session.apply(no_glyph(alloc, b"A")?)?;
-    session.apply(new_glyph(alloc, b"A", b"10 600 hsbw 50 hlineto endchar")?)?;
-    session.commit()?;
-    Ok((uses(alloc, &session)?, session.runs()))
+    begin(&mut session)?;
+    apply(&mut session, no_glyph(alloc, b"A")?)?;
+    apply(
+        &mut session,
+        new_glyph(alloc, b"A", b"10 600 hsbw 50 hlineto endchar")?,
+    )?;
+    commit(&mut session)?;
+    Ok((uses(alloc, &session)?, runs(&session)))
 }
 
 #[test]
@@ -61,9 +79,9 @@ fn a_glyph_that_was_added_again_is_last(rt: HostRuntime) -> Result<(), Fail> {
 /// What a commit is answered that takes a glyph from under a composite, and the usage table after it.
 fn refused(alloc: Global) -> Result<(Result<(), Cause>, Vec<u8>), Fail> {
     let mut session = demo(alloc)?;
-    session.begin()?;
-    session.apply(no_glyph(alloc, b"acute")?)?;
-    let answer = session.commit();
+    begin(&mut session)?;
+    apply(&mut session, no_glyph(alloc, b"acute")?)?;
+    let answer = commit(&mut session);
     Ok((answer, uses(alloc, &session)?))
 }
 
@@ -81,12 +99,18 @@ fn a_refused_commit_leaves_all_as_before(rt: HostRuntime) -> Result<(), Fail> {
 /// The counts after a composite on accents is added, another stands on it, and the Subr under all of them changes.
 fn nested(alloc: Global) -> Result<[u64; 3], Fail> {
     let mut session = demo(alloc)?;
-    session.apply(new_glyph(alloc, b"dieresis", b"93 333 hsbw 93 50 0 194 194 seac")?)?;
-    let added = session.runs();
-    session.apply(glyph_edit(alloc, b"Aacute", b"10 600 hsbw 93 170 214 65 200 seac")?)?;
-    let replaced = session.runs();
-    session.apply(subr_edit(alloc, 4, b"50 50 rlineto return")?)?;
-    Ok([added, replaced, session.runs()])
+    apply(
+        &mut session,
+        new_glyph(alloc, b"dieresis", b"93 333 hsbw 93 50 0 194 194 seac")?,
+    )?;
+    let added = runs(&session);
+    apply(
+        &mut session,
+        glyph_edit(alloc, b"Aacute", b"10 600 hsbw 93 170 214 65 200 seac")?,
+    )?;
+    let replaced = runs(&session);
+    apply(&mut session, subr_edit(alloc, 4, b"50 50 rlineto return")?)?;
+    Ok([added, replaced, runs(&session)])
 }
 
 #[test]
@@ -107,15 +131,15 @@ fn turn(session: &Session, answer: &Result<(), Cause>) -> (Option<Rule>, bool) {
 /// A batch closed, opened twice, and closed twice.
 fn turns(alloc: Global) -> Result<[(Option<Rule>, bool); 5], Fail> {
     let mut session = demo(alloc)?;
-    let answer = session.commit();
+    let answer = commit(&mut session);
     let committed = turn(&session, &answer);
-    let answer = session.begin();
+    let answer = begin(&mut session);
     let begun = turn(&session, &answer);
-    let answer = session.begin();
+    let answer = begin(&mut session);
     let begun_again = turn(&session, &answer);
-    let answer = session.abort();
+    let answer = abort(&mut session);
     let aborted = turn(&session, &answer);
-    let answer = session.abort();
+    let answer = abort(&mut session);
     let aborted_again = turn(&session, &answer);
     Ok([committed, begun, begun_again, aborted, aborted_again])
 }
@@ -146,7 +170,7 @@ const FOUR_DEEP: [(&[u8], &[u8]); 4] = [
 fn four_deep(alloc: Global) -> Result<Session<'static>, Fail> {
     let mut session = demo(alloc)?;
     for (name, body) in &FOUR_DEEP {
-        session.apply(new_glyph(alloc, name, body)?)?;
+        apply(&mut session, new_glyph(alloc, name, body)?)?;
     }
     Ok(session)
 }
@@ -154,9 +178,12 @@ fn four_deep(alloc: Global) -> Result<Session<'static>, Fail> {
 /// How many runs an edit of space makes under four composites.
 fn runs_four_deep(alloc: Global) -> Result<u64, Fail> {
     let mut session = four_deep(alloc)?;
-    let before = session.runs();
-    session.apply(glyph_edit(alloc, b"space", b"0 250 hsbw 10 hlineto endchar")?)?;
-    Ok(session.runs().saturating_sub(before))
+    let before = runs(&session);
+    apply(
+        &mut session,
+        glyph_edit(alloc, b"space", b"0 250 hsbw 10 hlineto endchar")?,
+    )?;
+    Ok(runs(&session).saturating_sub(before))
 }
 
 #[test]
@@ -180,8 +207,14 @@ fn is_too_deep(answer: &Result<(), Cause>, name: &[u8]) -> bool {
 /// Whether a fifth level is refused, above the four and below them.
 fn refuses_a_fifth(alloc: Global) -> Result<[bool; 2], Fail> {
     let mut session = four_deep(alloc)?;
-    let above = session.apply(new_glyph(alloc, b"e", b"0 100 hsbw 0 0 0 100 32 seac")?);
-    let below = session.apply(glyph_edit(alloc, b"space", b"0 250 hsbw 0 0 0 97 97 seac")?);
+    let above = apply(
+        &mut session,
+        new_glyph(alloc, b"e", b"0 100 hsbw 0 0 0 100 32 seac")?,
+    );
+    let below = apply(
+        &mut session,
+        glyph_edit(alloc, b"space", b"0 250 hsbw 0 0 0 97 97 seac")?,
+    );
     Ok([is_too_deep(&above, b"e"), is_too_deep(&below, b"space")])
 }
 

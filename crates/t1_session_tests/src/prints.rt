@@ -1,5 +1,5 @@
 //! Every print of a session after a kern.
-use crate::runs::{demo, uses};
+use crate::runs::{apply, demo, uses};
 use std::alloc::Global;
 use std::test::Fail;
 use t1_code::Counted;
@@ -12,7 +12,10 @@ use t1_test_fonts::DEMO_METRICS;
 fn kerned(alloc: Global) -> Result<Session<'static>, Fail> {
     let mut session = demo(alloc)?;
     let left = Bytes::copied(alloc, b"A")?;
-    session.apply(Edit::Kern(left, Bytes::copied(alloc, b"V")?, -92))?;
+    apply(
+        &mut session,
+        Edit::Kern(left, Bytes::copied(alloc, b"V")?, -92),
+    )?;
     Ok(session)
 }
 
