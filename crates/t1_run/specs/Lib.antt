@@ -1,5 +1,4 @@
 pub mod Composite
-pub mod Continuing
 pub mod Footprint
 pub mod Machine
 pub mod Operands
