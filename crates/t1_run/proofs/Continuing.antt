@@ -1,9 +1,9 @@
 -- A run with a stack of waiting bodies is the run that recurses.
-use Rattle.std.proofs.Common.{◌≡◌, ℕ, zero, suc, ◌+◌, ◌<◌, ◌≤◌, List, [], ◌∷◌, length, refl, sym, ◌∙◌, ap, arith, Option, Some, None}
+use Rattle.std.proofs.Common.{◌≡◌, ℕ, zero, suc, ◌+◌, ◌<◌, ◌≤◌, List, [], ◌∷◌, length, refl, subst, sym, ◌∙◌, ap, arith, Option, Some, None}
 use Rattle.std.specs.Prelude.{Result, Ok, Err}
 use Rattle.t1_frac.specs.Outcome.{Refuses, reported_at, fault_at}
 use Rattle.t1_frac.specs.declared.fault.Code.{Code}
-use Rattle.t1_frac.specs.declared.fault.Code.TheVariants.{F32, F33}
+use Rattle.t1_frac.specs.declared.fault.Code.TheVariants.{F32, F33, F34, F35}
 use Rattle.t1_frac.specs.declared.fault.Place.TheVariants.{Nowhere}
 use Rattle.t1_frac.specs.declared.fault.Refusal.{Refusal}
 use Rattle.t1_frac.specs.declared.fault.Refusal.TheVariants as refusals
@@ -11,22 +11,11 @@ use Rattle.t1_code.specs.declared.command.Command.{Command}
 use Rattle.t1_run.specs.declared.outline.Accent.{Accent}
 use Rattle.t1_run.specs.declared.outline.Composite.{Composite}
 use Rattle.t1_run.specs.State.{State, initial}
-use Rattle.t1_run.specs.Step.{Call, Back, End, Compose, Fault}
+use Rattle.t1_run.specs.Step.{Next, Call, Back, End, Compose, Fault}
 use Rattle.t1_run.specs.Words.{step}
 use Rattle.t1_run.specs.Machine.{RefusesStep}
-use Rattle.t1_run.specs.Run.{FontBodies, Key, Subr, Progress, reached, Stop, Completed, Failed, go_on, act, words, call_within, called, too_deep, composed, composite_of, asking_parts, encoded, runs, entering, body_stop, drawing_of, outcome_of}
-
--- where a body stopped, the bodies that wait go on, the innermost first; `levels` is what was left there
-abbrev pub resume : FontBodies → ℕ → List (List Command) → Stop → Stop
-resume m levels [] e = e
-resume m levels (rest ∷ waiting) e = resume m (suc levels) waiting (go_on (runs m (suc levels) rest) e)
-
--- the present rest from the present state, and then the bodies that wait, stop as the whole body does
-pub record Continues (m : FontBodies) (body rest : List Command) (waiting : List (List Command)) (s : State) : Type 0 where
-  pub levels : ℕ
-  pub asked : List Key
-  pub room : levels + length waiting ≡ 10
-  pub same : resume m levels waiting (runs m levels rest (reached s asked)) ≡ body_stop m body
+use Rattle.t1_run.specs.Continuing.{Continues, resume}
+use Rattle.t1_run.specs.Run.{FontBodies, Key, Subr, Progress, reached, Completed, Failed, go_on, act, words, call_within, called, too_deep, composed, composite_of, asking_parts, encoded, runs, entering, body_stop, drawing_of, outcome_of}
 
 resume-completed : (m : FontBodies) (levels : ℕ) (waiting : List (List Command)) (composite : Option Composite) (p : Progress)
     → resume m levels waiting (Completed composite p) ≡ Completed composite p
@@ -37,6 +26,16 @@ resume-failed : (m : FontBodies) (levels : ℕ) (waiting : List (List Command)) 
     → resume m levels waiting (Failed fault asked) ≡ Failed fault asked
 resume-failed m levels [] fault asked = refl
 resume-failed m levels (rest ∷ waiting) fault asked = resume-failed m (suc levels) waiting fault asked
+
+-- ---- the same rest, by another name
+
+pub at_rest : {m : FontBodies} {body rest rest' : List Command} {waiting : List (List Command)} {s : State}
+    → Continues m body rest waiting s → rest ≡ rest' → Continues m body rest' waiting s
+at_rest {m = m} {body = body} {waiting = waiting} {s = s} h e = subst (λ r. Continues m body r waiting s) e h
+
+pub at_waiting : {m : FontBodies} {body rest : List Command} {waiting waiting' : List (List Command)} {s : State}
+    → Continues m body rest waiting s → waiting ≡ waiting' → Continues m body rest waiting' s
+at_waiting {m = m} {body = body} {rest = rest} {s = s} h e = subst (λ w. Continues m body rest w s) e h
 
 -- ---- the run goes on
 
@@ -51,6 +50,15 @@ Continues-back {m = m} {cs = cs} {rest = rest} {waiting = waiting} {s' = s'} h e
   asked = h.asked;
   room = omega (arith, h.room);
   same = sym (ap (λ t. resume m h.levels (rest ∷ waiting) (act m (call_within m h.levels) (runs m h.levels cs) t h.asked)) e) ∙ h.same;
+}
+
+pub Continues-next : {m : FontBodies} {body cs : List Command} {waiting : List (List Command)} {s s' : State} {c : Command}
+    → Continues m body (c ∷ cs) waiting s → step c s ≡ Next s' → Continues m body cs waiting s'
+Continues-next {m = m} {cs = cs} {waiting = waiting} {s' = s'} h e = record {
+  levels = h.levels;
+  asked = h.asked;
+  room = h.room;
+  same = sym (ap (λ t. resume m h.levels waiting (act m (call_within m h.levels) (runs m h.levels cs) t h.asked)) e) ∙ h.same;
 }
 
 -- a call of a Subr that the maps have, with room for it
@@ -92,6 +100,15 @@ outcome-fault {m = m} {cs = cs} {waiting = waiting} {fault = fault} h e =
     ap outcome_of (sym h.same
     ∙ ap (λ t. resume m h.levels waiting (act m (call_within m h.levels) (runs m h.levels cs) t h.asked)) e
     ∙ resume-failed m h.levels waiting fault h.asked)
+
+-- the last word of the glyph's own body, and a return there
+pub outcome-over : {m : FontBodies} {body : List Command} {s : State} → Continues m body [] [] s → outcome_of (body_stop m body) ≡ Err F35
+outcome-over h = ap outcome_of (sym h.same)
+
+pub outcome-back : {m : FontBodies} {body cs : List Command} {s s' : State} {c : Command}
+    → Continues m body (c ∷ cs) [] s → step c s ≡ Back s' → outcome_of (body_stop m body) ≡ Err F34
+outcome-back {m = m} {cs = cs} h e =
+    ap outcome_of (sym h.same ∙ ap (λ t. act m (call_within m h.levels) (runs m h.levels cs) t h.asked) e)
 
 -- a call, where so many levels are left, of a Subr that the maps lack
 missing_at : (m : FontBodies) (body cs : List Command) (waiting : List (List Command)) (s s' : State) (c : Command) (n : ℕ)

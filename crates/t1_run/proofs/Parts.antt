@@ -1,15 +1,15 @@
 -- The parts of a run's composite have names of StandardEncoding.
-use Rattle.std.proofs.Common.{◌≡◌, ℕ, zero, suc, List, [], ◌∷◌, Option, Some, None, refl, sym, ap, subst}
+use Rattle.std.proofs.Common.{◌≡◌, ℕ, zero, suc, List, [], ◌∷◌, Option, Some, None, refl, subst}
 use Rattle.std.specs.Prelude.{Result, Ok, Err, IfSome}
 use Rattle.t1_frac.specs.declared.fault.Code.{Code}
 use Rattle.t1_code.specs.declared.command.Command.{Command}
 use Rattle.t1_run.specs.declared.outline.Composite.{Composite}
 use Rattle.t1_run.specs.declared.outline.Metric.{Metric}
 use Rattle.t1_run.specs.Composite.{HasStandardParts}
-use Rattle.t1_run.specs.State.{State, initial}
+use Rattle.t1_run.specs.State.{initial}
 use Rattle.t1_run.specs.Step.{Step, Next, Call, Back, End, Compose, Fault}
 use Rattle.t1_run.specs.Words.{step}
-use Rattle.t1_run.specs.Run.{FontBodies, Key, Subr, Progress, Stop, OutOfWords, Returned, Completed, Failed, Runner, Caller, Drawing, reached, entering, encoded, asking_parts, composite_of, composed, go_on, act, words, called, too_deep, call_within, runs, body_stop, drawing_of, outcome_of, own, own_of}
+use Rattle.t1_run.specs.Run.{FontBodies, Key, Subr, Progress, Stop, OutOfWords, Returned, Completed, Failed, Runner, Caller, Drawing, reached, entering, encoded, asking_parts, composite_of, composed, go_on, act, words, called, too_deep, call_within, body_stop, drawing_of, outcome_of, own, own_of}
 use Rattle.t1_run.proofs.Naming.{standard_parts}
 
 -- so do those of a stop

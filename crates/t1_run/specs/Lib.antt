@@ -1,4 +1,5 @@
 pub mod Composite
+pub mod Continuing
 pub mod Footprint
 pub mod Machine
 pub mod Operands

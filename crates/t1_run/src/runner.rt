@@ -1,9 +1,11 @@
 //! The run of a glyph's own body.
 
-ghost use Rattle.std.specs.Prelude.{◌≡◌, ◌+◌, ◌-◌, ◌^◌, [], ℕ, List, Some, min, IsSome, IfOk};
+ghost use Rattle.std.specs.Prelude.{◌≡◌, ◌+◌, ◌-◌, ◌^◌, ◌<◌, ◌≤◌, [], ℕ, List, Some, min, IsSome, IfOk, IfSome};
 ghost use Rattle.t1_frac.specs.Outcome.{Gives, reported_at};
-ghost use Rattle.t1_run.specs.Machine.{GivesOwn};
-ghost use Rattle.t1_run.specs.Run.{body_stop, outcome_of, own, font};
+ghost use Rattle.t1_code.specs.declared.command.Command.{Command as CommandOf};
+ghost use Rattle.t1_run.specs.Continuing.{Comes, Continues};
+ghost use Rattle.t1_run.specs.Machine.{state_of, GivesOwn};
+ghost use Rattle.t1_run.specs.Run.{FontBodies, body_stop, outcome_of, own, font};
 
 use crate::bodies::{Bodies, StoredBodies};
 use crate::meter::Meter;
@@ -15,6 +17,28 @@ use crate::state::{Control, State};
 use std::alloc::Global;
 use t1_code::Command;
 use t1_frac::{Code, Place, Refusal};
+
+/// Executes commands up to the first that asks for more than the next one: what it asks for, and the commands after it; nothing after
+/// the last command. It stands apart from what asks a font for its bodies, so that a step is compiled once, whatever the font is.
+#[inline(never)]
+fn run_commands<'a>(
+    state: &mut State,
+    body: &'a [Command],
+) -> Result<Option<(Control, &'a [Command])>, Refusal>
+    ensures comes { (m : FontBodies) (own : List CommandOf) (waiting : List (List CommandOf)) → Continues m own body.now waiting (state_of state.old) → Comes m own waiting result state.new }
+    ensures counted { IfOk result (λ asked. IfSome asked (λ _. state.old.steps < state.new.steps)) }
+    ensures kept { IfOk result (λ _. state.old.steps ≤ state.new.steps) }
+    ensures bounded { IfOk result (λ asked. IfSome asked (λ _. state.new.steps ≤ 100000)) }
+{
+    let mut rest = body;
+    while let Some((command, tail)) = rest.split_first() {
+        match state.step(*command)? {
+            Control::Next => rest = tail,
+            control => return Ok(Some((control, tail))),
+        }
+    }
+    Ok(None)
+}
 
 /// Runs a body to its endchar or seac.
 fn run_body<'a, B: Bodies>(
@@ -35,11 +59,11 @@ fn run_body<'a, B: Bodies>(
     let mut returns = ReturnStack::new();
     let mut rest = body;
     'words: loop {
-        let Some((command, tail)) = rest.split_first() else {
+        let Some((control, tail)) = run_commands(&mut state, rest)? else {
             rest = returns.pop().ok_or(Code::F35)?;
             continue;
         };
-        match state.step(*command)? {
+        match control {
             Control::Next => rest = tail,
             Control::Call(n) => {
                 let called = bodies.subr(n).ok_or(Code::F32)?;
