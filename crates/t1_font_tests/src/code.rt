@@ -4,8 +4,8 @@ use std::io::{self, ErrorKind, Write};
 use std::test::Fail;
 use t1_code::{
     Counted, MAX_PUT, OutError, Parts, Piece, WHOLE_PARTS, assemble, charstring_of, compile,
-    encrypt, encrypted_charstring, is_standard_name, pfa_len, pfb_len, standard_name, write_pfa,
-    write_pfb,
+    encrypt, encrypted_charstring, is_standard_name, pfa_len, pfb_len, standard_name,
+    standard_table, write_pfa, write_pfb,
 };
 use t1_frac::Words;
 
@@ -41,6 +41,19 @@ fn encrypts(rt: HostRuntime) -> Result<(), Fail> {
 fn names_codes(rt: HostRuntime) -> Result<(), Fail> {
     assert_eq!(rt; standard_name(251), Some("germandbls"));
     assert_eq!(rt; standard_name(201), None);
+    Ok(())
+}
+
+#[test]
+fn lists_standard_names(rt: HostRuntime) -> Result<(), Fail> {
+    let table = standard_table();
+    assert_eq!(rt; table.len(), 149);
+    for (code, name) in table {
+        assert_eq!(rt; standard_name(*code), Some(*name));
+    }
+    for row in [(32, "space"), (39, "quoteright"), (169, "quotesingle"), (251, "germandbls")] {
+        assert!(rt; table.iter().any(|listed| *listed == row));
+    }
     Ok(())
 }
 

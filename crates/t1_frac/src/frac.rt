@@ -6,6 +6,7 @@ ghost use Rattle.t1_frac.specs.Fraction.{whole as whole_of, gcd as gcd_of, IsLow
 ghost use Rattle.t1_frac.specs.Limits.{IsCoordinate, coordinate_sum, coordinate_difference, quotient, within};
 ghost use Rattle.t1_frac.specs.declared.fault.Code.TheVariants.{F40};
 
+use crate::division::{floor_quotient, quotient, signed_quotient};
 use crate::fault::Code;
 use crate::gcd::{gcd, gcd_64};
 use std::cmp::Ordering;
@@ -48,7 +49,7 @@ fn in_lowest_terms(num: i64, den: u64) -> (i64, u64)
     if divisor == 1 {
         return (num, den);
     }
-    (num / divisor as i64, den / divisor)
+    (signed_quotient(num, divisor), quotient(den, divisor))
 }
 
 /// The same in 128 bits.
@@ -368,7 +369,7 @@ impl Frac {
     pub fn floor(&self) -> i64
         ensures { result ≡ floor_of self.now }
     {
-        self.num.div_euclid(i64::from(self.den))
+        floor_quotient(self.num, self.den)
     }
 
     /// The least whole number that isn't below it.

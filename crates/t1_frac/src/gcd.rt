@@ -3,6 +3,8 @@
 ghost use Rattle.std.specs.Prelude.{◌≡◌, true};
 ghost use Rattle.t1_frac.specs.Fraction.{gcd as gcd_of, IsSmallPrime};
 
+use crate::division::remainder;
+
 /// The greatest common divisor, by Euclid's algorithm.
 pub(crate) fn gcd(a: u128, b: u128) -> u128
     ensures { result ≡ gcd_of a b }
@@ -35,7 +37,7 @@ pub(crate) fn gcd_64(a: u64, b: u64) -> u64
     let mut x = a;
     let mut y = b;
     while y > 1 {
-        let rest = x % y;
+        let rest = remainder(x, y);
         if rest > 0 && is_small_prime(y) {
             return 1;
         }

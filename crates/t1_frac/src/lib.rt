@@ -3,6 +3,7 @@
 #![tactic(auto)]
 
 mod bytes;
+mod division;
 mod fault;
 mod frac;
 mod gcd;

@@ -11,7 +11,7 @@ use t1_code::Counted;
 use t1_session::ServeError;
 
 /// How many bytes a reader is asked for at a time.
-const BUFFER_LEN: usize = 16_384;
+const BUFFER_LEN: usize = 8_192;
 
 /// The word that names standard input in place of a file.
 const STANDARD_INPUT: &str = "-";
