@@ -32,6 +32,12 @@ fn run_commands<'a>(
 {
     let mut rest = body;
     while let Some((command, tail)) = rest.split_first() {
+        // most words are numbers, after which nothing is asked for
+        if let Command::Num(number) = command {
+            state.step_by_number(*number)?;
+            rest = tail;
+            continue;
+        }
         match state.step(*command)? {
             Control::Next => rest = tail,
             control => return Ok(Some((control, tail))),

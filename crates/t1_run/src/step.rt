@@ -5,6 +5,7 @@ ghost use Rattle.t1_frac.specs.Limits.{exceeds};
 ghost use Rattle.t1_run.specs.Machine.{state_of, going_on, answered, reported, Reports};
 ghost use Rattle.t1_run.specs.Operands.{topmost, below, takes as takes_of, is_whole, operand_faults};
 ghost use Rattle.t1_run.specs.Step.{push as push_of, pop_result as pop_of, divide as divide_of, call as call_of, Call, Compose, Fault, with_stack};
+ghost use Rattle.t1_code.specs.declared.command.Command.TheVariants as Commands;
 ghost use Rattle.t1_run.specs.Words.{step as step_of, execute as execute_of, rule as rule_of, computes as computes_of, goes_on};
 
 use crate::checks::{check_operands, draws_or_ends, needs_bearing, sets_bearing, takes};
@@ -137,12 +138,12 @@ impl State {
             | Command::Hsbw
             | Command::Sbw
             | Command::SetCurrentPoint => Ok(self.place(command)?),
-            Command::ClosePath
-            | Command::HStem
+            Command::HStem
             | Command::VStem
             | Command::DotSection
             | Command::VStem3
-            | Command::HStem3 => {
+            | Command::HStem3
+            | Command::ClosePath => {
                 self.operands.clear();
                 Ok(())
             }
@@ -200,37 +201,51 @@ impl State {
         Ok(())
     }
 
-    /// The same. The commands that fonts have most are named, so that the compiler knows which tests each of them has.
-    #[inline(always)]
-    fn test_by_name(&self, command: Command) -> Result<(), Code>
-        ensures enough { OnOk result (takes_of command ≤ length self.now.operands) }
-        ensures faultless { OnOk result (operand_faults command (topmost (takes_of command) self.now.operands) ≡ None) }
-        ensures passed { OnOk result (execute_of command (state_of self.now) ≡ rule_of command (topmost (takes_of command) self.now.operands) (state_of self.now)) }
-        ensures refused { IfErr result (λ code. execute_of command (state_of self.now) ≡ Fault code) }
-    {
-        match command {
-            Command::RLineTo => self.test(Command::RLineTo),
-            Command::HLineTo => self.test(Command::HLineTo),
-            Command::VLineTo => self.test(Command::VLineTo),
-            Command::RRCurveTo => self.test(Command::RRCurveTo),
-            Command::VHCurveTo => self.test(Command::VHCurveTo),
-            Command::HVCurveTo => self.test(Command::HVCurveTo),
-            Command::RMoveTo => self.test(Command::RMoveTo),
-            Command::HMoveTo => self.test(Command::HMoveTo),
-            Command::VMoveTo => self.test(Command::VMoveTo),
-            Command::Div => self.test(Command::Div),
-            _ => self.test(command),
-        }
-    }
-
     /// A command by the order of its tests.
     #[inline(always)]
     fn execute(&mut self, command: Command) -> Result<Control, Refusal>
         ensures reported { Reports reported (execute_of command (state_of self.old)) result self.new }
         ensures steps { self.new.steps ≡ self.old.steps }
     {
-        self.test_by_name(command)?;
+        self.test(command)?;
         self.apply(command)
+    }
+
+    /// The same. The commands that fonts have most are named, so that the compiler knows which tests each of them has, and
+    /// which rule comes after them.
+    #[inline(always)]
+    fn execute_by_name(&mut self, command: Command) -> Result<Control, Refusal>
+        ensures reported { Reports reported (execute_of command (state_of self.old)) result self.new }
+        ensures steps { self.new.steps ≡ self.old.steps }
+    {
+        match command {
+            Command::RLineTo => self.execute(Command::RLineTo),
+            Command::HLineTo => self.execute(Command::HLineTo),
+            Command::VLineTo => self.execute(Command::VLineTo),
+            Command::RRCurveTo => self.execute(Command::RRCurveTo),
+            Command::VHCurveTo => self.execute(Command::VHCurveTo),
+            Command::HVCurveTo => self.execute(Command::HVCurveTo),
+            Command::RMoveTo => self.execute(Command::RMoveTo),
+            Command::HMoveTo => self.execute(Command::HMoveTo),
+            Command::VMoveTo => self.execute(Command::VMoveTo),
+            Command::ClosePath => self.execute(Command::ClosePath),
+            Command::Div => self.execute(Command::Div),
+            _ => self.execute(command),
+        }
+    }
+
+    /// A number: F47 where a run has made its last step already, then F31 past 24 values.
+    #[inline(always)]
+    pub fn step_by_number(&mut self, number: i32) -> Result<(), Refusal>
+        ensures reported { Reports going_on (step_of (Commands.Num number) (state_of self.old)) result self.new }
+        ensures counted { OnOk result (self.new.steps ≡ self.old.steps + 1) }
+        ensures bounded { OnOk result (self.new.steps ≤ 100000) }
+    {
+        if self.steps >= MAX_STEPS {
+            return Err(Refusal::from(Code::F47));
+        }
+        self.steps += 1;
+        Ok(self.push(Frac::whole(number))?)
     }
 
     /// One word: F47 where a run has made its last step already.
@@ -244,11 +259,6 @@ impl State {
             return Err(Refusal::from(Code::F47));
         }
         self.steps += 1;
-        // most words are numbers, and no test of a command refuses one
-        if let Command::Num(number) = command {
-            self.push(Frac::whole(number))?;
-            return Ok(Control::Next);
-        }
-        self.execute(command)
+        self.execute_by_name(command)
     }
 }
