@@ -55,13 +55,13 @@ split_outlines (by ∷ moves) last xs ys h =
 
 -- ---- composites
 
-pub joined_is : (c : Composite) (d : Drawing) (base accent : List Segment) (by : Point) → d.composite ≡ Some c → accent_move d.bearing c ≡ Ok by
+joined_is : (c : Composite) (d : Drawing) (base accent : List Segment) (by : Point) → d.composite ≡ Some c → accent_move d.bearing c ≡ Ok by
     → joined d base accent ≡ (moved_outline by accent >>= λ accent'. Ok (d.segments ++ base ++ accent'))
 unfolding joined
 joined_is c d base accent by is move =
     ap (λ k. joined_with k d base accent) is ∙ ap (λ m. m >>= (λ by. moved_outline by accent >>= (λ accent'. Ok (d.segments ++ base ++ accent')))) move
 
-pub joined_refused : (c : Composite) (d : Drawing) (base accent : List Segment) (code : Code) → d.composite ≡ Some c → accent_move d.bearing c ≡ Err code
+joined_refused : (c : Composite) (d : Drawing) (base accent : List Segment) (code : Code) → d.composite ≡ Some c → accent_move d.bearing c ≡ Err code
     → joined d base accent ≡ Err code
 unfolding joined
 joined_refused c d base accent code is move =

@@ -5,6 +5,7 @@ use Rattle.t1_frac.specs.declared.fault.Code.{Code}
 use Rattle.t1_code.specs.Encoding.{is_standard_name}
 use Rattle.t1_run.specs.declared.outline.Segment.{Segment}
 use Rattle.t1_run.specs.Run.{Drawing, NumberedRun}
+use Rattle.t1_afm.specs.Box.{drawn_box}
 use Rattle.t1_extent.specs.declared.kept_run.Shape.{Shape}
 use Rattle.t1_extent.specs.declared.kept_run.Shape.TheVariants as shapes
 use Rattle.t1_extent.specs.declared.kept_run.Trace.{Trace}
@@ -32,19 +33,19 @@ traces name run = not (is_standard_name name) || run.is_traced
 abbrev pub segments_kept : Bool → List Segment → Option (List Segment)
 segments_kept is_traced outline = if is_whole_outline outline then None else (if is_traced then Some outline else None)
 
--- profile: what memory holds of an outline: its figure where it is whole, else how far it reaches, and its segments where
--- its trace is kept
+-- profile: what memory holds of an outline: its figure where it is whole, else how far it reaches and its segments where its
+-- trace is kept, and where it isn't, its box alone
 abbrev pub IsShape : Shape → List Segment → Type 0
 IsShape (shapes.Whole figure) outline = IsWholeFigure figure outline
 IsShape (shapes.Mixed mixed) outline =
     (is_whole_outline outline ≡ false) × IsReach mixed.reached outline × (mixed.segments.items ≡ outline)
-IsShape (shapes.Reach reached) outline = (is_whole_outline outline ≡ false) × IsReach reached outline
+IsShape (shapes.Boxed bbox) outline = (is_whole_outline outline ≡ false) × (bbox ≡ drawn_box outline)
 
 -- profile: the outline's trace is kept
 abbrev pub has_trace : Shape → Bool
 has_trace (shapes.Whole figure) = true
 has_trace (shapes.Mixed mixed) = true
-has_trace (shapes.Reach reached) = false
+has_trace (shapes.Boxed bbox) = false
 
 -- profile: what moves of an outline need of it
 abbrev pub IsTrace : Trace → List Segment → Type 0

@@ -1,11 +1,24 @@
-//! Boxes that are moved.
+//! Boxes of outlines, and boxes that are moved.
 
-ghost use Rattle.std.specs.Prelude.{◌≡◌, ◌≤◌, ◌^◌, ◌+ℤ◌};
+ghost use Rattle.std.specs.Prelude.{◌≡◌, ◌≤◌, ◌^◌, ◌+ℤ◌, All};
 ghost use Rattle.std.specs.Int.RustNames.{unsigned_abs};
+ghost use Rattle.t1_run.specs.Composite.{IsWithin};
+ghost use Rattle.t1_afm.specs.Box.{drawn_box};
 ghost use Rattle.t1_extent.specs.Extremes.{IsWhole, moved_box as moved_box_of};
 
-use t1_afm::BBox;
-use t1_run::Point;
+use t1_afm::{BBox, bounding_box};
+use t1_run::{Point, Segment};
+
+/// The box around what an outline draws, where it draws.
+pub(crate) fn drawn_bbox(segments: &[Segment]) -> Option<BBox>
+    requires { All IsWithin segments.now }
+    ensures { result ≡ drawn_box segments.now }
+{
+    if segments.is_empty() {
+        return None;
+    }
+    Some(bounding_box(segments))
+}
 
 /// A coordinate of a box, moved.
 fn moved_side(side: i32, by: i64) -> i32

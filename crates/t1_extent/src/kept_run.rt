@@ -9,13 +9,14 @@ ghost use Rattle.t1_extent.specs.Extremes.{is_whole_outline as is_whole};
 ghost use Rattle.t1_extent.specs.Kept.{IsShape, IsTrace, has_trace, kept_as, segments_kept, traces};
 ghost use Rattle.t1_extent.specs.Reached.{IsReach};
 
+use crate::boxes::drawn_bbox;
 use crate::corners::corners_extent;
 use crate::figure::Figure;
 use crate::reached::{Drawn, Reached};
 use crate::wholes::is_whole_outline;
 use std::alloc::{AllocError, Global};
 use std::marker::Model;
-use t1_afm::{BBox, bounding_box};
+use t1_afm::BBox;
 use t1_code::is_standard_name;
 use t1_run::{Composite, Entered, Point, Run, Segment};
 use t1_shadow::Shadow;
@@ -33,8 +34,9 @@ pub enum Shape {
     /// Its figure where it draws; all its coordinates are whole.
     Whole(Option<Figure>),
     Mixed(Mixed),
-    /// How far it reaches; some of its coordinates have fractions, and its segments aren't kept.
-    Reach(Reached),
+    /// The box around what it draws; some of its coordinates have fractions, and neither its segments nor the extremes of
+    /// its points are kept.
+    Boxed(Option<BBox>),
 }
 
 /// What moves of an outline need of it.
@@ -49,18 +51,15 @@ fn mixed_reach(segments: &[Segment]) -> Reached
     requires within { All IsWithin segments.now }
     ensures { IsReach result segments.now }
 {
-    if segments.is_empty() {
-        return Reached::nothing();
-    }
     Reached {
-        drawn: Drawn::Mixed(Some(bounding_box(segments))),
+        drawn: Drawn::Mixed(drawn_bbox(segments)),
         corners: corners_extent(segments),
     }
 }
 
 impl Shape {
     /// What is kept of what a glyph of this name draws. Only under a name of StandardEncoding can it be a part of a
-    /// composite, and only a part is moved.
+    /// composite, and only a part is moved; of any other outline with fractions its box alone is asked for.
     fn of(alloc: Global, name: &[u8], segments: &[Segment]) -> Result<Shape, AllocError>
         requires { All IsWithin segments.now }
         ensures shape { IfOk result (λ shape. IsShape shape segments.now) }
@@ -69,12 +68,11 @@ impl Shape {
         if is_whole_outline(segments) {
             return Ok(Shape::Whole(Figure::of(segments)));
         }
-        let reached = mixed_reach(segments);
         if !is_standard_name(name) {
-            return Ok(Shape::Reach(reached));
+            return Ok(Shape::Boxed(drawn_bbox(segments)));
         }
         Ok(Shape::Mixed(Mixed {
-            reached,
+            reached: mixed_reach(segments),
             segments: Vec::from_slice(alloc, segments)?,
         }))
     }
@@ -197,7 +195,7 @@ impl KeptRun {
         match &self.shape {
             Shape::Whole(_) => None,
             Shape::Mixed(mixed) => Some(mixed.segments.as_slice()),
-            Shape::Reach(_) => None,
+            Shape::Boxed(_) => None,
         }
     }
 
@@ -210,18 +208,19 @@ impl KeptRun {
         match &self.shape {
             Shape::Whole(figure) => Trace::Whole(*figure),
             Shape::Mixed(mixed) => Trace::Segments(mixed.segments.as_slice()),
-            Shape::Reach(_) => unreachable!(),
+            Shape::Boxed(_) => unreachable!(),
         }
     }
 
     /// How far the glyph itself reaches, without its parts.
-    pub fn reached(&self) -> Reached
+    pub(crate) fn reached(&self) -> Reached
+        requires { self.now.is_traced ≡ true }
         ensures { IsReach result self.now.drawing.segments }
     {
         match &self.shape {
             Shape::Whole(figure) => Figure::reach(*figure),
             Shape::Mixed(mixed) => mixed.reached,
-            Shape::Reach(reached) => *reached,
+            Shape::Boxed(_) => unreachable!(),
         }
     }
 
@@ -229,6 +228,10 @@ impl KeptRun {
     pub fn bbox(&self) -> Option<BBox>
         ensures { result ≡ drawn_box self.now.drawing.segments }
     {
-        self.reached().bbox()
+        match &self.shape {
+            Shape::Whole(figure) => Figure::reach(*figure).bbox(),
+            Shape::Mixed(mixed) => mixed.reached.bbox(),
+            Shape::Boxed(bbox) => *bbox,
+        }
     }
 }

@@ -28,7 +28,7 @@ pub use extent::Extent;
 pub use figure::Figure;
 pub use kept_run::{KeptRun, Trace};
 pub use kept_runs::KeptRuns;
-pub use outline_reach::{box_of, reach_of};
+pub use outline_reach::box_of;
 pub use reach::{Reach, cubic_reach};
 pub use reached::{Drawn, Reached};
 pub use sides::Sides;

@@ -1,29 +1,35 @@
-use Rattle.std.proofs.Common.{◌≡◌, sym, ap, ◌∙◌, subst, ◌-◌, Some, ◌∷◌, rules}
+use Rattle.std.proofs.Common.{◌≡◌, sym, ap, ◌∙◌, subst, ◌-◌, ◌∷◌, rules}
 use Rattle.std.specs.Prelude.{All, Ok, Err, IsOk}
 use Rattle.std.proofs.lemmas.Result.{err_from_is_err_and}
 use Rattle.std.proofs.lemmas.List.Elements.{All-cons}
 use Rattle.t1_run.specs.Composite.{outline_within}
-use Rattle.t1_extent.specs.Kept.{drawing_lent}
 use Rattle.t1_extent.specs.Laws.{IsDistance}
 use Rattle.t1_extent.specs.Reached.{Reports}
 use Rattle.t1_extent.specs.Turns.{through, given_in_turn, given_through}
-use Rattle.t1_extent.proofs.Walking.{lonely, refused_reported, walks, stuck, own_moved_refused, base_moved_refused, accent_moved_refused, moved_reported}
+use Rattle.t1_extent.proofs.Walking.{drawing_found, faulty, lonely, refused_reported, walks, stuck, own_moved_refused, base_moved_refused, accent_moved_refused, moved_reported}
 use Rattle.t1_extent.proofs.outline_reach.+moved_reach.Goals as goal
+
+pub returns-in_err-run : goal.returns-in_err-run
+returns-in_err-run g t c =
+    let run = g.R.KeptRuns.drawn c.args.runs.now in
+    let is = faulty run c.args.depth c.args.name.now c.in_err-run.field-0.0 c.in_err-run.ensures.drawn in
+    let p = err_from_is_err_and c.from_residual.result c.from_residual.ensures.1 in
+    rw (p.1, p.2) (refused_reported c.in_err-run.field-0.0 _ (ap (given_through c.args.moves.now c.args.last.now) is))
 
 pub returns-in_err-own_through : goal.returns-in_err-own_through
 returns-in_err-own_through g t c =
     let run = g.R.KeptRuns.drawn c.args.runs.now in
-    let d = c.in-Some-Ok.run'.now.drawing in
-    let own = sym (ap (λ kept. Some (drawing_lent kept)) c.in-Some-Ok.field-0-is) ∙ c.in-Some-Ok.ensures.drawn in
+    let d = c.in_ok-run.run'.now.drawing in
+    let own = drawing_found (run c.args.name.now) d c.in_ok-run.ensures.drawn in
     let is = lonely run c.args.depth c.args.name.now d own c.in_default.ensures.parts in
-    let p = err_from_is_err_and c.from_residual.result c.from_residual.ensures.1 in
+    let p = err_from_is_err_and c.from_residual-in_err-own_through.result c.from_residual-in_err-own_through.ensures.1 in
     rw (p.1, p.2) (refused_reported c.in_err-own_through.field-0.0 _ (ap (given_through c.args.moves.now c.args.last.now) is ∙ c.in_err-own_through.ensures))
 
 pub returns-in_default : goal.returns-in_default
 returns-in_default g t c =
     let run = g.R.KeptRuns.drawn c.args.runs.now in
-    let d = c.in-Some-Ok.run'.now.drawing in
-    let own = sym (ap (λ kept. Some (drawing_lent kept)) c.in-Some-Ok.field-0-is) ∙ c.in-Some-Ok.ensures.drawn in
+    let d = c.in_ok-run.run'.now.drawing in
+    let own = drawing_found (run c.args.name.now) d c.in_ok-run.ensures.drawn in
     let is = lonely run c.args.depth c.args.name.now d own c.in_default.ensures.parts in
     let reported = c.in_ok-own_through.ensures in
     (reported.0, ap (given_through c.args.moves.now c.args.last.now) is ∙ reported.1, reported.2)
@@ -31,9 +37,9 @@ returns-in_default g t c =
 pub returns-in_err-accent_move : goal.returns-in_err-accent_move
 returns-in_err-accent_move g t c =
     let run = g.R.KeptRuns.drawn c.args.runs.now in
-    let d = c.in-Some-Ok.run'.now.drawing in
+    let d = c.in_ok-run.run'.now.drawing in
     let parts = c.in-Some.parts.now in
-    let own = sym (ap (λ kept. Some (drawing_lent kept)) c.in-Some-Ok.field-0-is) ∙ c.in-Some-Ok.ensures.drawn in
+    let own = drawing_found (run c.args.name.now) d c.in_ok-run.ensures.drawn in
     let part = outline_within run (c.args.depth - 1) in
     absurd (stuck run c.args.depth c.args.name.now d parts c.side_bearing.result c.in_err-accent_move.field-0.0 c.args.moves.now c.if-depth-eq0.false own c.in-Some.ensures.parts
     c.side_bearing.ensures c.in_err-accent_move.ensures.moved c.requires.passed)
@@ -41,9 +47,9 @@ returns-in_err-accent_move g t c =
 pub own_through-requires-2-clause-passed : goal.own_through-requires-2-clause-passed
 own_through-requires-2-clause-passed g t c =
     let run = g.R.KeptRuns.drawn c.args.runs.now in
-    let d = c.in-Some-Ok.run'.now.drawing in
+    let d = c.in_ok-run.run'.now.drawing in
     let parts = c.in-Some.parts.now in
-    let own = sym (ap (λ kept. Some (drawing_lent kept)) c.in-Some-Ok.field-0-is) ∙ c.in-Some-Ok.ensures.drawn in
+    let own = drawing_found (run c.args.name.now) d c.in_ok-run.ensures.drawn in
     let part = outline_within run (c.args.depth - 1) in
     let w = walks run c.args.depth c.args.name.now d parts c.side_bearing.result c.in_ok-accent_move.accent_move.by c.args.moves.now c.args.last.now c.if-depth-eq0.false own c.in-Some.ensures.parts
     c.side_bearing.ensures c.in_ok-accent_move.ensures.moved c.requires.passed in
@@ -52,9 +58,9 @@ own_through-requires-2-clause-passed g t c =
 pub returns-in_err-own : goal.returns-in_err-own
 returns-in_err-own g t c =
     let run = g.R.KeptRuns.drawn c.args.runs.now in
-    let d = c.in-Some-Ok.run'.now.drawing in
+    let d = c.in_ok-run.run'.now.drawing in
     let parts = c.in-Some.parts.now in
-    let own = sym (ap (λ kept. Some (drawing_lent kept)) c.in-Some-Ok.field-0-is) ∙ c.in-Some-Ok.ensures.drawn in
+    let own = drawing_found (run c.args.name.now) d c.in_ok-run.ensures.drawn in
     let part = outline_within run (c.args.depth - 1) in
     let w = walks run c.args.depth c.args.name.now d parts c.side_bearing.result c.in_ok-accent_move.accent_move.by c.args.moves.now c.args.last.now c.if-depth-eq0.false own c.in-Some.ensures.parts
     c.side_bearing.ensures c.in_ok-accent_move.ensures.moved c.requires.passed in
@@ -68,9 +74,9 @@ returns-in_err-own g t c =
 pub moved_reach-requires : goal.moved_reach-requires
 moved_reach-requires g t c =
     let run = g.R.KeptRuns.drawn c.args.runs.now in
-    let d = c.in-Some-Ok.run'.now.drawing in
+    let d = c.in_ok-run.run'.now.drawing in
     let parts = c.in-Some.parts.now in
-    let own = sym (ap (λ kept. Some (drawing_lent kept)) c.in-Some-Ok.field-0-is) ∙ c.in-Some-Ok.ensures.drawn in
+    let own = drawing_found (run c.args.name.now) d c.in_ok-run.ensures.drawn in
     let part = outline_within run (c.args.depth - 1) in
     let w = walks run c.args.depth c.args.name.now d parts c.side_bearing.result c.in_ok-accent_move.accent_move.by c.args.moves.now c.args.last.now c.if-depth-eq0.false own c.in-Some.ensures.parts
     c.side_bearing.ensures c.in_ok-accent_move.ensures.moved c.requires.passed in
@@ -80,9 +86,9 @@ moved_reach-requires g t c =
 pub returns-in_err-base : goal.returns-in_err-base
 returns-in_err-base g t c =
     let run = g.R.KeptRuns.drawn c.args.runs.now in
-    let d = c.in-Some-Ok.run'.now.drawing in
+    let d = c.in_ok-run.run'.now.drawing in
     let parts = c.in-Some.parts.now in
-    let own = sym (ap (λ kept. Some (drawing_lent kept)) c.in-Some-Ok.field-0-is) ∙ c.in-Some-Ok.ensures.drawn in
+    let own = drawing_found (run c.args.name.now) d c.in_ok-run.ensures.drawn in
     let part = outline_within run (c.args.depth - 1) in
     let w = walks run c.args.depth c.args.name.now d parts c.side_bearing.result c.in_ok-accent_move.accent_move.by c.args.moves.now c.args.last.now c.if-depth-eq0.false own c.in-Some.ensures.parts
     c.side_bearing.ensures c.in_ok-accent_move.ensures.moved c.requires.passed in
@@ -97,9 +103,9 @@ returns-in_err-base g t c =
 pub moved_reach-requires-2 : goal.moved_reach-requires-2
 moved_reach-requires-2 g t c =
     let run = g.R.KeptRuns.drawn c.args.runs.now in
-    let d = c.in-Some-Ok.run'.now.drawing in
+    let d = c.in_ok-run.run'.now.drawing in
     let parts = c.in-Some.parts.now in
-    let own = sym (ap (λ kept. Some (drawing_lent kept)) c.in-Some-Ok.field-0-is) ∙ c.in-Some-Ok.ensures.drawn in
+    let own = drawing_found (run c.args.name.now) d c.in_ok-run.ensures.drawn in
     let part = outline_within run (c.args.depth - 1) in
     let w = walks run c.args.depth c.args.name.now d parts c.side_bearing.result c.in_ok-accent_move.accent_move.by c.args.moves.now c.args.last.now c.if-depth-eq0.false own c.in-Some.ensures.parts
     c.side_bearing.ensures c.in_ok-accent_move.ensures.moved c.requires.passed in
@@ -115,9 +121,9 @@ moved_reach-requires-2 g t c =
 pub returns-in_err-accent : goal.returns-in_err-accent
 returns-in_err-accent g t c =
     let run = g.R.KeptRuns.drawn c.args.runs.now in
-    let d = c.in-Some-Ok.run'.now.drawing in
+    let d = c.in_ok-run.run'.now.drawing in
     let parts = c.in-Some.parts.now in
-    let own = sym (ap (λ kept. Some (drawing_lent kept)) c.in-Some-Ok.field-0-is) ∙ c.in-Some-Ok.ensures.drawn in
+    let own = drawing_found (run c.args.name.now) d c.in_ok-run.ensures.drawn in
     let part = outline_within run (c.args.depth - 1) in
     let w = walks run c.args.depth c.args.name.now d parts c.side_bearing.result c.in_ok-accent_move.accent_move.by c.args.moves.now c.args.last.now c.if-depth-eq0.false own c.in-Some.ensures.parts
     c.side_bearing.ensures c.in_ok-accent_move.ensures.moved c.requires.passed in
@@ -142,9 +148,9 @@ united-requires-2-clause-one g t c =
 pub returns : goal.returns
 returns g t c =
     let run = g.R.KeptRuns.drawn c.args.runs.now in
-    let d = c.in-Some-Ok.run'.now.drawing in
+    let d = c.in_ok-run.run'.now.drawing in
     let parts = c.in-Some.parts.now in
-    let own = sym (ap (λ kept. Some (drawing_lent kept)) c.in-Some-Ok.field-0-is) ∙ c.in-Some-Ok.ensures.drawn in
+    let own = drawing_found (run c.args.name.now) d c.in_ok-run.ensures.drawn in
     let part = outline_within run (c.args.depth - 1) in
     let w = walks run c.args.depth c.args.name.now d parts c.side_bearing.result c.in_ok-accent_move.accent_move.by c.args.moves.now c.args.last.now c.if-depth-eq0.false own c.in-Some.ensures.parts
     c.side_bearing.ensures c.in_ok-accent_move.ensures.moved c.requires.passed in
