@@ -5,7 +5,7 @@ ghost use Rattle.t1_code.specs.Counted.{one_more};
 ghost use Rattle.t1edit.specs.Reading.{FailsToRead};
 
 use std::alloc::Global;
-use std::fs::File;
+use std::fs::{File, OpenFile};
 use std::io::Read;
 use t1_code::Counted;
 use t1_session::ServeError;
@@ -21,14 +21,26 @@ pub fn is_standard_input(path: &str) -> bool {
     path == STANDARD_INPUT
 }
 
-/// All bytes that a reader gives up to its end.
-fn read_whole<R: Read>(alloc: Global, reader: &mut Counted<R>) -> Result<Vec<u8>, ServeError>
+/// How long a file says that it is; 0 where it doesn't say, as a device.
+fn stated_len(file: &File) -> usize {
+    match file.metadata() {
+        Ok(metadata) => metadata.len() as usize,
+        Err(_) => 0,
+    }
+}
+
+/// All bytes that a reader gives up to its end, for which there is room at first for so many.
+fn read_whole<R: Read>(
+    alloc: Global,
+    reader: &mut Counted<R>,
+    room: usize,
+) -> Result<Vec<u8>, ServeError>
     ensures ok { IfOk result (λ bytes. Consumes (R.remaining reader.old.inner) (R.remaining reader.new.inner) bytes.items) }
     ensures at_end { IfOk result (λ _. IsAtEnd (R.remaining reader.new.inner)) }
     ensures errors { IfErr result FailsToRead }
     ensures read_failed { result ≡ Err ServeError.Read → reader.new.failures ≡ one_more reader.old.failures }
 {
-    let mut bytes = Vec::new(alloc);
+    let mut bytes = Vec::with_capacity(alloc, room)?;
     let mut buffer = [0; BUFFER_LEN];
     'pieces: loop {
         let count = match reader.take(&mut buffer) {
@@ -47,10 +59,13 @@ pub fn read_input(rt: &HostRuntime, path: &str) -> Result<Vec<u8>, ServeError>
     ensures { IfErr result FailsToRead }
 {
     if is_standard_input(path) {
-        return read_whole(rt.alloc(), &mut Counted::new(rt.stdin()));
+        return read_whole(rt.alloc(), &mut Counted::new(rt.stdin()), 0);
     }
     match File::open(rt, path) {
-        Ok(file) => read_whole(rt.alloc(), &mut Counted::new(file)),
+        Ok(file) => {
+            let room = stated_len(&file);
+            read_whole(rt.alloc(), &mut Counted::new(file), room)
+        }
         Err(_) => Err(ServeError::Read),
     }
 }
