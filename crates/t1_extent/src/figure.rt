@@ -5,10 +5,10 @@ ghost use Rattle.t1_run.specs.Composite.{IsPoint};
 ghost use Rattle.t1_extent.specs.Exacts.{AreFine};
 ghost use Rattle.t1_extent.specs.Extremes.{IsWhole};
 
-use crate::corners::corner_sides;
 use crate::distance::Distance;
 use crate::drawn::drawn_within;
 use crate::extent::Extent;
+use crate::outline_sides::outline_sides;
 use crate::reached::{Drawn, Reached};
 use crate::turns::point_through;
 use t1_frac::Code;
@@ -58,12 +58,11 @@ impl Figure {
         ensures { IsFigureOf result segments.now }
     {
         let start = Figure::first_point(segments)?;
-        let corners = corner_sides(segments)?;
-        let drawn = drawn_within(segments, &corners)?;
+        let sides = outline_sides(segments)?;
         Some(Figure {
             start,
-            drawn,
-            corners: corners.over_one(),
+            drawn: drawn_within(segments, &sides),
+            corners: sides.corners.over_one(),
         })
     }
 

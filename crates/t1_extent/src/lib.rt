@@ -13,6 +13,7 @@ mod kept_runs;
 pub mod laws;
 mod moves;
 mod outline_reach;
+mod outline_sides;
 mod reach;
 mod reached;
 mod sides;
