@@ -51,7 +51,12 @@ fn lists_standard_names(rt: HostRuntime) -> Result<(), Fail> {
     for (code, name) in table {
         assert_eq!(rt; standard_name(*code), Some(*name));
     }
-    for row in [(32, "space"), (39, "quoteright"), (169, "quotesingle"), (251, "germandbls")] {
+    for row in [
+        (32, "space"),
+        (39, "quoteright"),
+        (169, "quotesingle"),
+        (251, "germandbls"),
+    ] {
         assert!(rt; table.iter().any(|listed| *listed == row));
     }
     Ok(())
