@@ -3,10 +3,16 @@
 ghost use Rattle.std.specs.Prelude.{◌≡◌, ◌∷◌, [], ◌++◌, IfOk, option_map};
 ghost use Rattle.t1_parts.specs.Sections.{is_subrs_line, is_glyphs_line};
 ghost use Rattle.t1_parts.specs.Entries.{glyph_name, has, is_subr, is_glyph};
+ghost use Rattle.std.specs.List.{find};
+ghost use Rattle.t1_parts.specs.LenIV.{says_lead};
+ghost use Rattle.t1_parts.specs.NumberedStretches.{numbered_in, numbered_lines};
 ghost use Rattle.t1_parts.specs.Reading.{unnumbered};
 
 use crate::item::Item;
+use crate::items::Items;
+use crate::plain_lines::PlainLines;
 use crate::sections::{is_glyphs_line, is_subrs_line};
+use crate::stretch::Stretch;
 use indexmap::IndexSet;
 use std::alloc::{AllocError, Global};
 use std::collections::BTreeSet;
@@ -16,7 +22,7 @@ use std::marker::Model;
 /// kept where they stand in the source. Contracts see the list of the items.
 #[derive(Drop)]
 pub struct Gathered<'a> {
-    items: Vec<(u64, Item<'a>)>,
+    stretches: Vec<(u64, Stretch<'a>)>,
     has_subrs_line: bool,
     has_glyphs_line: bool,
     subrs: BTreeSet<u16>,
@@ -28,16 +34,29 @@ impl<'a> Model for Gathered<'a> {
     ghost use Rattle.t1_parts.specs.Sections.{is_subrs_line, is_glyphs_line};
     ghost use Rattle.t1_parts.specs.Entries.{NumberedItem, has};
     ghost use Rattle.t1_parts.specs.Gathered.{HasNumbers, HasNames};
+    ghost use Rattle.t1_parts.specs.NumberedStretches.{numbered_in};
 
     ghost Value = { List NumberedItem };
 
-    ghost view = { λ g. g.items.items };
+    ghost view = { λ g. numbered_in g.stretches.items };
 
     ghost invariant = { λ g.
-        (g.has_subrs_line ≡ has is_subrs_line g.items.items)
-        × (g.has_glyphs_line ≡ has is_glyphs_line g.items.items)
-        × HasNumbers g.subrs.keys g.items.items
-        × HasNames g.glyphs.keys g.items.items };
+        (g.has_subrs_line ≡ has is_subrs_line (numbered_in g.stretches.items))
+        × (g.has_glyphs_line ≡ has is_glyphs_line (numbered_in g.stretches.items))
+        × HasNumbers g.subrs.keys (numbered_in g.stretches.items)
+        × HasNames g.glyphs.keys (numbered_in g.stretches.items) };
+}
+
+/// The first item of some stretches that says lenIV, with its number.
+fn first_saying<'s, 'a>(stretches: &'s [(u64, Stretch<'a>)]) -> Option<(u64, &'s Item<'a>)>
+    ensures { option_map (λ i. (i.0, i.1.now)) result ≡ find (λ i. says_lead i.1) (numbered_in stretches.now) }
+{
+    for (number, stretch) in stretches {
+        if let Some(item) = stretch.saying() {
+            return Some((*number, item));
+        }
+    }
+    None
 }
 
 impl<'a> Gathered<'a> {
@@ -46,7 +65,7 @@ impl<'a> Gathered<'a> {
         ensures { result ≡ [] }
     {
         Gathered {
-            items: Vec::new(alloc),
+            stretches: Vec::new(alloc),
             has_subrs_line: false,
             has_glyphs_line: false,
             subrs: BTreeSet::new(alloc),
@@ -82,22 +101,43 @@ impl<'a> Gathered<'a> {
         self.glyphs.contains(name)
     }
 
-    /// The items as a slice.
-    pub fn as_slice(&self) -> &[(u64, Item<'a>)]
-        ensures { result.now ≡ self.now }
+    /// The first item that says lenIV, with its number. Lines that stand together say nothing of it.
+    pub fn first_saying(&self) -> Option<(u64, &Item<'a>)>
+        ensures { option_map (λ i. (i.0, i.1.now)) result ≡ find (λ i. says_lead i.1) self.now }
     {
-        self.items.as_slice()
+        first_saying(self.stretches.as_slice())
     }
 
     /// The items without their numbers.
-    pub fn into_items(self, alloc: Global) -> Result<Vec<Item<'a>>, AllocError>
-        ensures { IfOk result (λ items. items.items ≡ unnumbered self.entry) }
+    pub fn into_items(self, alloc: Global) -> Result<Items<'a>, AllocError>
+        ensures { IfOk result (λ items. items ≡ unnumbered self.entry) }
     {
-        let mut items = Vec::new(alloc);
-        for (_number, item) in self.items {
-            items.push(item)?;
+        let mut items = Items::new(alloc);
+        for (_number, stretch) in self.stretches {
+            items.push_stretch(stretch)?;
         }
         Ok(items)
+    }
+
+    /// The items and some plain lines, of which the first has this number.
+    pub(crate) fn with_lines(self, number: u64, plain: PlainLines<'a>) -> Result<Self, AllocError>
+        ensures { IfOk result (λ g. g ≡ self.entry ++ numbered_lines number plain.entry) }
+    {
+        let Gathered {
+            mut stretches,
+            has_subrs_line,
+            has_glyphs_line,
+            subrs,
+            glyphs,
+        } = self;
+        stretches.push((number, Stretch::Lines(plain)))?;
+        Ok(Gathered {
+            stretches,
+            has_subrs_line,
+            has_glyphs_line,
+            subrs,
+            glyphs,
+        })
     }
 
     /// The items and a further one, which begins on the line of this number. Where it is a glyph, its name comes with it.
@@ -111,7 +151,7 @@ impl<'a> Gathered<'a> {
         ensures { IfOk result (λ g. g ≡ self.entry ++ (number, item.entry) ∷ []) }
     {
         let Gathered {
-            mut items,
+            mut stretches,
             has_subrs_line,
             has_glyphs_line,
             mut subrs,
@@ -130,9 +170,9 @@ impl<'a> Gathered<'a> {
         if let Some(name) = name {
             glyphs.insert(name)?;
         }
-        items.push((number, item))?;
+        stretches.push((number, Stretch::One(item)))?;
         Ok(Gathered {
-            items,
+            stretches,
             has_subrs_line,
             has_glyphs_line,
             subrs,
