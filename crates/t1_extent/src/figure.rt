@@ -62,7 +62,7 @@ impl Figure {
         Some(Figure {
             start,
             drawn: drawn_within(segments, &sides),
-            corners: sides.corners.extent(),
+            corners: sides.corners.over_one(),
         })
     }
 

@@ -17,7 +17,7 @@ use std::marker::Model;
 #[derive(Clone, Copy, Debug, PartialEq, Eq)]
 pub struct Frac {
     num: i64,
-    den: u64,
+    den: u32,
 }
 
 impl Model for Frac {
@@ -82,7 +82,7 @@ fn limited(fault: Code, limit: u64, num: i128, den: u128) -> Result<Frac, Code>
     }
     Ok(Frac {
         num: num as i64,
-        den: den as u64,
+        den: den as u32,
     })
 }
 
@@ -125,17 +125,17 @@ fn whole_coordinate(num: i64) -> Result<Frac, Code>
 }
 
 /// A short numerator over a denominator's multiple.
-fn scaled(num: i64, den: u64) -> i64
+fn scaled(num: i64, den: u32) -> i64
     requires num { unsigned_abs num ≤ 2 ^ 40 }
     requires den { den ≤ 2 ^ 20 }
     ensures value { result ≡ num *ℤ pos den }
     ensures size { unsigned_abs result ≤ 2 ^ 60 }
 {
-    num * den as i64
+    num * i64::from(den)
 }
 
 /// The same in 128 bits.
-fn long_scaled(num: i64, den: u64) -> i128
+fn long_scaled(num: i64, den: u32) -> i128
     requires num { unsigned_abs num ≤ 2 ^ 51 }
     requires den { den ≤ 2 ^ 31 }
     ensures value { result ≡ num *ℤ pos den }
@@ -169,7 +169,7 @@ impl Frac {
         ensures above { 0 < self.now.den }
         ensures fine { self.now.den ≤ 2 ^ 20 }
     {
-        self.den as i64
+        i64::from(self.den)
     }
 
     /// Whether it is a whole number.
@@ -198,7 +198,7 @@ impl Frac {
     {
         let left = scaled(self.num, other.den);
         let right = scaled(other.num, self.den);
-        let den = self.den * other.den;
+        let den = u64::from(self.den) * u64::from(other.den);
         (left + right, den)
     }
 
@@ -233,7 +233,7 @@ impl Frac {
         ensures den_below { result.1 < 2 ^ 63 }
     {
         if self.den == other.den {
-            return (self.sum_num(other), self.den);
+            return (self.sum_num(other), u64::from(self.den));
         }
         self.crossed_terms(other)
     }
@@ -249,7 +249,7 @@ impl Frac {
         ensures den_below { result.1 < 2 ^ 63 }
     {
         let num = scaled(self.num, other.den);
-        let den = self.den * other.num.unsigned_abs();
+        let den = u64::from(self.den) * other.num.unsigned_abs();
         if other.num < 0 {
             (-num, den)
         } else {
@@ -352,7 +352,6 @@ impl Frac {
 
     /// The quotient. It is F38 by 0, F37 past 2^31 in size, and then F39 where its denominator is past 1,048,576.
     #[tactic(auto, unfolding(crate::specs::Limits::quotient))]
-    #[inline(always)]
     pub fn div(&self, other: &Frac) -> Result<Frac, Code>
         ensures { result ≡ quotient self.now other.now }
     {
@@ -377,7 +376,7 @@ impl Frac {
     pub fn ceil(&self) -> i64
         ensures { result ≡ ceiling_of self.now }
     {
-        -(-self.num).div_euclid(self.den as i64)
+        -(-self.num).div_euclid(i64::from(self.den))
     }
 
     /// The same, where it may have a fraction. A division takes as long as a glyph's line.
@@ -385,7 +384,7 @@ impl Frac {
     fn nearest_to_fraction(&self) -> i64
         ensures { result ≡ nearest_of self.now }
     {
-        let den = self.den as i64;
+        let den = i64::from(self.den);
         (self.num * 2 + den).div_euclid(2 * den)
     }
 

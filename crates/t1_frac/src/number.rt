@@ -61,9 +61,9 @@ fn leading_large_number(text: &[u8]) -> (u64, usize)
 /// From this number on, which few words reach, digits are read with an eye on the end of 64 bits.
 const LARGE: u64 = 1 << 30;
 
-/// The same as `leading_number`, digit by digit.
-#[inline(never)]
-fn leading_digits(text: &[u8]) -> (u64, usize)
+/// The number that the digits at the front of a text write, or 2^64 - 1 where it is more, and how many digits there
+/// are.
+pub fn leading_number(text: &[u8]) -> (u64, usize)
     ensures within { result.1 ≤ length text.now }
     ensures count { result.1 ≡ prefix_len is_ascii_digit text.now }
     ensures value { result.0 ≡ min (decimal_value (take result.1 text.now)) (2 ^ 64 - 1) }
@@ -81,35 +81,6 @@ fn leading_digits(text: &[u8]) -> (u64, usize)
         count += 1;
     }
     (value, count)
-}
-
-/// The number that the digits at the front of a text write, or 2^64 - 1 where it is more, and how many digits there
-/// are. Most numbers of a font have up to three digits, which are told apart without a loop.
-#[inline(always)]
-pub fn leading_number(text: &[u8]) -> (u64, usize)
-    ensures within { result.1 ≤ length text.now }
-    ensures count { result.1 ≡ prefix_len is_ascii_digit text.now }
-    ensures value { result.0 ≡ min (decimal_value (take result.1 text.now)) (2 ^ 64 - 1) }
-{
-    let [first, second, third, fourth, ..] = text else {
-        return leading_digits(text);
-    };
-    if !first.is_ascii_digit() {
-        return (0, 0);
-    }
-    let value = u64::from(*first - b'0');
-    if !second.is_ascii_digit() {
-        return (value, 1);
-    }
-    let value = value * 10 + u64::from(*second - b'0');
-    if !third.is_ascii_digit() {
-        return (value, 2);
-    }
-    let value = value * 10 + u64::from(*third - b'0');
-    if !fourth.is_ascii_digit() {
-        return (value, 3);
-    }
-    leading_digits(text)
 }
 
 /// The number that digits write, or 2^64 - 1 where it is more; nothing where a byte is no digit.

@@ -3,16 +3,10 @@
 ghost use Rattle.std.specs.Prelude.{◌≡◌, ◌∷◌, [], ◌++◌, IfOk, option_map};
 ghost use Rattle.t1_parts.specs.Sections.{is_subrs_line, is_glyphs_line};
 ghost use Rattle.t1_parts.specs.Entries.{glyph_name, has, is_subr, is_glyph};
-ghost use Rattle.std.specs.List.{find};
-ghost use Rattle.t1_parts.specs.LenIV.{says_lead};
-ghost use Rattle.t1_parts.specs.NumberedStretches.{numbered_in, numbered_lines};
 ghost use Rattle.t1_parts.specs.Reading.{unnumbered};
 
 use crate::item::Item;
-use crate::items::Items;
-use crate::plain_lines::PlainLines;
 use crate::sections::{is_glyphs_line, is_subrs_line};
-use crate::stretch::Stretch;
 use indexmap::IndexSet;
 use std::alloc::{AllocError, Global};
 use std::collections::BTreeSet;
@@ -22,7 +16,7 @@ use std::marker::Model;
 /// kept where they stand in the source. Contracts see the list of the items.
 #[derive(Drop)]
 pub struct Gathered<'a> {
-    stretches: Vec<(u64, Stretch<'a>)>,
+    items: Vec<(u64, Item<'a>)>,
     has_subrs_line: bool,
     has_glyphs_line: bool,
     subrs: BTreeSet<u16>,
@@ -34,29 +28,16 @@ impl<'a> Model for Gathered<'a> {
     ghost use Rattle.t1_parts.specs.Sections.{is_subrs_line, is_glyphs_line};
     ghost use Rattle.t1_parts.specs.Entries.{NumberedItem, has};
     ghost use Rattle.t1_parts.specs.Gathered.{HasNumbers, HasNames};
-    ghost use Rattle.t1_parts.specs.NumberedStretches.{numbered_in};
 
     ghost Value = { List NumberedItem };
 
-    ghost view = { λ g. numbered_in g.stretches.items };
+    ghost view = { λ g. g.items.items };
 
     ghost invariant = { λ g.
-        (g.has_subrs_line ≡ has is_subrs_line (numbered_in g.stretches.items))
-        × (g.has_glyphs_line ≡ has is_glyphs_line (numbered_in g.stretches.items))
-        × HasNumbers g.subrs.keys (numbered_in g.stretches.items)
-        × HasNames g.glyphs.keys (numbered_in g.stretches.items) };
-}
-
-/// The first item of some stretches that says lenIV, with its number.
-fn first_saying<'s, 'a>(stretches: &'s [(u64, Stretch<'a>)]) -> Option<(u64, &'s Item<'a>)>
-    ensures { option_map (λ i. (i.0, i.1.now)) result ≡ find (λ i. says_lead i.1) (numbered_in stretches.now) }
-{
-    for (number, stretch) in stretches {
-        if let Some(item) = stretch.saying() {
-            return Some((*number, item));
-        }
-    }
-    None
+        (g.has_subrs_line ≡ has is_subrs_line g.items.items)
+        × (g.has_glyphs_line ≡ has is_glyphs_line g.items.items)
+        × HasNumbers g.subrs.keys g.items.items
+        × HasNames g.glyphs.keys g.items.items };
 }
 
 impl<'a> Gathered<'a> {
@@ -65,7 +46,7 @@ impl<'a> Gathered<'a> {
         ensures { result ≡ [] }
     {
         Gathered {
-            stretches: Vec::new(alloc),
+            items: Vec::new(alloc),
             has_subrs_line: false,
             has_glyphs_line: false,
             subrs: BTreeSet::new(alloc),
@@ -101,43 +82,22 @@ impl<'a> Gathered<'a> {
         self.glyphs.contains(name)
     }
 
-    /// The first item that says lenIV, with its number. Lines that stand together say nothing of it.
-    pub fn first_saying(&self) -> Option<(u64, &Item<'a>)>
-        ensures { option_map (λ i. (i.0, i.1.now)) result ≡ find (λ i. says_lead i.1) self.now }
+    /// The items as a slice.
+    pub fn as_slice(&self) -> &[(u64, Item<'a>)]
+        ensures { result.now ≡ self.now }
     {
-        first_saying(self.stretches.as_slice())
+        self.items.as_slice()
     }
 
     /// The items without their numbers.
-    pub fn into_items(self, alloc: Global) -> Result<Items<'a>, AllocError>
-        ensures { IfOk result (λ items. items ≡ unnumbered self.entry) }
+    pub fn into_items(self, alloc: Global) -> Result<Vec<Item<'a>>, AllocError>
+        ensures { IfOk result (λ items. items.items ≡ unnumbered self.entry) }
     {
-        let mut items = Items::new(alloc);
-        for (_number, stretch) in self.stretches {
-            items.push_stretch(stretch)?;
+        let mut items = Vec::new(alloc);
+        for (_number, item) in self.items {
+            items.push(item)?;
         }
         Ok(items)
-    }
-
-    /// The items and some plain lines, of which the first has this number.
-    pub(crate) fn with_lines(self, number: u64, plain: PlainLines<'a>) -> Result<Self, AllocError>
-        ensures { IfOk result (λ g. g ≡ self.entry ++ numbered_lines number plain.entry) }
-    {
-        let Gathered {
-            mut stretches,
-            has_subrs_line,
-            has_glyphs_line,
-            subrs,
-            glyphs,
-        } = self;
-        stretches.push((number, Stretch::Lines(plain)))?;
-        Ok(Gathered {
-            stretches,
-            has_subrs_line,
-            has_glyphs_line,
-            subrs,
-            glyphs,
-        })
     }
 
     /// The items and a further one, which begins on the line of this number. Where it is a glyph, its name comes with it.
@@ -151,7 +111,7 @@ impl<'a> Gathered<'a> {
         ensures { IfOk result (λ g. g ≡ self.entry ++ (number, item.entry) ∷ []) }
     {
         let Gathered {
-            mut stretches,
+            mut items,
             has_subrs_line,
             has_glyphs_line,
             mut subrs,
@@ -170,9 +130,9 @@ impl<'a> Gathered<'a> {
         if let Some(name) = name {
             glyphs.insert(name)?;
         }
-        stretches.push((number, Stretch::One(item)))?;
+        items.push((number, item))?;
         Ok(Gathered {
-            stretches,
+            items,
             has_subrs_line,
             has_glyphs_line,
             subrs,
