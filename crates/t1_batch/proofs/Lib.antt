@@ -1,4 +1,3 @@
-pub mod AloneLaws
 pub mod Drafting
 pub mod Gathering
 pub mod Marking

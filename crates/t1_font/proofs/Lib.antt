@@ -1,4 +1,3 @@
-pub mod AloneLaws
 pub mod Checking
 pub mod Compiling
 pub mod Counted

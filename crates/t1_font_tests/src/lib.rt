@@ -15,8 +15,6 @@ mod font;
 #[cfg(test)]
 mod frac;
 #[cfg(test)]
-mod items;
-#[cfg(test)]
 mod pairs;
 #[cfg(test)]
 mod run;

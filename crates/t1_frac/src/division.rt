@@ -59,9 +59,8 @@ pub(crate) fn signed_quotient(number: i64, divisor: u64) -> i64
 
 /// The greatest whole number that isn't above a quotient.
 #[inline(always)]
-pub(crate) fn floor_quotient(number: i64, divisor: u64) -> i64
-    requires above { 0 < divisor }
-    requires below { divisor < 2 ^ 63 }
+pub(crate) fn floor_quotient(number: i64, divisor: u32) -> i64
+    requires { 0 < divisor }
     ensures { result ≡ int_div_euclid number (pos divisor) }
 {
     match divisor {
@@ -71,6 +70,6 @@ pub(crate) fn floor_quotient(number: i64, divisor: u64) -> i64
         5 => number.div_euclid(5),
         10 => number.div_euclid(10),
         100 => number.div_euclid(100),
-        _ => number.div_euclid(divisor as i64),
+        _ => number.div_euclid(i64::from(divisor)),
     }
 }

@@ -1,4 +1,3 @@
-pub mod AloneSearchLaws
 pub mod ChangeLaws
 pub mod CodeLaws
 pub mod CountedLaws
@@ -9,7 +8,6 @@ pub mod ItemPlaceLaws
 pub mod ItemsAgainLaws
 pub mod LeadEditLaws
 pub mod LeadLineLaws
-pub mod MadeSourceLaws
 pub mod OrderLaws
 pub mod PrintedLaws
 pub mod PrintingRows
