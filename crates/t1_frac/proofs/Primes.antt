@@ -1,9 +1,12 @@
 -- What is less than a prime has no divisor in common with it.
-use Rattle.std.proofs.Common.{◌≡◌, ℕ, zero, suc, ◌%◌, ◌<◌, arith, refl, subst, inl, inr}
+use Rattle.std.proofs.Common.{◌≡◌, ℕ, zero, suc, ◌%◌, ◌<◌, ℤ, pos, arith, refl, sym, subst, inl, inr}
+use Rattle.std.specs.Int.RustNames.{unsigned_abs, int_div}
 use Rattle.std.specs.Int.{IsGcd}
-use Rattle.std.proofs.lemmas.Nat.Gcd.{IsGcd-from_mod}
-use Rattle.t1_frac.specs.Fraction.{gcd, IsSmallPrime}
-use Rattle.t1_frac.proofs.Divisors.{IsGcd-gcd}
+use Rattle.std.proofs.Math.Nat.{div_self}
+use Rattle.std.proofs.lemmas.Nat.Gcd.{IsGcd-from_zero, IsGcd-from_mod}
+use Rattle.t1_frac.specs.Fraction.{gcd, lowest, IsSmallPrime}
+use Rattle.t1_frac.proofs.Divisors.{IsGcd-gcd, gcd_is}
+use Rattle.t1_frac.proofs.Exact.{lowest_coprime_terms}
 
 below-two : (r : ℕ) → 0 < r → r < 2 → gcd 2 r ≡ 1
 unfolding gcd
@@ -48,3 +51,16 @@ coprime_below p r (inr (inr (inr is))) h k = rw is (below-seven r h (rw is at k)
 pub coprime : (a p r : ℕ) → IsSmallPrime p → r ≡ a % p → 0 < r → r < p → IsGcd a p 1
 coprime a p r prime is some below =
     IsGcd-from_mod a p 1 (subst (λ m. IsGcd p m 1) is (subst (IsGcd p r) (coprime_below p r prime some below) (IsGcd-gcd p r)))
+
+-- what a prime divides has it for its greatest common divisor
+multiple_gcd : (a p : ℕ) → a % p ≡ 0 → gcd a p ≡ p
+multiple_gcd a p h = sym (gcd_is a p p (IsGcd-from_mod a p p (IsGcd-from_zero p (a % p) h)))
+
+-- a numerator that a prime divides, over it
+pub multiple_over_prime : (n : ℤ) (p : ℕ) → 0 < p → unsigned_abs n % p ≡ 0 → lowest (record { num = n; den = p }) ≡ record { num = int_div n (pos p); den = 1 }
+unfolding lowest
+multiple_over_prime n p above h = rw (multiple_gcd (unsigned_abs n) p h) (rw (div_self above) refl)
+
+-- and one that it doesn't divide
+pub other_over_prime : (n : ℤ) (p : ℕ) → IsSmallPrime p → 0 < unsigned_abs n % p → unsigned_abs n % p < p → lowest (record { num = n; den = p }) ≡ record { num = n; den = p }
+other_over_prime n p prime some below = lowest_coprime_terms n p (sym (gcd_is (unsigned_abs n) p 1 (coprime (unsigned_abs n) p (unsigned_abs n % p) prime refl some below)))

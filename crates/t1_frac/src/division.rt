@@ -59,8 +59,9 @@ pub(crate) fn signed_quotient(number: i64, divisor: u64) -> i64
 
 /// The greatest whole number that isn't above a quotient.
 #[inline(always)]
-pub(crate) fn floor_quotient(number: i64, divisor: u32) -> i64
-    requires { 0 < divisor }
+pub(crate) fn floor_quotient(number: i64, divisor: u64) -> i64
+    requires above { 0 < divisor }
+    requires below { divisor < 2 ^ 63 }
     ensures { result ≡ int_div_euclid number (pos divisor) }
 {
     match divisor {
@@ -70,6 +71,6 @@ pub(crate) fn floor_quotient(number: i64, divisor: u32) -> i64
         5 => number.div_euclid(5),
         10 => number.div_euclid(10),
         100 => number.div_euclid(100),
-        _ => number.div_euclid(i64::from(divisor)),
+        _ => number.div_euclid(divisor as i64),
     }
 }

@@ -1,8 +1,8 @@
 //! Exact fractions within the limits of a run.
 
-ghost use Rattle.std.specs.Prelude.{◌≡◌, ◌≢◌, ◌+ℤ◌, ◌*ℤ◌, pos, ◌*◌, ◌^◌, ◌≤◌, ◌<◌, ◌==◌, IfOk, true};
+ghost use Rattle.std.specs.Prelude.{◌≡◌, ◌≢◌, ◌+ℤ◌, ◌*ℤ◌, pos, ◌*◌, ◌^◌, ◌≤◌, ◌<◌, ◌==◌, IfOk, MatchResult, Ok, Err, true};
 ghost use Rattle.std.specs.Int.RustNames.{unsigned_abs};
-ghost use Rattle.t1_frac.specs.Fraction.{whole as whole_of, gcd as gcd_of, IsLowest, lowest, plus, negated as negated_of, over, compared, floor_of, ceiling_of, nearest_of};
+ghost use Rattle.t1_frac.specs.Fraction.{whole as whole_of, gcd as gcd_of, IsLowest, IsSmallPrime, lowest, plus, negated as negated_of, over, compared, floor_of, ceiling_of, nearest_of};
 ghost use Rattle.t1_frac.specs.Limits.{IsCoordinate, coordinate_sum, coordinate_difference, quotient, within};
 ghost use Rattle.t1_frac.specs.declared.fault.Code.TheVariants.{F40};
 
@@ -17,7 +17,7 @@ use std::marker::Model;
 #[derive(Clone, Copy, Debug, PartialEq, Eq)]
 pub struct Frac {
     num: i64,
-    den: u32,
+    den: u64,
 }
 
 impl Model for Frac {
@@ -34,10 +34,26 @@ impl Model for Frac {
     ghost inverse = { λ v. record { num = v.num; den = v.den } };
 }
 
+/// A short numerator over one of the first primes, in lowest terms: what the prime doesn't divide has nothing in common with it.
+/// The prime is known where this is compiled, so that no division is made.
+#[tactic(auto, using(crate::proofs::Primes::multiple_over_prime, crate::proofs::Primes::other_over_prime))]
+#[inline(always)]
+fn over_prime(num: i64, prime: u64) -> (i64, u64)
+    requires num { unsigned_abs num < 2 ^ 63 }
+    requires prime { IsSmallPrime prime }
+    ensures lowest { record { num = result.0; den = result.1 } ≡ lowest (record { num = num; den = prime }) }
+    ensures den_above { 0 < result.1 }
+    ensures den_below { result.1 ≤ prime }
+{
+    if num % prime as i64 == 0 {
+        return (signed_quotient(num, prime), 1);
+    }
+    (num, prime)
+}
+
 /// A short numerator and denominator over their greatest common divisor.
 #[tactic(auto, using(crate::proofs::Divisors::gcd_above, crate::proofs::Divisors::gcd_below, crate::proofs::Exact::lowest_coprime_terms), unfolding(crate::specs::Fraction::lowest))]
-#[inline(always)]
-fn in_lowest_terms(num: i64, den: u64) -> (i64, u64)
+fn over_common_divisor(num: i64, den: u64) -> (i64, u64)
     requires num { unsigned_abs num < 2 ^ 63 }
     requires den_above { 0 < den }
     requires den_below { den < 2 ^ 63 }
@@ -50,6 +66,25 @@ fn in_lowest_terms(num: i64, den: u64) -> (i64, u64)
         return (num, den);
     }
     (signed_quotient(num, divisor), quotient(den, divisor))
+}
+
+/// A short numerator and denominator in lowest terms. Most denominators of fonts are primes.
+#[inline(always)]
+fn in_lowest_terms(num: i64, den: u64) -> (i64, u64)
+    requires num { unsigned_abs num < 2 ^ 63 }
+    requires den_above { 0 < den }
+    requires den_below { den < 2 ^ 63 }
+    ensures lowest { record { num = result.0; den = result.1 } ≡ lowest (record { num = num; den = den }) }
+    ensures den_above { 0 < result.1 }
+    ensures den_below { result.1 ≤ den }
+{
+    match den {
+        2 => over_prime(num, 2),
+        3 => over_prime(num, 3),
+        5 => over_prime(num, 5),
+        7 => over_prime(num, 7),
+        _ => over_common_divisor(num, den),
+    }
 }
 
 /// The same in 128 bits.
@@ -65,8 +100,22 @@ fn long_in_lowest_terms(num: i128, den: u128) -> (i128, u128)
     (num / divisor as i128, den / divisor)
 }
 
+/// The fault of a short fraction that is too fine: this one where its size is past the limit, else F39.
+#[cold]
+#[inline(never)]
+fn fine_fault(fault: Code, limit: u64, num: i64, den: u64) -> Code
+    requires limit { limit ≤ 2 ^ 31 }
+    requires fine { 2 ^ 20 < den }
+    ensures { within fault limit (record { num = num; den = den }) ≡ Err result }
+{
+    if u128::from(num.unsigned_abs()) > u128::from(limit) * u128::from(den) {
+        fault
+    } else {
+        Code::F39
+    }
+}
+
 /// The fraction, or this fault where its size is past the limit, or F39 where it is too fine.
-#[inline(always)]
 fn limited(fault: Code, limit: u64, num: i128, den: u128) -> Result<Frac, Code>
     requires limit { limit ≤ 2 ^ 31 }
     requires den_above { 0 < den }
@@ -82,8 +131,28 @@ fn limited(fault: Code, limit: u64, num: i128, den: u128) -> Result<Frac, Code>
     }
     Ok(Frac {
         num: num as i64,
-        den: den as u32,
+        den: den as u64,
     })
+}
+
+/// Whether a short fraction is past the limit, or else too fine.
+#[inline(always)]
+fn check_limits(fault: Code, limit: u64, num: i64, den: u64) -> Result<(), Code>
+    requires limit { limit ≤ 2 ^ 31 }
+    ensures within { MatchResult
+        result
+        (λ _. within fault limit (record { num = num; den = den }) ≡ Ok (record { num = num; den = den }))
+        (λ code. within fault limit (record { num = num; den = den }) ≡ Err code) }
+    ensures fine { IfOk result (λ _. den ≤ 2 ^ 20) }
+    ensures small { IfOk result (λ _. unsigned_abs num ≤ limit * den) }
+{
+    if 1 << 20 < den {
+        return Err(fine_fault(fault, limit, num, den));
+    }
+    if num.unsigned_abs() > limit * den {
+        return Err(fault);
+    }
+    Ok(())
 }
 
 /// The short fraction in lowest terms, or this fault where its size is past the limit, or F39 where it is too fine.
@@ -97,7 +166,8 @@ fn reduced(fault: Code, limit: u64, num: i64, den: u64) -> Result<Frac, Code>
     ensures { result ≡ within fault limit (lowest (record { num = num; den = den })) }
 {
     let (num, den) = in_lowest_terms(num, den);
-    limited(fault, limit, i128::from(num), u128::from(den))
+    check_limits(fault, limit, num, den)?;
+    Ok(Frac { num, den })
 }
 
 /// The same in 128 bits.
@@ -125,17 +195,17 @@ fn whole_coordinate(num: i64) -> Result<Frac, Code>
 }
 
 /// A short numerator over a denominator's multiple.
-fn scaled(num: i64, den: u32) -> i64
+fn scaled(num: i64, den: u64) -> i64
     requires num { unsigned_abs num ≤ 2 ^ 40 }
     requires den { den ≤ 2 ^ 20 }
     ensures value { result ≡ num *ℤ pos den }
     ensures size { unsigned_abs result ≤ 2 ^ 60 }
 {
-    num * i64::from(den)
+    num * den as i64
 }
 
 /// The same in 128 bits.
-fn long_scaled(num: i64, den: u32) -> i128
+fn long_scaled(num: i64, den: u64) -> i128
     requires num { unsigned_abs num ≤ 2 ^ 51 }
     requires den { den ≤ 2 ^ 31 }
     ensures value { result ≡ num *ℤ pos den }
@@ -169,7 +239,7 @@ impl Frac {
         ensures above { 0 < self.now.den }
         ensures fine { self.now.den ≤ 2 ^ 20 }
     {
-        i64::from(self.den)
+        self.den as i64
     }
 
     /// Whether it is a whole number.
@@ -198,7 +268,7 @@ impl Frac {
     {
         let left = scaled(self.num, other.den);
         let right = scaled(other.num, self.den);
-        let den = u64::from(self.den) * u64::from(other.den);
+        let den = self.den * other.den;
         (left + right, den)
     }
 
@@ -222,20 +292,36 @@ impl Frac {
         self.num + other.num
     }
 
-    /// The sum's numerator and denominator, not in lowest terms. Over one denominator the numerators are added.
+    /// The sum's numerator and denominator over one denominator, not in lowest terms: the numerators are added.
     #[tactic(auto, using(crate::proofs::Sums::sum_alike))]
-    fn sum_terms(&self, other: &Frac) -> (i64, u64)
-        requires left_short { unsigned_abs self.now.num ≤ 2 ^ 40 }
-        requires right_short { unsigned_abs other.now.num ≤ 2 ^ 40 }
+    #[inline(always)]
+    fn alike_terms(&self, other: &Frac) -> (i64, u64)
+        requires { self.now.den ≡ other.now.den }
         ensures sum { lowest (record { num = result.0; den = result.1 }) ≡ lowest (plus self.now other.now) }
         ensures num_below { unsigned_abs result.0 < 2 ^ 63 }
         ensures den_above { 0 < result.1 }
         ensures den_below { result.1 < 2 ^ 63 }
     {
-        if self.den == other.den {
-            return (self.sum_num(other), u64::from(self.den));
+        (self.sum_num(other), self.den)
+    }
+
+    /// The quotient's numerator and denominator, not in lowest terms, where both are whole.
+    #[inline(always)]
+    fn whole_quotient_terms(&self, other: &Frac) -> (i64, u64)
+        requires some { unsigned_abs other.now.num ≢ 0 }
+        requires left { self.now.den ≡ 1 }
+        requires right { other.now.den ≡ 1 }
+        ensures quotient { record { num = result.0; den = result.1 } ≡ over self.now other.now }
+        ensures num_below { unsigned_abs result.0 < 2 ^ 63 }
+        ensures den_above { 0 < result.1 }
+        ensures den_below { result.1 < 2 ^ 63 }
+    {
+        let den = other.num.unsigned_abs();
+        if other.num < 0 {
+            (-self.num, den)
+        } else {
+            (self.num, den)
         }
-        self.crossed_terms(other)
     }
 
     /// The quotient's numerator and denominator, not in lowest terms.
@@ -249,7 +335,7 @@ impl Frac {
         ensures den_below { result.1 < 2 ^ 63 }
     {
         let num = scaled(self.num, other.den);
-        let den = u64::from(self.den) * other.num.unsigned_abs();
+        let den = self.den * other.num.unsigned_abs();
         if other.num < 0 {
             (-num, den)
         } else {
@@ -294,14 +380,18 @@ impl Frac {
         long_reduced(Code::F40, 1 << 20, num, den)
     }
 
-    /// The sum, where both may have fractions.
+    /// The sum, where both may have fractions. Over one denominator the numerators are added.
     #[tactic(auto, unfolding(crate::specs::Limits::coordinate_sum))]
     #[inline(never)]
     fn fraction_sum(self, other: Frac) -> Result<Frac, Code>
         ensures { result ≡ coordinate_sum self other }
     {
+        if self.den == other.den {
+            let (num, den) = self.alike_terms(&other);
+            return reduced(Code::F40, 1 << 20, num, den);
+        }
         if self.is_short() && other.is_short() {
-            let (num, den) = self.sum_terms(&other);
+            let (num, den) = self.crossed_terms(&other);
             return reduced(Code::F40, 1 << 20, num, den);
         }
         self.add_long(other)
@@ -352,11 +442,16 @@ impl Frac {
 
     /// The quotient. It is F38 by 0, F37 past 2^31 in size, and then F39 where its denominator is past 1,048,576.
     #[tactic(auto, unfolding(crate::specs::Limits::quotient))]
+    #[inline(always)]
     pub fn div(&self, other: &Frac) -> Result<Frac, Code>
         ensures { result ≡ quotient self.now other.now }
     {
         if other.num == 0 {
             return Err(Code::F38);
+        }
+        if self.den == 1 && other.den == 1 {
+            let (num, den) = self.whole_quotient_terms(other);
+            return reduced(Code::F37, 1 << 31, num, den);
         }
         if self.is_short() && other.is_short() {
             let (num, den) = self.quotient_terms(other);
@@ -376,7 +471,7 @@ impl Frac {
     pub fn ceil(&self) -> i64
         ensures { result ≡ ceiling_of self.now }
     {
-        -(-self.num).div_euclid(i64::from(self.den))
+        -(-self.num).div_euclid(self.den as i64)
     }
 
     /// The same, where it may have a fraction. A division takes as long as a glyph's line.
@@ -384,7 +479,7 @@ impl Frac {
     fn nearest_to_fraction(&self) -> i64
         ensures { result ≡ nearest_of self.now }
     {
-        let den = i64::from(self.den);
+        let den = self.den as i64;
         (self.num * 2 + den).div_euclid(2 * den)
     }
 

@@ -16,7 +16,8 @@ pub use bytes::Bytes;
 pub use fault::{Code, Fault, Place, Refusal};
 pub use frac::Frac;
 pub use number::{
-    are_digits, digits_of_word, is_number_word, leading_number, magnitude, number_word,
+    are_digits, digits_of_word, is_number_word, leading_number, leading_short_number, magnitude,
+    number_word,
 };
 pub use source_text::SourceText;
 pub use words::{OwnedWords, Words, blank_len, is_blank, next_word, skip_blanks};

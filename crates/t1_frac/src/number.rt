@@ -1,5 +1,5 @@
 //! Number words.
-ghost use Rattle.std.specs.Prelude.{◌≡◌, ◌+◌, ◌-◌, ◌*◌, ◌^◌, ◌≤◌, true, false, length, take, min, MatchOption};
+ghost use Rattle.std.specs.Prelude.{◌≡◌, ◌+◌, ◌-◌, ◌*◌, ◌^◌, ◌≤◌, ◌<◌, ◌⊎◌, true, false, None, length, take, min, IfSome, MatchOption};
 ghost use Rattle.std.specs.List.{list_all, prefix_len};
 ghost use Rattle.std.specs.Char.{is_ascii_digit};
 ghost use Rattle.t1_frac.specs.Numbers.{digits_of_word, decimal_value, is_number_word, number_word};
@@ -61,9 +61,9 @@ fn leading_large_number(text: &[u8]) -> (u64, usize)
 /// From this number on, which few words reach, digits are read with an eye on the end of 64 bits.
 const LARGE: u64 = 1 << 30;
 
-/// The number that the digits at the front of a text write, or 2^64 - 1 where it is more, and how many digits there
-/// are.
-pub fn leading_number(text: &[u8]) -> (u64, usize)
+/// The same as `leading_number`, digit by digit.
+#[inline(never)]
+fn leading_digits(text: &[u8]) -> (u64, usize)
     ensures within { result.1 ≤ length text.now }
     ensures count { result.1 ≡ prefix_len is_ascii_digit text.now }
     ensures value { result.0 ≡ min (decimal_value (take result.1 text.now)) (2 ^ 64 - 1) }
@@ -81,6 +81,51 @@ pub fn leading_number(text: &[u8]) -> (u64, usize)
         count += 1;
     }
     (value, count)
+}
+
+/// The number that the digits at the front of a text write, and how many digits there are, where they are up to three and the text
+/// has four bytes or more; else nothing. Most numbers of a font are so, and are told apart without a loop.
+#[inline(always)]
+pub fn leading_short_number(text: &[u8]) -> Option<(u32, usize)>
+    ensures within { IfSome result (λ found. found.1 ≤ length text.now) }
+    ensures count { IfSome result (λ found. found.1 ≡ prefix_len is_ascii_digit text.now) }
+    ensures value { IfSome result (λ found. found.0 ≡ decimal_value (take found.1 text.now)) }
+    ensures short { IfSome result (λ found. found.0 < 1000) }
+    ensures else_longer { result ≡ None → (length text.now < 4) ⊎ (4 ≤ prefix_len is_ascii_digit text.now) }
+{
+    let [first, second, third, fourth, ..] = text else {
+        return None;
+    };
+    if !first.is_ascii_digit() {
+        return Some((0, 0));
+    }
+    let value = u32::from(*first - b'0');
+    if !second.is_ascii_digit() {
+        return Some((value, 1));
+    }
+    let value = value * 10 + u32::from(*second - b'0');
+    if !third.is_ascii_digit() {
+        return Some((value, 2));
+    }
+    let value = value * 10 + u32::from(*third - b'0');
+    if !fourth.is_ascii_digit() {
+        return Some((value, 3));
+    }
+    None
+}
+
+/// The number that the digits at the front of a text write, or 2^64 - 1 where it is more, and how many digits there
+/// are.
+#[inline(always)]
+pub fn leading_number(text: &[u8]) -> (u64, usize)
+    ensures within { result.1 ≤ length text.now }
+    ensures count { result.1 ≡ prefix_len is_ascii_digit text.now }
+    ensures value { result.0 ≡ min (decimal_value (take result.1 text.now)) (2 ^ 64 - 1) }
+{
+    match leading_short_number(text) {
+        Some((value, count)) => (u64::from(value), count),
+        None => leading_digits(text),
+    }
 }
 
 /// The number that digits write, or 2^64 - 1 where it is more; nothing where a byte is no digit.

@@ -2,7 +2,7 @@ use Rattle.std.proofs.Common.{◌≡◌, ◌+◌, ◌-◌, ◌^◌, ◌≤◌, m
 use Rattle.std.specs.List.{prefix_len}
 use Rattle.std.specs.Char.{is_ascii_digit}
 use Rattle.t1_frac.specs.Numbers.{decimal_value}
-use Rattle.t1_frac.proofs.number.leading_number.Given as goal
+use Rattle.t1_frac.proofs.number.leading_digits.Given as goal
 
 -- the bytes so far are digits, with this value, kept at 2^64 - 1
 abbrev pub invariant-loop-byte : goal.invariant-loop-byte
