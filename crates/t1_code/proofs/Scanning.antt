@@ -1,10 +1,11 @@
 -- The digits at the front of a text, and the word that they begin.
-use Rattle.std.proofs.Common.{◌≡◌, ℕ, ◌+◌, ◌<◌, ◌≤◌, Bool, true, false, not, ◌&&◌, ◌==◌, nat_lt, List, [], ◌∷◌, length, zero, suc, Option, None, Some, MatchOption, Result, Ok, Err, min, subst, length-take-le, ◌-◌, ◌^◌, take, drop, length-take, refl, sym, ap, ◌∙◌, inl, inr, arith}
+use Rattle.std.proofs.Common.{codes, ◌≡◌, ℕ, ◌+◌, ◌<◌, ◌≤◌, Bool, true, false, not, ◌&&◌, ◌==◌, nat_lt, List, [], ◌∷◌, length, zero, suc, Option, None, Some, MatchOption, Result, Ok, Err, min, subst, length-take-le, ◌-◌, ◌^◌, take, drop, length-take, refl, sym, ap, ◌∙◌, inl, inr, arith}
 use Rattle.std.specs.List.{list_all, prefix_len, position_or_len}
 use Rattle.std.specs.Char.{is_ascii_digit}
 use Rattle.std.specs.Str.Parse.{starts_with_minus}
 use Rattle.std.proofs.lemmas.Bool.{cases_Bool, and_parts, eqb-true, not-true, not-false, lt-ltb, le-ltb, cases_lt}
 use Rattle.std.specs.Str.{bytes_eq}
+use Rattle.std.specs.Map.{lookup}
 use Rattle.std.specs.Borrow.{Bor}
 use Rattle.std.proofs.lemmas.Slice.Eq.{bytes_eq-Decides}
 use Rattle.std.proofs.lemmas.List.Sums.{prefix_len-le-length}
@@ -14,6 +15,7 @@ use Rattle.t1_frac.specs.Words.{is_blank, trimmed_front, word_goes_on, words}
 use Rattle.t1_code.specs.Words.{first_word, in_32_bits, number_command, number_of_word, operator_named, operator_words, or_unknown, command_of_word, command_then, commands_of_words}
 use Rattle.t1_frac.specs.Numbers.{digits_of_word, is_number_word, number_written, signed, decimal_value}
 use Rattle.t1_code.specs.declared.command.Command.{Command}
+use Rattle.t1_code.specs.declared.command.Command.TheVariants.{Div}
 use Rattle.t1_frac.specs.declared.fault.Code.{Code}
 use Rattle.t1_frac.specs.declared.fault.Code.TheVariants.{F20, F21}
 
@@ -184,11 +186,10 @@ words_trimmed line [] e = no_word_at line [] e refl
 words_trimmed line (c ∷ rest) e =
     word_at line (c ∷ rest) e (omega arith) ∙ sym (word_at (c ∷ rest) (c ∷ rest) (trimmed_once line (c ∷ rest) e) (omega arith))
 
--- a line that begins with a number, and one that begins with another word
-pub number_line : (line rest after : List ℕ) (command : Result Command Code) → rest ≡ trimmed_front line → command ≡ command_of_word (first_word rest)
-    → words rest ≡ first_word rest ∷ words after → commands_of_words (words line) ≡ command_then command (commands_of_words (words after))
-number_line line rest after command e is split =
-    ap commands_of_words (words_trimmed line rest e ∙ split) ∙ ap (λ c. command_then c (commands_of_words (words after))) (sym is)
+-- a text that begins with a number, and a line that begins with another word
+pub number_text : (text after : List ℕ) (command : Result Command Code) → command ≡ command_of_word (first_word text) → words text ≡ first_word text ∷ words after
+    → commands_of_words (words text) ≡ command_then command (commands_of_words (words after))
+number_text text after command is split = ap commands_of_words split ∙ ap (λ c. command_then c (commands_of_words (words after))) (sym is)
 
 other_word : (word : List ℕ) (command : Result Command Code) → is_number_word word ≡ false → command ≡ or_unknown (operator_named word) → command ≡ command_of_word word
 unfolding command_of_word
@@ -300,6 +301,29 @@ past_named line rest after command e other is a =
       found.0 ∙ ap (λ ws. command_then (Ok command) (commands_of_words ws)) (sym (past_blank end after (word_stops rest) a)),
       omega (arith, found.1, less),
     )
+
+-- no number word names a command
+no_number_among : (word : List ℕ) (command : Command) (rows : List (List ℕ × Command)) → list_all (λ row. not (is_number_word row.0)) rows ≡ true → lookup (bytes_eq word) rows ≡ Some command → is_number_word word ≡ false
+no_number_among word command [] all is = absurd (cc)
+no_number_among word command (row ∷ rows) all is =
+    let parts = and_parts (not (is_number_word row.0)) (list_all (λ r. not (is_number_word r.0)) rows) all in
+    elim (cases_Bool (bytes_eq word row.0)) [
+      | inl same ↦ ap is_number_word ((bytes_eq-Decides word row.0).0 same) ∙ not-true (is_number_word row.0) parts.0
+      | inr other ↦ no_number_among word command rows parts.1 (rw other at is)
+    ]
+
+pub no_number_named : (word : List ℕ) (command : Command) → operator_named word ≡ Some command → is_number_word word ≡ false
+unfolding operator_named operator_words is_number_word
+no_number_named word command is = no_number_among word command operator_words refl is
+
+-- past `div`
+pub past_div : (rest after : List ℕ) → rest ≡ trimmed_front rest → bytes_eq (first_word rest) (codes "div") ≡ true
+    → after ≡ drop 1 (drop (position_or_len is_blank rest) rest)
+    → (commands_of_words (words rest) ≡ command_then (Ok Div) (commands_of_words (words after))) × (length after < length rest)
+unfolding operator_named operator_words
+past_div rest after e same a =
+    let named = ap operator_named ((bytes_eq-Decides (first_word rest) (codes "div")).0 same) in
+    past_named rest rest after Div e (no_number_named (first_word rest) Div named) named a
 
 -- what is past a word that a text begins with, where the word ends there
 pub past_word : (word text end : List ℕ) (past : Option (Bor (List ℕ))) → list_all (λ c. not (is_blank c)) word ≡ true → bytes_eq (take (length word) text) word ≡ true → end ≡ drop (length word) text

@@ -1,16 +1,20 @@
 //! The words of a body, read as commands.
-ghost use Rattle.std.specs.Prelude.{◌≡◌, ◌<◌, [], ◌∷◌, false, nat_lt, length, take, IfSome, MatchOption};
+ghost use Rattle.std.specs.Prelude.{◌≡◌, ◌<◌, ◌≤◌, [], Ok, false, nat_lt, length, take, IfSome, MatchOption};
 ghost use Rattle.t1_frac.specs.Outcome.{Gives, reported_at};
 ghost use Rattle.t1_frac.specs.Words.{trimmed_front, words};
 ghost use Rattle.t1_frac.specs.declared.fault.Place.TheVariants.{Nowhere};
 ghost use Rattle.t1_code.specs.Words.{number_command, in_32_bits, first_word, after_others, command_of_word, command_then, commands_of_words, commands};
+ghost use Rattle.t1_code.specs.declared.command.Command.TheVariants as commands_named;
 ghost use Rattle.t1_frac.specs.Numbers.{signed, is_number_word};
 
 use crate::body::Body;
 use crate::command::Command;
-use crate::first_word::past_end;
+use crate::first_word::{after_word, past_end};
 use std::alloc::Global;
-use t1_frac::{Code, Refusal, Words, digits_of_word, leading_number, next_word, skip_blanks};
+use t1_frac::{
+    Code, Refusal, Words, digits_of_word, leading_number, leading_short_number, next_word,
+    skip_blanks,
+};
 
 /// The most words of a body.
 const MAX_WORDS: usize = 65_535;
@@ -29,15 +33,25 @@ fn number_command(minus: bool, size: u64) -> Result<Command, Code>
     Err(Code::F21)
 }
 
-/// The number word that a text begins with, as a command, and the bytes after it; nothing where the text begins with
-/// another word or with none.
+/// A text without the blanks at its front.
 #[inline(always)]
+fn from_word(text: &[u8]) -> &[u8]
+    ensures trimmed { result.now ≡ trimmed_front result.now }
+    ensures same { words result.now ≡ words text.now }
+    ensures shorter { length result.now ≤ length text.now }
+{
+    skip_blanks(text)
+}
+
+/// The number word that a text begins with, whatever its digits, as a command, and the bytes after it; nothing where the text begins
+/// with another word or with none.
+#[inline(never)]
 fn first_number(text: &[u8]) -> Option<(Result<Command, Code>, &[u8])>
     ensures shorter { IfSome result (λ found. length found.1.now < length text.now) }
     ensures value { MatchOption
         result
         (is_number_word (first_word text.now) ≡ false)
-        (λ found. (found.0 ≡ command_of_word (first_word text.now)) × (words text.now ≡ first_word text.now ∷ words found.1.now)) }
+        (λ found. commands_of_words (words text.now) ≡ command_then found.0 (commands_of_words (words found.1.now))) }
 {
     let digits = digits_of_word(text);
     let (size, count) = leading_number(digits);
@@ -51,12 +65,55 @@ fn first_number(text: &[u8]) -> Option<(Result<Command, Code>, &[u8])>
     Some((number_command(digits.len() < text.len(), size), after))
 }
 
+/// The command of a number of this size, which is short.
+#[inline(always)]
+fn short_number_command(minus: bool, size: u32) -> Command
+    requires { size < 1000 }
+    ensures { Ok result ≡ number_command (in_32_bits (signed minus size)) }
+{
+    let number = size as i32;
+    Command::Num(if minus { -number } else { number })
+}
+
+/// The number word of up to three digits that a text begins with, as a command, and the bytes after it. Most words are so. Nothing is
+/// said where it answers nothing: the number may be longer, or the last word of the text.
+#[inline(always)]
+fn first_short_number(text: &[u8]) -> Option<(Command, &[u8])>
+    ensures shorter { IfSome result (λ found. length found.1.now < length text.now) }
+    ensures value { IfSome result (λ found. commands_of_words (words text.now) ≡ command_then (Ok found.0) (commands_of_words (words found.1.now))) }
+{
+    let digits = digits_of_word(text);
+    let Some((size, count)) = leading_short_number(digits) else {
+        return None;
+    };
+    let after = digits.split_at(count).1;
+    if count == 0 {
+        return None;
+    }
+    let Some(after) = past_end(after) else {
+        return None;
+    };
+    let command = short_number_command(digits.len() < text.len(), size);
+    Some((command, after))
+}
+
+/// The bytes after the first word of a text, where it is `div`. A font whose coordinates have fractions has one for each of them.
+#[inline(always)]
+fn after_div(rest: &[u8]) -> Option<&[u8]>
+    requires { rest.now ≡ trimmed_front rest.now }
+    ensures { IfSome result (λ after. (commands_of_words (words rest.now) ≡ command_then (Ok commands_named.Div) (commands_of_words (words after.now))) × (length after.now < length rest.now)) }
+{
+    let Some(after) = after_word(b"div", rest) else {
+        return None;
+    };
+    Some(after)
+}
+
 /// What the first word of a text says, and the bytes after the word; nothing where the text has no word. The text begins with
-/// no blank and with no number word. It stands apart from `next_command`, which is inlined, since most words are numbers.
+/// no blank. It stands apart from what tells short numbers, which most words are.
 #[inline(never)]
-fn other_command(rest: &[u8]) -> Option<(Result<Command, Code>, &[u8])>
-    requires trimmed { rest.now ≡ trimmed_front rest.now }
-    requires other { is_number_word (first_word rest.now) ≡ false }
+fn first_command(rest: &[u8]) -> Option<(Result<Command, Code>, &[u8])>
+    requires { rest.now ≡ trimmed_front rest.now }
     ensures shorter { IfSome result (λ found. length found.1.now < length rest.now) }
     ensures value { MatchOption
         result
@@ -65,6 +122,9 @@ fn other_command(rest: &[u8]) -> Option<(Result<Command, Code>, &[u8])>
 {
     if let Some((command, after)) = Command::first(rest) {
         return Some((Ok(command), after));
+    }
+    if let Some((number, after)) = first_number(rest) {
+        return Some((number, after));
     }
     let Some((_word, after)) = next_word(rest) else {
         return None;
@@ -81,11 +141,11 @@ pub(crate) fn next_command(line: &[u8]) -> Option<(Result<Command, Code>, &[u8])
         (words line.now ≡ [])
         (λ found. commands_of_words (words line.now) ≡ command_then found.0 (commands_of_words (words found.1.now))) }
 {
-    let rest = skip_blanks(line);
-    if let Some((number, after)) = first_number(rest) {
-        return Some((number, after));
+    let rest = from_word(line);
+    if let Some((command, after)) = first_short_number(rest) {
+        return Some((Ok(command), after));
     }
-    other_command(rest)
+    first_command(rest)
 }
 
 /// How many words a text has.
@@ -115,11 +175,24 @@ fn read_words(read: &mut Vec<Command>, text: &[u8]) -> Result<(), Refusal>
     ensures front { take (length read.old.items) read.new.items ≡ read.old.items }
 {
     let mut rest = text;
-    while let Some((command, after)) = next_command(rest) {
+    'words: loop {
+        let first = from_word(rest);
+        if let Some((command, after)) = first_short_number(first) {
+            read.push(command)?;
+            rest = after;
+            continue;
+        }
+        if let Some(after) = after_div(first) {
+            read.push(Command::Div)?;
+            rest = after;
+            continue;
+        }
+        let Some((command, after)) = first_command(first) else {
+            return Ok(());
+        };
         read.push(command?)?;
         rest = after;
     }
-    Ok(())
 }
 
 /// Adds the commands of a body's words to others: F22 past 65,535 words, then the first word's fault that has one, F20 for an

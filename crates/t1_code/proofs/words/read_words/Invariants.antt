@@ -4,11 +4,11 @@ use Rattle.t1_code.specs.Words.{after_others, commands_of_words}
 use Rattle.t1_code.proofs.words.read_words.Given as goal
 
 -- the commands so far stand in front of those of the words that are left, and the first ones first of all
-abbrev pub invariant-loop-command : goal.invariant-loop-command
-invariant-loop-command l = record {
+abbrev pub invariant-words : goal.invariant-words
+invariant-words l = record {
   read : after_others l.read.items (commands_of_words (words l.rest)) ≡ after_others l.fn.read.items (commands_of_words (words l.text));
   front : take (length l.fn.read.items) l.read.items ≡ l.fn.read.items;
 }
 
-abbrev pub decreases-loop-command : goal.decreases-loop-command
-decreases-loop-command l = length l.rest
+abbrev pub decreases-words : goal.decreases-words
+decreases-words l = length l.rest
