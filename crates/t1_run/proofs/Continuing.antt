@@ -8,12 +8,14 @@ use Rattle.t1_frac.specs.declared.fault.Place.TheVariants.{Nowhere}
 use Rattle.t1_frac.specs.declared.fault.Refusal.{Refusal}
 use Rattle.t1_frac.specs.declared.fault.Refusal.TheVariants as refusals
 use Rattle.t1_code.specs.declared.command.Command.{Command}
+use Rattle.t1_run.specs.declared.halt.Halt.{Halt}
+use Rattle.t1_run.specs.declared.halt.Halt.TheVariants as halts
 use Rattle.t1_run.specs.declared.outline.Accent.{Accent}
 use Rattle.t1_run.specs.declared.outline.Composite.{Composite}
 use Rattle.t1_run.specs.State.{State, initial}
 use Rattle.t1_run.specs.Step.{Next, Call, Back, End, Compose, Fault}
 use Rattle.t1_run.specs.Words.{step}
-use Rattle.t1_run.specs.Machine.{RefusesStep}
+use Rattle.t1_run.specs.Machine.{RefusesStep, refusal_by}
 use Rattle.t1_run.specs.Continuing.{Continues, resume}
 use Rattle.t1_run.specs.Run.{FontBodies, Key, Subr, Progress, reached, Completed, Failed, go_on, act, words, call_within, called, too_deep, composed, composite_of, asking_parts, encoded, runs, entering, body_stop, drawing_of, outcome_of}
 
@@ -174,10 +176,10 @@ outcome-partless {m = m} {cs = cs} {waiting = waiting} {s' = s'} {a = a} {fault 
 
 -- ---- what refuses a word, or the search for parts, refuses the run
 
-pub refused-step : {m : FontBodies} {body cs : List Command} {waiting : List (List Command)} {s : State} {c : Command} (refusal : Refusal)
-    → Continues m body (c ∷ cs) waiting s → RefusesStep refusal (step c s) → Refuses refusal (reported_at Nowhere (outcome_of (body_stop m body)))
-refused-step refusals.Memory h e = tt
-refused-step (refusals.Fault f) h e = ap (reported_at Nowhere) (outcome-fault h e.1) ∙ ap Err (sym e.0)
+pub refused-step : {m : FontBodies} {body cs : List Command} {waiting : List (List Command)} {s : State} {c : Command} (halt : Halt)
+    → Continues m body (c ∷ cs) waiting s → RefusesStep halt (step c s) → Refuses (refusal_by halt) (reported_at Nowhere (outcome_of (body_stop m body)))
+refused-step halts.Memory h e = tt
+refused-step (halts.Fault code) h e = ap (reported_at Nowhere) (outcome-fault h e)
 
 refused_at : {m : FontBodies} {body cs : List Command} {waiting : List (List Command)} {s s' : State} {c : Command} {a : Accent}
     → Continues m body (c ∷ cs) waiting s → step c s ≡ Compose a s' → (r : Result Composite Code) → composite_of m.glyphs a ≡ r

@@ -7,6 +7,7 @@ pub mod Moved
 pub mod Naming
 pub mod Outlines
 pub mod Parts
+pub mod Pushing
 pub mod Rows
 pub mod Searched
 pub mod Steps

@@ -3,11 +3,12 @@ use Rattle.std.specs.Prelude.{◌≡◌, ℕ, suc, ◌+◌, length, List, [], �
 use Rattle.std.specs.Borrow.{Bor}
 use Rattle.t1_frac.specs.declared.fault.Refusal.{Refusal}
 use Rattle.t1_code.specs.declared.command.Command.{Command}
+use Rattle.t1_run.specs.declared.halt.Halt.{Halt}
 use Rattle.t1_run.specs.declared.state.Control.{Control}
 use Rattle.t1_run.specs.declared.state.State.{State as StateFields}
 use Rattle.t1_run.specs.State.{State}
 use Rattle.t1_run.specs.Words.{step}
-use Rattle.t1_run.specs.Machine.{state_of, reported, RefusesStep}
+use Rattle.t1_run.specs.Machine.{state_of, reported, RefusesStep, refusal_by}
 use Rattle.t1_run.specs.Run.{FontBodies, Key, reached, Stop, go_on, runs, body_stop}
 
 -- profile: where a body stopped, the bodies that wait go on, the innermost first; `levels` is what was left there
@@ -29,13 +30,15 @@ pub record Asks (m : FontBodies) (body rest : List Command) (waiting : List (Lis
   pub here : Continues m body (command ∷ rest) waiting before
   pub is : step command before ≡ reported control after
 
--- profile: the run has come to a command whose step is refused
+-- profile: the run has come to a command whose step is refused, which refuses the run
 pub record Meets (m : FontBodies) (body : List Command) (waiting : List (List Command)) (refusal : Refusal) : Type 0 where
   pub command : Command
   pub before : State
   pub rest : List Command
   pub here : Continues m body (command ∷ rest) waiting before
-  pub is : RefusesStep refusal (step command before)
+  pub halt : Halt
+  pub by : refusal ≡ refusal_by halt
+  pub is : RefusesStep halt (step command before)
 
 -- profile: commands that were executed one after another: the last of them, or one that asks for more than the next, or one that is
 -- refused

@@ -5,6 +5,7 @@ pub mod Machine
 pub mod Operands
 pub mod OtherSubrs
 pub mod Overlay
+pub mod Pushing
 pub mod Run
 pub mod State
 pub mod Step

@@ -2,12 +2,14 @@
 use Rattle.std.specs.Prelude.{◌≡◌, ℕ, List, [], ◌∷◌, ◌++◌, map, reverse, take, Option, Some, None, Result, Ok, Err}
 use Rattle.std.specs.Option.{option_map}
 use Rattle.std.specs.Borrow.{Bor}
-use Rattle.t1_frac.specs.Outcome.{fault_at, reported_at, Gives}
+use Rattle.t1_frac.specs.Outcome.{refusal, reported_at, Gives}
 use Rattle.t1_frac.specs.declared.fault.Code.{Code}
 use Rattle.t1_frac.specs.declared.fault.Place.TheVariants.{Nowhere}
 use Rattle.t1_frac.specs.declared.fault.Refusal.{Refusal}
-use Rattle.t1_frac.specs.declared.fault.Refusal.TheVariants as refusals
+use Rattle.t1_frac.specs.declared.fault.Refusal.TheVariants.{Memory}
 use Rattle.t1_code.specs.declared.command.Command.{Command}
+use Rattle.t1_run.specs.declared.halt.Halt.{Halt}
+use Rattle.t1_run.specs.declared.halt.Halt.TheVariants as halts
 use Rattle.t1_run.specs.declared.outline.Segment.{Segment}
 use Rattle.t1_run.specs.declared.state.State.{State as StateFields}
 use Rattle.t1_run.specs.declared.state.Control.{Control}
@@ -32,18 +34,22 @@ state_of s = record {
   entered = s.entered;
 }
 
--- profile: the step that an answer stands for, with the state after it
+-- profile: the step of a word that asks for this, with the state after it
 abbrev pub reported : Control → State → Step
-reported controls.Next s = Next s
 reported (controls.Call n) s = Call n s
 reported controls.Back s = Back s
 reported controls.End s = End s
 reported (controls.Compose a) s = Compose a s
 
 -- profile: a step is refused by its fault, or for want of memory
-abbrev pub RefusesStep : Refusal → Step → Type 0
-RefusesStep refusals.Memory step = Unit {0}
-RefusesStep (refusals.Fault fault) step = (fault ≡ fault_at Nowhere fault.code) × (step ≡ Fault fault.code)
+abbrev pub RefusesStep : Halt → Step → Type 0
+RefusesStep halts.Memory step = Unit {0}
+RefusesStep (halts.Fault code) step = step ≡ Fault code
+
+-- profile: what a step is refused by refuses the run, a fault at no place
+abbrev pub refusal_by : Halt → Refusal
+refusal_by halts.Memory = Memory
+refusal_by (halts.Fault code) = refusal code
 
 -- profile: the step after which the run goes on with the next word
 abbrev pub going_on : Unit {0} → State → Step
@@ -55,9 +61,9 @@ answered step (Ok value) s = step value s
 answered step (Err code) s = Fault code
 
 -- profile: a call makes this step: its value and the state that it leaves stand for it, or it refuses as the step does
-abbrev pub Reports : {A : Type 0} → (A → State → Step) → Step → Result A Refusal → StateFields → Type 0
+abbrev pub Reports : {A : Type 0} → (A → State → Step) → Step → Result A Halt → StateFields → Type 0
 Reports step made (Ok value) now = made ≡ step value (state_of now)
-Reports step made (Err refused) now = RefusesStep refused made
+Reports step made (Err halt) now = RefusesStep halt made
 
 -- profile: a call answers what the own body of a glyph of the maps draws, or its fault at no place, unless memory ran out
 abbrev pub GivesOwn : Result NumberedRun Refusal → Option (Result Drawing Code) → Type 0

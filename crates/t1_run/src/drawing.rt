@@ -6,11 +6,12 @@ ghost use Rattle.t1_run.specs.Operands.{takes, topmost};
 ghost use Rattle.t1_run.specs.Step.{moved as moved_by, move_by as move_of, line_by as line_of, curve_by as curve_of, set_metric as metric_of, Next, cleared, at_point};
 ghost use Rattle.t1_run.specs.Words.{rule, draws as draws_of, places as places_of};
 
+use crate::halt::Halt;
 use crate::outline::{Metric, Point, Segment};
 use crate::state::State;
 use std::alloc::AllocError;
 use t1_code::Command;
-use t1_frac::{Code, Frac, Refusal};
+use t1_frac::{Code, Frac};
 
 /// The point at this distance from another.
 #[inline(always)]
@@ -46,7 +47,7 @@ impl State {
 
     /// Draws a line from the current point.
     #[inline(always)]
-    fn line_by(&mut self, dx: Frac, dy: Frac) -> Result<(), Refusal>
+    fn line_by(&mut self, dx: Frac, dy: Frac) -> Result<(), Halt>
         ensures reported { Reports going_on (line_of dx dy (state_of self.old)) result self.new }
         ensures steps { self.new.steps ≡ self.old.steps }
     {
@@ -65,7 +66,7 @@ impl State {
         first: (Frac, Frac),
         second: (Frac, Frac),
         third: (Frac, Frac),
-    ) -> Result<(), Refusal>
+    ) -> Result<(), Halt>
         ensures reported { Reports going_on (curve_of first.0 first.1 second.0 second.1 third.0 third.1 (state_of self.old)) result self.new }
         ensures steps { self.new.steps ≡ self.old.steps }
     {
@@ -106,7 +107,7 @@ impl State {
 
     /// A line or a curve.
     #[inline(always)]
-    pub fn draw(&mut self, command: Command) -> Result<(), Refusal>
+    pub fn draw(&mut self, command: Command) -> Result<(), Halt>
         requires kind { draws_of command ≡ true }
         requires enough { takes command ≤ length self.old.operands }
         ensures reported { Reports going_on (rule command (topmost (takes command) self.old.operands) (state_of self.old)) result self.new }

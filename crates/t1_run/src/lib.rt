@@ -6,6 +6,7 @@ mod checks;
 mod composite;
 mod drawing;
 mod entered;
+mod halt;
 pub mod laws;
 mod meter;
 mod moving;

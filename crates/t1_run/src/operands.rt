@@ -1,9 +1,11 @@
 //! The operand stack.
 
-ghost use Rattle.std.specs.Prelude.{◌≡◌, [], ◌∷◌, ◌++◌, ◌≤◌, ◌<◌, length, take};
+ghost use Rattle.std.specs.Prelude.{◌≡◌, [], ◌∷◌, ◌++◌, ◌+◌, ◌≤◌, ◌<◌, length, take, drop};
 ghost use Rattle.t1_run.specs.Operands.{topmost};
+ghost use Rattle.t1_run.specs.Pushing.{numbers_at_front};
 
 use std::marker::Model;
+use t1_code::Command;
 use t1_frac::Frac;
 
 /// The operand stack, the lowest value first.
@@ -22,6 +24,37 @@ impl Model for Operands {
     ghost view = { λ o. take o.len o.values };
 
     ghost invariant = { λ o. o.len ≤ 24 };
+}
+
+/// Stores the numbers at the front of some commands from a place on, at most so many: how many they are, and the commands after
+/// them.
+#[inline(always)]
+fn store_numbers<'a>(
+    values: &mut [Frac; 24],
+    place: usize,
+    commands: &'a [Command],
+    most: usize,
+) -> (usize, &'a [Command])
+    requires { place + most ≤ 24 }
+    ensures few { result.0 ≤ most }
+    ensures count { result.0 ≡ length (numbers_at_front most commands.now) }
+    ensures rest { result.1.now ≡ drop result.0 commands.now }
+    ensures stored { take (place + result.0) values.new ≡ take place values.old ++ numbers_at_front most commands.now }
+{
+    let mut count = 0;
+    let mut rest = commands;
+    while count < most {
+        let Some((command, tail)) = rest.split_first() else {
+            return (count, rest);
+        };
+        let Command::Num(number) = command else {
+            return (count, rest);
+        };
+        values[place + count] = Frac::whole(*number);
+        count += 1;
+        rest = tail;
+    }
+    (count, rest)
 }
 
 impl Operands {
@@ -106,6 +139,24 @@ impl Operands {
     {
         self.values[self.len] = value;
         self.len += 1;
+    }
+
+    /// Pushes the numbers at the front of some commands, at most so many: how many they are, and the commands after them.
+    #[inline(always)]
+    pub fn push_numbers<'a>(
+        &mut self,
+        commands: &'a [Command],
+        most: usize,
+    ) -> (usize, &'a [Command])
+        requires { length self.old + most ≤ 24 }
+        ensures pushed { self.new ≡ self.old ++ numbers_at_front most commands.now }
+        ensures count { result.0 ≡ length (numbers_at_front most commands.now) }
+        ensures few { result.0 ≤ most }
+        ensures rest { result.1.now ≡ drop result.0 commands.now }
+    {
+        let (count, rest) = store_numbers(&mut self.values, self.len, commands, most);
+        self.len += count;
+        (count, rest)
     }
 
     /// Keeps the lowest values alone.

@@ -6,8 +6,9 @@ ghost use Rattle.t1_run.specs.OtherSubrs.{is_supported as is_supported_of, start
 ghost use Rattle.t1_run.specs.State.{State as States};
 
 use crate::checks::{check_operand, check_sizes};
+use crate::halt::Halt;
 use crate::state::State;
-use t1_frac::{Code, Frac, Refusal};
+use t1_frac::{Code, Frac};
 
 /// What an othersubr does with its arguments.
 #[derive(Clone, Copy, Debug, PartialEq, Eq)]
@@ -75,7 +76,7 @@ impl State {
     }
 
     /// Draws the flex and closes it.
-    fn end_flex(&mut self, height: Frac, x: Frac, y: Frac) -> Result<(), Refusal>
+    fn end_flex(&mut self, height: Frac, x: Frac, y: Frac) -> Result<(), Halt>
         ensures reported { Reports going_on (end_of (state_of self.old).flex (height ∷ x ∷ y ∷ []) (state_of self.old)) result self.new }
         ensures steps { self.new.steps ≡ self.old.steps }
     {
@@ -92,7 +93,7 @@ impl State {
 
 impl State {
     /// The othersubr's effect.
-    fn perform(&mut self, effect: Effect) -> Result<(), Refusal>
+    fn perform(&mut self, effect: Effect) -> Result<(), Halt>
         ensures reported { Reports going_on (effect_of effect (state_of self.old)) result self.new }
         ensures steps { self.new.steps ≡ self.old.steps }
     {
@@ -113,7 +114,7 @@ impl State {
     }
 
     /// The othersubr of this number, with so many arguments.
-    fn call_with(&mut self, number: usize, count: usize) -> Result<(), Refusal>
+    fn call_with(&mut self, number: usize, count: usize) -> Result<(), Halt>
         requires small { count ≤ 22 }
         requires supported { is_supported_of (pos number) (pos count) ≡ true }
         ensures reported { Reports going_on (with_of number count (state_of self.old)) result self.new }
@@ -121,7 +122,7 @@ impl State {
     {
         let values = self.operands.as_slice();
         if values.len() < 2 + count {
-            return Err(Refusal::from(Code::F30));
+            return Err(Halt::Fault(Code::F30));
         }
         let bottom = values.len() - (2 + count);
         let taken = &values[bottom..];
@@ -133,7 +134,7 @@ impl State {
     }
 
     /// callothersubr, by the count of its arguments and its number.
-    pub fn call_other(&mut self, count: Frac, number: Frac) -> Result<(), Refusal>
+    pub fn call_other(&mut self, count: Frac, number: Frac) -> Result<(), Halt>
         ensures reported { Reports going_on (other_of count number (state_of self.old)) result self.new }
         ensures steps { self.new.steps ≡ self.old.steps }
     {
@@ -142,7 +143,7 @@ impl State {
         let number = number.num();
         let count = count.num();
         if !is_supported(number, count) {
-            return Err(Refusal::from(Code::F42));
+            return Err(Halt::Fault(Code::F42));
         }
         self.call_with(number as usize, count as usize)
     }

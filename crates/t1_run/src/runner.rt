@@ -31,19 +31,22 @@ fn run_commands<'a>(
     ensures bounded { IfOk result (λ asked. IfSome asked (λ _. state.new.steps ≤ 100000)) }
 {
     let mut rest = body;
-    while let Some((command, tail)) = rest.split_first() {
-        // most words are numbers, after which nothing is asked for
-        if let Command::Num(number) = command {
-            state.step_by_number(*number)?;
-            rest = tail;
-            continue;
+    'commands: loop {
+        let others = state.push_numbers(rest);
+        let Some((command, tail)) = others.split_first() else {
+            return Ok(None);
+        };
+        match command {
+            // one past the limits of the stack or of a run
+            Command::Num(number) => state.step_by_number(*number)?,
+            Command::CallSubr | Command::Return | Command::Seac | Command::EndChar => {
+                let control = state.step_asking(*command)?;
+                return Ok(Some((control, tail)));
+            }
+            _ => state.step_on(*command)?,
         }
-        match state.step(*command)? {
-            Control::Next => rest = tail,
-            control => return Ok(Some((control, tail))),
-        }
+        rest = tail;
     }
-    Ok(None)
 }
 
 /// Runs a body to its endchar or seac.
@@ -70,7 +73,6 @@ fn run_body<'a, B: Bodies>(
             continue;
         };
         match control {
-            Control::Next => rest = tail,
             Control::Call(n) => {
                 let called = bodies.subr(n).ok_or(Code::F32)?;
                 if returns.is_full() {

@@ -13,10 +13,9 @@ use crate::results::Results;
 use std::alloc::{AllocError, Global};
 use t1_frac::Frac;
 
-/// What a word asks of the run.
+/// What a word asks of the run, where it asks for more than the next one.
 #[derive(Clone, Copy, Debug, PartialEq, Eq)]
 pub enum Control {
-    Next,
     Call(u16),
     Back,
     End,

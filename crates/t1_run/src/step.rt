@@ -1,6 +1,9 @@
 //! One word of a charstring.
 
-ghost use Rattle.std.specs.Prelude.{◌≡◌, ◌+◌, ◌≤◌, OnOk, IfErr, true, false, None, length};
+ghost use Rattle.std.specs.Prelude.{◌≡◌, ◌+◌, ◌≤◌, List, OnOk, IfErr, true, false, None, length};
+ghost use Rattle.t1_code.specs.declared.command.Command.{Command as CommandOf};
+ghost use Rattle.t1_run.specs.Continuing.{Continues};
+ghost use Rattle.t1_run.specs.Run.{FontBodies};
 ghost use Rattle.t1_frac.specs.Limits.{exceeds};
 ghost use Rattle.t1_run.specs.Machine.{state_of, going_on, answered, reported, Reports};
 ghost use Rattle.t1_run.specs.Operands.{topmost, below, takes as takes_of, is_whole, operand_faults};
@@ -9,10 +12,11 @@ ghost use Rattle.t1_code.specs.declared.command.Command.TheVariants as Commands;
 ghost use Rattle.t1_run.specs.Words.{step as step_of, execute as execute_of, rule as rule_of, computes as computes_of, goes_on};
 
 use crate::checks::{check_operands, draws_or_ends, needs_bearing, sets_bearing, takes};
+use crate::halt::Halt;
 use crate::outline::Accent;
 use crate::state::{Control, State};
 use t1_code::Command;
-use t1_frac::{Code, Frac, Refusal};
+use t1_frac::{Code, Frac};
 
 /// How many words a run executes.
 const MAX_STEPS: u32 = 100_000;
@@ -114,7 +118,7 @@ impl State {
 
     /// The rule of a command after which the next word comes.
     #[inline(always)]
-    fn carry_out(&mut self, command: Command) -> Result<(), Refusal>
+    fn carry_out(&mut self, command: Command) -> Result<(), Halt>
         requires kind { goes_on command ≡ true }
         requires enough { takes_of command ≤ length self.old.operands }
         ensures reported { Reports going_on (rule_of command (topmost (takes_of command) self.old.operands) (state_of self.old)) result self.new }
@@ -151,12 +155,13 @@ impl State {
         }
     }
 
-    /// The command's own rule, where its operands were found faultless.
+    /// The rule of a command that asks for more than the next word.
     #[inline(always)]
-    fn apply(&mut self, command: Command) -> Result<Control, Refusal>
+    fn ask(&mut self, command: Command) -> Result<Control, Code>
+        requires kind { goes_on command ≡ false }
         requires enough { takes_of command ≤ length self.old.operands }
         requires faultless { operand_faults command (topmost (takes_of command) self.old.operands) ≡ None }
-        ensures reported { Reports reported (rule_of command (topmost (takes_of command) self.old.operands) (state_of self.old)) result self.new }
+        ensures reported { rule_of command (topmost (takes_of command) self.old.operands) (state_of self.old) ≡ answered reported result (state_of self.new) }
         ensures steps { self.new.steps ≡ self.old.steps }
     {
         match command {
@@ -170,10 +175,7 @@ impl State {
                 self.operands.clear();
                 Ok(Control::End)
             }
-            _ => {
-                self.carry_out(command)?;
-                Ok(Control::Next)
-            }
+            _ => unreachable!(),
         }
     }
 
@@ -201,21 +203,23 @@ impl State {
         Ok(())
     }
 
-    /// A command by the order of its tests.
+    /// A command after which the next word comes, by the order of its tests.
     #[inline(always)]
-    fn execute(&mut self, command: Command) -> Result<Control, Refusal>
-        ensures reported { Reports reported (execute_of command (state_of self.old)) result self.new }
+    fn execute(&mut self, command: Command) -> Result<(), Halt>
+        requires kind { goes_on command ≡ true }
+        ensures reported { Reports going_on (execute_of command (state_of self.old)) result self.new }
         ensures steps { self.new.steps ≡ self.old.steps }
     {
         self.test(command)?;
-        self.apply(command)
+        self.carry_out(command)
     }
 
     /// The same. The commands that fonts have most are named, so that the compiler knows which tests each of them has, and
     /// which rule comes after them.
     #[inline(always)]
-    fn execute_by_name(&mut self, command: Command) -> Result<Control, Refusal>
-        ensures reported { Reports reported (execute_of command (state_of self.old)) result self.new }
+    fn execute_by_name(&mut self, command: Command) -> Result<(), Halt>
+        requires kind { goes_on command ≡ true }
+        ensures reported { Reports going_on (execute_of command (state_of self.old)) result self.new }
         ensures steps { self.new.steps ≡ self.old.steps }
     {
         match command {
@@ -234,31 +238,63 @@ impl State {
         }
     }
 
+    /// Pushes the numbers at the front of some commands that there is room for, while the run may make steps: the commands after
+    /// them. Counts are kept in registers meanwhile.
+    #[inline(always)]
+    pub fn push_numbers<'a>(&mut self, commands: &'a [Command]) -> &'a [Command]
+        ensures goes { (m : FontBodies) (own : List CommandOf) (waiting : List (List CommandOf)) → Continues m own commands.now waiting (state_of self.old) → Continues m own result.now waiting (state_of self.new) }
+        ensures kept { self.old.steps ≤ self.new.steps }
+        ensures left { length result.now ≤ length commands.now }
+    {
+        let steps = MAX_STEPS.saturating_sub(self.steps) as usize;
+        let room = 24 - self.operands.as_slice().len();
+        let (count, rest) = self.operands.push_numbers(commands, room.min(steps));
+        self.steps += count as u32;
+        rest
+    }
+
     /// A number: F47 where a run has made its last step already, then F31 past 24 values.
     #[inline(always)]
-    pub fn step_by_number(&mut self, number: i32) -> Result<(), Refusal>
+    pub fn step_by_number(&mut self, number: i32) -> Result<(), Halt>
         ensures reported { Reports going_on (step_of (Commands.Num number) (state_of self.old)) result self.new }
         ensures counted { OnOk result (self.new.steps ≡ self.old.steps + 1) }
         ensures bounded { OnOk result (self.new.steps ≤ 100000) }
     {
         if self.steps >= MAX_STEPS {
-            return Err(Refusal::from(Code::F47));
+            return Err(Halt::Fault(Code::F47));
         }
         self.steps += 1;
         Ok(self.push(Frac::whole(number))?)
     }
 
-    /// One word: F47 where a run has made its last step already.
+    /// A command after which the next word comes: F47 where a run has made its last step already.
     #[inline(always)]
-    pub fn step(&mut self, command: Command) -> Result<Control, Refusal>
+    pub fn step_on(&mut self, command: Command) -> Result<(), Halt>
+        requires kind { goes_on command ≡ true }
+        ensures reported { Reports going_on (step_of command (state_of self.old)) result self.new }
+        ensures counted { OnOk result (self.new.steps ≡ self.old.steps + 1) }
+        ensures bounded { OnOk result (self.new.steps ≤ 100000) }
+    {
+        if self.steps >= MAX_STEPS {
+            return Err(Halt::Fault(Code::F47));
+        }
+        self.steps += 1;
+        self.execute_by_name(command)
+    }
+
+    /// A command that asks for more than the next word: F47 where a run has made its last step already.
+    #[inline(always)]
+    pub fn step_asking(&mut self, command: Command) -> Result<Control, Halt>
+        requires kind { goes_on command ≡ false }
         ensures reported { Reports reported (step_of command (state_of self.old)) result self.new }
         ensures counted { OnOk result (self.new.steps ≡ self.old.steps + 1) }
         ensures bounded { OnOk result (self.new.steps ≤ 100000) }
     {
         if self.steps >= MAX_STEPS {
-            return Err(Refusal::from(Code::F47));
+            return Err(Halt::Fault(Code::F47));
         }
         self.steps += 1;
-        self.execute_by_name(command)
+        self.test(command)?;
+        Ok(self.ask(command)?)
     }
 }

@@ -26,7 +26,7 @@ returns-in_err-control-clause-drawing g c =
     let m = font (g.B.Bodies.subrs c.args.bodies.now) (g.B.Bodies.glyphs c.args.bodies.now) in
     let meets = c.in_err-control.ensures.comes m c.args.body.now c.words.returns c.words.invariant in
     let p = err_from_is_err_and c.from_residual.result c.from_residual.ensures.1 in
-    rw (p.1, p.2) (refused-step _ meets.here meets.is)
+    rw (p.1, p.2, meets.by) (refused-step _ meets.here meets.is)
 
 pub returns-in_err-rest-clause-drawing : goal.returns-in_err-rest-clause-drawing
 returns-in_err-rest-clause-drawing g c =

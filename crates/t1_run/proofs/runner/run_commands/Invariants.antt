@@ -6,12 +6,12 @@ use Rattle.t1_run.specs.Run.{FontBodies}
 use Rattle.t1_run.proofs.runner.run_commands.Given as goal
 
 -- what is left goes on as the whole list does
-abbrev pub invariant-loop-command : goal.invariant-loop-command
-invariant-loop-command l = record {
+abbrev pub invariant-commands : goal.invariant-commands
+invariant-commands l = record {
   goes : (m : FontBodies) (own : List Command) (waiting : List (List Command)) → Continues m own l.fn.body waiting (state_of l.fn.state)
       → Continues m own l.rest waiting (state_of l.state);
   kept : l.fn.state.steps ≤ l.state.steps;
 }
 
-abbrev pub decreases-loop-command : goal.decreases-loop-command
-decreases-loop-command l = length l.rest
+abbrev pub decreases-commands : goal.decreases-commands
+decreases-commands l = length l.rest
