@@ -1,10 +1,11 @@
 -- Outlines whose coordinates are all whole.
-use Rattle.std.proofs.Common.{◌≡◌, arith, List, [], ◌∷◌, Bool, true, false, ap, ◌∙◌, refl}
+use Rattle.std.proofs.Common.{◌≡◌, ◌+◌, ◌<◌, arith, length, get_or, take, List, [], ◌∷◌, Bool, true, false, ap, sym, ◌∙◌, refl}
 use Rattle.std.specs.Prelude.{◌&&◌, ◌==◌, All, IfOk}
 use Rattle.std.specs.List.{AllByRecursion}
 use Rattle.std.proofs.lemmas.Bool.Decides.{nat_tests}
-use Rattle.std.proofs.lemmas.List.Elements.{All-from_recursion}
+use Rattle.std.proofs.lemmas.List.Elements.{All-from_recursion, All-head, All-tail}
 use Rattle.std.proofs.Common.{ℕ, ◌*◌, ◌^◌}
+use Rattle.std.proofs.lemmas.List.{take_more}
 use Rattle.std.proofs.lemmas.List.Folds.{list_all-append}
 use Rattle.t1_frac.specs.Fraction.{Fraction, lowest, plus, whole}
 use Rattle.t1_frac.specs.Limits.{coordinate_sum}
@@ -44,6 +45,34 @@ each_whole (s ∷ ss) h =
 
 pub all_whole : (ss : List Segment) → is_whole_outline ss ≡ true → All IsWholeSegment ss
 all_whole ss h = All-from_recursion IsWholeSegment ss (each_whole ss h)
+
+both_are : (p q : Bool) → p ≡ true → q ≡ true → (p && q) ≡ true
+both_are p q e f = rw (e, f) refl
+
+pub whole_each : (ss : List Segment) → AllByRecursion IsWholeSegment ss → is_whole_outline ss ≡ true
+whole_each [] h = refl
+whole_each (s ∷ ss) h = both_are (is_whole_segment s) (is_whole_outline ss) (one s h.0) (whole_each ss h.1)
+  where
+    one : (s : Segment) → IsWholeSegment s → is_whole_segment s ≡ true
+    one (Line a b) k = rw (k.0.x, k.0.y, k.1.x, k.1.y) refl
+    one (Curve a b c d) k = rw (k.0.x, k.0.y, k.1.x, k.1.y, k.2.x, k.2.y, k.3.x, k.3.y) refl
+
+-- an outline whose segments are whole isn't one that has a fraction
+pub not_mixed : (ss : List Segment) → All IsWholeSegment ss → is_whole_outline ss ≡ false → ⊥
+not_mixed ss h e = let k : true ≡ false = sym (whole_each ss (by ss h)) ∙ e in absurd (cc)
+  where
+    by : (xs : List Segment) → All IsWholeSegment xs → AllByRecursion IsWholeSegment xs
+    by [] k = tt
+    by (x ∷ xs) k = (All-head IsWholeSegment x xs k, by xs (All-tail IsWholeSegment x xs k))
+
+-- with one segment more
+pub whole_next : (ss : List Segment) (i : ℕ) (s : Segment) → i < length ss → s ≡ get_or ss i s → is_whole_outline (take i ss) ≡ true → is_whole_segment s ≡ true
+    → is_whole_outline (take (i + 1) ss) ≡ true
+whole_next ss i s inside is before one =
+    ap is_whole_outline (take_more ss i s inside)
+    ∙ list_all-append is_whole_segment (take i ss) (get_or ss i s ∷ [])
+    ∙ both_are (is_whole_outline (take i ss)) (is_whole_outline (get_or ss i s ∷ [])) before
+    (both_are (is_whole_segment (get_or ss i s)) true (ap is_whole_segment (sym is) ∙ one) refl)
 
 -- ---- two outlines, and a whole move
 

@@ -15,6 +15,8 @@ pub mod Curves
 pub mod Holding
 pub mod Bending
 pub mod Squeezing
+pub mod Cornering
+pub mod Onward
 pub mod Nested
 pub mod BoxLaws
 pub mod Limited

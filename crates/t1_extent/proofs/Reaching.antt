@@ -8,7 +8,6 @@ use Rattle.t1_frac.specs.Outcome.{◌>>=◌}
 use Rattle.t1_frac.specs.declared.fault.Code.{Code}
 use Rattle.t1_run.specs.declared.outline.Point.{Point}
 use Rattle.t1_run.specs.declared.outline.Segment.{Segment}
-use Rattle.t1_run.specs.declared.outline.Segment.TheVariants.{Line, Curve}
 use Rattle.t1_run.specs.Composite.{moved_outline, IsWithin}
 use Rattle.t1_run.proofs.Within.{each-append}
 use Rattle.t1_afm.specs.declared.bbox.BBox.{BBox}
@@ -20,13 +19,13 @@ use Rattle.t1_extent.specs.declared.reached.Drawn.{Drawn}
 use Rattle.t1_extent.specs.declared.reached.Drawn.TheVariants.{Whole, Mixed}
 use Rattle.t1_extent.specs.declared.reached.Reached.{Reached}
 use Rattle.t1_extent.specs.Exacts.{extremes_of, AreFine}
-use Rattle.t1_extent.specs.Extremes.{Extremes, corners, extremes, unite, rounded, shifted_by, limit_check, move_check, moved_box, IsWhole, IsWholeSegment, MovesEasily, is_whole_segment, is_whole_outline}
+use Rattle.t1_extent.specs.Extremes.{Extremes, corners, extremes, unite, rounded, shifted_by, limit_check, move_check, moved_box, IsWhole, IsWholeSegment, MovesEasily, is_whole_outline}
 use Rattle.t1_extent.specs.Laws.{Summary, summary, shifted_summary, AreWithin, IsDistance}
 use Rattle.t1_extent.specs.Reached.{IsDrawnBy, IsExact, IsNear, IsReach, MovesReach, ReportsAtOnce, grain_of}
 use Rattle.t1_extent.proofs.BoxLaws.{drawn_box_law, box_moves_law}
 use Rattle.t1_extent.proofs.Checking.{passed}
 use Rattle.t1_extent.proofs.Displacing.{whole_corners}
-use Rattle.t1_extent.proofs.Flags.{each_whole, whole_of_both, whole_stays}
+use Rattle.t1_extent.proofs.Flags.{each_whole, whole_each, whole_of_both, whole_stays}
 use Rattle.t1_extent.proofs.Exacts.{four_sides}
 use Rattle.t1_extent.proofs.Folding.{AreLowest}
 use Rattle.t1_extent.proofs.Limited.{floor_limited, ceiling_limited, limits_law}
@@ -97,14 +96,6 @@ united_mixed r s united one other bbox a b h k ea eb eu ec fc =
     }
 
 -- ---- moved outlines
-
-whole_each : (ss : List Segment) → AllByRecursion IsWholeSegment ss → is_whole_outline ss ≡ true
-whole_each [] h = refl
-whole_each (s ∷ ss) h = both_true (is_whole_segment s) (is_whole_outline ss) (one s h.0) (whole_each ss h.1)
-  where
-    one : (s : Segment) → IsWholeSegment s → is_whole_segment s ≡ true
-    one (Line a b) k = rw (k.0.x, k.0.y, k.1.x, k.1.y) refl
-    one (Curve a b c d) k = rw (k.0.x, k.0.y, k.1.x, k.1.y, k.2.x, k.2.y, k.3.x, k.3.y) refl
 
 exact_whole : (drawn : Drawn) (outline : List Segment) → IsExact drawn → IsDrawnBy drawn outline → is_whole_outline outline ≡ true
 exact_whole (Whole extent) outline h k = k.0

@@ -1,5 +1,5 @@
 -- Sides of extremes as numerators in 64 bits.
-use Rattle.std.proofs.Common.{◌≡◌, ◌*◌, ◌≤◌, ◌^◌, ℤ, pos, ◌*ℤ◌, Bool, true, false, arith, refl, sym, ◌∙◌, ap, subst}
+use Rattle.std.proofs.Common.{◌≡◌, ℕ, ◌*◌, ◌≤◌, ◌^◌, ℤ, pos, ◌*ℤ◌, Bool, true, false, arith, refl, sym, ◌∙◌, ap, subst}
 use Rattle.std.specs.Prelude.{if◌then◌else◌}
 use Rattle.std.specs.Int.{int_min, int_max}
 use Rattle.std.specs.Int.RustNames.{unsigned_abs, int_lt}
@@ -10,26 +10,26 @@ use borrow.Author.Differences.{product_is, same_in}
 use Rattle.t1_afm.proofs.Longs.{read, read_small}
 use Rattle.t1_extent.specs.Sides.{over}
 
--- a number of 39 bits, read from 64
-abbrev pub IsReadAs : ℤ → ℤ → Type 0
-IsReadAs x a = (read x ≡ a) × (unsigned_abs (read x) ≤ 2 ^ 38)
+-- a number of 39 bits at most, read from 64
+abbrev pub IsReadAs : ℕ → ℤ → ℤ → Type 0
+IsReadAs n x a = (read x ≡ a) × (unsigned_abs (read x) ≤ n)
 
-read_as : (x a : ℤ) → x ≡ a → unsigned_abs a ≤ 2 ^ 38 → IsReadAs x a
-read_as x a e h =
-    let small : read x ≡ a = ap read e ∙ read_small a (omega (arith, h)) in
-    (small, subst (λ y. unsigned_abs y ≤ 2 ^ 38) (sym small) h)
+read_as : (n : ℕ) (x a : ℤ) → n ≤ 2 ^ 38 → x ≡ a → unsigned_abs a ≤ n → IsReadAs n x a
+read_as n x a short e h =
+    let small : read x ≡ a = ap read e ∙ read_small a (omega (arith, short, h)) in
+    (small, subst (λ y. unsigned_abs y ≤ n) (sym small) h)
 
-one_of : (t : Bool) (a b : ℤ) → unsigned_abs a ≤ 2 ^ 38 → unsigned_abs b ≤ 2 ^ 38 → unsigned_abs (if t then a else b) ≤ 2 ^ 38
-one_of true a b h k = h
-one_of false a b h k = k
+one_of : (n : ℕ) (t : Bool) (a b : ℤ) → unsigned_abs a ≤ n → unsigned_abs b ≤ n → unsigned_abs (if t then a else b) ≤ n
+one_of n true a b h k = h
+one_of n false a b h k = k
 
-pub least_read : (x a b : ℤ) → x ≡ int_min (read a) (read b) → unsigned_abs a ≤ 2 ^ 38 → unsigned_abs b ≤ 2 ^ 38 → IsReadAs x (int_min a b)
-least_read x a b e h k =
-    read_as x (int_min a b) (e ∙ rw (read_small a (omega (arith, h)), read_small b (omega (arith, k))) refl) (one_of (int_lt b a) b a k h)
+pub least_read : (n : ℕ) (x a b : ℤ) → n ≤ 2 ^ 38 → x ≡ int_min (read a) (read b) → unsigned_abs a ≤ n → unsigned_abs b ≤ n → IsReadAs n x (int_min a b)
+least_read n x a b short e h k =
+    read_as n x (int_min a b) short (e ∙ rw (read_small a (omega (arith, short, h)), read_small b (omega (arith, short, k))) refl) (one_of n (int_lt b a) b a k h)
 
-pub greatest_read : (x a b : ℤ) → x ≡ int_max (read a) (read b) → unsigned_abs a ≤ 2 ^ 38 → unsigned_abs b ≤ 2 ^ 38 → IsReadAs x (int_max a b)
-greatest_read x a b e h k =
-    read_as x (int_max a b) (e ∙ rw (read_small a (omega (arith, h)), read_small b (omega (arith, k))) refl) (one_of (int_lt b a) a b h k)
+pub greatest_read : (n : ℕ) (x a b : ℤ) → n ≤ 2 ^ 38 → x ≡ int_max (read a) (read b) → unsigned_abs a ≤ n → unsigned_abs b ≤ n → IsReadAs n x (int_max a b)
+greatest_read n x a b short e h k =
+    read_as n x (int_max a b) short (e ∙ rw (read_small a (omega (arith, short, h)), read_small b (omega (arith, short, k))) refl) (one_of n (int_lt b a) a b h k)
 
 -- a whole coordinate over 64^3
 pub cubed : (p : Fraction) → p.den ≡ 1 → over 262144 (pos 262144 *ℤ p.num) ≡ lowest p

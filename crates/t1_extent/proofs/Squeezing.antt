@@ -10,11 +10,11 @@ use Rattle.t1_run.specs.declared.outline.Segment.TheVariants.{Line, Curve}
 use Rattle.t1_run.specs.Composite.{IsWithin}
 use Rattle.t1_afm.specs.Differences.{least_sum, greatest_sum}
 use Rattle.t1_afm.specs.Points.{points_of, points}
-use Rattle.t1_extent.specs.declared.sides.Sides.{Sides}
+use Rattle.t1_extent.specs.declared.whole_sides.WholeSides.{WholeSides}
 use Rattle.t1_extent.specs.Ends.{ends_of, ends}
 use Rattle.t1_extent.specs.Extremes.{Extremes, is_less, lesser, greater, reaching, extremes, unite, corners_of, corners, IsWhole, IsWholeSegment}
 use Rattle.t1_extent.specs.Laws.{AreWithin}
-use Rattle.t1_extent.specs.Sides.{over, extremes_over}
+use Rattle.t1_extent.specs.Sides.{over, whole_extremes}
 use Rattle.t1_extent.proofs.Bending.{bend_is, ends_in_bend, ends_numbers}
 use Rattle.t1_afm.proofs.EndSums.{min_multiple, max_multiple}
 use Rattle.t1_extent.proofs.Folding.{same_extremes}
@@ -41,7 +41,7 @@ greater_again a = by (is_less a a)
     by true = refl
     by false = refl
 
-reaching_again : (e : Extremes) → reaching e e ≡ e
+pub reaching_again : (e : Extremes) → reaching e e ≡ e
 reaching_again e = same_extremes _ _ _ _ _ _ _ _ (lesser_again e.left) (lesser_again e.bottom) (greater_again e.right) (greater_again e.top)
 
 -- ---- one axis
@@ -132,11 +132,12 @@ squeezed whole ended reached ss h k c e same is =
     ∙ ap (λ x. unite x (extremes (points ss))) (sym c ∙ ap Some (sym same) ∙ e)
     ∙ outlines_united ends_of points_of points_of ss (each_of (IsUnion ends_of points_of points_of) ss ends_in_points h k)
 
-pub same_sides : (a b : Sides) → a.left ≡ pos 262144 *ℤ b.left → a.bottom ≡ pos 262144 *ℤ b.bottom → a.right ≡ pos 262144 *ℤ b.right → a.top ≡ pos 262144 *ℤ b.top
-    → extremes_over 262144 a ≡ extremes_over 1 b
-same_sides a b e f g h =
+-- the numerators of whole coordinates
+pub same_sides : (left bottom right top : ℤ) (s : WholeSides) → left ≡ pos 262144 *ℤ s.left → bottom ≡ pos 262144 *ℤ s.bottom → right ≡ pos 262144 *ℤ s.right → top ≡ pos 262144 *ℤ s.top
+    → record { left = over 262144 left; bottom = over 262144 bottom; right = over 262144 right; top = over 262144 top } ≡ whole_extremes s
+same_sides left bottom right top s e f g h =
     same_extremes _ _ _ _ _ _ _ _
-    (ap (over 262144) e ∙ cubed (whole b.left) refl) (ap (over 262144) f ∙ cubed (whole b.bottom) refl) (ap (over 262144) g ∙ cubed (whole b.right) refl) (ap (over 262144) h ∙ cubed (whole b.top) refl)
+    (ap (over 262144) e ∙ cubed (whole s.left) refl) (ap (over 262144) f ∙ cubed (whole s.bottom) refl) (ap (over 262144) g ∙ cubed (whole s.right) refl) (ap (over 262144) h ∙ cubed (whole s.top) refl)
 
 -- what has no corners draws nothing
 pub no_corners : (ss : List Segment) → extremes (corners ss) ≡ None → extremes (points ss) ≡ None

@@ -24,7 +24,7 @@ greater_turned a b ha hb =
     let g = greater_is a b in
     greater_one b a (greater a b) hb ha (greater_canonical a b ha hb) g.right g.left (either_way (greater a b) a b g.one)
 
-reaching_turned : (d e : Extremes) → AreLowest d → AreLowest e → reaching d e ≡ reaching e d
+pub reaching_turned : (d e : Extremes) → AreLowest d → AreLowest e → reaching d e ≡ reaching e d
 reaching_turned d e h k = same_extremes _ _ _ _ _ _ _ _
     (lesser_turned d.left e.left h.left k.left) (lesser_turned d.bottom e.bottom h.bottom k.bottom)
     (greater_turned d.right e.right h.right k.right) (greater_turned d.top e.top h.top k.top)
@@ -43,7 +43,7 @@ unite_turned None (Some e) h k = refl
 unite_turned (Some d) None h k = refl
 unite_turned (Some d) (Some e) h k = ap Some (reaching_turned d e h k)
 
-unite_lowest : (d e : Option Extremes) → IfSome d AreLowest → IfSome e AreLowest → IfSome (unite d e) AreLowest
+pub unite_lowest : (d e : Option Extremes) → IfSome d AreLowest → IfSome e AreLowest → IfSome (unite d e) AreLowest
 unite_lowest None e h k = k
 unite_lowest (Some d) None h k = h
 unite_lowest (Some d) (Some e) h k = reaching_lowest d e h k

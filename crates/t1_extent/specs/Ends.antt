@@ -22,3 +22,12 @@ bends_of (Curve start first second end) = points_of (Curve start first second en
 -- profile: these points of an outline, curve by curve
 abbrev pub bends : List Segment → List Point
 bends outline = flat_map bends_of outline
+
+-- profile: the two points between the ends of a curve; none of a line
+abbrev pub inner_of : Segment → List Point
+inner_of (Line start end) = []
+inner_of (Curve start first second end) = first ∷ second ∷ []
+
+-- profile: these points of an outline, curve by curve
+abbrev pub inner : List Segment → List Point
+inner outline = flat_map inner_of outline

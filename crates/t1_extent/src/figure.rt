@@ -8,7 +8,7 @@ ghost use Rattle.t1_extent.specs.Extremes.{IsWhole};
 use crate::distance::Distance;
 use crate::drawn::drawn_within;
 use crate::extent::Extent;
-use crate::outline_sides::outline_sides;
+use crate::outline_sides::{OutlineSides, outline_sides, whole_outline_sides};
 use crate::reached::{Drawn, Reached};
 use crate::turns::point_through;
 use t1_frac::Code;
@@ -27,13 +27,15 @@ pub struct Figure {
 }
 
 impl Figure {
-    ghost use Rattle.std.specs.Prelude.{◌≡◌, List, All, IfSome, IsOk};
+    ghost use Rattle.std.specs.Prelude.{◌≡◌, true, false, List, All, IfSome, IsOk, MatchOption, option_map};
     ghost use Rattle.t1_run.specs.declared.outline.Segment.{Segment};
     ghost use Rattle.t1_run.specs.Composite.{IsWithin};
-    ghost use Rattle.t1_extent.specs.Extremes.{IsWholeSegment};
+    ghost use Rattle.t1_extent.specs.Ends.{ends as ends_of_all};
+    ghost use Rattle.t1_extent.specs.Extremes.{IsWholeSegment, corners as corners_of_all, extremes, is_whole_outline};
     ghost use Rattle.t1_extent.specs.Figures.{first_point as first_point_of, IsFigureOf, IsWholeFigure};
     ghost use Rattle.t1_extent.specs.Laws.{IsDistance};
     ghost use Rattle.t1_extent.specs.Reached.{IsReach, ReportsAtOnce};
+    ghost use Rattle.t1_extent.specs.Sides.{whole_extremes};
     ghost use Rattle.t1_extent.specs.Turns.{in_turn, through as through_of};
 
     /// The first point of an outline.
@@ -51,19 +53,42 @@ impl Figure {
         }
     }
 
+    /// The figure of an outline whose coordinates are whole, by the extremes of its ends and of all its points, where it draws.
+    fn with_sides(segments: &[Segment], sides: Option<OutlineSides>) -> Option<Figure>
+        requires within { All IsWithin segments.now }
+        requires whole { All IsWholeSegment segments.now }
+        requires ends { option_map (λ s. whole_extremes s.ends) sides ≡ extremes (ends_of_all segments.now) }
+        requires corners { option_map (λ s. whole_extremes s.corners) sides ≡ extremes (corners_of_all segments.now) }
+        ensures { IsFigureOf result segments.now }
+    {
+        let start = Figure::first_point(segments)?;
+        let sides = sides?;
+        Some(Figure {
+            start,
+            drawn: drawn_within(segments, &sides),
+            corners: sides.corners.extent(),
+        })
+    }
+
     /// The figure of an outline whose coordinates are whole, where it draws.
     pub fn of(segments: &[Segment]) -> Option<Figure>
         requires within { All IsWithin segments.now }
         requires whole { All IsWholeSegment segments.now }
         ensures { IsFigureOf result segments.now }
     {
-        let start = Figure::first_point(segments)?;
+        Figure::with_sides(segments, whole_outline_sides(segments))
+    }
+
+    /// The figure of an outline, where it draws; nothing where some coordinate has a fraction.
+    pub(crate) fn if_whole(segments: &[Segment]) -> Option<Option<Figure>>
+        requires { All IsWithin segments.now }
+        ensures { MatchOption
+            result
+            (is_whole_outline segments.now ≡ false)
+            (λ figure. (is_whole_outline segments.now ≡ true) × IsFigureOf figure segments.now) }
+    {
         let sides = outline_sides(segments)?;
-        Some(Figure {
-            start,
-            drawn: drawn_within(segments, &sides),
-            corners: sides.corners.over_one(),
-        })
+        Some(Figure::with_sides(segments, sides))
     }
 
     /// How far an outline reaches whose coordinates are whole.

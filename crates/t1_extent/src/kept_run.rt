@@ -13,7 +13,6 @@ use crate::boxes::drawn_bbox;
 use crate::corners::corners_extent;
 use crate::figure::Figure;
 use crate::reached::{Drawn, Reached};
-use crate::wholes::is_whole_outline;
 use std::alloc::{AllocError, Global};
 use std::marker::Model;
 use t1_afm::BBox;
@@ -65,8 +64,8 @@ impl Shape {
         ensures shape { IfOk result (λ shape. IsShape shape segments.now) }
         ensures trace { IfOk result (λ shape. has_trace shape ≡ (is_whole segments.now || is_standard name.now)) }
     {
-        if is_whole_outline(segments) {
-            return Ok(Shape::Whole(Figure::of(segments)));
+        if let Some(figure) = Figure::if_whole(segments) {
+            return Ok(Shape::Whole(figure));
         }
         if !is_standard_name(name) {
             return Ok(Shape::Boxed(drawn_bbox(segments)));

@@ -18,6 +18,7 @@ mod reach;
 mod reached;
 mod sides;
 mod turns;
+mod whole_sides;
 mod wholes;
 
 pub use boxes::moved_box;

@@ -1,6 +1,6 @@
 //! Extremes that have one denominator, by their numerators.
 
-ghost use Rattle.std.specs.Prelude.{◌≡◌, ◌≤◌, ◌^◌, ◌*ℤ◌, pos, true};
+ghost use Rattle.std.specs.Prelude.{◌≡◌, ◌≤◌, ◌^◌};
 ghost use Rattle.std.specs.Int.RustNames.{unsigned_abs};
 
 use crate::exact::Exact;
@@ -21,9 +21,7 @@ pub struct Sides {
 }
 
 impl Sides {
-    ghost use Rattle.std.specs.Prelude.{ℕ, ◌<◌, Some, option_map};
     ghost use Rattle.t1_extent.specs.Exacts.{extremes_of, AreFine};
-    ghost use Rattle.t1_extent.specs.Extremes.{reaching as reaching_of, unite as unite_of};
     ghost use Rattle.t1_extent.specs.Sides.{extremes_over};
 
     /// The extremes of both axes.
@@ -60,54 +58,6 @@ impl Sides {
         Reach {
             low: self.bottom,
             high: self.top,
-        }
-    }
-
-    /// The extremes of both.
-    #[tactic(auto, using(crate::proofs::Sums::lesser_over, crate::proofs::Sums::greater_over))]
-    pub(crate) fn reaching(&self, other: &Sides) -> Sides
-        ensures { (den : ℕ) → 0 < den → extremes_over den result ≡ reaching_of (extremes_over den self.now) (extremes_over den other.now) }
-    {
-        Sides {
-            left: self.left.min(other.left),
-            bottom: self.bottom.min(other.bottom),
-            right: self.right.max(other.right),
-            top: self.top.max(other.top),
-        }
-    }
-
-    /// The extremes of these and of others, if there are any.
-    pub(crate) fn united(&self, others: Option<Sides>) -> Sides
-        ensures { (den : ℕ) → 0 < den → Some (extremes_over den result) ≡ unite_of (option_map (extremes_over den) others) (Some (extremes_over den self.now)) }
-    {
-        match others {
-            None => *self,
-            Some(others) => others.reaching(self),
-        }
-    }
-
-    /// Whether these, over 64^3, are the others, over 1.
-    pub(crate) fn are_whole(&self, others: &Sides) -> bool
-        ensures left { result ≡ true → self.now.left ≡ pos 262144 *ℤ others.now.left }
-        ensures bottom { result ≡ true → self.now.bottom ≡ pos 262144 *ℤ others.now.bottom }
-        ensures right { result ≡ true → self.now.right ≡ pos 262144 *ℤ others.now.right }
-        ensures top { result ≡ true → self.now.top ≡ pos 262144 *ℤ others.now.top }
-        ensures reported { self.now.left ≡ pos 262144 *ℤ others.now.left → self.now.bottom ≡ pos 262144 *ℤ others.now.bottom → self.now.right ≡ pos 262144 *ℤ others.now.right → self.now.top ≡ pos 262144 *ℤ others.now.top → result ≡ true }
-    {
-        self.horizontal().are_whole(&others.horizontal())
-            && self.vertical().are_whole(&others.vertical())
-    }
-
-    /// The extremes whose numerators over 1 these are.
-    pub(crate) fn over_one(&self) -> Extent
-        ensures value { extremes_of result ≡ extremes_over 1 self.now }
-        ensures fine { AreFine 1 result }
-    {
-        Extent {
-            left: Exact::over_one(self.left),
-            bottom: Exact::over_one(self.bottom),
-            right: Exact::over_one(self.right),
-            top: Exact::over_one(self.top),
         }
     }
 

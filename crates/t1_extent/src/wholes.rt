@@ -1,6 +1,6 @@
 //! Outlines whose coordinates are all whole, as most fonts have.
 
-ghost use Rattle.std.specs.Prelude.{◌≡◌, All, true};
+ghost use Rattle.std.specs.Prelude.{◌≡◌, ◌<◌, ◌≤◌, ◌+◌, ◌^◌, pos, All, true};
 ghost use Rattle.t1_extent.specs.Extremes.{IsWhole, IsWholeSegment, is_whole as is_whole_of, is_whole_segment as segment_is_whole, is_whole_outline as outline_is_whole};
 
 use t1_run::{Point, Segment};
@@ -13,12 +13,28 @@ pub fn is_whole(point: &Point) -> bool
     point.x.is_whole() && point.y.is_whole()
 }
 
-fn is_whole_segment(segment: &Segment) -> bool
-    ensures { result ≡ segment_is_whole segment.now }
+/// The two denominators of a point together, each of which is 1 or more.
+#[inline(always)]
+fn denominators(point: &Point) -> i64
+    ensures value { result ≡ pos (point.now.x.den + point.now.y.den) }
+    ensures x { 0 < point.now.x.den }
+    ensures y { 0 < point.now.y.den }
+    ensures fine { point.now.x.den + point.now.y.den ≤ 2 ^ 21 }
+{
+    point.x.den() + point.y.den()
+}
+
+/// Whether all coordinates of a line or a curve are whole: where its denominators add up to their count. So one comparison tells.
+#[inline(always)]
+pub(crate) fn is_whole_segment(segment: &Segment) -> bool
+    ensures value { result ≡ segment_is_whole segment.now }
+    ensures whole { result ≡ true → IsWholeSegment segment.now }
 {
     match segment {
-        Segment::Line(a, b) => is_whole(a) && is_whole(b),
-        Segment::Curve(a, b, c, d) => is_whole(a) && is_whole(b) && is_whole(c) && is_whole(d),
+        Segment::Line(a, b) => denominators(a) + denominators(b) == 4,
+        Segment::Curve(a, b, c, d) => {
+            denominators(a) + denominators(b) + denominators(c) + denominators(d) == 8
+        }
     }
 }
 

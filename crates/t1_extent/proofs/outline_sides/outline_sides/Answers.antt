@@ -1,17 +1,14 @@
-use Rattle.std.proofs.Common.{◌∙◌, arith}
-use Rattle.t1_extent.specs.Ends.{ends_of}
-use Rattle.t1_extent.specs.Extremes.{corners_of}
-use Rattle.t1_extent.proofs.Bending.{ends_numbers}
-use Rattle.t1_extent.proofs.Moving.{corner_numbers}
-use Rattle.t1_extent.proofs.Slices.{extremes-next}
+use Rattle.std.proofs.Common.{rules}
+use Rattle.t1_run.specs.Composite.{IsWithin}
+use Rattle.t1_extent.proofs.Onward.{ends_onward, corners_onward}
+use Rattle.t1_extent.proofs.Slices.{all_by}
 use Rattle.t1_extent.proofs.outline_sides.outline_sides.Goals as goal
 
-pub loop-segment-preserved : goal.loop-segment-preserved
-loop-segment-preserved c = record {
-  ends =
-      c.united.ensures.ends 262144 (omega arith)
-      ∙ extremes-next ends_of ends_numbers c.args.segments.now c.loop-segment.segment-index c.segment-item.result _ _ (omega arith) c.requires.within c.segment-item.is c.loop-segment.invariant.ends c.segment_ends.ensures;
-  corners =
-      c.united.ensures.corners 1 (omega arith)
-      ∙ extremes-next corners_of corner_numbers c.args.segments.now c.loop-segment.segment-index c.segment-item.result _ _ (omega arith) c.requires.within c.segment-item.is c.loop-segment.invariant.corners c.segment_sides.ensures;
-}
+pub returns : goal.returns
+returns c =
+    let xs = c.args.segments.now in
+    let within = all_by IsWithin xs c.requires in (
+      search rules,
+      ends_onward c.in-Some.first.now c.in-Some.rest.now xs _ _ (search rules) within c.segment_ends-ends.ensures c.in_ok-sides_onto.ensures.ends,
+      corners_onward c.in-Some.first.now c.in-Some.rest.now xs _ _ _ (search rules) within c.segment_ends-ends.ensures c.with_inner-inner.ensures c.in_ok-sides_onto.ensures.corners,
+    )

@@ -1,4 +1,4 @@
-use Rattle.std.proofs.Common.{ap, ◌∙◌}
+use Rattle.std.proofs.Common.{◌^◌, ap, ◌∙◌, arith}
 use Rattle.std.specs.Int.{int_min, int_max}
 use Rattle.t1_afm.proofs.Longs.{greatest_is_pick, least_is_pick}
 use Rattle.t1_extent.proofs.Holding.{four_long, high_held, low_held}
@@ -34,18 +34,18 @@ invariant_of-result c =
     let s = c.args.self.now in
     let v = c.cubic_reach-values.result in
     record {
-      low_size = (least_read c.min-3.result s.low v.low c.min-3.ensures.value s.low_size v.low_size).1;
-      high_size = (greatest_read c.max-3.result s.high v.high c.max-3.ensures.value s.high_size v.high_size).1;
+      low_size = (least_read (2 ^ 38) c.min-3.result s.low v.low (omega arith) c.min-3.ensures.value s.low_size v.low_size).1;
+      high_size = (greatest_read (2 ^ 38) c.max-3.result s.high v.high (omega arith) c.max-3.ensures.value s.high_size v.high_size).1;
     }
 
 pub returns-clause-low : goal.returns-clause-low
 returns-clause-low c =
     let s = c.args.self.now in
     let v = c.cubic_reach-values.result in
-    (least_read c.min-3.result s.low v.low c.min-3.ensures.value s.low_size v.low_size).0 ∙ ap (int_min s.low) c.cubic_reach-values.ensures.least
+    (least_read (2 ^ 38) c.min-3.result s.low v.low (omega arith) c.min-3.ensures.value s.low_size v.low_size).0 ∙ ap (int_min s.low) c.cubic_reach-values.ensures.least
 
 pub returns-clause-high : goal.returns-clause-high
 returns-clause-high c =
     let s = c.args.self.now in
     let v = c.cubic_reach-values.result in
-    (greatest_read c.max-3.result s.high v.high c.max-3.ensures.value s.high_size v.high_size).0 ∙ ap (int_max s.high) c.cubic_reach-values.ensures.greatest
+    (greatest_read (2 ^ 38) c.max-3.result s.high v.high (omega arith) c.max-3.ensures.value s.high_size v.high_size).0 ∙ ap (int_max s.high) c.cubic_reach-values.ensures.greatest
