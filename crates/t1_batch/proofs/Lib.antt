@@ -1,3 +1,4 @@
+pub mod AloneLaws
 pub mod Drafting
 pub mod Gathering
 pub mod Marking

@@ -19,6 +19,7 @@ use std::alloc::{AllocError, Global};
 use t1_cache::Named;
 use t1_font::{compiled_glyph, compiled_subr};
 use t1_frac::{Bytes, Refusal, Words};
+use t1_parts::Items;
 use t1_rerun::EntryChange;
 use t1_source::{Item, Source};
 
@@ -98,13 +99,13 @@ fn push_change(
 fn changes_of_items(
     alloc: Global,
     marks: &mut Marks,
-    items: &[Item],
+    items: &Items,
 ) -> Result<Vec<EntryChange>, Refusal>
     ensures changes { Gives (λ changes. changes.items) result (items_put (mark_at marks.old) items.now) }
     ensures others { OnOk result ((k : Key) → mark_at marks.new k ≡ after_items items.now (mark_at marks.old) k) }
 {
     let mut changes = Vec::new(alloc);
-    for item in items {
+    for item in items.iter().alone() {
         let change = item_change(alloc, marks, item)?;
         push_change(&mut changes, change)?;
     }
@@ -143,7 +144,7 @@ fn push_removed(
 /// What became of the entries, or the first fault of one.
 fn changes_by_entries(
     alloc: Global,
-    items: &[Item],
+    items: &Items,
     entries: Vec<EditedEntry>,
 ) -> Result<Vec<EntryChange>, Refusal>
     ensures { Gives (λ changes. changes.items) result (changes_by entries.items items.now) }

@@ -1,8 +1,8 @@
 -- The items of a source that edits make, in three parts.
-use Rattle.std.proofs.Common.{◌≡◌, ◌-◌, ◌+◌, ◌^◌, ◌<◌, min, max, ℕ, zero, suc, Bool, true, false, cond, List, [], ◌∷◌, ◌++◌, map, length, take, drop, append_assoc, length-append, refl, sym, ap, subst, ◌∙◌, Option, None, Some, Ok, Err, arith}
+use Rattle.std.proofs.Common.{◌≡◌, ◌-◌, ◌+◌, ◌^◌, ◌<◌, min, max, ℕ, zero, suc, Bool, true, false, cond, List, [], ◌∷◌, ◌++◌, map, length, take, drop, append_assoc, length-append, add-one, refl, sym, ap, subst, ◌∙◌, Option, None, Some, Ok, Err, arith}
 use Rattle.std.specs.Prelude.{◌||◌, is_some, nat_eq}
 use Rattle.std.proofs.lemmas.Bool.{eqb-true, not-false}
-use Rattle.std.specs.List.{find, list_any, remove, slice_set}
+use Rattle.std.specs.List.{find, list_any, slice_set}
 use Rattle.std.specs.Option.{option_map, option_or}
 use Rattle.t1_frac.specs.declared.fault.Refusal.{Refusal}
 use Rattle.t1_frac.specs.declared.fault.Refusal.TheVariants as refusals
@@ -45,15 +45,13 @@ use Rattle.t1_charstrings.proofs.Totals.{find-raised, named}
 
 -- ---- an item put in the place of another, or taken out
 
-pub put-parts : (is : List Item) (at : ℕ) (x : Item) → at < length is → take at is ++ (x ∷ drop 1 (drop at is)) ≡ slice_set is at x
-put-parts [] at x h = absurd (omega (arith, h))
-put-parts (i ∷ is) zero x h = refl
-put-parts (i ∷ is) (suc at) x h = ap (λ l. i ∷ l) (put-parts is at x (omega (arith, h)))
+put-past : (is : List Item) (at : ℕ) (x : Item) → at < length is → take at is ++ (x ∷ drop (suc at) is) ≡ slice_set is at x
+put-past [] at x h = absurd (omega (arith, h))
+put-past (i ∷ is) zero x h = refl
+put-past (i ∷ is) (suc at) x h = ap (λ l. i ∷ l) (put-past is at x (omega (arith, h)))
 
-pub remove-parts : (is : List Item) (at : ℕ) → at < length is → take at is ++ drop 1 (drop at is) ≡ remove is at
-remove-parts [] at h = absurd (omega (arith, h))
-remove-parts (i ∷ is) zero h = refl
-remove-parts (i ∷ is) (suc at) h = ap (λ l. i ∷ l) (remove-parts is at (omega (arith, h)))
+pub put-parts : (is : List Item) (at : ℕ) (x : Item) → at < length is → take at is ++ (x ∷ drop (at + 1) is) ≡ slice_set is at x
+put-parts is at x h = rw add-one (put-past is at x h)
 
 -- ---- the first part that says something decides
 
@@ -216,9 +214,9 @@ module _ (is : List Item) (made : SourceParts) (whole : raised is ≡ made.items
 
 lead-changed : {keys : List Key} (change : Change) (s : SourceParts) (c : Charstrings) → IsFor change s → IsEditOf keys s (made_after change s) c
     → is_entry_changed change s ≡ true → lead (made_after change s) ≡ lead s
-lead-changed (changes.PutItem at item) s c fits edit entry = put_front s c at item fits.well fits.serves.fits.0 edit.kept fits.serves.fits.1 entry edit.sound
+lead-changed (changes.PutItem at item) s c fits edit entry = put_front s c at item fits.well fits.serves.fits.0 edit.kept fits.serves.fits.2 entry edit.sound
 lead-changed (changes.InsertItem at item) s c fits edit entry = insert_front s c at item fits.well fits.serves.fits edit.kept _ _ refl refl entry edit.well edit.sound
-lead-changed (changes.RemoveItem at) s c fits edit entry = left_front s c at fits.well fits.serves.fits edit.kept entry
+lead-changed (changes.RemoveItem at) s c fits edit entry = left_front s c at fits.well fits.serves.fits.0 edit.kept entry
 lead-changed (changes.PutClear lines) s c fits edit entry = refl
 lead-changed (changes.PutPair at pair) s c fits edit entry = refl
 lead-changed (changes.InsertPair at pair) s c fits edit entry = refl

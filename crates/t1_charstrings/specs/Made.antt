@@ -18,7 +18,7 @@ use Rattle.t1_charstrings.specs.Sums.{item_at}
 
 -- profile: items in three parts
 abbrev pub made_items : MadeItems → List Item
-made_items items = items.before.now ++ (items.put.now ++ items.after.now)
+made_items items = items.before ++ (items.put ++ items.after)
 
 -- profile, edits: the source after a change, whatever the pairs
 abbrev pub made_after : Change → SourceParts → SourceParts

@@ -23,7 +23,7 @@ pub(crate) fn prepare_anew(alloc: Global, made: &Made) -> Result<ReadyLines, Ref
 {
     let items = made.items();
     let charstrings = items.charstrings(alloc)?;
-    let needed = items.needed();
+    let needed = items.needed()?;
     let len = items.raised_len(&charstrings, &needed);
     check_parts(made.clear(), len, made.tail())?;
     items.check_raised(&needed)?;

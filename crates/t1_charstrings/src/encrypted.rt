@@ -18,6 +18,7 @@ use std::alloc::{AllocError, Global};
 use t1_code::{Body, encrypted_charstring};
 use t1_font::{compiled_glyph, compiled_subr};
 use t1_frac::{Refusal, Words};
+use t1_parts::ItemsIter;
 use t1_source::{Item, Source};
 
 /// A Subr, encrypted with so many leading bytes.
@@ -115,17 +116,17 @@ fn add_item(
 }
 
 /// Adds the charstrings of the items, encrypted with so many leading bytes, where there are none of their keys; or answers the
-/// first fault of a body, at its entry.
+/// first fault of a body, at its entry. Lines that stand together are passed over as a whole.
 pub(crate) fn add_items(
     alloc: Global,
     lead: u8,
     charstrings: &mut Charstrings,
-    items: &[Item],
+    items: &ItemsIter,
 ) -> Result<(), Refusal>
     ensures checked { Gives (λ x. x) result (bodies_check items.now) }
     ensures kept { OnOk result ((k : Key) → kept_at charstrings.new k ≡ option_or (kept_at charstrings.old k) (option_map (encrypted lead k) (body_at (bodies items.now) k))) }
 {
-    for item in items {
+    for item in items.again().alone() {
         add_item(
             alloc,
             lead,
@@ -143,6 +144,7 @@ pub fn charstrings_of(alloc: Global, source: &Source) -> Result<Charstrings, Ref
     ensures kept { IfOk result (λ kept. AreEncrypted source.now kept) }
 {
     let mut charstrings = no_charstrings(alloc);
-    add_items(alloc, source.lead(), &mut charstrings, source.items())?;
+    let items = source.items().iter();
+    add_items(alloc, source.lead(), &mut charstrings, &items)?;
     Ok(charstrings)
 }

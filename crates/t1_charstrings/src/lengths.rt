@@ -2,6 +2,7 @@
 ghost use Rattle.std.specs.Prelude.{◌≡◌, ◌^◌, ◌-◌, ◌∷◌, ◌++◌, [], Some, decimal, min, length, option_copied};
 ghost use Rattle.t1_frac.specs.Ascii.{line_feed};
 ghost use Rattle.t1_code.specs.Pfb.{closing_text};
+ghost use Rattle.t1_parts.specs.ItemRefs.{item_of};
 ghost use Rattle.t1_source.specs.WellFormed.{IsWellFormed};
 ghost use Rattle.t1_font.specs.Assembly.{length_check};
 ghost use Rattle.t1_charstrings.specs.Kept.{AreEncrypted};
@@ -13,6 +14,7 @@ use crate::entries::{Charstrings, Entry};
 use itoa::Buffer;
 use t1_font::check_parts;
 use t1_frac::Fault;
+use t1_parts::{ItemRef, Items};
 use t1_source::{Item, Source};
 
 /// How long a closing text is with the space before it.
@@ -81,13 +83,23 @@ pub fn line_len(charstrings: &Charstrings, operator: &[u8], item: &Item) -> usiz
     }
 }
 
+/// How long the line of an item is, where it stands, up to 2^64 - 1.
+pub(crate) fn line_ref_len(charstrings: &Charstrings, operator: &[u8], item: &ItemRef) -> usize
+    ensures { result ≡ min (length (kept_line charstrings.now operator.now (item_of item.now))) (2 ^ 64 - 1) }
+{
+    match item {
+        ItemRef::Line(line) => line.len().saturating_add(1),
+        ItemRef::Item(item) => line_len(charstrings, operator, item),
+    }
+}
+
 /// How long the lines of the items are, up to 2^64 - 1.
-fn items_len(charstrings: &Charstrings, operator: &[u8], items: &[Item]) -> usize
+fn items_len(charstrings: &Charstrings, operator: &[u8], items: &Items) -> usize
     ensures { result ≡ min (length (kept_text charstrings.now operator.now items.now)) (2 ^ 64 - 1) }
 {
     let mut total: usize = 0;
-    for item in items {
-        total = total.saturating_add(line_len(charstrings, operator, item));
+    for item in items.iter() {
+        total = total.saturating_add(line_ref_len(charstrings, operator, &item));
     }
     total
 }
@@ -113,12 +125,12 @@ fn section_len(item: &Item) -> usize
     }
 }
 
-/// How long the section lines are, up to 2^64 - 1.
-pub fn sections_len(items: &[Item]) -> usize
+/// How long the section lines are, up to 2^64 - 1. Lines that stand together are passed over as a whole.
+pub fn sections_len(items: &Items) -> usize
     ensures { result ≡ min (length (section_text items.now)) (2 ^ 64 - 1) }
 {
     let mut total: usize = 0;
-    for item in items {
+    for item in items.iter().alone() {
         total = total.saturating_add(section_len(item));
     }
     total

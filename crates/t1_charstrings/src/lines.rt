@@ -3,6 +3,7 @@ ghost use Rattle.std.specs.Prelude.{◌≡◌, ◌∷◌, ◌++◌, [], IfOk, On
 ghost use Rattle.std.specs.List.{flat_map};
 ghost use Rattle.t1_frac.specs.Ascii.{line_feed};
 ghost use Rattle.t1_code.specs.Parts.{piece_text};
+ghost use Rattle.t1_parts.specs.ItemRefs.{item_of};
 ghost use Rattle.t1_charstrings.specs.Entries.{glyph_kept};
 ghost use Rattle.t1_charstrings.specs.Lines.{entry_line, kept_line, kept_text, line_text};
 
@@ -10,7 +11,7 @@ use crate::entries::{Charstrings, Entry};
 use indexmap::IndexMap;
 use std::alloc::{AllocError, Global};
 use t1_code::Piece;
-use t1_parts::push_decimal;
+use t1_parts::{ItemRef, Items, push_decimal};
 use t1_source::Item;
 
 /// A line of the private text, ready to be written.
@@ -107,19 +108,35 @@ fn line_of<'a>(
     }
 }
 
+/// The line of an item, where it stands, after so many glyphs, which it raises where it is one.
+fn line_of_ref<'a>(
+    alloc: Global,
+    charstrings: &'a Charstrings,
+    operator: &'a [u8],
+    place: &mut usize,
+    item: &ItemRef<'a, '_>,
+) -> Result<KeptLine<'a>, AllocError>
+    ensures { IfOk result (λ line. line_text line ≡ kept_line charstrings.now operator.now (item_of item.now)) }
+{
+    match item {
+        ItemRef::Line(line) => Ok(KeptLine::Plain(line)),
+        ItemRef::Item(item) => line_of(alloc, charstrings, operator, place, item),
+    }
+}
+
 /// The lines of the private text. An entry takes one look-up at most, and no copy.
 pub(crate) fn lines_of<'a>(
     alloc: Global,
     charstrings: &'a Charstrings,
     operator: &'a [u8],
-    items: &'a [Item],
+    items: &'a Items,
 ) -> Result<Vec<KeptLine<'a>>, AllocError>
     ensures { IfOk result (λ lines. flat_map line_text lines.items ≡ kept_text charstrings.now operator.now items.now) }
 {
     let mut lines = Vec::with_capacity(alloc, items.len())?;
     let mut place = 0;
-    for item in items {
-        lines.push(line_of(alloc, charstrings, operator, &mut place, item)?)?;
+    for item in items.iter() {
+        lines.push(line_of_ref(alloc, charstrings, operator, &mut place, &item)?)?;
     }
     Ok(lines)
 }

@@ -1,6 +1,7 @@
 //! A source that an edit or a batch of edits makes.
 ghost use Rattle.std.specs.Prelude.{◌≡◌, ◌<◌, [], length};
 ghost use Rattle.t1_parts.specs.Counts.{raised};
+ghost use Rattle.t1_parts.specs.ItemRefs.{item_of};
 ghost use Rattle.t1_source.specs.Changes.{changed};
 ghost use Rattle.t1_charstrings.specs.Made.{is_entry_changed, made_items, made_of, may_set_lead, IsFor, IsMade};
 ghost use Rattle.t1_charstrings.specs.Ready.{is_entry};
@@ -8,6 +9,7 @@ ghost use Rattle.t1_charstrings.specs.Sums.{item_at};
 
 use crate::made_items::MadeItems;
 use t1_frac::Bytes;
+use t1_parts::ItemRef;
 use t1_source::{Change, Item, Source};
 
 /// How the source is known that edits make of another one.
@@ -32,12 +34,22 @@ fn is_entry(item: &Item) -> bool
     matches!(item, Item::Subr(_, _, _) | Item::Glyph(_, _, _))
 }
 
+/// Whether an item, where it stands, is a Subr or a glyph.
+fn is_entry_ref(item: &ItemRef) -> bool
+    ensures { result ≡ is_entry (item_of item.now) }
+{
+    match item {
+        ItemRef::Line(_line) => false,
+        ItemRef::Item(item) => is_entry(item),
+    }
+}
+
 /// Whether the item at a place is a Subr or a glyph.
 fn is_entry_at(source: &Source, at: usize) -> bool
     requires { at < length source.now.items }
     ensures { result ≡ is_entry (item_at source.now.items at) }
 {
-    is_entry(&source.items()[at])
+    is_entry_ref(&source.items().item(at))
 }
 
 /// Whether a change leaves all items but Subrs and glyphs as they are.

@@ -1,7 +1,8 @@
 //! The counts of section lines, as they are raised where an entry is put in.
-ghost use Rattle.std.specs.Prelude.{◌≡◌, ◌^◌, ◌-◌, ◌∷◌, codes, if◌then◌else◌, length, map, max, min};
+ghost use Rattle.std.specs.Prelude.{◌≡◌, ◌<◌, ◌^◌, ◌-◌, ◌∷◌, codes, if◌then◌else◌, length, map, max, min};
 ghost use Rattle.t1_text.specs.Tokens.{last_is, tokens};
 ghost use Rattle.t1_parts.specs.Counts.{glyphs_needed, raised_item, subrs_needed};
+ghost use Rattle.t1_parts.specs.ItemRefs.{item_of};
 ghost use Rattle.t1_charstrings.specs.Lines.{kept_line, kept_text};
 ghost use Rattle.t1_charstrings.specs.Raising.{is_raised_counted, raised_check, raised_text};
 ghost use Rattle.t1_charstrings.specs.Sums.{section_line};
@@ -10,7 +11,7 @@ use crate::entries::Charstrings;
 use crate::lengths::{line_len, section_line_len};
 use t1_font::TEN_DIGITS;
 use t1_frac::{Code, Fault};
-use t1_parts::{glyphs_needed, subrs_needed};
+use t1_parts::{ItemRef, Items, ItemsIter, glyphs_needed, subrs_needed};
 use t1_source::Item;
 use t1_text::last_is;
 
@@ -22,10 +23,10 @@ pub(crate) struct Needed {
 }
 
 /// The highest Subr number plus one, with an item more.
-fn subrs_with(items: &[Item], item: &Item) -> u64
+fn subrs_with(items: &Items, item: &Item) -> u64
     ensures { result ≡ subrs_needed (item.now ∷ items.now) }
 {
-    let needed = subrs_needed(items);
+    let needed = subrs_needed(items.iter());
     match item {
         Item::Subr(number, _, _) => (u64::from(*number) + 1).max(needed),
         _ => needed,
@@ -34,10 +35,11 @@ fn subrs_with(items: &[Item], item: &Item) -> u64
 
 /// The number of glyphs, with an item more.
 #[tactic(auto, using(crate::proofs::Inserting::glyphs_first))]
-fn glyphs_with(items: &[Item], item: &Item) -> u64
+fn glyphs_with(items: &Items, item: &Item) -> u64
+    requires { glyphs_needed items.now < 2 ^ 64 - 1 }
     ensures { result ≡ glyphs_needed (item.now ∷ items.now) }
 {
-    let needed = glyphs_needed(items);
+    let needed = glyphs_needed(items.iter());
     match item {
         Item::Glyph(_, _, _) => needed + 1,
         _ => needed,
@@ -45,7 +47,8 @@ fn glyphs_with(items: &[Item], item: &Item) -> u64
 }
 
 /// What is needed with an item more.
-pub(crate) fn needed_with(items: &[Item], item: &Item) -> Needed
+pub(crate) fn needed_with(items: &Items, item: &Item) -> Needed
+    requires { glyphs_needed items.now < 2 ^ 64 - 1 }
     ensures subrs { result.subrs ≡ subrs_needed (item.now ∷ items.now) }
     ensures glyphs { result.glyphs ≡ glyphs_needed (item.now ∷ items.now) }
 {
@@ -80,12 +83,12 @@ fn raised_len(item: &Item, needed: &Needed) -> usize
     }
 }
 
-/// How long the raised section lines are, up to 2^64 - 1.
-pub(crate) fn raised_sections_len(items: &[Item], needed: &Needed) -> usize
+/// How long the raised section lines are, up to 2^64 - 1. Lines that stand together are passed over as a whole.
+pub(crate) fn raised_sections_len(items: &Items, needed: &Needed) -> usize
     ensures { result ≡ min (length (raised_text needed.now.subrs needed.now.glyphs items.now)) (2 ^ 64 - 1) }
 {
     let mut total: usize = 0;
-    for item in items {
+    for item in items.iter().alone() {
         total = total.saturating_add(raised_len(item, needed));
     }
     total
@@ -108,18 +111,33 @@ fn raised_line_len(
     }
 }
 
+/// How long the line of an item, where it stands, is with a raised count, up to 2^64 - 1.
+fn raised_line_ref_len(
+    charstrings: &Charstrings,
+    operator: &[u8],
+    item: &ItemRef,
+    needed: &Needed,
+) -> usize
+    ensures { result ≡ min (length (kept_line charstrings.now operator.now (raised_item needed.now.subrs needed.now.glyphs (item_of item.now)))) (2 ^ 64 - 1) }
+{
+    match item {
+        ItemRef::Line(line) => line.len().saturating_add(1),
+        ItemRef::Item(item) => raised_line_len(charstrings, operator, item, needed),
+    }
+}
+
 /// How long the lines of the items are with raised counts, up to 2^64 - 1.
 pub(crate) fn raised_items_len(
     charstrings: &Charstrings,
     operator: &[u8],
-    items: &[Item],
+    items: &ItemsIter,
     needed: &Needed,
 ) -> usize
     ensures { result ≡ min (length (kept_text charstrings.now operator.now (map (raised_item needed.now.subrs needed.now.glyphs) items.now))) (2 ^ 64 - 1) }
 {
     let mut total: usize = 0;
-    for item in items {
-        total = total.saturating_add(raised_line_len(charstrings, operator, item, needed));
+    for item in items.again() {
+        total = total.saturating_add(raised_line_ref_len(charstrings, operator, &item, needed));
     }
     total
 }
@@ -136,11 +154,12 @@ fn is_raised_counted(item: &Item, needed: &Needed) -> bool
     }
 }
 
-/// F23 where a raised count has more than nine digits.
-pub(crate) fn check_raised(items: &[Item], needed: &Needed) -> Result<(), Fault>
+/// F23 where a raised count has more than nine digits. Lines that stand together are passed over as a whole.
+#[tactic(auto, using(crate::proofs::AloneLaws::check_alone))]
+pub(crate) fn check_raised(items: &ItemsIter, needed: &Needed) -> Result<(), Fault>
     ensures { result ≡ raised_check needed.now.subrs needed.now.glyphs items.now }
 {
-    for item in items {
+    for item in items.again().alone() {
         if !is_raised_counted(item, needed) {
             return Err(Fault::from(Code::F23));
         }

@@ -13,7 +13,7 @@ ghost use Rattle.t1_charstrings.specs.Sums.{item_at};
 use crate::batch::batch_line_len;
 use crate::edited::EditedEntries;
 use crate::entries::Charstrings;
-use crate::lengths::{line_len, sections_len};
+use crate::lengths::{line_ref_len, sections_len};
 use crate::raising::{Needed, check_raised, needed_with, raised_sections_len};
 use t1_font::check_parts;
 use t1_frac::Fault;
@@ -24,7 +24,7 @@ fn old_len(charstrings: &Charstrings, source: &Source, at: usize) -> usize
     requires { at < length source.now.items }
     ensures { result ≡ old_len charstrings.now source.now at }
 {
-    line_len(charstrings, source.operator(), &source.items()[at])
+    line_ref_len(charstrings, source.operator(), &source.items().item(at))
 }
 
 /// How long the line of an item is by fresh charstrings over the old ones, up to 2^64 - 1.
@@ -122,7 +122,7 @@ pub(crate) fn len_inserted(
         &needed,
     );
     check_parts(source.clear(), len, source.tail())?;
-    check_raised(source.items(), &needed)?;
+    check_raised(&source.items().iter(), &needed)?;
     Ok(len)
 }
 

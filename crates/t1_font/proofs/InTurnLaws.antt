@@ -1,13 +1,12 @@
 -- What is reported of a glyph at its turn.
-use Rattle.std.proofs.Common.{append-nil, ◌≡◌, ◌∙◌, ◌+◌, ◌<◌, length, get_or, take, drop, ℕ, Bool, true, false, cond, List, [], ◌∷◌, ◌++◌, map, Option, Some, None, is_some, refl, sym, ap, subst, inl, inr}
+use Rattle.std.proofs.Common.{append-nil, ◌≡◌, ◌∙◌, ℕ, Bool, true, false, cond, List, [], ◌∷◌, ◌++◌, map, Option, Some, None, is_some, refl, sym, ap, subst, inl, inr}
 use Rattle.std.specs.Prelude.{Result, Ok, Err, ◌||◌, ◌&&◌}
 use Rattle.std.specs.List.{list_any}
 use Rattle.std.specs.Option.{option_or}
 use Rattle.std.specs.Str.{bytes_eq}
 use Rattle.std.proofs.lemmas.Bool.{cases_Bool}
 use Rattle.std.proofs.lemmas.List.Folds.{list_any-append}
-use Rattle.std.proofs.lemmas.List.{append_assoc, take_more, take-append-drop}
-use Rattle.std.proofs.lemmas.Grind.{flat_map-append}
+use Rattle.std.proofs.lemmas.List.{append_assoc}
 use Rattle.t1_frac.specs.declared.fault.Code.{Code}
 use Rattle.t1_frac.specs.declared.fault.Fault.{Fault}
 use Rattle.t1_frac.specs.declared.fault.Refusal.{Refusal}
@@ -29,7 +28,7 @@ use Rattle.t1_font.specs.Glyphs.{glyph_names, name_in}
 use Rattle.t1_font.specs.InTurn.{stays, staying, AreRows, IsRow, RunsAs}
 use Rattle.t1_font.specs.ToRun.{commands_or_none, font_to_run, glyph_to_run, SubrsStandFirst}
 use Rattle.t1_font.specs.MeasuredGlyphs.{glyph_metrics_among, glyph_metrics_at, glyph_metrics_by}
-use Rattle.t1_font.proofs.Compiling.{item-first, same-maps}
+use Rattle.t1_font.proofs.Compiling.{same-maps}
 use Rattle.t1_font.proofs.Gathering.{put_after, one-reported, one-refused}
 use Rattle.t1_run.proofs.Asked.{bytes_same}
 use Rattle.t1_font.proofs.Measuring.{own-same}
@@ -82,14 +81,7 @@ pub name-taken : (g : List ℕ) (b : Bool) (item : Item) (rest : List Item)
 name-taken g true item rest = refl
 name-taken g false item rest = sym (list_any-append (bytes_eq g) (name_in item) (glyph_names rest))
 
--- ---- the items so far, with one more
-
-pub names-next : (items : List Item) (i : ℕ) (item : Item) → i < length items → item ≡ get_or items i item
-    → glyph_names (take (i + 1) items) ≡ glyph_names (take i items) ++ name_in item
-names-next items i item inside is =
-    ap glyph_names (take_more items i item inside ∙ ap (λ x. take i items ++ x ∷ []) (sym is))
-    ∙ flat_map-append name_in (take i items) (item ∷ [])
-    ∙ ap (λ l. glyph_names (take i items) ++ l) (append-nil (name_in item))
+-- ---- the items that are left
 
 -- each glyph has something to be run
 pub names-known : (items : List Item) (g : List ℕ) → list_any (bytes_eq g) (glyph_names items) ≡ is_some (glyph_to_run items g)
@@ -116,17 +108,14 @@ all-there None rest all none e = sym none ∙ e
 all-there (Some x) rest all none e = e
 
 -- where a glyph stands, all Subrs were compiled
-pub runs-as : (items : List Item) (i : ℕ) (item : Item) (subrs : ℕ → Option (List Command)) → i < length items → item ≡ get_or items i item
-    → SubrsStandFirst items → ((n : ℕ) → option_or (subrs n) (subr_among (item ∷ drop (i + 1) items) n) ≡ subr_among items n)
+pub runs-as : (items : List Item) (item : Item) (rest : List Item) (subrs : ℕ → Option (List Command)) → SubrsStandFirst (item ∷ rest)
+    → ((n : ℕ) → option_or (subrs n) (subr_among (item ∷ rest) n) ≡ subr_among items n)
     → RunsAs item (own (font_to_run items)) (font subrs (glyph_to_run items))
-runs-as items i (Plain line) subrs inside is first left = tt
-runs-as items i (Section before count after) subrs inside is first left = tt
-runs-as items i (Subr number words closing) subrs inside is first left = tt
-runs-as items i (Glyph name words closing) subrs inside is first left =
-    let rest = drop (i + 1) items in
-    let whole : items ≡ take i items ++ Glyph name words closing ∷ rest =
-    sym (take-append-drop i items) ∙ ap (λ l. take i items ++ l) (item-first items i (Glyph name words closing) inside is) in
-    let none = first (take i items) rest name words closing whole in
+runs-as items (Plain line) rest subrs first left = tt
+runs-as items (Section before count after) rest subrs first left = tt
+runs-as items (Subr number words closing) rest subrs first left = tt
+runs-as items (Glyph name words closing) rest subrs first left =
+    let none = first [] rest name words closing refl in
     own-same (font_to_run items) (font subrs (glyph_to_run items)) name
     (same-maps (font_to_run items) (font subrs (glyph_to_run items))
     (λ n. sym (all-there (subrs n) (subr_among rest n) (subr_among items n) (no-subr rest n none) (left n)))

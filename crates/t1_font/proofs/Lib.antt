@@ -1,3 +1,4 @@
+pub mod AloneLaws
 pub mod Checking
 pub mod Compiling
 pub mod Counted

@@ -1,13 +1,11 @@
 -- The private text, one item's line after another.
-use Rattle.std.proofs.Common.{◌≡◌, ℕ, ◌+◌, ◌-◌, ◌^◌, ◌<◌, ◌≤◌, ◌++◌, min, length-append, get_or, drop, List, [], ◌∷◌, length, Result, Ok, Err, refl, sym, ap, ◌∙◌, arith}
+use Rattle.std.proofs.Common.{◌≡◌, ℕ, ◌+◌, ◌-◌, ◌^◌, ◌++◌, min, length-append, List, [], ◌∷◌, length, Result, Ok, Err, refl, sym, ap, ◌∙◌, arith}
 use Rattle.std.specs.Prelude.{decimal}
-use Rattle.std.proofs.lemmas.List.{append_assoc, at_drop_more}
-use Rattle.t1_frac.specs.declared.fault.Refusal.{Refusal}
-use Rattle.t1_frac.specs.declared.fault.Refusal.TheVariants as refusals
+use Rattle.std.proofs.lemmas.List.{append_assoc}
 use Rattle.t1_frac.specs.declared.fault.Code.{Code}
 use Rattle.t1_frac.specs.declared.fault.Fault.{Fault}
 use Rattle.t1_frac.specs.declared.fault.Place.{Place}
-use Rattle.t1_frac.specs.Outcome.{reported_at, ◌>>=◌, Refuses}
+use Rattle.t1_frac.specs.Outcome.{reported_at, ◌>>=◌}
 use Rattle.t1_code.specs.declared.command.Command.{Command}
 use Rattle.t1_code.specs.Words.{commands}
 use Rattle.t1_code.specs.Charstring.{charstring}
@@ -59,28 +57,12 @@ item_after text (Ok line) (Ok rest) new e = let same : text ++ line ≡ new = cc
 item_after text (Ok line) (Err fault) new e = refl
 item_after text (Err fault) rest new e = absurd (cc)
 
-item_faulty : (text : List ℕ) (line rest : Result (List ℕ) Fault) (fault : Fault) → put_after text line ≡ Err fault
-    → put_after text (line >>= λ l. rest >>= λ ls. Ok (l ++ ls)) ≡ Err fault
-item_faulty text (Ok line) rest fault e = absurd (cc)
-item_faulty text (Err other) rest fault e = e
-
--- the items from the place i on
-pub next_item : (lead : ℕ) (operator : List ℕ) (items : List Item) (i : ℕ) (item : Item) (text new : List ℕ) (whole : Result (List ℕ) Fault)
-    → i < length items → item ≡ get_or items i item → put_after text (item_line lead operator item) ≡ Ok new
-    → put_after text (private_text lead operator (drop i items)) ≡ whole → put_after new (private_text lead operator (drop (i + 1) items)) ≡ whole
-next_item lead operator items i item text new whole inside is line so_far =
-    let split = at_drop_more (λ rest. put_after text (private_text lead operator rest)) items i item inside in
-    let named = ap (λ x. put_after text (private_text lead operator (x ∷ drop (i + 1) items))) is in
-    sym (item_after text (item_line lead operator item) (private_text lead operator (drop (i + 1) items)) new line) ∙ named ∙ sym split ∙ so_far
-
-pub refused_item : (lead : ℕ) (operator : List ℕ) (items : List Item) (i : ℕ) (item : Item) (text : List ℕ) (refusal : Refusal) (whole : Result (List ℕ) Fault)
-    → i < length items → item ≡ get_or items i item → Refuses refusal (put_after text (item_line lead operator item))
-    → put_after text (private_text lead operator (drop i items)) ≡ whole → Refuses refusal whole
-refused_item lead operator items i item text refusals.Memory whole inside is line so_far = tt
-refused_item lead operator items i item text (refusals.Fault fault) whole inside is line so_far =
-    let split = at_drop_more (λ rest. put_after text (private_text lead operator rest)) items i item inside in
-    let named = ap (λ x. put_after text (private_text lead operator (x ∷ drop (i + 1) items))) is in
-    sym so_far ∙ split ∙ sym named ∙ item_faulty text (item_line lead operator item) (private_text lead operator (drop (i + 1) items)) fault line
+-- the items that are left
+pub next_item : (lead : ℕ) (operator : List ℕ) (item : Item) (items : List Item) (text new : List ℕ) (whole : Result (List ℕ) Fault)
+    → put_after text (item_line lead operator item) ≡ Ok new → put_after text (private_text lead operator (item ∷ items)) ≡ whole
+    → put_after new (private_text lead operator items) ≡ whole
+next_item lead operator item items text new whole line so_far =
+    sym (item_after text (item_line lead operator item) (private_text lead operator items) new line) ∙ so_far
 
 -- ---- how long the lines are
 
@@ -95,32 +77,9 @@ line_more (Ok line) (Ok rest) new total next e sum =
 line_more (Ok line) (Err fault) new total next e sum = refl
 line_more (Err fault) rest new total next e sum = absurd (cc)
 
-line_faulty : (line rest : Result (List ℕ) Fault) (total : ℕ) (fault : Fault) → put_after [] line ≡ Err fault
-    → added total (line >>= λ l. rest >>= λ ls. Ok (l ++ ls)) ≡ Err fault
-line_faulty (Ok line) rest total fault e = absurd (cc)
-line_faulty (Err other) rest total fault e = cc
-
--- the lines from the place i on
-pub next_len : (lead : ℕ) (operator : List ℕ) (items : List Item) (i : ℕ) (item : Item) (new : List ℕ) (total next : ℕ) (whole : Result ℕ Fault)
-    → i < length items → item ≡ get_or items i item → put_after [] (item_line lead operator item) ≡ Ok new → next ≡ min (total + length new) (2 ^ 64 - 1)
-    → added total (private_text lead operator (drop i items)) ≡ whole → added next (private_text lead operator (drop (i + 1) items)) ≡ whole
-next_len lead operator items i item new total next whole inside is line sum so_far =
-    let split = at_drop_more (λ rest. added total (private_text lead operator rest)) items i item inside in
-    let named = ap (λ x. added total (private_text lead operator (x ∷ drop (i + 1) items))) is in
-    sym (line_more (item_line lead operator item) (private_text lead operator (drop (i + 1) items)) new total next line sum) ∙ named ∙ sym split ∙ so_far
-
-pub refused_len : (lead : ℕ) (operator : List ℕ) (items : List Item) (i : ℕ) (item : Item) (total : ℕ) (refusal : Refusal) (whole : Result ℕ Fault)
-    → i < length items → item ≡ get_or items i item → Refuses refusal (put_after [] (item_line lead operator item))
-    → added total (private_text lead operator (drop i items)) ≡ whole → Refuses refusal whole
-refused_len lead operator items i item total refusals.Memory whole inside is line so_far = tt
-refused_len lead operator items i item total (refusals.Fault fault) whole inside is line so_far =
-    let split = at_drop_more (λ rest. added total (private_text lead operator rest)) items i item inside in
-    let named = ap (λ x. added total (private_text lead operator (x ∷ drop (i + 1) items))) is in
-    sym so_far ∙ split ∙ sym named ∙ line_faulty (item_line lead operator item) (private_text lead operator (drop (i + 1) items)) total fault line
-
-pub whole_len : (lead : ℕ) (operator : List ℕ) (rest : List Item) (total : ℕ) → rest ≡ [] → total ≤ 2 ^ 64 - 1 → added total (private_text lead operator rest) ≡ Ok total
-whole_len lead operator rest total none within = ap (λ is. added total (private_text lead operator is)) none ∙ ap (λ n. Ok n) (omega (arith, within))
-
-pub none_added : (text : Result (List ℕ) Fault) → added 0 text ≡ (text >>= λ bytes. Ok (min (length bytes) (2 ^ 64 - 1)))
-none_added (Ok bytes) = ap (λ n. Ok n) (omega arith)
-none_added (Err fault) = refl
+-- the lines that are left
+pub next_len : (lead : ℕ) (operator : List ℕ) (item : Item) (items : List Item) (new : List ℕ) (total next : ℕ) (whole : Result ℕ Fault)
+    → put_after [] (item_line lead operator item) ≡ Ok new → next ≡ min (total + length new) (2 ^ 64 - 1)
+    → added total (private_text lead operator (item ∷ items)) ≡ whole → added next (private_text lead operator items) ≡ whole
+next_len lead operator item items new total next whole line sum so_far =
+    sym (line_more (item_line lead operator item) (private_text lead operator items) new total next line sum) ∙ so_far

@@ -1,5 +1,5 @@
 -- The first fault of bodies, over Subrs and then over glyphs.
-use Rattle.std.proofs.Common.{◌≡◌, false, List, [], ◌∷◌, filter, Result, Ok, Err, refl, ap, sym, ◌∙◌}
+use Rattle.std.proofs.Common.{◌≡◌, ℕ, false, List, [], ◌∷◌, ◌++◌, filter, Result, Ok, Err, refl, ap, sym, subst, ◌∙◌}
 use Rattle.std.specs.List.{list_any}
 use Rattle.t1_frac.specs.declared.fault.Fault.{Fault}
 use Rattle.t1_frac.specs.Outcome.{◌>>=◌}
@@ -10,8 +10,20 @@ use Rattle.t1_source.specs.Editing.{is_subr_entry}
 use Rattle.t1_font.specs.Bodies.{bodies_check, body_check}
 use Rattle.t1_font.specs.ToRun.{SubrsStandFirst}
 
-later : (item : Item) (items : List Item) → SubrsStandFirst (item ∷ items) → SubrsStandFirst items
+pub later : (item : Item) (items : List Item) → SubrsStandFirst (item ∷ items) → SubrsStandFirst items
 later item items h a b g ws closing e = h (item ∷ a) b g ws closing (ap (λ (l : List Item). item ∷ l) e)
+
+-- with an item before them that has no Subr after it, where it is a glyph
+pub first-more : (item : Item) (items : List Item)
+    → ((g : List ℕ) (ws : List (List ℕ)) (closing : List ℕ) → item ≡ Glyph g ws closing → list_any is_subr_entry items ≡ false)
+    → SubrsStandFirst items → SubrsStandFirst (item ∷ items)
+first-more item items here after [] b g ws closing e =
+    let is : item ≡ Glyph g ws closing = cc in
+    let rest : items ≡ b = cc in
+    subst (λ l. list_any is_subr_entry l ≡ false) rest (here g ws closing is)
+first-more item items here after (x ∷ a) b g ws closing e =
+    let rest : items ≡ a ++ Glyph g ws closing ∷ b = cc in
+    after a b g ws closing rest
 
 one-by-one : (a b c : Result (Unit {0}) Fault) → ◌≡◌ {A = Result (Unit {0}) Fault} (a >>= (λ x. b >>= (λ y. c))) ((a >>= (λ x. b)) >>= (λ y. c))
 one-by-one (Ok x) b c = refl

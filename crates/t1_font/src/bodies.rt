@@ -12,6 +12,7 @@ use indexmap::IndexMap;
 use std::alloc::Global;
 use t1_code::{Body, compile};
 use t1_frac::{Bytes, Place, Refusal, Words};
+use t1_parts::Items;
 use t1_run::Plain;
 use t1_source::Item;
 
@@ -93,13 +94,14 @@ fn add_body(
 }
 
 /// The bodies of the entries, or their first fault, at its entry.
-pub fn compiled(alloc: Global, items: &[Item]) -> Result<Plain, Refusal>
+#[tactic(auto, using(crate::proofs::AloneLaws::checks_alone, crate::proofs::AloneLaws::subrs_alone, crate::proofs::AloneLaws::glyphs_alone))]
+pub fn compiled(alloc: Global, items: &Items) -> Result<Plain, Refusal>
     ensures checked { Gives (λ _. tt) result (bodies_check items.now) }
     ensures bodies { IfOk result (λ plain. SameBodies (plain_bodies plain) (bodies items.now)) }
 {
     let mut subrs = IndexMap::new(alloc);
     let mut glyphs = IndexMap::new(alloc);
-    for item in items {
+    for item in items.iter().alone() {
         add_body(alloc, &mut subrs, &mut glyphs, item)?;
     }
     Ok(Plain { subrs, glyphs })

@@ -8,6 +8,7 @@ use crate::glyph_metrics::{GlyphMetrics, font_box};
 use std::alloc::{AllocError, Global};
 use std::marker::Model;
 use t1_afm::BBox;
+use t1_parts::Items;
 use t1_source::Item;
 
 /// What is measured of the glyphs of a source, in the order of their entries, and the box around all that draw.
@@ -60,11 +61,12 @@ pub(crate) fn name_of<'i>(item: &'i Item) -> Option<&'i [u8]>
 }
 
 /// The names of the glyphs, in the order of their entries.
-pub fn glyph_names<'a>(alloc: Global, items: &'a [Item]) -> Result<Vec<&'a [u8]>, AllocError>
+#[tactic(auto, using(crate::proofs::AloneLaws::names_alone))]
+pub fn glyph_names<'a>(alloc: Global, items: &'a Items) -> Result<Vec<&'a [u8]>, AllocError>
     ensures { IfOk result (λ names. map (λ name. name.now) names.items ≡ glyph_names items.now) }
 {
     let mut names = Vec::new(alloc);
-    for item in items {
+    for item in items.iter().alone() {
         let Some(name) = name_of(item) else {
             continue;
         };

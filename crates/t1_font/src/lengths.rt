@@ -3,6 +3,7 @@ ghost use Rattle.std.specs.Prelude.{◌≡◌, ◌≤◌, ◌<◌, ◌+◌, ◌*
 ghost use Rattle.std.specs.List.{list_all};
 ghost use Rattle.t1_frac.specs.Outcome.{Gives};
 ghost use Rattle.t1_text.specs.Lines.{joined};
+ghost use Rattle.t1_parts.specs.ItemRefs.{item_of};
 ghost use Rattle.t1_parts.specs.SourceParts.{SourceParts};
 ghost use Rattle.t1_font.specs.Bodies.{bodies as bodies_of, bodies_check, plain_bodies, SameBodies};
 ghost use Rattle.t1_code.specs.Pfb.{whole_file};
@@ -17,6 +18,7 @@ use itoa::Buffer;
 use std::alloc::Global;
 use t1_code::{EEXEC_LEAD, MAX_PART};
 use t1_frac::{Bytes, Code, Fault, Refusal, Words};
+use t1_parts::{ItemRef, Items};
 use t1_run::Plain;
 use t1_source::{Item, Source};
 
@@ -77,13 +79,23 @@ fn max_line_len(lead: u8, operator: &[u8], item: &Item) -> usize
     }
 }
 
+/// The most bytes that the line of an item where it stands can have.
+fn max_line_ref_len(lead: u8, operator: &[u8], item: &ItemRef) -> usize
+    ensures { result < 2 ^ 31 → IfOk (item_line lead operator.now (item_of item.now)) (λ line. length line ≤ result) }
+{
+    match item {
+        ItemRef::Line(line) => line.len().saturating_add(1),
+        ItemRef::Item(item) => max_line_len(lead, operator, item),
+    }
+}
+
 /// The most bytes that the private text can have.
-fn max_private_len(lead: u8, operator: &[u8], items: &[Item]) -> usize
+fn max_private_len(lead: u8, operator: &[u8], items: &Items) -> usize
     ensures { result < 2 ^ 31 → IfOk (private_text lead operator.now items.now) (λ text. length text ≤ result) }
 {
     let mut total: usize = 0;
-    for item in items {
-        total = total.saturating_add(max_line_len(lead, operator, item));
+    for item in items.iter() {
+        total = total.saturating_add(max_line_ref_len(lead, operator, &item));
     }
     total
 }
@@ -141,14 +153,20 @@ fn is_counted(item: &Item) -> bool
 }
 
 /// Whether all counts have at most nine digits.
-fn are_counted(items: &[Item]) -> bool
+#[tactic(auto, using(crate::proofs::AloneLaws::counted_alone))]
+fn are_counted(items: &Items) -> bool
     ensures { result ≡ list_all is_counted items.now }
 {
-    items.iter().all(|item| is_counted(item))
+    for item in items.iter().alone() {
+        if !is_counted(item) {
+            return false;
+        }
+    }
+    true
 }
 
 /// F23 where the count of a section line has more than nine digits. It takes no memory.
-pub fn check_counts(items: &[Item]) -> Result<(), Fault>
+pub fn check_counts(items: &Items) -> Result<(), Fault>
     ensures { result ≡ counts_check items.now }
 {
     if are_counted(items) {

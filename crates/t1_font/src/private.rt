@@ -3,6 +3,7 @@ ghost use Rattle.std.specs.Prelude.{◌≡◌, ◌∷◌, ◌++◌, [], OnOk, co
 ghost use Rattle.t1_frac.specs.Ascii.{line_feed, slash};
 ghost use Rattle.t1_frac.specs.declared.fault.Place.TheVariants as places;
 ghost use Rattle.t1_frac.specs.Outcome.{Gives, reported_at};
+ghost use Rattle.t1_parts.specs.ItemRefs.{item_of};
 ghost use Rattle.t1_code.specs.Cipher.{encrypted_words};
 ghost use Rattle.t1_code.specs.Pfb.{closing_text, entry_text};
 ghost use Rattle.t1_font.specs.Assembly.{put_after, item_line, private_text};
@@ -12,7 +13,7 @@ use itoa::Buffer;
 use std::alloc::{AllocError, Global};
 use t1_code::encrypt_words;
 use t1_frac::{Bytes, Place, Refusal, Words};
-use t1_parts::push_line;
+use t1_parts::{ItemRef, Items, push_line};
 use t1_source::Item;
 
 /// Adds a section line with its count and its end.
@@ -150,19 +151,36 @@ fn push_item(
     }
 }
 
+/// Adds the line of an item where it stands.
+fn push_item_ref(
+    alloc: Global,
+    text: &mut Vec<u8>,
+    code: &mut Vec<u8>,
+    lead: u8,
+    operator: &[u8],
+    item: &ItemRef,
+) -> Result<(), Refusal>
+    ensures { Gives (λ _. text.new.items) result (put_after text.old.items (item_line lead operator.now (item_of item.now))) }
+{
+    match item {
+        ItemRef::Line(line) => Ok(push_line(text, line)?),
+        ItemRef::Item(item) => push_item(alloc, text, code, lead, operator, item),
+    }
+}
+
 /// The private text of the items, or the first fault of a body, at its entry.
 pub fn private_text_of(
     alloc: Global,
     lead: u8,
     operator: &[u8],
-    items: &[Item],
+    items: &Items,
 ) -> Result<Vec<u8>, Refusal>
     ensures { Gives (λ text. text.items) result (private_text lead operator.now items.now) }
 {
     let mut text = Vec::new(alloc);
     let mut code = Vec::new(alloc);
-    for item in items {
-        push_item(alloc, &mut text, &mut code, lead, operator, item)?;
+    for item in items.iter() {
+        push_item_ref(alloc, &mut text, &mut code, lead, operator, &item)?;
     }
     Ok(text)
 }
@@ -173,16 +191,16 @@ pub(crate) fn private_text_len(
     alloc: Global,
     lead: u8,
     operator: &[u8],
-    items: &[Item],
+    items: &Items,
 ) -> Result<usize, Refusal>
     ensures { Gives (λ len. len) result (private_length lead operator.now items.now) }
 {
     let mut line = Vec::new(alloc);
     let mut code = Vec::new(alloc);
     let mut total: usize = 0;
-    for item in items {
+    for item in items.iter() {
         line.clear();
-        push_item(alloc, &mut line, &mut code, lead, operator, item)?;
+        push_item_ref(alloc, &mut line, &mut code, lead, operator, &item)?;
         total = total.saturating_add(line.len());
     }
     Ok(total)

@@ -6,8 +6,8 @@ ghost use Rattle.t1_font.specs.Names.{has_name};
 use crate::subr_bodies::SubrBodies;
 use indexmap::IndexSet;
 use t1_code::Command;
+use t1_parts::Items;
 use t1_run::Bodies;
-use t1_source::Item;
 
 /// What the run of a glyph asks of a source: the Subrs, which were compiled, and the names of all glyphs.
 #[derive(Drop)]
@@ -15,7 +15,7 @@ pub(crate) struct SourceBodies<'s, 'i> {
     pub(crate) subrs: &'s SubrBodies,
     pub(crate) names: &'s IndexSet<&'i [u8]>,
     /// The items of the source. No code reads them; contracts see the bodies of its glyphs in them.
-    pub(crate) items: &'s [Item<'i>],
+    pub(crate) items: &'s Items<'i>,
     ghost known: { (g : List ℕ) → has_name names.now.keys g ≡ is_some (glyph_to_run items.now g) },
 }
 

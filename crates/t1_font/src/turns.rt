@@ -30,6 +30,7 @@ use crate::subr_bodies::SubrBodies;
 use indexmap::IndexSet;
 use std::alloc::{AllocError, Global};
 use t1_frac::{Bytes, Place, Refusal};
+use t1_parts::Items;
 use t1_source::laws::{source_is_well_formed, subrs_stand_first};
 use t1_source::{Item, Source};
 
@@ -44,11 +45,12 @@ fn add_item_name<'a>(names: &mut IndexSet<&'a [u8]>, item: &'a Item) -> Result<(
 }
 
 /// The names of the glyphs.
-fn names_of<'a>(alloc: Global, items: &'a [Item]) -> Result<IndexSet<&'a [u8]>, AllocError>
+#[tactic(auto, using(crate::proofs::AloneLaws::names_alone))]
+fn names_of<'a>(alloc: Global, items: &'a Items) -> Result<IndexSet<&'a [u8]>, AllocError>
     ensures { IfOk result (λ names. (g : List ℕ) → has_name names.keys g ≡ list_any (bytes_eq g) (glyph_names items.now)) }
 {
     let mut names = IndexSet::new(alloc);
-    for item in items {
+    for item in items.iter().alone() {
         add_item_name(&mut names, item)?;
     }
     Ok(names)
@@ -83,7 +85,7 @@ impl<'a> Turns<'a> {
     fn take(
         &mut self,
         alloc: Global,
-        items: &'a [Item],
+        items: &'a Items,
         names: &IndexSet<&'a [u8]>,
         item: &'a Item,
     ) -> Result<(), Refusal>
@@ -121,7 +123,7 @@ impl<'a> Turns<'a> {
 
 /// What is reported of the glyphs of a source, in the order of their entries, and the runs that stay; or the first fault of a body,
 /// at its entry. Subrs are compiled and glyphs are compiled and run in this order, each once.
-fn turns_of<'a>(alloc: Global, items: &'a [Item]) -> Result<Turns<'a>, Refusal>
+fn turns_of<'a>(alloc: Global, items: &'a Items) -> Result<Turns<'a>, Refusal>
     requires firsts { All (IsFirstOfName items.now) items.now }
     requires subrs { SubrsStandFirst items.now }
     ensures checked { Gives (λ _. tt) result (bodies_check items.now) }
@@ -129,7 +131,7 @@ fn turns_of<'a>(alloc: Global, items: &'a [Item]) -> Result<Turns<'a>, Refusal>
 {
     let names = names_of(alloc, items)?;
     let mut turns = Turns::new(alloc, names.len())?;
-    for item in items {
+    for item in items.iter().alone() {
         turns.take(alloc, items, &names, item)?;
     }
     Ok(turns)

@@ -1,6 +1,5 @@
 -- Counts that are raised stay so.
-use Rattle.std.proofs.Common.{◌≡◌, ℕ, zero, suc, ◌+◌, ◌<◌, max, if◌then◌else◌, List, [], ◌∷◌, ◌++◌, length, map, fold, take, drop, refl, sym, ◌∙◌, ap, arith}
-use Rattle.std.specs.List.{slice_set, slice_index_or}
+use Rattle.std.proofs.Common.{◌≡◌, ℕ, ◌+◌, max, if◌then◌else◌, List, [], ◌∷◌, map, fold, refl, ◌∙◌, ap, arith}
 use Rattle.t1_parts.specs.declared.item.Item.{Item}
 use Rattle.t1_parts.specs.declared.item.Item.TheVariants.{Plain, Section, Subr, Glyph}
 use Rattle.t1_parts.specs.Sections.{is_glyphs_line}
@@ -51,26 +50,3 @@ raised_again items =
     ap (λ n. map (raised_item n (glyphs_needed (raised items))) (raised items)) (subrs_same s g items)
     ∙ ap (λ n. map (raised_item s n) (raised items)) (glyphs_same s g items)
     ∙ all_again s g items
-
--- ---- counts raised one after another
-
--- the items in front of a place raised
-abbrev pub raised_front : ℕ → ℕ → ℕ → List Item → List Item
-raised_front s g at items = map (raised_item s g) (take at items) ++ drop at items
-
-raised_one : (s g : ℕ) (at : ℕ) (items : List Item) (x : Item) → at < length items
-    → slice_set (raised_front s g at items) at (raised_item s g (slice_index_or (raised_front s g at items) at x)) ≡ raised_front s g (suc at) items
-raised_one s g at [] x h = absurd (omega (arith, h))
-raised_one s g zero (i ∷ items) x h = refl
-raised_one s g (suc at) (i ∷ items) x h = ap (λ t. raised_item s g i ∷ t) (raised_one s g at items x (omega (arith, h)))
-
--- x is the item at the place, and y is what it is raised to
-pub raised_step : (s g s' g' at : ℕ) (items now : List Item) (x y : Item) → s' ≡ s → g' ≡ g → at < length items → now ≡ raised_front s g at items
-    → slice_index_or now at x ≡ x → y ≡ raised_item s' g' x → slice_set now at y ≡ raised_front s g (at + 1) items
-raised_step s g s' g' at items now x y es eg h e here made =
-    ap (slice_set now at) (made ∙ ap (λ k. raised_item k g' x) es ∙ ap (λ k. raised_item s k x) eg ∙ ap (raised_item s g) (sym here))
-    ∙ ap (λ t. slice_set t at (raised_item s g (slice_index_or t at x))) e
-    ∙ raised_one s g at items x h
-    ∙ ap (λ k. raised_front s g k items) (more at) where
-      more : (n : ℕ) → suc n ≡ n + 1
-      more n = omega arith

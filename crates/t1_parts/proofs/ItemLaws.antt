@@ -12,13 +12,14 @@ use Rattle.t1_frac.specs.Outcome.{reported_at, Refuses, ◌>>=◌}
 use Rattle.t1_frac.specs.declared.fault.Refusal.{Refusal}
 use Rattle.t1_frac.specs.declared.fault.Refusal.TheVariants.{Memory, Fault as Reported}
 use Rattle.t1_parts.specs.Numbered.{numbered, try_fold}
+use Rattle.t1_parts.specs.PlainRuns.{read_from}
 use Rattle.t1_parts.specs.Private.{item_at, ItemsSoFar, read_on, items_of}
 use Rattle.t1_frac.specs.declared.fault.Place.TheVariants.{Line}
 use Rattle.t1_frac.proofs.OutcomeLaws.{bind_ok, reported_ok}
 
 -- the earlier items and those of these lines, of which the first has number n and belongs to none of the earlier items
 abbrev pub items_from : List NumberedItem → ℕ → List (List ℕ) → Result (List NumberedItem) Fault
-items_from earlier n ls = try_fold read_on (record { items = earlier; next = n }) (numbered n ls) >>= λ read. Ok read.items
+items_from earlier n ls = read_from earlier n ls
 
 -- k lines that belong to an item that is read
 lines_read : (read : ItemsSoFar) (k n : ℕ) (ls : List (List ℕ)) → read.next ≡ n + k → k ≤ length ls → try_fold read_on read (numbered n ls) ≡ try_fold read_on read (numbered read.next (drop k ls))

@@ -1,3 +1,4 @@
+pub mod AloneLaws
 pub mod BodyLaws
 pub mod CloseLaws
 pub mod CountLaws
@@ -8,12 +9,17 @@ pub mod GroupLaws
 pub mod ItemLaws
 pub mod KeyLaws
 pub mod LeadLaws
+pub mod NumberedLaws
 pub mod OpeningLaws
 pub mod PartLaws
 pub mod PieceLaws
+pub mod PlainRunLaws
 pub mod ReadingRows
+pub mod RunCutLaws
 pub mod RunLaws
 pub mod SearchLaws
 pub mod SectionLaws
+pub mod SingleLaws
+pub mod StretchLaws
 pub mod TailLaws
 pub mod TextPlaceLaws

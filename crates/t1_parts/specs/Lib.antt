@@ -3,11 +3,15 @@ pub mod Encoding
 pub mod Entries
 pub mod Gathered
 pub mod Header
+pub mod ItemRefs
+pub mod Items
 pub mod LenIV
 pub mod Numbered
+pub mod NumberedStretches
 pub mod Operator
 pub mod Parts
 pub mod Pieces
+pub mod PlainRuns
 pub mod Printing
 pub mod Private
 pub mod Reading

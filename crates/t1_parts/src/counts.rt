@@ -4,14 +4,17 @@ ghost use Rattle.std.specs.Prelude.{◌≡◌, ◌≤◌, length};
 ghost use Rattle.t1_parts.specs.Counts.{subrs_needed, glyphs_needed, raised, raised_item};
 
 use crate::item::Item;
+use crate::items::Items;
+use crate::items_iter::ItemsIter;
 use crate::sections::is_glyphs_line;
 
 /// What the Subrs of these items ask of the section's count: the highest number plus one, 0 where there is none.
-pub fn subrs_needed(items: &[Item]) -> u64
-    ensures { result ≡ subrs_needed items.now }
+#[tactic(auto, using(crate::proofs::AloneLaws::subrs_alone))]
+pub fn subrs_needed(items: ItemsIter) -> u64
+    ensures { result ≡ subrs_needed items.entry }
 {
     let mut needed = 0;
-    for item in items {
+    for item in items.alone() {
         if let Item::Subr(number, _, _) = item {
             needed = (u64::from(*number) + 1).max(needed);
         }
@@ -20,12 +23,14 @@ pub fn subrs_needed(items: &[Item]) -> u64
 }
 
 /// What the glyphs of these items ask of the section's count: their number.
-pub fn glyphs_needed(items: &[Item]) -> u64
-    ensures value { result ≡ glyphs_needed items.now }
-    ensures within { result ≤ length items.now }
+#[tactic(auto, using(crate::proofs::AloneLaws::glyphs_alone, crate::proofs::AloneLaws::length_alone))]
+pub fn glyphs_needed(items: ItemsIter) -> u64
+    ensures value { result ≡ glyphs_needed items.entry }
+    ensures within { result ≤ length items.entry }
 {
+    let _len = items.len();
     let mut needed = 0;
-    for item in items {
+    for item in items.alone() {
         if let Item::Glyph(_, _, _) = item {
             needed += 1;
         }
@@ -34,7 +39,7 @@ pub fn glyphs_needed(items: &[Item]) -> u64
 }
 
 /// Raises the count of a section line to what is needed.
-fn raise_item(item: &mut Item, subrs: u64, glyphs: u64)
+pub(crate) fn raise_item(item: &mut Item, subrs: u64, glyphs: u64)
     ensures { item.new ≡ raised_item subrs glyphs item.old }
 {
     let needed = if is_glyphs_line(item) { glyphs } else { subrs };
@@ -44,12 +49,10 @@ fn raise_item(item: &mut Item, subrs: u64, glyphs: u64)
 }
 
 /// Raises the counts of the section lines to what is needed, in their places.
-pub fn raise(items: &mut Vec<Item>)
-    ensures { items.new.items ≡ raised items.old.items }
+pub fn raise(items: &mut Items)
+    ensures { items.new ≡ raised items.old }
 {
-    let subrs = subrs_needed(items);
-    let glyphs = glyphs_needed(items);
-    for item in items.iter_mut() {
-        raise_item(item, subrs, glyphs);
-    }
+    let subrs = subrs_needed(items.iter());
+    let glyphs = glyphs_needed(items.iter());
+    items.raise_counts(subrs, glyphs);
 }

@@ -1,22 +1,39 @@
 //! The items read so far.
 
-ghost use Rattle.std.specs.Prelude.{◌≡◌, ◌∷◌, [], ◌++◌, IfOk, option_map};
+ghost use Rattle.std.specs.Prelude.{◌≡◌, ◌<◌, ◌+◌, ◌^◌, ◌∷◌, [], ◌++◌, length, IfOk, option_map};
+ghost use Rattle.t1_text.specs.Lines.{lines};
 ghost use Rattle.t1_parts.specs.Sections.{is_subrs_line, is_glyphs_line};
 ghost use Rattle.t1_parts.specs.Entries.{glyph_name, has, is_subr, is_glyph};
+ghost use Rattle.std.specs.List.{find};
+ghost use Rattle.t1_parts.specs.LenIV.{says_lead};
+ghost use Rattle.t1_parts.specs.NumberedStretches.{numbered_in, numbered_lines};
 ghost use Rattle.t1_parts.specs.Reading.{unnumbered};
 
 use crate::item::Item;
+use crate::items::Items;
+use crate::plain_lines::{PlainLines, next_line};
 use crate::sections::{is_glyphs_line, is_subrs_line};
+use crate::stretch::Stretch;
 use indexmap::IndexSet;
 use std::alloc::{AllocError, Global};
 use std::collections::BTreeSet;
 use std::marker::Model;
+use t1_frac::SourceText;
+
+/// As many plain lines that follow one another stand together at least. Where fewer do, they stand one by one, so that a font of
+/// entries with a few lines between them has no lines that stand together, and the item of a place is found at once.
+const FEWEST_TOGETHER: usize = 64;
+
+/// How many bytes an item is taken to have, where room is made for those to come.
+const BYTES_OF_AN_ITEM: usize = 256;
 
 /// The items read so far, each with the number of its first line, and what later lines ask of them; the glyphs' names are
 /// kept where they stand in the source. Contracts see the list of the items.
 #[derive(Drop)]
 pub struct Gathered<'a> {
-    items: Vec<(u64, Item<'a>)>,
+    numbers: Vec<u64>,
+    stretches: Vec<Stretch<'a>>,
+    are_single: bool,
     has_subrs_line: bool,
     has_glyphs_line: bool,
     subrs: BTreeSet<u16>,
@@ -24,34 +41,59 @@ pub struct Gathered<'a> {
 }
 
 impl<'a> Model for Gathered<'a> {
-    ghost use Rattle.std.specs.Prelude.{◌≡◌, List};
+    ghost use Rattle.std.specs.Prelude.{◌≡◌, List, true, length};
     ghost use Rattle.t1_parts.specs.Sections.{is_subrs_line, is_glyphs_line};
     ghost use Rattle.t1_parts.specs.Entries.{NumberedItem, has};
     ghost use Rattle.t1_parts.specs.Gathered.{HasNumbers, HasNames};
+    ghost use Rattle.t1_parts.specs.Items.{AreSingle};
+    ghost use Rattle.t1_parts.specs.NumberedStretches.{numbered_in};
 
     ghost Value = { List NumberedItem };
 
-    ghost view = { λ g. g.items.items };
+    ghost view = { λ g. numbered_in g.numbers.items g.stretches.items };
 
     ghost invariant = { λ g.
-        (g.has_subrs_line ≡ has is_subrs_line g.items.items)
-        × (g.has_glyphs_line ≡ has is_glyphs_line g.items.items)
-        × HasNumbers g.subrs.keys g.items.items
-        × HasNames g.glyphs.keys g.items.items };
+        (g.has_subrs_line ≡ has is_subrs_line (numbered_in g.numbers.items g.stretches.items))
+        × (g.has_glyphs_line ≡ has is_glyphs_line (numbered_in g.numbers.items g.stretches.items))
+        × HasNumbers g.subrs.keys (numbered_in g.numbers.items g.stretches.items)
+        × HasNames g.glyphs.keys (numbered_in g.numbers.items g.stretches.items)
+        × (length g.numbers.items ≡ length g.stretches.items)
+        × (g.are_single ≡ true → AreSingle g.stretches.items) };
+}
+
+/// The first item of some stretches that says lenIV, with its number.
+fn first_saying<'s, 'a>(
+    numbers: &[u64],
+    stretches: &'s [Stretch<'a>],
+) -> Option<(u64, &'s Item<'a>)>
+    requires { length numbers.now ≡ length stretches.now }
+    ensures { option_map (λ i. (i.0, i.1.now)) result ≡ find (λ i. says_lead i.1) (numbered_in numbers.now stretches.now) }
+{
+    for at in 0..stretches.len() {
+        let stretch = &stretches[at];
+        if let Some(item) = stretch.saying() {
+            return Some((numbers[at], item));
+        }
+    }
+    None
 }
 
 impl<'a> Gathered<'a> {
-    /// No items.
-    pub fn new(alloc: Global) -> Self
-        ensures { result ≡ [] }
+    /// No items, with room for those that so many bytes may have. An entry of a font takes some 256 bytes or more; where the items
+    /// are more, the room grows.
+    pub fn for_bytes(alloc: Global, len: usize) -> Result<Self, AllocError>
+        ensures { IfOk result (λ g. g ≡ []) }
     {
-        Gathered {
-            items: Vec::new(alloc),
+        let room = len / BYTES_OF_AN_ITEM;
+        Ok(Gathered {
+            numbers: Vec::with_capacity(alloc, room)?,
+            stretches: Vec::with_capacity(alloc, room)?,
+            are_single: true,
             has_subrs_line: false,
             has_glyphs_line: false,
             subrs: BTreeSet::new(alloc),
             glyphs: IndexSet::new(alloc),
-        }
+        })
     }
 
     /// Whether a Subrs line came before.
@@ -82,22 +124,83 @@ impl<'a> Gathered<'a> {
         self.glyphs.contains(name)
     }
 
-    /// The items as a slice.
-    pub fn as_slice(&self) -> &[(u64, Item<'a>)]
-        ensures { result.now ≡ self.now }
+    /// The first item that says lenIV, with its number. Lines that stand together say nothing of it.
+    pub fn first_saying(&self) -> Option<(u64, &Item<'a>)>
+        ensures { option_map (λ i. (i.0, i.1.now)) result ≡ find (λ i. says_lead i.1) self.now }
     {
-        self.items.as_slice()
+        first_saying(self.numbers.as_slice(), self.stretches.as_slice())
     }
 
-    /// The items without their numbers.
-    pub fn into_items(self, alloc: Global) -> Result<Vec<Item<'a>>, AllocError>
-        ensures { IfOk result (λ items. items.items ≡ unnumbered self.entry) }
+    /// The items without their numbers. None of them is copied. Want of memory is answered where they are 2^64 or more, which no
+    /// memory holds.
+    pub fn into_items(self) -> Result<Items<'a>, AllocError>
+        ensures { IfOk result (λ items. items ≡ unnumbered self.entry) }
     {
-        let mut items = Vec::new(alloc);
-        for (_number, item) in self.items {
-            items.push(item)?;
+        let Gathered {
+            numbers: _numbers,
+            stretches,
+            are_single,
+            has_subrs_line: _,
+            has_glyphs_line: _,
+            subrs: _subrs,
+            glyphs: _glyphs,
+        } = self;
+        Items::of_stretches(stretches, are_single)
+    }
+
+    /// The items and some plain lines that stand together, of which the first has this number.
+    fn with_together(self, number: u64, plain: PlainLines<'a>) -> Result<Self, AllocError>
+        ensures { IfOk result (λ g. g ≡ self.entry ++ numbered_lines number plain.entry) }
+    {
+        let Gathered {
+            mut numbers,
+            mut stretches,
+            are_single: _,
+            has_subrs_line,
+            has_glyphs_line,
+            subrs,
+            glyphs,
+        } = self;
+        numbers.push(number)?;
+        stretches.push(Stretch::Lines(plain))?;
+        Ok(Gathered {
+            numbers,
+            stretches,
+            are_single: false,
+            has_subrs_line,
+            has_glyphs_line,
+            subrs,
+            glyphs,
+        })
+    }
+
+    /// The items and the lines of some bytes as plain ones that stand one by one, of which the first has this number.
+    fn with_each(self, number: u64, bytes: &'a [u8]) -> Result<Self, AllocError>
+        requires { number + length (lines bytes.now) < 2 ^ 64 }
+        ensures { IfOk result (λ g. g ≡ self.entry ++ numbered_lines number (lines bytes.now)) }
+    {
+        let mut items = self;
+        let mut next = number;
+        let mut rest = bytes;
+        while !rest.is_empty() {
+            let (line, after) = next_line(rest);
+            let more = items.with(next, Item::Plain(SourceText::borrowed(line)), None)?;
+            items = more;
+            next += 1;
+            rest = after;
         }
         Ok(items)
+    }
+
+    /// The items and some plain lines, of which the first has this number. Only many of them stand together.
+    pub(crate) fn with_lines(self, number: u64, plain: PlainLines<'a>) -> Result<Self, AllocError>
+        requires { number + length plain < 2 ^ 64 }
+        ensures { IfOk result (λ g. g ≡ self.entry ++ numbered_lines number plain.entry) }
+    {
+        if plain.len() < FEWEST_TOGETHER {
+            return self.with_each(number, plain.as_bytes());
+        }
+        self.with_together(number, plain)
     }
 
     /// The items and a further one, which begins on the line of this number. Where it is a glyph, its name comes with it.
@@ -111,7 +214,9 @@ impl<'a> Gathered<'a> {
         ensures { IfOk result (λ g. g ≡ self.entry ++ (number, item.entry) ∷ []) }
     {
         let Gathered {
-            mut items,
+            mut numbers,
+            mut stretches,
+            are_single,
             has_subrs_line,
             has_glyphs_line,
             mut subrs,
@@ -130,9 +235,12 @@ impl<'a> Gathered<'a> {
         if let Some(name) = name {
             glyphs.insert(name)?;
         }
-        items.push((number, item))?;
+        numbers.push(number)?;
+        stretches.push(Stretch::One(item))?;
         Ok(Gathered {
-            items,
+            numbers,
+            stretches,
+            are_single,
             has_subrs_line,
             has_glyphs_line,
             subrs,

@@ -50,14 +50,3 @@ impl<'a> Item<'a> {
         })
     }
 }
-
-/// Copies of some items.
-pub fn copied_items<'a>(alloc: Global, items: &[Item<'a>]) -> Result<Vec<Item<'a>>, AllocError>
-    ensures { IfOk result (λ copies. copies.items ≡ items.now) }
-{
-    let mut copies = Vec::new(alloc);
-    for item in items {
-        copies.push(item.copied(alloc)?)?;
-    }
-    Ok(copies)
-}

@@ -2,9 +2,14 @@
 
 ghost use Rattle.std.specs.Prelude.{◌≡◌, option_and_then, option_map, filter_map};
 ghost use Rattle.std.specs.List.{find};
+ghost use Rattle.t1_parts.specs.ItemRefs.{item_of};
+ghost use Rattle.t1_parts.specs.Items.{line_says};
 ghost use Rattle.t1_parts.specs.LenIV.{plain_line, said_lead, says_lead, lead_of_token, said_with_line, lead_check, lead_among};
 
+use crate::gathered::Gathered;
 use crate::item::Item;
+use crate::item_ref::ItemRef;
+use crate::items_iter::ItemsIter;
 use t1_frac::{Code, Fault};
 use t1_text::{after_token, decimal_up_to, fault_on};
 
@@ -28,11 +33,32 @@ fn said_lead<'i>(item: &'i Item) -> Option<Option<&'i [u8]>>
     }
 }
 
+/// Whether a line has a token `/lenIV`.
+#[tactic(auto, unfolding(crate::specs::Items::line_says))]
+pub(crate) fn line_says(line: &[u8]) -> bool
+    ensures { result ≡ line_says line.now }
+{
+    after_token(b"/lenIV", line).is_some()
+}
+
 /// Whether an item is a plain line with a token `/lenIV`.
 pub fn says_lead(item: &Item) -> bool
     ensures { result ≡ says_lead item.now }
 {
     said_lead(item).is_some()
+}
+
+impl<'i, 'a> ItemRef<'i, 'a> {
+    /// Whether the item is a plain line with a token `/lenIV`.
+    #[tactic(auto, unfolding(crate::specs::Items::line_says))]
+    pub fn says_lead(&self) -> bool
+        ensures { result ≡ says_lead (item_of self.now) }
+    {
+        match self {
+            ItemRef::Line(line) => line_says(line),
+            ItemRef::Item(item) => says_lead(item),
+        }
+    }
 }
 
 /// The number from 0 to 64 that an item says.
@@ -48,38 +74,32 @@ fn lead_on(item: &Item) -> Option<u8>
     Some(lead as u8)
 }
 
-/// The first item with its line that says lenIV.
-fn first_with_line<'i, 'a>(items: &'i [(u64, Item<'a>)]) -> Option<&'i (u64, Item<'a>)>
-    ensures { option_map (λ item. item.now) result ≡ find (λ i. says_lead i.1) items.now }
-{
-    items.iter().find(|item| says_lead(&item.1))
-}
-
 /// The lenIV of some items with their lines, or its fault.
 #[tactic(auto, using(crate::proofs::LeadLaws::checked_well, crate::proofs::LeadLaws::checked_ill, crate::proofs::LeadLaws::checked_nowhere))]
-pub fn check_lead(items: &[(u64, Item)]) -> Result<u8, Fault>
+pub fn check_lead(items: &Gathered) -> Result<u8, Fault>
     ensures { result ≡ lead_check (filter_map said_with_line items.now) }
 {
-    let Some(item) = first_with_line(items) else {
+    let Some((number, item)) = items.first_saying() else {
         return Ok(4);
     };
-    let Some(lead) = lead_on(&item.1) else {
-        return Err(fault_on(item.0, Code::F11));
+    let Some(lead) = lead_on(item) else {
+        return Err(fault_on(number, Code::F11));
     };
     Ok(lead)
 }
 
-/// The first item that says lenIV.
-fn first_saying<'i, 'a>(items: &'i [Item<'a>]) -> Option<&'i Item<'a>>
-    ensures { option_map (λ item. item.now) result ≡ find says_lead items.now }
+/// The first item that says lenIV. It stands alone.
+fn first_saying<'i, 'a>(items: ItemsIter<'i, 'a>) -> Option<&'i Item<'a>>
+    ensures { option_map (λ item. item.now) result ≡ find says_lead items.entry }
 {
-    items.iter().find(|item| says_lead(item))
+    let mut alone = items.alone();
+    alone.find(|item| says_lead(item))
 }
 
 /// The lenIV of some items.
 #[tactic(auto, using(crate::proofs::LeadLaws::said_there, crate::proofs::LeadLaws::said_nowhere))]
-pub fn lead_of(items: &[Item]) -> u8
-    ensures { result ≡ lead_among items.now }
+pub fn lead_of(items: ItemsIter) -> u8
+    ensures { result ≡ lead_among items.entry }
 {
     match first_saying(items) {
         Some(item) => lead_on(item).unwrap_or(4),

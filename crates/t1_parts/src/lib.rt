@@ -2,6 +2,7 @@
 //! entries, the tail. Each is found in the lines of a text, or its first fault with its line; items print again.
 #![tactic(auto)]
 
+mod alone_items;
 mod body;
 mod counts;
 mod encoding;
@@ -9,21 +10,31 @@ mod entries;
 mod gathered;
 mod header;
 mod item;
+mod item_ref;
+mod items;
+mod items_iter;
 mod len_iv;
 mod operator;
 mod parts;
 mod piece;
+mod plain_lines;
 mod printing;
 mod private;
 mod sections;
+mod stretch;
+mod stretches;
 
+pub use alone_items::AloneItems;
 pub use body::{EntryBody, body_of, has_brace, opened_body, uncommented};
 pub use counts::{glyphs_needed, raise, subrs_needed};
 pub use encoding::{array_len, array_of, check_clear, encoding_at, has_standard, slot_of};
 pub use entries::{glyph_entry, opens_glyph, opens_subr, subr_entry};
 pub use gathered::Gathered;
 pub use header::header_of;
-pub use item::{Item, Taken, copied_items};
+pub use item::{Item, Taken};
+pub use item_ref::ItemRef;
+pub use items::Items;
+pub use items_iter::ItemsIter;
 pub use len_iv::{check_lead, lead_of, plain_line, says_lead};
 pub use operator::operator_of;
 pub use parts::{Parts, holds, parts_of, tail_of};

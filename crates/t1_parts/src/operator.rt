@@ -5,8 +5,7 @@ ghost use Rattle.std.specs.List.{last_or};
 ghost use Rattle.t1_text.specs.Tokens.{places_from};
 ghost use Rattle.t1_parts.specs.Operator.{text_place, name_within, operator_on, operator_among};
 
-use crate::item::Item;
-use crate::len_iv::plain_line;
+use crate::items_iter::ItemsIter;
 use crate::parts::holds;
 use t1_text::{name_of_token, next_place};
 
@@ -67,11 +66,11 @@ fn operator_on(line: &[u8]) -> Option<&[u8]>
 }
 
 /// The reading operator of some items.
-pub fn operator_of<'i>(items: &'i [Item]) -> &'i [u8]
-    ensures { result.now ≡ operator_among items.now }
+pub fn operator_of<'i>(items: ItemsIter<'i, '_>) -> &'i [u8]
+    ensures { result.now ≡ operator_among items.entry }
 {
     for item in items {
-        if let Some(line) = plain_line(item) {
+        if let Some(line) = item.plain_line() {
             if holds(b"string currentfile", line) {
                 return match operator_on(line) {
                     Some(name) => name,

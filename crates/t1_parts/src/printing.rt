@@ -4,9 +4,12 @@ ghost use Rattle.std.specs.Prelude.{◌≡◌, ◌∷◌, [], ◌++◌, if◌the
 ghost use Rattle.t1_frac.specs.Ascii.{line_feed, space, tab};
 ghost use Rattle.t1_text.specs.Lines.{joined};
 ghost use Rattle.t1_frac.specs.Words.{words};
+ghost use Rattle.t1_parts.specs.ItemRefs.{item_of};
 ghost use Rattle.t1_parts.specs.Printing.{word_groups, body_line, last_line, entry_lines, item_lines};
 
 use crate::item::Item;
+use crate::item_ref::ItemRef;
+use crate::items_iter::ItemsIter;
 use itoa::Buffer;
 use std::alloc::AllocError;
 use t1_frac::{Bytes, is_number_word, next_word};
@@ -117,12 +120,22 @@ fn push_item(text: &mut Vec<u8>, item: &Item) -> Result<(), AllocError>
     }
 }
 
+/// Adds the lines of an item where it stands to a text.
+fn push_item_ref(text: &mut Vec<u8>, item: &ItemRef) -> Result<(), AllocError>
+    ensures { OnOk result (text.new.items ≡ text.old.items ++ joined (item_lines (item_of item.now))) }
+{
+    match item {
+        ItemRef::Line(line) => push_line(text, line),
+        ItemRef::Item(item) => push_item(text, item),
+    }
+}
+
 /// Adds the lines of some items to a text.
-pub fn push_items(text: &mut Vec<u8>, items: &[Item]) -> Result<(), AllocError>
-    ensures { OnOk result (text.new.items ≡ text.old.items ++ joined (flat_map item_lines items.now)) }
+pub fn push_items(text: &mut Vec<u8>, items: ItemsIter) -> Result<(), AllocError>
+    ensures { OnOk result (text.new.items ≡ text.old.items ++ joined (flat_map item_lines items.entry)) }
 {
     for item in items {
-        push_item(text, item)?;
+        push_item_ref(text, &item)?;
     }
     Ok(())
 }

@@ -1,16 +1,21 @@
 //! Reading the private part: plain lines, section lines and entries.
 
-ghost use Rattle.std.specs.Prelude.{◌≡◌, ◌+◌, ◌<◌, ◌^◌, ◌++◌, ◌∷◌, [], ℕ, List, None, Ok, Err, length, option_map, IfOk, MatchResult};
+ghost use Rattle.std.specs.Prelude.{◌≡◌, ◌||◌, ◌+◌, ◌<◌, ◌^◌, ◌++◌, ◌∷◌, [], ℕ, List, None, Ok, Err, is_some, length, option_map, take, true, IfErr, IfOk, IfSome, MatchResult};
 ghost use Rattle.t1_frac.specs.declared.fault.Place.TheVariants as places;
-ghost use Rattle.t1_frac.specs.Outcome.{Gives, reported_at};
+ghost use Rattle.t1_frac.specs.Outcome.{Gives, Refuses, reported_at};
 ghost use Rattle.t1_text.specs.Lines.{lines};
-ghost use Rattle.t1_parts.specs.Entries.{glyph_name};
+ghost use Rattle.t1_parts.specs.Entries.{glyph_name, has};
+ghost use Rattle.t1_parts.specs.Items.{IsCutAfter};
 ghost use Rattle.t1_parts.specs.Pieces.{IsAfter};
+ghost use Rattle.t1_parts.specs.PlainRuns.{opens_entry, read_from, AreAmong, IsAmong};
+ghost use Rattle.t1_parts.specs.Sections.{is_subrs_line, is_glyphs_line, subrs_line, glyphs_line};
 ghost use Rattle.t1_parts.specs.Private.{line_at, item_at, items_of, private_items};
 
 use crate::entries::{glyph_entry, opens_glyph, opens_subr, subr_entry};
 use crate::gathered::Gathered;
 use crate::item::{Item, Taken};
+use crate::len_iv::line_says;
+use crate::plain_lines::{PlainLines, next_line};
 use crate::sections::{count_between, section_at};
 use std::alloc::Global;
 use t1_frac::{Code, Fault, Refusal, SourceText};
@@ -73,22 +78,113 @@ fn item_at<'a>(
     })
 }
 
+/// Whether a line opens an entry.
+fn opens_entry(earlier: &Gathered, line: &[u8]) -> bool
+    ensures { result ≡ opens_entry (has is_subrs_line earlier.now) (has is_glyphs_line earlier.now) line.now }
+{
+    if earlier.has_glyphs_line() {
+        opens_glyph(line).is_some()
+    } else if earlier.has_subrs_line() {
+        opens_subr(line).is_some()
+    } else {
+        false
+    }
+}
+
+/// Whether a line is a section line.
+fn is_section(line: &[u8]) -> bool
+    ensures { result ≡ (is_some (subrs_line line.now) || is_some (glyphs_line line.now)) }
+{
+    let subrs = count_between(b"/Subrs", b"array", line);
+    let glyphs = count_between(b"/CharStrings", b"dict", line);
+    subrs.is_some() || glyphs.is_some()
+}
+
+/// Whether a line may stand among plain lines: it opens nothing and says nothing of lenIV.
+#[tactic(auto, using(crate::proofs::PlainRunLaws::empty_among, crate::proofs::PlainRunLaws::is_among))]
+fn is_among(earlier: &Gathered, line: &[u8]) -> bool
+    ensures { result ≡ true → IsAmong (has is_subrs_line earlier.now) (has is_glyphs_line earlier.now) line.now }
+{
+    if line.is_empty() {
+        return true;
+    }
+    if opens_entry(earlier, line) || is_section(line) {
+        return false;
+    }
+    !line_says(line)
+}
+
+/// The number of the lines at the front of some bytes that may stand among plain lines, and the bytes after them.
+fn past_plain<'a>(earlier: &Gathered, bytes: &'a [u8]) -> (usize, &'a [u8])
+    ensures cut { IsCutAfter result.0 bytes.now result.1.now }
+    ensures among { AreAmong (has is_subrs_line earlier.now) (has is_glyphs_line earlier.now) (take result.0 (lines bytes.now)) }
+{
+    let mut count = 0;
+    let mut rest = bytes;
+    while !rest.is_empty() {
+        let (line, after) = next_line(rest);
+        if !is_among(earlier, line) {
+            return (count, rest);
+        }
+        count += 1;
+        rest = after;
+    }
+    (count, rest)
+}
+
+/// The lines at the front of some bytes that may stand among plain lines, where there are some, and the bytes after them.
+fn plain_front<'a>(earlier: &Gathered, bytes: &'a [u8]) -> Option<(PlainLines<'a>, &'a [u8])>
+    ensures lines { IfSome result (λ front. lines bytes.now ≡ front.0 ++ lines front.1.now) }
+    ensures among { IfSome result (λ front. AreAmong (has is_subrs_line earlier.now) (has is_glyphs_line earlier.now) front.0) }
+{
+    let (count, after) = past_plain(earlier, bytes);
+    if count == 0 {
+        return None;
+    }
+    let front = bytes.split_at(bytes.len() - after.len()).0;
+    Some((PlainLines::counted(front, count), after))
+}
+
+/// The earlier items and those at the front of some bytes, of which the first line has this number: plain lines that follow
+/// one another, or one item; the number of the next line; and the bytes from it on.
+fn read_front<'a>(
+    alloc: Global,
+    earlier: Gathered<'a>,
+    number: u64,
+    bytes: &'a [u8],
+) -> Result<(Gathered<'a>, u64, &'a [u8]), Refusal>
+    requires some { 0 < length bytes.now }
+    requires fits { number + length (lines bytes.now) < 2 ^ 64 }
+    ensures read { IfOk result (λ read. read_from earlier.entry number (lines bytes.now) ≡ read_from read.0 read.1 (lines read.2.now)) }
+    ensures number { IfOk result (λ read. read.1 + length (lines read.2.now) ≡ number + length (lines bytes.now)) }
+    ensures shorter { IfOk result (λ read. length (lines read.2.now) < length (lines bytes.now)) }
+    ensures refused { IfErr result (λ refusal. Refuses refusal (read_from earlier.entry number (lines bytes.now))) }
+{
+    if let Some((plain, after)) = plain_front(&earlier, bytes) {
+        let next = number + plain.len() as u64;
+        let items = earlier.with_lines(number, plain)?;
+        return Ok((items, next, after));
+    }
+    let taken = item_at(alloc, &earlier, number, bytes)?;
+    let items = earlier.with(number, taken.item, taken.name)?;
+    Ok((items, number + (taken.more as u64 + 1), taken.after))
+}
+
 /// The items of some bytes, of which the first line has this number, each with the number of its first line; and the number
 /// that a further line has.
-#[tactic(auto, using(crate::proofs::ItemLaws::item_read, crate::proofs::ItemLaws::item_fault))]
 fn items_of(alloc: Global, number: u64, bytes: &[u8]) -> Result<(Gathered<'_>, u64), Refusal>
     requires { number + length bytes.now < 2 ^ 64 }
     ensures value { Gives (λ read. read.0) result (items_of number (lines bytes.now)) }
     ensures number { IfOk result (λ read. read.1 ≡ number + length (lines bytes.now)) }
 {
-    let mut items = Gathered::new(alloc);
+    let mut items = Gathered::for_bytes(alloc, bytes.len())?;
     let mut first = number;
     let mut rest = bytes;
     while !rest.is_empty() {
-        let taken = item_at(alloc, &items, first, rest)?;
-        items = items.with(first, taken.item, taken.name)?;
-        first += taken.more as u64 + 1;
-        rest = taken.after;
+        let (more, next, after) = read_front(alloc, items, first, rest)?;
+        items = more;
+        first = next;
+        rest = after;
     }
     Ok((items, first))
 }

@@ -1,13 +1,14 @@
 //! The glyphs of a source with a change that was prepared for it, in their order.
-ghost use Rattle.std.specs.Prelude.{◌≡◌, ◌++◌, [], IfOk, OnOk, map};
+ghost use Rattle.std.specs.Prelude.{◌≡◌, ◌++◌, [], IfOk, OnOk, drop, map};
 ghost use Rattle.std.specs.List.{insert, remove, slice_set};
 ghost use Rattle.t1_source.specs.Changes.{changed};
 ghost use Rattle.t1_font.specs.Glyphs.{glyph_names};
 
 use crate::order::GlyphOrder;
 use std::alloc::{AllocError, Global};
-use std::{cmp, slice};
+use std::cmp;
 use t1_font::glyph_names;
+use t1_parts::{Items, ItemsIter};
 use t1_source::{Change, Item, Source};
 
 /// A source, and a change that was prepared for it.
@@ -18,10 +19,11 @@ pub struct Prepared<'e, 'a> {
 }
 
 /// Adds the names of the glyphs among items, in their order.
-fn push_names<'i>(names: &mut Vec<&'i [u8]>, items: &'i [Item]) -> Result<(), AllocError>
-    ensures { OnOk result (map (λ name. name.now) names.new.items ≡ map (λ name. name.now) names.old.items ++ glyph_names items.now) }
+#[tactic(auto, using(t1_font::proofs::AloneLaws::names_alone))]
+fn push_names<'i>(names: &mut Vec<&'i [u8]>, items: ItemsIter<'i, '_>) -> Result<(), AllocError>
+    ensures { OnOk result (map (λ name. name.now) names.new.items ≡ map (λ name. name.now) names.old.items ++ glyph_names items.entry) }
 {
-    for item in items {
+    for item in items.alone() {
         let Item::Glyph(name, _, _) = item else {
             continue;
         };
@@ -33,11 +35,11 @@ fn push_names<'i>(names: &mut Vec<&'i [u8]>, items: &'i [Item]) -> Result<(), Al
 /// The names of the glyphs of three lists of items, one after another.
 fn names_of_three<'i>(
     alloc: Global,
-    front: &'i [Item],
-    middle: &'i [Item],
-    back: &'i [Item],
+    front: ItemsIter<'i, '_>,
+    middle: ItemsIter<'i, '_>,
+    back: ItemsIter<'i, '_>,
 ) -> Result<Vec<&'i [u8]>, AllocError>
-    ensures { IfOk result (λ names. map (λ name. name.now) names.items ≡ glyph_names front.now ++ (glyph_names middle.now ++ glyph_names back.now)) }
+    ensures { IfOk result (λ names. map (λ name. name.now) names.items ≡ glyph_names front.entry ++ (glyph_names middle.entry ++ glyph_names back.entry)) }
 {
     let mut names = Vec::new(alloc);
     push_names(&mut names, front)?;
@@ -46,12 +48,21 @@ fn names_of_three<'i>(
     Ok(names)
 }
 
+/// The items after the first.
+fn after_first<'i, 'a>(items: ItemsIter<'i, 'a>) -> ItemsIter<'i, 'a>
+    ensures { result ≡ drop 1 items.entry }
+{
+    let mut left = items;
+    let _first = left.next();
+    left
+}
+
 /// The names of the glyphs where an item comes in the place of another.
-fn names_put<'i>(
+fn names_put<'i, 'a>(
     alloc: Global,
-    items: &'i [Item],
+    items: &'i Items<'a>,
     at: usize,
-    item: &'i Item,
+    item: &'i Item<'a>,
 ) -> Result<Vec<&'i [u8]>, AllocError>
     ensures { IfOk result (λ names. map (λ name. name.now) names.items ≡ glyph_names (slice_set items.now at item.now)) }
 {
@@ -59,26 +70,26 @@ fn names_put<'i>(
         return glyph_names(alloc, items);
     }
     let (front, rest) = items.split_at(at);
-    names_of_three(alloc, front, slice::from_ref(item), rest.split_at(1).1)
+    names_of_three(alloc, front, items.one(item), after_first(rest))
 }
 
 /// The names of the glyphs where an item comes to stand at a place.
-fn names_inserted<'i>(
+fn names_inserted<'i, 'a>(
     alloc: Global,
-    items: &'i [Item],
+    items: &'i Items<'a>,
     at: usize,
-    item: &'i Item,
+    item: &'i Item<'a>,
 ) -> Result<Vec<&'i [u8]>, AllocError>
     ensures { IfOk result (λ names. map (λ name. name.now) names.items ≡ glyph_names (insert items.now at item.now)) }
 {
     let (front, back) = items.split_at(cmp::min(at, items.len()));
-    names_of_three(alloc, front, slice::from_ref(item), back)
+    names_of_three(alloc, front, items.one(item), back)
 }
 
 /// The names of the glyphs where an item is taken out.
 fn names_removed<'i>(
     alloc: Global,
-    items: &'i [Item],
+    items: &'i Items,
     at: usize,
 ) -> Result<Vec<&'i [u8]>, AllocError>
     ensures { IfOk result (λ names. map (λ name. name.now) names.items ≡ glyph_names (remove items.now at)) }
@@ -87,14 +98,14 @@ fn names_removed<'i>(
         return glyph_names(alloc, items);
     }
     let (front, rest) = items.split_at(at);
-    names_of_three(alloc, front, &[], rest.split_at(1).1)
+    names_of_three(alloc, front, items.none(), after_first(rest))
 }
 
 /// The names of the glyphs of a source after a change, in the order of their entries.
-fn names_after<'i>(
+fn names_after<'i, 'a>(
     alloc: Global,
-    source: &'i Source,
-    change: &'i Change,
+    source: &'i Source<'a>,
+    change: &'i Change<'a>,
 ) -> Result<Vec<&'i [u8]>, AllocError>
     ensures { IfOk result (λ names. map (λ name. name.now) names.items ≡ glyph_names (changed change.now source.now []).0.items) }
 {

@@ -1,5 +1,6 @@
 -- Items in the place of others, and items taken out, need no raising of counts.
-use Rattle.std.proofs.Common.{◌≡◌, ℕ, ◌+◌, ◌<◌, ◌≤◌, zero, suc, max, Bool, true, false, if◌then◌else◌, List, [], ◌∷◌, map, fold, length, refl, sym, ◌∙◌, ap, arith, Some}
+use Rattle.std.proofs.Common.{◌≡◌, ℕ, ◌+◌, ◌<◌, ◌≤◌, zero, suc, max, Bool, true, false, if◌then◌else◌, List, [], ◌∷◌, map, fold, length, refl, sym, ◌∙◌, ap, arith, Some, Result, Ok, Err, length-append}
+use Rattle.std.specs.Prelude.{IsOk, OnOk}
 use Rattle.std.specs.List.{position, remove, slice_set, slice_index_or}
 use Rattle.std.proofs.lemmas.Bool.{eqb-true}
 use Rattle.std.proofs.lemmas.Slice.Eq.{bytes_eq-Decides}
@@ -10,6 +11,9 @@ use Rattle.t1_parts.specs.declared.item.Item.TheVariants.{Plain, Section, Subr, 
 use Rattle.t1_parts.specs.Sections.{is_glyphs_line}
 use Rattle.t1_parts.specs.Counts.{subrs_needed, glyphs_needed, raised_item, raised, is_glyph_entry}
 use Rattle.t1_parts.specs.SourceParts.{SourceParts}
+use Rattle.t1_parts.specs.Items.{stands_alone, StandsAloneAt}
+use Rattle.t1_parts.proofs.AloneLaws.{alone_at, alone_glyph, alone_subr, alone_saying}
+use Rattle.t1_parts.specs.LenIV.{says_lead}
 use Rattle.t1_source.specs.WellFormed.{IsWellFormed}
 use Rattle.t1_source.specs.Changes.{IsInPlaceOf}
 use Rattle.t1_source.specs.Editing.{with_items}
@@ -223,3 +227,39 @@ subr_fits items m n at ws c same e =
     let f = position_first (is_subr n) items at e in
     let here = ap (λ t. slice_index_or t at (Plain [])) f.found.whole ∙ got_there f.found.before f.found.here f.found.after at (Plain []) f.place in
     subr-there m n (slice_index_or items at (Plain [])) ws c same (ap (is_subr n) here ∙ f.found.passes)
+
+-- ---- what is found by its key or by what it says stands alone
+
+found_alone : (test : Item → Bool) → ((i : Item) → test i ≡ true → stands_alone i ≡ true) → (items : List Item) (at : ℕ) → position test items ≡ Some at → StandsAloneAt items at
+found_alone test alone items at e =
+    let f = position_first test items at e in
+    let here = ap (λ t. slice_index_or t at (Plain [])) f.found.whole ∙ got_there f.found.before f.found.here f.found.after at (Plain []) f.place in
+    let size = ap length f.found.whole in
+    let parts = length-append f.found.before (f.found.here ∷ f.found.after) in
+    alone_at items at (Plain []) (omega (arith, size, parts, f.place)) (ap stands_alone here ∙ alone f.found.here f.found.passes)
+
+glyph-alone : (g : List ℕ) (i : Item) → is_glyph g i ≡ true → stands_alone i ≡ true
+glyph-alone g (Plain l) h = cc
+glyph-alone g (Section b n a) h = cc
+glyph-alone g (Subr n ws c) h = cc
+glyph-alone g (Glyph name ws c) h = alone_glyph name ws c
+
+pub found_glyph_alone : (items : List Item) (g : List ℕ) (at : ℕ) → position (is_glyph g) items ≡ Some at → StandsAloneAt items at
+found_glyph_alone items g at e = found_alone (is_glyph g) (glyph-alone g) items at e
+
+subr-alone : (n : ℕ) (i : Item) → is_subr n i ≡ true → stands_alone i ≡ true
+subr-alone n (Plain l) h = cc
+subr-alone n (Section b k a) h = cc
+subr-alone n (Subr m ws c) h = alone_subr m ws c
+subr-alone n (Glyph name ws c) h = cc
+
+pub found_subr_alone : (items : List Item) (n : ℕ) (at : ℕ) → position (is_subr n) items ≡ Some at → StandsAloneAt items at
+found_subr_alone items n at e = found_alone (is_subr n) (subr-alone n) items at e
+
+pub found_lead_alone : (items : List Item) (at : ℕ) → position says_lead items ≡ Some at → StandsAloneAt items at
+found_lead_alone items at e = found_alone says_lead alone_saying items at e
+
+-- what is said of a result that is there
+pub ok_holds : {A E : Type 0} (r : Result A E) (P : Type 0) → IsOk r → OnOk r P → P
+ok_holds (Ok x) P h p = p
+ok_holds (Err e) P h p = cc

@@ -1,3 +1,4 @@
+pub mod AloneSearchLaws
 pub mod ChangeLaws
 pub mod CodeLaws
 pub mod CountedLaws
@@ -8,6 +9,7 @@ pub mod ItemPlaceLaws
 pub mod ItemsAgainLaws
 pub mod LeadEditLaws
 pub mod LeadLineLaws
+pub mod MadeSourceLaws
 pub mod OrderLaws
 pub mod PrintedLaws
 pub mod PrintingRows

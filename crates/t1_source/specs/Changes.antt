@@ -3,6 +3,7 @@ use Rattle.std.specs.Prelude.{◌≡◌, ◌<◌, ◌≤◌, Bool, true, false, 
 use Rattle.std.specs.List.{insert, remove, slice_set, slice_index_or}
 use Rattle.t1_parts.specs.declared.item.Item.{Item}
 use Rattle.t1_parts.specs.declared.item.Item.TheVariants.{Plain, Subr, Glyph}
+use Rattle.t1_parts.specs.Items.{StandsAloneAt}
 use Rattle.t1_parts.specs.SourceParts.{SourceParts}
 use Rattle.t1_source.specs.declared.editing.change.Change.{Change}
 use Rattle.t1_source.specs.declared.editing.change.Change.TheVariants.{PutItem, InsertItem, RemoveItem, PutClear, PutPair, InsertPair, RemovePair}
@@ -28,11 +29,12 @@ IsInPlaceOf (Subr m ws c) (Subr n vs d) = m ≡ n
 IsInPlaceOf (Glyph g ws c) (Glyph h vs d) = g ≡ h
 IsInPlaceOf _ _ = ⊥
 
--- profile, edits: the place is one of the source or of the pairs, and an item comes in the place of one of its kind and key
+-- profile, edits: the place is one of the source or of the pairs; an item comes in the place of one of its kind and key; and what
+-- is replaced or taken out is no plain line but one that says lenIV
 abbrev pub Fits : Change → SourceParts → List Pair → Type 0
-Fits (PutItem at item) s k = (at < length s.items) × IsInPlaceOf (slice_index_or s.items at (Plain [])) item
+Fits (PutItem at item) s k = (at < length s.items) × StandsAloneAt s.items at × IsInPlaceOf (slice_index_or s.items at (Plain [])) item
 Fits (InsertItem at item) s k = at ≤ length s.items
-Fits (RemoveItem at) s k = at < length s.items
+Fits (RemoveItem at) s k = (at < length s.items) × StandsAloneAt s.items at
 Fits (PutClear lines) s k = Unit {0}
 Fits (PutPair at pair) s k = at < length k
 Fits (InsertPair at pair) s k = at ≤ length k

@@ -5,7 +5,7 @@ use std::alloc::{AllocError, Global};
 use std::marker::Model;
 use t1_frac::{Bytes, Code, Fault, Refusal};
 use t1_parts::{
-    Gathered, Item, Parts, check_clear, check_lead, copied_items, has_standard, header_of, lead_of,
+    Gathered, Item, Items, Parts, check_clear, check_lead, has_standard, header_of, lead_of,
     operator_of, parts_of, private_items, push_items, push_lines, raise, tail_of,
 };
 use t1_text::{copied_bytes, copied_lines, same};
@@ -15,7 +15,7 @@ use t1_text::{copied_bytes, copied_lines, same};
 pub struct Source<'a> {
     alloc: Global,
     clear: Vec<Bytes>,
-    items: Vec<Item<'a>>,
+    items: Items<'a>,
     tail: Vec<Bytes>,
 }
 
@@ -24,14 +24,14 @@ impl<'a> Model for Source<'a> {
 
     ghost Value = { SourceParts };
 
-    ghost view = { λ source. record { clear = source.clear.items; items = source.items.items; tail = source.tail.items } };
+    ghost view = { λ source. record { clear = source.clear.items; items = source.items; tail = source.tail.items } };
 
     ghost use Rattle.t1_source.specs.WellFormed.{IsWellFormed};
 
-    ghost invariant = { λ source. IsWellFormed (record { clear = source.clear.items; items = source.items.items; tail = source.tail.items }) };
+    ghost invariant = { λ source. IsWellFormed (record { clear = source.clear.items; items = source.items; tail = source.tail.items }) };
 }
 
-ghost use Rattle.std.specs.Prelude.{◌≡◌, ◌<◌, ◌≤◌, ◌++◌, ◌∷◌, ℕ, [], length, slice_set, slice_index_or, IfOk, OnOk, OnErr, option_map};
+ghost use Rattle.std.specs.Prelude.{◌≡◌, ◌<◌, ◌≤◌, ◌++◌, ◌∷◌, ℕ, [], length, slice_set, slice_index_or, IfOk, IsOk, OnOk, OnErr, option_map};
 ghost use Rattle.std.specs.List.{insert, remove};
 ghost use Rattle.t1_frac.specs.Outcome.{Gives};
 ghost use Rattle.t1_text.specs.Lines.{lines};
@@ -41,6 +41,7 @@ ghost use Rattle.t1_parts.specs.LenIV.{lead};
 ghost use Rattle.t1_parts.specs.Operator.{operator};
 ghost use Rattle.t1_parts.specs.Header.{header};
 ghost use Rattle.t1_source.specs.Codes.{code_of, name_at, name_of_code};
+ghost use Rattle.t1_parts.specs.Items.{StandsAloneAt};
 ghost use Rattle.t1_parts.specs.Printing.{text};
 ghost use Rattle.t1_source.specs.Changes.{IsInPlaceOf};
 ghost use Rattle.t1_source.specs.Editing.{with_items, with_clear};
@@ -54,7 +55,7 @@ fn check_whole(items: &Gathered) -> Result<(), Fault>
     if !items.has_glyphs_line() {
         return Err(Fault::from(Code::F3));
     }
-    let _lead = check_lead(items.as_slice())?;
+    let _lead = check_lead(items)?;
     Ok(())
 }
 
@@ -80,7 +81,7 @@ pub fn read_source(alloc: Global, bytes: &[u8]) -> Result<Source<'_>, Refusal>
     let number = clear.as_slice().len() as u64 + 1;
     let items = private_items(alloc, number, parts.private, parts.closefile)?;
     check_whole(&items)?;
-    let mut items = items.into_items(alloc)?;
+    let mut items = items.into_items()?;
     raise(&mut items);
     let tail = tail_of(alloc, parts.tail)?;
     Ok(Source {
@@ -89,22 +90,6 @@ pub fn read_source(alloc: Global, bytes: &[u8]) -> Result<Source<'_>, Refusal>
         items,
         tail,
     })
-}
-
-/// Puts an item in the place of another.
-fn put<'a>(items: &mut Vec<Item<'a>>, at: usize, item: Item<'a>)
-    requires { at < length items.old.items }
-    ensures { items.new.items ≡ slice_set items.old.items at item.entry }
-{
-    items[at] = item;
-}
-
-/// Takes an item out.
-fn take_out(items: &mut Vec<Item>, at: usize)
-    requires { at < length items.old.items }
-    ensures { items.new.items ≡ remove items.old.items at }
-{
-    let _item = items.remove(at);
 }
 
 impl<'a> Source<'a> {
@@ -120,17 +105,17 @@ impl<'a> Source<'a> {
         Ok(Source {
             alloc: self.alloc,
             clear: copied_bytes(self.alloc, self.clear.as_slice())?,
-            items: copied_items(self.alloc, self.items.as_slice())?,
+            items: self.items.copied(self.alloc)?,
             tail: copied_bytes(self.alloc, self.tail.as_slice())?,
         })
     }
 
     /// The items, of a source that was read or edited.
-    pub(crate) fn kept_items(&self) -> &[Item<'a>]
+    pub(crate) fn kept_items(&self) -> &Items<'a>
         ensures value { result.now ≡ self.now.items }
         ensures kept { IsWellFormed self.now }
     {
-        self.items.as_slice()
+        &self.items
     }
 
     /// The lines of the clear part.
@@ -141,10 +126,10 @@ impl<'a> Source<'a> {
     }
 
     /// The items of the private part.
-    pub fn items(&self) -> &[Item<'a>]
+    pub fn items(&self) -> &Items<'a>
         ensures { result.now ≡ self.now.items }
     {
-        self.items.as_slice()
+        &self.items
     }
 
     /// The lines of the tail.
@@ -158,14 +143,14 @@ impl<'a> Source<'a> {
     pub fn lead(&self) -> u8
         ensures { result ≡ lead self.now }
     {
-        lead_of(self.items.as_slice())
+        lead_of(self.items.iter())
     }
 
     /// The operator that reads a charstring, usually `RD`.
     pub fn operator(&self) -> &[u8]
         ensures { result.now ≡ operator self.now }
     {
-        operator_of(self.items.as_slice())
+        operator_of(self.items.iter())
     }
 
     /// The printed form: its lines, each with LF.
@@ -174,7 +159,7 @@ impl<'a> Source<'a> {
     {
         let mut text = Vec::new(self.alloc);
         push_lines(&mut text, self.clear.as_slice())?;
-        push_items(&mut text, self.items.as_slice())?;
+        push_items(&mut text, self.items.iter())?;
         push_lines(&mut text, self.tail.as_slice())?;
         Ok(text)
     }
@@ -217,15 +202,17 @@ impl<'a> Source<'a> {
         has_standard(self.clear.as_slice())
     }
 
-    /// Puts an item in the place of one of its kind and key.
-    pub(crate) fn put_item(&mut self, at: usize, item: Item<'a>)
+    /// Puts an item in the place of one of its kind and key, which never stands among plain lines. It can't fail.
+    pub(crate) fn put_item(&mut self, at: usize, item: Item<'a>) -> Result<(), AllocError>
         requires within { at < length self.old.items }
+        requires alone { StandsAloneAt self.old.items at }
         requires kind { IsInPlaceOf (slice_index_or self.old.items at (variants.Plain [])) item }
         requires made { IsWellFormed (with_items self.old (slice_set self.old.items at item)) }
-        ensures { self.new ≡ with_items self.old (slice_set self.old.items at item.entry) }
+        ensures put { self.new ≡ with_items self.old (slice_set self.old.items at item.entry) }
+        ensures still { IsOk result }
     {
         let _items = self.kept_items();
-        put(&mut self.items, at, item);
+        self.items.put(at, item)
     }
 
     /// Puts a new item in and raises the counts. Where memory runs out, nothing has changed.
@@ -240,14 +227,16 @@ impl<'a> Source<'a> {
         Ok(())
     }
 
-    /// Takes an item out.
-    pub(crate) fn remove_item(&mut self, at: usize)
+    /// Takes an item out that never stands among plain lines. It can't fail.
+    pub(crate) fn remove_item(&mut self, at: usize) -> Result<(), AllocError>
         requires within { at < length self.old.items }
+        requires alone { StandsAloneAt self.old.items at }
         requires made { IsWellFormed (with_items self.old (remove self.old.items at)) }
-        ensures { self.new ≡ with_items self.old (remove self.old.items at) }
+        ensures removed { self.new ≡ with_items self.old (remove self.old.items at) }
+        ensures still { IsOk result }
     {
         let _items = self.kept_items();
-        take_out(&mut self.items, at);
+        self.items.take_out(at)
     }
 
     /// Puts other lines in the place of the clear part.

@@ -1,5 +1,6 @@
 //! How long the private text is with fresh charstrings.
 ghost use Rattle.std.specs.Prelude.{◌≡◌, ◌^◌, ◌-◌, List, length, min};
+ghost use Rattle.t1_parts.specs.ItemRefs.{item_of};
 ghost use Rattle.t1_parts.specs.LenIV.{lead};
 ghost use Rattle.t1_parts.specs.SourceParts.{SourceParts};
 ghost use Rattle.t1_run.specs.Run.{Key};
@@ -8,6 +9,7 @@ ghost use Rattle.t1_font.specs.Lengths.{IsPrivateLen};
 
 use crate::entries::Charstrings;
 use crate::lengths::line_len;
+use t1_parts::{ItemRef, Items};
 use t1_source::{Item, Source};
 
 /// Whether the charstring of an item's entry is among these.
@@ -36,18 +38,33 @@ pub(crate) fn batch_line_len(
     line_len(charstrings, operator, item)
 }
 
+/// How long the line of an item is, where it stands, up to 2^64 - 1: that of its fresh charstring, or else that of the old one.
+fn batch_line_ref_len(
+    charstrings: &Charstrings,
+    fresh: &Charstrings,
+    operator: &[u8],
+    item: &ItemRef,
+) -> usize
+    ensures { result ≡ min (length (line_by (over fresh.now charstrings.now) operator.now (item_of item.now))) (2 ^ 64 - 1) }
+{
+    match item {
+        ItemRef::Line(line) => line.len().saturating_add(1),
+        ItemRef::Item(item) => batch_line_len(charstrings, fresh, operator, item),
+    }
+}
+
 /// How long the lines of the items are, up to 2^64 - 1.
 fn batch_items_len(
     charstrings: &Charstrings,
     fresh: &Charstrings,
     operator: &[u8],
-    items: &[Item],
+    items: &Items,
 ) -> usize
     ensures { result ≡ min (length (text_by (over fresh.now charstrings.now) operator.now items.now)) (2 ^ 64 - 1) }
 {
     let mut total: usize = 0;
-    for item in items {
-        total = total.saturating_add(batch_line_len(charstrings, fresh, operator, item));
+    for item in items.iter() {
+        total = total.saturating_add(batch_line_ref_len(charstrings, fresh, operator, &item));
     }
     total
 }

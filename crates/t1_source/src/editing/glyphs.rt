@@ -1,9 +1,10 @@
 //! Edits of glyphs.
 
-ghost use Rattle.std.specs.Prelude.{◌≡◌, ◌≤◌, ◌<◌, List, length, reverse, IfOk, IfSome, codes};
-ghost use Rattle.std.specs.List.{list_any, position};
+ghost use Rattle.std.specs.Prelude.{◌≡◌, ◌≤◌, ◌<◌, List, length, IfOk, IfSome, codes, option_map};
+ghost use Rattle.std.specs.List.{find, list_any, position};
 ghost use Rattle.t1_parts.specs.Counts.{is_glyph_entry};
 ghost use Rattle.t1_parts.specs.Entries.{is_glyph};
+ghost use Rattle.t1_parts.specs.ItemRefs.{item_of};
 ghost use Rattle.t1_source.specs.Changes.{changed, Fits};
 ghost use Rattle.t1_source.specs.Editing.{Edits, added_glyph, among_glyphs_items, beside_pairs, closing_among, removed_glyph, replaced_glyph, through_last};
 ghost use Rattle.t1_pairs.specs.declared.pairs.Pair.{Pair};
@@ -12,10 +13,9 @@ use crate::edit::{Cause, Rule};
 use crate::editing::change::Change;
 use crate::editing::entries::{closing_at, closing_of};
 use crate::editing::rules::{body_words, good_body, good_name, keeps};
-use crate::editing::through;
 use crate::source::Source;
 use t1_frac::SourceText;
-use t1_parts::{Item, is_glyphs_line};
+use t1_parts::{Item, ItemRef, Items, is_glyphs_line};
 use t1_text::same;
 
 /// Whether an item is the glyph of this name.
@@ -28,19 +28,31 @@ fn is_glyph(name: &[u8], item: &Item) -> bool
     }
 }
 
+/// Whether an item is the glyph of this name, where it stands.
+fn is_glyph_there(name: &[u8], item: &ItemRef) -> bool
+    ensures { result ≡ is_glyph name.now (item_of item.now) }
+{
+    match item {
+        ItemRef::Line(_line) => false,
+        ItemRef::Item(item) => is_glyph(name, item),
+    }
+}
+
 /// Where the glyph of this name stands.
-fn glyph_at(items: &[Item], name: &[u8]) -> Option<usize>
+fn glyph_at(items: &Items, name: &[u8]) -> Option<usize>
     ensures value { result ≡ position (is_glyph name.now) items.now }
     ensures within { IfSome result (λ at. at < length items.now) }
 {
-    items.iter().position(|item| is_glyph(name, item))
+    let mut left = items.iter();
+    left.position(|item| is_glyph_there(name, &item))
 }
 
 /// Whether the glyph of this name is there.
-fn has_glyph(items: &[Item], name: &[u8]) -> bool
+fn has_glyph(items: &Items, name: &[u8]) -> bool
     ensures { result ≡ list_any (is_glyph name.now) items.now }
 {
-    items.iter().any(|item| is_glyph(name, item))
+    let mut alone = items.iter().alone();
+    alone.any(|item| is_glyph(name, item))
 }
 
 /// Whether an item is a glyph.
@@ -53,11 +65,19 @@ fn is_glyph_entry(item: &Item) -> bool
     }
 }
 
+/// The first glyph.
+fn first_glyph<'i, 'a>(items: &'i Items<'a>) -> Option<&'i Item<'a>>
+    ensures { option_map (λ item. item.now) result ≡ find is_glyph_entry items.now }
+{
+    let mut alone = items.iter().alone();
+    alone.find(|item| is_glyph_entry(item))
+}
+
 /// The closing text of a new glyph.
-fn glyph_closing<'i>(items: &'i [Item]) -> &'i [u8]
+fn glyph_closing<'i>(items: &'i Items) -> &'i [u8]
     ensures { result.now ≡ closing_among is_glyph_entry (codes "noaccess def") items.now }
 {
-    match items.iter().find(|item| is_glyph_entry(item)) {
+    match first_glyph(items) {
         Some(item) => closing_of(item),
         None => b"noaccess def",
     }
@@ -71,20 +91,31 @@ fn among_glyphs(item: &Item) -> bool
     is_glyph_entry(item) || is_glyphs_line(item)
 }
 
-/// How many items stand after the last glyph or CharStrings line.
-fn after_glyphs(items: &[Item]) -> Option<usize>
-    ensures value { result ≡ position among_glyphs_items (reverse items.now) }
-    ensures within { IfSome result (λ after. after < length items.now) }
+/// Whether an item is a glyph or the CharStrings line, where it stands.
+#[tactic(auto, unfolding(crate::specs::Editing::among_glyphs_items))]
+fn among_glyphs_there(item: &ItemRef) -> bool
+    ensures { result ≡ among_glyphs_items (item_of item.now) }
 {
-    items.iter().rev().position(|item| among_glyphs(item))
+    match item {
+        ItemRef::Line(_line) => false,
+        ItemRef::Item(item) => among_glyphs(item),
+    }
 }
 
 /// How many items stand through the last glyph, or the CharStrings line.
-fn through_glyphs(items: &[Item]) -> usize
+fn through_glyphs(items: &Items) -> usize
     ensures within { result ≤ length items.now }
     ensures value { result ≡ through_last among_glyphs_items items.now }
 {
-    through(items.len(), after_glyphs(items))
+    let mut last = 0;
+    let mut passed = 0;
+    for item in items.iter() {
+        passed += 1;
+        if among_glyphs_there(&item) {
+            last = passed;
+        }
+    }
+    last
 }
 
 /// A glyph with another body.

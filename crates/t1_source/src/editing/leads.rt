@@ -3,6 +3,7 @@
 ghost use Rattle.std.specs.Prelude.{◌≡◌, ◌+◌, ◌<◌, ◌≤◌, ◌^◌, List, length, IfOk, IfSome, option_map};
 ghost use Rattle.std.specs.List.{position, position_or_len};
 ghost use Rattle.t1_text.specs.Tokens.{places_from};
+ghost use Rattle.t1_parts.specs.ItemRefs.{item_of};
 ghost use Rattle.t1_source.specs.Changes.{changed, Fits};
 ghost use Rattle.t1_source.specs.Editing.{Edits, beside_pairs, lead_edited};
 ghost use Rattle.t1_source.specs.Leads.{first_place, is_section_line, lead_line, line_at, line_of, line_with_lead, place_after, says_lead};
@@ -14,34 +15,36 @@ use crate::editing::rules::number_up_to;
 use crate::source::Source;
 use std::alloc::{AllocError, Global};
 use t1_frac::SourceText;
-use t1_parts::{Item, is_glyphs_line, is_subrs_line, push_decimal, says_lead};
+use t1_parts::{Item, ItemRef, Items, push_decimal};
 use t1_text::{next_place, same};
 
 /// Where the first plain line with a token `/lenIV` stands.
-fn lead_at(items: &[Item]) -> Option<usize>
+fn lead_at(items: &Items) -> Option<usize>
     ensures value { result ≡ position says_lead items.now }
     ensures within { IfSome result (λ at. at < length items.now) }
 {
-    items.iter().position(|item| says_lead(item))
+    let mut left = items.iter();
+    left.position(|item| item.says_lead())
 }
 
 /// Whether an item is a section line.
-fn is_section_line(item: &Item) -> bool
-    ensures { result ≡ is_section_line item.now }
+fn is_section_line(item: &ItemRef) -> bool
+    ensures { result ≡ is_section_line (item_of item.now) }
 {
-    is_subrs_line(item) || is_glyphs_line(item)
+    item.is_subrs_line() || item.is_glyphs_line()
 }
 
 /// Where the first section line stands.
-fn section_at(items: &[Item]) -> Option<usize>
+fn section_at(items: &Items) -> Option<usize>
     ensures value { result ≡ position is_section_line items.now }
     ensures within { IfSome result (λ at. at < length items.now) }
 {
-    items.iter().position(|item| is_section_line(item))
+    let mut left = items.iter();
+    left.position(|item| is_section_line(&item))
 }
 
 /// How many items stand before the first section line.
-fn before_sections(items: &[Item]) -> usize
+fn before_sections(items: &Items) -> usize
     ensures value { result ≡ position_or_len is_section_line items.now }
     ensures within { result ≤ length items.now }
 {
@@ -58,12 +61,22 @@ fn line_of<'i>(item: &'i Item) -> &'i [u8]
     }
 }
 
+/// The bytes of a plain line where it stands.
+fn line_there<'i>(item: &ItemRef<'i, '_>) -> &'i [u8]
+    ensures { result.now ≡ line_of (item_of item.now) }
+{
+    match item {
+        ItemRef::Line(line) => line,
+        ItemRef::Item(item) => line_of(item),
+    }
+}
+
 /// The line at a place.
-fn line_at<'i>(at: usize, items: &'i [Item]) -> &'i [u8]
+fn line_at<'i>(at: usize, items: &'i Items) -> &'i [u8]
     requires { at < length items.now }
     ensures { result.now ≡ line_at at items.now }
 {
-    line_of(&items[at])
+    line_there(&items.item(at))
 }
 
 /// The first token of a line that begins at a place, with its place.

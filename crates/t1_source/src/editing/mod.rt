@@ -85,9 +85,9 @@ impl<'a> Source<'a> {
         ensures still { takes_room change.entry ≡ false → IsOk result }
     {
         match change {
-            Change::PutItem(at, item) => self.put_item(at, item),
+            Change::PutItem(at, item) => self.put_item(at, item)?,
             Change::InsertItem(at, item) => self.insert_item(at, item)?,
-            Change::RemoveItem(at) => self.remove_item(at),
+            Change::RemoveItem(at) => self.remove_item(at)?,
             Change::PutClear(lines) => self.put_clear(lines),
             Change::PutPair(at, pair) => pairs.put(at, pair),
             Change::InsertPair(at, pair) => pairs.insert(at, pair)?,

@@ -1,8 +1,9 @@
 //! Edits of Subrs.
 
-ghost use Rattle.std.specs.Prelude.{◌≡◌, ◌≤◌, ◌<◌, List, length, reverse, IfOk, IfSome, codes};
-ghost use Rattle.std.specs.List.{list_any, position};
+ghost use Rattle.std.specs.Prelude.{◌≡◌, ◌≤◌, ◌<◌, List, length, IfOk, IfSome, codes, option_map};
+ghost use Rattle.std.specs.List.{find, list_any, position};
 ghost use Rattle.t1_parts.specs.Entries.{is_subr};
+ghost use Rattle.t1_parts.specs.ItemRefs.{item_of};
 ghost use Rattle.t1_parts.specs.Sections.{is_subrs_line};
 ghost use Rattle.t1_source.specs.Changes.{changed, Fits};
 ghost use Rattle.t1_source.specs.Editing.{Edits, added_subr, among_subrs_items, beside_pairs, closing_among, has_section, is_subr_entry, removed_subr, replaced_subr, through_last};
@@ -12,10 +13,9 @@ use crate::edit::{Cause, Rule};
 use crate::editing::change::Change;
 use crate::editing::entries::{closing_at, closing_of};
 use crate::editing::rules::{body_words, good_body, keeps, number_up_to};
-use crate::editing::through;
 use crate::source::Source;
 use t1_frac::SourceText;
-use t1_parts::{Item, is_subrs_line};
+use t1_parts::{Item, ItemRef, Items, is_subrs_line};
 
 /// Whether an item is the Subr of this number.
 fn is_subr(number: u16, item: &Item) -> bool
@@ -27,19 +27,31 @@ fn is_subr(number: u16, item: &Item) -> bool
     }
 }
 
+/// Whether an item is the Subr of this number, where it stands.
+fn is_subr_there(number: u16, item: &ItemRef) -> bool
+    ensures { result ≡ is_subr number (item_of item.now) }
+{
+    match item {
+        ItemRef::Line(_line) => false,
+        ItemRef::Item(item) => is_subr(number, item),
+    }
+}
+
 /// Where the Subr of this number stands.
-fn subr_at(items: &[Item], number: u16) -> Option<usize>
+fn subr_at(items: &Items, number: u16) -> Option<usize>
     ensures value { result ≡ position (is_subr number) items.now }
     ensures within { IfSome result (λ at. at < length items.now) }
 {
-    items.iter().position(|item| is_subr(number, item))
+    let mut left = items.iter();
+    left.position(|item| is_subr_there(number, &item))
 }
 
 /// Whether the Subr of this number is there.
-fn has_subr(items: &[Item], number: u16) -> bool
+fn has_subr(items: &Items, number: u16) -> bool
     ensures { result ≡ list_any (is_subr number) items.now }
 {
-    items.iter().any(|item| is_subr(number, item))
+    let mut alone = items.iter().alone();
+    alone.any(|item| is_subr(number, item))
 }
 
 /// Whether an item is a Subr.
@@ -52,11 +64,19 @@ fn is_subr_entry(item: &Item) -> bool
     }
 }
 
+/// The first Subr.
+fn first_subr<'i, 'a>(items: &'i Items<'a>) -> Option<&'i Item<'a>>
+    ensures { option_map (λ item. item.now) result ≡ find is_subr_entry items.now }
+{
+    let mut alone = items.iter().alone();
+    alone.find(|item| is_subr_entry(item))
+}
+
 /// The closing text of a new Subr.
-fn subr_closing<'i>(items: &'i [Item]) -> &'i [u8]
+fn subr_closing<'i>(items: &'i Items) -> &'i [u8]
     ensures { result.now ≡ closing_among is_subr_entry (codes "noaccess put") items.now }
 {
-    match items.iter().find(|item| is_subr_entry(item)) {
+    match first_subr(items) {
         Some(item) => closing_of(item),
         None => b"noaccess put",
     }
@@ -70,27 +90,39 @@ fn among_subrs(item: &Item) -> bool
     is_subr_entry(item) || is_subrs_line(item)
 }
 
-/// How many items stand after the last Subr or Subrs line.
-fn after_subrs(items: &[Item]) -> Option<usize>
-    ensures value { result ≡ position among_subrs_items (reverse items.now) }
-    ensures within { IfSome result (λ after. after < length items.now) }
+/// Whether an item is a Subr or the Subrs line, where it stands.
+#[tactic(auto, unfolding(crate::specs::Editing::among_subrs_items))]
+fn among_subrs_there(item: &ItemRef) -> bool
+    ensures { result ≡ among_subrs_items (item_of item.now) }
 {
-    items.iter().rev().position(|item| among_subrs(item))
+    match item {
+        ItemRef::Line(_line) => false,
+        ItemRef::Item(item) => among_subrs(item),
+    }
 }
 
 /// How many items stand through the last Subr, or the Subrs line.
-fn through_subrs(items: &[Item]) -> usize
+fn through_subrs(items: &Items) -> usize
     ensures within { result ≤ length items.now }
     ensures value { result ≡ through_last among_subrs_items items.now }
 {
-    through(items.len(), after_subrs(items))
+    let mut last = 0;
+    let mut passed = 0;
+    for item in items.iter() {
+        passed += 1;
+        if among_subrs_there(&item) {
+            last = passed;
+        }
+    }
+    last
 }
 
 /// Whether one of the items is the Subrs line.
-fn has_subrs_line(items: &[Item]) -> bool
+fn has_subrs_line(items: &Items) -> bool
     ensures { result ≡ list_any is_subrs_line items.now }
 {
-    items.iter().any(|item| is_subrs_line(item))
+    let mut alone = items.iter().alone();
+    alone.any(|item| is_subrs_line(item))
 }
 
 /// Whether the font has a Subrs section.

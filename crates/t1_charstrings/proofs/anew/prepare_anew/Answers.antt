@@ -21,9 +21,9 @@ returns-in_err-check_parts-clause-judged c =
     let is = made_items c.items-items.result in
     let whole = c.items-items.ensures in
     let found = c.in_ok-charstrings in
-    let need = c.needed-needed in
+    let need = c.in_ok-needed in
     let kept = kept_made is m whole found.charstrings found.ensures.checked found.ensures.kept in
-    let len = len_made is m whole found.charstrings need.result.subrs need.result.glyphs c.raised_len-len.result c.requires.well kept need.ensures.subrs need.ensures.glyphs c.raised_len-len.ensures in
+    let len = len_made is m whole found.charstrings need.needed.subrs need.needed.glyphs c.raised_len-len.result c.requires.well kept need.ensures.subrs need.ensures.glyphs c.raised_len-len.ensures in
     let p = err_from_is_err_and c.from_residual-in_err-check_parts.result c.from_residual-in_err-check_parts.ensures.1 in
     rw (p.1, p.2) (length_refused m c.in_err-check_parts.field-0.0 (sym (c.in_err-check_parts.ensures m (sym c.clear.ensures) (sym c.tail.ensures) len)))
 
@@ -33,13 +33,13 @@ returns-in_err-check_raised-clause-judged c =
     let is = made_items c.items-items.result in
     let whole = c.items-items.ensures in
     let found = c.in_ok-charstrings in
-    let need = c.needed-needed in
+    let need = c.in_ok-needed in
     let kept = kept_made is m whole found.charstrings found.ensures.checked found.ensures.kept in
-    let len = len_made is m whole found.charstrings need.result.subrs need.result.glyphs c.raised_len-len.result c.requires.well kept need.ensures.subrs need.ensures.glyphs c.raised_len-len.ensures in
+    let len = len_made is m whole found.charstrings need.needed.subrs need.needed.glyphs c.raised_len-len.result c.requires.well kept need.ensures.subrs need.ensures.glyphs c.raised_len-len.ensures in
     let p = err_from_is_err_and c.from_residual-in_err-check_raised.result c.from_residual-in_err-check_raised.ensures.1 in
     rw (p.1, p.2)
     (counts_refused m c.in_err-check_raised.field-0.0 (sym (c.in_ok-check_parts.ensures m (sym c.clear.ensures) (sym c.tail.ensures) len))
-    (counts_made is m whole need.result.subrs need.result.glyphs need.ensures.subrs need.ensures.glyphs ∙ sym c.in_err-check_raised.ensures))
+    (counts_made is m whole need.needed.subrs need.needed.glyphs need.ensures.subrs need.ensures.glyphs ∙ sym c.in_err-check_raised.ensures))
 
 pub returns-clause-judged : goal.returns-clause-judged
 returns-clause-judged c =
@@ -47,11 +47,11 @@ returns-clause-judged c =
     let is = made_items c.items-items.result in
     let whole = c.items-items.ensures in
     let found = c.in_ok-charstrings in
-    let need = c.needed-needed in
+    let need = c.in_ok-needed in
     let kept = kept_made is m whole found.charstrings found.ensures.checked found.ensures.kept in
-    let len = len_made is m whole found.charstrings need.result.subrs need.result.glyphs c.raised_len-len.result c.requires.well kept need.ensures.subrs need.ensures.glyphs c.raised_len-len.ensures in
+    let len = len_made is m whole found.charstrings need.needed.subrs need.needed.glyphs c.raised_len-len.result c.requires.well kept need.ensures.subrs need.ensures.glyphs c.raised_len-len.ensures in
     file_passed m (sym (c.in_ok-check_parts.ensures m (sym c.clear.ensures) (sym c.tail.ensures) len))
-    (counts_made is m whole need.result.subrs need.result.glyphs need.ensures.subrs need.ensures.glyphs ∙ sym c.in_ok-check_raised.ensures)
+    (counts_made is m whole need.needed.subrs need.needed.glyphs need.ensures.subrs need.ensures.glyphs ∙ sym c.in_ok-check_raised.ensures)
 
 pub returns-clause-ready : goal.returns-clause-ready
 returns-clause-ready c = λ old.
@@ -59,7 +59,7 @@ returns-clause-ready c = λ old.
     let is = made_items c.items-items.result in
     let whole = c.items-items.ensures in
     let found = c.in_ok-charstrings in
-    let need = c.needed-needed in
+    let need = c.in_ok-needed in
     let kept = kept_made is m whole found.charstrings found.ensures.checked found.ensures.kept in
-    let len = len_made is m whole found.charstrings need.result.subrs need.result.glyphs c.raised_len-len.result c.requires.well kept need.ensures.subrs need.ensures.glyphs c.raised_len-len.ensures in
+    let len = len_made is m whole found.charstrings need.needed.subrs need.needed.glyphs c.raised_len-len.result c.requires.well kept need.ensures.subrs need.ensures.glyphs c.raised_len-len.ensures in
     all_ready m old found.charstrings c.raised_len-len.result kept len

@@ -1,5 +1,6 @@
-use Rattle.std.proofs.Common.{◌≡◌, ℕ, List, drop}
+use Rattle.std.proofs.Common.{◌≡◌, ℕ, List, filter}
 use Rattle.std.specs.Option.{option_map, option_or}
+use Rattle.t1_parts.specs.Items.{stands_alone}
 use Rattle.t1_run.specs.Run.{Subr, Glyph}
 use Rattle.t1_font.specs.Bodies.{bodies_check, subr_among, glyph_among}
 use Rattle.t1_charstrings.specs.Entries.{encrypted, glyph_kept, subr_kept}
@@ -7,10 +8,10 @@ use Rattle.t1_charstrings.proofs.encrypted.add_items.Given as goal
 
 -- what was added, and the bodies of the items that are left
 abbrev pub invariant-loop-item : goal.invariant-loop-item
-invariant-loop-item l = record {
-  checked : bodies_check (drop l.item-index l.items) ≡ bodies_check l.items;
-  subrs : (n : ℕ) → option_or (subr_kept l.charstrings.subrs.entries n) (option_map (encrypted l.lead (Subr n)) (subr_among (drop l.item-index l.items) n))
-      ≡ option_or (subr_kept l.fn.charstrings.subrs.entries n) (option_map (encrypted l.lead (Subr n)) (subr_among l.items n));
-  glyphs : (g : List ℕ) → option_or (glyph_kept l.charstrings.glyphs.entries g) (option_map (encrypted l.lead (Glyph g)) (glyph_among (drop l.item-index l.items) g))
-      ≡ option_or (glyph_kept l.fn.charstrings.glyphs.entries g) (option_map (encrypted l.lead (Glyph g)) (glyph_among l.items g));
-}
+invariant-loop-item l =
+    (goal.iterator-loop-item).can_next l.item-iterator × (goal.iterator-loop-item).is_finite l.item-iterator
+    × (bodies_check l.item-iterator ≡ bodies_check (filter stands_alone l.items))
+    × ((n : ℕ) → option_or (subr_kept l.charstrings.subrs.entries n) (option_map (encrypted l.lead (Subr n)) (subr_among l.item-iterator n))
+    ≡ option_or (subr_kept l.fn.charstrings.subrs.entries n) (option_map (encrypted l.lead (Subr n)) (subr_among (filter stands_alone l.items) n)))
+    × ((g : List ℕ) → option_or (glyph_kept l.charstrings.glyphs.entries g) (option_map (encrypted l.lead (Glyph g)) (glyph_among l.item-iterator g))
+    ≡ option_or (glyph_kept l.fn.charstrings.glyphs.entries g) (option_map (encrypted l.lead (Glyph g)) (glyph_among (filter stands_alone l.items) g)))

@@ -1,7 +1,10 @@
-use Rattle.std.proofs.Common.{◌≡◌, ◌^◌, ◌-◌, min, length, take}
+use Rattle.std.proofs.Common.{◌≡◌, ◌<◌, ◌+◌, ◌^◌, ◌-◌, min, length}
 use Rattle.t1_charstrings.specs.Lines.{kept_text}
 use Rattle.t1_charstrings.proofs.lengths.items_len.Given as goal
 
--- the lines of the items so far
+-- the lines of the items so far, and those of the rest
 abbrev pub invariant-loop-item : goal.invariant-loop-item
-invariant-loop-item l = l.total ≡ min (length (kept_text l.charstrings l.operator (take l.item-index l.items))) (2 ^ 64 - 1)
+invariant-loop-item l =
+    (goal.iterator-loop-item).can_next l.item-iterator × (goal.iterator-loop-item).is_finite l.item-iterator
+    × (l.total < 2 ^ 64)
+    × (min (l.total + length (kept_text l.charstrings l.operator l.item-iterator)) (2 ^ 64 - 1) ≡ min (length (kept_text l.charstrings l.operator l.items)) (2 ^ 64 - 1))

@@ -1,4 +1,4 @@
-use Rattle.std.proofs.Common.{◌≡◌, ◌∷◌, ◌∙◌, ap, sym}
+use Rattle.std.proofs.Common.{◌≡◌, ◌∷◌, ◌∙◌, ap, sym, arith}
 use Rattle.std.proofs.lemmas.Result.{err_from_is_err_and}
 use Rattle.std.specs.List.{insert}
 use Rattle.t1_parts.specs.Counts.{glyphs_needed, subrs_needed}
@@ -8,8 +8,14 @@ use Rattle.t1_font.specs.Lengths.{IsPrivateLen}
 use Rattle.t1_charstrings.specs.Raising.{raised_check}
 use Rattle.t1_charstrings.proofs.Batches.{fresh_by}
 use Rattle.t1_charstrings.proofs.Entered.{counts_refused, file_passed, length_refused}
+use Rattle.t1_charstrings.proofs.GlyphCounts.{glyphs_fit}
 use Rattle.t1_charstrings.proofs.Inserting.{insert_counts, insert_front, insert_known}
 use Rattle.t1_charstrings.proofs.replacing.len_inserted.Goals as goal
+
+pub needed_with-needed-requires : goal.needed_with-needed-requires
+needed_with-needed-requires c =
+    let same = ap glyphs_needed c.items.ensures in
+    omega (arith, same, glyphs_fit c.args.source.now c.args.private_len c.requires.file c.requires.len)
 
 pub returns-in_err-check_parts-clause-judged : goal.returns-in_err-check_parts-clause-judged
 returns-in_err-check_parts-clause-judged c =
@@ -44,9 +50,9 @@ returns-in_err-check_raised-clause-judged c =
     let known : IsPrivateLen made c.inserted_len-len.result =
     insert_known s kept c.args.at item need.well need.within edit.kept needed.subrs needed.glyphs subrs_are glyphs_are need.edits.keys c.args.entries.now.fresh edit
     (fresh_by need.edits front) need.entry c.args.private_len c.inserted_len-len.result need.len need.file c.inserted_len-len.ensures in
-    let counts : counts_check made.items ≡ raised_check needed.subrs needed.glyphs c.items-2.result.now =
+    let counts : counts_check made.items ≡ raised_check needed.subrs needed.glyphs c.iter.result =
     insert_counts s kept c.args.at item need.well need.within edit.kept needed.subrs needed.glyphs subrs_are glyphs_are need.entry edit.sound
-    ∙ ap (raised_check needed.subrs needed.glyphs) (sym c.items-2.ensures) in
+    ∙ ap (raised_check needed.subrs needed.glyphs) (sym (c.iter.ensures.items ∙ c.items-2.ensures)) in
     let short = sym (c.in_ok-check_parts.ensures made (sym c.clear.ensures) (sym c.tail.ensures) known) in
     let p = err_from_is_err_and c.from_residual-in_err-check_raised.result c.from_residual-in_err-check_raised.ensures.1 in
     rw (p.1, p.2) (counts_refused made c.in_err-check_raised.field-0.0 short (counts ∙ sym c.in_err-check_raised.ensures))
@@ -66,9 +72,9 @@ returns-clause-judged c =
     let known : IsPrivateLen made c.inserted_len-len.result =
     insert_known s kept c.args.at item need.well need.within edit.kept needed.subrs needed.glyphs subrs_are glyphs_are need.edits.keys c.args.entries.now.fresh edit
     (fresh_by need.edits front) need.entry c.args.private_len c.inserted_len-len.result need.len need.file c.inserted_len-len.ensures in
-    let counts : counts_check made.items ≡ raised_check needed.subrs needed.glyphs c.items-2.result.now =
+    let counts : counts_check made.items ≡ raised_check needed.subrs needed.glyphs c.iter.result =
     insert_counts s kept c.args.at item need.well need.within edit.kept needed.subrs needed.glyphs subrs_are glyphs_are need.entry edit.sound
-    ∙ ap (raised_check needed.subrs needed.glyphs) (sym c.items-2.ensures) in
+    ∙ ap (raised_check needed.subrs needed.glyphs) (sym (c.iter.ensures.items ∙ c.items-2.ensures)) in
     let short = sym (c.in_ok-check_parts.ensures made (sym c.clear.ensures) (sym c.tail.ensures) known) in
     file_passed made short (counts ∙ sym c.in_ok-check_raised.ensures)
 

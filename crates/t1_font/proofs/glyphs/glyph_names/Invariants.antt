@@ -1,7 +1,9 @@
-use Rattle.std.proofs.Common.{◌≡◌, ◌++◌, map, drop}
+use Rattle.std.proofs.Common.{◌≡◌, ◌++◌, map}
 use Rattle.t1_font.specs.Glyphs.{glyph_names}
 use Rattle.t1_font.proofs.glyphs.glyph_names.Given as goal
 
 -- the names so far, in front of those of the items that are left
 abbrev pub invariant-loop-item : goal.invariant-loop-item
-invariant-loop-item l = map (λ name. name.now) l.names.items ++ glyph_names (drop l.item-index l.items) ≡ glyph_names l.items
+invariant-loop-item l =
+    (goal.iterator-loop-item).can_next l.item-iterator × (goal.iterator-loop-item).is_finite l.item-iterator
+    × (map (λ name. name.now) l.names.items ++ glyph_names l.item-iterator ≡ glyph_names l.items)

@@ -1,4 +1,4 @@
-use Rattle.std.proofs.Common.{◌≡◌, ◌≤◌, ◌^◌, ◌-◌, drop}
+use Rattle.std.proofs.Common.{◌≡◌, ◌≤◌, ◌^◌, ◌-◌}
 use Rattle.t1_font.specs.Assembly.{private_text}
 use Rattle.t1_font.specs.Lengths.{private_length}
 use Rattle.t1_font.proofs.PrivateLaws.{added}
@@ -7,4 +7,5 @@ use Rattle.t1_font.proofs.private.private_text_len.Given as goal
 -- the lengths so far, with that of the items that are left
 abbrev pub invariant-loop-item : goal.invariant-loop-item
 invariant-loop-item l =
-    (l.total ≤ 2 ^ 64 - 1) × (added l.total (private_text l.lead l.operator (drop l.item-index l.items)) ≡ private_length l.lead l.operator l.items)
+    (goal.iterator-loop-item).can_next l.item-iterator × (goal.iterator-loop-item).is_finite l.item-iterator
+    × (l.total ≤ 2 ^ 64 - 1) × (added l.total (private_text l.lead l.operator l.item-iterator) ≡ private_length l.lead l.operator l.items)

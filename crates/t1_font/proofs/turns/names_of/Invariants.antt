@@ -1,4 +1,4 @@
-use Rattle.std.proofs.Common.{◌≡◌, ℕ, List, drop}
+use Rattle.std.proofs.Common.{◌≡◌, ℕ, List}
 use Rattle.std.specs.Prelude.{◌||◌}
 use Rattle.std.specs.List.{list_any}
 use Rattle.std.specs.Str.{bytes_eq}
@@ -8,4 +8,6 @@ use Rattle.t1_font.proofs.turns.names_of.Given as goal
 
 -- the names so far, or those of the items that are left
 abbrev pub invariant-loop-item : goal.invariant-loop-item
-invariant-loop-item l = (g : List ℕ) → (has_name l.names.keys g || list_any (bytes_eq g) (glyph_names (drop l.item-index l.items))) ≡ list_any (bytes_eq g) (glyph_names l.items)
+invariant-loop-item l =
+    (goal.iterator-loop-item).can_next l.item-iterator × (goal.iterator-loop-item).is_finite l.item-iterator
+    × ((g : List ℕ) → (has_name l.names.keys g || list_any (bytes_eq g) (glyph_names l.item-iterator)) ≡ list_any (bytes_eq g) (glyph_names l.items))

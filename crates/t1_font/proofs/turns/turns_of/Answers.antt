@@ -1,16 +1,41 @@
-use Rattle.std.proofs.Common.{◌≡◌, ◌∙◌, ◌+◌, ◌∷◌, ℕ, ap, sym, subst, drop, take, take_all, arith}
-use Rattle.std.proofs.lemmas.List.Elements.{All-get_or}
+use Rattle.std.proofs.Common.{◌≡◌, ◌∙◌, ◌∷◌, ◌++◌, [], ℕ, ap, sym, subst, filter}
+use Rattle.std.specs.Prelude.{All}
+use Rattle.std.proofs.lemmas.List.{append_assoc}
+use Rattle.std.proofs.lemmas.List.Elements.{All-filter, All-head, All-tail}
 use Rattle.std.specs.Option.{option_or}
 use Rattle.std.proofs.lemmas.Result.{err_from_is_err_and}
 use Rattle.t1_frac.specs.Outcome.{◌>>=◌, Refuses}
+use Rattle.t1_parts.specs.Items.{stands_alone}
 use Rattle.t1_run.specs.Run.{own}
 use Rattle.t1_font.specs.Bodies.{bodies_check, body_check, subr_in, subr_among}
-use Rattle.t1_font.specs.Glyphs.{glyph_names}
-use Rattle.t1_font.specs.InTurn.{staying, AreRows, IsFirstOfName}
-use Rattle.t1_font.specs.ToRun.{font_to_run, subr_stored}
-use Rattle.t1_font.proofs.Compiling.{or-assoc, item-first}
-use Rattle.t1_font.proofs.InTurnLaws.{names-next, names-known, refused-first, runs-as}
+use Rattle.t1_font.specs.Glyphs.{glyph_names, name_in}
+use Rattle.t1_font.specs.InTurn.{AreRows, IsFirstOfName}
+use Rattle.t1_font.specs.Runs.{kept_of}
+use Rattle.t1_font.specs.ToRun.{font_to_run, subr_stored, SubrsStandFirst}
+use Rattle.t1_font.proofs.AloneLaws.{checks_alone, first_alone, names_alone, subrs_alone}
+use Rattle.t1_font.proofs.Compiling.{or-assoc}
+use Rattle.t1_font.proofs.InTurnLaws.{names-known, refused-first, runs-as}
+use Rattle.t1_font.proofs.SubrsFirst.{later}
 use Rattle.t1_font.proofs.turns.turns_of.Goals as goal
+
+pub loop-item-init : goal.loop-item-init
+loop-item-init c =
+    let items = c.args.items.now in
+    let left = c.into_iter-item-iterator.result in
+    let start : left ≡ filter stands_alone items = c.into_iter-item-iterator.ensures.into_iter_gives ∙ c.alone-item-items.ensures ∙ ap (filter stands_alone) c.iter.ensures.items in (
+      tt,
+      tt,
+      record {
+        firsts = subst (All (IsFirstOfName items)) (sym start) (All-filter stands_alone (IsFirstOfName items) items c.requires.firsts);
+        order = subst SubrsStandFirst (sym start) (first_alone items c.requires.subrs);
+        checked = ap bodies_check start ∙ checks_alone items;
+        subrs = λ n. ap (λ r. option_or r (subr_among left n)) (c.in_ok-turns.ensures.subrs n) ∙ ap (λ l. subr_among l n) start ∙ subrs_alone n items;
+        done = [];
+        names = ap glyph_names start ∙ names_alone items;
+        rows = subst (AreRows (own (font_to_run items)) []) (sym c.in_ok-turns.ensures.rows) tt;
+        runs = λ g. ap (λ runs. kept_of runs g) c.in_ok-turns.ensures.runs;
+      },
+    )
 
 pub take-requires-clause-known : goal.take-requires-clause-known
 take-requires-clause-known c = λ g. c.in_ok-names.ensures g ∙ names-known c.args.items.now g
@@ -18,45 +43,41 @@ take-requires-clause-known c = λ g. c.in_ok-names.ensures g ∙ names-known c.a
 pub take-requires-clause-first : goal.take-requires-clause-first
 take-requires-clause-first c =
     let items = c.args.items.now in
-    subst (IsFirstOfName items) (sym c.item-item.is) (All-get_or (IsFirstOfName items) items c.loop-item.item-index c.item-item.result (omega arith) c.requires.firsts)
+    All-head (IsFirstOfName items) c.in-Some.item.now c.next.new.self (subst (All (IsFirstOfName items)) c.in-Some.ensures.steps c.loop-item.invariant.2.firsts)
 
 pub loop-item-preserved : goal.loop-item-preserved
 loop-item-preserved c =
     let items = c.args.items.now in
-    let i = c.loop-item.item-index in
-    let item = c.item-item.result in
-    let rest = drop (i + 1) items in
-    let split = item-first items i item (omega arith) c.item-item.is in
+    let item = c.in-Some.item.now in
+    let rest = c.next.new.self in
+    let steps = c.in-Some.ensures.steps in
+    let before = c.loop-item.invariant.2 in
     let subrs = subr_stored c.loop-item.turns.subrs in
     let run = own (font_to_run items) in
-    let left : (n : ℕ) → option_or (subrs n) (subr_among (item ∷ rest) n) ≡ subr_among items n = λ n. sym (ap (λ l. option_or (subrs n) (subr_among l n)) split) ∙ c.loop-item.invariant.subrs n in
-    let as_font = runs-as items i item subrs (omega arith) c.item-item.is c.requires.subrs left in
-    let names = names-next items i item (omega arith) c.item-item.is in
-    record {
-      checked = sym (ap (λ r. r >>= (λ _. bodies_check rest)) c.in_ok-take.ensures.checked) ∙ sym (ap bodies_check split) ∙ c.loop-item.invariant.checked;
-      subrs = λ n.
-          ap (λ r. option_or r (subr_among rest n)) (c.in_ok-take.ensures.subrs n) ∙ or-assoc (subrs n) (subr_in item n) (subr_among rest n) ∙ left n;
-      rows = subst (λ gs. AreRows run gs c.take.new.self.rows) (sym names) (c.in_ok-take.ensures.rows run (glyph_names (take i items)) as_font c.loop-item.invariant.rows);
-      runs = λ g. c.in_ok-take.ensures.runs run (glyph_names (take i items)) as_font c.loop-item.invariant.runs g ∙ sym (ap (λ gs. staying run gs g) names);
-    }
-
-pub returns-clause-turns : goal.returns-clause-turns
-returns-clause-turns c =
-    let items = c.args.items.now in
-    let run = own (font_to_run items) in
-    let whole = take_all c.loop-item.item-index items (omega arith) in
-    record {
-      rows = subst (λ l. AreRows run (glyph_names l) c.loop-item.turns.rows) whole c.loop-item.invariant.rows;
-      runs = λ g. c.loop-item.invariant.runs g ∙ ap (λ l. staying run (glyph_names l) g) whole;
-    }
+    let left : (n : ℕ) → option_or (subrs n) (subr_among (item ∷ rest) n) ≡ subr_among items n = λ n. sym (ap (λ l. option_or (subrs n) (subr_among l n)) steps) ∙ before.subrs n in
+    let order = subst SubrsStandFirst steps before.order in
+    let as_font = runs-as items item rest subrs order left in
+    let firsts = subst (All (IsFirstOfName items)) steps before.firsts in (
+      tt,
+      tt,
+      record {
+        firsts = All-tail (IsFirstOfName items) item rest firsts;
+        order = later item rest order;
+        checked = sym (ap (λ r. r >>= (λ _. bodies_check rest)) c.in_ok-take.ensures.checked) ∙ sym (ap bodies_check steps) ∙ before.checked;
+        subrs = λ n.
+            ap (λ r. option_or r (subr_among rest n)) (c.in_ok-take.ensures.subrs n) ∙ or-assoc (subrs n) (subr_in item n) (subr_among rest n) ∙ left n;
+        done = before.done ++ name_in item;
+        names = append_assoc before.done (name_in item) (glyph_names rest) ∙ sym (ap (λ l. before.done ++ glyph_names l) steps) ∙ before.names;
+        rows = c.in_ok-take.ensures.rows run before.done as_font before.rows;
+        runs = c.in_ok-take.ensures.runs run before.done as_font before.runs;
+      },
+    )
 
 pub returns-in_err-take-clause-checked : goal.returns-in_err-take-clause-checked
 returns-in_err-take-clause-checked c =
-    let items = c.args.items.now in
-    let i = c.loop-item.item-index in
-    let item = c.item-item.result in
-    let rest = drop (i + 1) items in
-    let whole = sym (ap bodies_check (item-first items i item (omega arith) c.item-item.is)) ∙ c.loop-item.invariant.checked in
+    let item = c.in-Some.item.now in
+    let rest = c.next.new.self in
+    let whole = sym (ap bodies_check c.in-Some.ensures.steps) ∙ c.loop-item.invariant.2.checked in
     let refused = c.in_err-take.field-0.0 in
     let p = err_from_is_err_and c.from_residual-in_err-take.result c.from_residual-in_err-take.ensures.1 in
     rw (p.1, p.2) (subst (Refuses refused) whole (refused-first refused (body_check item) (bodies_check rest) c.in_err-take.ensures.checked))

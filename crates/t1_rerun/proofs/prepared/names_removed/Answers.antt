@@ -7,9 +7,11 @@ use Rattle.t1_rerun.proofs.prepared.names_removed.Goals as goal
 pub returns : goal.returns
 returns c =
     let items = c.args.items.now in
-    let front = c.split_at.result.0.now in
+    let front = c.split_at-front.result.0 in
+    let middle = c.none.result in
     let is =
-    ap (λ l. glyph_names front ++ glyph_names l) (c.split_at-2.ensures.back ∙ ap (drop 1) c.split_at.ensures.back)
-    ∙ ap (λ l. glyph_names l ++ glyph_names (drop 1 (drop c.args.at items))) c.split_at.ensures.front
-    ∙ sym (remove-names items c.args.at (omega (arith, c.if-items-at.false))) in
+    ap (λ l. glyph_names front ++ (glyph_names middle ++ glyph_names l)) (c.after_first.ensures ∙ ap (drop 1) c.split_at-front.ensures.back)
+    ∙ ap (λ l. glyph_names front ++ (glyph_names l ++ glyph_names (drop 1 (drop c.args.at items)))) c.none.ensures
+    ∙ ap (λ l. glyph_names l ++ glyph_names (drop 1 (drop c.args.at items))) c.split_at-front.ensures.front
+    ∙ sym (remove-names items c.args.at (omega (arith, c.if-len-at.false))) in
     subst (λ l. IfOk c.names_of_three.result (λ names. map (λ name. name.now) names.items ≡ l)) is c.names_of_three.ensures

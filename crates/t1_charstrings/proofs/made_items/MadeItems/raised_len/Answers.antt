@@ -15,6 +15,6 @@ returns c =
       c.raised_items_len.ensures,
       c.raised_items_len-put.ensures,
       c.raised_items_len-after.ensures,
-      text-parts c.args.charstrings.now o n.subrs n.glyphs s.before.now (s.put.now ++ s.after.now),
-      text-parts c.args.charstrings.now o n.subrs n.glyphs s.put.now s.after.now,
+      text-parts c.args.charstrings.now o n.subrs n.glyphs s.before (s.put ++ s.after),
+      text-parts c.args.charstrings.now o n.subrs n.glyphs s.put s.after,
     ))

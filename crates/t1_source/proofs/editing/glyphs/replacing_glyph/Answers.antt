@@ -1,7 +1,7 @@
 use Rattle.std.proofs.Common.{◌≡◌, ◌<◌, length, Some, rules}
 use Rattle.std.specs.List.{position}
 use Rattle.t1_parts.specs.Entries.{is_glyph}
-use Rattle.t1_source.proofs.ChangeLaws.{glyph_fits}
+use Rattle.t1_source.proofs.ChangeLaws.{glyph_fits, found_glyph_alone}
 use Rattle.t1_source.proofs.editing.glyphs.replacing_glyph.Goals as goal
 
 pub returns-clause-fits : goal.returns-clause-fits
@@ -11,4 +11,4 @@ returns-clause-fits c k =
     let within : at < length items = search rules in
     let there : position (is_glyph c.args.name.now) items ≡ Some at = search rules in
     let name : c.in_ok-copy_of.field-0 ≡ c.args.name.now = search rules in
-    (within, glyph_fits items c.args.name.now c.in_ok-copy_of.field-0 at _ _ name there)
+    (within, found_glyph_alone items c.args.name.now at there, glyph_fits items c.args.name.now c.in_ok-copy_of.field-0 at _ _ name there)

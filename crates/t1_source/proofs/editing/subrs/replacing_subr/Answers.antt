@@ -1,7 +1,7 @@
 use Rattle.std.proofs.Common.{◌≡◌, ◌<◌, length, Some, rules, refl}
 use Rattle.std.specs.List.{position}
 use Rattle.t1_parts.specs.Entries.{is_subr}
-use Rattle.t1_source.proofs.ChangeLaws.{subr_fits}
+use Rattle.t1_source.proofs.ChangeLaws.{subr_fits, found_subr_alone}
 use Rattle.t1_source.proofs.editing.subrs.replacing_subr.Goals as goal
 
 pub returns-clause-fits : goal.returns-clause-fits
@@ -11,4 +11,4 @@ returns-clause-fits c k =
     let at = c.in-Some.at in
     let within : at < length items = search rules in
     let there : position (is_subr number) items ≡ Some at = search rules in
-    (within, subr_fits items number number at _ _ refl there)
+    (within, found_subr_alone items number at there, subr_fits items number number at _ _ refl there)

@@ -1,0 +1,15 @@
+use Rattle.std.proofs.Common.{◌∙◌, ap, sym, subst, length, arith}
+use Rattle.std.proofs.lemmas.List.{length-append}
+use Rattle.t1_parts.specs.Items.{items_in, stretch_items, AreSingle}
+use Rattle.t1_parts.proofs.SingleLaws.{items_pushed, single_pushed}
+use Rattle.t1_parts.proofs.items.Items.push_stretch.Goals as goal
+
+pub invariant_of-self-2 : goal.invariant_of-self-2
+invariant_of-self-2 c =
+    let ss = c.self.inside.stretches.items in
+    let more = ap length (ap items_in c.in_ok-push.ensures.items ∙ items_pushed ss c.args.stretch) in
+    let both = length-append (items_in ss) (stretch_items c.args.stretch) in (
+      omega (arith, more, both, c.self.invariant.0, c.len.ensures.value, c.in-Some.ensures),
+      λ on. (let known = c.stay_single-are_single.ensures on in
+          subst AreSingle (sym c.in_ok-push.ensures.items) (single_pushed ss c.args.stretch (c.self.invariant.1 known.0) known.1)),
+    )

@@ -1,0 +1,85 @@
+//! The items that never stand among plain lines.
+
+ghost use Rattle.std.specs.Prelude.{◌≡◌, ◌++◌, filter};
+ghost use Rattle.t1_parts.specs.Items.{items_in, one_item, stands_alone, IsNextAlone};
+
+use crate::item::Item;
+use crate::len_iv::line_says;
+use crate::stretch::Stretch;
+use std::marker::Model;
+use std::slice;
+
+/// The items that are left but for the plain lines that say nothing of lenIV, one after another. Contracts see their list.
+#[derive(Debug, Drop)]
+pub struct AloneItems<'i, 'a> {
+    first: Option<&'i Item<'a>>,
+    stretches: slice::Iter<'i, Stretch<'a>>,
+}
+
+impl<'i, 'a> Model for AloneItems<'i, 'a> {
+    ghost use Rattle.std.specs.Prelude.{List, ◌++◌, filter};
+    ghost use Rattle.t1_parts.specs.declared.item.Item.{Item};
+    ghost use Rattle.t1_parts.specs.Items.{items_in, one_item, stands_alone};
+
+    ghost Value = { List Item };
+
+    ghost view = { λ left. filter stands_alone (one_item left.first ++ items_in left.stretches.rest.now) };
+}
+
+/// Whether an item never stands among plain lines.
+#[tactic(auto, unfolding(crate::specs::Items::stands_alone))]
+pub(crate) fn stands_alone(item: &Item) -> bool
+    ensures { result ≡ stands_alone item.now }
+{
+    match item {
+        Item::Plain(line) => line_says(line.as_slice()),
+        Item::Section(_before, _count, _after) => true,
+        Item::Subr(_number, _words, _closing) => true,
+        Item::Glyph(_name, _words, _closing) => true,
+    }
+}
+
+/// The next item of some stretches that never stands among plain lines.
+fn next_alone<'i, 'a>(stretches: &mut slice::Iter<'i, Stretch<'a>>) -> Option<&'i Item<'a>>
+    ensures { IsNextAlone (items_in stretches.old.rest.now) result (items_in stretches.new.rest.now) }
+{
+    while let Some(stretch) = stretches.next() {
+        if let Some(item) = stretch.alone() {
+            return Some(item);
+        }
+    }
+    None
+}
+
+impl<'i, 'a> AloneItems<'i, 'a> {
+    /// Those of an item and of some stretches.
+    pub(crate) fn among(
+        first: Option<&'i Item<'a>>,
+        stretches: slice::Iter<'i, Stretch<'a>>,
+    ) -> Self
+        ensures { result ≡ filter stands_alone (one_item first.entry ++ items_in stretches.entry.rest.now) }
+    {
+        AloneItems { first, stretches }
+    }
+}
+
+impl<'i, 'a> Iterator for AloneItems<'i, 'a> {
+    ghost use Rattle.std.specs.Iterator.{YieldsFirstRef, item_count};
+
+    type Item = &'i Item<'a>;
+
+    ghost next_gives = { YieldsFirstRef (λ left. left) };
+
+    ghost remaining = { item_count (λ left. left) };
+
+    /// The next item.
+    fn next(&mut self) -> Option<&'i Item<'a>> {
+        if let Some(item) = self.first {
+            self.first = None;
+            if stands_alone(item) {
+                return Some(item);
+            }
+        }
+        next_alone(&mut self.stretches)
+    }
+}

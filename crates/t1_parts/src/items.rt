@@ -1,0 +1,236 @@
+//! The items of a private part in memory.
+
+ghost use Rattle.std.specs.Prelude.{◌≡◌, ◌<◌, ◌≤◌, ◌^◌, ◌++◌, ◌∷◌, [], true, length, map, take, drop, slice_set, IfOk, OnOk, OnErr, IsOk, option_map};
+ghost use Rattle.std.specs.List.{insert, remove, slice_get, slice_index_or};
+ghost use Rattle.t1_parts.specs.declared.item.Item.{Item};
+ghost use Rattle.t1_parts.specs.Counts.{raised_item};
+ghost use Rattle.t1_parts.specs.Items.{items_in, stretch_items, AreSingle, StandsAloneAt};
+ghost use Rattle.t1_parts.specs.ItemRefs.{item_of};
+
+use crate::item::Item;
+use crate::item_ref::ItemRef;
+use crate::items_iter::{ItemsIter, item_before, items_between};
+use crate::stretch::Stretch;
+use crate::stretches::{
+    copied_stretches, cut_before, drop_first, insert_stretch, item_count, place_of, put_first,
+    raise_stretches, stay_single,
+};
+use std::alloc::{AllocError, Global};
+use std::marker::Model;
+
+/// The items of a private part. Plain lines that follow one another may stand together, as the bytes that were read; where
+/// none do, the item of a place is found at once. Contracts see the list of the items, with an item for each plain line.
+#[derive(Debug, Drop)]
+pub struct Items<'a> {
+    stretches: Vec<Stretch<'a>>,
+    len: usize,
+    are_single: bool,
+}
+
+impl<'a> Model for Items<'a> {
+    ghost use Rattle.std.specs.Prelude.{◌≡◌, List, length, true};
+    ghost use Rattle.t1_parts.specs.declared.item.Item.{Item};
+    ghost use Rattle.t1_parts.specs.Items.{items_in, AreSingle};
+
+    ghost Value = { List Item };
+
+    ghost view = { λ items. items_in items.stretches.items };
+
+    ghost invariant = { λ items.
+        (items.len ≡ length (items_in items.stretches.items))
+        × (items.are_single ≡ true → AreSingle items.stretches.items) };
+}
+
+impl<'a> Items<'a> {
+    /// No items.
+    pub fn new(alloc: Global) -> Self
+        ensures { result ≡ [] }
+    {
+        Items {
+            stretches: Vec::new(alloc),
+            len: 0,
+            are_single: true,
+        }
+    }
+
+    /// The items of some stretches, of which each may be known to be one item. None of them is copied.
+    pub(crate) fn of_stretches(
+        stretches: Vec<Stretch<'a>>,
+        are_single: bool,
+    ) -> Result<Items<'a>, AllocError>
+        requires { are_single ≡ true → AreSingle stretches.items }
+        ensures { IfOk result (λ items. items ≡ items_in stretches.entry.items) }
+    {
+        let Some(len) = item_count(stretches.as_slice(), are_single) else {
+            return Err(AllocError);
+        };
+        Ok(Items {
+            stretches,
+            len,
+            are_single,
+        })
+    }
+
+    /// How many items they are.
+    pub fn len(&self) -> usize
+        ensures { result ≡ length self.now }
+    {
+        self.len
+    }
+
+    /// The items, one after another.
+    pub fn iter(&self) -> ItemsIter<'_, 'a>
+        ensures items { result ≡ self.now }
+        ensures within { length self.now < 2 ^ 64 }
+    {
+        items_between(b"", self.stretches.as_slice(), b"", self.len)
+    }
+
+    /// The items before a place, and those from it on.
+    pub fn split_at(&self, at: usize) -> (ItemsIter<'_, 'a>, ItemsIter<'_, 'a>)
+        requires { at ≤ length self.now }
+        ensures front { result.0 ≡ take at self.now }
+        ensures back { result.1 ≡ drop at self.now }
+    {
+        let stretches = self.stretches.as_slice();
+        let (index, offset) = place_of(stretches, at, self.are_single);
+        let (before, from) = stretches.split_at(index);
+        if index == stretches.len() {
+            return (
+                items_between(b"", before, b"", at),
+                items_between(b"", from, b"", self.len - at),
+            );
+        }
+        let Some((front, back)) = stretches[index].cut(offset) else {
+            return (
+                items_between(b"", before, b"", at),
+                items_between(b"", from, b"", self.len - at),
+            );
+        };
+        let after = stretches.split_at(index + 1).1;
+        (
+            items_between(b"", before, front.as_bytes(), at),
+            items_between(back.as_bytes(), after, b"", self.len - at),
+        )
+    }
+
+    /// None of the items.
+    pub fn none(&self) -> ItemsIter<'_, 'a>
+        ensures { result ≡ [] }
+    {
+        items_between(b"", self.stretches.as_slice().split_at(0).0, b"", 0)
+    }
+
+    /// An item that stands elsewhere, alone.
+    pub fn one<'i>(&'i self, item: &'i Item<'a>) -> ItemsIter<'i, 'a>
+        ensures { result ≡ item.now ∷ [] }
+    {
+        item_before(item, self.stretches.as_slice().split_at(0).0)
+    }
+
+    /// A copy. What the source's own bytes hold of the items takes no memory but for their places.
+    pub fn copied(&self, alloc: Global) -> Result<Items<'a>, AllocError>
+        ensures { IfOk result (λ copy. copy ≡ self.now) }
+    {
+        let len = self.len;
+        let stretches = copied_stretches(alloc, self.stretches.as_slice())?;
+        Ok(Items {
+            stretches,
+            len,
+            are_single: self.are_single,
+        })
+    }
+
+    /// The item at a place.
+    pub fn item(&self, at: usize) -> ItemRef<'_, 'a>
+        requires { at < length self.now }
+        ensures { (d : Item) → slice_index_or self.now at d ≡ item_of result }
+    {
+        let (index, offset) = place_of(self.stretches.as_slice(), at, self.are_single);
+        let stretch = &self.stretches[index];
+        stretch.item(offset)
+    }
+
+    /// The item at a place, where there is one.
+    pub fn get(&self, at: usize) -> Option<ItemRef<'_, 'a>>
+        ensures { option_map item_of result ≡ slice_get self.now at }
+    {
+        if at < self.len() {
+            Some(self.item(at))
+        } else {
+            None
+        }
+    }
+
+    /// Adds a stretch at the end. Where memory runs out, nothing has changed.
+    pub(crate) fn push_stretch(&mut self, stretch: Stretch<'a>) -> Result<(), AllocError>
+        ensures ok { OnOk result (self.new ≡ self.old ++ stretch_items stretch.entry) }
+        ensures err { OnErr result (self.new ≡ self.old) }
+    {
+        let Some(len) = self.len.checked_add(stretch.len()) else {
+            return Err(AllocError);
+        };
+        let are_single = stay_single(self.are_single, &stretch);
+        self.stretches.push(stretch)?;
+        self.len = len;
+        self.are_single = are_single;
+        Ok(())
+    }
+
+    /// Adds an item at the end. Where memory runs out, nothing has changed.
+    pub fn push(&mut self, item: Item<'a>) -> Result<(), AllocError>
+        ensures ok { OnOk result (self.new ≡ self.old ++ item.entry ∷ []) }
+        ensures err { OnErr result (self.new ≡ self.old) }
+    {
+        self.push_stretch(Stretch::One(item))
+    }
+
+    /// Puts an item in at a place. Where memory runs out, nothing has changed.
+    pub fn insert(&mut self, at: usize, item: Item<'a>) -> Result<(), AllocError>
+        requires { at ≤ length self.old }
+        ensures ok { OnOk result (self.new ≡ insert self.old at item.entry) }
+        ensures err { OnErr result (self.new ≡ self.old) }
+    {
+        let Some(len) = self.len.checked_add(1) else {
+            return Err(AllocError);
+        };
+        let index = cut_before(&mut self.stretches, at, self.are_single)?;
+        insert_stretch(&mut self.stretches, index, Stretch::One(item))?;
+        self.len = len;
+        Ok(())
+    }
+
+    /// Takes the item at a place out. Only a plain line that says nothing of lenIV may take memory; where it runs out, nothing has
+    /// changed.
+    pub fn take_out(&mut self, at: usize) -> Result<(), AllocError>
+        requires { at < length self.old }
+        ensures ok { OnOk result (self.new ≡ remove self.old at) }
+        ensures err { OnErr result (self.new ≡ self.old) }
+        ensures still { StandsAloneAt self.old at → IsOk result }
+    {
+        let index = cut_before(&mut self.stretches, at, self.are_single)?;
+        drop_first(&mut self.stretches, index);
+        self.len -= 1;
+        Ok(())
+    }
+
+    /// Puts an item in the place of another. Only in the place of a plain line that says nothing of lenIV it may take memory; where
+    /// it runs out, nothing has changed.
+    pub fn put(&mut self, at: usize, item: Item<'a>) -> Result<(), AllocError>
+        requires { at < length self.old }
+        ensures ok { OnOk result (self.new ≡ slice_set self.old at item.entry) }
+        ensures err { OnErr result (self.new ≡ self.old) }
+        ensures still { StandsAloneAt self.old at → IsOk result }
+    {
+        let index = cut_before(&mut self.stretches, at, self.are_single)?;
+        put_first(&mut self.stretches, index, item)?;
+        Ok(())
+    }
+
+    /// Raises the counts of the section lines to what is needed, in their places.
+    pub(crate) fn raise_counts(&mut self, subrs: u64, glyphs: u64)
+        ensures { self.new ≡ map (raised_item subrs glyphs) self.old }
+    {
+        raise_stretches(&mut self.stretches, subrs, glyphs);
+    }
+}

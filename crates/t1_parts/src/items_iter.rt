@@ -1,0 +1,153 @@
+//! The items that are left, one after another.
+
+ghost use Rattle.std.specs.Prelude.{◌≡◌, ◌++◌, ◌∷◌, [], false, filter, length};
+ghost use Rattle.t1_text.specs.Lines.{lines};
+ghost use Rattle.t1_parts.specs.Items.{items_in, line_items, lines_say, stands_alone};
+
+use crate::alone_items::AloneItems;
+use crate::item::Item;
+use crate::item_ref::ItemRef;
+use crate::plain_lines::next_line;
+use crate::stretch::Stretch;
+use std::marker::Model;
+use std::slice;
+
+/// The items that are left, one after another: an item, and those of some lines, of some stretches and of further lines.
+/// Contracts see their list.
+#[derive(Debug, Drop)]
+pub struct ItemsIter<'i, 'a> {
+    first: Option<&'i Item<'a>>,
+    front: &'i [u8],
+    stretches: slice::Iter<'i, Stretch<'a>>,
+    back: &'i [u8],
+    len: usize,
+}
+
+impl<'i, 'a> Model for ItemsIter<'i, 'a> {
+    ghost use Rattle.std.specs.Prelude.{◌≡◌, List, ◌++◌, false, length};
+    ghost use Rattle.t1_text.specs.Lines.{lines};
+    ghost use Rattle.t1_parts.specs.declared.item.Item.{Item};
+    ghost use Rattle.t1_parts.specs.Items.{items_in, line_items, lines_say, one_item};
+
+    ghost Value = { List Item };
+
+    ghost view = { λ left. one_item left.first ++ (line_items (lines left.front.now) ++ (items_in left.stretches.rest.now ++ line_items (lines left.back.now))) };
+
+    ghost invariant = { λ left.
+        (left.len ≡ length (one_item left.first ++ (line_items (lines left.front.now) ++ (items_in left.stretches.rest.now ++ line_items (lines left.back.now)))))
+        × (lines_say (lines left.front.now) ≡ false)
+        × (lines_say (lines left.back.now) ≡ false) };
+}
+
+impl<'i, 'a> Iterator for ItemsIter<'i, 'a> {
+    ghost use Rattle.std.specs.Iterator.{YieldsFirstBy, item_count};
+    ghost use Rattle.t1_parts.specs.ItemRefs.{item_of};
+
+    type Item = ItemRef<'i, 'a>;
+
+    ghost next_gives = { YieldsFirstBy item_of (λ left. left) };
+
+    ghost remaining = { item_count (λ left. left) };
+
+    /// The next item.
+    fn next(&mut self) -> Option<ItemRef<'i, 'a>> {
+        if let Some(item) = self.first {
+            self.first = None;
+            self.len -= 1;
+            return Some(ItemRef::Item(item));
+        }
+        let front = self.front;
+        if !front.is_empty() {
+            let (line, after) = next_line(front);
+            self.front = after;
+            self.len -= 1;
+            return Some(ItemRef::Line(line));
+        }
+        let Some(stretch) = self.stretches.next() else {
+            let back = self.back;
+            if back.is_empty() {
+                return None;
+            }
+            let (line, after) = next_line(back);
+            self.back = after;
+            self.len -= 1;
+            return Some(ItemRef::Line(line));
+        };
+        match stretch {
+            Stretch::One(item) => {
+                self.len -= 1;
+                Some(ItemRef::Item(item))
+            }
+            Stretch::Lines(plain) => {
+                let (line, after) = next_line(plain.as_bytes());
+                self.front = after;
+                self.len -= 1;
+                Some(ItemRef::Line(line))
+            }
+        }
+    }
+}
+
+impl<'i, 'a> ItemsIter<'i, 'a> {
+    /// How many items are left.
+    pub fn len(&self) -> usize
+        ensures { result ≡ length self.now }
+    {
+        self.len
+    }
+
+    /// The items but for the plain lines that say nothing of lenIV. Lines that stand together are passed over as a whole.
+    pub fn alone(self) -> AloneItems<'i, 'a>
+        ensures { result ≡ filter stands_alone self.entry }
+    {
+        AloneItems::among(self.first, self.stretches)
+    }
+
+    /// The same items again. It takes no memory.
+    pub fn again(&self) -> ItemsIter<'i, 'a>
+        ensures { result ≡ self.now }
+    {
+        ItemsIter {
+            first: self.first,
+            front: self.front,
+            stretches: self.stretches.as_slice().iter(),
+            back: self.back,
+            len: self.len,
+        }
+    }
+}
+
+/// The items of some lines, some stretches, and further lines, which are so many.
+pub(crate) fn items_between<'i, 'a>(
+    front: &'i [u8],
+    stretches: &'i [Stretch<'a>],
+    back: &'i [u8],
+    len: usize,
+) -> ItemsIter<'i, 'a>
+    requires front { lines_say (lines front.now) ≡ false }
+    requires back { lines_say (lines back.now) ≡ false }
+    requires len { len ≡ length (line_items (lines front.now) ++ (items_in stretches.now ++ line_items (lines back.now))) }
+    ensures { result ≡ line_items (lines front.now) ++ (items_in stretches.now ++ line_items (lines back.now)) }
+{
+    ItemsIter {
+        first: None,
+        front,
+        stretches: stretches.iter(),
+        back,
+        len,
+    }
+}
+
+/// An item that stands elsewhere, alone, before none of some stretches.
+pub(crate) fn item_before<'i, 'a>(item: &'i Item<'a>, none: &'i [Stretch<'a>]) -> ItemsIter<'i, 'a>
+    requires { length none.now ≡ 0 }
+    ensures { result ≡ item.now ∷ [] }
+{
+    ItemsIter {
+        first: Some(item),
+        front: b"",
+        stretches: none.iter(),
+        back: b"",
+        len: 1,
+    }
+}

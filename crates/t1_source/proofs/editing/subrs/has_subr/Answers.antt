@@ -1,0 +1,12 @@
+use Rattle.std.proofs.Common.{◌∙◌, ap, filter, refl, rules, tests}
+use Rattle.std.proofs.lemmas.Iterator.Consumers.{YieldsList-from_first}
+use Rattle.std.proofs.lemmas.Iterator.Search.{any_from_yields_List}
+use Rattle.t1_parts.specs.Entries.{is_subr}
+use Rattle.t1_parts.specs.Items.{stands_alone}
+use Rattle.t1_source.proofs.AloneSearchLaws.{any_alone}
+use Rattle.t1_source.proofs.editing.subrs.has_subr.Goals as goal
+
+pub returns : goal.returns
+returns c =
+    any_from_yields_List (is_subr c.args.number) _ _ c.any.result c.any.ensures.ran (YieldsList-from_first (λ item. item.now) (λ left. left) _ (c.alone-alone.ensures ∙ ap (filter stands_alone) c.iter.ensures.items)) (λ x b q k. search (rules, tests))
+    ∙ any_alone (is_subr c.args.number) (λ l. refl) c.args.items.now
