@@ -2,7 +2,10 @@
 
 use std::alloc::Global;
 use std::test::Fail;
-use t1_frac::{Frac, OwnedWords, SourceText, Words, next_word, number_word};
+use t1_frac::{
+    Frac, OwnedWords, SourceText, Words, leading_number, leading_short_number, next_word,
+    number_word,
+};
 
 fn ratio(num: i32, den: i32) -> Option<Frac> {
     Frac::whole(num).div(&Frac::whole(den)).ok()
@@ -98,4 +101,19 @@ fn puts_words_together(rt: HostRuntime) -> Result<(), Fail> {
     assert!(rt; are_together);
     assert!(rt; begins(&Words::of(b"\n12 hsbw"), b"12"));
     Ok(())
+}
+
+#[test]
+fn short_number_at_the_front(rt: HostRuntime) {
+    assert_eq!(rt; leading_short_number(b"127 "), Some((127, 3)));
+}
+
+#[test]
+fn long_number_is_no_short_one(rt: HostRuntime) {
+    assert_eq!(rt; leading_short_number(b"1270 "), None);
+}
+
+#[test]
+fn number_at_the_front(rt: HostRuntime) {
+    assert_eq!(rt; leading_number(b"65535 rlineto"), (65535, 5));
 }

@@ -15,6 +15,8 @@ mod font;
 #[cfg(test)]
 mod frac;
 #[cfg(test)]
+mod items;
+#[cfg(test)]
 mod pairs;
 #[cfg(test)]
 mod run;

@@ -3,6 +3,7 @@ use std::alloc::Global;
 use std::test::Fail;
 use t1_frac::{Bytes, SourceText, Words};
 use t1_pairs::{Pairs, read_pairs};
+use t1_parts::ItemRef;
 use t1_source::{Cause, Edit, Item, Rule, Source, read_source};
 
 const SMALL: &[u8] = b"%!
@@ -128,21 +129,36 @@ fn keeps_tail(rt: HostRuntime) -> Result<(), Fail> {
 }
 
 #[test]
-fn reports_items(rt: HostRuntime) -> Result<(), Fail> {
+fn reports_how_many_items_there_are(rt: HostRuntime) -> Result<(), Fail> {
+    let source = small(rt.alloc())?;
+    assert_eq!(rt; source.items().len(), 6);
+    Ok(())
+}
+
+#[test]
+fn reports_a_section_line(rt: HostRuntime) -> Result<(), Fail> {
     let source = small(rt.alloc())?;
     assert!(rt;
         matches!(
-            source.items(),
-            [
-                Item::Plain(_),
-                Item::Plain(_),
-                Item::Section(_, 1, _),
-                Item::Glyph(_, _, _),
-                Item::Plain(_),
-                Item::Plain(_),
-            ]
+            source.items().get(2),
+            Some(ItemRef::Item(Item::Section(_, 1, _)))
         )
     );
+    Ok(())
+}
+
+#[test]
+fn reports_a_plain_line(rt: HostRuntime) -> Result<(), Fail> {
+    let source = small(rt.alloc())?;
+    let line = source.items().get(4).and_then(|item| item.plain_line());
+    assert_eq!(rt; line, Some(b"end".as_slice()));
+    Ok(())
+}
+
+#[test]
+fn reports_no_item_past_the_last(rt: HostRuntime) -> Result<(), Fail> {
+    let source = small(rt.alloc())?;
+    assert!(rt; source.items().get(6).is_none());
     Ok(())
 }
 
