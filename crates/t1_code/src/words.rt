@@ -8,7 +8,7 @@ ghost use Rattle.t1_code.specs.declared.command.Command.TheVariants as commands_
 ghost use Rattle.t1_frac.specs.Numbers.{signed, is_number_word};
 
 use crate::body::Body;
-use crate::command::Command;
+use crate::command::{Command, frequent};
 use crate::first_word::{after_word, past_end};
 use std::alloc::Global;
 use t1_frac::{
@@ -109,6 +109,18 @@ fn after_div(rest: &[u8]) -> Option<&[u8]>
     Some(after)
 }
 
+/// The command that a text begins with, where it is one that most fonts have many of, and the bytes after its word.
+#[inline(always)]
+fn frequent_command(rest: &[u8]) -> Option<(Command, &[u8])>
+    requires { rest.now ≡ trimmed_front rest.now }
+    ensures { IfSome result (λ found. (commands_of_words (words rest.now) ≡ command_then (Ok found.0) (commands_of_words (words found.1.now))) × (length found.1.now < length rest.now)) }
+{
+    let Some((command, after)) = frequent(rest) else {
+        return None;
+    };
+    Some((command, after))
+}
+
 /// What the first word of a text says, and the bytes after the word; nothing where the text has no word. The text begins with
 /// no blank. It stands apart from what tells short numbers, which most words are.
 #[inline(never)]
@@ -184,6 +196,11 @@ fn read_words(read: &mut Vec<Command>, text: &[u8]) -> Result<(), Refusal>
         }
         if let Some(after) = after_div(first) {
             read.push(Command::Div)?;
+            rest = after;
+            continue;
+        }
+        if let Some((command, after)) = frequent_command(first) {
+            read.push(command)?;
             rest = after;
             continue;
         }

@@ -23,6 +23,16 @@ words-preserved-in-Some-after_div c =
       front = front_stays _ _ _ _ pushed c.words.invariant.front;
     }
 
+pub words-preserved-in-Some-frequent_command : goal.words-preserved-in-Some-frequent_command
+words-preserved-in-Some-frequent_command c =
+    let command = c.in-Some-frequent_command.command in
+    let pushed : c.push-in-Some-frequent_command.new.self.items ≡ c.words.read.items ++ command ∷ [] = search rules in
+    let step : commands_of_words (words c.words.rest.now) ≡ command_then (Ok command) (commands_of_words (words c.in-Some-frequent_command.after.now)) = search rules in
+    record {
+      read = read_more _ _ _ _ _ _ pushed step c.words.invariant.read;
+      front = front_stays _ _ _ _ pushed c.words.invariant.front;
+    }
+
 pub words-preserved : goal.words-preserved
 words-preserved c =
     let pushed : c.push-in-words.new.self.items ≡ c.words.read.items ++ c.in_ok-command.field-0 ∷ [] = search rules in
