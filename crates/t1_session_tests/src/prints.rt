@@ -1,11 +1,11 @@
 //! Every print of a session after a kern.
-use crate::runs::{apply, demo, uses};
 use std::alloc::Global;
 use std::test::Fail;
 use t1_code::Counted;
 use t1_frac::Bytes;
 use t1_session::Session;
 use t1_source::Edit;
+use t1_test_calls::{apply, demo, uses};
 use t1_test_fonts::DEMO_METRICS;
 
 /// A session of the demo font after a kern.

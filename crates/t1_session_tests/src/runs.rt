@@ -1,47 +1,11 @@
 //! How many runs the edits of a session make, on the demo font. The counts are those of an edit's dependents, by hand.
 use std::alloc::Global;
 use std::test::Fail;
-use t1_code::Counted;
 use t1_frac::Bytes;
-use t1_pairs::read_pairs;
 use t1_session::Session;
-use t1_source::{Cause, Edit, Rule, read_source};
-use t1_test_fonts::DEMO;
-
-/// A session of the demo font.
-pub(super) fn demo(alloc: Global) -> Result<Session<'static>, Fail> {
-    let source = read_source(alloc, DEMO.as_bytes())?;
-    Ok(Session::open(alloc, source, read_pairs(alloc, b"")?)?)
-}
-
-/// Applies an edit. Tests make the calls of a session by functions without contracts, since none asks for one, and proofs are
-/// short without them.
-pub(super) fn apply(session: &mut Session, edit: Edit) -> Result<(), Cause> {
-    session.apply(edit)
-}
-
-/// How many runs were made.
-pub(super) fn runs(session: &Session) -> u64 {
-    session.runs()
-}
-
-/// Other words for a glyph.
-pub(super) fn glyph_edit(alloc: Global, name: &[u8], body: &[u8]) -> Result<Edit, Fail> {
-    let name = Bytes::copied(alloc, name)?;
-    Ok(Edit::ReplaceGlyph(name, Bytes::copied(alloc, body)?))
-}
-
-/// Other words for a Subr.
-pub(super) fn subr_edit(alloc: Global, number: i64, body: &[u8]) -> Result<Edit, Fail> {
-    Ok(Edit::ReplaceSubr(number, Bytes::copied(alloc, body)?))
-}
-
-/// The usage table of a session.
-pub(super) fn uses(alloc: Global, session: &Session) -> Result<Vec<u8>, Fail> {
-    let mut out = Counted::new(Vec::new(alloc));
-    session.print_uses(&mut out)?;
-    Ok(out.into_inner())
-}
+use t1_source::{Cause, Edit, Rule};
+use t1_test_calls::{apply, demo, runs, uses};
+use t1_test_edits::{glyph_edit, subr_edit};
 
 /// The demo font after its glyphs A and V enter Subr 4, then Subr 4 is another.
 fn edited(alloc: Global) -> Result<(Session<'static>, [u64; 4]), Fail> {

@@ -1,11 +1,12 @@
-//! How many runs the commits of batches make, and edits under nested accents, on the demo font. The counts are those of the
-//! dependents of all edits together, by hand.
-use crate::runs::{apply, demo, glyph_edit, runs, subr_edit, uses};
+//! What the commits of batches leave and how many runs they make, on the demo font, and when a batch is open. The counts are
+//! those of the dependents of all edits together, by hand.
 use std::alloc::Global;
 use std::test::Fail;
-use t1_frac::{Bytes, Code, Place};
+use t1_frac::Bytes;
 use t1_session::Session;
 use t1_source::{Cause, Edit, Rule};
+use t1_test_calls::{apply, demo, runs, uses};
+use t1_test_edits::{new_glyph, subr_edit};
 
 /// Begins a batch.
 fn begin(session: &mut Session) -> Result<(), Cause> {
@@ -20,12 +21,6 @@ fn commit(session: &mut Session) -> Result<(), Cause> {
 /// Aborts a batch.
 fn abort(session: &mut Session) -> Result<(), Cause> {
     session.abort()
-}
-
-/// Another glyph.
-fn new_glyph(alloc: Global, name: &[u8], body: &[u8]) -> Result<Edit, Fail> {
-    let name = Bytes::copied(alloc, name)?;
-    Ok(Edit::AddGlyph(name, Bytes::copied(alloc, body)?))
 }
 
 /// A glyph less.
@@ -96,30 +91,6 @@ fn a_refused_commit_leaves_all_as_before(rt: HostRuntime) -> Result<(), Fail> {
     Ok(())
 }
 
-/// The counts after a composite on accents is added, another stands on it, and the Subr under all of them changes.
-fn nested(alloc: Global) -> Result<[u64; 3], Fail> {
-    let mut session = demo(alloc)?;
-    apply(
-        &mut session,
-        new_glyph(alloc, b"dieresis", b"93 333 hsbw 93 50 0 194 194 seac")?,
-    )?;
-    let added = runs(&session);
-    apply(
-        &mut session,
-        glyph_edit(alloc, b"Aacute", b"10 600 hsbw 93 170 214 65 200 seac")?,
-    )?;
-    let replaced = runs(&session);
-    apply(&mut session, subr_edit(alloc, 4, b"50 50 rlineto return")?)?;
-    Ok([added, replaced, runs(&session)])
-}
-
-#[test]
-fn an_edit_runs_composites_on_composites(rt: HostRuntime) -> Result<(), Fail> {
-    let counts = nested(rt.alloc())?;
-    assert!(rt; counts == [7, 8, 11]);
-    Ok(())
-}
-
 /// The rule that a call broke, where it broke one, and whether a batch is open after it.
 fn turn(session: &Session, answer: &Result<(), Cause>) -> (Option<Rule>, bool) {
     match answer {
@@ -155,72 +126,5 @@ fn a_batch_is_open_until_it_is_closed(rt: HostRuntime) -> Result<(), Fail> {
         (Some(Rule::E12), false),
     ];
     assert!(rt; turns == expected);
-    Ok(())
-}
-
-/// A composite on space, one on that, and so on: the bases are the codes of space, a, b and c.
-const FOUR_DEEP: [(&[u8], &[u8]); 4] = [
-    (b"a", b"0 100 hsbw 0 0 0 32 32 seac"),
-    (b"b", b"0 100 hsbw 0 0 0 97 32 seac"),
-    (b"c", b"0 100 hsbw 0 0 0 98 32 seac"),
-    (b"d", b"0 100 hsbw 0 0 0 99 32 seac"),
-];
-
-/// A session of the demo font with these glyphs.
-fn four_deep(alloc: Global) -> Result<Session<'static>, Fail> {
-    let mut session = demo(alloc)?;
-    for (name, body) in &FOUR_DEEP {
-        apply(&mut session, new_glyph(alloc, name, body)?)?;
-    }
-    Ok(session)
-}
-
-/// How many runs an edit of space makes under four composites.
-fn runs_four_deep(alloc: Global) -> Result<u64, Fail> {
-    let mut session = four_deep(alloc)?;
-    let before = runs(&session);
-    apply(
-        &mut session,
-        glyph_edit(alloc, b"space", b"0 250 hsbw 10 hlineto endchar")?,
-    )?;
-    Ok(runs(&session).saturating_sub(before))
-}
-
-#[test]
-fn an_edit_runs_composites_four_levels_up(rt: HostRuntime) -> Result<(), Fail> {
-    let count = runs_four_deep(rt.alloc())?;
-    assert_eq!(rt; count, 5);
-    Ok(())
-}
-
-/// Whether a glyph was refused since composites would stand too deep.
-fn is_too_deep(answer: &Result<(), Cause>, name: &[u8]) -> bool {
-    let Err(Cause::Fault(fault)) = answer else {
-        return false;
-    };
-    match &fault.place {
-        Place::Glyph(glyph) => fault.code == Code::F46 && glyph.as_slice() == name,
-        _ => false,
-    }
-}
-
-/// Whether a fifth level is refused, above the four and below them.
-fn refuses_a_fifth(alloc: Global) -> Result<[bool; 2], Fail> {
-    let mut session = four_deep(alloc)?;
-    let above = apply(
-        &mut session,
-        new_glyph(alloc, b"e", b"0 100 hsbw 0 0 0 100 32 seac")?,
-    );
-    let below = apply(
-        &mut session,
-        glyph_edit(alloc, b"space", b"0 250 hsbw 0 0 0 97 97 seac")?,
-    );
-    Ok([is_too_deep(&above, b"e"), is_too_deep(&below, b"space")])
-}
-
-#[test]
-fn composites_stand_four_deep_at_most(rt: HostRuntime) -> Result<(), Fail> {
-    let refused = refuses_a_fifth(rt.alloc())?;
-    assert!(rt; refused == [true, true]);
     Ok(())
 }
