@@ -4,7 +4,6 @@ ghost use Rattle.t1_source.specs.WellFormed.{IsWellFormed};
 
 use std::alloc::Global;
 use std::test::Fail;
-use t1_frac::{Bytes, Fault, Place, Refusal};
 use t1_source::laws::read_source_is_well_formed;
 use t1_source::{Source, read_source};
 
@@ -14,24 +13,4 @@ pub(crate) fn read(alloc: Global, text: &str) -> Result<Source<'_>, Fail>
 {
     read_source_is_well_formed();
     Ok(read_source(alloc, text.as_bytes())?)
-}
-
-/// The bytes of a text.
-pub(crate) fn bytes(alloc: Global, text: &str) -> Result<Bytes, Fail> {
-    Ok(Bytes::copied(alloc, text.as_bytes())?)
-}
-
-/// Whether a call was refused for a fault at Subr 4.
-pub(crate) fn is_refused_at_4<T: Drop>(answer: Result<T, Refusal>) -> bool {
-    match answer {
-        Err(
-            Refusal::Fault(
-                Fault {
-                    place: Place::Subr(number),
-                    ..
-                },
-            ),
-        ) => number == 4,
-        _ => false,
-    }
 }

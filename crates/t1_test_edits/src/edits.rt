@@ -4,6 +4,11 @@ use std::test::Fail;
 use t1_frac::Bytes;
 use t1_source::Edit;
 
+/// The bytes of a text.
+pub fn bytes(alloc: Global, text: &str) -> Result<Bytes, Fail> {
+    Ok(Bytes::copied(alloc, text.as_bytes())?)
+}
+
 /// Other words for a glyph.
 pub fn glyph_edit(alloc: Global, name: &[u8], body: &[u8]) -> Result<Edit, Fail> {
     let name = Bytes::copied(alloc, name)?;

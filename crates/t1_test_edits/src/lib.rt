@@ -1,6 +1,6 @@
-//! Edits as the tests of several crates make them. These are helpers of tests, without contracts.
+//! Edits, and the bytes of their parts, as the tests of several crates make them. These are helpers of tests, without contracts.
 #![tactic(auto)]
 
 mod edits;
 
-pub use edits::{glyph_edit, new_glyph, subr_edit};
+pub use edits::{bytes, glyph_edit, new_glyph, subr_edit};

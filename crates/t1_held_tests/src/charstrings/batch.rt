@@ -1,9 +1,9 @@
 //! Fresh charstrings of a batch of edits.
 
 use super::*;
-use crate::common::bytes;
 use t1_pairs::read_pairs;
 use t1_source::{Edit, Source};
+use t1_test_edits::bytes;
 
 /// The font after three edits: A is replaced, B is added, and space is removed.
 fn edited(alloc: Global) -> Result<Source<'static>, Fail> {

@@ -1,7 +1,7 @@
 //! Charstrings and the length of the private text, held under edits.
 
 use super::*;
-use crate::common::bytes;
+use t1_test_edits::bytes;
 
 /// The charstring of the small font's glyph without leading bytes.
 const BARE_SPACE: [u8; 5] = [0x9B, 0x23, 0xB0, 0xBB, 0x08];

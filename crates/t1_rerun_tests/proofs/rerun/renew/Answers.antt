@@ -1,7 +1,7 @@
 use Rattle.t1_rerun.specs.Changing.{MayBePrepared}
 use Rattle.t1_font.specs.Glyphs.{glyph_names}
 use Rattle.t1_rerun.proofs.ChangedBodies.{entry-changed}
-use Rattle.t1_held_tests.proofs.rerun.renew.Goals as goal
+use Rattle.t1_rerun_tests.proofs.rerun.renew.Goals as goal
 
 pub prepare_changes-requires : goal.prepare_changes-requires
 prepare_changes-requires c =

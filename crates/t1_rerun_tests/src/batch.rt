@@ -1,5 +1,5 @@
 //! Batches on the demo font, with memory that doesn't run out.
-use crate::common::{bytes, is_refused_at_4};
+use crate::common::is_refused_at_4;
 use std::alloc::Global;
 use std::test::Fail;
 use t1_batch::{Batch, batch_changes};
@@ -8,6 +8,7 @@ use t1_code::Body;
 use t1_pairs::read_pairs;
 use t1_rerun::EntryChange;
 use t1_source::{Cause, Edit, Rule, read_source};
+use t1_test_edits::bytes;
 use t1_test_fonts::DEMO;
 
 fn put_subr_4(alloc: Global, body: &str) -> Result<Edit, Fail> {
