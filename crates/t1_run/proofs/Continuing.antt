@@ -16,7 +16,7 @@ use Rattle.t1_run.specs.State.{State, initial}
 use Rattle.t1_run.specs.Step.{Next, Call, Back, End, Compose, Fault}
 use Rattle.t1_run.specs.Words.{step}
 use Rattle.t1_run.specs.Machine.{RefusesStep, refusal_by}
-use Rattle.t1_run.specs.Continuing.{Continues, resume}
+use Rattle.t1_run.specs.Continuing.{Continues, Meets, resume}
 use Rattle.t1_run.specs.Run.{FontBodies, Key, Subr, Progress, reached, Completed, Failed, go_on, act, words, call_within, called, too_deep, composed, composite_of, asking_parts, encoded, runs, entering, body_stop, drawing_of, outcome_of}
 
 resume-completed : (m : FontBodies) (levels : ℕ) (waiting : List (List Command)) (composite : Option Composite) (p : Progress)
@@ -194,3 +194,10 @@ pub refused-parts : {m : FontBodies} {body cs : List Command} {waiting : List (L
     → Continues m body (c ∷ cs) waiting s → step c s ≡ Compose a s' → Refuses refusal (reported_at Nowhere (composite_of m.glyphs a))
     → Refuses refusal (reported_at Nowhere (outcome_of (body_stop m body)))
 refused-parts {m = m} {a = a} refusal h e refused = refused_at h e (composite_of m.glyphs a) refl refusal refused
+
+-- ---- the run has come to a command that is refused
+
+pub meets : {m : FontBodies} {body others rest : List Command} {waiting : List (List Command)} {s : State} {c : Command} (halt : Halt)
+    → Continues m body others waiting s → others ≡ c ∷ rest → RefusesStep halt (step c s) → Meets m body waiting (refusal_by halt)
+meets {rest = rest} {s = s} {c = c} halt h e refused =
+    record { command = c; before = s; rest = rest; here = at_rest h e; halt = halt; by = refl; is = refused }
