@@ -1,8 +1,10 @@
 -- Numbers that are pushed one after another are steps of a run.
 use Rattle.std.proofs.Common.{◌≡◌, ℕ, zero, suc, ◌+◌, ◌-◌, ◌<◌, ◌≤◌, ℤ, List, [], ◌∷◌, ◌++◌, length, take, drop, refl, sym, ◌∙◌, ap, arith, subst, append_assoc, slice_set, false, nat_lt, length-append}
 use Rattle.std.proofs.lemmas.List.{append-nil, drop-drop, take_more_set}
+use Rattle.std.proofs.lemmas.List.Sums.{take_while-cons}
 use Rattle.std.proofs.lemmas.Bool.{lt-leb}
 use Rattle.std.proofs.Math.Seq.{drop-length}
+use Rattle.std.specs.List.{filter_map}
 use Rattle.t1_frac.specs.Fraction.{Fraction, whole}
 use Rattle.t1_frac.specs.declared.fault.Code.TheVariants.{F30, F47}
 use Rattle.t1_code.specs.declared.command.Command.{Command}
@@ -13,23 +15,33 @@ use Rattle.t1_run.specs.Step.{Next, push, refuse, unless_fault}
 use Rattle.t1_run.specs.Words.{execute, step}
 use Rattle.t1_run.specs.Run.{FontBodies}
 use Rattle.t1_run.specs.Continuing.{Continues}
-use Rattle.t1_run.specs.Pushing.{numbers_at_front}
+use Rattle.t1_run.specs.Pushing.{value_of, is_number, numbers_at_front}
 use Rattle.t1_run.proofs.Continuing.{Continues-next}
 
 -- ---- the numbers at the front
 
+front_number : (n : ℕ) (k : ℤ) (commands : List Command) → numbers_at_front (suc n) (Num k ∷ commands) ≡ whole k ∷ numbers_at_front n commands
+unfolding numbers_at_front
+front_number n k commands = ap (λ cs. take (suc n) (filter_map value_of cs)) (take_while-cons is_number (Num k) commands)
+
 pub front_step : (n : ℕ) (k : ℤ) (commands : List Command) → 0 < n → numbers_at_front n (Num k ∷ commands) ≡ whole k ∷ numbers_at_front (n - 1) commands
 front_step zero k commands h = absurd (omega (arith, h))
-front_step (suc n) k commands h = let e : n ≡ suc n - 1 = omega arith in ap (λ m. whole k ∷ numbers_at_front m commands) e
+front_step (suc n) k commands h = let e : n ≡ suc n - 1 = omega arith in front_number n k commands ∙ ap (λ m. whole k ∷ numbers_at_front m commands) e
+
+front_zero : (commands : List Command) → numbers_at_front 0 commands ≡ []
+unfolding numbers_at_front
+front_zero commands = refl
 
 pub front_none : (n : ℕ) → numbers_at_front n [] ≡ []
+unfolding numbers_at_front
 front_none zero = refl
 front_none (suc n) = refl
 
 pub front_past : (n : ℕ) (commands : List Command) → n ≡ 0 → numbers_at_front n commands ≡ []
-front_past n commands e = ap (λ m. numbers_at_front m commands) e
+front_past n commands e = ap (λ m. numbers_at_front m commands) e ∙ front_zero commands
 
 pub front_other : (n : ℕ) (c : Command) (commands : List Command) → ((k : ℤ) → c ≡ Num k → ⊥) → numbers_at_front n (c ∷ commands) ≡ []
+unfolding numbers_at_front
 front_other zero c commands h = refl
 front_other (suc n) (Num k) commands h = absurd (h k refl)
 front_other (suc n) _ commands h = refl
@@ -103,13 +115,15 @@ regrouped m own commands waiting s x xs h =
 pub numbers_go : (most : ℕ) (m : FontBodies) (own commands : List Command) (waiting : List (List Command)) (s : State) → most ≤ 100000 - s.steps → most ≤ 24 - length s.stack
     → Continues m own commands waiting s
     → Continues m own (drop (length (numbers_at_front most commands)) commands) waiting (record s { stack = s.stack ++ numbers_at_front most commands; steps = s.steps + length (numbers_at_front most commands) })
+unfolding numbers_at_front
 numbers_go zero m own commands waiting s few room h = nothing_more m own commands waiting s h
 numbers_go (suc n) m own [] waiting s few room h = nothing_more m own [] waiting s h
 numbers_go (suc n) m own (Num k ∷ commands) waiting s few room h =
     let next : State = record s { stack = s.stack ++ whole k ∷ []; steps = s.steps + 1 } in
     let size = length-append s.stack (whole k ∷ []) in
     let later = numbers_go n m own commands waiting next (omega (arith, few)) (omega (arith, room, size)) (Continues-next h (number_step k s (omega (arith, few)) (omega (arith, room)))) in
-    regrouped m own _ waiting s (whole k) (numbers_at_front n commands) later
+    subst (λ xs. Continues m own (drop (length xs) (Num k ∷ commands)) waiting (record s { stack = s.stack ++ xs; steps = s.steps + length xs })) (sym (front_number n k commands))
+    (regrouped m own _ waiting s (whole k) (numbers_at_front n commands) later)
 numbers_go (suc n) m own (_ ∷ commands) waiting s few room h = nothing_more m own _ waiting s h
 
 pub pushed_go : (most count : ℕ) (m : FontBodies) (own commands rest : List Command) (waiting : List (List Command)) (s : State) (stack : List Fraction) → most ≤ 100000 - s.steps

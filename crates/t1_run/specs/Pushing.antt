@@ -1,12 +1,20 @@
 -- Numbers that are pushed one after another.
-use Rattle.std.specs.Prelude.{ℕ, zero, suc, List, [], ◌∷◌}
+use Rattle.std.specs.Prelude.{ℕ, Bool, List, take, Option, Some, None}
+use Rattle.std.specs.List.{take_while, filter_map}
+use Rattle.std.specs.Option.{is_some}
 use Rattle.t1_frac.specs.Fraction.{Fraction, whole}
 use Rattle.t1_code.specs.declared.command.Command.{Command}
 use Rattle.t1_code.specs.declared.command.Command.TheVariants.{Num}
 
--- profile: the numbers at the front of some commands, at most so many
-abbrev pub numbers_at_front : ℕ → List Command → List Fraction
-numbers_at_front zero commands = []
-numbers_at_front (suc n) [] = []
-numbers_at_front (suc n) (Num k ∷ commands) = whole k ∷ numbers_at_front n commands
-numbers_at_front (suc n) (_ ∷ commands) = []
+-- profile: the value of a number
+abbrev pub value_of : Command → Option Fraction
+value_of (Num k) = Some (whole k)
+value_of _ = None
+
+-- profile: a number, which is pushed
+abbrev pub is_number : Command → Bool
+is_number c = is_some (value_of c)
+
+-- profile: the numbers that some commands begin with, at most so many
+unfoldable pub numbers_at_front : ℕ → List Command → List Fraction
+numbers_at_front most commands = take most (filter_map value_of (take_while is_number commands))

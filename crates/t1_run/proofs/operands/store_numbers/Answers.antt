@@ -1,12 +1,19 @@
 use Rattle.std.proofs.Common.{rules, ◌≡◌, ◌∙◌, sym, ◌∷◌, [], ◌+◌, ◌-◌, ◌<◌, length, ap, arith}
+use Rattle.std.proofs.lemmas.List.{nil_from_length}
 use Rattle.t1_frac.specs.Fraction.{whole}
 use Rattle.t1_run.specs.Pushing.{numbers_at_front}
-use Rattle.t1_run.proofs.Pushing.{front_none, front_other, front_left, stored_end, counted_end, stored_more, counted_more, rest_more}
+use Rattle.t1_run.proofs.Pushing.{front_none, front_past, front_other, front_left, stored_end, counted_end, stored_more, counted_more, rest_more}
 use Rattle.t1_run.proofs.operands.store_numbers.Goals as goal
+
+pub returns-in_default-clause-count : goal.returns-in_default-clause-count
+returns-in_default-clause-count c =
+    let none : c.loop-count.rest.now ≡ [] = nil_from_length _ c.in_default.ensures.cases in
+    let n = c.args.most - c.loop-count.count in
+    counted_end _ _ _ c.loop-count.invariant.count (ap (numbers_at_front n) none ∙ front_none n)
 
 pub returns-in_default-clause-stored : goal.returns-in_default-clause-stored
 returns-in_default-clause-stored c =
-    let none : c.loop-count.rest.now ≡ [] = search rules in
+    let none : c.loop-count.rest.now ≡ [] = nil_from_length _ c.in_default.ensures.cases in
     let n = c.args.most - c.loop-count.count in
     stored_end _ _ _ c.loop-count.invariant.stored (ap (numbers_at_front n) none ∙ front_none n)
 
@@ -32,3 +39,13 @@ loop-count-preserved c =
       count = counted_more _ _ _ _ _ left c.loop-count.invariant.count;
       stored = stored_more _ _ _ c.whole.result _ _ _ within stored c.loop-count.invariant.stored;
     }
+
+pub returns-clause-count : goal.returns-clause-count
+returns-clause-count c =
+    let past : c.args.most - c.loop-count.count ≡ 0 = search rules in
+    counted_end _ _ _ c.loop-count.invariant.count (front_past _ c.loop-count.rest.now past)
+
+pub returns-clause-stored : goal.returns-clause-stored
+returns-clause-stored c =
+    let past : c.args.most - c.loop-count.count ≡ 0 = search rules in
+    stored_end _ _ _ c.loop-count.invariant.stored (front_past _ c.loop-count.rest.now past)
