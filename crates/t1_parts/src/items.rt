@@ -75,7 +75,8 @@ impl<'a> Items<'a> {
     pub fn len(&self) -> usize
         ensures { result ≡ length self.now }
     {
-        self.len
+        let Items { len, .. } = self;
+        *len
     }
 
     /// The items, one after another.

@@ -93,7 +93,8 @@ impl<'i, 'a> ItemsIter<'i, 'a> {
     pub fn len(&self) -> usize
         ensures { result ≡ length self.now }
     {
-        self.len
+        let ItemsIter { len, .. } = self;
+        *len
     }
 
     /// The items but for the plain lines that say nothing of lenIV. Lines that stand together are passed over as a whole.
