@@ -314,26 +314,31 @@ length_lines (l ∷ ls) = ap suc (length_lines ls)
 -- ---- items in two parts at a place
 
 -- a place within a stretch
-pub split_front : (at : ℕ) (ss : List Stretch) (p : ℕ × ℕ) (s : Stretch) (front : List Item) → IsPlace at ss p → p.0 < length ss → s ≡ slice_index_or ss p.0 s → front ≡ take p.1 (stretch_items s)
-    → items_in (take p.0 ss) ++ front ≡ take at (items_in ss)
-split_front at ss p s front place h is f =
+pub split_front : (at : ℕ) (ss before : List Stretch) (p : ℕ × ℕ) (s : Stretch) (front : List Item) → IsPlace at ss p → (p.0 ≡ length ss → ⊥) → s ≡ slice_index_or ss p.0 s → before ≡ take p.0 ss
+    → front ≡ take p.1 (stretch_items s) → items_in before ++ front ≡ take at (items_in ss)
+split_front at ss before p s front place inside is b f =
+    let here : p.0 < length ss = omega (arith, place.0, inside) in
     let there = ap stretch_items is in
-    let within = place.2 s h in
-    let all = in_two p.0 ss ∙ ap (λ t. items_in (take p.0 ss) ++ t) (from_index p.0 ss s h ∙ ap (λ t. t ++ items_in (drop (suc p.0) ss)) (sym there)) in
+    let within = place.2 s here in
+    let all = in_two p.0 ss ∙ ap (λ t. items_in (take p.0 ss) ++ t) (from_index p.0 ss s here ∙ ap (λ t. t ++ items_in (drop (suc p.0) ss)) (sym there)) in
     let size = ap length there in
-    sym (
+    ap (λ t. items_in t ++ front) b
+    ∙ sym (
     ap (take at) all ∙ take_past at p.1 (items_in (take p.0 ss)) (stretch_items s ++ items_in (drop (suc p.0) ss)) place.1
     ∙ ap (λ t. items_in (take p.0 ss) ++ t) (take_append p.1 (stretch_items s) (items_in (drop (suc p.0) ss)) (omega (arith, size, within)) ∙ sym f)
     )
 
-pub split_back : (at : ℕ) (ss : List Stretch) (p : ℕ × ℕ) (s : Stretch) (back : List Item) → IsPlace at ss p → p.0 < length ss → s ≡ slice_index_or ss p.0 s → back ≡ drop p.1 (stretch_items s)
-    → back ++ items_in (drop (suc p.0) ss) ≡ drop at (items_in ss)
-split_back at ss p s back place h is b =
+pub split_back : (at : ℕ) (ss after : List Stretch) (p : ℕ × ℕ) (s : Stretch) (back : List Item) → IsPlace at ss p → (p.0 ≡ length ss → ⊥) → s ≡ slice_index_or ss p.0 s → after ≡ drop (p.0 + 1) ss
+    → back ≡ drop p.1 (stretch_items s) → back ++ (items_in after ++ []) ≡ drop at (items_in ss)
+split_back at ss after p s back place inside is a b =
+    let here : p.0 < length ss = omega (arith, place.0, inside) in
     let there = ap stretch_items is in
-    let within = place.2 s h in
-    let all = in_two p.0 ss ∙ ap (λ t. items_in (take p.0 ss) ++ t) (from_index p.0 ss s h ∙ ap (λ t. t ++ items_in (drop (suc p.0) ss)) (sym there)) in
+    let within = place.2 s here in
+    let all = in_two p.0 ss ∙ ap (λ t. items_in (take p.0 ss) ++ t) (from_index p.0 ss s here ∙ ap (λ t. t ++ items_in (drop (suc p.0) ss)) (sym there)) in
     let size = ap length there in
-    sym (
+    let behind : p.0 + 1 ≡ suc p.0 = omega arith in
+    ap (λ t. back ++ t) (append-nil (items_in after) ∙ ap items_in (a ∙ ap (λ k. drop k ss) behind))
+    ∙ sym (
     ap (drop at) all ∙ drop_past at p.1 (items_in (take p.0 ss)) (stretch_items s ++ items_in (drop (suc p.0) ss)) place.1
     ∙ drop_append p.1 (stretch_items s) (items_in (drop (suc p.0) ss)) (omega (arith, size, within)) ∙ ap (λ t. t ++ items_in (drop (suc p.0) ss)) (sym b)
     )
