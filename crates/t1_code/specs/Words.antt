@@ -1,9 +1,9 @@
 -- The words of a charstring: numbers and commands.
-use Rattle.std.specs.Prelude.{◌≡◌, ℕ, ◌^◌, ℤ, pos, negsuc, Bool, nat_lt, if◌then◌else◌, List, [], ◌∷◌, ◌++◌, take, drop, length, codes, Option, None, Some, Result, Ok, Err}
+use Rattle.std.specs.Prelude.{◌≡◌, ℕ, ◌^◌, ℤ, pos, negsuc, Bool, true, not, nat_lt, if◌then◌else◌, List, [], ◌∷◌, ◌++◌, take, drop, length, codes, Option, None, Some, Result, Ok, Err}
 use Rattle.std.specs.Map.{lookup}
 use Rattle.std.specs.Borrow.{Bor}
 use Rattle.std.specs.Str.{bytes_eq}
-use Rattle.std.specs.List.{position_or_len}
+use Rattle.std.specs.List.{position_or_len, list_all}
 use Rattle.std.specs.Option.{MatchOption}
 use Rattle.t1_frac.specs.Numbers.{is_number_word, number_written}
 use Rattle.t1_frac.specs.Words.{is_blank}
@@ -62,6 +62,10 @@ operator_words =
 -- profile: the command that a word names
 unfoldable pub operator_named : List ℕ → Option Command
 operator_named word = lookup (bytes_eq word) operator_words
+
+-- profile: a word, which has no blank, names this command
+abbrev pub IsWordOf : Command → List ℕ → Type 0
+IsWordOf command word = (list_all (λ c. not (is_blank c)) word ≡ true) × (operator_named word ≡ Some command)
 
 -- profile, words: the bytes past the first word and the blank that ends it
 abbrev pub past_first_word : List ℕ → List ℕ
