@@ -157,9 +157,6 @@ pub(crate) fn next_command(line: &[u8]) -> Option<(Result<Command, Code>, &[u8])
     if let Some((command, after)) = first_short_number(rest) {
         return Some((Ok(command), after));
     }
-    if let Some((command, after)) = frequent_command(rest) {
-        return Some((Ok(command), after));
-    }
     first_command(rest)
 }
 
