@@ -1,5 +1,5 @@
 //! The words of a body, read as commands.
-ghost use Rattle.std.specs.Prelude.{◌≡◌, ◌<◌, ◌≤◌, [], Ok, false, nat_lt, length, take, IfSome, MatchOption};
+ghost use Rattle.std.specs.Prelude.{◌≡◌, ◌<◌, ◌≤◌, [], Ok, false, nat_lt, ◌∷◌, ◌++◌, length, take, IfSome, MatchOption, OnOk, OnErr};
 ghost use Rattle.t1_frac.specs.Outcome.{Gives, reported_at};
 ghost use Rattle.t1_frac.specs.Words.{trimmed_front, words};
 ghost use Rattle.t1_frac.specs.declared.fault.Place.TheVariants.{Nowhere};
@@ -10,7 +10,7 @@ ghost use Rattle.t1_frac.specs.Numbers.{signed, is_number_word};
 use crate::body::Body;
 use crate::command::{Command, frequent};
 use crate::first_word::{after_word, past_end};
-use std::alloc::Global;
+use std::alloc::{AllocError, Global};
 use t1_frac::{
     Code, Refusal, Words, digits_of_word, leading_number, leading_short_number, next_word,
     skip_blanks,
@@ -181,34 +181,51 @@ pub(crate) fn is_too_long(text: &[u8]) -> bool
     text.len() > MAX_WORDS && word_count(text) > MAX_WORDS
 }
 
+/// Adds a command. More room is asked for only where none is left, so that the loop over words makes no call for it.
+#[inline(always)]
+fn add(commands: &mut Vec<Command>, command: Command) -> Result<(), AllocError>
+    ensures ok { OnOk result (commands.new.items ≡ commands.old.items ++ command ∷ []) }
+    ensures err { OnErr result (commands.new.items ≡ commands.old.items) }
+{
+    if commands.len() == commands.capacity() {
+        commands.reserve(1)?;
+    }
+    commands.push_reserved(command);
+    Ok(())
+}
+
 /// Adds the commands of a text's words. At a fault and where memory runs out some of them may stand there.
 fn read_words(read: &mut Vec<Command>, text: &[u8]) -> Result<(), Refusal>
     ensures value { Gives (λ _. read.new.items) result (reported_at Nowhere (after_others read.old.items (commands_of_words (words text.now)))) }
     ensures front { take (length read.old.items) read.new.items ≡ read.old.items }
 {
-    let mut rest = text;
+    let mut rest = from_word(text);
     'words: loop {
-        let first = from_word(rest);
-        if let Some((command, after)) = first_short_number(first) {
-            read.push(command)?;
+        if let Some((command, after)) = first_short_number(rest) {
+            add(read, command)?;
             rest = after;
+            continue;
+        }
+        let first = from_word(rest);
+        if first.len() < rest.len() {
+            rest = first;
             continue;
         }
         if let Some(after) = after_div(first) {
-            read.push(Command::Div)?;
-            rest = after;
+            add(read, Command::Div)?;
+            rest = from_word(after);
             continue;
         }
         if let Some((command, after)) = frequent_command(first) {
-            read.push(command)?;
-            rest = after;
+            add(read, command)?;
+            rest = from_word(after);
             continue;
         }
         let Some((command, after)) = first_command(first) else {
             return Ok(());
         };
-        read.push(command?)?;
-        rest = after;
+        add(read, command?)?;
+        rest = from_word(after);
     }
 }
 

@@ -3,15 +3,17 @@ use Rattle.std.proofs.Common.{◌≡◌, ℕ, zero, suc, ◌+◌, ◌-◌, ◌<�
 use Rattle.std.proofs.lemmas.List.{append-nil, drop-drop, take_more_set}
 use Rattle.std.proofs.lemmas.List.Sums.{take_while-cons}
 use Rattle.std.proofs.lemmas.Bool.{lt-leb}
-use Rattle.std.proofs.Math.Seq.{drop-length}
+use Rattle.std.proofs.Math.Seq.{drop-length, drop-append_seam, take-append_seam}
 use Rattle.std.specs.List.{filter_map}
+use Rattle.std.specs.Prelude.{Ok}
 use Rattle.t1_frac.specs.Fraction.{Fraction, whole}
+use Rattle.t1_frac.specs.Limits.{quotient}
 use Rattle.t1_frac.specs.declared.fault.Code.TheVariants.{F30, F47}
 use Rattle.t1_code.specs.declared.command.Command.{Command}
-use Rattle.t1_code.specs.declared.command.Command.TheVariants.{Num}
-use Rattle.t1_run.specs.Operands.{topmost, size_fault}
+use Rattle.t1_code.specs.declared.command.Command.TheVariants.{Num, Div}
+use Rattle.t1_run.specs.Operands.{topmost, below, size_fault}
 use Rattle.t1_run.specs.State.{State}
-use Rattle.t1_run.specs.Step.{Next, push, refuse, unless_fault}
+use Rattle.t1_run.specs.Step.{Next, push, refuse, unless_fault, attempt, with_two, divide}
 use Rattle.t1_run.specs.Words.{execute, step}
 use Rattle.t1_run.specs.Run.{FontBodies}
 use Rattle.t1_run.specs.Continuing.{Continues}
@@ -135,3 +137,55 @@ pushed_go most count m own commands rest waiting s stack few room counted left p
     (subst (λ xs. Continues m own (drop (length (numbers_at_front most commands)) commands) waiting (record s { stack = xs; steps = s.steps + count })) (sym pushed)
     (subst (λ n. Continues m own (drop (length (numbers_at_front most commands)) commands) waiting (record s { stack = s.stack ++ numbers_at_front most commands; steps = s.steps + n })) (sym counted)
     (numbers_go most m own commands waiting s few room h)))
+
+-- ---- a quotient of two numbers
+
+two_on_top : (values : List Fraction) (a b : Fraction) → length ((values ++ a ∷ []) ++ b ∷ []) - 2 ≡ length values
+two_on_top values a b =
+    let l = length-append (values ++ a ∷ []) (b ∷ []) in
+    let k = length-append values (a ∷ []) in
+    omega (arith, l, k)
+
+two_topmost : (values : List Fraction) (a b : Fraction) → topmost 2 ((values ++ a ∷ []) ++ b ∷ []) ≡ a ∷ b ∷ []
+two_topmost values a b =
+    ap (λ n. drop n ((values ++ a ∷ []) ++ b ∷ [])) (two_on_top values a b)
+    ∙ ap (drop (length values)) (append_assoc values (a ∷ []) (b ∷ []))
+    ∙ drop-append_seam values (a ∷ b ∷ [])
+
+below_two : (values : List Fraction) (a b : Fraction) → below 2 ((values ++ a ∷ []) ++ b ∷ []) ≡ values
+below_two values a b =
+    ap (λ n. take n ((values ++ a ∷ []) ++ b ∷ [])) (two_on_top values a b)
+    ∙ ap (take (length values)) (append_assoc values (a ∷ []) (b ∷ []))
+    ∙ take-append_seam values (a ∷ b ∷ [])
+
+two_enough : (values : List Fraction) (a b : Fraction) → nat_lt (length ((values ++ a ∷ []) ++ b ∷ [])) 2 ≡ false
+two_enough values a b =
+    let l = length-append (values ++ a ∷ []) (b ∷ []) in
+    let k = length-append values (a ∷ []) in
+    lt-leb (suc (length ((values ++ a ∷ []) ++ b ∷ []))) 2 (omega (arith, l, k))
+
+-- a div of the two values on the top, whose quotient has no fault
+div_step : (values : List Fraction) (a b q : Fraction) (s : State) → s.stack ≡ (values ++ a ∷ []) ++ b ∷ [] → s.steps < 100000 → quotient a b ≡ Ok q
+    → step Div s ≡ Next (record s { stack = values ++ q ∷ []; steps = s.steps + 1 })
+div_step values a b q s on few is =
+    ap (λ t. refuse t F47 (execute Div (record s { steps = s.steps + 1 }))) (lt-leb 100000 s.steps few)
+    ∙ ap (λ t. refuse (nat_lt (length t) 2) F30 (with_two (topmost 2 t) (λ c d. divide c d (record s { steps = s.steps + 1 })))) on
+    ∙ ap (λ t. refuse t F30 (with_two (topmost 2 ((values ++ a ∷ []) ++ b ∷ [])) (λ c d. divide c d (record s { steps = s.steps + 1 })))) (two_enough values a b)
+    ∙ ap (λ t. with_two t (λ c d. divide c d (record s { steps = s.steps + 1 }))) (two_topmost values a b)
+    ∙ ap (λ r. attempt r (λ c. Next (record s { stack = below 2 s.stack ++ c ∷ []; steps = s.steps + 1 }))) is
+    ∙ ap (λ t. Next (record s { stack = below 2 t ++ q ∷ []; steps = s.steps + 1 })) on
+    ∙ ap (λ t. Next (record s { stack = t ++ q ∷ []; steps = s.steps + 1 })) (below_two values a b)
+
+-- two numbers and a div are steps after which the run goes on
+pub quotient_goes : (m : FontBodies) (own rest : List Command) (waiting : List (List Command)) (s : State) (a b : ℤ) (q : Fraction)
+    → s.steps + 3 ≤ 100000 → length s.stack + 2 ≤ 24 → quotient (whole a) (whole b) ≡ Ok q
+    → Continues m own (Num a ∷ Num b ∷ Div ∷ rest) waiting s → Continues m own rest waiting (record s { stack = s.stack ++ q ∷ []; steps = s.steps + 3 })
+quotient_goes m own rest waiting s a b q few room is h =
+    let one : State = record s { stack = s.stack ++ whole a ∷ []; steps = s.steps + 1 } in
+    let two : State = record one { stack = one.stack ++ whole b ∷ []; steps = one.steps + 1 } in
+    let size = length-append s.stack (whole a ∷ []) in
+    let first = Continues-next h (number_step a s (omega (arith, few)) (omega (arith, room))) in
+    let second = Continues-next first (number_step b one (omega (arith, few)) (omega (arith, room, size))) in
+    let third = Continues-next second (div_step s.stack (whole a) (whole b) q two refl (omega (arith, few)) is) in
+    let same : s.steps + 1 + 1 + 1 ≡ s.steps + 3 = omega arith in
+    subst (λ n. Continues m own rest waiting (record s { stack = s.stack ++ q ∷ []; steps = n })) same third

@@ -23,12 +23,14 @@ pub fn moved(point: &Point, dx: &Frac, dy: &Frac) -> Result<Point, Code>
     Ok(Point { x, y })
 }
 
-/// Adds a segment. Room is made for it first, so that it is written where it stays.
+/// Adds a segment. Room is made for it first, where there is none, so that it is written where it stays.
 #[inline(always)]
 fn add_segment(segments: &mut Vec<Segment>, segment: Segment) -> Result<(), AllocError>
     ensures { OnOk result (segments.new.items ≡ segments.old.items ++ segment ∷ []) }
 {
-    segments.reserve(1)?;
+    if segments.len() == segments.capacity() {
+        segments.reserve(1)?;
+    }
     segments.push_reserved(segment);
     Ok(())
 }

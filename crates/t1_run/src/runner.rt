@@ -32,7 +32,7 @@ fn run_commands<'a>(
 {
     let mut rest = body;
     'commands: loop {
-        let others = state.push_numbers(rest);
+        let others = state.push_values(rest);
         let Some((command, tail)) = others.split_first() else {
             return Ok(None);
         };

@@ -1,6 +1,6 @@
 //! One word of a charstring.
 
-ghost use Rattle.std.specs.Prelude.{◌≡◌, ◌+◌, ◌≤◌, List, OnOk, IfErr, true, false, None, length};
+ghost use Rattle.std.specs.Prelude.{◌≡◌, ◌∷◌, ◌+◌, ◌≤◌, List, OnOk, IfErr, IfSome, true, false, None, length};
 ghost use Rattle.t1_code.specs.declared.command.Command.{Command as CommandOf};
 ghost use Rattle.t1_run.specs.Continuing.{Continues};
 ghost use Rattle.t1_run.specs.Run.{FontBodies};
@@ -20,6 +20,22 @@ use t1_frac::{Code, Frac};
 
 /// How many words a run executes.
 const MAX_STEPS: u32 = 100_000;
+
+/// The numbers that some commands begin with, where a div of both comes next, and the commands after it.
+#[inline(always)]
+fn first_quotient(commands: &[Command]) -> Option<(i32, i32, &[Command])>
+    ensures { IfSome result (λ found. commands.now ≡ Commands.Num found.0 ∷ Commands.Num found.1 ∷ Commands.Div ∷ found.2.now) }
+{
+    let Some((front, tail)) = commands.split_first_chunk::<3>() else {
+        return None;
+    };
+    match front {
+        [Command::Num(dividend), Command::Num(divisor), Command::Div] => {
+            Some((*dividend, *divisor, tail))
+        }
+        _ => None,
+    }
+}
 
 impl State {
     /// Pushes a value.
@@ -241,7 +257,7 @@ impl State {
     /// Pushes the numbers at the front of some commands that there is room for, while the run may make steps: the commands after
     /// them. Counts are kept in registers meanwhile.
     #[inline(always)]
-    pub fn push_numbers<'a>(&mut self, commands: &'a [Command]) -> &'a [Command]
+    fn push_numbers<'a>(&mut self, commands: &'a [Command]) -> &'a [Command]
         ensures goes { (m : FontBodies) (own : List CommandOf) (waiting : List (List CommandOf)) → Continues m own commands.now waiting (state_of self.old) → Continues m own result.now waiting (state_of self.new) }
         ensures kept { self.old.steps ≤ self.new.steps }
         ensures left { length result.now ≤ length commands.now }
@@ -251,6 +267,57 @@ impl State {
         let (count, rest) = self.operands.push_numbers(commands, room.min(steps));
         self.steps += count as u32;
         rest
+    }
+
+    /// Pushes the quotient of two numbers, as the three steps of both and of a div do. Where there is no room for these, or a fault,
+    /// the state stays as it was.
+    #[inline(always)]
+    fn push_quotient(&mut self, dividend: i32, divisor: i32) -> bool
+        ensures pushed { result ≡ true → (m : FontBodies) (own rest : List CommandOf) (waiting : List (List CommandOf)) → Continues m own (Commands.Num dividend ∷ Commands.Num divisor ∷ Commands.Div ∷ rest) waiting (state_of self.old) → Continues m own rest waiting (state_of self.new) }
+        ensures refused { result ≡ false → state_of self.new ≡ state_of self.old }
+        ensures kept { self.old.steps ≤ self.new.steps }
+    {
+        if self.operands.as_slice().len() > 22 || self.steps > MAX_STEPS - 3 {
+            return false;
+        }
+        let Ok(quotient) = Frac::whole(dividend).div(&Frac::whole(divisor)) else {
+            return false;
+        };
+        self.operands.push(quotient);
+        self.steps += 3;
+        true
+    }
+
+    /// Pushes the quotients at the front of some commands, each of two numbers and a div, that there is room for and that have no
+    /// fault, while the run may make steps: the commands after them. A font whose coordinates have fractions writes each of them so.
+    #[inline(always)]
+    fn push_quotients<'a>(&mut self, commands: &'a [Command]) -> &'a [Command]
+        ensures goes { (m : FontBodies) (own : List CommandOf) (waiting : List (List CommandOf)) → Continues m own commands.now waiting (state_of self.old) → Continues m own result.now waiting (state_of self.new) }
+        ensures kept { self.old.steps ≤ self.new.steps }
+        ensures left { length result.now ≤ length commands.now }
+    {
+        let mut rest = commands;
+        'quotients: loop {
+            let Some((dividend, divisor, tail)) = first_quotient(rest) else {
+                return rest;
+            };
+            if !self.push_quotient(dividend, divisor) {
+                return rest;
+            }
+            rest = tail;
+        }
+    }
+
+    /// Pushes the quotients and the numbers that some commands begin with, as far as there is room for them and the run may make steps:
+    /// the commands after them.
+    #[inline(always)]
+    pub fn push_values<'a>(&mut self, commands: &'a [Command]) -> &'a [Command]
+        ensures goes { (m : FontBodies) (own : List CommandOf) (waiting : List (List CommandOf)) → Continues m own commands.now waiting (state_of self.old) → Continues m own result.now waiting (state_of self.new) }
+        ensures kept { self.old.steps ≤ self.new.steps }
+        ensures left { length result.now ≤ length commands.now }
+    {
+        let others = self.push_quotients(commands);
+        self.push_numbers(others)
     }
 
     /// A number: F47 where a run has made its last step already, then F31 past 24 values.
