@@ -11,37 +11,37 @@ use Rattle.t1_extent.specs.Extremes.{corners, extremes, is_whole_outline}
 use Rattle.t1_extent.specs.Laws.{AreWithin}
 use Rattle.t1_extent.specs.Exacts.{raw, extremes_of}
 
--- profile: where an outline starts
+-- word: where an outline starts
 abbrev pub first_point : List Segment → Option Point
 first_point [] = None
 first_point (Line start end ∷ outline) = Some start
 first_point (Curve start first second end ∷ outline) = Some start
 
--- profile: how far a point is moved from one place to another
+-- word: how far a point is moved from one place to another
 abbrev pub apart : Point → Point → Point
 apart from to = record { x = minus to.x from.x; y = minus to.y from.y }
 
--- profile: the distance, as a pair of fractions
+-- word: the distance, as a pair of fractions
 abbrev pub distance_of : Distance → Point
 distance_of d = record { x = raw d.x; y = raw d.y }
 
--- profile: both denominators are those of a run
+-- word: both denominators are those of a run
 pub record IsFineDistance (d : Distance) : Type 0 where
   pub x : d.x.den ≤ 2 ^ 20
   pub y : d.y.den ≤ 2 ^ 20
 
--- profile: an outline's first point, the extremes of its drawn points, and those of all its points
+-- word: an outline's first point, the extremes of its drawn points, and those of all its points
 pub record IsFigure (figure : Figure) (outline : List Segment) : Type 0 where
   pub start : first_point outline ≡ Some figure.start
   pub drawn : extremes (points outline) ≡ Some (extremes_of figure.drawn)
   pub corners : extremes (corners outline) ≡ Some (extremes_of figure.corners)
 
--- profile: the same, where the outline draws
+-- word: the same, where the outline draws
 abbrev pub IsFigureOf : Option Figure → List Segment → Type 0
 IsFigureOf None outline = outline ≡ []
 IsFigureOf (Some figure) outline = IsFigure figure outline
 
--- profile: an outline within the limits whose coordinates are all whole, and its figure
+-- word: an outline within the limits whose coordinates are all whole, and its figure
 pub record IsWholeFigure (figure : Option Figure) (outline : List Segment) : Type 0 where
   pub within : AreWithin outline
   pub whole : is_whole_outline outline ≡ true

@@ -20,7 +20,7 @@ pub record TracedRun : Type 0 where
   pub serial : ℕ
   pub is_traced : Bool
 
--- profile: what is kept of the run of a glyph of this name: the trace of an outline that is whole, and of one that may be a part
+-- word: what is kept of the run of a glyph of this name: the trace of an outline that is whole, and of one that may be a part
 abbrev pub kept_as : List ℕ → NumberedRun → TracedRun
 kept_as name run =
     record { drawing = run.drawing; serial = run.serial; is_traced = is_whole_outline run.drawing.segments || is_standard_name name }
@@ -29,11 +29,11 @@ kept_as name run =
 abbrev pub traces : List ℕ → TracedRun → Bool
 traces name run = not (is_standard_name name) || run.is_traced
 
--- profile: the segments of an outline whose coordinates aren't all whole, where its trace is kept
+-- word: the segments of an outline whose coordinates aren't all whole, where its trace is kept
 abbrev pub segments_kept : Bool → List Segment → Option (List Segment)
 segments_kept is_traced outline = if is_whole_outline outline then None else (if is_traced then Some outline else None)
 
--- profile: what memory holds of an outline: its figure where it is whole, else how far it reaches and its segments where its
+-- word: what memory holds of an outline: its figure where it is whole, else how far it reaches and its segments where its
 -- trace is kept, and where it isn't, its box alone
 abbrev pub IsShape : Shape → List Segment → Type 0
 IsShape (shapes.Whole figure) outline = IsWholeFigure figure outline
@@ -47,17 +47,17 @@ has_trace (shapes.Whole figure) = true
 has_trace (shapes.Mixed mixed) = true
 has_trace (shapes.Boxed bbox) = false
 
--- profile: what moves of an outline need of it
+-- word: what moves of an outline need of it
 abbrev pub IsTrace : Trace → List Segment → Type 0
 IsTrace (moves.Whole figure) outline = IsWholeFigure figure outline
 IsTrace (moves.Segments segments) outline = segments.now ≡ outline
 
--- profile: what a run that is lent draws, or its fault
+-- word: what a run that is lent draws, or its fault
 abbrev pub drawing_lent : Result (Bor TracedRun) Code → Result Drawing Code
 drawing_lent (Ok run) = Ok run.now.drawing
 drawing_lent (Err code) = Err code
 
--- profile: the run that is lent of the glyph of this name keeps its trace, unless the glyph can't be a part
+-- word: the run that is lent of the glyph of this name keeps its trace, unless the glyph can't be a part
 abbrev pub IsTraced : List ℕ → Option (Result (Bor TracedRun) Code) → Type 0
 IsTraced name None = Unit {0}
 IsTraced name (Some (Err code)) = Unit {0}

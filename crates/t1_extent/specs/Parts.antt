@@ -9,12 +9,12 @@ use Rattle.t1_run.specs.declared.outline.Segment.{Segment}
 use Rattle.t1_run.specs.Composite.{accent_move, moved_outline, outline_within}
 use Rattle.t1_run.specs.Run.{Drawing}
 
--- profile: what a glyph's own run draws, or its first fault; a glyph that isn't there is F45
+-- word: what a glyph's own run draws, or its first fault; a glyph that isn't there is F45
 abbrev pub found_run : Option (Result Drawing Code) → Result Drawing Code
 found_run None = Err F45
 found_run (Some run) = run
 
--- profile, limits: the outlines of the parts of a composite in which composites nest so deep; where they may not, F46
+-- word, limits: the outlines of the parts of a composite in which composites nest so deep; where they may not, F46
 abbrev pub part_within : (List ℕ → Option (Result Drawing Code)) → ℕ → List ℕ → Result (List Segment) Code
 part_within run zero = λ part. Err F46
 part_within run (suc depth) = outline_within run depth
@@ -26,10 +26,10 @@ parts_joined bearing c base accent =
     moved_outline by accent >>= (λ accent'.
     Ok (base ++ accent')))
 
--- profile, order of faults: the base's outline, then the accent's, then both joined
+-- word, order of faults: the base's outline, then the accent's, then both joined
 abbrev pub both_parts : Point → Composite → Result (List Segment) Code → Result (List Segment) Code → Result (List Segment) Code
 both_parts bearing c base accent = base >>= (λ b. accent >>= (λ a. parts_joined bearing c b a))
 
--- profile: the parts of a composite with this side bearing, by the outlines of glyphs
+-- word: the parts of a composite with this side bearing, by the outlines of glyphs
 abbrev pub parts_outline : (List ℕ → Result (List Segment) Code) → Point → Composite → Result (List Segment) Code
 parts_outline part bearing c = both_parts bearing c (part c.base) (part c.accent)

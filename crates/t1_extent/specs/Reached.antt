@@ -17,50 +17,50 @@ use Rattle.t1_extent.specs.Extremes.{corners, extremes, is_whole_outline, IsWhol
 use Rattle.t1_extent.specs.Exacts.{extremes_of, AreFine}
 use Rattle.t1_extent.specs.Laws.{AreWithin}
 
--- profile: how far the drawn points reach, exactly where all coordinates are whole, and else rounded
+-- word: how far the drawn points reach, exactly where all coordinates are whole, and else rounded
 abbrev pub IsDrawnBy : Drawn → List Segment → Type 0
 IsDrawnBy (Whole extent) outline =
     (is_whole_outline outline ≡ true) × (option_map extremes_of extent ≡ extremes (points outline)) × IfSome extent (AreFine (2 ^ 20))
 IsDrawnBy (Mixed bbox) outline = bbox ≡ drawn_box outline
 
--- profile: the drawn points' extremes are kept exactly
+-- word: the drawn points' extremes are kept exactly
 abbrev pub IsExact : Drawn → Type 0
 IsExact (Whole extent) = Unit {0}
 IsExact (Mixed bbox) = ⊥
 
--- profile: exact extremes of whole coordinates have the denominator 1
+-- word: exact extremes of whole coordinates have the denominator 1
 abbrev pub grain_of : Drawn → ℕ
 grain_of (Whole extent) = 1
 grain_of (Mixed bbox) = 2 ^ 20
 
--- profile: how far the drawn points reach, and the extremes of all points
+-- word: how far the drawn points reach, and the extremes of all points
 pub record IsReach (reached : Reached) (outline : List Segment) : Type 0 where
   pub within : AreWithin outline
   pub drawn : IsDrawnBy reached.drawn outline
   pub corners : option_map extremes_of reached.corners ≡ extremes (corners outline)
   pub corners_fine : IfSome reached.corners (AreFine (grain_of reached.drawn))
 
--- profile: the move is whole, or the outline's coordinates are
+-- word: the move is whole, or the outline's coordinates are
 abbrev pub MovesReach : Point → Reached → Type 0
 MovesReach by reached = IsWhole by ⊎ IsExact reached.drawn
 
--- profile: the box's sides, moved, are small numbers
+-- word: the box's sides, moved, are small numbers
 pub record IsNear (by : Point) (b : BBox) : Type 0 where
   pub left : unsigned_abs (b.left +ℤ by.x.num) ≤ 2 ^ 29
   pub bottom : unsigned_abs (b.bottom +ℤ by.y.num) ≤ 2 ^ 29
   pub right : unsigned_abs (b.right +ℤ by.x.num) ≤ 2 ^ 29
   pub top : unsigned_abs (b.top +ℤ by.y.num) ≤ 2 ^ 29
 
--- profile: it is the reach of some outline
+-- word: it is the reach of some outline
 abbrev pub IsReachOfSome : Reached → Type 0
 IsReachOfSome reached = (outline : List Segment) × IsReach reached outline
 
--- profile: a call answers how far the outline reaches that a definition gives, or its fault, unless memory ran out
+-- word: a call answers how far the outline reaches that a definition gives, or its fault, unless memory ran out
 abbrev pub Reports : Result Reached Refusal → Result (List Segment) Code → Type 0
 Reports (Ok reached) given = (outline : List Segment) × (given ≡ Ok outline) × IsReach reached outline
 Reports (Err refused) given = Refuses refused (reported_at Nowhere given)
 
--- profile: the same, of a call that takes no memory
+-- word: the same, of a call that takes no memory
 abbrev pub ReportsAtOnce : Result Reached Code → Result (List Segment) Code → Type 0
 ReportsAtOnce (Ok reached) given = (outline : List Segment) × (given ≡ Ok outline) × IsReach reached outline
 ReportsAtOnce (Err code) given = given ≡ Err code

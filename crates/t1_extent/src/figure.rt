@@ -8,7 +8,7 @@ ghost use Rattle.t1_extent.specs.Extremes.{IsWhole};
 use crate::distance::Distance;
 use crate::drawn::drawn_within;
 use crate::extent::Extent;
-use crate::outline_sides::{OutlineSides, outline_sides, whole_outline_sides};
+use crate::outline_sides::{OutlineSides, outline_sides};
 use crate::reached::{Drawn, Reached};
 use crate::turns::point_through;
 use t1_frac::Code;
@@ -68,15 +68,6 @@ impl Figure {
             drawn: drawn_within(segments, &sides),
             corners: sides.corners.extent(),
         })
-    }
-
-    /// The figure of an outline whose coordinates are whole, where it draws.
-    pub fn of(segments: &[Segment]) -> Option<Figure>
-        requires within { All IsWithin segments.now }
-        requires whole { All IsWholeSegment segments.now }
-        ensures { IsFigureOf result segments.now }
-    {
-        Figure::with_sides(segments, whole_outline_sides(segments))
     }
 
     /// The figure of an outline, where it draws; nothing where some coordinate has a fraction.

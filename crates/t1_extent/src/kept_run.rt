@@ -13,12 +13,12 @@ use crate::boxes::drawn_bbox;
 use crate::corners::corners_extent;
 use crate::figure::Figure;
 use crate::reached::{Drawn, Reached};
+use crate::shadow::Shadow;
 use std::alloc::{AllocError, Global};
 use std::marker::Model;
 use t1_afm::BBox;
 use t1_code::is_standard_name;
 use t1_run::{Composite, Entered, Point, Run, Segment};
-use t1_shadow::Shadow;
 
 /// An outline of which some coordinates have fractions.
 #[derive(Drop)]
@@ -116,7 +116,8 @@ impl Model for KeptRun {
 }
 
 impl KeptRun {
-    /// What is kept of the run of a glyph of this name. The room gets the run's outline, for its memory.
+    /// What is kept of the run of a glyph of this name. The room gets the run's outline, for its memory; no contract says so, since
+    /// only memory and time are at stake.
     pub fn of(
         alloc: Global,
         name: &[u8],

@@ -1,4 +1,6 @@
 //! The exact extremes of outlines, from which boxes of composites are had without their segments.
+//!
+//! All of it is for the crates above, which keep a run as a [`KeptRun`] and have a glyph's box by [`box_of`].
 #![tactic(auto)]
 
 mod boxes;
@@ -16,15 +18,15 @@ mod outline_reach;
 mod outline_sides;
 mod reach;
 mod reached;
+mod shadow;
 mod sides;
 mod turns;
 mod whole_sides;
 mod wholes;
 
 pub use boxes::moved_box;
-pub use corners::{corners_extent, unite, whole_corners};
+pub use corners::{corners_extent, unite};
 pub use distance::Distance;
-pub use drawn::drawn_extent;
 pub use exact::Exact;
 pub use extent::Extent;
 pub use figure::Figure;
@@ -34,4 +36,4 @@ pub use outline_reach::box_of;
 pub use reach::{Reach, cubic_reach};
 pub use reached::{Drawn, Reached};
 pub use sides::Sides;
-pub use wholes::{is_whole, is_whole_outline};
+pub use wholes::is_whole;

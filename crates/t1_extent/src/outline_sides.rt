@@ -121,13 +121,3 @@ pub(crate) fn outline_sides(segments: &[Segment]) -> Option<Option<OutlineSides>
     let inner = with_inner(&ends, first);
     Some(Some(sides_onto(&ends, &inner, rest)?))
 }
-
-/// The same of an outline whose coordinates are known to be whole.
-pub(crate) fn whole_outline_sides(segments: &[Segment]) -> Option<OutlineSides>
-    requires within { All IsWithin segments.now }
-    requires whole { All IsWholeSegment segments.now }
-    ensures ends { option_map (λ s. whole_extremes s.ends) result ≡ extremes (ends_of_all segments.now) }
-    ensures corners { option_map (λ s. whole_extremes s.corners) result ≡ extremes (corners_of_all segments.now) }
-{
-    outline_sides(segments)?
-}

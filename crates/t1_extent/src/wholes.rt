@@ -1,7 +1,7 @@
 //! Outlines whose coordinates are all whole, as most fonts have.
 
-ghost use Rattle.std.specs.Prelude.{◌≡◌, ◌<◌, ◌≤◌, ◌+◌, ◌^◌, pos, All, true};
-ghost use Rattle.t1_extent.specs.Extremes.{IsWhole, IsWholeSegment, is_whole as is_whole_of, is_whole_segment as segment_is_whole, is_whole_outline as outline_is_whole};
+ghost use Rattle.std.specs.Prelude.{◌≡◌, ◌<◌, ◌≤◌, ◌+◌, ◌^◌, pos, true};
+ghost use Rattle.t1_extent.specs.Extremes.{IsWhole, IsWholeSegment, is_whole as is_whole_of, is_whole_segment as segment_is_whole};
 
 use t1_run::{Point, Segment};
 
@@ -36,13 +36,4 @@ pub(crate) fn is_whole_segment(segment: &Segment) -> bool
             denominators(a) + denominators(b) + denominators(c) + denominators(d) == 8
         }
     }
-}
-
-/// Whether all coordinates of an outline are whole.
-#[tactic(auto, using(crate::proofs::Flags::all_whole))]
-pub fn is_whole_outline(segments: &[Segment]) -> bool
-    ensures value { result ≡ outline_is_whole segments.now }
-    ensures whole { result ≡ true → All IsWholeSegment segments.now }
-{
-    segments.iter().all(|segment| is_whole_segment(segment))
 }

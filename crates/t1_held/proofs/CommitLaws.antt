@@ -31,9 +31,9 @@ use Rattle.t1_cache.proofs.Distinct.{names_distinct}
 use Rattle.t1_rerun.specs.Opened.{runs_where}
 use Rattle.t1_rerun.specs.Renewing.{IsRunWhereStale}
 use Rattle.t1_rerun.proofs.ChangedBodies.{change-first}
-use Rattle.t1_batch.specs.Batch.{AreBatchChanges}
-use Rattle.t1_batch.specs.Members.{HaveSameKeys}
-use Rattle.t1_batch.proofs.Members.{same_stale, same_stale_glyphs}
+use Rattle.t1_held.specs.Batch.{AreBatchChanges}
+use Rattle.t1_held.specs.Members.{HaveSameKeys}
+use Rattle.t1_held.proofs.Members.{same_stale, same_stale_glyphs}
 use Rattle.t1_held.specs.declared.held.Held.{Held}
 use Rattle.t1_held.specs.Entries.{fresh_in, fresh_one, gone_keys}
 use Rattle.t1_held.specs.declared.edits.Edits.{Edits}

@@ -1,2 +1,12 @@
+pub mod AloneLaws
 pub mod CommitLaws
+pub mod Drafting
+pub mod Gathering
 pub mod HeldLaws
+pub mod Marking
+pub mod Members
+pub mod Ordering
+pub mod Passing
+pub mod Removing
+pub mod Reporting
+pub mod Sounding

@@ -18,46 +18,46 @@ use Rattle.t1_cache.specs.Edited.{named, IsEditedAt}
 use Rattle.t1_rerun.specs.declared.entry_change.EntryChange.{EntryChange}
 use Rattle.t1_rerun.specs.Changing.{AreChangesOf}
 use Rattle.t1_rerun.specs.Settled.{changed_keys, AreDistinctKeys, HasBody}
-use Rattle.t1_batch.specs.Batch.{entry_edit, keys, IsEditedBy}
+use Rattle.t1_held.specs.Batch.{entry_edit, keys, IsEditedBy}
 use Rattle.t1_held.specs.declared.edits.Edits.{Edits}
 use Rattle.t1_held.specs.declared.edits.Edits.TheVariants as edits
 use Rattle.t1_held.specs.declared.held.Held.{Held}
 use Rattle.t1_held.specs.Held.{IsHeld}
 
--- profile, edits: the source that is edited
+-- word, edits: the source that is edited
 abbrev pub source_of : Edits → SourceParts
 source_of (edits.One source pairs edit change) = source.now
 source_of (edits.Batch source made entries) = source.now
 
--- profile, edits: the source that the edits make
+-- word, edits: the source that the edits make
 abbrev pub made_of : Edits → SourceParts
 made_of (edits.One source pairs edit change) = (changed change.now source.now pairs.now).0
 made_of (edits.Batch source made entries) = made.now
 
--- profile, edits: how it is known
+-- word, edits: how it is known
 abbrev pub made_by : Edits → Made
 made_by (edits.One source pairs edit change) = ways.Edit source change
 made_by (edits.Batch source made entries) = ways.Batch source made
 
--- profile, edits: the keys of the entries that the edits name
+-- word, edits: the keys of the entries that the edits name
 abbrev pub keys_of : Edits → List Key
 keys_of (edits.One source pairs edit change) = named edit.now
 keys_of (edits.Batch source made entries) = keys (map entry_edit entries.items)
 
--- profile, edits: an edit that keeps the edit rules, and the change of the source and its pairs that was prepared for it
+-- word, edits: an edit that keeps the edit rules, and the change of the source and its pairs that was prepared for it
 pub record IsPreparedEdit (s : SourceParts) (k : List Pair) (edit : Edit) (change : Change) (h : Held) : Type 0 where
   pub held : IsHeld s h
   pub well : IsWellFormed s
   pub serves : Serves change s k
   pub made : edited s k edit ≡ Ok (changed change s k)
 
--- profile, edits: the edits keep the edit rules and make this source of one of which this is held: one edit, and
+-- word, edits: the edits keep the edit rules and make this source of one of which this is held: one edit, and
 -- the edits of a batch one after another
 abbrev pub AreRight : Edits → Held → Type 0
 AreRight (edits.One source pairs edit change) h = IsPreparedEdit source.now pairs.now edit.now change.now h
 AreRight (edits.Batch source made entries) h = IsHeld source.now h × IsEditedBy (map entry_edit entries.items) source.now made.now
 
--- profile, edits: what edits at these keys change: each entry once, with the body that it has after them; the bodies of the
+-- word, edits: what edits at these keys change: each entry once, with the body that it has after them; the bodies of the
 -- edited source have no fault
 pub record AreChanges (s made : SourceParts) (ks : List Key) (h : Held) (changes : List EntryChange) : Type 0 where
   pub same : (k : Key) → list_any (key_eq k) (changed_keys changes) ≡ list_any (key_eq k) ks

@@ -7,15 +7,15 @@ use Rattle.t1_cache.specs.Users.{key_of}
 use Rattle.t1_rerun.specs.declared.entry_change.EntryChange.{EntryChange}
 use Rattle.t1_rerun.specs.Settled.{changed_keys}
 
--- profile: the encrypted charstring of a change, at its key
+-- word: the encrypted charstring of a change, at its key
 abbrev pub fresh_one : ℕ → EntryChange → Key → Option Kept
 fresh_one lead c k = if key_eq k (key_of c.named) then option_map (encrypted lead k) c.body else None
 
--- profile: the encrypted charstrings of changes, of which a later one wins
+-- word: the encrypted charstrings of changes, of which a later one wins
 abbrev pub fresh_in : ℕ → List EntryChange → Key → Option Kept
 fresh_in lead [] k = None
 fresh_in lead (c ∷ changes) k = option_or (fresh_in lead changes k) (fresh_one lead c k)
 
--- profile: the keys of the changed entries that have no body any more
+-- word: the keys of the changed entries that have no body any more
 abbrev pub gone_keys : List EntryChange → List Key
 gone_keys changes = changed_keys (filter (λ c. is_none c.body) changes)

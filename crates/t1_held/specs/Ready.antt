@@ -13,11 +13,11 @@ use Rattle.t1_rerun.specs.Settled.{changed_keys}
 use Rattle.t1_held.specs.declared.held.Held.{Held}
 use Rattle.t1_held.specs.declared.held.ReadyHeld.{ReadyHeld}
 
--- profile: each glyph that edits at these keys make stale is run once; none, where a body or the file has a fault
+-- word: each glyph that edits at these keys make stale is run once; none, where a body or the file has a fault
 abbrev pub commit_runs : List Key → SourceParts → SourceParts → ℕ
 commit_runs ks old new = runs_where (file_check new) (stale old ks new)
 
--- profile: the edited source has no fault, each glyph that edits at these keys make stale was run after this count, and
+-- word: the edited source has no fault, each glyph that edits at these keys make stale was run after this count, and
 -- all that is to be kept of the edited source is there
 pub record IsReadyHeld (count : ℕ) (ks : List Key) (s made : SourceParts) (h : Held) (ready : ReadyHeld) : Type 0 where
   pub changes : List EntryChange
@@ -25,7 +25,7 @@ pub record IsReadyHeld (count : ℕ) (ks : List Key) (s made : SourceParts) (h :
   pub records : IsReadyFor count changes s made h.records ready.records
   pub lines : IsReadyLines made h.charstrings ready.lines
 
--- profile: there are such edits and such sources
+-- word: there are such edits and such sources
 pub record MayBeSettled (h : Held) (ready : ReadyHeld) : Type 0 where
   pub count : ℕ
   pub keys : List Key

@@ -7,13 +7,13 @@ ghost use Rattle.t1_source.specs.declared.editing.change.Change.{Change};
 ghost use Rattle.t1_source.specs.Changes.{changed};
 ghost use Rattle.t1_font.specs.Assembly.{file_check};
 ghost use Rattle.t1_cache.specs.Edited.{named};
-ghost use Rattle.t1_batch.specs.Batch.{entry_edit, keys, IsEditedBy};
+ghost use Rattle.t1_held.specs.Batch.{entry_edit, keys, IsEditedBy};
 ghost use Rattle.t1_held.specs.declared.held.Held.{Held};
 ghost use Rattle.t1_held.specs.Edits.{keys_of, made_by, made_of, source_of, AreChanges, AreRight, IsPreparedEdit};
 ghost use Rattle.t1_held.specs.Held.{IsHeld};
 
+use crate::batch::{EditedEntry, batch_changes};
 use std::alloc::Global;
-use t1_batch::{EditedEntry, batch_changes};
 use t1_charstrings::Made;
 use t1_frac::Refusal;
 use t1_pairs::Pairs;

@@ -5,14 +5,21 @@
 //! [`prepare_edits`] judges the source that they make, runs the glyphs that they make stale, and makes all that takes memory;
 //! [`settle`] puts it in place, and can't fail. Between the two the source and its pairs are changed. [`held_metrics`] gives the
 //! metrics of the glyphs; [`write_held_file`] writes a file.
+//!
+//! The edits of an open batch gather in a [`Batch`], which is a source of its own until its commit.
+//!
+//! All of it is for `t1_session`.
 #![tactic(auto)]
 
+mod batch;
 mod edits;
 mod entries;
 mod files;
 mod held;
+pub mod laws;
 mod preparing;
 
+pub use batch::{Batch, EditedEntry, batch_changes};
 pub use edits::Edits;
 pub use files::write_held_file;
 pub use held::{Held, ReadyHeld, held_metrics, held_of, settle};

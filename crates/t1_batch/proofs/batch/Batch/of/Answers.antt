@@ -1,5 +1,0 @@
-use Rattle.t1_batch.proofs.Drafting.{first-draft}
-use Rattle.t1_batch.proofs.batch.Batch.of.Goals as goal
-
-pub returns-clause-draft : goal.returns-clause-draft
-returns-clause-draft c = first-draft c.args.source.now c.in_ok-copied.field-0 c.new.result.items c.in_ok-copied.ensures c.new.ensures.items

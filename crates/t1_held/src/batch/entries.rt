@@ -1,0 +1,78 @@
+//! The entries that edits name.
+ghost use Rattle.std.specs.Prelude.{◌≡◌, IfOk};
+ghost use Rattle.std.specs.Option.{option_map};
+ghost use Rattle.t1_run.specs.Run.{Glyph};
+ghost use Rattle.t1_cache.specs.Users.{key_of};
+ghost use Rattle.t1_rerun.specs.Renewing.{entry_key, number_key};
+ghost use Rattle.t1_held.specs.Batch.{adds, entry_edit};
+
+use std::alloc::{AllocError, Global};
+use t1_cache::Named;
+use t1_frac::Bytes;
+use t1_source::Edit;
+
+/// An entry that an edit of a batch names, and whether the edit added it.
+#[derive(Debug, Drop)]
+pub struct EditedEntry {
+    pub named: Named,
+    pub added: bool,
+}
+
+/// The Subr of this number, where the number has 16 bits.
+fn subr_named(number: i64) -> Option<Named>
+    ensures { option_map key_of result ≡ number_key number }
+{
+    if 0 <= number && number <= 65_535 {
+        Some(Named::Subr(number as u16))
+    } else {
+        None
+    }
+}
+
+/// The glyph of this name.
+fn glyph_named(alloc: Global, name: &Bytes) -> Result<Named, AllocError>
+    ensures { IfOk result (λ entry. key_of entry ≡ Glyph name.now) }
+{
+    Ok(Named::Glyph(Bytes::copied(alloc, name.as_slice())?))
+}
+
+/// The Subr or the glyph that an edit names, where it names one.
+fn named_entry(alloc: Global, edit: &Edit) -> Result<Option<Named>, AllocError>
+    ensures { IfOk result (λ entry. option_map key_of entry ≡ entry_key edit.now) }
+{
+    match edit {
+        Edit::ReplaceGlyph(name, _) => Ok(Some(glyph_named(alloc, name)?)),
+        Edit::AddGlyph(name, _) => Ok(Some(glyph_named(alloc, name)?)),
+        Edit::RemoveGlyph(name) => Ok(Some(glyph_named(alloc, name)?)),
+        Edit::ReplaceSubr(number, _) => Ok(subr_named(*number)),
+        Edit::AddSubr(number, _) => Ok(subr_named(*number)),
+        Edit::RemoveSubr(number) => Ok(subr_named(*number)),
+        Edit::Encode(_, _) => Ok(None),
+        Edit::Unencode(_) => Ok(None),
+        Edit::LenIv(_) => Ok(None),
+        Edit::Kern(_, _, _) => Ok(None),
+        Edit::Unkern(_, _) => Ok(None),
+    }
+}
+
+/// Whether an edit adds an entry.
+fn adds_entry(edit: &Edit) -> bool
+    ensures { result ≡ adds edit.now }
+{
+    match edit {
+        Edit::AddGlyph(_, _) => true,
+        Edit::AddSubr(_, _) => true,
+        _ => false,
+    }
+}
+
+/// The entry that an edit names, where it names one.
+pub fn edited_entry(alloc: Global, edit: &Edit) -> Result<Option<EditedEntry>, AllocError>
+    ensures { IfOk result (λ entry. option_map entry_edit entry ≡ option_map (λ key. record { key = key; added = adds edit.now }) (entry_key edit.now)) }
+{
+    let Some(named) = named_entry(alloc, edit)? else {
+        return Ok(None);
+    };
+    let added = adds_entry(edit);
+    Ok(Some(EditedEntry { named, added }))
+}
