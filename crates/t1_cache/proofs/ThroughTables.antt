@@ -3,11 +3,11 @@ use Rattle.std.proofs.Common.{◌≡◌, ℕ, Bool, List, [], ◌∷◌, map, re
 use Rattle.std.specs.Prelude.{◌||◌}
 use Rattle.std.specs.List.{list_any}
 use Rattle.t1_run.specs.Run.{FontBodies, Glyph}
-use Rattle.t1_run.specs.Touched.{is_key_of, is_met, Found as FoundAmong, Seed as SeedAmong, User as UserAmong}
+use Rattle.t1_run.specs.Touched.{is_key_of, is_met, Found as FoundAmong, Seed as SeedAmong, User as UserAmong, AreStale}
 use Rattle.t1_cache.specs.declared.records.Named.{Named}
 use Rattle.t1_cache.specs.declared.records.Records.{Records}
 use Rattle.t1_cache.specs.Found.{Reached, Seed, User, Closes}
-use Rattle.t1_cache.specs.Tables.{is_seed, AreTables, AreStale}
+use Rattle.t1_cache.specs.Tables.{is_seed, AreTables}
 use Rattle.t1_cache.specs.Users.{among, glyph_users, key_of}
 
 module _ (m : FontBodies) (records : Records) (tables : AreTables m records) where

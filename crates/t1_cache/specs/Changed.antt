@@ -11,35 +11,35 @@ use Rattle.t1_cache.specs.Bodies.{record_bodies}
 use Rattle.t1_cache.specs.Renewed.{kept_of}
 use Rattle.t1_cache.specs.Users.{rest_of, users_at, UserSet}
 
--- profile: the records have this body, or none, at the key, and at each other key what they had
+-- word: the records have this body, or none, at the key, and at each other key what they had
 abbrev pub SetsBody : Key → Option (List Command) → Records → Records → Type 0
 SetsBody key body old new = (k : Key) → body_at (record_bodies new) k ≡ (if key_eq k key then body else body_at (record_bodies old) k)
 
--- profile: the record at the key, where there is one, has this body, and each other record has what it had
+-- word: the record at the key, where there is one, has this body, and each other record has what it had
 abbrev pub PutsBody : Key → List Command → Records → Records → Type 0
 PutsBody key body old new =
     (k : Key) → body_at (record_bodies new) k ≡ (if key_eq k key then option_map (λ was. body) (body_at (record_bodies old) k) else body_at (record_bodies old) k)
 
--- profile: the record at the key has these users, or there is none, and at each other key the users are what they were
+-- word: the record at the key has these users, or there is none, and at each other key the users are what they were
 abbrev pub SetsUsers : Key → Option UserSet → Records → Records → Type 0
 SetsUsers key users old new = (k : Key) → users_at new k ≡ (if key_eq k key then users else users_at old k)
 
--- profile: at most so many places of the room for records are used up
+-- word: at most so many places of the room for records are used up
 abbrev pub UsesUp : ℕ → Records → Records → Type 0
 UsesUp count old new = (spare old.subrs ≤ spare new.subrs + count) × (spare old.glyphs ≤ spare new.glyphs + count)
 
--- profile: the same records in the same order
+-- word: the same records in the same order
 abbrev pub AreUnchanged : Records → Records → Type 0
 AreUnchanged old new = (new.subrs.entries ≡ old.subrs.entries) × (new.glyphs.entries ≡ old.glyphs.entries)
 
--- profile: records that have the bodies of a font, and then what another font has at the one key where the two may
+-- word: records that have the bodies of a font, and then what another font has at the one key where the two may
 -- differ, have the bodies of that font
 abbrev pub ChangedBodiesLaw : Type 0
 ChangedBodiesLaw =
     (key : Key) (m n : FontBodies) → SameBut (key ∷ []) m n → (old new : Records) → SameBodies (record_bodies old) m
     → SetsBody key (body_at n key) old new → SameBodies (record_bodies new) n
 
--- profile: records that differ in their users alone have the same bodies, runs and boxes
+-- word: records that differ in their users alone have the same bodies, runs and boxes
 abbrev pub RestLaw : Type 0
 RestLaw =
     (old new : Records) → rest_of new ≡ rest_of old

@@ -33,15 +33,15 @@ pub record KeepsAll (s : SourceParts) (records : List Kept) : Type 0 where
   pub faultless : source_glyphs s ≡ Ok glyphs
   pub from_scratch : map shown records ≡ map shown_from glyphs
 
--- profile: the run of each record keeps its trace, unless its glyph can't be a part
+-- word: the run of each record keeps its trace, unless its glyph can't be a part
 abbrev pub keep_traces : Records → Bool
 keep_traces records = list_all (λ (k : Kept). traces k.name k.run) (map kept_of records.glyphs.entries)
 
--- profile: the records bear the names of the glyphs, in source order
+-- word: the records bear the names of the glyphs, in source order
 abbrev pub KeptNamesLaw : Type 0
 KeptNamesLaw = (s : SourceParts) (records : List Kept) → KeepsAll s records → map (λ k. k.name) records ≡ glyph_names s.items
 
--- profile: the records of a source have the own runs of its font
+-- word: the records of a source have the own runs of its font
 abbrev pub RecordedLaw : Type 0
 RecordedLaw =
     (s : SourceParts) (records : Records) → KeepsAll s (map kept_of records.glyphs.entries) → (g : List ℕ) → recorded_run records g ≡ own (bodies s.items) g

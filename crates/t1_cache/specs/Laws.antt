@@ -21,59 +21,59 @@ use Rattle.t1_font.specs.Bodies.{bodies}
 use Rattle.t1_font.specs.Glyphs.{Glyph as Reported, glyphs, glyph_names}
 use Rattle.t1_cache.specs.Edited.{IsEditedAt, named, names_after, is_stale, stale}
 
--- profile: whether glyphs have no fault, or their first one
+-- word: whether glyphs have no fault, or their first one
 abbrev pub check : {X : Type 0} → Result X Fault → Result (Unit {0}) Fault
 check r = r >>= λ _. Ok tt
 
--- profile: the first fault of the glyphs of an edited source is that of its stale glyphs
+-- word: the first fault of the glyphs of an edited source is that of its stale glyphs
 abbrev pub FirstFaultLaw : Type 0
 FirstFaultLaw =
     (keys : List Key) (old new : SourceParts) (was : List Reported) → IsEditedAt keys old new → glyphs (bodies old.items) (glyph_names old.items) ≡ Ok was
     → check (glyphs (bodies new.items) (glyph_names new.items)) ≡ check (glyphs (bodies new.items) (stale old keys new))
 
--- profile: an entry's key is among these
+-- word: an entry's key is among these
 abbrev pub IsAmong : List Key → Item → Type 0
 IsAmong keys (items.Subr n words closing) = Includes keys (Subr n)
 IsAmong keys (items.Glyph g words closing) = Includes keys (Glyph g)
 IsAmong keys (items.Plain line) = Unit {0}
 IsAmong keys (items.Section before n after) = Unit {0}
 
--- profile: entries of these keys in the place of others of these keys, with the counts raised, edit a source at the keys
+-- word: entries of these keys in the place of others of these keys, with the counts raised, edit a source at the keys
 abbrev pub MiddleLaw : Type 0
 MiddleLaw =
     (keys : List Key) (old new : SourceParts) (a xs ys b : List Item) → AllByRecursion (IsAmong keys) xs → AllByRecursion (IsAmong keys) ys
     → old.items ≡ a ++ (xs ++ b) → new.items ≡ raised (a ++ (ys ++ b)) → IsEditedAt keys old new
 
--- profile: each of the eleven edits changes a source at the key that it names, and nowhere else
+-- word: each of the eleven edits changes a source at the key that it names, and nowhere else
 abbrev pub EditLaw : Type 0
 EditLaw = (s : SourceParts) (k : List Pair) (edit : Edit) (made : SourceParts) (ps : List Pair) → edited s k edit ≡ Ok (made, ps) → IsEditedAt (named edit) s made
 
--- profile: each edit leaves the names of the glyphs in their order, with a new one after them, or without one
+-- word: each edit leaves the names of the glyphs in their order, with a new one after them, or without one
 abbrev pub NamesLaw : Type 0
 NamesLaw =
     (s : SourceParts) (k : List Pair) (edit : Edit) (made : SourceParts) (ps : List Pair) → IsWellFormed s → edited s k edit ≡ Ok (made, ps)
     → glyph_names made.items ≡ names_after edit (glyph_names s.items)
 
--- profile: edits taken in turn edit a source at the keys of all
+-- word: edits taken in turn edit a source at the keys of all
 abbrev pub TurnLaw : Type 0
 TurnLaw = (ks ls : List Key) (a b c : SourceParts) → IsEditedAt ks a b → IsEditedAt ls b c → IsEditedAt (ks ++ ls) a c
 
--- profile: each name stands there once
+-- word: each name stands there once
 abbrev pub AreDistinct : List (List ℕ) → Type 0
 AreDistinct [] = Unit {0}
 AreDistinct (g ∷ names) = (list_any (bytes_eq g) names ≡ false) × AreDistinct names
 
--- profile: no two glyphs of a source that was read or edited bear the same name
+-- word: no two glyphs of a source that was read or edited bear the same name
 abbrev pub DistinctLaw : Type 0
 DistinctLaw = (s : SourceParts) → IsWellFormed s → AreDistinct (glyph_names s.items)
 
--- profile: names that were found, each once, are as many as the glyphs that pass, where they are these glyphs
+-- word: names that were found, each once, are as many as the glyphs that pass, where they are these glyphs
 abbrev pub CountLaw : Type 0
 CountLaw =
     (names found : List (List ℕ)) (p : List ℕ → Bool) → AreDistinct names → AreDistinct found
     → ((g : List ℕ) → list_any (bytes_eq g) found ≡ (list_any (bytes_eq g) names && p g)) → length found ≡ length (filter p names)
 
--- profile: where each glyph of the edited font has its run, made again where it is stale and kept where it isn't, the
+-- word: where each glyph of the edited font has its run, made again where it is stale and kept where it isn't, the
 -- outlines by these runs are those of the edited font
 abbrev pub NewestLaw : Type 0
 NewestLaw =

@@ -13,23 +13,23 @@ use Rattle.t1_source.specs.WellFormed.{IsWellFormed}
 use Rattle.t1_font.specs.Bodies.{SameBodies, bodies}
 use Rattle.t1_cache.specs.Edited.{body_after, named}
 
--- profile: a font with some bodies set and some taken out
+-- word: a font with some bodies set and some taken out
 abbrev pub overlaid : (ℕ → Option (Option (List Command))) → (List ℕ → Option (Option (List Command))) → FontBodies → FontBodies
 overlaid subrs glyphs m = font (λ n. changed (subrs n) (m.subrs n)) (λ g. changed (glyphs g) (m.glyphs g))
 
--- profile: what is changed at a key
+-- word: what is changed at a key
 abbrev pub change_at : (ℕ → Option (Option (List Command))) → (List ℕ → Option (Option (List Command))) → Key → Option (Option (List Command))
 change_at subrs glyphs (Subr n) = subrs n
 change_at subrs glyphs (Glyph g) = glyphs g
 
--- profile: a font that differs from another at these keys alone is the other with what it has at each of them
+-- word: a font that differs from another at these keys alone is the other with what it has at each of them
 abbrev pub OverlayLaw : Type 0
 OverlayLaw =
     (keys : List Key) (m n : FontBodies) → SameBut keys m n → (subrs : ℕ → Option (Option (List Command))) (glyphs : List ℕ → Option (Option (List Command)))
     → ((k : Key) (body : Option (List Command)) → change_at subrs glyphs k ≡ Some body → body ≡ body_at n k)
     → ((k : Key) → change_at subrs glyphs k ≡ None → Includes keys k → ⊥) → SameBodies (overlaid subrs glyphs m) n
 
--- profile: the body at the key that an edit names is that of the edit
+-- word: the body at the key that an edit names is that of the edit
 abbrev pub BodyLaw : Type 0
 BodyLaw =
     (s : SourceParts) (k : List Pair) (edit : Edit) (made : SourceParts) (ps : List Pair) → IsWellFormed s → edited s k edit ≡ Ok (made, ps)

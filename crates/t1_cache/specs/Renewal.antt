@@ -23,7 +23,7 @@ use Rattle.t1_cache.specs.declared.records.Rerun.{Rerun}
 use Rattle.t1_cache.specs.Renewed.{Kept, with_reruns}
 use Rattle.t1_cache.specs.Users.{has}
 
--- profile: a record has the own run of its glyph, with its trace unless it can't be a part, and the box of its outline
+-- word: a record has the own run of its glyph, with its trace unless it can't be a part, and the box of its outline
 pub record IsFromScratch (m : FontBodies) (k : Kept) : Type 0 where
   pub segments : List Segment
   pub run : own m k.name ≡ Some (Ok k.run.drawing)
@@ -36,12 +36,12 @@ abbrev pub IsOneOf : List Kept → Kept → Type 0
 IsOneOf [] k = ⊥
 IsOneOf (x ∷ xs) k = (x ≡ k) ⊎ IsOneOf xs k
 
--- profile: a record of a stale glyph is from scratch, and another is one that was kept
+-- word: a record of a stale glyph is from scratch, and another is one that was kept
 pub record IsRenewed (keys : List Key) (old new : SourceParts) (kept : List Kept) (k : Kept) : Type 0 where
   pub stale : is_stale old keys k.name ≡ true → IsFromScratch (bodies new.items) k
   pub fresh : is_stale old keys k.name ≡ false → IsOneOf kept k
 
--- profile: records in the order of the new names, each renewed where it is stale and kept else, are those of the edited
+-- word: records in the order of the new names, each renewed where it is stale and kept else, are those of the edited
 -- source, where it has no fault
 abbrev pub RenewalLaw : Type 0
 RenewalLaw =
@@ -49,11 +49,11 @@ RenewalLaw =
     → (kept records : List Kept) → KeepsAll old kept → map (λ k. k.name) records ≡ glyph_names new.items
     → AllByRecursion (IsRenewed keys old new kept) records → KeepsAll new records
 
--- profile: what a rerun puts into the record of its glyph
+-- word: what a rerun puts into the record of its glyph
 abbrev pub kept_by : Rerun → Kept
 kept_by r = record { name = r.name.items; run = r.run; box = r.bbox }
 
--- profile: records in the order of the new names, those kept where they are fresh, of which the stale glyphs were run
+-- word: records in the order of the new names, those kept where they are fresh, of which the stale glyphs were run
 -- again, are those of the edited source, where it has no fault
 abbrev pub RerunsLaw : Type 0
 RerunsLaw =
@@ -64,24 +64,24 @@ RerunsLaw =
     → ((g : List ℕ) → list_any (bytes_eq g) (glyph_names new.items) ≡ true → has (λ r. r.name.items) reruns g ≡ is_stale old keys g)
     → KeepsAll new (with_reruns reruns before)
 
--- profile: the records after an edit, before any glyph is run again: a new glyph has some run and box, and is the last one
+-- word: the records after an edit, before any glyph is run again: a new glyph has some run and box, and is the last one
 abbrev pub kept_after : Edit → TracedRun → Option BBox → List Kept → List Kept
 kept_after (AddGlyph g body) run box kept = kept ++ record { name = g; run = run; box = box } ∷ []
 kept_after (RemoveGlyph g) run box kept = filter (λ k. not (bytes_eq g k.name)) kept
 kept_after _ run box kept = kept
 
--- profile: records stand in the order of the edited source, and each that is fresh is one of those kept
+-- word: records stand in the order of the edited source, and each that is fresh is one of those kept
 pub record AreInPlace (keys : List Key) (old new : SourceParts) (kept before : List Kept) : Type 0 where
   pub order : map (λ k. k.name) before ≡ glyph_names new.items
   pub fresh : AllByRecursion (λ k. is_stale old keys k.name ≡ false → IsOneOf kept k) before
 
--- profile: the records after one edit are in place
+-- word: the records after one edit are in place
 abbrev pub KeptAfterLaw : Type 0
 KeptAfterLaw =
     (s : SourceParts) (k : List Pair) (edit : Edit) (made : SourceParts) (ps : List Pair) → IsWellFormed s → edited s k edit ≡ Ok (made, ps)
     → (kept : List Kept) → KeepsAll s kept → (run : TracedRun) (box : Option BBox) → AreInPlace (named edit) s made kept (kept_after edit run box kept)
 
--- profile: after one edit more they are in place at the keys of all edits
+-- word: after one edit more they are in place at the keys of all edits
 abbrev pub KeptTurnLaw : Type 0
 KeptTurnLaw =
     (keys : List Key) (old s : SourceParts) (k : List Pair) (edit : Edit) (made : SourceParts) (ps : List Pair) → IsWellFormed s → edited s k edit ≡ Ok (made, ps)

@@ -21,7 +21,7 @@ pub record Kept : Type 0 where
   pub run : TracedRun
   pub box : Option BBox
 
--- profile: the record of a glyph, its body and users aside
+-- word: the record of a glyph, its body and users aside
 abbrev pub kept : List ℕ → TracedRun → Option BBox → Kept
 kept name run box = record { name = name; run = run; box = box }
 
@@ -29,40 +29,40 @@ kept name run box = record { name = name; run = run; box = box }
 abbrev pub kept_of : Vec ℕ Global × GlyphRecord → Kept
 kept_of e = record { name = e.0.items; run = e.1.run; box = e.1.bbox }
 
--- profile: the names of the glyphs that have a record
+-- word: the names of the glyphs that have a record
 abbrev pub names_of : List (Vec ℕ Global × GlyphRecord) → List (List ℕ)
 names_of entries = map (λ e. e.0.items) entries
 
--- profile: the record of the glyph of this name
+-- word: the record of the glyph of this name
 abbrev pub record_of : List (Vec ℕ Global × GlyphRecord) → List ℕ → Option GlyphRecord
 record_of entries g = lookup (λ key. bytes_eq g key.items) entries
 
--- profile: what the run of a glyph's record draws
+-- word: what the run of a glyph's record draws
 abbrev pub recorded_run : Records → List ℕ → Option (Result Drawing Code)
 recorded_run records g = option_map (λ r. Ok r.run.drawing) (record_of records.glyphs.entries g)
 
--- profile: the record of this name has another run and box, in its place
+-- word: the record of this name has another run and box, in its place
 abbrev pub with_run : List ℕ → TracedRun → Option BBox → List Kept → List Kept
 with_run name run box [] = []
 with_run name run box (k ∷ kept) = if bytes_eq name k.name then record { name = k.name; run = run; box = box } ∷ kept else k ∷ with_run name run box kept
 
--- profile: the first rerun of the glyph of this name
+-- word: the first rerun of the glyph of this name
 abbrev pub rerun_of : List Rerun → List ℕ → Option Rerun
 rerun_of reruns g = find (λ r. bytes_eq g r.name.items) reruns
 
--- profile: a record with the run and box of a rerun, where there is one
+-- word: a record with the run and box of a rerun, where there is one
 abbrev pub with_rerun : Option Rerun → Kept → Kept
 with_rerun None k = k
 with_rerun (Some r) k = record { name = k.name; run = r.run; box = r.bbox }
 
--- profile: the records of the glyphs that were run again have their new runs and boxes; the others stay
+-- word: the records of the glyphs that were run again have their new runs and boxes; the others stay
 abbrev pub with_reruns : List Rerun → List Kept → List Kept
 with_reruns reruns kept = map (λ k. with_rerun (rerun_of reruns k.name) k) kept
 
--- profile: new runs by name, as reruns
+-- word: new runs by name, as reruns
 abbrev pub rerun_by_name : Vec ℕ Global × NewRun → Rerun
 rerun_by_name e = record { name = e.0; run = e.1.run; bbox = e.1.bbox }
 
--- profile: the same, of all of them
+-- word: the same, of all of them
 abbrev pub reruns_by_name : List (Vec ℕ Global × NewRun) → List Rerun
 reruns_by_name entries = map rerun_by_name entries

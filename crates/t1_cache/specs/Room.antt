@@ -12,18 +12,18 @@ use Rattle.t1_cache.specs.Bodies.{record_bodies}
 use Rattle.t1_cache.specs.Joins.{AreLeaves}
 use Rattle.t1_cache.specs.Users.{HasRoom, Pairs, UserSet, users_at, wanted}
 
--- profile: so many users more may join with no allocation, where there is a record
+-- word: so many users more may join with no allocation, where there is a record
 abbrev pub MayJoin : ℕ → Option UserSet → Type 0
 MayJoin count None = Unit {0}
 MayJoin count (Some users) = count ≤ users.room
 
--- profile: the same users in the same order, with at least the room that there was
+-- word: the same users in the same order, with at least the room that there was
 abbrev pub IsRoomier : Option UserSet → Option UserSet → Type 0
 IsRoomier None None = Unit {0}
 IsRoomier (Some old) (Some new) = (new.names ≡ old.names) × (old.room ≤ new.room)
 IsRoomier _ _ = ⊥
 
--- profile: where the records have the bodies of a font, room for those that join by its runs is there for each key:
+-- word: where the records have the bodies of a font, room for those that join by its runs is there for each key:
 -- what runs use has a record
 abbrev pub RoomLaw : Type 0
 RoomLaw =
@@ -32,15 +32,15 @@ RoomLaw =
 
 -- ---- how many joined so far
 
--- profile: how many joined a Subr
+-- word: how many joined a Subr
 abbrev pub subr_count : List (ℕ × ℕ) → ℕ → ℕ
 subr_count counts n = unwrap_or (lookup (nat_eq n) counts) 0
 
--- profile: how many joined a glyph
+-- word: how many joined a glyph
 abbrev pub glyph_count : List (Bor (List ℕ) × ℕ) → List ℕ → ℕ
 glyph_count counts g = unwrap_or (lookup (λ name. bytes_eq g name.now) counts) 0
 
--- profile: how many joined a Subr or a glyph
+-- word: how many joined a Subr or a glyph
 abbrev pub count_at : Counts → Key → ℕ
 count_at counts (Subr n) = subr_count counts.subrs.entries n
 count_at counts (Glyph g) = glyph_count counts.glyphs.entries g

@@ -10,17 +10,17 @@ use Rattle.t1_font.specs.Bodies.{bodies}
 use Rattle.t1_font.specs.Glyphs.{Glyph as Reported, glyph_names}
 use Rattle.t1_font.specs.SourceChecks.{source_glyphs}
 
--- profile: each Subr that a run without a fault enters, and each part of its composite, has a body in the font
+-- word: each Subr that a run without a fault enters, and each part of its composite, has a body in the font
 abbrev pub UsesThereLaw : Type 0
 UsesThereLaw = (m : FontBodies) (g : List ℕ) (k : Key) → is_user k (own m g) ≡ true → (body : List Command) × (body_at m k ≡ Some body)
 
--- profile: the glyphs that have a body are entries of the source, and where it has no fault, each entry of a glyph has
+-- word: the glyphs that have a body are entries of the source, and where it has no fault, each entry of a glyph has
 -- a body
 pub record NamesThere (s : SourceParts) : Type 0 where
   pub named : (g : List ℕ) (body : List Command) → (bodies s.items).glyphs g ≡ Some body → list_any (bytes_eq g) (glyph_names s.items) ≡ true
   pub there : (reported : List Reported) → source_glyphs s ≡ Ok reported → (g : List ℕ) → list_any (bytes_eq g) (glyph_names s.items) ≡ true
       → (body : List Command) × ((bodies s.items).glyphs g ≡ Some body)
 
--- profile: this is so for every source
+-- word: this is so for every source
 abbrev pub NamesThereLaw : Type 0
 NamesThereLaw = (s : SourceParts) → NamesThere s

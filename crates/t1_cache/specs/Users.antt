@@ -17,74 +17,74 @@ use Rattle.t1_cache.specs.declared.records.Records.{Records}
 use Rattle.t1_cache.specs.declared.records.Named.{Named}
 use Rattle.t1_cache.specs.declared.records.Named.TheVariants as named
 
--- profile: a name is among these
+-- word: a name is among these
 abbrev pub has : {K : Type 0} → (K → List ℕ) → List K → List ℕ → Bool
 has name ks g = list_any (λ k. bytes_eq g (name k)) ks
 
--- profile: the names that a record lists, and how many more fit in with no allocation
+-- word: the names that a record lists, and how many more fit in with no allocation
 pub record UserSet : Type 0 where
   pub names : List (Vec ℕ Global)
   pub room : ℕ
 
--- profile: the names of a set, and its room
+-- word: the names of a set, and its room
 abbrev pub users_of : {S : Type 0} → IndexSet (Vec ℕ Global) S → UserSet
 users_of s = record { names = s.keys; room = spare s }
 
--- profile: the users of the Subr of this number
+-- word: the users of the Subr of this number
 abbrev pub subr_users : List (ℕ × SubrRecord) → ℕ → Option UserSet
 subr_users entries n = option_map (λ r. users_of r.users) (lookup (nat_eq n) entries)
 
--- profile: the users of the glyph of this name
+-- word: the users of the glyph of this name
 abbrev pub glyph_users : List (Vec ℕ Global × GlyphRecord) → List ℕ → Option UserSet
 glyph_users entries g = option_map (λ r. users_of r.users) (lookup (λ key. bytes_eq g key.items) entries)
 
--- profile: the users of a Subr or a glyph that has a record
+-- word: the users of a Subr or a glyph that has a record
 abbrev pub users_at : Records → Key → Option UserSet
 users_at r (Subr n) = subr_users r.subrs.entries n
 users_at r (Glyph g) = glyph_users r.glyphs.entries g
 
--- profile: a glyph is among these users; none is, where there is no record
+-- word: a glyph is among these users; none is, where there is no record
 abbrev pub among : Option UserSet → List ℕ → Bool
 among None u = false
 among (Some users) u = has (λ name. name.items) users.names u
 
--- profile: the record of a Subr or a glyph lists a glyph as a user
+-- word: the record of a Subr or a glyph lists a glyph as a user
 abbrev pub lists : Records → Key → List ℕ → Bool
 lists r key u = among (users_at r key) u
 
--- profile: so many users more fit in with no allocation; none, where there is no record
+-- word: so many users more fit in with no allocation; none, where there is no record
 abbrev pub HasRoom : ℕ → Option UserSet → Type 0
 HasRoom count None = count ≡ 0
 HasRoom count (Some users) = count ≤ users.room
 
 -- ---- records without their users
 
--- profile: the record of a Subr, its users aside
+-- word: the record of a Subr, its users aside
 pub record SubrRest : Type 0 where
   pub number : ℕ
   pub body : List Command
 
--- profile: the record of a glyph, its users aside
+-- word: the record of a glyph, its users aside
 pub record GlyphRest : Type 0 where
   pub name : List ℕ
   pub body : List Command
   pub run : TracedRun
   pub bbox : Option BBox
 
--- profile: all records, their users aside
+-- word: all records, their users aside
 pub record Rest : Type 0 where
   pub subrs : List SubrRest
   pub glyphs : List GlyphRest
 
--- profile: an entry of the table of Subrs, its users aside
+-- word: an entry of the table of Subrs, its users aside
 abbrev pub subr_rest : ℕ × SubrRecord → SubrRest
 subr_rest e = record { number = e.0; body = e.1.body }
 
--- profile: an entry of the table of glyphs, its users aside
+-- word: an entry of the table of glyphs, its users aside
 abbrev pub glyph_rest : Vec ℕ Global × GlyphRecord → GlyphRest
 glyph_rest e = record { name = e.0.items; body = e.1.body; run = e.1.run; bbox = e.1.bbox }
 
--- profile: both tables, their users aside
+-- word: both tables, their users aside
 abbrev pub rest_of : Records → Rest
 rest_of r = record { subrs = map subr_rest r.subrs.entries; glyphs = map glyph_rest r.glyphs.entries }
 
@@ -95,19 +95,19 @@ abbrev pub key_of : Named → Key
 key_of (named.Subr n) = Subr n
 key_of (named.Glyph g) = Glyph g
 
--- profile: the glyph of a key is among these names
+-- word: the glyph of a key is among these names
 abbrev pub is_key_among : List (Vec ℕ Global) → Key → Bool
 is_key_among names (Subr n) = false
 is_key_among names (Glyph g) = has (λ name. name.items) names g
 
--- profile: Subrs and glyphs, each with a glyph that leaves or joins its users
+-- word: Subrs and glyphs, each with a glyph that leaves or joins its users
 abbrev pub Pairs : Type 0
 Pairs = List (Named × Vec ℕ Global)
 
--- profile: how many of these pairs are of this key
+-- word: how many of these pairs are of this key
 abbrev pub wanted : Pairs → Key → ℕ
 wanted pairs k = count_by (λ p. key_eq k (key_of p.0)) pairs
 
--- profile: whether one of these pairs is of this key and this glyph
+-- word: whether one of these pairs is of this key and this glyph
 abbrev pub has_pair : Pairs → Key → List ℕ → Bool
 has_pair pairs k u = list_any (λ p. key_eq k (key_of p.0) && bytes_eq u p.1.items) pairs

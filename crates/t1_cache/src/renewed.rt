@@ -5,7 +5,7 @@ ghost use Rattle.t1_cache.specs.Laws.{AreDistinct};
 ghost use Rattle.t1_cache.specs.Renewed.{kept_of, names_of, record_of, reruns_by_name, with_run, with_reruns};
 ghost use Rattle.t1_cache.specs.Users.{glyph_users};
 
-use crate::records::{GlyphRecord, NewRuns, Rerun};
+use crate::records::{GlyphRecord, NewRuns};
 use indexmap::IndexMap;
 use std::mem;
 use t1_afm::BBox;
@@ -31,19 +31,6 @@ pub fn renew(
             record.bbox = bbox;
             Some(mem::replace(&mut record.run, run))
         }
-    }
-}
-
-/// Puts the new run and box of each glyph that was run again into its record. Of several reruns of a glyph the first
-/// counts, and one without a record is dropped. It takes no memory and can't fail.
-pub fn renew_all(glyphs: &mut IndexMap<Vec<u8>, GlyphRecord>, reruns: Vec<Rerun>)
-    ensures records { map kept_of glyphs.new.entries ≡ with_reruns reruns.items (map kept_of glyphs.old.entries) }
-    ensures users { (p : List ℕ) → glyph_users glyphs.new.entries p ≡ glyph_users glyphs.old.entries p }
-    ensures bodies { (p : List ℕ) → glyph_body glyphs.new.entries p ≡ glyph_body glyphs.old.entries p }
-{
-    let mut left = reruns;
-    while let Some(Rerun { name, run, bbox }) = left.pop() {
-        renew(glyphs, name.as_slice(), run, bbox);
     }
 }
 

@@ -4,7 +4,8 @@ ghost use Rattle.std.specs.Str.{bytes_eq};
 ghost use Rattle.t1_run.specs.Run.{FontBodies};
 ghost use Rattle.t1_cache.specs.Found.{Closes};
 ghost use Rattle.t1_cache.specs.Laws.{AreDistinct};
-ghost use Rattle.t1_cache.specs.Tables.{is_seed, AreTables, AreStale};
+ghost use Rattle.t1_cache.specs.Tables.{is_seed, AreTables};
+ghost use Rattle.t1_run.specs.Touched.{AreStale};
 ghost use Rattle.t1_cache.specs.Users.{among, glyph_users, has, key_of, subr_users};
 
 use crate::records::{GlyphRecord, Named, Names, Records, SubrRecord};

@@ -11,7 +11,7 @@ use Rattle.t1_parts.specs.declared.item.Item.{Item}
 use Rattle.t1_parts.specs.SourceParts.{SourceParts}
 use Rattle.t1_run.specs.Composite.{outline, outline_within}
 use Rattle.t1_run.specs.Run.{FontBodies, Key, Glyph, Drawing, own, own_of}
-use Rattle.t1_run.specs.Touched.{is_named, meets_run, meets_parts, touched_within, is_touched}
+use Rattle.t1_run.specs.Touched.{is_named, meets_run, meets_parts, touched_within, is_touched, AreStale}
 use Rattle.t1_run.proofs.Agreeing.{own_same}
 use Rattle.t1_run.proofs.FoundByUsers.{found_are_touched}
 use Rattle.t1_font.specs.Bodies.{bodies, glyph_among, SameBodies}
@@ -23,7 +23,6 @@ use Rattle.t1_cache.specs.declared.records.Records.{Records}
 use Rattle.t1_cache.specs.Edited.{IsEditedAt, is_stale, stale}
 use Rattle.t1_cache.specs.Kept.{shown, shown_from}
 use Rattle.t1_cache.specs.Renewed.{kept_of, recorded_run}
-use Rattle.t1_cache.specs.Tables.{AreStale}
 use Rattle.t1_cache.proofs.Drawing.{all_draw}
 use Rattle.t1_cache.proofs.Newest.{found as at-glyph, newest_drawn, not-key}
 use Rattle.t1_cache.proofs.Recorded.{runs_recorded}

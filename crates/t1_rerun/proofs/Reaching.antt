@@ -11,7 +11,7 @@ use Rattle.t1_frac.specs.Outcome.{Refuses}
 use Rattle.t1_code.specs.declared.command.Command.{Command}
 use Rattle.t1_parts.specs.SourceParts.{SourceParts}
 use Rattle.t1_run.specs.Run.{FontBodies, Key, Glyph}
-use Rattle.t1_run.specs.Touched.{is_user}
+use Rattle.t1_run.specs.Touched.{is_user, AreStale}
 use Rattle.t1_font.specs.declared.glyph_metrics.GlyphMetrics.{GlyphMetrics}
 use Rattle.t1_font.specs.Bodies.{bodies}
 use Rattle.t1_font.specs.Glyphs.{glyph_names}
@@ -24,7 +24,6 @@ use Rattle.t1_cache.specs.declared.records.Rerun.{Rerun}
 use Rattle.t1_cache.specs.Edited.{stale}
 use Rattle.t1_cache.specs.Renewal.{IsFromScratch, kept_by}
 use Rattle.t1_cache.specs.Renewed.{recorded_run}
-use Rattle.t1_cache.specs.Tables.{AreStale}
 use Rattle.t1_cache.specs.Users.{has, has_pair, key_of}
 use Rattle.t1_rerun.specs.declared.renewal.Renewal.{Renewal}
 use Rattle.t1_rerun.specs.Newest.{newest_among}

@@ -26,20 +26,20 @@ use Rattle.t1_rerun.specs.Settled.{changed_keys, last_glyphs, was_moved, AreDist
 
 -- ---- the bodies of records under changes
 
--- profile: what changes set, or take out, at a key: what the first of them does that names it
+-- word: what changes set, or take out, at a key: what the first of them does that names it
 abbrev pub body_changed : List EntryChange → Key → Option (Option (List Command))
 body_changed [] k = None
 body_changed (c ∷ changes) k = if key_eq k (key_of c.named) then Some c.body else body_changed changes k
 
--- profile: what is set, or taken out, at a Subr
+-- word: what is set, or taken out, at a Subr
 abbrev pub subr_set : List (ℕ × Bor (Option (List Command))) → ℕ → Option (Option (List Command))
 subr_set entries n = option_copied (lookup (nat_eq n) entries)
 
--- profile: what is set, or taken out, at a glyph
+-- word: what is set, or taken out, at a glyph
 abbrev pub glyph_set : List (Bor (List ℕ) × Bor (Option (List Command))) → List ℕ → Option (Option (List Command))
 glyph_set entries g = option_copied (lookup (λ name. bytes_eq g name.now) entries)
 
--- profile: the font that edited bodies are
+-- word: the font that edited bodies are
 abbrev pub edited_font : EditedBodies → FontBodies
 edited_font e =
     font (λ n. changed (subr_set e.subrs.entries n) (subr_body e.records.now.subrs.entries n))
@@ -47,7 +47,7 @@ edited_font e =
 
 -- ---- edits
 
--- profile: a source whose records are right was edited at the entries of changes, each of them named once, and the
+-- word: a source whose records are right was edited at the entries of changes, each of them named once, and the
 -- edited one has its file; these are its glyphs in their order
 pub record AreChangesOf (changes : List EntryChange) (old new : SourceParts) (records : Records) (ordered : List (List ℕ)) : Type 0 where
   pub right : IsRight old records
@@ -60,11 +60,11 @@ pub record AreChangesOf (changes : List EntryChange) (old new : SourceParts) (re
   pub last : filter (λ g. was_moved changes g || not (has_glyph old g)) (glyph_names new.items) ≡ last_glyphs old changes
   pub names : ordered ≡ glyph_names new.items
 
--- profile: there are such sources
+-- word: there are such sources
 abbrev pub MayBePrepared : List EntryChange → Records → List (List ℕ) → Type 0
 MayBePrepared changes records ordered = (old : SourceParts) × ((new : SourceParts) × AreChangesOf changes old new records ordered)
 
--- profile: the edited source has no fault, each stale glyph was run after this count, and all that the change of the
+-- word: the edited source has no fault, each stale glyph was run after this count, and all that the change of the
 -- records takes is there
 pub record IsReadyFor (count : ℕ) (changes : List EntryChange) (old new : SourceParts) (records : Records) (ready : Ready) : Type 0 where
   pub renewal : Renewal
@@ -72,7 +72,7 @@ pub record IsReadyFor (count : ℕ) (changes : List EntryChange) (old new : Sour
   pub judged : IsJudged changes old new records renewal
   pub later : AllByRecursion (IsLater count) renewal.reruns.items
 
--- profile: there are such changes and such sources
+-- word: there are such changes and such sources
 pub record IsPrepared (records : Records) (ready : Ready) : Type 0 where
   pub count : ℕ
   pub changes : List EntryChange

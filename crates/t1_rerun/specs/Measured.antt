@@ -6,7 +6,7 @@ use Rattle.t1_font.specs.declared.glyph_metrics.GlyphMetrics.{GlyphMetrics}
 use Rattle.t1_font.specs.MeasuredGlyphs.{glyph_metrics_by}
 use Rattle.t1_cache.specs.Renewed.{Kept}
 
--- profile: what is reported of each glyph by its record
+-- word: what is reported of each glyph by its record
 abbrev pub kept_metrics : List Kept → Result (List GlyphMetrics) Code
 kept_metrics [] = Ok []
 kept_metrics (k ∷ kept) =

@@ -11,22 +11,22 @@ use Rattle.t1_font.specs.Runs.{Kept, kept_of, own_among}
 use Rattle.t1_cache.specs.declared.records.Records.{Records}
 use Rattle.t1_cache.specs.Renewed.{recorded_run}
 
--- profile: the run that was made again, where there is one, else the run of the record
+-- word: the run that was made again, where there is one, else the run of the record
 abbrev pub newest : List Kept → Records → List ℕ → Option (Result Drawing Code)
 newest runs records g = option_or (kept_of runs g) (recorded_run records g)
 
--- profile: what the own bodies of these glyphs draw, else the run of the record
+-- word: what the own bodies of these glyphs draw, else the run of the record
 abbrev pub newest_among : FontBodies → List (List ℕ) → Records → List ℕ → Option (Result Drawing Code)
 newest_among m names records g = option_or (own_among m names g) (recorded_run records g)
 
--- profile, order of faults: what was reported of glyphs in the order in which they were found; where one has a fault,
+-- word, order of faults: what was reported of glyphs in the order in which they were found; where one has a fault,
 -- the first in the order of the font
 abbrev pub judged_in : {X Y : Type 0} → Result X Fault → Result Y Fault → Result X Fault
 judged_in (Ok found) ordered = Ok found
 judged_in (Err fault) (Ok ordered) = Err fault
 judged_in (Err fault) (Err first) = Err first
 
--- profile: in the place of a refusal stands the first fault in the order of the font
+-- word: in the place of a refusal stands the first fault in the order of the font
 abbrev pub FirstIn : {Y : Type 0} → Refusal → Result Y Fault → Refusal → Type 0
 FirstIn refusals.Memory ordered refused = refused ≡ refusals.Memory
 FirstIn (refusals.Fault fault) (Ok there) refused = Refuses {Y = Unit {0}} refused (Err fault)

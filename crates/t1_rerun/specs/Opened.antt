@@ -13,11 +13,11 @@ use Rattle.t1_cache.specs.Laws.{AreDistinct}
 use Rattle.t1_cache.specs.Renewed.{Kept}
 use Rattle.t1_rerun.specs.Renewals.{HasBox, HasRun}
 
--- profile: the names of what was measured
+-- word: the names of what was measured
 abbrev pub measured_names : List GlyphMetrics → List (List ℕ)
 measured_names ms = map (λ m. m.name) ms
 
--- profile: the glyphs that were measured are those that have a body, each once; each has its run, and the runs draw
+-- word: the glyphs that were measured are those that have a body, each once; each has its run, and the runs draw
 -- what the bodies do
 pub record AreMeasured (m : FontBodies) (runs : List KeptRun) (metrics : List GlyphMetrics) : Type 0 where
   pub distinct : AreDistinct (measured_names metrics)
@@ -25,7 +25,7 @@ pub record AreMeasured (m : FontBodies) (runs : List KeptRun) (metrics : List Gl
   pub each : AllByRecursion (HasRun runs) metrics
   pub draw : (g : List ℕ) → kept_of runs g ≡ own m g
 
--- profile: a record has the run that was kept, and the box that was measured
+-- word: a record has the run that was kept, and the box that was measured
 pub record IsRecorded (runs : List KeptRun) (metrics : List GlyphMetrics) (k : Kept) : Type 0 where
   pub run : run_kept runs k.name ≡ Some (Ok k.run)
   pub box : HasBox metrics k.name k.box
@@ -34,11 +34,11 @@ pub record IsRecorded (runs : List KeptRun) (metrics : List GlyphMetrics) (k : K
 abbrev pub IsRunAfter : ℕ → Kept → Type 0
 IsRunAfter count k = counted count 1 ≤ k.run.serial
 
--- profile: one run for each of these names; none, where there is a fault
+-- word: one run for each of these names; none, where there is a fault
 abbrev pub runs_where : Result (Unit {0}) Fault → List (List ℕ) → ℕ
 runs_where (Ok checked) names = length names
 runs_where (Err fault) names = 0
 
--- profile: each glyph of a source is run once; none, where a body or the file has a fault
+-- word: each glyph of a source is run once; none, where a body or the file has a fault
 abbrev pub opening_runs : SourceParts → ℕ
 opening_runs s = runs_where (file_check s) (glyph_names s.items)

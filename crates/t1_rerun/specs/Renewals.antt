@@ -14,38 +14,38 @@ use Rattle.t1_cache.specs.declared.records.Rerun.{Rerun}
 use Rattle.t1_cache.specs.Edited.{stale}
 use Rattle.t1_cache.specs.Joins.{AreLeaves}
 use Rattle.t1_cache.specs.Renewal.{kept_by, IsFromScratch}
-use Rattle.t1_cache.specs.Tables.{AreStale}
+use Rattle.t1_run.specs.Touched.{AreStale}
 use Rattle.t1_rerun.specs.declared.renewal.Renewal.{Renewal}
 
--- profile: the names of the glyphs that were run again
+-- word: the names of the glyphs that were run again
 abbrev pub rerun_names : List Rerun → List (List ℕ)
 rerun_names rs = map (λ r. r.name.items) rs
 
--- profile: a run's number is after this count
+-- word: a run's number is after this count
 abbrev pub IsLater : ℕ → Rerun → Type 0
 IsLater count r = counted count 1 ≤ r.run.serial
 
--- profile: the box of the glyph of this name, among what was measured
+-- word: the box of the glyph of this name, among what was measured
 abbrev pub HasBox : List GlyphMetrics → List ℕ → Option BBox → Type 0
 HasBox [] g box = ⊥
 HasBox (m ∷ ms) g box = ((m.name ≡ g) × (m.bbox ≡ box)) ⊎ HasBox ms g box
 
--- profile: a run that is kept, where it has no fault
+-- word: a run that is kept, where it has no fault
 abbrev pub run_in : Option (Result TracedRun Code) → Option TracedRun
 run_in None = None
 run_in (Some (Err code)) = None
 run_in (Some (Ok run)) = Some run
 
--- profile: the run of the glyph is kept, and has no fault
+-- word: the run of the glyph is kept, and has no fault
 abbrev pub HasRun : List KeptRun → GlyphMetrics → Type 0
 HasRun runs m = (run : TracedRun) × (run_kept runs m.name ≡ Some (Ok run))
 
--- profile: a rerun is a run that was kept, with the box that was measured
+-- word: a rerun is a run that was kept, with the box that was measured
 pub record IsRerun (runs : List KeptRun) (metrics : List GlyphMetrics) (r : Rerun) : Type 0 where
   pub run : run_kept runs r.name.items ≡ Some (Ok r.run)
   pub box : HasBox metrics r.name.items r.bbox
 
--- profile: what edits at these keys make new: the run and the box of each stale glyph, each from scratch; and which
+-- word: what edits at these keys make new: the run and the box of each stale glyph, each from scratch; and which
 -- glyphs leave and join the users of what the old runs and the new ones use
 pub record IsRenewal (keys : List Key) (old new : SourceParts) (renewal : Renewal) : Type 0 where
   pub found : List ℕ → Bool

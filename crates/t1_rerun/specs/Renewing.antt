@@ -14,7 +14,7 @@ use Rattle.t1_cache.specs.Renewed.{Kept}
 use Rattle.t1_rerun.specs.Opened.{IsRunAfter}
 use Rattle.t1_rerun.specs.Right.{IsRight}
 
--- profile: the records are right for a source of which an edit made this one
+-- word: the records are right for a source of which an edit made this one
 pub record IsEdited (records : Records) (edit : Edit) (new : SourceParts) : Type 0 where
   pub old : SourceParts
   pub pairs : List Pair
@@ -24,12 +24,12 @@ pub record IsEdited (records : Records) (edit : Edit) (new : SourceParts) : Type
   pub well_made : IsWellFormed new
   pub made : edited old pairs edit ≡ Ok (new, made_pairs)
 
--- profile: the key of a Subr whose number has 16 bits
+-- word: the key of a Subr whose number has 16 bits
 abbrev pub number_key : ℤ → Option Key
 number_key (pos n) = if nat_le n 65535 then Some (Subr n) else None
 number_key (negsuc n) = None
 
--- profile: the key of the entry that an edit names
+-- word: the key of the entry that an edit names
 abbrev pub entry_key : Edit → Option Key
 entry_key (ReplaceGlyph g body) = Some (Glyph g)
 entry_key (AddGlyph g body) = Some (Glyph g)
@@ -39,7 +39,7 @@ entry_key (AddSubr n body) = number_key n
 entry_key (RemoveSubr n) = number_key n
 entry_key _ = None
 
--- profile: a glyph that edits at these keys make stale has a run after this count, and each other glyph what was kept of it
+-- word: a glyph that edits at these keys make stale has a run after this count, and each other glyph what was kept of it
 pub record IsRunWhereStale (count : ℕ) (keys : List Key) (old : SourceParts) (kept : List Kept) (k : Kept) : Type 0 where
   pub stale : is_stale old keys k.name ≡ true → IsRunAfter count k
   pub fresh : is_stale old keys k.name ≡ false → IsOneOf kept k

@@ -17,25 +17,25 @@ use Rattle.t1_cache.specs.Renewed.{kept_of}
 use Rattle.t1_cache.specs.Tables.{AreTables}
 use Rattle.t1_cache.specs.Users.{key_of}
 
--- profile: the records are those of the source from scratch: the bodies of its Subrs and glyphs, its glyphs' runs and
+-- word: the records are those of the source from scratch: the bodies of its Subrs and glyphs, its glyphs' runs and
 -- boxes, and the users of each Subr and glyph
 pub record IsRight (s : SourceParts) (records : Records) : Type 0 where
   pub compiled : SameBodies (record_bodies records) (bodies s.items)
   pub kept : KeepsAll s (map kept_of records.glyphs.entries)
   pub users : AreTables (bodies s.items) records
 
--- profile: a source has a glyph of this name
+-- word: a source has a glyph of this name
 abbrev pub has_glyph : SourceParts → List ℕ → Bool
 has_glyph s g = list_any (bytes_eq g) (glyph_names s.items)
 
--- profile: the glyphs of an edited source: those of the source before that are still there and weren't gone at any
+-- word: the glyphs of an edited source: those of the source before that are still there and weren't gone at any
 -- time, in their order, then the others
 abbrev pub IsInOrder : (List ℕ → Bool) → SourceParts → SourceParts → Type 0
 IsInOrder gone old new =
     glyph_names new.items
     ≡ filter (λ g. has_glyph new g && not (gone g)) (glyph_names old.items) ++ filter (λ g. gone g || not (has_glyph old g)) (glyph_names new.items)
 
--- profile: a source whose records are right was edited, and the edited one has its file: the bodies and the glyphs'
+-- word: a source whose records are right was edited, and the edited one has its file: the bodies and the glyphs'
 -- names of the edited one
 pub record IsEdit (edits : List Named) (old new : SourceParts) (records : Records) (m : FontBodies) (glyphs : List (List ℕ)) : Type 0 where
   pub right : IsRight old records

@@ -27,35 +27,35 @@ use Rattle.t1_rerun.specs.Renewals.{IsRenewal}
 use Rattle.t1_rerun.specs.Right.{has_glyph, IsInOrder, IsRight}
 use Rattle.t1_rerun.specs.Steps.{new_run, some_inserts, AreStepsOf, AreTakenOut}
 
--- profile: the keys of the entries that edits name
+-- word: the keys of the entries that edits name
 abbrev pub changed_keys : List EntryChange → List Key
 changed_keys changes = map (λ c. key_of c.named) changes
 
--- profile: each key stands there once
+-- word: each key stands there once
 abbrev pub AreDistinctKeys : List Key → Type 0
 AreDistinctKeys [] = Unit {0}
 AreDistinctKeys (k ∷ ks) = (list_any (key_eq k) ks ≡ false) × AreDistinctKeys ks
 
--- profile: the edited source has this body, or none, at the entry that edits name
+-- word: the edited source has this body, or none, at the entry that edits name
 abbrev pub HasBody : SourceParts → EntryChange → Type 0
 HasBody new c = body_at (bodies new.items) (key_of c.named) ≡ c.body
 
--- profile: the glyph was removed and added again
+-- word: the glyph was removed and added again
 abbrev pub was_moved : List EntryChange → List ℕ → Bool
 was_moved changes g = list_any (λ c. c.moved && is_key_of g (key_of c.named)) changes
 
--- profile: the glyph of a change, where it has a body and was moved, or wasn't there
+-- word: the glyph of a change, where it has a body and was moved, or wasn't there
 abbrev pub last_glyph : SourceParts → Bool → Option (List Command) → Named → List (List ℕ)
 last_glyph old moved None named = []
 last_glyph old moved (Some body) (named.Subr n) = []
 last_glyph old moved (Some body) (named.Glyph g) = if moved || not (has_glyph old g) then g ∷ [] else []
 
--- profile: the glyphs that stand after the others, in the order of the changes
+-- word: the glyphs that stand after the others, in the order of the changes
 abbrev pub last_glyphs : SourceParts → List EntryChange → List (List ℕ)
 last_glyphs old [] = []
 last_glyphs old (c ∷ changes) = last_glyph old c.moved c.body c.named ++ last_glyphs old changes
 
--- profile: a source whose records are right was edited, the edited one was judged to have no fault, and this is what is
+-- word: a source whose records are right was edited, the edited one was judged to have no fault, and this is what is
 -- new of it; each entry that was edited is named once, with what it became
 pub record IsJudged (changes : List EntryChange) (old new : SourceParts) (records : Records) (renewal : Renewal) : Type 0 where
   pub right : IsRight old records
@@ -68,16 +68,16 @@ pub record IsJudged (changes : List EntryChange) (old new : SourceParts) (record
   pub last : filter (λ g. was_moved changes g || not (has_glyph old g)) (glyph_names new.items) ≡ last_glyphs old changes
   pub renewed : IsRenewal (changed_keys changes) old new renewal
 
--- profile: there are such sources
+-- word: there are such sources
 abbrev pub MayBeJudged : List EntryChange → Records → Renewal → Type 0
 MayBeJudged changes records renewal = (old : SourceParts) × ((new : SourceParts) × IsJudged changes old new records renewal)
 
--- profile: a stale glyph has the run and box of a rerun, and each other glyph what was kept of it
+-- word: a stale glyph has the run and box of a rerun, and each other glyph what was kept of it
 pub record IsRenewedBy (keys : List Key) (old : SourceParts) (reruns : List Rerun) (kept : List Kept) (k : Kept) : Type 0 where
   pub stale : is_stale old keys k.name ≡ true → IsOneOf (map kept_by reruns) k
   pub fresh : is_stale old keys k.name ≡ false → IsOneOf kept k
 
--- profile: the same bodies, runs, boxes and users; there may be more room among the users
+-- word: the same bodies, runs, boxes and users; there may be more room among the users
 pub record AreAsBefore (old new : Records) : Type 0 where
   pub bodies : SameBodies (record_bodies new) (record_bodies old)
   pub kept : map kept_of new.glyphs.entries ≡ map kept_of old.glyphs.entries
@@ -85,7 +85,7 @@ pub record AreAsBefore (old new : Records) : Type 0 where
 
 -- ---- the two steps
 
--- profile: all that the changes take is there: a step for each change, the new runs that no step has, the names of
+-- word: all that the changes take is there: a step for each change, the new runs that no step has, the names of
 -- glyphs whose records are taken out, and the room in the records
 pub record IsReady (changes : List EntryChange) (renewal : Renewal) (records : Records) (ready : Ready) : Type 0 where
   pub steps : AreStepsOf (new_run renewal.reruns.items) (wanted renewal.joins.items) records changes ready.steps.items
@@ -97,7 +97,7 @@ pub record IsReady (changes : List EntryChange) (renewal : Renewal) (records : R
   pub glyphs : length ready.steps.items ≤ spare records.glyphs
   pub users : (k : Key) → MayJoin (wanted renewal.joins.items k) (users_at records k)
 
--- profile: there are a judged edit and its changes
+-- word: there are a judged edit and its changes
 pub record MayBeSettled (records : Records) (ready : Ready) : Type 0 where
   pub changes : List EntryChange
   pub renewal : Renewal

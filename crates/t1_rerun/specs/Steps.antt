@@ -23,47 +23,47 @@ use Rattle.t1_rerun.specs.declared.entry_change.EntryChange.{EntryChange}
 use Rattle.t1_rerun.specs.declared.settling.steps.Step.{Step}
 use Rattle.t1_rerun.specs.declared.settling.steps.Step.TheVariants as steps
 
--- profile: what is seen of records: the body and the users at each key, and each glyph's run and box, in order
+-- word: what is seen of records: the body and the users at each key, and each glyph's run and box, in order
 pub record Seen : Type 0 where
   pub bodies : Key → Option (List Command)
   pub users : Key → Option UserSet
   pub kept : List Kept
 
--- profile: what is seen of these records
+-- word: what is seen of these records
 abbrev pub seen : Records → Seen
 seen r = record { bodies = body_at (record_bodies r); users = users_at r; kept = map kept_of r.glyphs.entries }
 
 -- ---- what a step does
 
--- profile: the one key that a step changes
+-- word: the one key that a step changes
 abbrev pub step_key : Step → Key
 step_key (steps.Remove named) = key_of named
 step_key (steps.Put named body) = key_of named
 step_key (steps.InsertSubr n r) = Subr n
 step_key (steps.InsertGlyph name r) = Glyph name.items
 
--- profile: the body at that key after a step, from the one before
+-- word: the body at that key after a step, from the one before
 abbrev pub step_body : Step → Option (List Command) → Option (List Command)
 step_body (steps.Remove named) was = None
 step_body (steps.Put named body) was = option_map (λ old. body) was
 step_body (steps.InsertSubr n r) was = Some r.body
 step_body (steps.InsertGlyph name r) was = Some r.body
 
--- profile: the users at that key after a step
+-- word: the users at that key after a step
 abbrev pub step_users : Step → Option UserSet → Option UserSet
 step_users (steps.Remove named) was = None
 step_users (steps.Put named body) was = was
 step_users (steps.InsertSubr n r) was = Some (users_of r.users)
 step_users (steps.InsertGlyph name r) was = Some (users_of r.users)
 
--- profile: the glyphs after a step: one that is removed goes, one that is inserted stands last
+-- word: the glyphs after a step: one that is removed goes, one that is inserted stands last
 abbrev pub step_kept : Step → List Kept → List Kept
 step_kept (steps.Remove named) ks = filter (λ k. not (is_key_of k.name (key_of named))) ks
 step_kept (steps.Put named body) ks = ks
 step_kept (steps.InsertSubr n r) ks = ks
 step_kept (steps.InsertGlyph name r) ks = filter (λ k. not (bytes_eq name.items k.name)) ks ++ kept name.items r.run r.bbox ∷ []
 
--- profile: what is seen after a step
+-- word: what is seen after a step
 abbrev pub after : Step → Seen → Seen
 after step x = record {
   bodies = λ k. if key_eq k (step_key step) then step_body step (x.bodies k) else x.bodies k;
@@ -71,57 +71,57 @@ after step x = record {
   kept = step_kept step x.kept;
 }
 
--- profile: what is seen after all of these steps, the last one first
+-- word: what is seen after all of these steps, the last one first
 abbrev pub after_all : List Step → Seen → Seen
 after_all [] x = x
 after_all (step ∷ steps) x = after step (after_all steps x)
 
 -- ---- what leaves its place
 
--- profile: a step takes out the glyph's record, where there is one
+-- word: a step takes out the glyph's record, where there is one
 abbrev pub takes_out : Step → List ℕ → Bool
 takes_out (steps.Remove named) g = key_eq (Glyph g) (key_of named)
 takes_out (steps.InsertGlyph name r) g = bytes_eq g name.items
 takes_out _ g = false
 
--- profile: steps take out the records of these glyphs
+-- word: steps take out the records of these glyphs
 abbrev pub AreTakenOut : List (Vec ℕ Global) → List Step → Type 0
 AreTakenOut names steps = (g : List ℕ) → has (λ name. name.items) names g ≡ true → list_any (λ step. takes_out step g) steps ≡ true
 
 -- ---- the steps of changes
 
--- profile: the new run and box of a glyph, by the first of its reruns
+-- word: the new run and box of a glyph, by the first of its reruns
 abbrev pub new_run : List Rerun → List ℕ → Option (TracedRun × Option BBox)
 new_run reruns g = option_map (λ r. (r.run, r.bbox)) (rerun_of reruns g)
 
--- profile: the same, of a new run that is kept by name
+-- word: the same, of a new run that is kept by name
 abbrev pub new_run_of : Option NewRun → Option (TracedRun × Option BBox)
 new_run_of r = option_map (λ r. (r.run, r.bbox)) r
 
--- profile: a step puts in a new record of the glyph
+-- word: a step puts in a new record of the glyph
 abbrev pub inserts : Step → List ℕ → Bool
 inserts (steps.InsertGlyph name r) g = bytes_eq name.items g
 inserts _ g = false
 
--- profile: one of these steps does
+-- word: one of these steps does
 abbrev pub some_inserts : List Step → List ℕ → Bool
 some_inserts steps g = list_any (λ step. inserts step g) steps
 
--- profile: by the records a glyph that is there was moved, or wasn't there
+-- word: by the records a glyph that is there was moved, or wasn't there
 abbrev pub is_last : Records → Bool → Named → Bool
 is_last records moved (named.Subr n) = false
 is_last records moved (named.Glyph g) = moved || is_none (body_at (record_bodies records) (Glyph g))
 
--- profile: there is no new run of the glyph
+-- word: there is no new run of the glyph
 abbrev pub LacksRun : (List ℕ → Option (TracedRun × Option BBox)) → Named → Type 0
 LacksRun run (named.Subr n) = ⊥
 LacksRun run (named.Glyph g) = run g ≡ None
 
--- profile: no users, and room for so many
+-- word: no users, and room for so many
 abbrev pub HasPlaces : {S : Type 0} → ℕ → IndexSet (Vec ℕ Global) S → Type 0
 HasPlaces count users = (users.keys ≡ []) × (count ≤ spare users)
 
--- profile: the step of a change, by new runs and by how many users join each entry. An entry that was removed is
+-- word: the step of a change, by new runs and by how many users join each entry. An entry that was removed is
 -- removed, and so is a glyph to be put in that has no new run
 abbrev pub IsStepOf : (List ℕ → Option (TracedRun × Option BBox)) → (Key → ℕ) → Records → EntryChange → Step → Type 0
 IsStepOf run count records c (steps.Remove named) =
@@ -135,11 +135,11 @@ IsStepOf run count records c (steps.InsertGlyph name r) =
     × ((c.body ≡ Some r.body)
     × ((is_last records c.moved c.named ≡ true) × (HasPlaces (count (Glyph name.items)) r.users × (run name.items ≡ Some (r.run, r.bbox)))))
 
--- profile: the change of an entry, from its parts
+-- word: the change of an entry, from its parts
 abbrev pub changed : Named → Option (List Command) → Bool → EntryChange
 changed named body moved = record { named = named; body = body; moved = moved }
 
--- profile: the last step is that of the first change, and so on
+-- word: the last step is that of the first change, and so on
 abbrev pub AreStepsOf : (List ℕ → Option (TracedRun × Option BBox)) → (Key → ℕ) → Records → List EntryChange → List Step → Type 0
 AreStepsOf run count records [] steps = steps ≡ []
 AreStepsOf run count records (c ∷ changes) steps =

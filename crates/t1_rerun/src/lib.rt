@@ -9,6 +9,8 @@
 //! [`settle`] changes them, which takes no memory. There is no pass over the font: the order of the glyphs is asked for
 //! ([`GlyphOrder`], as of [`Prepared`]) only where one has a fault. The entry that one edit names [`change_of_edit`] gives, and
 //! [`change_alone`] the list of it.
+//!
+//! All of it is for the crates above.
 #![tactic(auto)]
 
 mod bodies;

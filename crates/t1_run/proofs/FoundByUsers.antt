@@ -27,7 +27,7 @@ met-uses : (g : List ℕ) (d : Drawing) (key : Key) → (is_key_of g key || is_u
 met-uses g d (Subr n) = refl
 met-uses g d (Glyph h) = refl
 
-met-run : (m : FontBodies) (keys : List Key) (g : List ℕ) (d : Drawing) → own m g ≡ Some (Ok d) → list_any (is_met m g) keys ≡ list_any (uses g d) keys
+pub met-run : (m : FontBodies) (keys : List Key) (g : List ℕ) (d : Drawing) → own m g ≡ Some (Ok d) → list_any (is_met m g) keys ≡ list_any (uses g d) keys
 met-run m keys g d e =
     ap (λ r. list_any (λ key. is_key_of g key || is_user key r) keys) e
     ∙ ap (λ p. list_any p keys) (λ j. λ key. met-uses g d key j)
@@ -86,7 +86,7 @@ module _ (m : FontBodies) (keys : List Key) where
             or_right (touched c.base) (touched c.accent) (ap touched same ∙ touch t.0 (ap part (sym same) ∙ t.1))
       ]
 
-  user-run : (part : List ℕ → Result (List Segment) Code) (touched : List ℕ → Bool) (p : List ℕ) → PartsTouch part touched p
+  pub user-run : (part : List ℕ → Result (List Segment) Code) (touched : List ℕ → Bool) (p : List ℕ) → PartsTouch part touched p
       → (r : Option (Result Drawing Code)) (o : List Segment) → drawn part r ≡ Ok o → is_user (Glyph p) r ≡ true → meets_parts touched r ≡ true
   user-run part touched p touch None o drew h = absurd (cc)
   user-run part touched p touch (Some (Err code)) o drew h = absurd (cc)

@@ -11,6 +11,7 @@ pub mod Pushing
 pub mod Rows
 pub mod Searched
 pub mod Steps
+pub mod TouchedClosure
 pub mod Untouched
 pub mod Within
 pub mod WithinOutlines

@@ -11,26 +11,26 @@ use Rattle.t1_run.specs.Words.{step}
 use Rattle.t1_run.specs.Machine.{state_of, reported, RefusesStep, refusal_by}
 use Rattle.t1_run.specs.Run.{FontBodies, Key, reached, Stop, go_on, runs, body_stop}
 
--- profile: where a body stopped, the bodies that wait go on, the innermost first; `levels` is what was left there
+-- word: where a body stopped, the bodies that wait go on, the innermost first; `levels` is what was left there
 abbrev pub resume : FontBodies → ℕ → List (List Command) → Stop → Stop
 resume m levels [] e = e
 resume m levels (rest ∷ waiting) e = resume m (suc levels) waiting (go_on (runs m (suc levels) rest) e)
 
--- profile: the present rest from the present state, and then the bodies that wait, stop as the whole body does
+-- word: the present rest from the present state, and then the bodies that wait, stop as the whole body does
 pub record Continues (m : FontBodies) (body rest : List Command) (waiting : List (List Command)) (s : State) : Type 0 where
   pub levels : ℕ
   pub asked : List Key
   pub room : levels + length waiting ≡ 10
   pub same : resume m levels waiting (runs m levels rest (reached s asked)) ≡ body_stop m body
 
--- profile: the run has come to this command, whose step asks for this
+-- word: the run has come to this command, whose step asks for this
 pub record Asks (m : FontBodies) (body rest : List Command) (waiting : List (List Command)) (control : Control) (after : State) : Type 0 where
   pub command : Command
   pub before : State
   pub here : Continues m body (command ∷ rest) waiting before
   pub is : step command before ≡ reported control after
 
--- profile: the run has come to a command whose step is refused, which refuses the run
+-- word: the run has come to a command whose step is refused, which refuses the run
 pub record Meets (m : FontBodies) (body : List Command) (waiting : List (List Command)) (refusal : Refusal) : Type 0 where
   pub command : Command
   pub before : State
@@ -40,7 +40,7 @@ pub record Meets (m : FontBodies) (body : List Command) (waiting : List (List Co
   pub by : refusal ≡ refusal_by halt
   pub is : RefusesStep halt (step command before)
 
--- profile: commands that were executed one after another: the last of them, or one that asks for more than the next, or one that is
+-- word: commands that were executed one after another: the last of them, or one that asks for more than the next, or one that is
 -- refused
 abbrev pub Comes : FontBodies → List Command → List (List Command) → Result (Option (Control × Bor (List Command))) Refusal → StateFields → Type 0
 Comes m body waiting (Ok None) s = Continues m body [] waiting (state_of s)

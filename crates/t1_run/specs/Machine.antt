@@ -21,7 +21,7 @@ use Rattle.t1_run.specs.Run.{Drawing, NumberedRun}
 use Rattle.t1_run.specs.declared.othersubrs.Effect.{Effect}
 use Rattle.t1_run.specs.declared.othersubrs.Effect.TheVariants.{EndFlex, StartFlex, RecordPoint, Leave, Discard}
 
--- profile: the state that the fields hold
+-- word: the state that the fields hold
 abbrev pub state_of : StateFields → State
 state_of s = record {
   stack = s.operands;
@@ -34,33 +34,33 @@ state_of s = record {
   entered = s.entered;
 }
 
--- profile: the step of a word that asks for this, with the state after it
+-- word: the step of a word that asks for this, with the state after it
 abbrev pub reported : Control → State → Step
 reported (controls.Call n) s = Call n s
 reported controls.Back s = Back s
 reported controls.End s = End s
 reported (controls.Compose a) s = Compose a s
 
--- profile: a step is refused by its fault, or for want of memory
+-- word: a step is refused by its fault, or for want of memory
 abbrev pub RefusesStep : Halt → Step → Type 0
 RefusesStep halts.Memory step = Unit {0}
 RefusesStep (halts.Fault code) step = step ≡ Fault code
 
--- profile: what a step is refused by refuses the run, a fault at no place
+-- word: what a step is refused by refuses the run, a fault at no place
 abbrev pub refusal_by : Halt → Refusal
 refusal_by halts.Memory = Memory
 refusal_by (halts.Fault code) = refusal code
 
--- profile: the step after which the run goes on with the next word
+-- word: the step after which the run goes on with the next word
 abbrev pub going_on : Unit {0} → State → Step
 going_on done s = Next s
 
--- profile: the step of a call that takes no memory: that of its value and the state that it leaves, or its fault
+-- word: the step of a call that takes no memory: that of its value and the state that it leaves, or its fault
 abbrev pub answered : {A : Type 0} → (A → State → Step) → Result A Code → State → Step
 answered step (Ok value) s = step value s
 answered step (Err code) s = Fault code
 
--- profile: a call makes this step: its value and the state that it leaves stand for it, or it refuses as the step does
+-- word: a call makes this step: its value and the state that it leaves stand for it, or it refuses as the step does
 abbrev pub Reports : {A : Type 0} → (A → State → Step) → Step → Result A Halt → StateFields → Type 0
 Reports step made (Ok value) now = made ≡ step value (state_of now)
 Reports step made (Err halt) now = RefusesStep halt made
@@ -70,7 +70,7 @@ abbrev pub GivesOwn : Result NumberedRun Refusal → Option (Result Drawing Code
 GivesOwn result None = ⊥
 GivesOwn result (Some outcome) = Gives (λ run. run.drawing) result (reported_at Nowhere outcome)
 
--- profile: the othersubr's effect, as the code names it
+-- word: the othersubr's effect, as the code names it
 abbrev pub effect_of : Effect → State → Step
 effect_of (EndFlex height x y) s = end_flex s.flex (height ∷ x ∷ y ∷ []) s
 effect_of StartFlex s = start_flex s.flex s
@@ -78,11 +78,11 @@ effect_of RecordPoint s = add_flex s.flex s
 effect_of (Leave value) s = Next (record s { results = value ∷ [] })
 effect_of Discard s = Next (record s { results = [] })
 
--- profile: the first so many rests of bodies, the last one first
+-- word: the first so many rests of bodies, the last one first
 abbrev pub waiting : ℕ → List (Bor (List Command)) → List (List Command)
 waiting n rests = reverse (map (λ r. r.now) (take n rests))
 
--- profile: the outline grew by the moved segments
+-- word: the outline grew by the moved segments
 abbrev pub AppendsMoved : Result (List Segment) Code → List Segment → List Segment → Type 0
 AppendsMoved (Ok moved) old new = new ≡ old ++ moved
 AppendsMoved (Err fault) old new = ⊥

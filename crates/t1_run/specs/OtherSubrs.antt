@@ -9,7 +9,7 @@ use Rattle.t1_run.specs.State.{State, Flex}
 use Rattle.t1_run.specs.Operands.{topmost, below, operand_fault, size_fault}
 use Rattle.t1_run.specs.Step.{Step, Next, Fault, refuse, unless_fault, with_stack}
 
--- Type 1 Font Format, Chapter 8: the othersubrs that are run, by their number and their count of arguments
+-- Type 1 Font Format, Chapter 8, and its Supplement for 12 and 13: the othersubrs that are run, by number and count of arguments
 abbrev pub is_supported : ℤ → ℤ → Bool
 is_supported (pos number) (pos n) =
     (number == 0 && n == 3) || (number == 1 && n == 0) || (number == 2 && n == 0) || (number == 3 && n == 1)

@@ -1,7 +1,7 @@
 -- Bodies with some of them changed.
 use Rattle.std.specs.Prelude.{Option, Some, None}
 
--- profile: what a change sets, or takes out; what was there where nothing is changed
+-- word: what a change sets, or takes out; what was there where nothing is changed
 abbrev pub changed : {X : Type 0} → Option (Option X) → Option X → Option X
 changed None was = was
 changed (Some now) was = now

@@ -30,13 +30,13 @@ pub data Key : Type 0 where
   Subr : ℕ → Key
   Glyph : List ℕ → Key
 
--- profile: whether two keys are the same
+-- word: whether two keys are the same
 abbrev pub key_eq : Key → Key → Bool
 key_eq (Subr n) (Subr m) = nat_eq n m
 key_eq (Glyph g) (Glyph h) = bytes_eq g h
 key_eq _ _ = false
 
--- profile: the body of a font at a key
+-- word: the body of a font at a key
 abbrev pub body_at : FontBodies → Key → Option (List Command)
 body_at m (Subr n) = m.subrs n
 body_at m (Glyph g) = m.glyphs g

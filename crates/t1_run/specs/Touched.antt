@@ -3,6 +3,7 @@ use Rattle.std.specs.Prelude.{◌≡◌, ℕ, zero, suc, Bool, true, false, ◌|
 use Rattle.std.specs.List.{list_any}
 use Rattle.std.specs.Str.{bytes_eq}
 use Rattle.t1_frac.specs.declared.fault.Code.{Code}
+use Rattle.t1_code.specs.declared.command.Command.{Command}
 use Rattle.t1_run.specs.declared.outline.Composite.{Composite}
 use Rattle.t1_run.specs.declared.outline.Segment.{Segment}
 use Rattle.t1_run.specs.Run.{FontBodies, Key, Subr, Glyph, Drawing, own}
@@ -76,6 +77,17 @@ pub record IsClosed (m : FontBodies) (keys : List Key) (has : List ℕ → Bool)
 pub data Found (m : FontBodies) (keys : List Key) : List ℕ → Type 0 where
   Seed : (g : List ℕ) → list_any (is_met m g) keys ≡ true → Found m keys g
   User : (p u : List ℕ) → Found m keys p → is_user (Glyph p) (own m u) ≡ true → Found m keys u
+
+-- profile: the names are the stale ones: closed, and each found
+pub record AreStale (m : FontBodies) (keys : List Key) (names : List ℕ → Bool) : Type 0 where
+  pub closed : IsClosed m keys names
+  pub found : (g : List ℕ) → names g ≡ true → Found m keys g
+
+-- word: of a font whose glyphs all draw, the touched names are the stale ones
+abbrev pub TouchedAreStaleLaw : Type 0
+TouchedAreStaleLaw =
+    (m : FontBodies) (keys : List Key) → ((g : List ℕ) (body : List Command) → m.glyphs g ≡ Some body → (o : List Segment) × (outline m g ≡ Ok o))
+    → AreStale m keys (is_touched m keys)
 
 -- profile: of the glyphs that draw, those that are found by users are those that are touched
 abbrev pub FoundByUsersLaw : Type 0

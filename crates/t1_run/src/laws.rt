@@ -1,7 +1,7 @@
 //! Laws of runs.
 
 ghost use Rattle.t1_run.specs.Footprint.{FootprintLaw, OutlineFootprintLaw, ExactLaw, PartsLaw, StepsLaw};
-ghost use Rattle.t1_run.specs.Touched.{UntouchedLaw, FoundByUsersLaw};
+ghost use Rattle.t1_run.specs.Touched.{FoundByUsersLaw, TouchedAreStaleLaw, UntouchedLaw};
 ghost use Rattle.t1_run.specs.Within.{DrawnWithinLaw, OutlinesWithinLaw};
 
 /// What a glyph's own body draws, or its fault, and its footprint are the same in all fonts that agree on the
@@ -53,4 +53,10 @@ pub fn untouched()
 /// The glyphs that tables of users reach, from the glyphs that use what edits name, are the glyphs that the edits touch.
 pub fn found_by_users()
     ensures { FoundByUsersLaw }
+{}
+
+/// In a font whose glyphs all draw, the glyphs that edits touch are those that they name, those whose own run enters a Subr
+/// that they name, and the composites on any glyph found so far, until none is added.
+pub fn touched_are_stale()
+    ensures { TouchedAreStaleLaw }
 {}

@@ -1,4 +1,8 @@
 //! Exact execution of a glyph's charstring, and the outlines of composites.
+//!
+//! For users: a font as [`Bodies`] or [`StoredBodies`], for which [`Plain`] may stand; a [`Meter`]; [`run`], and a [`Run`]
+//! with its [`Segment`]s of [`Point`]s and its [`Composite`]; [`join`]. For the crates above: [`run_of_body`], which runs
+//! a body that the font needn't have stored, [`Entered`], and the moves of accents, points and segments.
 #![tactic(auto)]
 
 mod bodies;

@@ -92,9 +92,9 @@ fn run_body<'a, B: Bodies>(
     }
 }
 
-/// Runs the own body of a glyph of the font, exactly. The answer is what it draws, or its first fault, at no place. The meter
-/// counts the run either way, and the run's serial is its new count. Its segments are drawn into the room, which is emptied
-/// first, so that the memory of one run serves the next.
+/// Runs the own body of a glyph of the font, exactly. The answer is what it draws, or its first fault, at no place. Of a body that
+/// is no glyph's of the font nothing is said but the counts. The meter counts the run either way, and the run's serial is its new
+/// count. Its segments are drawn into the room, which is emptied first, so that the memory of one run serves the next.
 #[tactic(auto, unfolding(crate::specs::Run::own))]
 pub fn run_of_body<B: Bodies>(
     alloc: Global,

@@ -1,8 +1,11 @@
+pub mod ClosureLaws
 pub mod Conversations
 pub mod Delivering
 pub mod FaultLaws
 pub mod LineLaws
+pub mod ReadableLaws
 pub mod Reporting
 pub mod RerunLaws
 pub mod Sessions
 pub mod StateLaws
+pub mod UserLaws

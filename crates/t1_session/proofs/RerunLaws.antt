@@ -24,7 +24,7 @@ use Rattle.t1_held.specs.declared.held.Held.{Held}
 use Rattle.t1_held.specs.Held.{IsHeld}
 use Rattle.t1_held.specs.Edits.{IsPreparedEdit}
 use Rattle.t1_held.proofs.HeldLaws.{checked_well, right_checked}
-use Rattle.t1_session.specs.Reruns.{Spends}
+use Rattle.t1_session.specs.RerunsByTest.{SpendsAtMost}
 use Rattle.t1_session.specs.State.{SessionView}
 
 -- each glyph that an edit of a source makes stale is run once; none, where a body or the file has a fault
@@ -45,7 +45,7 @@ runs-most (Err fault) names = omega arith
 pub edits_spend : (T : Type 0) (v new : SessionView) (old made : SourceParts) (keys : List Key) (count : ℕ) (kept : List Kept) (refusal : Refusal)
     → v.state.source ≡ old → v.kept ≡ kept → v.runs ≡ count → new.kept ≡ kept
     → Counts {T = T} (runs_where (file_check made) (stale old keys made)) count new.runs (Err refusal)
-    → Spends (length (stale v.state.source keys made)) v new
+    → SpendsAtMost (length (stale v.state.source keys made)) v new
 edits_spend T v new old made keys count kept refusals.Memory source was were same some = record {
   kept = same ∙ sym was;
   made = some.0;
@@ -64,7 +64,7 @@ edits_spend T v new old made keys count kept (refusals.Fault fault) source was w
 pub edits_unmade : (v new : SessionView) (old made : SourceParts) (keys : List Key) (count : ℕ) (kept : List Kept)
     → v.state.source ≡ old → v.kept ≡ kept → v.runs ≡ count → new.kept ≡ kept → source_check made ≡ Ok tt
     → new.runs ≡ counted count (runs_where (file_check made) (stale old keys made))
-    → Spends (length (stale v.state.source keys made)) v new
+    → SpendsAtMost (length (stale v.state.source keys made)) v new
 edits_unmade v new old made keys count kept source was were same checked runs =
     edits_spend (Unit {0}) v new old made keys count kept refusals.Memory source was were same (runs_where (file_check made) (stale old keys made), omega arith, runs)
 
@@ -73,11 +73,11 @@ edits_unmade v new old made keys count kept source was were same checked runs =
 pub edit_spends : (T : Type 0) (v new : SessionView) (old made : SourceParts) (edit : Edit) (count : ℕ) (kept : List Kept) (refusal : Refusal)
     → v.state.source ≡ old → v.kept ≡ kept → v.runs ≡ count → new.kept ≡ kept
     → Counts {T = T} (renewing_runs edit old made) count new.runs (Err refusal)
-    → Spends (length (stale v.state.source (named edit) made)) v new
+    → SpendsAtMost (length (stale v.state.source (named edit) made)) v new
 edit_spends T v new old made edit = edits_spend T v new old made (named edit)
 
 pub edit_unmade : (v new : SessionView) (old made : SourceParts) (edit : Edit) (count : ℕ) (kept : List Kept)
     → v.state.source ≡ old → v.kept ≡ kept → v.runs ≡ count → new.kept ≡ kept → source_check made ≡ Ok tt
     → new.runs ≡ counted count (renewing_runs edit old made)
-    → Spends (length (stale v.state.source (named edit) made)) v new
+    → SpendsAtMost (length (stale v.state.source (named edit) made)) v new
 edit_unmade v new old made edit = edits_unmade v new old made (named edit)

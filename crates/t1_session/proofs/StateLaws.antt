@@ -15,18 +15,19 @@ use Rattle.t1_parts.specs.LenIV.{lead}
 use Rattle.t1_parts.specs.Operator.{operator}
 use Rattle.t1_parts.specs.Printing.{text}
 use Rattle.t1_parts.specs.Reading.{reads}
-use Rattle.t1_source.specs.declared.edit.Edit.{Edit}
-use Rattle.t1_source.specs.declared.edit.Rule.{Rule}
 use Rattle.t1_pairs.specs.declared.pairs.Pair.{Pair}
-use Rattle.t1_source.specs.Editing.{edited}
 use Rattle.t1_pairs.specs.Kerning.{pairs, kern}
+use Rattle.t1_code.specs.declared.parts.OutError.{OutError}
+use Rattle.t1_code.specs.declared.parts.OutError.TheVariants as out
+use Rattle.t1_code.specs.Counted.{Tally}
+use Rattle.t1_code.specs.Parts.{Prints}
 use Rattle.t1_code.specs.Pfa.{pfa, pfa_of}
 use Rattle.t1_code.specs.Pfb.{has_long_part, pfb, pfb_of, whole_file}
 use Rattle.t1_afm.specs.Afm.{afm}
 use Rattle.t1_font.specs.Assembly.{counts_check, file_check, file_in, length_check, private_text, source_file, source_pfa, trailer_text}
 use Rattle.t1_font.specs.FontMetrics.{metrics_of}
 use Rattle.t1_font.specs.MeasuredGlyphs.{MeasuredFont}
-use Rattle.t1_font.specs.SourceChecks.{measured_source, source_check, source_usage}
+use Rattle.t1_font.specs.SourceChecks.{measured_source, source_check}
 use Rattle.t1_font.specs.Usage.{usage_table}
 use Rattle.t1_held.specs.declared.held.Held.{Held}
 use Rattle.t1_held.specs.Held.{IsHeld}
@@ -36,12 +37,11 @@ use Rattle.t1_commands.specs.declared.answer.Answer.TheVariants.{Data}
 use Rattle.t1_commands.specs.declared.print.Print.TheVariants as prints
 use Rattle.std.specs.declared.vec.Vec.{Vec}
 use Rattle.t1_commands.specs.AnswerTexts.{answer_text, data_of}
-use Rattle.t1_commands.specs.declared.command.Command.TheVariants as commands
 use Rattle.t1_session.specs.Files.{assembled, assembled_pfa}
 use Rattle.t1_session.specs.FromScratch.{blocks_from_scratch, pfa_from_scratch, texts_of, from_scratch, pfb_from_scratch, metrics_from_scratch, uses_from_scratch}
-use Rattle.t1_session.specs.Machine.{IsFaultless, OpensFaultless, KeepsFaultless, abort_in, begin_in, commit_in, drafted, edit_in, file_answer, holding, judged, opened, perform, printed, scratch, source_metrics, taken}
-use Rattle.t1_session.specs.Outcomes.{Took, refused_source}
-use Rattle.t1_batch.specs.Batch.{Draft, EntryEdit, edited_entries}
+use Rattle.t1_session.specs.Machine.{file_answer, holding, judged, printed}
+use Rattle.t1_session.specs.Outcomes.{AnswersNoFault, Took, refused_source}
+use Rattle.t1_held.specs.Batch.{Draft}
 use Rattle.t1_session.specs.State.{State}
 
 -- ---- by the metrics of its glyphs
@@ -51,12 +51,6 @@ check_passed s font e = (by-source-metrics s).check ∙ ap (λ (r : Result Measu
 
 pub check_refused : (s : SourceParts) (fault : Fault) → measured_source s ≡ Err fault → source_check s ≡ Err fault
 check_refused s fault e = (by-source-metrics s).check ∙ ap (λ (r : Result MeasuredFont Fault). r >>= λ metrics. Ok (tt {0})) e
-
-pub usage_is : (s : SourceParts) (font : MeasuredFont) → measured_source s ≡ Ok font → source_usage s ≡ Ok (usage_table font.metrics)
-usage_is s font e = (by-source-metrics s).usage ∙ ap (λ (r : Result MeasuredFont Fault). r >>= λ (found : MeasuredFont). Ok (usage_table found.metrics)) e
-
-pub metrics_are : (s : SourceParts) (k : List Pair) (font : MeasuredFont) → measured_source s ≡ Ok font → source_metrics s k ≡ Ok (afm (metrics_of s k font))
-metrics_are s k font e = ap (λ (r : Result MeasuredFont Fault). r >>= λ (found : MeasuredFont). Ok (afm (metrics_of s k found))) e
 
 -- ---- a source judged
 
@@ -120,7 +114,7 @@ has_pfa s e =
     (made.0, ap (λ (r : Result (List ℕ) Fault). r >>= λ text. pfa_of (joined s.clear) text (trailer_text s.tail)) private.1 ∙ made.1)
 
 -- its files as data
-pub data_blocks : (s : SourceParts) (size : ℕ) → source_check s ≡ Ok tt
+data_blocks : (s : SourceParts) (size : ℕ) → source_check s ≡ Ok tt
     → file_in (λ clear private trailer. data_of (pfb_of size clear private trailer)) s ≡ Ok (answer_text (file_answer (source_file size s)))
 unfolding source_file answer_text
 data_blocks s size e =
@@ -132,7 +126,7 @@ data_blocks s size e =
     ap (λ (r : Result (List ℕ) Fault). r >>= λ text. data_of (pfb_of size (joined s.clear) text (trailer_text s.tail))) private.1
     ∙ ap data_of made.1 ∙ ap (λ (r : Result (List ℕ) Fault). Ok (answer_text (file_answer r))) (sym is)
 
-pub data_pfa : (s : SourceParts) → source_check s ≡ Ok tt
+data_pfa : (s : SourceParts) → source_check s ≡ Ok tt
     → file_in (λ clear private trailer. data_of (pfa_of clear private trailer)) s ≡ Ok (answer_text (file_answer (source_pfa s)))
 unfolding source_pfa answer_text
 data_pfa s e =
@@ -156,10 +150,15 @@ refused_takes refusals.Memory old made h none = (refl, refl)
 refused_takes (refusals.Fault fault) old made h none = rw h (refl, holding_alone old.source old.pairs old.batch none)
 
 -- the texts that prints show
-pub afm_shown : {A E : Type 0} (given : Result (Vec ℕ A) E) (s : State) (file : List ℕ) → IfOk given (λ found. found.items ≡ file) → source_metrics s.source s.pairs ≡ Ok file
+pub afm_shown : {A E : Type 0} (given : Result (Vec ℕ A) E) (s : State) (file : List ℕ) → IfOk given (λ found. found.items ≡ file) → metrics_from_scratch s ≡ Ok file
     → IfOk given (λ found. printed s prints.Afm ≡ Data found.items)
 afm_shown (Ok found) s file is known = ap file_answer known ∙ ap (λ (l : List ℕ). Data l) (sym is)
 afm_shown (Err e) s file is known = tt
+
+pub uses_shown : {A E : Type 0} (given : Result (Vec ℕ A) E) (s : State) (table : List ℕ) → IfOk given (λ found. found.items ≡ table) → uses_from_scratch s ≡ Ok table
+    → IfOk given (λ found. printed s prints.Uses ≡ Data found.items)
+uses_shown (Ok found) s table is known = ap file_answer known ∙ ap (λ (l : List ℕ). Data l) (sym is)
+uses_shown (Err e) s table is known = tt
 
 -- ---- its texts from scratch
 
@@ -199,57 +198,61 @@ pub pfa_scratch : (s : State) → reads (text s.source) ≡ Ok s.source → pfa_
 unfolding assembled_pfa source_pfa
 pfa_scratch s source = ap (λ r. r >>= λ parts. source_pfa parts) source
 
--- ---- no fault
+-- the files as data
+pub data_blocks_scratch : (s : State) (size : ℕ) → source_check s.source ≡ Ok tt → reads (text s.source) ≡ Ok s.source
+    → file_in (λ clear private trailer. data_of (pfb_of size clear private trailer)) s.source ≡ Ok (answer_text (file_answer (blocks_from_scratch size s)))
+unfolding assembled
+data_blocks_scratch s size checked source =
+    data_blocks s.source size checked
+    ∙ ap (λ (r : Result (List ℕ) Fault). Ok (answer_text (file_answer r))) (sym (ap (λ r. r >>= λ parts. source_file size parts) source))
 
-opened-faultless : (parts : SourceParts) (k : List Pair) (r : Result (Unit {0}) Fault) (s : State) → source_check parts ≡ r
-    → ◌≡◌ {A = Result State Fault} (r >>= λ checked. Ok (holding parts k)) (Ok s) → IsFaultless s
-opened-faultless parts k (Ok checked) s e h =
-    let same : holding parts k ≡ s = cc in subst IsFaultless same e
-opened-faultless parts k (Err fault) s e h = absurd (cc)
+pub data_pfa_scratch : (s : State) → source_check s.source ≡ Ok tt → reads (text s.source) ≡ Ok s.source
+    → file_in (λ clear private trailer. data_of (pfa_of clear private trailer)) s.source ≡ Ok (answer_text (file_answer (pfa_from_scratch s)))
+unfolding assembled_pfa
+data_pfa_scratch s checked source =
+    data_pfa s.source checked
+    ∙ ap (λ (r : Result (List ℕ) Fault). Ok (answer_text (file_answer r))) (sym (ap (λ r. r >>= λ parts. source_pfa parts) source))
 
-opened-from : (a : Result SourceParts Fault) (b : Result (List Pair) Fault) (s : State)
-    → ◌≡◌ {A = Result State Fault} (a >>= λ parts. b >>= λ kerning. opened parts kerning) (Ok s) → IsFaultless s
-opened-from (Ok parts) (Ok kerning) s h = opened-faultless parts kerning (source_check parts) s refl h
-opened-from (Ok parts) (Err fault) s h = absurd (cc)
-opened-from (Err fault) b s h = absurd (cc)
+-- in one segment a part, the file of the assembler is that of the texts
+pub blocks_in_one : (s : State) → source_check s.source ≡ Ok tt → reads (text s.source) ≡ Ok s.source → pairs (kern s.pairs) ≡ Ok s.pairs
+    → blocks_from_scratch whole_file s ≡ pfb_from_scratch s
+blocks_in_one s e source kerning = blocks_scratch s whole_file source ∙ sym (pfb_checked s e source kerning)
 
-pub opens_faultless : OpensFaultless
-unfolding scratch
-opens_faultless source pair_lines s h = opened-from (reads source) (pairs pair_lines) s h
+-- each text is there
+module _ (s : State) (checked : source_check s.source ≡ Ok tt) (source : reads (text s.source) ≡ Ok s.source) (kerning : pairs (kern s.pairs) ≡ Ok s.pairs) where
+  pub pfb_there : (file : List ℕ) × (pfb_from_scratch s ≡ Ok file)
+  pfb_there =
+      let font = checked-metrics s.source checked in
+      let file = has_file s.source font.0 font.1 in
+      (file.0, pfb_scratch s font.0 font.1 source kerning ∙ file.1)
 
-judged-faultless : (s : State) (made : SourceParts × List Pair) (r : Result (Unit {0}) Fault) → source_check made.0 ≡ r → IsFaultless s → IsFaultless (judged s made r).next
-judged-faultless s made (Ok checked) e h = e
-judged-faultless s made (Err fault) e h = h
+  pub metrics_there : (file : List ℕ) × (metrics_from_scratch s ≡ Ok file)
+  metrics_there = let font = checked-metrics s.source checked in (afm (metrics_of s.source s.pairs font.0), metrics_scratch s font.0 font.1 source kerning)
 
-taken-faultless : (s : State) (r : Result (SourceParts × List Pair) Rule) → IsFaultless s → IsFaultless (taken s r).next
-taken-faultless s (Ok made) h = judged-faultless s made (source_check made.0) refl h
-taken-faultless s (Err rule) h = h
+  pub uses_there : (file : List ℕ) × (uses_from_scratch s ≡ Ok file)
+  uses_there = let font = checked-metrics s.source checked in (usage_table font.0.metrics, uses_scratch s font.0 font.1 source kerning)
 
-drafted-faultless : (s : State) (entries : List EntryEdit) (r : Result (SourceParts × List Pair) Rule) → IsFaultless s → IsFaultless (drafted s entries r).next
-drafted-faultless s entries (Ok made) h = h
-drafted-faultless s entries (Err rule) h = h
+  pub blocks_there : (size : ℕ) → (file : List ℕ) × (blocks_from_scratch size s ≡ Ok file)
+  unfolding assembled
+  blocks_there size = let file = has_blocks s.source size checked in (file.0, ap (λ r. r >>= λ parts. source_file size parts) source ∙ file.1)
 
-edit-faultless : (b : Option Draft) (s : State) (edit : Edit) → IsFaultless s → IsFaultless (edit_in b s edit).next
-edit-faultless None s edit h = taken-faultless s (edited s.source s.pairs edit) h
-edit-faultless (Some d) s edit h = drafted-faultless s (d.entries ++ edited_entries edit) (edited d.source d.pairs edit) h
+  pub pfa_there : (file : List ℕ) × (pfa_from_scratch s ≡ Ok file)
+  unfolding assembled_pfa
+  pfa_there = let file = has_pfa s.source checked in (file.0, ap (λ r. r >>= λ parts. source_pfa parts) source ∙ file.1)
 
-begin-faultless : (b : Option Draft) (s : State) → IsFaultless s → IsFaultless (begin_in b s).next
-begin-faultless None s h = h
-begin-faultless (Some d) s h = h
+-- ---- a print answers no fault
 
-commit-faultless : (b : Option Draft) (s : State) → IsFaultless s → IsFaultless (commit_in b s).next
-commit-faultless None s h = h
-commit-faultless (Some d) s h = judged-faultless s (d.source, d.pairs) (source_check d.source) refl h
+pub blocks_made : (s : SourceParts) (size : ℕ) → source_check s ≡ Ok tt → (made : List ℕ) × (file_in (pfb_of size) s ≡ Ok made)
+unfolding source_file
+blocks_made s size checked = has_blocks s size checked
 
-abort-faultless : (b : Option Draft) (s : State) → IsFaultless s → IsFaultless (abort_in b s).next
-abort-faultless None s h = h
-abort-faultless (Some d) s h = h
+pub pfa_made : (s : SourceParts) → source_check s ≡ Ok tt → (made : List ℕ) × (file_in pfa_of s ≡ Ok made)
+unfolding source_pfa
+pfa_made s checked = has_pfa s checked
 
-pub keeps_faultless : KeepsFaultless
-unfolding perform
-keeps_faultless s (commands.Edit edit) h = edit-faultless s.batch s edit h
-keeps_faultless s (commands.Print print) h = h
-keeps_faultless s commands.Begin h = begin-faultless s.batch s h
-keeps_faultless s commands.Commit h = commit-faultless s.batch s h
-keeps_faultless s commands.Abort h = abort-faultless s.batch s h
-keeps_faultless s (commands.Broken rule) h = h
+pub no_fault : {W T : Type 0} (contents : W → Option (List ℕ)) (before after : Tally W) (text : Result (List ℕ) Fault) (whole : List ℕ) (r : Result T OutError)
+    → text ≡ Ok whole → Prints contents before after text r → AnswersNoFault r
+no_fault contents before after text whole (Ok done) e h = tt
+no_fault contents before after text whole (Err out.Write) e h = tt
+no_fault contents before after text whole (Err (out.Fault fault)) e h = absurd (let told = h.0 in cc)
+no_fault contents before after text whole (Err out.Memory) e h = tt

@@ -18,7 +18,7 @@ use Rattle.t1_session.specs.LineEnds.{ends_line, ends_in_return}
 use Rattle.t1_session.specs.Machine.{machine, may_want_memory, after_want}
 use Rattle.t1_session.specs.State.{State}
 
--- profile: a session in the midst of its input: its state, the command whose body is being read, the unfinished line,
+-- word: a session in the midst of its input: its state, the command whose body is being read, the unfinished line,
 -- and whether the byte before was a CR
 pub record Conversation : Type 0 where
   pub state : State
@@ -26,28 +26,28 @@ pub record Conversation : Type 0 where
   pub line : List ℕ
   pub after_return : Bool
 
--- profile: a session before its first byte
+-- word: a session before its first byte
 abbrev pub fresh : State → Conversation
 fresh s = record { state = s; opening = None; line = []; after_return = false }
 
--- profile: an LF directly after a CR belongs to it
+-- word: an LF directly after a CR belongs to it
 abbrev pub input_after : Bool → List ℕ → List ℕ
 input_after after_return input = if after_return && begins_with line_feed input then drop 1 input else input
 
--- profile: no line of the text has its end
+-- word: no line of the text has its end
 abbrev pub is_unbroken : List ℕ → Bool
 is_unbroken text = list_all (λ c. not (c == line_feed)) text
 
--- profile: the commands that the rest of the input finishes
+-- word: the commands that the rest of the input finishes
 unfoldable pub commands_from : Conversation → List ℕ → Bool → List Command
 commands_from c rest ended = commands_of ended c.opening (finished_lines ended (c.line ++ unified (input_after c.after_return rest)))
 
--- profile: these commands bring a session from one state to another with this text, whatever commands come after
+-- word: these commands bring a session from one state to another with this text, whatever commands come after
 pub record Performs (old new : State) (made : List Command) (text : List ℕ) : Type 0 where
   pub marks : List Bool
   pub on : (rest : List Command) (more : List Bool) → answers machine old (made ++ rest) (marks ++ more) ≡ text ++ answers machine new rest more
 
--- profile: this input brings a conversation from one point to another, by these commands with this text, whatever comes
+-- word: this input brings a conversation from one point to another, by these commands with this text, whatever comes
 -- after
 pub record Goes (old new : Conversation) (input text : List ℕ) : Type 0 where
   pub made : List Command
@@ -55,11 +55,11 @@ pub record Goes (old new : Conversation) (input text : List ℕ) : Type 0 where
   pub performs : Performs old.state new.state made text
   pub returned : new.after_return ≡ ends_in_return old.after_return input
 
--- profile: without further input no command is finished
+-- word: without further input no command is finished
 abbrev pub IsQuiet : Conversation → Type 0
 IsQuiet c = commands_from c [] false ≡ []
 
--- profile: the text went out, or a failed write cut it short
+-- word: the text went out, or a failed write cut it short
 abbrev pub Sends : {W T : Type 0} → (W → Option (List ℕ)) → Tally W → Tally W → List ℕ → Result T ServeError → Type 0
 Sends contents old new text (Ok done) = WritesAll contents old new text
 Sends contents old new text (Err errors.Write) = WritesFront contents old new text
@@ -67,7 +67,7 @@ Sends contents old new text (Err errors.Memory) = ⊥
 Sends contents old new text (Err errors.Read) = ⊥
 Sends contents old new text (Err (errors.Load fault)) = ⊥
 
--- profile: a command was performed, and its answer went out, or a failed write cut it short; or it met want of memory,
+-- word: a command was performed, and its answer went out, or a failed write cut it short; or it met want of memory,
 -- and nothing was written
 abbrev pub IsPerformed : {W T : Type 0} → (W → Option (List ℕ)) → State → State → Tally W → Tally W → Command → Result T OutError → Type 0
 IsPerformed contents old new before after command (Ok done) =
@@ -78,13 +78,13 @@ IsPerformed contents old new before after command (Err (out.Fault fault)) = ⊥
 IsPerformed contents old new before after command (Err out.Memory) =
     (after ≡ before) × (may_want_memory old command ≡ true) × (new ≡ after_want old command)
 
--- profile: the answer to one command, marked or not
+-- word: the answer to one command, marked or not
 pub record AnswersCommand {W T : Type 0} (contents : W → Option (List ℕ)) (old new : State) (before after : Tally W) (command : Command) (result : Result T ServeError) : Type 0 where
   pub mark : Bool
   pub sends : Sends contents before after (answer_text (answer_to machine old command mark).answer) result
   pub next : new ≡ (answer_to machine old command mark).next
 
--- profile: the end of a line brings a conversation from one point to another, whatever lines come after
+-- word: the end of a line brings a conversation from one point to another, whatever lines come after
 pub record LineGoes (old new : Conversation) (text : List ℕ) : Type 0 where
   pub made : List Command
   pub spells : (lines : List (List ℕ)) (ended : Bool) → commands_of ended old.opening (old.line ∷ lines) ≡ made ++ commands_of ended new.opening lines
@@ -92,20 +92,20 @@ pub record LineGoes (old new : Conversation) (text : List ℕ) : Type 0 where
   pub no_line : new.line ≡ []
   pub same : new.after_return ≡ old.after_return
 
--- profile: a line was answered whole
+-- word: a line was answered whole
 pub record LineAnswered {W : Type 0} (contents : W → Option (List ℕ)) (old new : Conversation) (before after : Tally W) : Type 0 where
   pub text : List ℕ
   pub goes : LineGoes old new text
   pub written : WritesAll contents before after text
 
--- profile: the answer to a line went out in part
+-- word: the answer to a line went out in part
 pub record LineStops {W : Type 0} (contents : W → Option (List ℕ)) (old : Conversation) (before after : Tally W) : Type 0 where
   pub text : List ℕ
   pub reached : Conversation
   pub goes : LineGoes old reached text
   pub written : WritesFront contents before after text
 
--- profile: the end of a line that isn't one of a body is answered; it doesn't end a session for want of memory
+-- word: the end of a line that isn't one of a body is answered; it doesn't end a session for want of memory
 abbrev pub EndsCommandLine : {W T : Type 0} → (W → Option (List ℕ)) → Conversation → Conversation → Tally W → Tally W → Result T ServeError → Type 0
 EndsCommandLine contents old new before after (Ok done) = LineAnswered contents old new before after
 EndsCommandLine contents old new before after (Err errors.Write) = LineStops contents old before after
@@ -113,13 +113,13 @@ EndsCommandLine contents old new before after (Err errors.Memory) = ⊥
 EndsCommandLine contents old new before after (Err errors.Read) = ⊥
 EndsCommandLine contents old new before after (Err (errors.Load fault)) = ⊥
 
--- profile: the line goes into a body
+-- word: the line goes into a body
 pub record IsBodyLine (opening : Option Opening) (line : List ℕ) : Type 0 where
   pub opened : Opening
   pub is : opening ≡ Some opened
   pub goes_on : ends_body line ≡ false
 
--- profile: the end of a line is answered; memory may be wanted where it goes into a body
+-- word: the end of a line is answered; memory may be wanted where it goes into a body
 abbrev pub EndsLine : {W T : Type 0} → (W → Option (List ℕ)) → Conversation → Conversation → Tally W → Tally W → Result T ServeError → Type 0
 EndsLine contents old new before after (Ok done) = LineAnswered contents old new before after
 EndsLine contents old new before after (Err errors.Write) = LineStops contents old before after
@@ -127,18 +127,18 @@ EndsLine contents old new before after (Err errors.Memory) = (after ≡ before) 
 EndsLine contents old new before after (Err errors.Read) = ⊥
 EndsLine contents old new before after (Err (errors.Load fault)) = ⊥
 
--- profile: a piece of input was answered whole
+-- word: a piece of input was answered whole
 pub record Answered {W : Type 0} (contents : W → Option (List ℕ)) (old new : Conversation) (before after : Tally W) (piece : List ℕ) : Type 0 where
   pub text : List ℕ
   pub goes : Goes old new piece text
   pub written : WritesAll contents before after text
 
--- profile: a byte that makes what is kept of the input longer: one of a line, or the end of a line that goes into a body,
+-- word: a byte that makes what is kept of the input longer: one of a line, or the end of a line that goes into a body,
 -- so that a command would be open if the input ended there
 abbrev pub Grows : Conversation → ℕ → Type 0
 Grows c b = (is_line_end b ≡ false) ⊎ ((ends_line c.after_return b ≡ true) × (command : Command) × (commands_from c (b ∷ []) true ≡ command ∷ []))
 
--- profile: memory was wanted for a byte of the piece that makes longer what is kept, and finishes no command; those before
+-- word: memory was wanted for a byte of the piece that makes longer what is kept, and finishes no command; those before
 -- it were answered
 pub record StopsForMemory {W : Type 0} (contents : W → Option (List ℕ)) (old : Conversation) (before after : Tally W) (piece : List ℕ) : Type 0 where
   pub front : List ℕ
@@ -151,7 +151,7 @@ pub record StopsForMemory {W : Type 0} (contents : W → Option (List ℕ)) (old
   pub finishes_none : commands_from reached (byte ∷ []) false ≡ []
   pub grows : Grows reached byte
 
--- profile: a write failed: the answers to a beginning of the piece went out in part
+-- word: a write failed: the answers to a beginning of the piece went out in part
 pub record StopsForWrite {W : Type 0} (contents : W → Option (List ℕ)) (old : Conversation) (before after : Tally W) (piece : List ℕ) : Type 0 where
   pub front : List ℕ
   pub rest : List ℕ
@@ -161,7 +161,7 @@ pub record StopsForWrite {W : Type 0} (contents : W → Option (List ℕ)) (old 
   pub goes : Goes old reached front text
   pub written : WritesFront contents before after text
 
--- profile: what a call leaves that takes a piece of input
+-- word: what a call leaves that takes a piece of input
 abbrev pub Feeds : {W T : Type 0} → (W → Option (List ℕ)) → Conversation → Conversation → Tally W → Tally W → List ℕ → Result T ServeError → Type 0
 Feeds contents old new before after piece (Ok done) = Answered contents old new before after piece
 Feeds contents old new before after piece (Err errors.Memory) = StopsForMemory contents old before after piece
@@ -169,7 +169,7 @@ Feeds contents old new before after piece (Err errors.Write) = StopsForWrite con
 Feeds contents old new before after piece (Err errors.Read) = ⊥
 Feeds contents old new before after piece (Err (errors.Load fault)) = ⊥
 
--- profile: the end of the input is answered; it doesn't end a session for want of memory
+-- word: the end of the input is answered; it doesn't end a session for want of memory
 pub record Ends {W T : Type 0} (contents : W → Option (List ℕ)) (old : Conversation) (before after : Tally W) (result : Result T ServeError) : Type 0 where
   pub marks : List Bool
   pub sends : Sends contents before after (answers machine old.state (commands_from old [] true) marks) result

@@ -9,12 +9,12 @@ use Rattle.t1_code.specs.Counted.{Tally, WritesAll, WritesFront}
 use Rattle.t1_session.specs.declared.error.ServeError.{ServeError}
 use Rattle.t1_session.specs.declared.error.ServeError.TheVariants as errors
 
--- profile: a fault of what is loaded is reported in Load
+-- word: a fault of what is loaded is reported in Load
 abbrev pub reported_by_refusal : Refusal → ServeError
 reported_by_refusal (refusals.Fault fault) = errors.Load fault
 reported_by_refusal refusals.Memory = errors.Memory
 
--- profile: a fault of what is written is reported in Load too
+-- word: a fault of what is written is reported in Load too
 abbrev pub reported_by_writing : OutError → ServeError
 reported_by_writing (out.Fault fault) = errors.Load fault
 reported_by_writing out.Write = errors.Write

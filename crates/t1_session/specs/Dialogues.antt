@@ -5,10 +5,10 @@ use Rattle.std.specs.Prelude.{option_map}
 use Rattle.t1_commands.specs.Commands.{Opening}
 use Rattle.t1_session.specs.Conversation.{Conversation}
 
--- profile: the command whose body is being read
+-- word: the command whose body is being read
 abbrev pub opening_of : Opened → Opening
 opening_of o = record { heading = o.heading.items; body = o.body.items }
 
--- profile: a dialogue without where it lies in memory
+-- word: a dialogue without where it lies in memory
 abbrev pub conversation_of : Dialogue → Conversation
 conversation_of d = record { state = d.session; opening = option_map opening_of d.opening; line = d.line.items; after_return = d.after_return }

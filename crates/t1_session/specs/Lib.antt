@@ -6,6 +6,9 @@ pub mod FromScratch
 pub mod LineEnds
 pub mod Machine
 pub mod Outcomes
+pub mod Readable
 pub mod Reruns
+pub mod RerunsByTest
 pub mod Serving
 pub mod State
+pub mod Users

@@ -11,12 +11,8 @@ use Rattle.t1_source.specs.declared.edit.Rule.{Rule}
 use Rattle.t1_source.specs.declared.edit.Rule.TheVariants.{E4, E11, E12}
 use Rattle.t1_pairs.specs.Kerning.{pairs, kern}
 use Rattle.t1_source.specs.Editing.{edited}
-use Rattle.t1_code.specs.Pfb.{whole_file}
-use Rattle.t1_afm.specs.Afm.{afm}
-use Rattle.t1_font.specs.Assembly.{source_file, source_pfa}
-use Rattle.t1_font.specs.FontMetrics.{metrics_of}
-use Rattle.t1_font.specs.SourceChecks.{measured_source, source_check, source_usage}
-use Rattle.t1_batch.specs.Batch.{Draft, EntryEdit, edited_entries}
+use Rattle.t1_font.specs.SourceChecks.{source_check}
+use Rattle.t1_held.specs.Batch.{Draft, EntryEdit, edited_entries}
 use Rattle.t1_commands.specs.declared.print.Print.{Print}
 use Rattle.t1_commands.specs.declared.print.Print.TheVariants as prints
 use Rattle.t1_commands.specs.declared.answer.Answer.{Answer}
@@ -25,6 +21,7 @@ use Rattle.t1_commands.specs.declared.command.Command.{Command}
 use Rattle.t1_commands.specs.declared.command.Command.TheVariants as commands
 use Rattle.t1_commands.specs.Blocks.{block_size}
 use Rattle.t1_commands.specs.Answers.{Performed, Machine}
+use Rattle.t1_session.specs.FromScratch.{blocks_from_scratch, metrics_from_scratch, pfa_from_scratch, pfb_from_scratch, uses_from_scratch}
 use Rattle.t1_session.specs.State.{State}
 
 -- profile: the state with this source and these pairs, and no batch
@@ -82,29 +79,26 @@ abort_in (Some d) s = record { answer = Accepted; next = holding s.source s.pair
 
 -- ---- prints
 
--- profile: the AFM file of a source and its pairs, or the source's first fault
-abbrev pub source_metrics : SourceParts → List Pair → Result (List ℕ) Fault
-source_metrics source pairs = measured_source source >>= λ font. Ok (afm (metrics_of source pairs font))
-
--- profile: what a print of a file is answered; the source of a session has no fault
+-- profile: what a print of a text is answered; the source of a session has no fault
 abbrev pub file_answer : Result (List ℕ) Fault → Answer
 file_answer (Ok file) = Data file
 file_answer (Err fault) = Faulty fault
 
--- profile, session commands: the assembled font in segments of this size; E4 where there can be none
-abbrev pub blocks_answer : SourceParts → Option ℕ → Answer
-blocks_answer source None = Broken E4
-blocks_answer source (Some size) = file_answer (source_file size source)
+-- profile, session commands: the PFB file from scratch in segments of this size; E4 where there can be none
+abbrev pub blocks_answer : State → Option ℕ → Answer
+blocks_answer s None = Broken E4
+blocks_answer s (Some size) = file_answer (blocks_from_scratch size s)
 
--- profile, session commands: what a print shows; in a batch, of the session as before it
+-- profile, session commands: what a print shows: the printed source, the printed pairs, and what reading, assembling and
+-- measuring these two texts gives from scratch; in a batch, of the session as before it
 abbrev pub printed : State → Print → Answer
 printed s prints.Source = Data (text s.source)
 printed s prints.Kern = Data (kern s.pairs)
-printed s prints.Pfb = file_answer (source_file whole_file s.source)
-printed s (prints.Blocks number) = blocks_answer s.source (block_size number)
-printed s prints.Pfa = file_answer (source_pfa s.source)
-printed s prints.Afm = file_answer (source_metrics s.source s.pairs)
-printed s prints.Uses = file_answer (source_usage s.source)
+printed s prints.Pfb = file_answer (pfb_from_scratch s)
+printed s (prints.Blocks number) = blocks_answer s (block_size number)
+printed s prints.Pfa = file_answer (pfa_from_scratch s)
+printed s prints.Afm = file_answer (metrics_from_scratch s)
+printed s prints.Uses = file_answer (uses_from_scratch s)
 
 -- ---- all commands
 
@@ -147,17 +141,3 @@ scratch source pair_lines = do
   parts ← reads source
   kerning ← pairs pair_lines
   opened parts kerning
-
--- ---- a session has no fault
-
--- profile: the source of a state has no fault
-abbrev pub IsFaultless : State → Type 0
-IsFaultless s = source_check s.source ≡ Ok tt
-
--- profile: a session opens without a fault
-abbrev pub OpensFaultless : Type 0
-OpensFaultless = (source pair_lines : List ℕ) (s : State) → scratch source pair_lines ≡ Ok s → IsFaultless s
-
--- profile: a state without a fault stays so through every command
-abbrev pub KeepsFaultless : Type 0
-KeepsFaultless = (s : State) (command : Command) → IsFaultless s → IsFaultless (perform s command).next

@@ -4,6 +4,8 @@ use Rattle.t1_frac.specs.declared.fault.Refusal.{Refusal}
 use Rattle.t1_frac.specs.declared.fault.Refusal.TheVariants as refusals
 use Rattle.t1_source.specs.declared.edit.Cause.{Cause}
 use Rattle.t1_source.specs.declared.edit.Cause.TheVariants as causes
+use Rattle.t1_code.specs.declared.parts.OutError.{OutError}
+use Rattle.t1_code.specs.declared.parts.OutError.TheVariants as out
 use Rattle.t1_commands.specs.declared.answer.Answer.TheVariants.{Accepted, Broken, Faulty}
 use Rattle.t1_commands.specs.declared.command.Command.{Command}
 use Rattle.t1_commands.specs.Answers.{Performed}
@@ -31,3 +33,10 @@ Takes old c result new = Took old (perform old c) (may_want_memory old c) (after
 abbrev pub TakesOrReturns : {T E : Type 0} → State → Command → E → Result T (Cause × E) → State → Type 0
 TakesOrReturns {T} old c given (Ok done) new = Takes {T = T} old c (Ok done) new
 TakesOrReturns {T} old c given (Err refused) new = Takes {T = T} old c (Err refused.0) new × (refused.1 ≡ given)
+
+-- profile: a print that isn't done answers that a write failed or that memory ran out, and no fault
+abbrev pub AnswersNoFault : {T : Type 0} → Result T OutError → Type 0
+AnswersNoFault (Ok done) = Unit {0}
+AnswersNoFault (Err out.Write) = Unit {0}
+AnswersNoFault (Err (out.Fault fault)) = ⊥
+AnswersNoFault (Err out.Memory) = Unit {0}

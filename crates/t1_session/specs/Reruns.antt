@@ -1,5 +1,5 @@
 -- What commands leave of the records of a session, and of its count of runs.
-use Rattle.std.specs.Prelude.{◌≡◌, ◌≤◌, ℕ, length, List, Option, Some, None, Result, Ok, Err}
+use Rattle.std.specs.Prelude.{◌≡◌, ◌≤◌, ℕ, Bool, true, false, filter, length, List, Option, Some, None, Result, Ok, Err}
 use Rattle.std.specs.List.{AllByRecursion}
 use Rattle.std.specs.Option.{option_map}
 use Rattle.std.specs.Result.{result_ok}
@@ -7,12 +7,17 @@ use Rattle.t1_parts.specs.SourceParts.{SourceParts}
 use Rattle.t1_source.specs.declared.edit.Cause.{Cause}
 use Rattle.t1_source.specs.Editing.{edited}
 use Rattle.t1_run.specs.Run.{Key}
+use Rattle.t1_run.specs.Touched.{AreStale}
+use Rattle.t1_font.specs.Bodies.{bodies}
+use Rattle.t1_font.specs.Glyphs.{glyph_names}
 use Rattle.t1_font.specs.Runs.{counted}
-use Rattle.t1_cache.specs.Edited.{named, stale}
-use Rattle.t1_rerun.specs.Renewing.{IsRunWhereStale}
+use Rattle.t1_cache.specs.Edited.{named}
+use Rattle.t1_cache.specs.Renewal.{IsOneOf}
+use Rattle.t1_cache.specs.Renewed.{Kept}
+use Rattle.t1_rerun.specs.Opened.{IsRunAfter}
 use Rattle.t1_commands.specs.declared.command.Command.{Command}
 use Rattle.t1_commands.specs.declared.command.Command.TheVariants as commands
-use Rattle.t1_batch.specs.Batch.{Draft, keys}
+use Rattle.t1_held.specs.Batch.{Draft, keys}
 use Rattle.t1_session.specs.State.{SessionView, State}
 
 -- profile: the keys at which a source was edited, and the edited source
@@ -31,17 +36,34 @@ edition_in batch s c = None
 abbrev pub edition : State → Command → Option Edition
 edition s c = edition_in s.batch s c
 
--- profile: a source was edited: one run for each stale glyph, whose record has a run after the old count, and each other
--- record is one of those before, the number of its run too
-pub record Renews (e : Edition) (old new : SessionView) : Type 0 where
-  pub runs : new.runs ≡ counted old.runs (length (stale old.state.source e.keys e.source))
-  pub each : AllByRecursion (IsRunWhereStale old.runs e.keys old.state.source old.kept) new.kept
+-- profile, edits: which glyphs are stale: those that the edits name, those whose own run in the source before them entered a
+-- Subr that they name, and the composites on any glyph named so far, until none is added
+pub record Staleness (e : Edition) (old : SourceParts) : Type 0 where
+  pub is_stale : List ℕ → Bool
+  pub closure : AreStale (bodies old.items) e.keys is_stale
 
--- profile: all that was kept stays, and so many runs were made at most
-pub record Spends (runs : ℕ) (old new : SessionView) : Type 0 where
+-- profile: how many glyphs of the edited source are stale
+abbrev pub stale_count : Edition → (List ℕ → Bool) → ℕ
+stale_count e is_stale = length (filter is_stale (glyph_names e.source.items))
+
+-- profile: a stale glyph has a run after this count, and each other glyph what was kept of it, the number of its run too
+pub record IsRerun (count : ℕ) (is_stale : List ℕ → Bool) (kept : List Kept) (k : Kept) : Type 0 where
+  pub stale : is_stale k.name ≡ true → IsRunAfter count k
+  pub fresh : is_stale k.name ≡ false → IsOneOf kept k
+
+-- profile: a source was edited: one run for each stale glyph, whose record has a run after the old count, and each other
+-- record is one of those before
+pub record Renews (e : Edition) (old new : SessionView) : Type 0 where
+  pub stale : Staleness e old.state.source
+  pub runs : new.runs ≡ counted old.runs (stale_count e stale.is_stale)
+  pub each : AllByRecursion (IsRerun old.runs stale.is_stale old.kept) new.kept
+
+-- profile: all that was kept stays, and one run for each stale glyph was made at most
+pub record Spends (e : Edition) (old new : SessionView) : Type 0 where
+  pub stale : Staleness e old.state.source
   pub kept : new.kept ≡ old.kept
   pub made : ℕ
-  pub at_most : made ≤ runs
+  pub at_most : made ≤ stale_count e stale.is_stale
   pub count : new.runs ≡ counted old.runs made
 
 -- profile: all that was kept stays, and no run was made
@@ -52,7 +74,7 @@ AreKept old new = (new.kept ≡ old.kept) × (new.runs ≡ old.runs)
 abbrev pub Reruns : {T : Type 0} → Option Edition → SessionView → Result T Cause → SessionView → Type 0
 Reruns None old result new = AreKept old new
 Reruns (Some e) old (Ok done) new = Renews e old new
-Reruns (Some e) old (Err cause) new = Spends (length (stale old.state.source e.keys e.source)) old new
+Reruns (Some e) old (Err cause) new = Spends e old new
 
 -- profile: the same, of a call that hands what it took back with each refusal
 abbrev pub RerunsOrReturns : {T E : Type 0} → Option Edition → SessionView → Result T (Cause × E) → SessionView → Type 0

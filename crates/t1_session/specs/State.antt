@@ -3,7 +3,8 @@ use Rattle.std.specs.Prelude.{ℕ, List, Option, Some, None}
 use Rattle.t1_parts.specs.SourceParts.{SourceParts}
 use Rattle.t1_pairs.specs.declared.pairs.Pair.{Pair}
 use Rattle.t1_cache.specs.Renewed.{Kept}
-use Rattle.t1_batch.specs.Batch.{Draft, IsDraftOf}
+use Rattle.t1_held.specs.Batch.{Draft, IsDraftOf}
+use Rattle.t1_session.specs.Users.{UserTable}
 
 -- profile: a source, its kerning pairs, and the batch that is open, or none
 pub record State : Type 0 where
@@ -11,11 +12,12 @@ pub record State : Type 0 where
   pub pairs : List Pair
   pub batch : Option Draft
 
--- profile: what contracts see of a session: what it holds, what is kept of its glyphs, in source order, and the count
--- of runs
+-- profile: what contracts see of a session: what it holds, what is kept of its glyphs, in source order, who uses each
+-- Subr and each glyph, and the count of runs
 pub record SessionView : Type 0 where
   pub state : State
   pub kept : List Kept
+  pub users : UserTable
   pub runs : ℕ
 
 -- profile: the source of the batch that is open is what its edits made of this one

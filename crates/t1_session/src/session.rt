@@ -1,8 +1,7 @@
 //! A session: a font that is kept current under edits.
 use std::alloc::Global;
 use std::marker::Model;
-use t1_batch::Batch;
-use t1_held::Held;
+use t1_held::{Batch, Held};
 use t1_pairs::Pairs;
 use t1_run::Meter;
 use t1_source::Source;
@@ -25,10 +24,16 @@ impl<'a> Model for Session<'a> {
     ghost use Rattle.t1_cache.specs.Renewed.{kept_of};
     ghost use Rattle.t1_held.specs.Held.{IsHeld};
     ghost use Rattle.t1_session.specs.State.{IsOpenOn, SessionView};
+    ghost use Rattle.t1_session.specs.Users.{user_table};
 
     ghost Value = { SessionView };
 
-    ghost view = { λ s. record { state = record { source = s.source; pairs = s.pairs; batch = s.batch }; kept = map kept_of s.held.records.glyphs.entries; runs = s.meter } };
+    ghost view = { λ s. record {
+      state = record { source = s.source; pairs = s.pairs; batch = s.batch };
+      kept = map kept_of s.held.records.glyphs.entries;
+      users = user_table s.held.records;
+      runs = s.meter;
+    } };
 
     ghost invariant = { λ s. IsHeld s.source s.held × IsOpenOn s.source s.batch };
 }
@@ -41,13 +46,12 @@ ghost use Rattle.t1_pairs.specs.Kerning.{kern, pairs};
 ghost use Rattle.t1_parts.specs.Printing.{text};
 ghost use Rattle.t1_parts.specs.Reading.{reads};
 ghost use Rattle.t1_code.specs.Parts.{Prints};
-ghost use Rattle.t1_font.specs.Assembly.{source_file};
 ghost use Rattle.t1_font.specs.Glyphs.{glyph_names};
 ghost use Rattle.t1_font.specs.Runs.{counted};
 ghost use Rattle.t1_font.specs.SourceChecks.{measured_source, source_check};
 ghost use Rattle.t1_cache.specs.Edited.{named};
 ghost use Rattle.t1_cache.specs.Kept.{KeepsAll};
-ghost use Rattle.t1_batch.specs.Batch.{entry_edit, keys, IsEditedBy};
+ghost use Rattle.t1_held.specs.Batch.{entry_edit, keys, IsEditedBy};
 ghost use Rattle.t1_commands.specs.declared.command.Command.TheVariants as commands;
 ghost use Rattle.t1_commands.specs.declared.print.Print.TheVariants as prints;
 ghost use Rattle.t1_session.specs.FromScratch.{blocks_from_scratch, pfa_from_scratch, pfb_from_scratch, metrics_from_scratch, uses_from_scratch};
@@ -55,18 +59,19 @@ ghost use Rattle.t1_commands.specs.Blocks.{block_size};
 ghost use Rattle.t1_commands.specs.declared.answer.Answer.TheVariants.{Data};
 ghost use Rattle.t1_commands.specs.AnswerTexts.{answer_text};
 ghost use Rattle.t1_session.specs.Machine.{blocks_answer, file_answer, opened, judged, printed};
-ghost use Rattle.t1_session.specs.Outcomes.{Takes, TakesOrReturns, Took, refused_source};
+ghost use Rattle.t1_session.specs.Outcomes.{AnswersNoFault, Takes, TakesOrReturns, Took, refused_source};
 ghost use Rattle.t1_session.specs.Reruns.{edition, AreKept, Reruns, RerunsOrReturns};
+ghost use Rattle.t1_session.specs.RerunsByTest.{RerunsByTest};
+ghost use Rattle.t1_session.specs.Users.{AreUsers};
 
 use std::alloc::AllocError;
 use std::io::Write;
 use std::mem;
-use t1_batch::EditedEntry;
 use t1_code::{Counted, OutError, Pfa, Pfb, WHOLE_PARTS};
 use t1_commands::{Answer, PfaData, PfbData, Print, block_size, put_answer};
 use t1_font::{MeasuredGlyphs, afm_of_source, usage_text, write_source_afm};
 use t1_frac::{Bytes, Refusal};
-use t1_held::{Edits, held_metrics, held_of, prepare_edits, settle, write_held_file};
+use t1_held::{EditedEntry, Edits, held_metrics, held_of, prepare_edits, settle, write_held_file};
 use t1_pairs::laws::text_of_pairs_read;
 use t1_source::laws::text_of_source_read;
 use t1_source::{Cause, Change, Edit, Rule};
@@ -88,18 +93,21 @@ impl<'a> Session<'a> {
     pub fn open(alloc: Global, source: Source<'a>, pairs: Pairs) -> Result<Session<'a>, Refusal>
         ensures checked { Gives (λ session. session.state) result (opened source.entry pairs) }
         ensures right { IfOk result (λ session. KeepsAll session.state.source session.kept) }
+        ensures users { IfOk result (λ session. AreUsers session.state.source session.users) }
         ensures runs { IfOk result (λ session. session.runs ≡ counted 0 (length (glyph_names source.entry.items))) }
     {
         let mut meter = Meter::new();
         let held = held_of(alloc, &source, &mut meter)?;
-        Ok(Session {
+        let session = Session {
             alloc,
             source,
             pairs,
             held,
             meter,
             batch: None,
-        })
+        };
+        session.users_are_right();
+        Ok(session)
     }
 
     /// Whether a batch is open.
@@ -122,18 +130,26 @@ impl<'a> Session<'a> {
     pub fn apply(&mut self, edit: Edit) -> Result<(), Cause>
         ensures takes { Takes self.old.state (commands.Edit edit) result self.new.state }
         ensures right { KeepsAll self.new.state.source self.new.kept }
+        ensures users { AreUsers self.new.state.source self.new.users }
         ensures runs { Reruns (edition self.old.state (commands.Edit edit)) self.old result self.new }
     {
-        self.take(&edit)
+        self.reads_back();
+        let taken = self.take(&edit);
+        self.users_are_right();
+        taken
     }
 
     /// Does what `apply` does, and hands the edit back with a refusal.
     pub fn try_apply(&mut self, edit: Edit) -> Result<(), (Cause, Edit)>
         ensures takes { TakesOrReturns self.old.state (commands.Edit edit) edit result self.new.state }
         ensures right { KeepsAll self.new.state.source self.new.kept }
+        ensures users { AreUsers self.new.state.source self.new.users }
         ensures runs { RerunsOrReturns (edition self.old.state (commands.Edit edit)) self.old result self.new }
     {
-        match self.take(&edit) {
+        self.reads_back();
+        let taken = self.take(&edit);
+        self.users_are_right();
+        match taken {
             Ok(()) => Ok(()),
             Err(cause) => Err((cause, edit)),
         }
@@ -156,19 +172,16 @@ impl<'a> Session<'a> {
     /// Closes the batch, and takes its source and its pairs unless the source has a fault; E12 where none is open. Each glyph
     /// that some edit of the batch makes stale is run once. A refusal, also for want of memory, leaves the session as before
     /// the batch.
-    #[tactic(auto, unfolding(crate::specs::Machine::perform))]
     pub fn commit(&mut self) -> Result<(), Cause>
         ensures takes { Takes self.old.state commands.Commit result self.new.state }
         ensures right { KeepsAll self.new.state.source self.new.kept }
+        ensures users { AreUsers self.new.state.source self.new.users }
         ensures runs { Reruns (edition self.old.state commands.Commit) self.old result self.new }
     {
-        match self.batch.take() {
-            Some(batch) => {
-                let (source, pairs, entries) = batch.into_parts();
-                self.accept(source, pairs, entries)
-            }
-            None => Err(Cause::Rule(Rule::E12)),
-        }
+        self.reads_back();
+        let committed = self.close_batch();
+        self.users_are_right();
+        committed
     }
 
     /// Closes the batch and drops its edits; E12 where none is open. It takes no memory.
@@ -183,12 +196,28 @@ impl<'a> Session<'a> {
         }
     }
 
+    /// Closes the batch, and takes its source and its pairs unless the source has a fault; E12 where none is open.
+    #[tactic(auto, unfolding(crate::specs::Machine::perform))]
+    fn close_batch(&mut self) -> Result<(), Cause>
+        ensures takes { Takes self.old.state commands.Commit result self.new.state }
+        ensures right { KeepsAll self.new.state.source self.new.kept }
+        ensures runs { RerunsByTest (edition self.old.state commands.Commit) self.old result self.new }
+    {
+        match self.batch.take() {
+            Some(batch) => {
+                let (source, pairs, entries) = batch.into_parts();
+                self.accept(source, pairs, entries)
+            }
+            None => Err(Cause::Rule(Rule::E12)),
+        }
+    }
+
     /// Takes an edit, or refuses it.
     #[tactic(auto, unfolding(crate::specs::Machine::perform))]
-    pub(crate) fn take(&mut self, edit: &Edit) -> Result<(), Cause>
+    fn take(&mut self, edit: &Edit) -> Result<(), Cause>
         ensures takes { Takes self.old.state (commands.Edit edit.now) result self.new.state }
         ensures right { KeepsAll self.new.state.source self.new.kept }
-        ensures runs { Reruns (edition self.old.state (commands.Edit edit.now)) self.old result self.new }
+        ensures runs { RerunsByTest (edition self.old.state (commands.Edit edit.now)) self.old result self.new }
     {
         if let Some(batch) = &mut self.batch {
             return batch.edit(self.alloc, edit);
@@ -205,7 +234,7 @@ impl<'a> Session<'a> {
         requires made { edited self.old.state.source self.old.state.pairs edit.now ≡ Ok (changed change self.old.state.source self.old.state.pairs) }
         ensures took { Took self.old.state (judged self.old.state (changed change.entry self.old.state.source self.old.state.pairs) (source_check (changed change.entry self.old.state.source self.old.state.pairs).0)) true self.old.state result self.new.state }
         ensures right { KeepsAll self.new.state.source self.new.kept }
-        ensures runs { Reruns (Some (record { keys = named edit.now; source = (changed change.entry self.old.state.source self.old.state.pairs).0 })) self.old result self.new }
+        ensures runs { RerunsByTest (Some (record { keys = named edit.now; source = (changed change.entry self.old.state.source self.old.state.pairs).0 })) self.old result self.new }
     {
         text_of_source_read(&self.source);
         let edits = Edits::One {
@@ -239,7 +268,7 @@ impl<'a> Session<'a> {
         requires edited { IsEditedBy (map entry_edit entries.items) self.old.state.source source }
         ensures took { Took self.old.state (judged self.old.state (source.entry, pairs) (source_check source.entry)) true self.old.state result self.new.state }
         ensures right { KeepsAll self.new.state.source self.new.kept }
-        ensures runs { Reruns (Some (record { keys = keys (map entry_edit entries.items); source = source.entry })) self.old result self.new }
+        ensures runs { RerunsByTest (Some (record { keys = keys (map entry_edit entries.items); source = source.entry })) self.old result self.new }
     {
         let edits = Edits::Batch {
             source: &self.source,
@@ -258,6 +287,13 @@ impl<'a> Session<'a> {
         self.pairs = pairs;
         settle(&mut self.held, ready);
         Ok(())
+    }
+
+    /// The users that are held are those of the source from scratch.
+    fn users_are_right(&self)
+        ensures { AreUsers self.now.state.source self.now.users }
+    {
+        let _ = &self.held;
     }
 
     /// The texts of a session read back as what it holds, and its source has no fault.
@@ -281,7 +317,8 @@ impl<'a> Session<'a> {
     /// Writes the PFB file: that of the printed source and pairs from scratch.
     #[tactic(auto, using(crate::proofs::StateLaws::pfb_checked))]
     pub fn print_pfb<W: Write>(&self, out: &mut Counted<W>) -> Result<(), OutError>
-        ensures { Prints W.contents out.old out.new (pfb_from_scratch self.now.state) result }
+        ensures prints { Prints W.contents out.old out.new (pfb_from_scratch self.now.state) result }
+        ensures no_fault { AnswersNoFault result }
     {
         self.reads_back();
         let form = Pfb::in_blocks(WHOLE_PARTS);
@@ -298,7 +335,8 @@ impl<'a> Session<'a> {
     ) -> Result<(), OutError>
         requires some { 1 ≤ size }
         requires short { size ≤ 2 ^ 31 - 1 }
-        ensures { Prints W.contents out.old out.new (blocks_from_scratch size self.now.state) result }
+        ensures prints { Prints W.contents out.old out.new (blocks_from_scratch size self.now.state) result }
+        ensures no_fault { AnswersNoFault result }
     {
         self.reads_back();
         let form = Pfb::in_blocks(size);
@@ -308,7 +346,8 @@ impl<'a> Session<'a> {
     /// Writes the PFA file: that of the printed source from scratch.
     #[tactic(auto, using(crate::proofs::StateLaws::pfa_scratch))]
     pub fn print_pfa<W: Write>(&self, out: &mut Counted<W>) -> Result<(), OutError>
-        ensures { Prints W.contents out.old out.new (pfa_from_scratch self.now.state) result }
+        ensures prints { Prints W.contents out.old out.new (pfa_from_scratch self.now.state) result }
+        ensures no_fault { AnswersNoFault result }
     {
         self.reads_back();
         write_held_file(self.alloc, &self.held, &self.source, &Pfa, out)
@@ -316,7 +355,8 @@ impl<'a> Session<'a> {
 
     /// Writes the AFM file: that of the printed source and pairs from scratch.
     pub fn print_afm<W: Write>(&self, out: &mut Counted<W>) -> Result<(), OutError>
-        ensures { Prints W.contents out.old out.new (metrics_from_scratch self.now.state) result }
+        ensures prints { Prints W.contents out.old out.new (metrics_from_scratch self.now.state) result }
+        ensures no_fault { AnswersNoFault result }
     {
         self.reads_back();
         let glyphs = self.glyphs()?;
@@ -326,7 +366,8 @@ impl<'a> Session<'a> {
     /// Writes the usage table: that of the printed source from scratch.
     #[tactic(auto, using(crate::proofs::StateLaws::uses_scratch))]
     pub fn print_uses<W: Write>(&self, out: &mut Counted<W>) -> Result<(), OutError>
-        ensures { Prints W.contents out.old out.new (uses_from_scratch self.now.state) result }
+        ensures prints { Prints W.contents out.old out.new (uses_from_scratch self.now.state) result }
+        ensures no_fault { AnswersNoFault result }
     {
         self.reads_back();
         let glyphs = self.glyphs()?;
@@ -336,7 +377,8 @@ impl<'a> Session<'a> {
 
     /// Writes the source in its printed form.
     pub fn print_source<W: Write>(&self, out: &mut Counted<W>) -> Result<(), OutError>
-        ensures { Prints W.contents out.old out.new (Ok (text self.now.state.source)) result }
+        ensures prints { Prints W.contents out.old out.new (Ok (text self.now.state.source)) result }
+        ensures no_fault { AnswersNoFault result }
     {
         let text = self.source.text()?;
         put_text(&text, out)
@@ -344,7 +386,8 @@ impl<'a> Session<'a> {
 
     /// Writes the pairs in their printed form.
     pub fn print_kern<W: Write>(&self, out: &mut Counted<W>) -> Result<(), OutError>
-        ensures { Prints W.contents out.old out.new (Ok (kern self.now.state.pairs)) result }
+        ensures prints { Prints W.contents out.old out.new (Ok (kern self.now.state.pairs)) result }
+        ensures no_fault { AnswersNoFault result }
     {
         let text = self.pairs.text()?;
         put_text(&text, out)
@@ -354,15 +397,25 @@ impl<'a> Session<'a> {
     fn put_pfb<W: Write>(&self, size: usize, out: &mut Counted<W>) -> Result<(), OutError>
         requires some { 1 ≤ size }
         requires short { size ≤ 2 ^ 31 - 1 }
-        ensures { Prints W.contents out.old out.new (Ok (answer_text (file_answer (source_file size self.now.state.source)))) result }
+        ensures { Prints W.contents out.old out.new (Ok (answer_text (file_answer (blocks_from_scratch size self.now.state)))) result }
     {
+        self.reads_back();
         let form = PfbData::in_blocks(size);
         write_held_file(self.alloc, &self.held, &self.source, &form, out)
     }
 
+    /// Writes the PFB file as the data of an answer, a segment a part.
+    #[tactic(auto, using(crate::proofs::StateLaws::blocks_in_one))]
+    fn put_whole_pfb<W: Write>(&self, out: &mut Counted<W>) -> Result<(), OutError>
+        ensures { Prints W.contents out.old out.new (Ok (answer_text (printed self.now.state prints.Pfb))) result }
+    {
+        self.reads_back();
+        self.put_pfb(WHOLE_PARTS, out)
+    }
+
     /// Writes what a print in segments of so many bytes is answered.
     fn put_blocks<W: Write>(&self, number: i64, out: &mut Counted<W>) -> Result<(), OutError>
-        ensures { Prints W.contents out.old out.new (Ok (answer_text (blocks_answer self.now.state.source (block_size number)))) result }
+        ensures { Prints W.contents out.old out.new (Ok (answer_text (blocks_answer self.now.state (block_size number)))) result }
     {
         match block_size(number) {
             Some(size) => self.put_pfb(size, out),
@@ -374,6 +427,7 @@ impl<'a> Session<'a> {
     fn put_pfa<W: Write>(&self, out: &mut Counted<W>) -> Result<(), OutError>
         ensures { Prints W.contents out.old out.new (Ok (answer_text (printed self.now.state prints.Pfa))) result }
     {
+        self.reads_back();
         write_held_file(self.alloc, &self.held, &self.source, &PfaData, out)
     }
 
@@ -381,15 +435,16 @@ impl<'a> Session<'a> {
     fn metrics_text(&self) -> Result<Vec<u8>, AllocError>
         ensures { IfOk result (λ text. printed self.now.state prints.Afm ≡ Data text.items) }
     {
+        self.reads_back();
         let glyphs = self.glyphs()?;
         afm_of_source(self.alloc, &self.source, &self.pairs, &glyphs)
     }
 
     /// The usage table.
-    #[tactic(auto, using(crate::proofs::StateLaws::usage_is))]
     fn uses_text(&self) -> Result<Vec<u8>, AllocError>
         ensures { IfOk result (λ text. printed self.now.state prints.Uses ≡ Data text.items) }
     {
+        self.reads_back();
         let glyphs = self.glyphs()?;
         usage_text(self.alloc, glyphs.metrics())
     }
@@ -405,7 +460,7 @@ impl<'a> Session<'a> {
         match print {
             Print::Source => put_data(self.source.text()?, out),
             Print::Kern => put_data(self.pairs.text()?, out),
-            Print::Pfb => self.put_pfb(WHOLE_PARTS, out),
+            Print::Pfb => self.put_whole_pfb(out),
             Print::Blocks(number) => self.put_blocks(number, out),
             Print::Pfa => self.put_pfa(out),
             Print::Afm => put_data(self.metrics_text()?, out),

@@ -1,4 +1,4 @@
-use Rattle.t1_session.proofs.StateLaws.{opens_faultless, keeps_faultless}
+use Rattle.t1_session.proofs.ReadableLaws.{keeps_faultless, opens_faultless}
 use Rattle.t1_session.proofs.laws.a_session_is_faultless.Goals as goal
 
 pub returns-clause-opens : goal.returns-clause-opens

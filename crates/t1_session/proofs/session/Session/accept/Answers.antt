@@ -1,6 +1,6 @@
 use Rattle.std.proofs.Common.{ap, map, sym}
 use Rattle.t1_cache.specs.Renewed.{kept_of}
-use Rattle.t1_batch.specs.Batch.{entry_edit, keys}
+use Rattle.t1_held.specs.Batch.{entry_edit, keys}
 use Rattle.t1_held.specs.declared.held.ReadyHeld.{ReadyHeld}
 use Rattle.t1_session.proofs.RerunLaws.{edits_spend}
 use Rattle.t1_session.proofs.session.Session.accept.Goals as goal

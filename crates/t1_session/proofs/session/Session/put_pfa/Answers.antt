@@ -1,16 +1,15 @@
-use Rattle.std.proofs.Common.{ℕ, List, Ok, Result, subst}
+use Rattle.std.proofs.Common.{ℕ, List, Ok, Result, ap, subst, sym}
 use Rattle.t1_frac.specs.declared.fault.Fault.{Fault}
 use Rattle.t1_code.specs.Parts.{Prints}
-use Rattle.t1_font.specs.Assembly.{source_pfa}
-use Rattle.t1_commands.specs.AnswerTexts.{answer_text}
-use Rattle.t1_session.specs.Machine.{file_answer}
+use Rattle.t1_code.specs.Pfa.{pfa_of}
+use Rattle.t1_commands.specs.AnswerTexts.{answer_text, data_of}
+use Rattle.t1_font.specs.Assembly.{file_in}
 use Rattle.t1_session.specs.State.{SessionView}
-use Rattle.t1_session.proofs.StateLaws.{data_pfa, held_checked}
+use Rattle.t1_session.proofs.StateLaws.{data_pfa_scratch}
 use Rattle.t1_session.proofs.session.Session.put_pfa.Goals as goal
 
 pub returns : goal.returns
 returns g c =
-    let s = c.self.inside in
-    let is = data_pfa s.source (held_checked s.source s.held c.self.invariant.0) in
-    subst (λ (v : SessionView). Prints g.W.Write.contents c.args.out.now c.write_held_file.new.out (Ok (answer_text (file_answer (source_pfa v.state.source)))) c.write_held_file.result) c.self.view_is
-    (subst (λ (text : Result (List ℕ) Fault). Prints g.W.Write.contents c.args.out.now c.write_held_file.new.out text c.write_held_file.result) is c.write_held_file.ensures)
+    let is = data_pfa_scratch c.args.self.now.state c.reads_back.ensures.faultless c.reads_back.ensures.source in
+    subst (λ (text : Result (List ℕ) Fault). Prints g.W.Write.contents c.args.out.now c.write_held_file.new.out text c.write_held_file.result) is
+    (subst (λ (v : SessionView). Prints g.W.Write.contents c.args.out.now c.write_held_file.new.out (file_in (λ clear private trailer. data_of (pfa_of clear private trailer)) v.state.source) c.write_held_file.result) c.self.view_is c.write_held_file.ensures)

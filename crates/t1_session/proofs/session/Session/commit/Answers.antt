@@ -1,0 +1,5 @@
+use Rattle.t1_session.proofs.ClosureLaws.{reruns}
+use Rattle.t1_session.proofs.session.Session.commit.Goals as goal
+
+pub returns-clause-runs : goal.returns-clause-runs
+returns-clause-runs c = reruns _ _ _ _ c.reads_back.ensures.faultless c.close_batch-committed.ensures.runs
