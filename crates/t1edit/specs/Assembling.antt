@@ -22,7 +22,7 @@ form true block = Ok Pfa
 form false None = Ok Pfb
 form false (Some word) = blocks_form (block_size (number_of word))
 
--- profile: a call answers with that form
+-- word: a call answers with that form
 abbrev pub FormIs : Bool → Option (List ℕ) → Result Form Stop → Type 0
 FormIs pfa block result = result ≡ form pfa block
 

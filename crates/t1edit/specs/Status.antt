@@ -5,9 +5,16 @@ use Rattle.t1_commands.specs.AnswerTexts.{fault_text}
 use Rattle.t1_session.specs.declared.error.ServeError.{ServeError}
 use Rattle.t1_session.specs.declared.error.ServeError.TheVariants.{Load, Read, Write, Memory}
 use Rattle.t1edit.specs.declared.status.Misuse.{Misuse}
-use Rattle.t1edit.specs.declared.status.Misuse.TheVariants.{InputTwice, InputOfSession, UnknownCode, NoText, BlockLength}
+use Rattle.t1edit.specs.declared.status.Misuse.TheVariants.{InputTwice, InputOfSession, UnknownCode, NoText, BlockLength, OutputOverSource, OutputOverPairs}
 use Rattle.t1edit.specs.declared.status.Stop.{Stop}
 use Rattle.t1edit.specs.declared.status.Stop.TheVariants.{Rejected, Misused, Failed}
+use Rattle.t1edit.specs.declared.unopened.Unopened.{Unopened}
+use Rattle.t1edit.specs.declared.unopened.Unopened.TheVariants as unopened
+
+-- word: an output that can't be opened is a failed write, or want of memory
+abbrev pub stop_of_unopened : Unopened → Stop
+stop_of_unopened unopened.Refused = Failed Write
+stop_of_unopened (unopened.Memory want) = Failed Memory
 
 -- profile: 1 for a source or pairs that are refused, 3 where reading or writing failed, 4 for want of memory
 abbrev pub status_of : ServeError → ℕ
@@ -45,6 +52,8 @@ misuse_line InputOfSession = codes "t1edit: a session has its commands from stan
 misuse_line UnknownCode = codes "t1edit: no such code; 't1edit explain' lists all of them\n"
 misuse_line NoText = codes "t1edit: an argument is no UTF-8 text\n"
 misuse_line BlockLength = codes "t1edit: a block has 1 to 2147483647 bytes\n"
+misuse_line OutputOverSource = codes "t1edit: -o would write over SOURCE\n"
+misuse_line OutputOverPairs = codes "t1edit: -o would write over the kerning file\n"
 
 -- profile: a line went out, or a beginning of it before a write that failed
 abbrev pub IsWritten : {W : Type 0} → (W → Option (List ℕ)) → Tally W → Tally W → List ℕ → Type 0

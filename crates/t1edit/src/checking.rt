@@ -1,6 +1,7 @@
 //! Judging a font without writing its metrics.
+ghost use Rattle.std.specs.Prelude.{◌≡◌};
 ghost use Rattle.t1_frac.specs.Outcome.{Gives};
-ghost use Rattle.t1edit.specs.Checking.{verdict};
+ghost use Rattle.t1edit.specs.Checking.{judged_by, verdict};
 
 use std::alloc::Global;
 use std::io;
@@ -13,7 +14,14 @@ use t1_session::{ServeError, measure_source};
 pub fn check_source(alloc: Global, source: &[u8], pairs: &[u8]) -> Result<(), Refusal>
     ensures { Gives (λ _. tt) result (verdict source.now pairs.now) }
 {
-    match measure_source(alloc, source, pairs, &mut Counted::new(io::sink())) {
+    judged_by(measure_source(alloc, source, pairs, &mut Counted::new(io::sink())))
+}
+
+/// What judging answers where measuring answers this.
+fn judged_by(answer: Result<(), ServeError>) -> Result<(), Refusal>
+    ensures { result ≡ judged_by answer }
+{
+    match answer {
         Ok(()) | Err(ServeError::Write) => Ok(()),
         Err(ServeError::Load(fault)) => Err(Refusal::Fault(fault)),
         Err(ServeError::Read | ServeError::Memory) => Err(Refusal::Memory),

@@ -38,6 +38,7 @@ fn read_whole<R: Read>(
     ensures ok { IfOk result (λ bytes. Consumes (R.remaining reader.old.inner) (R.remaining reader.new.inner) bytes.items) }
     ensures at_end { IfOk result (λ _. IsAtEnd (R.remaining reader.new.inner)) }
     ensures errors { IfErr result FailsToRead }
+    ensures memory { result ≡ Err ServeError.Memory → reader.new.failures ≡ reader.old.failures }
     ensures read_failed { result ≡ Err ServeError.Read → reader.new.failures ≡ one_more reader.old.failures }
 {
     let mut bytes = Vec::with_capacity(alloc, room)?;

@@ -3,10 +3,15 @@
 
 mod assembling;
 mod checking;
+mod draft;
 mod explaining;
+mod identity;
 mod input;
+mod links;
 mod output;
+mod overwriting;
 mod status;
+mod unopened;
 
 use assembling::{assemble_as, form_of};
 use checking::check_source;
@@ -14,7 +19,8 @@ use clap::error::ErrorKind;
 use clap::{ArgMatches, Error};
 use explaining::explain;
 use input::{is_standard_input, read_input};
-use output::Output;
+use output::{Ended, Output};
+use overwriting::refuse_over_input;
 use status::{Misuse, Stop, run_ending};
 use std::process::ExitCode;
 use std::{env, io};
@@ -54,19 +60,31 @@ fn inputs_of(rt: &HostRuntime, matches: &ArgMatches<'_>) -> Result<(Vec<u8>, Vec
     Ok(inputs(rt, source, kern)?)
 }
 
+/// The path that the option for the output names, which is none of the inputs'.
+fn output_path<'a>(rt: &HostRuntime, matches: &ArgMatches<'a>) -> Result<Option<&'a str>, Stop> {
+    let path = matches.get_str("output");
+    if let Some(path) = path {
+        let (source, kern) = paths(matches);
+        refuse_over_input(rt, path, source, kern)?;
+    }
+    Ok(path)
+}
+
 /// Writes the PFB file of a source, in blocks where their length is given, or its PFA file.
-fn assemble(rt: &HostRuntime, matches: &ArgMatches<'_>) -> Result<(), Stop> {
+fn assemble(rt: &HostRuntime, matches: &ArgMatches<'_>) -> Result<Ended, Stop> {
     let form = form_of(matches.get_flag("pfa"), matches.get_str("block"))?;
+    let path = output_path(rt, matches)?;
     let source = read_input(rt, paths(matches).0)?;
-    let mut output = Output::open(rt, matches.get_str("output"))?;
+    let mut output = Output::open(rt, path)?;
     let answer = assemble_as(rt.alloc(), &source, &form, &mut output.out);
     Ok(output.finish(rt, answer)?)
 }
 
 /// Writes the AFM file of a source.
-fn measure(rt: &HostRuntime, matches: &ArgMatches<'_>) -> Result<(), Stop> {
+fn measure(rt: &HostRuntime, matches: &ArgMatches<'_>) -> Result<Ended, Stop> {
+    let path = output_path(rt, matches)?;
     let (source, pairs) = inputs_of(rt, matches)?;
-    let mut output = Output::open(rt, matches.get_str("output"))?;
+    let mut output = Output::open(rt, path)?;
     let answer = measure_source(rt.alloc(), &source, &pairs, &mut output.out);
     Ok(output.finish(rt, answer)?)
 }
@@ -116,6 +134,9 @@ fn explain_code(rt: &HostRuntime, matches: &ArgMatches<'_>) -> Result<(), Stop> 
     )
 }
 
+/// That an output ended well, whatever it was.
+fn all_written(_ended: Ended) {}
+
 /// Runs the command that the words spell.
 fn run(rt: &HostRuntime, words: &[String]) -> Result<(), Stop> {
     let Ok(helps) = help_texts(rt.alloc()) else {
@@ -129,8 +150,8 @@ fn run(rt: &HostRuntime, words: &[String]) -> Result<(), Stop> {
         Err(error) => return shown(rt, &error),
     };
     match matches.subcommand() {
-        Some(("assemble", matches)) => assemble(rt, matches),
-        Some(("measure", matches)) => measure(rt, matches),
+        Some(("assemble", matches)) => Ok(all_written(assemble(rt, matches)?)),
+        Some(("measure", matches)) => Ok(all_written(measure(rt, matches)?)),
         Some(("check", matches)) => check(rt, matches),
         Some(("session", matches)) => session(rt, matches),
         Some(("explain", matches)) => explain_code(rt, matches),

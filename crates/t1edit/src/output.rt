@@ -1,31 +1,37 @@
-//! Where the bytes of a run go: to standard output, or to a file that stands whole or not at all.
-ghost use Rattle.std.specs.Prelude.{◌≡◌, IfErr, OnErr, IfOk, IsOk};
+//! Where the bytes of a run go: to standard output, to what stands at a path, or to a file that
+//! stands whole or not at all.
+ghost use Rattle.std.specs.Prelude.{◌≡◌, ◌↔◌, codes, IfOk, IsOk, IsTrue, option_map};
 ghost use Rattle.std.specs.Io.{WritesAtMost};
-ghost use Rattle.t1edit.specs.Writing.{FailsToWrite};
+ghost use Rattle.t1edit.specs.Writing.{HandsOn, EndsAs, OpensByWord};
 
-use std::fs::{self, File, OpenOptions, Permissions};
-use std::io::{self, ErrorKind, Stdout, Write};
+use crate::draft::{Draft, PERMISSIONS, Stood};
+use crate::identity::Descriptor;
+use crate::links::{End, end_of};
+use crate::unopened::Unopened;
+use std::fs::{self, File, Metadata, OpenOptions};
+use std::io::{self, ErrorKind, Stderr, Stdout, Write};
+use std::os::unix::fs::PermissionsExt;
 use t1_code::Counted;
 use t1_session::ServeError;
 
-/// How many names are tried for a draft.
-const DRAFT_NAMES: u32 = 100;
+/// The word that names standard output in place of a file.
+const STANDARD_OUTPUT: &str = "-";
+
+/// Whether a word of the command line names standard output.
+pub fn is_standard_output(path: &str) -> bool
+    ensures { IsTrue result ↔ (path.now ≡ codes "-") }
+{
+    path == STANDARD_OUTPUT
+}
 
 /// What takes the bytes.
 #[derive(Drop)]
 pub enum Destination {
     Standard(Stdout),
-    File(File),
-}
-
-impl Destination {
-    /// Puts what was written to a file on the disk.
-    fn settle(&self) -> io::Result<()> {
-        match self {
-            Destination::Standard(_) => Ok(()),
-            Destination::File(file) => file.sync_all(),
-        }
-    }
+    Error(Stderr),
+    /// What stands at a path and is written as it stands.
+    There(File),
+    Draft(Draft),
 }
 
 impl Write for Destination {
@@ -34,174 +40,140 @@ impl Write for Destination {
     {
         match self {
             Destination::Standard(out) => out.write(buf),
-            Destination::File(file) => file.write(buf),
+            Destination::Error(out) => out.write(buf),
+            Destination::There(file) => file.write(buf),
+            Destination::Draft(draft) => draft.write(buf),
         }
     }
 
     fn flush(&mut self) -> io::Result<()> {
         match self {
             Destination::Standard(out) => out.flush(),
-            Destination::File(file) => file.flush(),
+            Destination::Error(out) => out.flush(),
+            Destination::There(file) => file.flush(),
+            Destination::Draft(draft) => draft.flush(),
         }
     }
 }
 
-/// A file beside the one whose place it takes once it is whole.
+/// How an output ended that took all bytes.
 #[derive(Drop)]
-struct Draft {
-    path: String,
-    place: String,
-}
-
-impl Draft {
-    /// Takes its place, once what was written is on the disk.
-    fn stand(&self, rt: &HostRuntime, destination: &Destination) -> Result<(), ServeError>
-        ensures { IfErr result FailsToWrite }
-    {
-        if destination.settle().is_err() {
-            return Err(ServeError::Write);
-        }
-        match fs::rename(rt, &self.path, &self.place) {
-            Ok(()) => Ok(()),
-            Err(_) => Err(ServeError::Write),
-        }
-    }
+pub enum Ended {
+    /// What was written as it stands has them.
+    AsItStands,
+    Drafted(Stood),
 }
 
 /// An output that is open.
 #[derive(Drop)]
 pub struct Output {
     pub out: Counted<Destination>,
-    draft: Option<Draft>,
 }
 
 impl Output {
-    /// The output at this path, or standard output where there is no path. What stands at the path stays as it is.
-    pub fn open(rt: &HostRuntime, path: Option<&str>) -> Result<Output, ServeError>
-        ensures { IfErr result FailsToWrite }
+    /// The output at this path, or standard output where there is no path or it is `-`. What stands
+    /// at the path stays as it is.
+    pub fn open(rt: &HostRuntime, path: Option<&str>) -> Result<Output, Unopened>
+        ensures standard { OpensByWord (option_map (λ word. word.now) path.entry) result }
     {
-        match path {
-            Some(path) => at_path(rt, path),
-            None => Ok(Output {
-                out: Counted::new(Destination::Standard(rt.stdout())),
-                draft: None,
-            }),
+        let Some(path) = path else {
+            return Ok(Output::to(Destination::Standard(rt.stdout())));
+        };
+        if is_standard_output(path) {
+            return Ok(Output::to(Destination::Standard(rt.stdout())));
+        }
+        Ok(Output::to(at_path(rt, path)?))
+    }
+
+    /// The output to what takes the bytes.
+    fn to(destination: Destination) -> Output
+        ensures inner { result.out.inner ≡ destination }
+        ensures failures { result.out.failures ≡ 0 }
+    {
+        Output {
+            out: Counted::new(destination),
         }
     }
 
-    /// Ends the output of a call that has answered: a draft takes its place where the call wrote all, and is removed
-    /// where it did not, or where it cannot take its place.
-    pub fn finish(self, rt: &HostRuntime, answer: Result<(), ServeError>) -> Result<(), ServeError>
+    /// Ends the output of a call that has answered: a draft takes its place where the call wrote
+    /// all, and is removed where it did not, or where it cannot take its place.
+    pub fn finish(
+        self,
+        rt: &HostRuntime,
+        answer: Result<(), ServeError>,
+    ) -> Result<Ended, ServeError>
         ensures ok { IfOk result (λ _. IsOk answer) }
-        ensures err { OnErr answer (result ≡ answer) }
+        ensures stood { IfOk result (EndsAs self.out.inner) }
+        ensures err { HandsOn answer result }
     {
-        let Output { out, draft } = self;
-        let Some(draft) = draft else {
-            return answer;
-        };
-        let stands = match answer {
-            Ok(()) => draft.stand(rt, &out.into_inner()),
-            Err(error) => Err(error),
-        };
-        if stands.is_err() {
-            let _removed = fs::remove_file(rt, &draft.path);
+        match self.out.into_inner() {
+            Destination::Draft(draft) => Ok(Ended::Drafted(draft.finish(rt, answer)?)),
+            _ => {
+                answer?;
+                Ok(Ended::AsItStands)
+            }
         }
-        stands
     }
 }
 
-/// The output at a path: a draft where a file stands there, or nothing; else what is there, as a device.
-fn at_path(rt: &HostRuntime, path: &str) -> Result<Output, ServeError>
-    ensures { IfErr result FailsToWrite }
-{
+/// What takes the bytes at a path.
+fn at_path(rt: &HostRuntime, path: &str) -> Result<Destination, Unopened> {
     match fs::metadata(rt, path) {
-        Ok(there) if there.is_file() => in_place_of(rt, path, &there.permissions()),
-        Ok(_) => as_it_stands(rt, path),
+        Ok(there) => in_place_of(rt, path, &there),
+        Err(error) if error.kind() == ErrorKind::NotFound => at_nothing(rt, path),
+        Err(error) => Err(Unopened::from(error)),
+    }
+}
+
+/// What takes the bytes at a path where something stands: a draft for a file, but what is one of
+/// the process's own descriptors, and what is no file, is written as it stands.
+fn in_place_of(rt: &HostRuntime, path: &str, there: &Metadata) -> Result<Destination, Unopened> {
+    if Descriptor::Output.is_open_on(rt, there) {
+        return Ok(Destination::Standard(rt.stdout()));
+    }
+    if Descriptor::Error.is_open_on(rt, there) {
+        return Ok(Destination::Error(rt.stderr()));
+    }
+    if !there.is_file() {
+        return as_it_stands(rt, path);
+    }
+    match end_of(rt, path)? {
+        End::Place(place) => replacing(rt, place, there),
+        End::Descriptor => at_the_end(rt, path),
+    }
+}
+
+/// A draft at a path where nothing stands; a link that leads nowhere is refused.
+fn at_nothing(rt: &HostRuntime, path: &str) -> Result<Destination, Unopened> {
+    match fs::symlink_metadata(rt, path) {
+        Ok(_) => Err(Unopened::Refused),
         Err(error) if error.kind() == ErrorKind::NotFound => {
-            beside(rt, String::from_str(rt.alloc(), path)?, None)
+            let place = String::from_str(rt.alloc(), path)?;
+            Ok(Destination::Draft(Draft::beside(rt, place, None)?))
         }
-        Err(_) => Err(ServeError::Write),
+        Err(error) => Err(Unopened::from(error)),
     }
 }
 
-/// The output to what stands at a path and is no file.
-fn as_it_stands(rt: &HostRuntime, path: &str) -> Result<Output, ServeError>
-    ensures { IfErr result FailsToWrite }
-{
-    match OpenOptions::new().write(true).open(rt, path) {
-        Ok(file) => Ok(Output {
-            out: Counted::new(Destination::File(file)),
-            draft: None,
-        }),
-        Err(_) => Err(ServeError::Write),
-    }
+/// What stands at a path and is no file, as a device.
+fn as_it_stands(rt: &HostRuntime, path: &str) -> Result<Destination, Unopened> {
+    let file = OpenOptions::new().write(true).open(rt, path)?;
+    Ok(Destination::There(file))
 }
 
-/// A draft that is to replace a file, with the permissions of that file, which must let it be written.
-fn in_place_of(
-    rt: &HostRuntime,
-    path: &str,
-    permissions: &Permissions,
-) -> Result<Output, ServeError>
-    ensures { IfErr result FailsToWrite }
-{
+/// The end of a file that a descriptor names.
+fn at_the_end(rt: &HostRuntime, path: &str) -> Result<Destination, Unopened> {
+    let file = OpenOptions::new().append(true).open(rt, path)?;
+    Ok(Destination::There(file))
+}
+
+/// A draft that is to replace a file, with the permissions of that file, which must let it be
+/// written.
+fn replacing(rt: &HostRuntime, place: String, there: &Metadata) -> Result<Destination, Unopened> {
+    let permissions = there.permissions();
     if permissions.readonly() {
-        return Err(ServeError::Write);
+        return Err(Unopened::Refused);
     }
-    match fs::canonicalize(rt, path) {
-        Ok(place) => beside(rt, place.into_string(), Some(permissions)),
-        Err(error) if error.kind() == ErrorKind::OutOfMemory => Err(ServeError::Memory),
-        Err(_) => Err(ServeError::Write),
-    }
-}
-
-/// Gives a file these permissions.
-fn allow(file: &File, permissions: &Permissions) -> io::Result<()> {
-    file.set_permissions(permissions.clone()?)
-}
-
-/// A draft beside a place, with the permissions that are given.
-fn beside(
-    rt: &HostRuntime,
-    place: String,
-    permissions: Option<&Permissions>,
-) -> Result<Output, ServeError>
-    ensures { IfErr result FailsToWrite }
-{
-    for number in 0..DRAFT_NAMES {
-        let path = format!(in rt.alloc(); "{place}.t1edit-{number}")?;
-        match OpenOptions::new()
-            .write(true)
-            .create_new(true)
-            .open(rt, &path)
-        {
-            Ok(file) => return with_permissions(rt, file, Draft { path, place }, permissions),
-            Err(error) if error.kind() == ErrorKind::AlreadyExists => {}
-            Err(_) => return Err(ServeError::Write),
-        }
-    }
-    Err(ServeError::Write)
-}
-
-/// A new draft, which has the permissions that are given, or is removed.
-fn with_permissions(
-    rt: &HostRuntime,
-    file: File,
-    draft: Draft,
-    permissions: Option<&Permissions>,
-) -> Result<Output, ServeError>
-    ensures { IfErr result FailsToWrite }
-{
-    let has_them = match permissions {
-        Some(permissions) => allow(&file, permissions).is_ok(),
-        None => true,
-    };
-    if has_them {
-        return Ok(Output {
-            out: Counted::new(Destination::File(file)),
-            draft: Some(draft),
-        });
-    }
-    let _removed = fs::remove_file(rt, &draft.path);
-    Err(ServeError::Write)
+    let mode = permissions.mode() & PERMISSIONS;
+    Ok(Destination::Draft(Draft::beside(rt, place, Some(mode))?))
 }

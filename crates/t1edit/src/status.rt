@@ -3,6 +3,7 @@ ghost use Rattle.std.specs.Prelude.{◌≡◌};
 ghost use Rattle.t1_code.specs.Counted.{Writes};
 ghost use Rattle.t1edit.specs.Status.{error_line, misuse_line, status_of, status_of_misuse, status_of_stop, status_of_run, IsWritten, ReportsStop, ReportsRun};
 
+use crate::unopened::Unopened;
 use std::io::{self, Write};
 use t1_code::Counted;
 use t1_commands::put_fault;
@@ -25,6 +26,10 @@ pub enum Misuse {
     NoText,
     /// A block can't have this length.
     BlockLength,
+    /// The output would be written over the source.
+    OutputOverSource,
+    /// The output would be written over the kerning file.
+    OutputOverPairs,
 }
 
 impl Misuse {
@@ -40,6 +45,8 @@ impl Misuse {
             Misuse::UnknownCode => b"t1edit: no such code; 't1edit explain' lists all of them\n",
             Misuse::NoText => b"t1edit: an argument is no UTF-8 text\n",
             Misuse::BlockLength => b"t1edit: a block has 1 to 2147483647 bytes\n",
+            Misuse::OutputOverSource => b"t1edit: -o would write over SOURCE\n",
+            Misuse::OutputOverPairs => b"t1edit: -o would write over the kerning file\n",
         }
     }
 }
@@ -72,6 +79,20 @@ impl From<ServeError> for Stop {
 
     fn from(error: ServeError) -> Stop {
         Stop::Failed(error)
+    }
+}
+
+impl From<Unopened> for Stop {
+    ghost use Rattle.std.specs.Prelude.{◌≡◌};
+    ghost use Rattle.t1edit.specs.Status.{stop_of_unopened};
+
+    ghost from_gives = { λ unopened stop. stop ≡ stop_of_unopened unopened };
+
+    fn from(unopened: Unopened) -> Stop {
+        match unopened {
+            Unopened::Refused => Stop::Failed(ServeError::Write),
+            Unopened::Memory(_) => Stop::Failed(ServeError::Memory),
+        }
     }
 }
 
