@@ -17,7 +17,7 @@ abbrev pub output : Rule
 output =
     record (new_rule (codes "output")) { short = Some 111; long = Some (codes "output"); action = Some Set; value_names = 1 }
 
--- profile: -l N, --block N, which doesn't go with another argument
+-- profile: -l N, --block N, which doesn't go with --pfa
 abbrev pub block : Rule
 block =
     record (new_rule (codes "block")) {
@@ -35,6 +35,10 @@ pfa = record (new_rule (codes "pfa")) { short = Some 97; long = Some (codes "pfa
 -- profile: what is to be explained
 abbrev pub code : Rule
 code = record (new_rule (codes "CODE")) { action = Some Set }
+
+-- profile: the place that stands after a code: two words
+abbrev pub place : Rule
+place = record (new_rule (codes "PLACE")) { action = Some Set; value_names = 2 }
 
 -- profile: a command that takes these arguments
 abbrev pub taking : List ℕ → List Rule → Shape
@@ -56,9 +60,9 @@ check = taking (codes "check") (kern ∷ source ∷ [])
 abbrev pub session : Shape
 session = taking (codes "session") (kern ∷ source ∷ [])
 
--- profile: explain, which takes what is to be explained
+-- profile: explain, which takes what is to be explained, and a place after it
 abbrev pub explain : Shape
-explain = taking (codes "explain") (code ∷ [])
+explain = taking (codes "explain") (code ∷ place ∷ [])
 
 -- profile: the program, of which a command must be named
 abbrev pub program : App

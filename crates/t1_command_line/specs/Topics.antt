@@ -1,7 +1,9 @@
 -- What is said of a code, a rule or a status: how it is found, and what is printed.
-use Rattle.std.specs.Prelude.{ℕ, List, [], ◌∷◌, ◌++◌, Option, Some, None, option_map, codes, if◌then◌else◌}
+use Rattle.std.specs.Prelude.{ℕ, List, [], ◌∷◌, ◌++◌, Option, Some, None, option_map, map, take, codes, if◌then◌else◌, ◌==◌}
 use Rattle.std.specs.Option.{option_or}
 use Rattle.std.specs.Str.{bytes_eq}
+use Rattle.std.specs.List.{position_or_len}
+use Rattle.std.specs.Char.{to_ascii_uppercase}
 use Rattle.t1_command_line.specs.declared.topic.Topic.{Topic}
 use Rattle.t1_command_line.specs.declared.topic.Section.{Section}
 
@@ -38,11 +40,19 @@ abbrev pub list_text : List Section → List ℕ
 list_text [] = []
 list_text (section ∷ sections) = section_text section ++ other_sections_text sections
 
--- profile: all that is said of a topic
+-- profile: all that is said of a topic: its line, an empty line, then lead, text and note
 unfoldable pub whole_text : Topic → List ℕ
-whole_text topic = line_text topic ++ (codes "\n" ++ topic.text.now)
+whole_text topic = line_text topic ++ (codes "\n" ++ (topic.lead.now ++ (topic.text.now ++ topic.note.now)))
 
--- profile: what is said of a code, if anything; the list of all where no code is given
+-- profile: the bytes in front of the first space, or all
+abbrev pub before_space : List ℕ → List ℕ
+before_space text = take (position_or_len (λ byte. byte == 32) text) text
+
+-- profile: the code that a text begins with, its letters in upper case: of 'f38' and of 'F38 glyph Aacute' it is F38
+abbrev pub asked_code : List ℕ → List ℕ
+asked_code text = map to_ascii_uppercase (before_space text)
+
+-- profile: what is said of the code that a text begins with, if anything; the list of all where no text is given
 abbrev pub explanation : List Section → Option (List ℕ) → Option (List ℕ)
 explanation sections None = Some (list_text sections)
-explanation sections (Some code) = option_map whole_text (topic_of sections code)
+explanation sections (Some text) = option_map whole_text (topic_of sections (asked_code text))

@@ -1,8 +1,8 @@
 //! What the command line looks like.
-ghost use Rattle.std.specs.Prelude.{◌≡◌, false, IfOk};
+ghost use Rattle.std.specs.Prelude.{◌≡◌, ◌∷◌, [], codes, map, false, IfOk};
 ghost use Rattle.clap.specs.Words.{app_of, rule_of};
 ghost use Rattle.t1_command_line.specs.CommandLine.{alone, program};
-ghost use Rattle.t1_command_line.specs.CommandLine.{source as source_rule, kern as kern_rule, output as output_rule, block as block_rule, pfa as pfa_rule, code as code_rule};
+ghost use Rattle.t1_command_line.specs.CommandLine.{source as source_rule, kern as kern_rule, output as output_rule, block as block_rule, pfa as pfa_rule, code as code_rule, place as place_rule};
 ghost use Rattle.t1_command_line.specs.CommandLine.{assemble as assemble_shape, measure as measure_shape, check as check_shape, session as session_shape, explain as explain_shape};
 
 use crate::help::Helps;
@@ -61,13 +61,15 @@ fn output<'a>(alloc: Global) -> Arg<'a>
         .short('o')
         .long("output")
         .value_name("FILE")
-        .help("Writes to this file in place of standard output, whole or not at all")
+        .help("Writes to this file, whole or not at all; - for standard output")
         .action(ArgAction::Set)
 }
 
 /// The option that cuts a PFB file into blocks.
 fn block<'a>(alloc: Global) -> Result<Arg<'a>, AllocError>
     ensures rule { IfOk result (λ arg. rule_of arg ≡ block_rule) }
+    ensures conflicts { IfOk result (λ arg. map (λ id. id.now) arg.conflicts.items ≡ codes "pfa" ∷ []) }
+    ensures alone { IfOk result (λ arg. (arg.exclusive ≡ false) × (arg.needs.items ≡ [])) }
     ensures local { IfOk result (λ arg. arg.global ≡ false) }
 {
     Arg::new(alloc, "block")
@@ -101,11 +103,26 @@ fn code<'a>(alloc: Global) -> Arg<'a>
         .action(ArgAction::Set)
 }
 
+/// The words of a place.
+const PLACE: [&str; 2] = ["KIND", "NAME"];
+
+/// The argument that takes the place which stands after a code.
+fn place<'a>(alloc: Global) -> Arg<'a>
+    ensures rule { rule_of result ≡ place_rule }
+    ensures local { result.global ≡ false }
+{
+    Arg::new(alloc, "PLACE")
+        .help("The place that stands after the code, as glyph Aacute; it is ignored")
+        .value_names(&PLACE)
+        .action(ArgAction::Set)
+}
+
 fn assemble<'a>(alloc: Global, helps: &'a Helps) -> Result<Command<'a>, AllocError>
     ensures { IfOk result (λ command. app_of command ≡ alone assemble_shape) }
 {
     Command::new(alloc, "assemble")
         .about("Writes the PFB or the PFA file of a source")
+        .before_long_help("Example: t1edit assemble -o font.pfb font.t1")
         .after_long_help(helps.assemble.as_str())
         .arg(block(alloc)?)?
         .arg(pfa(alloc))?
@@ -118,6 +135,7 @@ fn measure<'a>(alloc: Global, helps: &'a Helps) -> Result<Command<'a>, AllocErro
 {
     Command::new(alloc, "measure")
         .about("Runs every glyph and writes the AFM file of a source")
+        .before_long_help("Example: t1edit measure --kern old.afm -o font.afm font.t1")
         .after_long_help(helps.measure.as_str())
         .arg(kern(alloc, KERN))?
         .arg(output(alloc))?
@@ -129,6 +147,7 @@ fn check<'a>(alloc: Global, helps: &'a Helps) -> Result<Command<'a>, AllocError>
 {
     Command::new(alloc, "check")
         .about("Judges a source as measure does, and writes nothing")
+        .before_long_help("Example: t1edit check font.t1")
         .after_long_help(helps.measure.as_str())
         .arg(kern(alloc, KERN))?
         .arg(source(alloc))
@@ -139,6 +158,7 @@ fn session<'a>(alloc: Global, helps: &'a Helps) -> Result<Command<'a>, AllocErro
 {
     Command::new(alloc, "session")
         .about("Edits and prints a source by commands from standard input")
+        .before_long_help("Example: t1edit session font.t1 < commands > answers")
         .after_long_help(helps.session.as_str())
         .arg(kern(alloc, KERN_FILE))?
         .arg(source_file(alloc))
@@ -149,8 +169,10 @@ fn explain<'a>(alloc: Global, helps: &'a Helps) -> Result<Command<'a>, AllocErro
 {
     Command::new(alloc, "explain")
         .about("Says what a code, a rule or an exit status means, and what to do")
+        .before_long_help("Example: t1edit explain F38")
         .after_long_help(helps.program.as_str())
-        .arg(code(alloc))
+        .arg(code(alloc))?
+        .arg(place(alloc))
 }
 
 /// The command line of the program: its commands, and the arguments that each takes.

@@ -2,6 +2,8 @@
 //!
 //! [`command`] is the command line, whose helps are those of [`help_texts`]. [`all_sections`] is the one table of all codes;
 //! [`explanation`] is what it says of one, or its list.
+//!
+//! All of it is for the program.
 #![tactic(auto)]
 
 mod command_line;

@@ -1,8 +1,11 @@
 //! The meaning of a code: how it is found, and how it is printed.
-ghost use Rattle.std.specs.Prelude.{◌≡◌, ◌++◌, option_map, string_bytes, IfOk, OnOk};
-ghost use Rattle.t1_command_line.specs.Topics.{topic_in, topic_of, line_text, section_text, other_sections_text, list_text, lines_text, whole_text as text_of, explanation as explanation_of};
+ghost use Rattle.std.specs.Prelude.{◌≡◌, ◌≤◌, ◌==◌, ◌++◌, length, option_map, string_bytes, IfOk, OnOk};
+ghost use Rattle.std.specs.List.{position_or_len};
+ghost use Rattle.t1_command_line.specs.Topics.{topic_in, topic_of, line_text, section_text, other_sections_text, list_text, lines_text, before_space, whole_text as text_of, explanation as explanation_of};
 
 use std::alloc::{AllocError, Global};
+
+const SPACE: u8 = 32;
 
 /// A code, a rule or a status, and its meaning.
 #[derive(Clone, Copy)]
@@ -10,9 +13,13 @@ pub struct Topic {
     pub code: &'static str,
     /// What it means, in a few words.
     pub meaning: &'static str,
+    /// What stands above the lines that cause it; empty where there are none.
+    pub lead: &'static str,
     /// Lines of a source, a kerning file or a session that cause it, where lines can, each after a tab; then what it
     /// means at length, and what to do.
     pub text: &'static str,
+    /// What is said of each of its kind; empty where there is nothing to say.
+    pub note: &'static str,
 }
 
 /// Topics of one kind.
@@ -23,11 +30,11 @@ pub struct Section {
 }
 
 /// The first of the topics that has this code.
-fn find(topics: &'static [Topic], code: &str) -> Option<&'static Topic>
+fn find(topics: &'static [Topic], code: &[u8]) -> Option<&'static Topic>
     ensures { option_map (λ topic. topic.now) result ≡ topic_in topics.now code.now }
 {
     for topic in topics {
-        if topic.code.as_bytes() == code.as_bytes() {
+        if topic.code.as_bytes() == code {
             return Some(topic);
         }
     }
@@ -35,7 +42,7 @@ fn find(topics: &'static [Topic], code: &str) -> Option<&'static Topic>
 }
 
 /// The first topic of the sections that has this code.
-fn find_in(sections: &[Section], code: &str) -> Option<&'static Topic>
+fn find_in(sections: &[Section], code: &[u8]) -> Option<&'static Topic>
     ensures { option_map (λ topic. topic.now) result ≡ topic_of sections.now code.now }
 {
     for section in sections {
@@ -110,22 +117,41 @@ fn whole_text(alloc: Global, topic: &Topic) -> Result<String, AllocError>
     let mut text = String::new(alloc);
     push_line(&mut text, topic)?;
     text.push_str("\n")?;
+    text.push_str(topic.lead)?;
     text.push_str(topic.text)?;
+    text.push_str(topic.note)?;
     Ok(text)
 }
 
-/// What is said of the code, or nothing where the sections don't have it; the list of all where no code is given.
+/// How many bytes stand in front of the first space.
+fn word_len(text: &[u8]) -> usize
+    ensures within { result ≤ length text.now }
+    ensures value { result ≡ position_or_len (λ byte. byte == 32) text.now }
+{
+    text.iter().take_while(|byte| **byte != SPACE).count()
+}
+
+/// The bytes in front of the first space.
+fn before_space(text: &[u8]) -> &[u8]
+    ensures { result.now ≡ before_space text.now }
+{
+    text.split_at(word_len(text)).0
+}
+
+/// What is said of the code that a text begins with, in letters of either case, or nothing where the sections don't have
+/// it; the list of all where no text is given.
 pub fn explanation(
     alloc: Global,
     sections: &[Section],
-    code: Option<&str>,
+    text: Option<&str>,
 ) -> Result<Option<String>, AllocError>
-    ensures { IfOk result (λ text. option_map string_bytes text ≡ explanation_of sections.now (option_map (λ word. word.now) code.entry)) }
+    ensures { IfOk result (λ said. option_map string_bytes said ≡ explanation_of sections.now (option_map (λ word. word.now) text.entry)) }
 {
-    let Some(code) = code else {
+    let Some(text) = text else {
         return Ok(Some(list(alloc, sections)?));
     };
-    match find_in(sections, code) {
+    let code = before_space(text.as_bytes()).to_ascii_uppercase(alloc)?;
+    match find_in(sections, &code) {
         Some(topic) => Ok(Some(whole_text(alloc, topic)?)),
         None => Ok(None),
     }
