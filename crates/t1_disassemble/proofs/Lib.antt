@@ -1,0 +1,16 @@
+pub mod AlikeLaws
+pub mod Deciphering
+pub mod DigitFileLaws
+pub mod DigitLaws
+pub mod FrontLaws
+pub mod Fronts
+pub mod ItemLaws
+pub mod Openings
+pub mod PieceLaws
+pub mod Pieces
+pub mod PlainWords
+pub mod Reading
+pub mod SegmentLaws
+pub mod Segmented
+pub mod WholeLaws
+pub mod WordLaws

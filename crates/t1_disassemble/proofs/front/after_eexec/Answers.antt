@@ -1,0 +1,15 @@
+use Rattle.std.proofs.Common.{◌≡◌, ◌<◌, length, false, ◌∙◌, ap, arith, rules}
+use Rattle.t1_text.proofs.CutLaws.{line_gone}
+use Rattle.t1_parts.specs.Parts.{is_eexec}
+use Rattle.t1_disassemble.proofs.Fronts.{eexec_later}
+use Rattle.t1_disassemble.proofs.front.after_eexec.Goals as goal
+
+pub loop-rest-preserved : goal.loop-rest-preserved
+loop-rest-preserved c =
+    let some : 0 < length c.loop-rest.rest.now = search rules in
+    let off : is_eexec c.cut_line.result.0.now ≡ false = search rules in
+    let shorter = line_gone c.loop-rest.rest.now some in
+    record {
+      line = eexec_later c.loop-rest.rest.now c.cut_line.result.0.now c.cut_line.result.1.now some c.cut_line.ensures.line c.cut_line.ensures.after off ∙ c.loop-rest.invariant.line;
+      within = omega (arith, ap length c.cut_line.ensures.after, shorter, c.loop-rest.invariant.within);
+    }

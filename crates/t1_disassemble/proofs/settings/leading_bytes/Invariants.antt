@@ -1,0 +1,11 @@
+use Rattle.std.proofs.Common.{◌≡◌, length}
+use Rattle.t1_text.specs.Lines.{lines}
+use Rattle.t1_disassemble.specs.Settings.{leading_bytes}
+use Rattle.t1_disassemble.proofs.settings.leading_bytes.Given as goal
+
+-- the lines before the rest say nothing
+abbrev pub invariant-loop-rest : goal.invariant-loop-rest
+invariant-loop-rest l = leading_bytes (lines l.rest) ≡ leading_bytes (lines l.private)
+
+abbrev pub decreases-loop-rest : goal.decreases-loop-rest
+decreases-loop-rest l = length l.rest

@@ -1,0 +1,41 @@
+-- The line at the front of some bytes, and the part of a font that ends with its eexec line.
+use Rattle.std.specs.Prelude.{◌==◌, ◌||◌, ℕ, zero, suc, ◌-◌, Bool, length, if◌then◌else◌, List, [], ◌∷◌, take, drop, Option, None, Some}
+use Rattle.std.specs.List.{position_or_len, prefix_len}
+use Rattle.t1_frac.specs.Ascii.{tab, line_feed, carriage_return, space}
+use Rattle.t1_text.specs.Lines.{is_line_end, after_end}
+use Rattle.t1_parts.specs.Parts.{is_eexec}
+
+-- word: how many bytes stand before the first line end
+abbrev pub line_len : List ℕ → ℕ
+line_len bytes = position_or_len is_line_end bytes
+
+-- word: the first line
+abbrev pub front_line : List ℕ → List ℕ
+front_line bytes = take (line_len bytes) bytes
+
+-- word: the bytes after the first line and its end, of which CR LF is one
+abbrev pub past_line : List ℕ → List ℕ
+past_line bytes = after_end (drop (line_len bytes) bytes)
+
+-- word: the same as the next, of so many lines at most
+abbrev pub after_eexec_within : ℕ → List ℕ → Option (List ℕ)
+after_eexec_within zero bytes = None
+after_eexec_within (suc most) [] = None
+after_eexec_within (suc most) (c ∷ bytes) =
+    if is_eexec (front_line (c ∷ bytes)) then Some (past_line (c ∷ bytes)) else after_eexec_within most (past_line (c ∷ bytes))
+
+-- Type 1 Font Format, 2.4 (eexec): what stands after the first line that, trimmed, ends in `currentfile eexec`
+unfoldable pub after_eexec : List ℕ → Option (List ℕ)
+after_eexec bytes = after_eexec_within (length bytes) bytes
+
+-- word: the bytes in front of the rest of some bytes
+abbrev pub before_rest : List ℕ → List ℕ → List ℕ
+before_rest bytes rest = take (length bytes - length rest) bytes
+
+-- Type 1 Font Format, 7.2 (eexec): a space, a tab, CR and LF may stand between eexec and the encrypted bytes
+abbrev pub is_space : ℕ → Bool
+is_space c = c == space || c == tab || c == carriage_return || c == line_feed
+
+-- Type 1 Font Format, 7.2 (eexec): the encrypted bytes begin with the first that is none of these
+abbrev pub past_spaces : List ℕ → List ℕ
+past_spaces bytes = drop (prefix_len is_space bytes) bytes

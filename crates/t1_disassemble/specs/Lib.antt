@@ -1,0 +1,17 @@
+pub mod CommandWords
+pub mod CutDigits
+pub mod Decipher
+pub mod Digits
+pub mod Disassembly
+pub mod Front
+pub mod Laws
+pub mod Opened
+pub mod Opening
+pub mod Outcome
+pub mod PieceLeft
+pub mod Placed
+pub mod PrivateText
+pub mod SegmentsFound
+pub mod SegmentsRead
+pub mod Settings
+pub mod Words

@@ -1,0 +1,246 @@
+//! The source of a font's file.
+ghost use Rattle.std.specs.Prelude.{◌≡◌, ◌+◌, ◌-◌, ◌<◌, ◌≤◌, ◌^◌, ◌++◌, false, drop, length, IfOk, OnOk};
+ghost use Rattle.t1_text.specs.Lines.{lines, joined};
+ghost use Rattle.t1_parts.specs.Parts.{tail_of};
+ghost use Rattle.t1_disassemble.specs.CutDigits.{is_early, is_cut, digits_refusal, with_digits};
+ghost use Rattle.t1_disassemble.specs.Decipher.{deciphered};
+ghost use Rattle.t1_disassemble.specs.Disassembly.{coded_bytes, coded_place, after_coded, tail_after, plain_onto, source_onto, source_of, disassembled};
+ghost use Rattle.t1_disassemble.specs.Front.{after_eexec};
+ghost use Rattle.t1_disassemble.specs.Outcome.{Gives};
+ghost use Rattle.t1_disassemble.specs.PrivateText.{private_onto};
+
+use crate::cipher::decipher_private;
+use crate::digits::{after_digits, digits_len, is_hexadecimal, push_bytes};
+use crate::fault::{FontCode, FontFault, FontPlace, FontRefusal};
+use crate::front::{after_eexec, past_line, past_spaces};
+use crate::private::{Settings, push_private};
+use crate::segments::{Parts, font_parts};
+use crate::settings::{leading_bytes, reading_operator};
+use std::alloc::{AllocError, Global};
+use t1_parts::{push_line, push_lines, tail_of};
+use t1_text::first_line;
+
+/// How many bytes stand in front of the private text.
+const EEXEC_LEAD: usize = 4;
+
+/// Adds the lines of a text to another.
+fn push_lines_of(text: &mut Vec<u8>, bytes: &[u8]) -> Result<(), AllocError>
+    ensures { OnOk result (text.new.items ≡ text.old.items ++ joined (lines bytes.now)) }
+{
+    let mut rest = bytes;
+    while !rest.is_empty() {
+        let (line, after) = first_line(rest);
+        push_line(text, line)?;
+        rest = after;
+    }
+    Ok(())
+}
+
+/// Adds the lines of a tail.
+fn push_tail(alloc: Global, text: &mut Vec<u8>, tail: &[u8]) -> Result<(), AllocError>
+    ensures { OnOk result (text.new.items ≡ text.old.items ++ joined (tail_of (lines tail.now))) }
+{
+    let lines = tail_of(alloc, tail)?;
+    push_lines(text, &lines)
+}
+
+/// The encrypted bytes, of their digits where they are in hexadecimal.
+fn coded_bytes(alloc: Global, coded: &[u8]) -> Result<Vec<u8>, AllocError>
+    ensures { IfOk result (λ bytes. bytes.items ≡ coded_bytes coded.now) }
+{
+    if is_hexadecimal(coded) {
+        let mut bytes = Vec::new(alloc);
+        push_bytes(&mut bytes, coded)?;
+        return Ok(bytes);
+    }
+    Vec::from_slice(alloc, coded)
+}
+
+/// The plain bytes of an encrypted part, its leading bytes too.
+fn plain_bytes(alloc: Global, coded: &[u8]) -> Result<Vec<u8>, AllocError>
+    ensures { IfOk result (λ bytes. bytes.items ≡ deciphered 55665 (coded_bytes coded.now)) }
+{
+    let mut bytes = coded_bytes(alloc, coded)?;
+    decipher_private(&mut bytes);
+    Ok(bytes)
+}
+
+/// What stands after so many encrypted bytes, and after the end of the line where they are digits.
+fn after_coded(coded: &[u8], count: usize) -> &[u8]
+    requires { count < 2 ^ 63 }
+    ensures { result.now ≡ after_coded coded.now count }
+{
+    if is_hexadecimal(coded) {
+        return past_line(after_digits(2 * count, coded));
+    }
+    coded.split_at(count.min(coded.len())).1
+}
+
+/// The text after the encrypted part: that of a file's segments, else what the private text leaves.
+fn tail_after<'a>(parts: &'a Parts, coded: &'a [u8], count: usize) -> &'a [u8]
+    requires { count < 2 ^ 63 }
+    ensures { result.now ≡ tail_after parts.now coded.now count }
+{
+    if parts.coded.is_empty() {
+        return after_coded(coded, count);
+    }
+    parts.tail.as_slice()
+}
+
+/// Whether a fault is that of a private text which ends too early.
+fn is_early(code: FontCode) -> bool
+    ensures { result ≡ is_early code }
+{
+    match code {
+        FontCode::D4 | FontCode::D5 => true,
+        FontCode::D1 | FontCode::D2 | FontCode::D3 => false,
+        FontCode::D6 | FontCode::D7 | FontCode::D8 | FontCode::D9 => false,
+    }
+}
+
+/// Whether another byte stands among the digits of an encrypted part.
+fn is_cut(coded: &[u8]) -> bool
+    ensures { result ≡ is_cut coded.now }
+{
+    is_hexadecimal(coded) && digits_len(coded) < coded.len()
+}
+
+/// The same refusal, or that of another byte among the digits of the encrypted part, which stands
+/// at this place of the file.
+fn at_digits(place: usize, coded: &[u8], refusal: FontRefusal) -> FontRefusal
+    requires { place + length coded.now < 2 ^ 64 }
+    ensures { result ≡ digits_refusal place coded.now refusal }
+{
+    match refusal {
+        FontRefusal::Memory => FontRefusal::Memory,
+        FontRefusal::Fault(fault) => {
+            if is_early(fault.code) && is_cut(coded) {
+                return FontRefusal::Fault(FontFault {
+                    code: FontCode::D3,
+                    place: FontPlace::Byte((place + digits_len(coded)) as u64),
+                });
+            }
+            FontRefusal::Fault(fault)
+        }
+    }
+}
+
+/// Adds the lines of the private text, and answers the bytes after it; another byte among the
+/// digits of the encrypted part is its fault where the private text ends too early.
+fn push_checked<'a>(
+    alloc: Global,
+    text: &mut Vec<u8>,
+    settings: &Settings,
+    place: usize,
+    coded: &[u8],
+    plain: &'a [u8],
+) -> Result<&'a [u8], FontRefusal>
+    requires { place + length coded.now < 2 ^ 64 }
+    ensures value { Gives
+        (λ rest. (text.new.items, rest.now))
+        result
+        (with_digits place coded.now
+        (private_onto settings.now.operator.now settings.now.lead text.old.items false plain.now)) }
+    ensures within { IfOk result (λ rest. length rest.now ≤ length plain.now) }
+{
+    match push_private(alloc, text, settings, plain) {
+        Ok(rest) => Ok(rest),
+        Err(refusal) => Err(at_digits(place, coded, refusal)),
+    }
+}
+
+/// How many bytes of a file stand before the encrypted ones, without the heads of its segments.
+fn coded_place(parts: &Parts, coded: &[u8]) -> usize
+    ensures value { result ≡ coded_place parts.now coded.now }
+    ensures within { result + length coded.now < 2 ^ 64 }
+{
+    (parts.clear.len() + parts.coded.len()).saturating_sub(coded.len())
+}
+
+/// Adds the lines of the private text of an encrypted part, and those of the tail. At a fault and
+/// where memory runs out some of them may stand there.
+fn push_plain(
+    alloc: Global,
+    text: &mut Vec<u8>,
+    parts: &Parts,
+    coded: &[u8],
+    plain: &[u8],
+) -> Result<(), FontRefusal>
+    requires { length plain.now < 2 ^ 63 - 4 }
+    ensures { Gives
+        (λ _. text.new.items)
+        result
+        (plain_onto text.old.items parts.now coded.now plain.now) }
+{
+    let lead = leading_bytes(plain)?;
+    let settings = Settings {
+        operator: reading_operator(plain),
+        lead,
+    };
+    let place = coded_place(parts, coded);
+    let rest = push_checked(alloc, text, &settings, place, coded, plain)?;
+    let count = EEXEC_LEAD + (plain.len() - rest.len());
+    push_tail(alloc, text, tail_after(parts, coded, count))?;
+    Ok(())
+}
+
+/// The bytes after the leading ones.
+fn past_lead(bytes: &[u8]) -> &[u8]
+    ensures { result.now ≡ drop 4 bytes.now }
+{
+    bytes.split_at(bytes.len().min(EEXEC_LEAD)).1
+}
+
+/// The same, of the encrypted part alone.
+fn push_source(
+    alloc: Global,
+    text: &mut Vec<u8>,
+    parts: &Parts,
+    coded: &[u8],
+) -> Result<(), FontRefusal>
+    ensures { Gives
+        (λ _. text.new.items)
+        result
+        (source_onto text.old.items parts.now coded.now) }
+{
+    let bytes = plain_bytes(alloc, coded)?;
+    push_plain(alloc, text, parts, coded, past_lead(&bytes))
+}
+
+/// The bytes after the eexec line, and those of the encrypted part.
+fn joined_bytes(alloc: Global, after: &[u8], coded: &[u8]) -> Result<Vec<u8>, AllocError>
+    ensures { IfOk result (λ bytes. bytes.items ≡ after.now ++ coded.now) }
+{
+    let mut bytes = Vec::from_slice(alloc, after)?;
+    bytes.extend_from_slice(coded)?;
+    Ok(bytes)
+}
+
+/// The source of the parts of a file.
+fn source_of_parts(alloc: Global, parts: &Parts) -> Result<Vec<u8>, FontRefusal>
+    ensures { Gives
+        (λ text. text.items)
+        result
+        (source_of parts.now (after_eexec parts.now.clear)) }
+{
+    let clear = parts.clear.as_slice();
+    let Some(after) = after_eexec(clear) else {
+        return Err(FontRefusal::from(FontCode::D1));
+    };
+    let mut text = Vec::new(alloc);
+    push_lines_of(&mut text, clear.split_at(clear.len() - after.len()).0)?;
+    let bytes = joined_bytes(alloc, after, parts.coded.as_slice())?;
+    push_source(alloc, &mut text, parts, past_spaces(&bytes))?;
+    Ok(text)
+}
+
+/// The source of a font's file, in the form that `assemble` reads: of a PFB file, whatever its
+/// segments, of a PFA file, or of the bytes of a font without segments. Beside the source it takes
+/// at most three times the memory of the file.
+#[tactic(auto, unfolding(crate::specs::Disassembly::disassembled))]
+pub fn disassemble(alloc: Global, file: &[u8]) -> Result<Vec<u8>, FontRefusal>
+    ensures { Gives (λ text. text.items) result (disassembled file.now) }
+{
+    let parts = font_parts(alloc, file)?;
+    source_of_parts(alloc, &parts)
+}

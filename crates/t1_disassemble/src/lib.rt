@@ -1,0 +1,19 @@
+//! A font read back: the segments of its file, its encryption undone, its charstrings as words.
+#![tactic(auto)]
+
+mod charstring;
+mod cipher;
+mod digits;
+mod disassembly;
+mod fault;
+mod front;
+pub mod laws;
+mod opening;
+mod private;
+mod segments;
+mod settings;
+
+pub use charstring::push_encrypted;
+pub use disassembly::disassemble;
+pub use fault::{FontCode, FontFault, FontPlace, FontRefusal};
+pub use segments::{Parts, font_parts};

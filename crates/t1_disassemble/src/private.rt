@@ -1,0 +1,292 @@
+//! The private text of a font, read into the lines of a source.
+ghost use Rattle.std.specs.Prelude.{◌≡◌, ◌<◌, ◌≤◌, ◌+◌, ◌^◌, ℕ, suc, ◌++◌, ◌∷◌, [], false, length, take, drop, IfOk, OnOk};
+ghost use Rattle.t1_frac.specs.Ascii.{line_feed};
+ghost use Rattle.t1_text.specs.Lines.{after_end};
+ghost use Rattle.t1_parts.specs.Parts.{is_closefile};
+ghost use Rattle.t1_parts.specs.Printing.{last_line};
+ghost use Rattle.t1_disassemble.specs.declared.fault.FontPlace.TheVariants.{Entry};
+ghost use Rattle.t1_disassemble.specs.Front.{line_len};
+ghost use Rattle.t1_disassemble.specs.Opened.{opening_of};
+ghost use Rattle.t1_disassemble.specs.Outcome.{Gives, reported_at};
+ghost use Rattle.t1_disassemble.specs.PieceLeft.{piece_of};
+ghost use Rattle.t1_disassemble.specs.Placed.{IsPlaced};
+ghost use Rattle.t1_disassemble.specs.PrivateText.{plain_text, front_text, head_line, line_left, entry_left, entry_onto, read_piece, private_onto};
+ghost use Rattle.t1_disassemble.specs.Words.{words_of_encrypted, words_onto};
+
+use crate::charstring::push_encrypted;
+use crate::fault::{FontCode, FontFault, FontPlace, FontRefusal};
+use crate::front::{line_len, line_len_after};
+use crate::opening::{Opening, first_opening};
+use std::alloc::{AllocError, Global};
+use t1_frac::Bytes;
+use t1_parts::push_line;
+use t1_text::trimmed;
+
+/// Adds the last line of an entry.
+fn push_last_line(text: &mut Vec<u8>, closing: &[u8]) -> Result<(), AllocError>
+    ensures { OnOk result (text.new.items
+        ≡ text.old.items ++ last_line closing.now ++ line_feed ∷ []) }
+{
+    text.extend_from_slice(b"\t}")?;
+    if !closing.is_empty() {
+        text.push(b' ')?;
+    }
+    push_line(text, closing)
+}
+
+/// Adds a line as it stands, or the closing text of an entry that waits for it.
+fn push_plain(text: &mut Vec<u8>, waits: bool, line: &[u8]) -> Result<(), AllocError>
+    ensures { OnOk result (text.new.items ≡ text.old.items ++ plain_text waits line.now) }
+{
+    if waits {
+        return push_last_line(text, trimmed(line));
+    }
+    push_line(text, line)
+}
+
+/// Adds what stands on a line before an entry.
+fn push_front(text: &mut Vec<u8>, waits: bool, front: &[u8]) -> Result<(), AllocError>
+    ensures { OnOk result (text.new.items ≡ text.old.items ++ front_text waits front.now) }
+{
+    if !waits && trimmed(front).is_empty() {
+        return Ok(());
+    }
+    push_plain(text, waits, front)
+}
+
+/// What an entry is called: `dup` and its number, or its name.
+fn push_name(text: &mut Vec<u8>, opening: &Opening) -> Result<(), AllocError>
+    ensures { OnOk result (text.new.items ≡ text.old.items ++ (opening_of opening.now).name) }
+{
+    if opening.is_subr {
+        text.extend_from_slice(b"dup ")?;
+    }
+    text.extend_from_slice(opening.name)?;
+    Ok(())
+}
+
+/// Adds the first line of an entry.
+fn push_head(text: &mut Vec<u8>, opening: &Opening) -> Result<(), AllocError>
+    ensures { OnOk result (text.new.items
+        ≡ text.old.items ++ head_line (opening_of opening.now).name) }
+{
+    push_name(text, opening)?;
+    push_line(text, b" {")
+}
+
+/// The place of an entry.
+fn entry_place(alloc: Global, opening: &Opening) -> Result<FontPlace, AllocError>
+    ensures { IfOk result (λ place. place ≡ Entry (opening_of opening.now).name) }
+{
+    let mut name = Vec::new(alloc);
+    push_name(&mut name, opening)?;
+    Ok(FontPlace::Entry(Bytes::new(name)))
+}
+
+/// The same refusal, its fault at an entry.
+fn at_entry(alloc: Global, opening: &Opening, refusal: FontRefusal) -> FontRefusal
+    ensures { IsPlaced (Entry (opening_of opening.now).name) refusal result }
+{
+    match refusal {
+        FontRefusal::Memory => FontRefusal::Memory,
+        FontRefusal::Fault(fault) => match entry_place(alloc, opening) {
+            Ok(place) => FontRefusal::Fault(FontFault {
+                code: fault.code,
+                place,
+            }),
+            Err(_error) => FontRefusal::Memory,
+        },
+    }
+}
+
+/// Adds the words of an entry's charstring.
+fn push_charstring(
+    alloc: Global,
+    text: &mut Vec<u8>,
+    buffer: &mut Vec<u8>,
+    lead: u8,
+    opening: &Opening,
+    bytes: &[u8],
+) -> Result<(), FontRefusal>
+    ensures { Gives
+        (λ _. text.new.items)
+        result
+        (reported_at (Entry (opening_of opening.now).name) (words_onto text.old.items false
+        (words_of_encrypted lead bytes.now))) }
+{
+    match push_encrypted(text, buffer, lead, bytes) {
+        Ok(()) => Ok(()),
+        Err(refusal) => Err(at_entry(alloc, opening, refusal)),
+    }
+}
+
+/// A piece of the private text that is read: what is left after it, how many bytes stand there
+/// before the first line end, whether an entry waits for its closing text, and whether it was the
+/// last piece.
+#[derive(Clone, Copy, Debug)]
+pub(crate) struct Piece<'a> {
+    pub(crate) rest: &'a [u8],
+    pub(crate) end: usize,
+    pub(crate) waits: bool,
+    pub(crate) is_last: bool,
+}
+
+/// The bytes after so many, or none.
+fn past(bytes: &[u8], count: usize) -> &[u8]
+    ensures { result.now ≡ drop count bytes.now }
+{
+    bytes.split_at(count.min(bytes.len())).1
+}
+
+/// The first so many bytes, or all.
+fn up_to(bytes: &[u8], count: usize) -> &[u8]
+    ensures { result.now ≡ take count bytes.now }
+{
+    bytes.split_at(count.min(bytes.len())).0
+}
+
+/// The bytes after a line end, of which CR LF is one.
+fn after_end(bytes: &[u8]) -> &[u8]
+    ensures { result.now ≡ after_end bytes.now }
+{
+    match bytes {
+        [b'\r', b'\n', rest @ ..] | [_, rest @ ..] => rest,
+        [] => bytes,
+    }
+}
+
+/// Whether a line closes the encrypted part.
+fn is_closefile(line: &[u8]) -> bool
+    ensures { result ≡ is_closefile line.now }
+{
+    trimmed(line).ends_with(b"mark currentfile closefile")
+}
+
+/// Adds an entry, whose charstring stands at the front of some bytes, and answers what stands after
+/// it.
+fn push_entry<'a>(
+    alloc: Global,
+    text: &mut Vec<u8>,
+    buffer: &mut Vec<u8>,
+    lead: u8,
+    opening: &Opening,
+    bytes: &'a [u8],
+) -> Result<&'a [u8], FontRefusal>
+    ensures { Gives
+        (λ rest. entry_left text.new.items rest.now)
+        result
+        (entry_onto lead text.old.items (opening_of opening.now) bytes.now) }
+{
+    if bytes.len() < opening.count {
+        return Err(FontRefusal::from(FontFault {
+            code: FontCode::D5,
+            place: entry_place(alloc, opening)?,
+        }));
+    }
+    let (charstring, rest) = bytes.split_at(opening.count);
+    push_head(text, opening)?;
+    push_charstring(alloc, text, buffer, lead, opening, charstring)?;
+    Ok(rest)
+}
+
+/// How many bytes stand in front of each charstring, and the operator that reads them.
+#[derive(Clone, Copy, Debug)]
+pub(crate) struct Settings<'a> {
+    pub(crate) operator: &'a [u8],
+    pub(crate) lead: u8,
+}
+
+/// Adds the line that stands at the front, and answers what is left.
+#[tactic(auto, using(t1_text::proofs::CutLaws::line_gone))]
+fn push_whole_line<'a>(
+    text: &mut Vec<u8>,
+    waits: bool,
+    end: usize,
+    bytes: &'a [u8],
+) -> Result<Piece<'a>, AllocError>
+    requires end { end ≡ line_len bytes.now }
+    requires within { end ≤ length bytes.now }
+    requires some { 0 < length bytes.now }
+    ensures value { IfOk
+        result
+        (λ piece. piece_of text.new.items piece ≡ line_left text.old.items waits bytes.now) }
+    ensures shorter { IfOk result (λ piece. length piece.rest.now < length bytes.now) }
+    ensures end { IfOk result (λ piece. piece.end ≡ line_len piece.rest.now) }
+{
+    let (line, ended) = bytes.split_at(end);
+    let rest = after_end(ended);
+    push_plain(text, waits, line)?;
+    Ok(Piece {
+        rest,
+        end: line_len(rest),
+        waits: false,
+        is_last: is_closefile(line),
+    })
+}
+
+/// Adds the next piece of the private text: a line through the entry that opens on it, or whole.
+#[tactic(auto, unfolding(crate::specs::PrivateText::read_piece), using(crate::proofs::Pieces::shorter_after, crate::proofs::Pieces::dropped_twice))]
+fn push_piece<'a>(
+    alloc: Global,
+    text: &mut Vec<u8>,
+    buffer: &mut Vec<u8>,
+    settings: &Settings,
+    waits: bool,
+    end: usize,
+    bytes: &'a [u8],
+) -> Result<Piece<'a>, FontRefusal>
+    requires { end ≡ line_len bytes.now }
+    ensures value { Gives
+        (λ piece. piece_of text.new.items piece)
+        result
+        (read_piece settings.now.operator.now settings.now.lead text.old.items waits bytes.now) }
+    ensures end { IfOk result (λ piece. piece.end ≡ line_len piece.rest.now) }
+    ensures shorter { IfOk result (λ piece. length piece.rest.now < length bytes.now) }
+{
+    if bytes.is_empty() {
+        return Err(FontRefusal::from(FontCode::D4));
+    }
+    let Some(opening) = first_opening(settings.operator, up_to(bytes, end)) else {
+        let piece = push_whole_line(text, waits, end, bytes)?;
+        return Ok(piece);
+    };
+    push_front(text, waits, up_to(bytes, opening.at))?;
+    let data = past(bytes, opening.end + 1);
+    let rest = push_entry(alloc, text, buffer, settings.lead, &opening, data)?;
+    Ok(Piece {
+        rest,
+        end: line_len_after(end, bytes.len() - rest.len(), bytes),
+        waits: true,
+        is_last: false,
+    })
+}
+
+/// Adds the lines of the private text, through the one that closes the encrypted part, and answers
+/// the bytes after it. At a fault and where memory runs out some of the lines may stand there.
+#[tactic(auto, using(crate::proofs::Pieces::private_more))]
+pub(crate) fn push_private<'a>(
+    alloc: Global,
+    text: &mut Vec<u8>,
+    settings: &Settings,
+    bytes: &'a [u8],
+) -> Result<&'a [u8], FontRefusal>
+    ensures value { Gives
+        (λ rest. (text.new.items, rest.now))
+        result
+        (private_onto settings.now.operator.now settings.now.lead text.old.items false bytes.now) }
+    ensures within { IfOk result (λ rest. length rest.now ≤ length bytes.now) }
+{
+    let mut buffer = Vec::new(alloc);
+    let mut waits = false;
+    let mut end = line_len(bytes);
+    let mut rest = bytes;
+    loop {
+        let piece = push_piece(alloc, text, &mut buffer, settings, waits, end, rest)?;
+        rest = piece.rest;
+        if piece.is_last {
+            return Ok(rest);
+        }
+        waits = piece.waits;
+        end = piece.end;
+    }
+}

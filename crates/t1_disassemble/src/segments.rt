@@ -1,0 +1,186 @@
+//! The segments of a file, and the parts of a font that they hold.
+ghost use Rattle.std.specs.Prelude.{◌≡◌, ◌+◌, ◌-◌, ◌≤◌, ◌<◌, length, option_map, IfOk, IfSome, MatchResult, OnOk, Ok, Err, [], ◌++◌};
+ghost use Rattle.t1_disassemble.specs.Outcome.{Gives, fault_at};
+ghost use Rattle.t1_disassemble.specs.declared.fault.FontPlace.TheVariants.{Byte};
+ghost use Rattle.t1_disassemble.specs.SegmentsRead.{segment_after, typed_segment, segment_at, placed_segment, segments_of, no_parts, parts_onto, with_segment, font_parts};
+ghost use Rattle.t1_disassemble.specs.SegmentsFound.{found_segment, found_maybe};
+
+use crate::fault::{FontCode, FontFault, FontPlace, FontRefusal};
+use std::alloc::{AllocError, Global};
+use std::marker::Model;
+
+/// The byte that each segment begins with.
+const MARKER: u8 = 128;
+
+/// The type of a segment of text.
+const ASCII: u8 = 1;
+
+/// The type of a segment of binary data.
+const BINARY: u8 = 2;
+
+/// The type that stands at the end of the file.
+const END: u8 = 3;
+
+/// A segment, and the bytes after it.
+#[derive(Clone, Copy, Debug)]
+struct Found<'a> {
+    kind: u8,
+    bytes: &'a [u8],
+    after: &'a [u8],
+}
+
+/// The segment of a type whose length stands at the front.
+fn segment_after(kind: u8, rest: &[u8]) -> Result<Found<'_>, FontCode>
+    ensures value { MatchResult
+        result
+        (λ found. segment_after kind rest.now ≡ Ok (found_segment found))
+        (λ code. segment_after kind rest.now ≡ Err code) }
+    ensures shorter { IfOk result (λ found. length found.after.now < length rest.now) }
+{
+    let [a, b, c, d, data @ ..] = rest else {
+        return Err(FontCode::D2);
+    };
+    let count = u32::from_le_bytes([*a, *b, *c, *d]) as usize;
+    if data.len() < count {
+        return Err(FontCode::D2);
+    }
+    let (bytes, after) = data.split_at(count);
+    Ok(Found { kind, bytes, after })
+}
+
+/// What stands after 128 and a type: the end of the file, or a segment.
+fn typed_segment(kind: u8, rest: &[u8]) -> Result<Option<Found<'_>>, FontCode>
+    ensures value { MatchResult
+        result
+        (λ found. typed_segment kind rest.now ≡ Ok (found_maybe found))
+        (λ code. typed_segment kind rest.now ≡ Err code) }
+    ensures shorter { IfOk result (λ found. IfSome found
+        (λ it. length it.after.now < length rest.now)) }
+{
+    if kind == END {
+        return Ok(None);
+    }
+    if kind != ASCII && kind != BINARY {
+        return Err(FontCode::D2);
+    }
+    match segment_after(kind, rest) {
+        Ok(found) => Ok(Some(found)),
+        Err(code) => Err(code),
+    }
+}
+
+/// The segment at the front, and the bytes after it; nothing at the end of the file.
+fn next_segment(bytes: &[u8]) -> Result<Option<Found<'_>>, FontCode>
+    ensures value { MatchResult
+        result
+        (λ found. segment_at bytes.now ≡ Ok (found_maybe found))
+        (λ code. segment_at bytes.now ≡ Err code) }
+    ensures shorter { IfOk result (λ found. IfSome found
+        (λ it. length it.after.now < length bytes.now)) }
+{
+    if bytes.is_empty() {
+        return Ok(None);
+    }
+    let [first, kind, rest @ ..] = bytes else {
+        return Err(FontCode::D2);
+    };
+    if *first != MARKER {
+        return Err(FontCode::D2);
+    }
+    typed_segment(*kind, rest)
+}
+
+/// The same, with a fault at its place in a file of so many bytes.
+fn placed_segment(total: usize, rest: &[u8]) -> Result<Option<Found<'_>>, FontFault>
+    requires { length rest.now ≤ total }
+    ensures value { MatchResult
+        result
+        (λ found. placed_segment total rest.now ≡ Ok (found_maybe found))
+        (λ fault. placed_segment total rest.now ≡ Err fault) }
+    ensures shorter { IfOk result (λ found. IfSome found
+        (λ it. length it.after.now < length rest.now)) }
+{
+    match next_segment(rest) {
+        Ok(found) => Ok(found),
+        Err(code) => Err(FontFault {
+            code,
+            place: FontPlace::Byte((total - rest.len()) as u64),
+        }),
+    }
+}
+
+/// The clear text of a font, its encrypted part, and the text after it.
+#[derive(Debug, Drop)]
+pub struct Parts {
+    pub clear: Vec<u8>,
+    pub coded: Vec<u8>,
+    pub tail: Vec<u8>,
+}
+
+impl Model for Parts {
+    ghost use Rattle.t1_disassemble.specs.SegmentsRead.{FontParts};
+
+    ghost Value = { FontParts };
+
+    ghost view = { λ parts. record { clear = parts.clear.items; coded = parts.coded.items; tail = parts.tail.items } };
+}
+
+impl Parts {
+    /// No bytes yet.
+    fn new(alloc: Global) -> Parts
+        ensures { result ≡ no_parts }
+    {
+        Parts {
+            clear: Vec::new(alloc),
+            coded: Vec::new(alloc),
+            tail: Vec::new(alloc),
+        }
+    }
+
+    /// Adds a segment to the part in which it stands.
+    fn put(&mut self, segment: Found) -> Result<(), AllocError>
+        ensures { OnOk result (self.new ≡ with_segment self.old (found_segment segment.entry).0) }
+    {
+        if segment.kind == BINARY {
+            return self.coded.extend_from_slice(segment.bytes);
+        }
+        if self.coded.is_empty() {
+            return self.clear.extend_from_slice(segment.bytes);
+        }
+        self.tail.extend_from_slice(segment.bytes)
+    }
+}
+
+/// The parts that the segments of a file hold.
+#[tactic(auto, using(crate::proofs::Segmented::parts_more))]
+fn segmented_parts(alloc: Global, bytes: &[u8]) -> Result<Parts, FontRefusal>
+    ensures { Gives
+        (λ parts. parts)
+        result
+        (parts_onto no_parts (segments_of (length bytes.now) bytes.now)) }
+{
+    let mut parts = Parts::new(alloc);
+    let mut rest = bytes;
+    loop {
+        let Some(found) = placed_segment(bytes.len(), rest)? else {
+            return Ok(parts);
+        };
+        parts.put(found)?;
+        rest = found.after;
+    }
+}
+
+/// The parts of a font's file, with segments or without.
+#[tactic(auto, unfolding(crate::specs::SegmentsRead::font_parts))]
+pub fn font_parts(alloc: Global, bytes: &[u8]) -> Result<Parts, FontRefusal>
+    ensures { Gives (λ parts. parts) result (font_parts bytes.now) }
+{
+    if bytes.first() == Some(&MARKER) {
+        return segmented_parts(alloc, bytes);
+    }
+    Ok(Parts {
+        clear: Vec::from_slice(alloc, bytes)?,
+        coded: Vec::new(alloc),
+        tail: Vec::new(alloc),
+    })
+}

@@ -1,0 +1,30 @@
+-- Sources whose files are read back.
+use Rattle.std.specs.Prelude.{◌≡◌, ℕ, true, List, [], ◌∷◌, ◌++◌, map, Result, Ok}
+use Rattle.std.specs.List.{list_all}
+use Rattle.t1_frac.specs.declared.fault.Fault.{Fault}
+use Rattle.t1_text.specs.Lines.{is_line}
+use Rattle.t1_parts.specs.declared.item.Item.{Item}
+use Rattle.t1_parts.specs.declared.item.Item.TheVariants.{Plain}
+use Rattle.t1_parts.specs.LenIV.{lead}
+use Rattle.t1_parts.specs.Operator.{operator}
+use Rattle.t1_parts.specs.Parts.{tail_of}
+use Rattle.t1_parts.specs.SourceParts.{SourceParts}
+use Rattle.t1_font.specs.Assembly.{private_text}
+use Rattle.t1_disassemble.specs.Laws.{plain_item, AreBytes, IsReadBack}
+
+-- profile: a source as it comes back: each number word in its one plain spelling
+abbrev pub plain_source : SourceParts → SourceParts
+plain_source source = record { clear = source.clear; items = map plain_item source.items; tail = source.tail }
+
+-- profile: a source that reads as itself: its items before the last, and the line that closes the encrypted part; its tail is one that reading gives
+pub record ReadsAsItself (source : SourceParts) : Type 0 where
+  pub before : List Item
+  pub last : List ℕ
+  pub whole : source.items ≡ before ++ Plain last ∷ []
+  pub reads : IsReadBack source.clear (operator source) (lead source) before last
+  pub lines : list_all is_line source.tail ≡ true
+  pub tail : tail_of source.tail ≡ source.tail
+
+-- profile: the private text of a source is of numbers that bytes hold, as all text that a file gives is
+abbrev pub HasBytes : SourceParts → Type 0
+HasBytes source = (private : List ℕ) → private_text (lead source) (operator source) source.items ≡ Ok private → AreBytes private

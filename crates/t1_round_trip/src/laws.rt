@@ -1,0 +1,24 @@
+//! Laws of a source's file and what is read back of it.
+ghost use Rattle.std.specs.Prelude.{◌≡◌, ℕ, ◌<◌, ◌≤◌, ◌^◌, false, Ok, List, [], ◌∷◌, ◌++◌};
+ghost use Rattle.t1_text.specs.Lines.{begins_with, joined};
+ghost use Rattle.t1_code.specs.Pfb.{marker};
+ghost use Rattle.t1_parts.specs.Printing.{text};
+ghost use Rattle.t1_parts.specs.SourceParts.{SourceParts};
+ghost use Rattle.t1_font.specs.Assembly.{source_file, source_pfa};
+ghost use Rattle.t1_disassemble.specs.Disassembly.{disassembled};
+ghost use Rattle.t1_round_trip.specs.ReadBack.{plain_source, ReadsAsItself, HasBytes};
+
+/// The PFB file of a source that reads as itself is read back as the text of that source, each
+/// number word in its one plain spelling, whatever the blocks of the file.
+pub fn file_comes_back()
+    ensures { (size : ℕ) (source : SourceParts) (file : List ℕ) → 1 ≤ size → size < 2 ^ 32
+        → ReadsAsItself source
+        → source_file size source ≡ Ok file → disassembled file ≡ Ok (text (plain_source source)) }
+{}
+
+/// So is its PFA file, where it doesn't begin with the byte of a segment.
+pub fn hexadecimal_file_comes_back()
+    ensures { (source : SourceParts) (file : List ℕ) → ReadsAsItself source → HasBytes source
+        → begins_with marker (joined source.clear) ≡ false
+        → source_pfa source ≡ Ok file → disassembled file ≡ Ok (text (plain_source source)) }
+{}
