@@ -5,28 +5,28 @@ use Rattle.t1_frac.specs.Fraction.{Fraction}
 use Rattle.t1_afm.specs.declared.ratio.Ratio.{Ratio}
 use Rattle.t1_afm.specs.declared.ratio.WeightedPair.{WeightedPair}
 
--- profile: the fraction is p - q or more
+-- word: the fraction is p - q or more
 pub record AtLeast (p q : ℕ) (a : Fraction) : Type 0 where
   pub least : p * a.den + down a.num ≤ up a.num + q * a.den
 
--- profile: the fraction is p - q or less
+-- word: the fraction is p - q or less
 pub record AtMost (p q : ℕ) (a : Fraction) : Type 0 where
   pub most : up a.num + q * a.den ≤ p * a.den + down a.num
 
--- profile: the fraction is between -1,048,576 and 1,048,576
+-- word: the fraction is between -1,048,576 and 1,048,576
 pub record IsInRange (a : Fraction) : Type 0 where
   pub above : 0 < a.den
   pub least : AtLeast 0 (2 ^ 20) a
   pub most : AtMost (2 ^ 20) 0 a
 
--- profile: a ratio, as a fraction
+-- word: a ratio, as a fraction
 abbrev pub fraction_of : Ratio → Fraction
 fraction_of r = record { num = r.num; den = r.den }
 
--- profile: the sum of two weighted coordinates, as a fraction
+-- word: the sum of two weighted coordinates, as a fraction
 abbrev pub pair_fraction : WeightedPair → Fraction
 pair_fraction p = record { num = p.num; den = p.den }
 
--- profile: a sum over 64^3
+-- word: a sum over 64^3
 abbrev pub over_cube : ℤ → Fraction
 over_cube sum = record { num = sum; den = 262144 }

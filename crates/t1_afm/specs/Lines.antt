@@ -6,20 +6,20 @@ use Rattle.t1_afm.specs.declared.line.Word.{Word}
 use Rattle.t1_afm.specs.declared.line.Word.TheVariants.{Text, Number, Count}
 use Rattle.t1_afm.specs.Afm.{Line}
 
--- profile: the bytes of a word
+-- word: the bytes of a word
 abbrev pub word_text : Word → List ℕ
 word_text (Text bytes) = bytes.now
 word_text (Number number) = signed_decimal number
 word_text (Count count) = decimal count
 
--- profile: the words of a line, as bytes
+-- word: the words of a line, as bytes
 abbrev pub words_of : List Word → Line
 words_of words = map word_text words
 
--- profile: a key, and the bytes of its value, where there is one
+-- word: a key, and the bytes of its value, where there is one
 abbrev pub value_of : Value → List ℕ × Option (List ℕ)
 value_of v = (v.key.now, option_map word_text v.value)
 
--- profile: the keys and values, one after another
+-- word: the keys and values, one after another
 abbrev pub values_of : List Value → List (List ℕ × Option (List ℕ))
 values_of values = map value_of values

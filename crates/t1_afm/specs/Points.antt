@@ -30,7 +30,7 @@ cubic_at a b c d k = bernstein (64 - k) k a b c d
 unfoldable pub sixty_fourths : List ℕ
 sixty_fourths = range_with_len 0 65
 
--- profile: the 65 values of a cubic
+-- word: the 65 values of a cubic
 abbrev pub cubic_values : Fraction → Fraction → Fraction → Fraction → List Fraction
 cubic_values a b c d = map (cubic_at a b c d) sixty_fourths
 

@@ -7,26 +7,26 @@ use Rattle.t1_afm.specs.declared.span.Span.{Span}
 use Rattle.t1_afm.specs.Points.{cubic_at}
 use Rattle.t1_afm.specs.Box.{least, greatest}
 
--- profile: the least span of whole numbers around fractions of one axis
+-- word: the least span of whole numbers around fractions of one axis
 abbrev pub span_of : List Fraction → Span
 span_of xs = record { low = least (map floor_of xs); high = greatest (map ceiling_of xs) }
 
--- profile: the span around one fraction
+-- word: the span around one fraction
 abbrev pub span_around_one : Fraction → Span
 span_around_one a = record { low = floor_of a; high = ceiling_of a }
 
--- profile: the span around two spans
+-- word: the span around two spans
 abbrev pub span_around : Span → Span → Span
 span_around s t = record { low = int_min s.low t.low; high = int_max s.high t.high }
 
--- profile: the box of a span along each axis
+-- word: the box of a span along each axis
 abbrev pub spans_box : Span → Span → BBox
 spans_box x y = record { left = x.low; bottom = y.low; right = x.high; top = y.high }
 
--- profile: the span around the four points of a cubic, along one axis
+-- word: the span around the four points of a cubic, along one axis
 abbrev pub hull_of : Fraction → Fraction → Fraction → Fraction → Span
 hull_of a b c d = span_around (span_of (a ∷ b ∷ [])) (span_of (c ∷ d ∷ []))
 
--- profile: the span around a cubic's values at both ends
+-- word: the span around a cubic's values at both ends
 abbrev pub ends_of : Fraction → Fraction → Fraction → Fraction → Span
 ends_of a b c d = span_around (span_around_one (cubic_at a b c d 0)) (span_around_one (cubic_at a b c d 64))

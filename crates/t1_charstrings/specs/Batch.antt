@@ -19,7 +19,7 @@ use Rattle.t1_charstrings.specs.Entries.{Kept, encrypted}
 use Rattle.t1_charstrings.specs.Kept.{AreEncrypted, kept_at}
 use Rattle.t1_charstrings.specs.Lines.{entry_line}
 
--- profile: what fresh charstrings keep at a key, or else what the old ones do
+-- word: what fresh charstrings keep at a key, or else what the old ones do
 abbrev pub over : Charstrings → Charstrings → Key → Option Kept
 over fresh old k = option_or (kept_at fresh k) (kept_at old k)
 
@@ -30,11 +30,11 @@ line_by at operator (items.Section before count after) = before ++ decimal count
 line_by at operator (items.Subr number words closing) = entry_line operator closing (at (Subr number))
 line_by at operator (items.Glyph name words closing) = entry_line operator closing (at (Glyph name))
 
--- profile: the lines of the items, one after another
+-- word: the lines of the items, one after another
 abbrev pub text_by : (Key → Option Kept) → List ℕ → List Item → List ℕ
 text_by at operator items = flat_map (line_by at operator) items
 
--- profile: whether the charstring of an item's entry is kept
+-- word: whether the charstring of an item's entry is kept
 abbrev pub has_line : Charstrings → Item → Bool
 has_line c (items.Subr number words closing) = is_some (kept_at c (Subr number))
 has_line c (items.Glyph name words closing) = is_some (kept_at c (Glyph name))
@@ -42,7 +42,7 @@ has_line c item = false
 
 -- ---- edits
 
--- profile: these are the charstrings of a source, and another source without a fault of its bodies differs from it in entries
+-- word: these are the charstrings of a source, and another source without a fault of its bodies differs from it in entries
 -- at these keys alone
 pub record IsEditOf (keys : List Key) (s made : SourceParts) (c : Charstrings) : Type 0 where
   pub kept : AreEncrypted s c
@@ -50,29 +50,29 @@ pub record IsEditOf (keys : List Key) (s made : SourceParts) (c : Charstrings) :
   pub sound : bodies_check made.items ≡ Ok tt
   pub same : SameBut keys (bodies s.items) (bodies made.items)
 
--- profile: the other source says the same lenIV too
+-- word: the other source says the same lenIV too
 abbrev pub IsBatchOf : List Key → SourceParts → SourceParts → Charstrings → Type 0
 IsBatchOf keys s made c = IsEditOf keys s made c × (lead made ≡ lead s)
 
--- profile: the bodies that a source has at these keys are kept, encrypted with so many leading bytes, and nothing else
+-- word: the bodies that a source has at these keys are kept, encrypted with so many leading bytes, and nothing else
 abbrev pub AreFresh : ℕ → List Key → SourceParts → Charstrings → Type 0
 AreFresh front keys made fresh =
     (k : Key) → kept_at fresh k ≡ (if list_any (key_eq k) keys then option_map (encrypted front k) (body_at (bodies made.items) k) else None)
 
--- profile: the key of an entry that is gone
+-- word: the key of an entry that is gone
 abbrev pub gone_key : Gone → Key
 gone_key (gone.Subr number) = Subr number
 gone_key (gone.Glyph name) = Glyph name.items
 
--- profile: whether the entry of a key is among those that are gone
+-- word: whether the entry of a key is among those that are gone
 abbrev pub is_gone : List Gone → Key → Bool
 is_gone gone k = list_any (λ g. key_eq k (gone_key g)) gone
 
--- profile: those of these keys at which a source has no body
+-- word: those of these keys at which a source has no body
 abbrev pub AreGone : List Key → SourceParts → List Gone → Type 0
 AreGone keys made gone = (k : Key) → is_gone gone k ≡ (list_any (key_eq k) keys && is_none (body_at (bodies made.items) k))
 
--- profile: one source was made of the other by edits that name some entries, and these are the charstrings of those that were
+-- word: one source was made of the other by edits that name some entries, and these are the charstrings of those that were
 -- replaced or added, and those that were removed
 pub record AreEdits (s made : SourceParts) (c : Charstrings) (entries : EditedEntries) : Type 0 where
   pub keys : List Key

@@ -5,10 +5,10 @@ use Rattle.t1_charstrings.specs.declared.entries.Charstrings.{Charstrings}
 use Rattle.t1_charstrings.specs.Entries.{Kept}
 use Rattle.t1_charstrings.specs.Kept.{kept_at}
 
--- profile: this, or nothing, is kept at the key, and at each other key what was kept there
+-- word: this, or nothing, is kept at the key, and at each other key what was kept there
 abbrev pub Sets : Key → Option Kept → Charstrings → Charstrings → Type 0
 Sets key entry old new = (k : Key) → kept_at new k ≡ (if key_eq k key then entry else kept_at old k)
 
--- profile: the same entries in the same order
+-- word: the same entries in the same order
 abbrev pub AreUnchanged : Charstrings → Charstrings → Type 0
 AreUnchanged old new = (new.subrs.entries ≡ old.subrs.entries) × (new.glyphs.entries ≡ old.glyphs.entries)

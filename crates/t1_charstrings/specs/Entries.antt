@@ -10,7 +10,7 @@ use Rattle.t1_code.specs.Charstring.{charstring}
 use Rattle.t1_code.specs.Cipher.{encrypted_charstring}
 use Rattle.t1_run.specs.Run.{Key, Subr, Glyph}
 
--- profile: what is kept of an entry: `dup N` or `/NAME`, and its encrypted charstring
+-- word: what is kept of an entry: `dup N` or `/NAME`, and its encrypted charstring
 pub record Kept : Type 0 where
   pub head : List ℕ
   pub charstring : List ℕ
@@ -24,10 +24,10 @@ head_of (Glyph g) = slash ∷ g
 abbrev pub encrypted : ℕ → Key → List Command → Kept
 encrypted lead key body = record { head = head_of key; charstring = encrypted_charstring lead (charstring body) }
 
--- profile: what is kept under a number
+-- word: what is kept under a number
 abbrev pub subr_kept : List (ℕ × Kept) → ℕ → Option Kept
 subr_kept entries n = lookup (nat_eq n) entries
 
--- profile: what is kept under a name
+-- word: what is kept under a name
 abbrev pub glyph_kept : List (Vec ℕ Global × Kept) → List ℕ → Option Kept
 glyph_kept entries g = lookup (λ key. bytes_eq g key.items) entries

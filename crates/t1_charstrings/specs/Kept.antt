@@ -8,16 +8,16 @@ use Rattle.t1_font.specs.Bodies.{bodies, bodies_check}
 use Rattle.t1_charstrings.specs.declared.entries.Charstrings.{Charstrings}
 use Rattle.t1_charstrings.specs.Entries.{Kept, encrypted, glyph_kept, subr_kept}
 
--- profile: what is kept at a key
+-- word: what is kept at a key
 abbrev pub kept_at : Charstrings → Key → Option Kept
 kept_at c (Subr n) = subr_kept c.subrs.entries n
 kept_at c (Glyph g) = glyph_kept c.glyphs.entries g
 
--- profile: each body of the font is kept, encrypted with so many leading bytes, and nothing else
+-- word: each body of the font is kept, encrypted with so many leading bytes, and nothing else
 abbrev pub Encrypt : ℕ → FontBodies → Charstrings → Type 0
 Encrypt lead m c = (k : Key) → kept_at c k ≡ option_map (encrypted lead k) (body_at m k)
 
--- profile: no body of the source has a fault, and each is kept, encrypted by the source's lenIV
+-- word: no body of the source has a fault, and each is kept, encrypted by the source's lenIV
 pub record AreEncrypted (s : SourceParts) (c : Charstrings) : Type 0 where
   pub sound : bodies_check s.items ≡ Ok tt
   pub each : Encrypt (lead s) (bodies s.items) c

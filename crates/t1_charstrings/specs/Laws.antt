@@ -9,7 +9,7 @@ use Rattle.t1_charstrings.specs.declared.entries.Charstrings.{Charstrings}
 use Rattle.t1_charstrings.specs.Kept.{AreEncrypted}
 use Rattle.t1_charstrings.specs.Lines.{kept_text}
 
--- profile: the private text of a source is that of the charstrings that are kept of it
+-- word: the private text of a source is that of the charstrings that are kept of it
 abbrev pub KeptTextLaw : Type 0
 KeptTextLaw =
     (s : SourceParts) (c : Charstrings) → IsWellFormed s → AreEncrypted s c

@@ -22,11 +22,11 @@ kept_line c operator (Section before count after) = before ++ decimal count ++ a
 kept_line c operator (Subr number words closing) = entry_line operator closing (subr_kept c.subrs.entries number)
 kept_line c operator (Glyph name words closing) = entry_line operator closing (glyph_kept c.glyphs.entries name)
 
--- profile: the lines of the items, one after another
+-- word: the lines of the items, one after another
 abbrev pub kept_text : Charstrings → List ℕ → List Item → List ℕ
 kept_text c operator items = flat_map (kept_line c operator) items
 
--- profile: the bytes of a line that is ready to be written
+-- word: the bytes of a line that is ready to be written
 abbrev pub line_text : KeptLine → List ℕ
 line_text (lines.Plain bytes) = bytes.now ++ line_feed ∷ []
 line_text (lines.Text bytes) = bytes.items

@@ -16,25 +16,25 @@ use Rattle.t1_charstrings.specs.declared.made_items.MadeItems.{MadeItems}
 use Rattle.t1_charstrings.specs.Ready.{is_entry}
 use Rattle.t1_charstrings.specs.Sums.{item_at}
 
--- profile: items in three parts
+-- word: items in three parts
 abbrev pub made_items : MadeItems → List Item
 made_items items = items.before ++ (items.put ++ items.after)
 
--- profile, edits: the source after a change, whatever the pairs
+-- word, edits: the source after a change, whatever the pairs
 abbrev pub made_after : Change → SourceParts → SourceParts
 made_after change s = (changed change s []).0
 
--- profile, edits: the source that is edited
+-- word, edits: the source that is edited
 abbrev pub source_of : Made → SourceParts
 source_of (made.Edit source change) = source.now
 source_of (made.Batch source made) = source.now
 
--- profile, edits: the source that the edits make
+-- word, edits: the source that the edits make
 abbrev pub made_of : Made → SourceParts
 made_of (made.Edit source change) = made_after change.now source.now
 made_of (made.Batch source made) = made.now
 
--- profile, edits: whether a change leaves all items but Subrs and glyphs as they are
+-- word, edits: whether a change leaves all items but Subrs and glyphs as they are
 abbrev pub is_entry_changed : Change → SourceParts → Bool
 is_entry_changed (changes.PutItem at item) s = is_entry item
 is_entry_changed (changes.InsertItem at item) s = is_entry item
@@ -44,30 +44,30 @@ is_entry_changed (changes.PutPair at pair) s = true
 is_entry_changed (changes.InsertPair at pair) s = true
 is_entry_changed (changes.RemovePair at) s = true
 
--- profile, lenIV: whether edits may have set it: one edit, where it changes another item than an entry; a batch, where the
+-- word, lenIV: whether edits may have set it: one edit, where it changes another item than an entry; a batch, where the
 -- number is another one
 abbrev pub may_set_lead : Made → Bool
 may_set_lead (made.Edit source change) = not (is_entry_changed change.now source.now)
 may_set_lead (made.Batch source made) = not (nat_eq (lead made.now) (lead source.now))
 
--- profile, edits: the change can be made of the source, beside some pairs
+-- word, edits: the change can be made of the source, beside some pairs
 pub record IsFor (change : Change) (s : SourceParts) : Type 0 where
   pub pairs : List Pair
   pub serves : Serves change s pairs
   pub well : IsWellFormed s
 
--- profile, edits: the source is one that edits make
+-- word, edits: the source is one that edits make
 abbrev pub IsMade : Made → Type 0
 IsMade (made.Edit source change) = IsFor change.now source.now
 IsMade (made.Batch source made) = IsWellFormed made.now
 
--- profile, edits: the change can be made of the source, which has its files, and whose private text is so long
+-- word, edits: the change can be made of the source, which has its files, and whose private text is so long
 pub record IsPreparedFor (change : Change) (s : SourceParts) (len : ℕ) : Type 0 where
   pub fits : IsFor change s
   pub file : file_check s ≡ Ok tt
   pub known : IsPrivateLen s len
 
--- profile, edits: one edit was prepared for a source of which so much is known; of a batch nothing is asked
+-- word, edits: one edit was prepared for a source of which so much is known; of a batch nothing is asked
 abbrev pub IsPrepared : Made → ℕ → Type 0
 IsPrepared (made.Edit source change) len = IsPreparedFor change.now source.now len
 IsPrepared (made.Batch source made) len = Unit {0}

@@ -10,14 +10,14 @@ use Rattle.t1_parts.specs.Counts.{raised_item}
 use Rattle.t1_source.specs.WellFormed.{is_counted}
 use Rattle.t1_charstrings.specs.Sums.{section_line}
 
--- profile: the section lines with their counts raised to what is needed
+-- word: the section lines with their counts raised to what is needed
 abbrev pub raised_text : ℕ → ℕ → List Item → List ℕ
 raised_text subrs glyphs items = flat_map (λ item. section_line (raised_item subrs glyphs item)) items
 
--- profile: whether a count that is raised has at most nine digits
+-- word: whether a count that is raised has at most nine digits
 abbrev pub is_raised_counted : ℕ → ℕ → Item → Bool
 is_raised_counted subrs glyphs item = is_counted (raised_item subrs glyphs item)
 
--- profile: F23 where a count that is raised has more than nine digits
+-- word: F23 where a count that is raised has more than nine digits
 abbrev pub raised_check : ℕ → ℕ → List Item → Result (Unit {0}) Fault
 raised_check subrs glyphs items = if list_all (is_raised_counted subrs glyphs) items then Ok tt else Err (fault_at Nowhere F23)

@@ -19,18 +19,18 @@ use Rattle.t1_charstrings.specs.Lines.{kept_line}
 use Rattle.t1_charstrings.specs.Raising.{raised_text}
 use Rattle.t1_charstrings.specs.Sums.{item_at, section_text}
 
--- profile: the charstrings before and after what is ready was put in its place
+-- word: the charstrings before and after what is ready was put in its place
 abbrev pub SettlesTo : ReadyCharstrings → Charstrings → Charstrings → Type 0
 SettlesTo (ready.Edited entries) old new =
     (k : Key) → kept_at new k ≡ option_or (kept_at entries.fresh k) (if is_gone entries.gone.items k then None else kept_at old k)
 SettlesTo (ready.All charstrings) old new = AreUnchanged charstrings new
 
--- profile: there is room for the charstrings that are to be put in
+-- word: there is room for the charstrings that are to be put in
 abbrev pub HasRoom : ReadyCharstrings → Charstrings → Type 0
 HasRoom (ready.Edited entries) c = (length entries.fresh.subrs.entries ≤ spare c.subrs) × (length entries.fresh.glyphs.entries ≤ spare c.glyphs)
 HasRoom (ready.All charstrings) c = Unit {0}
 
--- profile: put in its place, it makes of these charstrings those of the edited source, whose private text is so long
+-- word: put in its place, it makes of these charstrings those of the edited source, whose private text is so long
 pub record IsReadyLines (made : SourceParts) (c : Charstrings) (ready : ReadyLines) : Type 0 where
   pub room : HasRoom ready.charstrings c
   pub kept : (new : Charstrings) → SettlesTo ready.charstrings c new → AreEncrypted made new
@@ -38,25 +38,25 @@ pub record IsReadyLines (made : SourceParts) (c : Charstrings) (ready : ReadyLin
 
 -- ---- the length of the private text after one edit
 
--- profile: whether an item is a Subr or a glyph
+-- word: whether an item is a Subr or a glyph
 abbrev pub is_entry : Item → Bool
 is_entry (items.Subr n words closing) = true
 is_entry (items.Glyph g words closing) = true
 is_entry item = false
 
--- profile: how long the line of the item at a place is, up to 2^64 - 1
+-- word: how long the line of the item at a place is, up to 2^64 - 1
 abbrev pub old_len : Charstrings → SourceParts → ℕ → ℕ
 old_len c s at = min (length (kept_line c (operator s) (item_at s.items at))) (2 ^ 64 - 1)
 
--- profile: how long the line of an item is by fresh charstrings over the old ones, up to 2^64 - 1
+-- word: how long the line of an item is by fresh charstrings over the old ones, up to 2^64 - 1
 abbrev pub new_len : Charstrings → Charstrings → SourceParts → Item → ℕ
 new_len fresh c s item = min (length (line_by (over fresh c) (operator s) item)) (2 ^ 64 - 1)
 
--- profile: how long the private text is with an entry in the place of another: its line more, and the old one less
+-- word: how long the private text is with an entry in the place of another: its line more, and the old one less
 abbrev pub replaced_len : ℕ → Charstrings → Charstrings → SourceParts → ℕ → Item → ℕ
 replaced_len n fresh c s at item = min ((n - old_len c s at) + new_len fresh c s item) (2 ^ 64 - 1)
 
--- profile: how long the private text is with an entry put in: its line more, and raised section lines in the place of
+-- word: how long the private text is with an entry put in: its line more, and raised section lines in the place of
 -- the old ones
 abbrev pub inserted_len : ℕ → Charstrings → Charstrings → SourceParts → Item → ℕ → ℕ → ℕ
 inserted_len n fresh c s item subrs glyphs =

@@ -18,25 +18,25 @@ use Rattle.t1_charstrings.specs.Kept.{AreEncrypted}
 use Rattle.t1_font.specs.Lengths.{IsPrivateLen}
 use Rattle.t1_charstrings.specs.Lines.{kept_line, kept_text}
 
--- profile: whether an item is the entry of this key
+-- word: whether an item is the entry of this key
 abbrev pub has_key : Key → Item → Bool
 has_key (Subr n) item = is_subr n item
 has_key (Glyph g) item = is_glyph g item
 
--- profile: the item at a place
+-- word: the item at a place
 abbrev pub item_at : List Item → ℕ → Item
 item_at items at = slice_index_or items at (Plain [])
 
--- profile: the line of a section, and nothing of another item
+-- word: the line of a section, and nothing of another item
 abbrev pub section_line : Item → List ℕ
 section_line (Section before count after) = before ++ decimal count ++ after ++ line_feed ∷ []
 section_line _ = []
 
--- profile: the section lines
+-- word: the section lines
 abbrev pub section_text : List Item → List ℕ
 section_text items = flat_map section_line items
 
--- profile: the length with another entry in the place of that of the key: its line's length more, and that of the old
+-- word: the length with another entry in the place of that of the key: its line's length more, and that of the old
 -- line less
 abbrev pub PutLenLaw : Type 0
 PutLenLaw =
@@ -45,21 +45,21 @@ PutLenLaw =
     → length (kept_text new operator (slice_set s.items at item)) + length (kept_line old operator (item_at s.items at))
     ≡ length (kept_text old operator s.items) + length (kept_line new operator item)
 
--- profile: the length with an entry more, whose key no other has: its line's length more
+-- word: the length with an entry more, whose key no other has: its line's length more
 abbrev pub InsertLenLaw : Type 0
 InsertLenLaw =
     (s : SourceParts) (key : Key) (at : ℕ) (item : Item) → at ≤ length s.items → list_any (has_key key) s.items ≡ false
     → (old new : Charstrings) (entry : Option Kept) → Sets key entry old new → (operator : List ℕ)
     → length (kept_text new operator (insert s.items at item)) ≡ length (kept_text old operator s.items) + length (kept_line new operator item)
 
--- profile: the length without the entry of the key: that of its line less
+-- word: the length without the entry of the key: that of its line less
 abbrev pub RemoveLenLaw : Type 0
 RemoveLenLaw =
     (s : SourceParts) (key : Key) (at : ℕ) → IsWellFormed s → at < length s.items → has_key key (item_at s.items at) ≡ true
     → (old new : Charstrings) (entry : Option Kept) → Sets key entry old new → (operator : List ℕ)
     → length (kept_text new operator (remove s.items at)) + length (kept_line old operator (item_at s.items at)) ≡ length (kept_text old operator s.items)
 
--- profile: raised counts change the section lines alone
+-- word: raised counts change the section lines alone
 abbrev pub RaisedLenLaw : Type 0
 RaisedLenLaw =
     (items : List Item) (c : Charstrings) (operator : List ℕ)
@@ -67,7 +67,7 @@ RaisedLenLaw =
 
 -- ---- of a source that was edited
 
--- profile: the charstrings of a source and those of an edited one, which differ at one key
+-- word: the charstrings of a source and those of an edited one, which differ at one key
 pub record AreEdited (key : Key) (entry : Option Kept) (s made : SourceParts) (old new : Charstrings) : Type 0 where
   pub well : IsWellFormed s
   pub well_made : IsWellFormed made
@@ -75,7 +75,7 @@ pub record AreEdited (key : Key) (entry : Option Kept) (s made : SourceParts) (o
   pub kept_made : AreEncrypted made new
   pub sets : Sets key entry old new
 
--- profile: an entry of the key is put in its place: the new line's length more, and the old one's less
+-- word: an entry of the key is put in its place: the new line's length more, and the old one's less
 abbrev pub PutSumLaw : Type 0
 PutSumLaw =
     (key : Key) (entry : Option Kept) (s made : SourceParts) (old new : Charstrings) → AreEdited key entry s made old new
@@ -83,7 +83,7 @@ PutSumLaw =
     → (n m : ℕ) → IsPrivateLen s n → n < 2 ^ 64 - 1 → m + length (kept_line old (operator s) (item_at s.items at)) ≡ n + length (kept_line new (operator s) item)
     → IsPrivateLen made (min m (2 ^ 64 - 1))
 
--- profile: an entry whose key no other has is put in: its line's length more, and what the raised counts add
+-- word: an entry whose key no other has is put in: its line's length more, and what the raised counts add
 abbrev pub InsertSumLaw : Type 0
 InsertSumLaw =
     (key : Key) (entry : Option Kept) (s made : SourceParts) (old new : Charstrings) → AreEdited key entry s made old new
@@ -91,7 +91,7 @@ InsertSumLaw =
     → (n m : ℕ) → IsPrivateLen s n → n < 2 ^ 64 - 1 → m + length (section_text s.items) ≡ n + length (kept_line new (operator s) item) + length (section_text made.items)
     → IsPrivateLen made (min m (2 ^ 64 - 1))
 
--- profile: the entry of the key is taken out: its line's length less
+-- word: the entry of the key is taken out: its line's length less
 abbrev pub RemoveSumLaw : Type 0
 RemoveSumLaw =
     (key : Key) (entry : Option Kept) (s made : SourceParts) (old new : Charstrings) → AreEdited key entry s made old new

@@ -9,6 +9,8 @@
 //! ready what changes of the charstrings and of the length of the private text, or gives the first fault of the edited source,
 //! which is known by a prepared change or as the one that a batch [`Made`]; [`settle_lines`] puts it in its place, which can't
 //! fail. Where lenIV was edited all charstrings are encrypted anew; nothing of a source is copied.
+//!
+//! All of it is for the crates above.
 #![tactic(auto)]
 
 mod anew;

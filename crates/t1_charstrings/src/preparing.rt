@@ -1,9 +1,10 @@
 //! What edits make of the charstrings, before anything is changed.
-ghost use Rattle.std.specs.Prelude.{◌≡◌, Ok, Err, IfOk, MatchResult, false, true};
+ghost use Rattle.std.specs.Prelude.{◌≡◌, ℕ, Ok, Err, IfOk, MatchResult, false, true};
 ghost use Rattle.t1_frac.specs.Outcome.{Gives};
 ghost use Rattle.t1_source.specs.Editing.{with_clear};
 ghost use Rattle.t1_font.specs.Assembly.{file_check};
 ghost use Rattle.t1_font.specs.Lengths.{IsPrivateLen};
+ghost use Rattle.t1_charstrings.specs.declared.settling.ReadyCharstrings.TheVariants as ready;
 ghost use Rattle.t1_charstrings.specs.Batch.{AreEdits};
 ghost use Rattle.t1_charstrings.specs.Changed.{AreUnchanged};
 ghost use Rattle.t1_charstrings.specs.Made.{is_entry_changed, made_after, made_of, may_set_lead, source_of, IsPrepared, IsPreparedFor};
@@ -100,6 +101,7 @@ pub fn prepare_lines(
     ensures same { AreUnchanged charstrings.old charstrings.new }
     ensures judged { Gives (λ _. tt) result (file_check (made_of made.now)) }
     ensures ready { IfOk result (IsReadyLines (made_of made.now) charstrings.new) }
+    ensures edited { IfOk result (λ lines. may_set_lead made.now ≡ false → lines.charstrings ≡ ready.Edited entries) }
 {
     if made.may_set_lead() {
         return prepare_anew(alloc, made);

@@ -69,12 +69,12 @@ charstring commands = flat_map command_bytes commands
 abbrev pub charstring_of_words : List (List ℕ) → Result (List ℕ) Code
 charstring_of_words words = commands words >>= λ read. Ok (charstring read)
 
--- profile: code that is added after other code
+-- word: code that is added after other code
 abbrev pub onto : List ℕ → Result (List ℕ) Code → Result (List ℕ) Code
 onto front (Ok code) = Ok (front ++ code)
 onto front (Err fault) = Err fault
 
--- profile: the charstring of commands, added after other code
+-- word: the charstring of commands, added after other code
 abbrev pub charstring_onto : List ℕ → Result (List Command) Code → Result (List ℕ) Code
 charstring_onto front (Ok commands) = Ok (front ++ charstring commands)
 charstring_onto front (Err fault) = Err fault

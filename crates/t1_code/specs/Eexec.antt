@@ -11,12 +11,12 @@ abbrev pub formed : Form → List ℕ → List ℕ
 formed (Binary s) bytes = in_segments s bytes
 formed (Hexadecimal line) bytes = in_lines line.room bytes
 
--- profile: where a form goes on after these bytes
+-- word: where a form goes on after these bytes
 abbrev pub form_after : Form → List ℕ → Form
 form_after (Binary s) bytes = Binary (segmenting_after s bytes)
 form_after (Hexadecimal line) bytes = Hexadecimal (record { room = room_after line.room bytes })
 
--- profile: a form and the key that stands there
+-- word: a form and the key that stands there
 pub record EexecState : Type 0 where
   pub key : ℕ
   pub form : Form
@@ -25,6 +25,6 @@ pub record EexecState : Type 0 where
 abbrev pub enciphered : EexecState → List ℕ → List ℕ
 enciphered s plain = formed s.form (cipher s.key plain)
 
--- profile: the key and the form after a text
+-- word: the key and the form after a text
 abbrev pub state_after : EexecState → List ℕ → EexecState
 state_after s plain = record { key = key_after s.key (cipher s.key plain); form = form_after s.form (cipher s.key plain) }

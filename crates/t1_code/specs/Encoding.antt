@@ -163,7 +163,7 @@ standard_names =
 unfoldable pub standard_name : ℕ → Option (List ℕ)
 standard_name code = lookup (nat_eq code) standard_names
 
--- profile: the same in a table of the code
+-- word: the same in a table of the code
 abbrev pub named_in : List (ℕ × Bor (List ℕ)) → ℕ → Option (List ℕ)
 named_in table code = lookup (nat_eq code) (map (λ row. (row.0, row.1.now)) table)
 
@@ -171,6 +171,6 @@ named_in table code = lookup (nat_eq code) (map (λ row. (row.0, row.1.now)) tab
 unfoldable pub is_standard_name : List ℕ → Bool
 is_standard_name name = list_any (λ (row : ℕ × List ℕ). bytes_eq row.1 name) standard_names
 
--- profile: the same in a table of the code
+-- word: the same in a table of the code
 abbrev pub has_name : List (ℕ × Bor (List ℕ)) → List ℕ → Bool
 has_name table name = list_any (λ (row : ℕ × List ℕ). bytes_eq row.1 name) (map (λ row. (row.0, row.1.now)) table)

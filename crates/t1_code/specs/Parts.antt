@@ -20,16 +20,16 @@ abbrev pub piece_text : Piece → List ℕ
 piece_text (Plain bytes) = bytes.now
 piece_text (Entry head operator charstring closing) = entry_text head.now operator.now charstring.now closing.now
 
--- profile: the length that an entry's line says, and none for other bytes
+-- word: the length that an entry's line says, and none for other bytes
 abbrev pub charstring_length : Piece → ℕ
 charstring_length (Plain bytes) = 0
 charstring_length (Entry head operator charstring closing) = length charstring.now
 
--- profile: the bytes of slices, one after another
+-- word: the bytes of slices, one after another
 abbrev pub bytes_of : List (Bor (List ℕ)) → List ℕ
 bytes_of slices = flat_map (λ slice. slice.now) slices
 
--- profile: the private text of the parts: that of its pieces, one after another
+-- word: the private text of the parts: that of its pieces, one after another
 abbrev pub pieces_text : Parts → List ℕ
 pieces_text parts = flat_map piece_text parts.pieces.now
 
@@ -41,7 +41,7 @@ file_of size parts = pfb_of size parts.clear.now (pieces_text parts) parts.trail
 abbrev pub hexadecimal_file_of : Parts → Result (List ℕ) Fault
 hexadecimal_file_of parts = pfa_of parts.clear.now (pieces_text parts) parts.trailer.now
 
--- profile: how many bytes a file has, or why there is none
+-- word: how many bytes a file has, or why there is none
 abbrev pub length_of : Result (List ℕ) Fault → Result ℕ Fault
 length_of file = file >>= λ bytes. Ok (length bytes)
 
@@ -52,14 +52,14 @@ Prints contents old new text (Err out.Write) = (whole : List ℕ) × (text ≡ O
 Prints contents old new text (Err (out.Fault fault)) = (text ≡ Err fault) × (new ≡ old)
 Prints contents old new text (Err out.Memory) = new ≡ old
 
--- profile: a call that passes a file on by way of a chunk, and takes no memory: the whole file passed at Ok; a beginning went out and a call failed at Write; nothing at a fault, which is the file's own
+-- word: a call that passes a file on by way of a chunk, and takes no memory: the whole file passed at Ok; a beginning went out and a call failed at Write; nothing at a fault, which is the file's own
 abbrev pub PassesFile : {W T : Type 0} → (W → Option (List ℕ)) → Outlet W → Outlet W → Result (List ℕ) Fault → Result T OutError → Type 0
 PassesFile contents old new file (Ok done) = (whole : List ℕ) × (file ≡ Ok whole) × Passes contents old new whole
 PassesFile contents old new file (Err out.Write) = (whole : List ℕ) × (file ≡ Ok whole) × Stops contents old new whole
 PassesFile contents old new file (Err (out.Fault fault)) = (file ≡ Err fault) × (new ≡ old)
 PassesFile contents old new file (Err out.Memory) = ⊥
 
--- profile: a text whose parts couldn't be made isn't written, for the same reason
+-- word: a text whose parts couldn't be made isn't written, for the same reason
 abbrev pub not_written : Refusal → OutError
 not_written (refusals.Fault fault) = out.Fault fault
 not_written refusals.Memory = out.Memory

@@ -2,7 +2,7 @@
 use Rattle.std.specs.Prelude.{ℕ, ◌-◌, min, nat_eq, if◌then◌else◌, List, [], ◌∷◌, ◌++◌, fold}
 use Rattle.t1_code.specs.Pfb.{segment_head}
 
--- profile: a part that is cut into segments: their type and size, how many bytes the present one still takes, and how many are left of the part
+-- word: a part that is cut into segments: their type and size, how many bytes the present one still takes, and how many are left of the part
 pub record Segmenting : Type 0 where
   pub kind : ℕ
   pub size : ℕ
@@ -13,11 +13,11 @@ pub record Segmenting : Type 0 where
 abbrev pub head_due : Segmenting → List ℕ
 head_due s = if nat_eq s.room 0 then segment_head s.kind (min s.size s.left) else []
 
--- profile: the same, at the start of a segment where the present one is full
+-- word: the same, at the start of a segment where the present one is full
 abbrev pub opened : Segmenting → Segmenting
 opened s = if nat_eq s.room 0 then record { kind = s.kind; size = s.size; room = s.size; left = s.left } else s
 
--- profile: the same after so many bytes of the present segment
+-- word: the same after so many bytes of the present segment
 abbrev pub past : ℕ → Segmenting → Segmenting
 past count s = record { kind = s.kind; size = s.size; room = s.room - count; left = s.left - count }
 
@@ -26,6 +26,6 @@ abbrev pub in_segments : Segmenting → List ℕ → List ℕ
 in_segments s [] = []
 in_segments s (byte ∷ bytes) = head_due s ++ byte ∷ in_segments (past 1 (opened s)) bytes
 
--- profile: the same after these bytes
+-- word: the same after these bytes
 abbrev pub segmenting_after : Segmenting → List ℕ → Segmenting
 segmenting_after s bytes = fold (λ s byte. past 1 (opened s)) s bytes

@@ -21,7 +21,7 @@ fits_32_bits (negsuc n) = nat_lt n (2 ^ 31)
 abbrev pub in_32_bits : ℤ → Result ℤ Code
 in_32_bits n = if fits_32_bits n then Ok n else Err F21
 
--- profile, words: the bytes in front of the first blank
+-- word, words: the bytes in front of the first blank
 abbrev pub first_word : List ℕ → List ℕ
 first_word text = take (position_or_len is_blank text) text
 
@@ -63,15 +63,15 @@ operator_words =
 unfoldable pub operator_named : List ℕ → Option Command
 operator_named word = lookup (bytes_eq word) operator_words
 
--- profile: a word, which has no blank, names this command
+-- word: a word, which has no blank, names this command
 abbrev pub IsWordOf : Command → List ℕ → Type 0
 IsWordOf command word = (list_all (λ c. not (is_blank c)) word ≡ true) × (operator_named word ≡ Some command)
 
--- profile, words: the bytes past the first word and the blank that ends it
+-- word, words: the bytes past the first word and the blank that ends it
 abbrev pub past_first_word : List ℕ → List ℕ
 past_first_word text = drop 1 (drop (position_or_len is_blank text) text)
 
--- profile: what is found is the command that the first word names, where it names one, and the bytes past the word
+-- word: what is found is the command that the first word names, where it names one, and the bytes past the word
 abbrev pub FindsCommand : List ℕ → Option (Command × Bor (List ℕ)) → Type 0
 FindsCommand text found =
     MatchOption
@@ -104,7 +104,7 @@ abbrev pub commands_of_words : List (List ℕ) → Result (List Command) Code
 commands_of_words [] = Ok []
 commands_of_words (word ∷ words) = command_then (command_of_word word) (commands_of_words words)
 
--- profile: commands after others, or their fault
+-- word: commands after others, or their fault
 abbrev pub after_others : List Command → Result (List Command) Code → Result (List Command) Code
 after_others others (Ok commands) = Ok (others ++ commands)
 after_others others (Err code) = Err code

@@ -109,15 +109,6 @@ fn push_commands(code: &mut Vec<u8>, commands: &[Command]) -> Result<(), AllocEr
     Ok(())
 }
 
-/// The charstring of commands, not encrypted.
-pub fn charstring_of(alloc: Global, commands: &[Command]) -> Result<Vec<u8>, AllocError>
-    ensures { IfOk result (λ code. code.items ≡ charstring commands.now) }
-{
-    let mut code = Vec::new(alloc);
-    push_commands(&mut code, commands)?;
-    Ok(code)
-}
-
 /// The charstring of commands after its leading bytes, encrypted as a font's private text holds it.
 pub fn encrypted_charstring(
     alloc: Global,

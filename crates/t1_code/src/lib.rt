@@ -1,4 +1,9 @@
 //! Charstring code, its encryption, and the PFB and PFA files of an assembled font.
+//!
+//! For users: [`compile`], [`assemble`] and [`encrypt`], with [`Body`], [`Command`] and [`standard_name`]; [`Counted`], in
+//! which every reader and writer is lent, and [`OutError`]; [`Parts`] and [`Piece`] with [`write_pfb`], whole or in blocks
+//! ([`WHOLE_PARTS`]), and [`write_pfa`]. The rest is for the crates above: code added to what is there, the chunk before a
+//! writer, lengths of files, and both forms of a file as one ([`FileForm`]).
 #![tactic(auto)]
 
 mod assembly;
@@ -24,7 +29,7 @@ mod words;
 
 pub use assembly::{assemble, assemble_onto, encrypt_words};
 pub use body::Body;
-pub use charstring::{charstring_of, encrypted_charstring};
+pub use charstring::encrypted_charstring;
 pub use chunk::{Chunk, put_plain, put_slices};
 pub use cipher::encrypt;
 pub use command::Command;

@@ -73,7 +73,7 @@ place_text (Line n) = codes " line " ++ decimal n
 place_text (Subr n) = codes " subr " ++ decimal n
 place_text (Glyph name) = codes " glyph " ++ name
 
--- profile, answers: the number that stands in a place
+-- word, answers: the number that stands in a place
 abbrev pub place_number : Place → ℕ
 place_number Nowhere = 0
 place_number (Line n) = n
@@ -84,7 +84,7 @@ place_number (Glyph name) = 0
 unfoldable pub fault_text : Fault → List ℕ
 fault_text fault = code_name fault.code ++ place_text fault.place
 
--- profile, answers: the line that says how many bytes follow
+-- word, answers: the line that says how many bytes follow
 abbrev pub data_head : ℕ → List ℕ
 data_head len = codes "data " ++ decimal len ++ line_feed ∷ []
 
@@ -92,7 +92,7 @@ data_head len = codes "data " ++ decimal len ++ line_feed ∷ []
 abbrev pub data_text : List ℕ → List ℕ
 data_text bytes = codes "data " ++ decimal (length bytes) ++ line_feed ∷ bytes ++ line_feed ∷ []
 
--- profile, answers: a file as data
+-- word, answers: a file as data
 abbrev pub data_of : Result (List ℕ) Fault → Result (List ℕ) Fault
 data_of file = file >>= λ bytes. Ok (data_text bytes)
 

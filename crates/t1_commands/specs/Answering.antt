@@ -9,31 +9,31 @@ use Rattle.t1_commands.specs.declared.answer.Answer.{Answer}
 use Rattle.t1_commands.specs.declared.answer.Answer.TheVariants.{Accepted, Broken, Faulty}
 use Rattle.t1_commands.specs.AnswerTexts.{answer_text}
 
--- profile, answers: a call gave this answer, and memory didn't run out
+-- word, answers: a call gave this answer, and memory didn't run out
 abbrev pub Says : {E : Type 0} → Answer → Result Answer E → Type 0
 Says wanted (Ok answer) = answer ≡ wanted
 Says wanted (Err e) = ⊥
 
--- profile, answers: a call gave no answer, for want of memory
+-- word, answers: a call gave no answer, for want of memory
 abbrev pub WantsMemory : {E : Type 0} → Result Answer E → Type 0
 WantsMemory (Ok answer) = ⊥
 WantsMemory (Err e) = Unit {0}
 
--- profile, answers: what was performed is answered by ok, the rule or the fault
+-- word, answers: what was performed is answered by ok, the rule or the fault
 abbrev pub Answers : {T E : Type 0} → Result T Cause → Result Answer E → Type 0
 Answers (Ok done) result = Says Accepted result
 Answers (Err (causes.Rule rule)) result = Says (Broken rule) result
 Answers (Err (causes.Fault fault)) result = Says (Faulty fault) result
 Answers (Err causes.Memory) result = WantsMemory result
 
--- profile, answers: the text of an answer went out, or a failed write cut it short
+-- word, answers: the text of an answer went out, or a failed write cut it short
 abbrev pub SendsText : {W T : Type 0} → (W → Option (List ℕ)) → Tally W → Tally W → List ℕ → Result T OutError → Type 0
 SendsText contents before after text (Ok done) = WritesAll contents before after text
 SendsText contents before after text (Err out.Write) = WritesFront contents before after text
 SendsText contents before after text (Err (out.Fault fault)) = ⊥
 SendsText contents before after text (Err out.Memory) = ⊥
 
--- profile, answers: what was performed was answered; nothing was written where memory ran out
+-- word, answers: what was performed was answered; nothing was written where memory ran out
 abbrev pub Reports : {W T E : Type 0} → (W → Option (List ℕ)) → Tally W → Tally W → Result T Cause → Result E OutError → Type 0
 Reports contents before after (Ok done) result = SendsText contents before after (answer_text Accepted) result
 Reports contents before after (Err (causes.Rule rule)) result = SendsText contents before after (answer_text (Broken rule)) result

@@ -166,7 +166,7 @@ commands_of ended (Some o) (line ∷ lines) =
 abbrev pub input_commands : Bool → List ℕ → List Command
 input_commands ended input = commands_of ended None (finished_lines ended (unified input))
 
--- profile, session commands: whether a command is an edit, whose names and body are kept while it is performed
+-- word, session commands: whether a command is an edit, whose names and body are kept while it is performed
 abbrev pub is_edit : Command → Bool
 is_edit (commands.Edit edit) = true
 is_edit (commands.Print print) = false
@@ -175,7 +175,15 @@ is_edit commands.Commit = false
 is_edit commands.Abort = false
 is_edit (commands.Broken rule) = false
 
--- profile, session commands: a call makes this command, or wants memory for an edit
+-- word: whether a command holds bytes of its own
+abbrev pub holds_bytes : Command → Bool
+holds_bytes (commands.Edit (RemoveSubr n)) = false
+holds_bytes (commands.Edit (Unencode code)) = false
+holds_bytes (commands.Edit (LenIv n)) = false
+holds_bytes (commands.Edit edit) = true
+holds_bytes command = false
+
+-- word, session commands: a call makes this command, or wants memory for an edit
 abbrev pub Makes : {E : Type 0} → Result Command E → Command → Type 0
 Makes (Ok command) wanted = command ≡ wanted
-Makes (Err e) wanted = is_edit wanted ≡ true
+Makes (Err e) wanted = (is_edit wanted ≡ true) × (holds_bytes wanted ≡ true)

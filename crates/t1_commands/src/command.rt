@@ -245,7 +245,7 @@ fn bodied_edit(
 }
 
 /// The command of a line that takes a body, and its whole body.
-#[tactic(auto, unfolding(crate::specs::Commands::body_command))]
+#[tactic(auto, unfolding(crate::specs::Commands::body_command, crate::specs::Commands::bodied_edit))]
 pub fn body_command(alloc: Global, heading: &[u8], body: Bytes) -> Result<Command, AllocError>
     ensures { Makes result (body_command (words heading.now) body) }
 {

@@ -126,6 +126,15 @@ body_fault_reported source fault h =
     let known = fault_of (private_text (lead source) (operator source) source.items) fault (sym (checked_text (lead source) (operator source) source.items) ∙ h) in
     rw known refl
 
+-- the bodies are judged before the file
+pub bodies_first : (s : SourceParts) (r : Result (Unit {0}) Fault) → bodies_check s.items ≡ r → ◌≡◌ {A = Result (Unit {0}) Fault} (file_check s) (r >>= λ checked. file_check s)
+bodies_first s (Ok checked) e = refl
+bodies_first s (Err fault) e = body_fault_reported s fault e
+
+pub judged_in_turn : (a b f : Result (Unit {0}) Fault) → ◌≡◌ {A = Result (Unit {0}) Fault} ((a >>= λ first. b) >>= λ second. f) (a >>= λ first. b >>= λ second. f)
+judged_in_turn (Ok done) b f = refl
+judged_in_turn (Err fault) b f = refl
+
 -- parts that aren't too long have their file
 pub short_file : (source : SourceParts) (private : ℕ) → bodies_check source.items ≡ Ok tt
     → IfOk (private_text (lead source) (operator source) source.items) (λ text. length text ≤ private)

@@ -67,7 +67,7 @@ counts_check items = if list_all is_counted items then Ok tt else Err (fault_at 
 unfoldable pub file_check : SourceParts → Result (Unit {0}) Fault
 file_check source = length_check source >>= λ checked. counts_check source.items
 
--- profile: a text stands in front of what a definition gives
+-- word: a text stands in front of what a definition gives
 abbrev pub put_after : List ℕ → Result (List ℕ) Fault → Result (List ℕ) Fault
 put_after front (Ok rest) = Ok (front ++ rest)
 put_after front (Err fault) = Err fault

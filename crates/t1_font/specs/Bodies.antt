@@ -60,18 +60,18 @@ bodies_check (item ∷ items) = body_check item >>= λ _. bodies_check items
 
 -- ---- the maps of the code
 
--- profile: the body that is kept for a number
+-- word: the body that is kept for a number
 abbrev pub subr_kept : List (ℕ × List Command) → ℕ → Option (List Command)
 subr_kept entries n = lookup (nat_eq n) entries
 
--- profile: the body that is kept for a name
+-- word: the body that is kept for a name
 abbrev pub glyph_kept : {A : Type 0} → List (Vec ℕ A × List Command) → List ℕ → Option (List Command)
 glyph_kept entries g = lookup (λ key. bytes_eq g key.items) entries
 
--- profile: the bodies that both maps keep
+-- word: the bodies that both maps keep
 abbrev pub plain_bodies : Plain → FontBodies
 plain_bodies plain = font (subr_kept plain.subrs.entries) (glyph_kept plain.glyphs.entries)
 
--- profile: both fonts have the same body, or both none, at each key
+-- word: both fonts have the same body, or both none, at each key
 abbrev pub SameBodies : FontBodies → FontBodies → Type 0
 SameBodies m n = (key : Key) → SameAt m n key

@@ -26,10 +26,10 @@ outlines m (name ∷ names) =
 abbrev pub OutlinesLaw : Type 0
 OutlinesLaw = (m : FontBodies) (names : List (List ℕ)) → (glyphs m names >>= (λ gs. Ok (map (λ g. g.outline) gs))) ≡ outlines m names
 
--- profile: the first fault of the bodies of a source is the first over its Subrs, then over its glyphs
+-- profile: a file is judged by the first fault over the bodies of its Subrs, then over those of its glyphs, and then by itself
 abbrev pub SubrsFirstLaw : Type 0
 SubrsFirstLaw = (s : SourceParts) → IsWellFormed s
-    → bodies_check s.items ≡ (bodies_check (filter is_subr_entry s.items) >>= (λ checked. bodies_check (filter is_glyph_entry s.items)))
+    → file_check s ≡ (bodies_check (filter is_subr_entry s.items) >>= λ subrs. bodies_check (filter is_glyph_entry s.items) >>= λ glyphs. file_check s)
 
 -- profile: a source whose file has no fault is read from its text as it was
 abbrev pub ReadsBackLaw : Type 0

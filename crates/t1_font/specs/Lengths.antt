@@ -8,10 +8,10 @@ use Rattle.t1_parts.specs.Operator.{operator}
 use Rattle.t1_parts.specs.SourceParts.{SourceParts}
 use Rattle.t1_font.specs.Assembly.{private_text}
 
--- profile: no body of the source has a fault, and its private text is so long, or longer than 2^64 - 1
+-- word: no body of the source has a fault, and its private text is so long, or longer than 2^64 - 1
 abbrev pub IsPrivateLen : SourceParts → ℕ → Type 0
 IsPrivateLen s len = (text : List ℕ) × (private_text (lead s) (operator s) s.items ≡ Ok text) × (len ≡ min (length text) (2 ^ 64 - 1))
 
--- profile: how long the private text of the items is, or 2^64 - 1 where it is longer; or the first fault of their bodies
+-- word: how long the private text of the items is, or 2^64 - 1 where it is longer; or the first fault of their bodies
 abbrev pub private_length : ℕ → List ℕ → List Item → Result ℕ Fault
 private_length lead operator items = private_text lead operator items >>= λ text. Ok (min (length text) (2 ^ 64 - 1))

@@ -22,18 +22,18 @@ glyph_metrics g = record {
   bbox = drawn_box g.outline;
 }
 
--- profile: what is reported of a glyph, by what its run draws and its box
+-- word: what is reported of a glyph, by what its run draws and its box
 abbrev pub glyph_metrics_by : List ℕ → Drawing → Option BBox → Result GlyphMetrics Code
 glyph_metrics_by name drawing box =
     placed_parts_of drawing.bearing drawing.composite >>= (λ parts.
     Ok (record { name = name; width = drawing.width; entered = drawing.entered; parts = parts; bbox = box }))
 
--- profile: what is reported of a glyph, by runs that are kept
+-- word: what is reported of a glyph, by runs that are kept
 unfoldable pub glyph_metrics_at : (List ℕ → Option (Result Drawing Code)) → List ℕ → Result GlyphMetrics Code
 glyph_metrics_at run name =
     glyph_of name (run name) (outline_within run 4 name) >>= (λ glyph. Ok (glyph_metrics glyph))
 
--- profile: what is reported of these glyphs, by runs that are kept
+-- word: what is reported of these glyphs, by runs that are kept
 unfoldable pub glyph_metrics_among : (List ℕ → Option (Result Drawing Code)) → List (List ℕ) → Result (List GlyphMetrics) Fault
 glyph_metrics_among run names =
     glyphs_by run (outline_within run 4) names >>= (λ glyphs. Ok (map glyph_metrics glyphs))

@@ -7,18 +7,18 @@ use Rattle.std.specs.Str.{bytes_eq}
 use Rattle.t1_font.specs.declared.glyph_metrics.GlyphMetrics.{GlyphMetrics}
 use Rattle.t1_font.specs.Metrics.{has_glyph}
 
--- profile: whether a name is among those kept
+-- word: whether a name is among those kept
 abbrev pub has_name : List (Bor (List ℕ)) → List ℕ → Bool
 has_name names g = list_any (λ key. bytes_eq g key.now) names
 
--- profile: the names are those of the glyphs
+-- word: the names are those of the glyphs
 abbrev pub HasNames : List (Bor (List ℕ)) → List GlyphMetrics → Type 0
 HasNames names metrics = (g : List ℕ) → has_name names g ≡ has_glyph metrics g
 
--- profile: the code that is kept for a name
+-- word: the code that is kept for a name
 abbrev pub code_kept : List (Bor (List ℕ) × ℕ) → List ℕ → Option ℕ
 code_kept entries g = lookup (λ key. bytes_eq g key.now) entries
 
--- profile: the code of a glyph; none for .notdef
+-- word: the code of a glyph; none for .notdef
 abbrev pub code_among : List (Bor (List ℕ) × ℕ) → List ℕ → Option ℕ
 code_among entries g = if bytes_eq g (codes ".notdef") then None else code_kept entries g

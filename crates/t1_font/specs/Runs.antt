@@ -9,34 +9,34 @@ use Rattle.t1_frac.specs.declared.fault.Refusal.TheVariants as refusals
 use Rattle.t1_run.specs.Run.{FontBodies, Drawing, own}
 use Rattle.t1_extent.specs.Kept.{TracedRun, traces}
 
--- profile: what is kept of a run: what it draws, or its first fault
+-- word: what is kept of a run: what it draws, or its first fault
 abbrev pub drawing_kept : Result TracedRun Code → Result Drawing Code
 drawing_kept (Ok run) = Ok run.drawing
 drawing_kept (Err code) = Err code
 
--- profile: a glyph's name, and its run with its number among the runs, or its first fault
+-- word: a glyph's name, and its run with its number among the runs, or its first fault
 abbrev pub Kept : Type 0
 Kept = List ℕ × Result TracedRun Code
 
--- profile: the run of the glyph of this name
+-- word: the run of the glyph of this name
 abbrev pub run_kept : List Kept → List ℕ → Option (Result TracedRun Code)
 run_kept runs name = lookup (bytes_eq name) runs
 
--- profile: what is kept of the glyph of this name: what it draws, or its first fault
+-- word: what is kept of the glyph of this name: what it draws, or its first fault
 abbrev pub kept_of : List Kept → List ℕ → Option (Result Drawing Code)
 kept_of runs name = option_map drawing_kept (run_kept runs name)
 
--- profile: the run of the glyph of this name keeps its trace, unless the glyph can't be a part
+-- word: the run of the glyph of this name keeps its trace, unless the glyph can't be a part
 abbrev pub IsTracedAs : List ℕ → Option (Result TracedRun Code) → Type 0
 IsTracedAs name None = Unit {0}
 IsTracedAs name (Some (Err code)) = Unit {0}
 IsTracedAs name (Some (Ok run)) = traces name run ≡ true
 
--- profile: so does each run
+-- word: so does each run
 abbrev pub AreTraced : List Kept → Type 0
 AreTraced runs = (g : List ℕ) → IsTracedAs g (run_kept runs g)
 
--- profile: what the own bodies of these glyphs draw, or their first faults
+-- word: what the own bodies of these glyphs draw, or their first faults
 abbrev pub own_among : FontBodies → List (List ℕ) → List ℕ → Option (Result Drawing Code)
 own_among m names g = if list_any (bytes_eq g) names then own m g else None
 
@@ -45,17 +45,17 @@ abbrev pub counted : ℕ → ℕ → ℕ
 counted count zero = count
 counted count (suc runs) = min (counted count runs + 1) (2 ^ 64 - 1)
 
--- profile: at most so many runs were counted
+-- word: at most so many runs were counted
 abbrev pub CountsSome : ℕ → ℕ → ℕ → Type 0
 CountsSome runs old new = (made : ℕ) × (made ≤ runs) × (new ≡ counted old made)
 
--- profile: a call counted so many runs, each once, also where it answers a fault; where memory ran out it counted some of them
+-- word: a call counted so many runs, each once, also where it answers a fault; where memory ran out it counted some of them
 abbrev pub Counts : {T : Type 0} → ℕ → ℕ → ℕ → Result T Refusal → Type 0
 Counts runs old new (Ok done) = new ≡ counted old runs
 Counts runs old new (Err (refusals.Fault fault)) = new ≡ counted old runs
 Counts runs old new (Err refusals.Memory) = CountsSome runs old new
 
--- profile: a run's number is after this count, or the last number that there is
+-- word: a run's number is after this count, or the last number that there is
 abbrev pub IsAfter : ℕ → Option (Result TracedRun Code) → Type 0
 IsAfter count None = Unit {0}
 IsAfter count (Some (Err code)) = Unit {0}

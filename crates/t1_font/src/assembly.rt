@@ -3,13 +3,12 @@ ghost use Rattle.std.specs.Prelude.{◌≡◌, ◌≤◌, ◌-◌, ◌^◌, IfOk
 ghost use Rattle.t1_text.specs.Lines.{joined};
 ghost use Rattle.t1_code.specs.Parts.{Prints};
 ghost use Rattle.t1_font.specs.Assembly.{file_in, source_file, source_pfa, trailer_text};
-ghost use Rattle.t1_frac.specs.Outcome.{Gives};
 
 use crate::private::private_text_of;
 use std::alloc::{AllocError, Global};
 use std::io::Write;
 use t1_code::{Counted, FileForm, OutError, Parts, Pfa, Pfb, Piece, write_file};
-use t1_frac::{Bytes, Refusal};
+use t1_frac::Bytes;
 use t1_parts::push_lines;
 use t1_source::Source;
 
@@ -103,35 +102,4 @@ pub fn write_source_pfa<W: Write>(
     ensures { Prints W.contents out.old out.new (source_pfa source.now) result }
 {
     write_source(alloc, source, &Pfa, out)
-}
-
-/// The file of a source in a form, or the first fault of its bodies, or F23.
-fn file_of_source<F: FileForm>(alloc: Global, source: &Source, form: &F) -> Result<Vec<u8>, Refusal>
-    ensures { Gives (λ file. file.items) result (file_in (F.file form.now) source.now) }
-{
-    let mut out = Counted::new(Vec::new(alloc));
-    match write_source(alloc, source, form, &mut out) {
-        Ok(()) => Ok(out.into_inner()),
-        Err(OutError::Fault(fault)) => Err(Refusal::Fault(fault)),
-        // A vector fails to take bytes only where it can't grow.
-        Err(_) => Err(Refusal::Memory),
-    }
-}
-
-/// The PFB file of a source in segments of so many bytes, or the first fault of its bodies, or F23.
-#[tactic(auto, unfolding(crate::specs::Assembly::source_file))]
-pub fn pfb_of_source(alloc: Global, source: &Source, size: usize) -> Result<Vec<u8>, Refusal>
-    requires some { 1 ≤ size }
-    requires short { size ≤ 2 ^ 31 - 1 }
-    ensures { Gives (λ file. file.items) result (source_file size source.now) }
-{
-    file_of_source(alloc, source, &Pfb::in_blocks(size))
-}
-
-/// The PFA file of a source, or the first fault of its bodies, or F23.
-#[tactic(auto, unfolding(crate::specs::Assembly::source_pfa))]
-pub fn pfa_of_source(alloc: Global, source: &Source) -> Result<Vec<u8>, Refusal>
-    ensures { Gives (λ file. file.items) result (source_pfa source.now) }
-{
-    file_of_source(alloc, source, &Pfa)
 }

@@ -13,7 +13,7 @@ ghost use Rattle.t1_font.specs.Bodies.{words_check};
 ghost use Rattle.t1_font.specs.InTurn.{source_font, stays, IsRow};
 ghost use Rattle.t1_font.specs.MeasuredGlyphs.{glyph_metrics_by};
 ghost use Rattle.t1_font.specs.ToRun.{commands_or_none, glyph_to_run};
-ghost use Rattle.t1_font.specs.Runs.{drawing_kept, kept_of, run_kept, IsTracedAs};
+ghost use Rattle.t1_font.specs.Runs.{counted, drawing_kept, kept_of, run_kept, IsTracedAs};
 
 use crate::glyph_metrics::GlyphMetrics;
 use crate::numbers::SubrNumbers;
@@ -155,6 +155,7 @@ pub(crate) fn glyph_turn<'a>(
     scratch: &mut Scratch,
 ) -> Result<Row<'a>, Refusal>
     requires { glyph_to_run source.now.items.now name.now ≡ Some (commands_or_none (commands words.now)) }
+    ensures counted { OnOk result (scratch.new.meter ≡ counted scratch.old.meter 1) }
     ensures checked { Gives (λ _. tt) result (words_check (places.Glyph name.now) words.now) }
     ensures row { (run : List ℕ → Option (Result Drawing CodeOf)) → run name.now ≡ own (source_font source.now) name.now → IfOk result (IsRow run name.now) }
     ensures kept { (run : List ℕ → Option (Result Drawing CodeOf)) → run name.now ≡ own (source_font source.now) name.now → OnOk result ((g : List ℕ) → kept_of runs.new g ≡ (if bytes_eq g name.now && stays name.now (run name.now) then run name.now else kept_of runs.old g)) }

@@ -12,7 +12,7 @@ pub fn outlines()
     ensures { OutlinesLaw }
 {}
 
-/// The first fault of the bodies of a source, item by item, is the first over its Subrs, then over its glyphs.
+/// The first fault of a source's file is the first over the bodies of its Subrs, then over those of its glyphs, then F23.
 pub fn subrs_are_judged_first()
     ensures { SubrsFirstLaw }
 {

@@ -5,6 +5,8 @@
 //! [`measured_glyphs`] compiles, runs and measures the glyphs one after another, and [`metrics`] is what the AFM file of a source
 //! and its pairs says. [`runs_of`] and [`glyph_metrics_of`] run and measure glyphs whose bodies are stored. [`write_source_pfb`]
 //! and [`write_source_afm`] write the files, whose plain parts are [`clear_text`] and [`trailer`].
+//!
+//! All of it is for the crates above. Users take the same from `t1_session`, whose calls read the source too.
 #![tactic(auto)]
 
 mod afm_file;
@@ -32,9 +34,7 @@ mod turns;
 mod usage;
 
 pub use afm_file::{afm_of_source, write_source_afm};
-pub use assembly::{
-    clear_text, pfa_of_source, pfb_of_source, trailer, write_source_pfa, write_source_pfb,
-};
+pub use assembly::{clear_text, trailer, write_source_pfa, write_source_pfb};
 pub use bodies::{compiled, compiled_glyph, compiled_subr};
 pub use font_metrics::metrics;
 pub use glyph_metrics::{GlyphMetrics, PlacedParts, glyph_metrics_of, metrics_of_run};

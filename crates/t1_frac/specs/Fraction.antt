@@ -20,7 +20,7 @@ gcd_within (suc k) a (suc b) = gcd_within k (suc b) (a % suc b)
 unfoldable pub gcd : ℕ → ℕ → ℕ
 gcd a b = gcd_within (b + 1) a b
 
--- profile, fractions: one of the first primes
+-- word, fractions: one of the first primes
 abbrev pub IsSmallPrime : ℕ → Type 0
 IsSmallPrime n = (n ≡ 2) ⊎ (n ≡ 3) ⊎ (n ≡ 5) ⊎ (n ≡ 7)
 

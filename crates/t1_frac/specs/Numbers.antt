@@ -25,15 +25,15 @@ signed minus size = if minus then neg_ℤ (pos size) else pos size
 abbrev pub number_written : List ℕ → ℤ
 number_written word = signed (starts_with_minus word) (decimal_value (digits_of_word word))
 
--- profile, numbers: a number that fits 64 bits, or 2^63 - 1 for one that doesn't
+-- profile, numbers: whether a number fits 64 bits
 abbrev pub fits_64_bits : ℤ → Bool
 fits_64_bits (pos n) = nat_lt n (2 ^ 63)
 fits_64_bits (negsuc n) = nat_lt n (2 ^ 63)
 
--- profile, numbers: the number, capped so
+-- profile, numbers: the number, or 2^63 - 1 for one that doesn't fit 64 bits
 abbrev pub capped : ℤ → ℤ
 capped n = if fits_64_bits n then n else pos (2 ^ 63 - 1)
 
--- profile, numbers: the number of a number word, as far as it fits 64 bits
+-- profile, numbers: the number of a number word, capped so
 unfoldable pub number_word : List ℕ → Option ℤ
 number_word word = if is_number_word word then Some (capped (number_written word)) else None

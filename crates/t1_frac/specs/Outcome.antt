@@ -11,11 +11,11 @@ use Rattle.t1_frac.specs.declared.fault.Refusal.TheVariants as refusals
 abbrev pub fault_at : Place → Code → Fault
 fault_at place code = record { code = code; place = place }
 
--- profile, faults: the refusal by a code that knows no place
+-- word, faults: the refusal by a code that knows no place
 abbrev pub refusal : Code → Refusal
 refusal code = refusals.Fault (fault_at Nowhere code)
 
--- profile, faults: the refusal, with its fault reported at this place
+-- word, faults: the refusal, with its fault reported at this place
 abbrev pub placed : Place → Refusal → Refusal
 placed place (refusals.Fault fault) = refusals.Fault (fault_at place fault.code)
 placed place refusals.Memory = refusals.Memory

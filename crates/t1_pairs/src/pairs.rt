@@ -271,7 +271,7 @@ fn copied_pairs(alloc: Global, pairs: &[Pair]) -> Result<Vec<Pair>, AllocError>
 }
 
 impl Pairs {
-    /// The allocator of the call that made them.
+    /// The allocator of the call that made them, for what `t1_source` puts in.
     pub fn alloc(&self) -> Global {
         self.alloc
     }

@@ -70,7 +70,7 @@ abbrev pub is_glyph : List ℕ → Item → Bool
 is_glyph g (Glyph h ws closing) = bytes_eq g h
 is_glyph g _ = false
 
--- profile, entries: the name of an item that is a glyph
+-- word, entries: the name of an item that is a glyph
 abbrev pub glyph_name : Item → Option (List ℕ)
 glyph_name (Glyph g ws closing) = Some g
 glyph_name _ = None

@@ -6,11 +6,11 @@ use Rattle.t1_parts.specs.declared.piece.Piece.{Piece}
 use Rattle.t1_parts.specs.declared.piece.Piece.TheVariants.{Commented, Closed, Open}
 use Rattle.t1_parts.specs.Entries.{body_of, with_front}
 
--- profile: the lines of the second bytes are those of the first after so many
+-- word: the lines of the second bytes are those of the first after so many
 abbrev pub IsAfter : ℕ → List ℕ → List ℕ → Type 0
 IsAfter n bytes after = (n ≤ length (lines bytes)) × (lines after ≡ drop n (lines bytes))
 
--- profile, entries: the body at the front of some bytes has this piece in front: whole lines and a comment, or all of it;
+-- word, entries: the body at the front of some bytes has this piece in front: whole lines and a comment, or all of it;
 -- or it isn't ended
 abbrev pub IsPiece : List ℕ → Piece → Type 0
 IsPiece bytes (Commented front after) =

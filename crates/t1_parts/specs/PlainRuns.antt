@@ -10,23 +10,23 @@ use Rattle.t1_parts.specs.Numbered.{numbered, try_fold}
 use Rattle.t1_parts.specs.Private.{item_at, read_on}
 use Rattle.t1_parts.specs.Sections.{is_subrs_line, is_glyphs_line}
 
--- profile, private part: the earlier items and those of these lines, of which the first has number n and belongs to none of
+-- word, private part: the earlier items and those of these lines, of which the first has number n and belongs to none of
 -- the earlier items
 abbrev pub read_from : List NumberedItem → ℕ → List (List ℕ) → Result (List NumberedItem) Fault
 read_from earlier n ls = try_fold read_on (record { items = earlier; next = n }) (numbered n ls) >>= λ read. Ok read.items
 
--- profile, entries: whether a line opens an entry, where a Subrs line or a CharStrings line came before
+-- word, entries: whether a line opens an entry, where a Subrs line or a CharStrings line came before
 abbrev pub opens_entry : Bool → Bool → List ℕ → Bool
 opens_entry subrs glyphs l =
     if glyphs then is_some (opens_glyph (tokens l)) else if subrs then is_some (opens_subr (tokens l)) else false
 
--- profile, private part: a line is a plain one, where such section lines came before, and says nothing of lenIV
+-- word, private part: a line is a plain one, where such section lines came before, and says nothing of lenIV
 abbrev pub IsAmong : Bool → Bool → List ℕ → Type 0
 IsAmong subrs glyphs l =
     (line_says l ≡ false)
     × ((earlier : List NumberedItem) (ls : List (List ℕ)) → has is_subrs_line earlier ≡ subrs → has is_glyphs_line earlier ≡ glyphs → item_at earlier l ls ≡ Ok (Plain l, 0))
 
--- profile, private part: so is each of the lines
+-- word, private part: so is each of the lines
 abbrev pub AreAmong : Bool → Bool → List (List ℕ) → Type 0
 AreAmong subrs glyphs [] = Unit {0}
 AreAmong subrs glyphs (l ∷ ls) = IsAmong subrs glyphs l × AreAmong subrs glyphs ls

@@ -1,4 +1,5 @@
-//! The printed form of a source.
+//! The printed form of a source. Where memory runs out, the contracts say nothing of the text, of which a part may have been
+//! added: whoever made it drops it.
 
 ghost use Rattle.std.specs.Prelude.{◌≡◌, ◌∷◌, [], ◌++◌, if◌then◌else◌, OnOk, map, decimal, codes, flat_map};
 ghost use Rattle.t1_frac.specs.Ascii.{line_feed, space, tab};

@@ -12,7 +12,7 @@ use Rattle.t1_source.specs.Editing.{with_items, with_clear}
 use Rattle.t1_pairs.specs.Kerning.{are_pairs}
 use Rattle.t1_source.specs.WellFormed.{IsWellFormed}
 
--- profile, edits: the source and the pairs after a change
+-- word, edits: the source and the pairs after a change
 abbrev pub changed : Change → SourceParts → List Pair → SourceParts × List Pair
 changed (PutItem at item) s k = (with_items s (slice_set s.items at item), k)
 changed (InsertItem at item) s k = (with_items s (insert s.items at item), k)
@@ -22,14 +22,14 @@ changed (PutPair at pair) s k = (s, slice_set k at pair)
 changed (InsertPair at pair) s k = (s, insert k at pair)
 changed (RemovePair at) s k = (s, remove k at)
 
--- profile, edits: both are plain lines, the Subr of one number, or the glyph of one name
+-- word, edits: both are plain lines, the Subr of one number, or the glyph of one name
 abbrev pub IsInPlaceOf : Item → Item → Type 0
 IsInPlaceOf (Plain l) (Plain m) = Unit {0}
 IsInPlaceOf (Subr m ws c) (Subr n vs d) = m ≡ n
 IsInPlaceOf (Glyph g ws c) (Glyph h vs d) = g ≡ h
 IsInPlaceOf _ _ = ⊥
 
--- profile, edits: the place is one of the source or of the pairs; an item comes in the place of one of its kind and key; and what
+-- word, edits: the place is one of the source or of the pairs; an item comes in the place of one of its kind and key; and what
 -- is replaced or taken out is no plain line but one that says lenIV
 abbrev pub Fits : Change → SourceParts → List Pair → Type 0
 Fits (PutItem at item) s k = (at < length s.items) × StandsAloneAt s.items at × IsInPlaceOf (slice_index_or s.items at (Plain [])) item
@@ -40,14 +40,14 @@ Fits (PutPair at pair) s k = at < length k
 Fits (InsertPair at pair) s k = at ≤ length k
 Fits (RemovePair at) s k = at < length k
 
--- profile, edits: the change can be made of this source and these pairs, and leaves what is true of all that were read
+-- word, edits: the change can be made of this source and these pairs, and leaves what is true of all that were read
 -- or edited
 pub record Serves (change : Change) (s : SourceParts) (k : List Pair) : Type 0 where
   pub fits : Fits change s k
   pub source : IsWellFormed (changed change s k).0
   pub pairs : are_pairs (changed change s k).1 ≡ true
 
--- profile, edits: whether the change takes room: where an item or a pair is put in
+-- word, edits: whether the change takes room: where an item or a pair is put in
 abbrev pub takes_room : Change → Bool
 takes_room (InsertItem at item) = true
 takes_room (InsertPair at pair) = true

@@ -247,13 +247,13 @@ edited s k (LenIv n) = beside_pairs k (lead_edited s n)
 edited s k (Kern left right v) = beside_source s (kerned k left right v)
 edited s k (Unkern left right) = beside_source s (unkerned k left right)
 
--- profile, edits: a cause is the rule that the definition gives, or want of memory
+-- word, edits: a cause is the rule that the definition gives, or want of memory
 abbrev pub Reports : {Y : Type 0} → Cause → Result Y Rule → Type 0
 Reports causes.Memory given = Unit {0}
 Reports (causes.Rule rule) given = given ≡ Err rule
 Reports (causes.Fault fault) given = ⊥
 
--- profile, edits: an edit answers what a definition gives: its value, as the view sees it, or its rule, unless memory
+-- word, edits: an edit answers what a definition gives: its value, as the view sees it, or its rule, unless memory
 -- ran out
 abbrev pub Edits : {X Y : Type 0} → (X → Y) → Result X Cause → Result Y Rule → Type 0
 Edits view (Ok x) given = given ≡ Ok (view x)

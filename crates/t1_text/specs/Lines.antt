@@ -28,11 +28,11 @@ split_lines (c ∷ rest) = if c == line_feed then [] ∷ split_lines rest else o
 abbrev pub lines : List ℕ → List (List ℕ)
 lines bytes = split_lines (unified bytes)
 
--- profile, lines: how many line ends a text has
+-- word, lines: how many line ends a text has
 abbrev pub line_ends : List ℕ → ℕ
 line_ends bytes = length (filter (λ c. c == line_feed) (unified bytes))
 
--- profile, lines: the bytes after a line end, of which CR LF is one
+-- word, lines: the bytes after a line end, of which CR LF is one
 abbrev pub after_end : List ℕ → List ℕ
 after_end [] = []
 after_end (c ∷ rest) = if c == carriage_return && begins_with line_feed rest then drop 1 rest else rest

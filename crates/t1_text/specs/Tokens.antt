@@ -45,7 +45,7 @@ places_from i (c ∷ rest) =
 abbrev pub tokens : List ℕ → List (List ℕ)
 tokens l = map (λ t. t.1) (places_from 0 l)
 
--- profile, tokens: how many bytes the token takes that begins the list
+-- word, tokens: how many bytes the token takes that begins the list
 abbrev pub token_len : List ℕ → ℕ
 token_len [] = 0
 token_len (c ∷ rest) = if is_bracket c then 1 else 1 + prefix_len is_regular rest

@@ -1,4 +1,6 @@
 //! The text of a readable source: its lines, the tokens of a line, names and decimal numbers.
+//!
+//! All of it is for the crates above, which read sources and kerning files by it.
 #![tactic(auto)]
 
 mod lines;
