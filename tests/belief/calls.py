@@ -1,0 +1,59 @@
+"""Which functions the program reaches, by the names in its bodies."""
+
+import re
+
+CALL = re.compile(r"(?<![\w.])((?:\w+(?:::<[^()]*?>)?::)*)(\w+)\b(?!!)")
+METHOD = re.compile(r"\.(?:await\.)?(\w+)\s*(?:::<[^()]*?>)?\(")
+
+
+class Calls:
+    """The functions of some crates, and those that each may call. A method is taken to be called wherever its name is."""
+
+    def __init__(self, sources, roots):
+        self.sources, self.roots = sources, roots
+        self.functions = [function for source in sources.values() for function in source.functions]
+        self.methods, self.owned, self.free = {}, {}, {}
+        for function in self.functions:
+            if function.owner:
+                self.methods.setdefault(function.name, []).append(function)
+                self.owned.setdefault((function.owner, function.name), []).append(function)
+            else:
+                self.free.setdefault((function.source.crate, function.name), []).append(function)
+
+    def reached(self):
+        """All functions that `main` reaches; methods of traits of other libraries are called by what isn't read here."""
+        starts = [f for f in self.functions if f.name == "main" and f.source.module == "main"]
+        starts += [f for f in self.functions if f.trait and (f.trait, f.name) not in self.owned]
+        met, open_functions = set(starts), list(starts)
+        while open_functions:
+            for other in self.called(open_functions.pop()):
+                if other not in met:
+                    met.add(other)
+                    open_functions.append(other)
+        return met
+
+    def called(self, function):
+        body, source = function.body, function.source
+        for name in set(METHOD.findall(body)):
+            yield from self.methods.get(name, [])
+        for path, name in set(CALL.findall(body)):
+            front = [part for part in re.sub(r"<.*?>", "", path).split("::") if part]
+            yield from self.named(source, function.owner, front, name)
+
+    def named(self, source, owner, front, name):
+        """The functions that a path in a body may name."""
+        if front:
+            last = owner if front[-1] == "Self" else front[-1]
+            if (last, name) in self.owned:
+                return self.owned[last, name]
+            return self.free_in(source.uses.get(front[0], front[0]).split("::")[0], source, name)
+        if name in source.uses:
+            path = source.uses[name].split("::")
+            return self.free_in(path[0], source, path[-1])
+        return [f for f in self.free.get((source.crate, name), []) if f.source is source]
+
+    def free_in(self, crate, source, name):
+        """The functions of a name in a crate, which may pass on that of another; in a file's own one, where it is none."""
+        if crate not in self.roots:
+            return self.free.get((source.crate, name), [])
+        return self.free.get((crate, name)) or [f for f in self.functions if f.name == name and not f.owner]
