@@ -7,7 +7,6 @@ Each BODY is given to the glyph in turn. What is refused is reported, and change
 the AFM file that are new are shown.
 """
 
-import os
 import sys
 
 from client import Refused, Session, Stopped
@@ -19,7 +18,7 @@ def metrics(font):
 
 
 def main(source, glyph, *bodies):
-    with Session(source, program=os.environ.get("T1EDIT", "t1edit")) as font:
+    with Session(source) as font:
         before = metrics(font)
         for body in bodies:
             print(f"{glyph}: {body}")
