@@ -1,5 +1,5 @@
 -- A sum of coordinates is within their limits.
-use Rattle.std.proofs.Common.{◌≡◌, ◌<◌, ◌^◌, ◌+ℤ◌, ℤ, arith, sym, ◌∙◌, ap, mul-pos, to_z, of_z, w64}
+use Rattle.std.proofs.Common.{◌≡◌, ℕ, ◌*◌, ◌<◌, ◌≤◌, ◌^◌, ◌+ℤ◌, ℤ, Ok, arith, rules, sym, ◌∙◌, ap, mul-pos, to_z, of_z, w64}
 use Rattle.std.proofs.lemmas.Int.{ints}
 use Rattle.std.specs.Prelude.{IfOk}
 use Rattle.std.specs.Int.RustNames.{unsigned_abs}
@@ -9,6 +9,10 @@ use Rattle.t1_frac.specs.declared.fault.Code.{Code}
 use Rattle.t1_frac.specs.declared.fault.Code.TheVariants.{F40}
 use Rattle.t1_frac.proofs.Divisors.{quotient_above}
 use Rattle.t1_frac.proofs.Sums.{sum_whole}
+
+-- what is no larger and no finer
+pub within_ok : (fault : Code) (limit : ℕ) (a : Fraction) → unsigned_abs a.num ≤ limit * a.den → a.den ≤ 2 ^ 20 → Ok a ≡ within fault limit a
+within_ok fault limit a p q = search rules
 
 pub within_is : (fault : Code) (a : Fraction) → 0 < a.den → IfOk (within fault (2 ^ 20) a) IsCoordinate
 within_is fault a above = grind arith

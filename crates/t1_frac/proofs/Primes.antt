@@ -1,10 +1,11 @@
 -- What is less than a prime has no divisor in common with it.
-use Rattle.std.proofs.Common.{◌≡◌, ℕ, zero, suc, ◌%◌, ◌<◌, ℤ, pos, arith, refl, sym, subst, inl, inr}
-use Rattle.std.specs.Int.RustNames.{unsigned_abs, int_div}
+use Rattle.std.proofs.Common.{◌≡◌, ℕ, zero, suc, ◌%◌, ◌<◌, ◌^◌, ℤ, pos, negsuc, neg_ℤ, arith, refl, sym, ◌∙◌, ap, subst, subst₂, lt_trans, mod-lt, inl, inr, FitsSigned, to_z, of_z, w64}
+use Rattle.std.specs.Int.RustNames.{unsigned_abs, int_div, int_rem}
 use Rattle.std.specs.Int.{IsGcd}
 use Rattle.std.proofs.Math.Nat.{div_self}
+use Rattle.std.proofs.lemmas.Int.{to_z-of_z, to_z_pos}
 use Rattle.std.proofs.lemmas.Nat.Gcd.{IsGcd-from_zero, IsGcd-from_mod}
-use Rattle.t1_frac.specs.Fraction.{gcd, lowest, IsSmallPrime}
+use Rattle.t1_frac.specs.Fraction.{Fraction, gcd, lowest, IsSmallPrime}
 use Rattle.t1_frac.proofs.Divisors.{IsGcd-gcd, gcd_is}
 use Rattle.t1_frac.proofs.Exact.{lowest_coprime_terms}
 
@@ -60,6 +61,29 @@ multiple_gcd a p h = sym (gcd_is a p p (IsGcd-from_mod a p p (IsGcd-from_zero p 
 pub multiple_over_prime : (n : ℤ) (p : ℕ) → 0 < p → unsigned_abs n % p ≡ 0 → lowest (record { num = n; den = p }) ≡ record { num = int_div n (pos p); den = 1 }
 unfolding lowest
 multiple_over_prime n p above h = rw (multiple_gcd (unsigned_abs n) p h) (rw (div_self above) refl)
+
+-- a remainder of 0, as the code computes it
+none_at : (k : ℕ) → k < 2 ^ 63 → of_z w64 (neg_ℤ (pos k)) ≡ 0 → k ≡ 0
+none_at zero below h = refl
+none_at (suc k) below h = absurd (omega (arith, h))
+
+rest_none : (n : ℤ) (p : ℕ) → 0 < p → p < 2 ^ 63 → of_z w64 (int_rem n (pos p)) ≡ 0 → unsigned_abs n % p ≡ 0
+rest_none (pos a) p some below h = h
+rest_none (negsuc a) p some below h = none_at (suc a % p) (lt_trans (mod-lt (suc a) some) below) h
+
+prime_size : (p : ℕ) → IsSmallPrime p → (0 < p) × (p < 2 ^ 63)
+prime_size p (inl is) = omega (arith, is)
+prime_size p (inr (inl is)) = omega (arith, is)
+prime_size p (inr (inr (inl is))) = omega (arith, is)
+prime_size p (inr (inr (inr is))) = omega (arith, is)
+
+pub divided_by_prime : (n : ℤ) (p : ℕ) (q : ℤ) → IsSmallPrime p → FitsSigned w64 n → of_z w64 (int_rem (to_z w64 (of_z w64 n)) (to_z w64 p)) ≡ 0 → FitsSigned w64 q → q ≡ int_div (to_z w64 (of_z w64 n)) (pos p) → ◌≡◌ {A = Fraction} (record { num = to_z w64 (of_z w64 q); den = 1 }) (lowest (record { num = n; den = p }))
+divided_by_prime n p q prime fits none fits' is =
+    let size = prime_size p prime in
+    let same : to_z w64 (of_z w64 n) ≡ n = to_z-of_z w64 n fits in
+    let none' : of_z w64 (int_rem n (pos p)) ≡ 0 = subst₂ (λ x y. of_z w64 (int_rem x y) ≡ 0) same (to_z_pos w64 p size.1) none in
+    ap (λ k. record { num = k; den = 1 }) (to_z-of_z w64 q fits' ∙ is ∙ ap (λ x. int_div x (pos p)) same)
+    ∙ sym (multiple_over_prime n p size.0 (rest_none n p size.0 size.1 none'))
 
 -- and one that it doesn't divide
 pub other_over_prime : (n : ℤ) (p : ℕ) → IsSmallPrime p → 0 < unsigned_abs n % p → unsigned_abs n % p < p → lowest (record { num = n; den = p }) ≡ record { num = n; den = p }

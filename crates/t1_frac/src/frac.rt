@@ -36,7 +36,6 @@ impl Model for Frac {
 
 /// A short numerator over one of the first primes, in lowest terms: what the prime doesn't divide has nothing in common with it.
 /// The prime is known where this is compiled, so that no division is made.
-#[tactic(auto, using(crate::proofs::Primes::multiple_over_prime, crate::proofs::Primes::other_over_prime))]
 #[inline(always)]
 fn over_prime(num: i64, prime: u64) -> (i64, u64)
     requires num { unsigned_abs num < 2 ^ 63 }
@@ -156,7 +155,6 @@ fn check_limits(fault: Code, limit: u64, num: i64, den: u64) -> Result<(), Code>
 }
 
 /// The short fraction in lowest terms, or this fault where its size is past the limit, or F39 where it is too fine.
-#[tactic(auto, using(crate::proofs::Exact::coprime_lowest))]
 #[inline(always)]
 fn reduced(fault: Code, limit: u64, num: i64, den: u64) -> Result<Frac, Code>
     requires limit { limit ≤ 2 ^ 31 }
@@ -293,7 +291,6 @@ impl Frac {
     }
 
     /// The sum's numerator and denominator over one denominator, not in lowest terms: the numerators are added.
-    #[tactic(auto, using(crate::proofs::Sums::sum_alike))]
     #[inline(always)]
     fn alike_terms(&self, other: &Frac) -> (i64, u64)
         requires { self.now.den ≡ other.now.den }

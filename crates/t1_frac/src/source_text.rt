@@ -66,9 +66,9 @@ impl<'a> SourceText<'a> {
     pub fn copied(&self, alloc: Global) -> Result<SourceText<'a>, AllocError>
         ensures { IfOk result (λ copy. copy ≡ self.now) }
     {
-        Ok(match &self.run {
-            Run::Borrowed(bytes) => SourceText::borrowed(bytes),
-            Run::Owned(bytes) => SourceText::copy_of(alloc, bytes.as_slice())?,
-        })
+        match &self.run {
+            Run::Borrowed(bytes) => Ok(SourceText::borrowed(bytes)),
+            Run::Owned(bytes) => SourceText::copy_of(alloc, bytes.as_slice()),
+        }
     }
 }
