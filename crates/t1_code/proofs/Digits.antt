@@ -1,9 +1,9 @@
 -- The digits of bytes, with the ends of lines.
-use Rattle.std.proofs.Common.{◌≡◌, ℕ, zero, suc, ◌-◌, ◌*◌, ◌<◌, List, [], ◌∷◌, ◌++◌, length, refl, ap, ◌∙◌, arith}
+use Rattle.std.proofs.Common.{◌≡◌, ℕ, zero, suc, ◌-◌, ◌*◌, ◌<◌, ◌≤◌, List, [], ◌∷◌, ◌++◌, length, refl, ap, ◌∙◌, arith}
 use Rattle.std.specs.List.{flat_map, onto_first}
 use Rattle.t1_code.specs.Hexadecimal.{in_lines, line_end_due, next_room, refilled, room_after}
 use Rattle.t1_code.specs.Pfa.{digits_of_byte, line_of_digits, hexadecimal_lines}
-use Rattle.t1_code.specs.Pfb.{blocks_from}
+use Rattle.t1_code.proofs.Blocks.{blocks_from, blocks_in_turn}
 use Rattle.t1_code.proofs.Carrying.{IsChange}
 use Rattle.t1_code.proofs.Segmenting.{some_is}
 
@@ -48,6 +48,15 @@ lines_from (suc room) (suc zero) (x ∷ bytes) e = absurd (omega (arith, e))
 lines_from (suc room) (suc (suc digits)) (x ∷ bytes) e =
     two_onto _ _ 64 digits (flat_map digits_of_byte bytes) ∙ ap (λ l. digits_of_byte x ++ l) (lines_from room digits bytes (omega (arith, e)))
 
+-- no end is due where the line takes more
+pub no_end : (room : ℕ) → 0 < room → [] ≡ line_end_due room
+no_end room more = rw (some_is room more) refl
+
+-- a full line: its end, and the room of the next one
+pub end_given : (room : ℕ) → room ≤ 0 → (10 ∷ [] ≡ line_end_due room) × (32 ≡ refilled room)
+end_given zero full = (refl, refl)
+end_given (suc room) full = absurd (omega (arith, full))
+
 -- a byte's digits, after the end of a full line
 pub byte_in_line : (room byte : ℕ) → (in_lines room (byte ∷ []) ≡ line_end_due room ++ digits_of_byte byte) × (next_room room ≡ refilled room - 1)
 byte_in_line zero byte = (refl, refl)
@@ -56,4 +65,4 @@ byte_in_line (suc room) byte = rw (some_is (suc room) (omega arith)) (refl, omeg
 -- the lines are the digits with the ends of the lines among them, and the end of the last
 pub lines_are : (bytes : List ℕ) → hexadecimal_lines bytes ≡ in_lines 32 bytes ++ 10 ∷ []
 unfolding hexadecimal_lines
-lines_are bytes = lines_from 32 64 bytes refl
+lines_are bytes = ap (flat_map line_of_digits) (blocks_in_turn 64 (flat_map digits_of_byte bytes) (omega arith)) ∙ lines_from 32 64 bytes refl

@@ -31,6 +31,19 @@ state_after-append s xs ys =
 pub enciphering : IsChange enciphered state_after
 enciphering = record { join = enciphered-append; twice = state_after-append }
 
+-- no byte stays none, and the state as it is
+pub none_enciphered : (s : EexecState) → enciphered s [] ≡ []
+none_enciphered s = none s.form where
+  none : (form : Form) → formed form [] ≡ []
+  none (Binary s) = refl
+  none (Hexadecimal line) = refl
+
+pub state_stays : (s : EexecState) → state_after s [] ≡ s
+state_stays s = ap (λ form. record { key = s.key; form = form }) (stays s.form) where
+  stays : (form : Form) → form_after form [] ≡ form
+  stays (Binary s) = refl
+  stays (Hexadecimal line) = refl
+
 abbrev pub zeros : List ℕ
 zeros = 0 ∷ 0 ∷ 0 ∷ 0 ∷ []
 

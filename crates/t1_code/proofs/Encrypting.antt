@@ -1,7 +1,8 @@
 -- Cipher text, byte by byte and part by part.
-use Rattle.std.proofs.Common.{◌≡◌, ℕ, ◌+◌, ◌/◌, ◌<◌, List, [], ◌∷◌, ◌++◌, length, get_or, drop, refl, sym, ap, ◌∙◌, add-one, suc, arith}
+use Rattle.std.proofs.Common.{◌≡◌, ℕ, ◌+◌, ◌/◌, ◌<◌, List, [], ◌∷◌, ◌++◌, length, get_or, take, drop, refl, sym, ap, ◌∙◌, add-one, suc, arith}
 use Rattle.std.specs.Prelude.{bit_xor}
 use Rattle.std.specs.List.{flat_map}
+use Rattle.std.proofs.lemmas.List.{take_at}
 use Rattle.std.proofs.Math.Seq.{drop-cons}
 use Rattle.t1_code.specs.Cipher.{cipher, key_after, next_key, eexec}
 
@@ -30,3 +31,11 @@ pub flat_map-drop : {X : Type 0} (f : X → List ℕ) (xs : List X) (i : ℕ) (x
     → flat_map f (drop i xs) ≡ f x ++ flat_map f (drop (i + 1) xs)
 flat_map-drop f xs i x d inside is =
     rw add-one (ap (flat_map f) (drop-cons xs i d inside) ∙ ap (λ y. f y ++ flat_map f (drop (suc i) xs)) (sym is))
+
+-- a vector's items, encrypted where they stand
+pub items_encrypted : (key given len : ℕ) (items slice coded plain : List ℕ) → len ≡ length items → slice ≡ items → items ≡ plain → given ≡ key → coded ≡ cipher given slice
+    → take len (coded ++ drop (length coded) items) ≡ cipher key plain
+items_encrypted key given len items slice coded plain n s p k e =
+    let whole : coded ≡ cipher key items = e ∙ ap (λ o. cipher o slice) k ∙ ap (cipher key) s in
+    let size : length coded ≡ len = ap length whole ∙ length-cipher key items ∙ sym n in
+    take_at coded (drop (length coded) items) len size ∙ whole ∙ ap (cipher key) p

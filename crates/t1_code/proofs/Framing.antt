@@ -4,19 +4,14 @@ use Rattle.std.proofs.lemmas.Bool.{cases_lt, lt-ltb, le-ltb}
 use Rattle.std.specs.List.{AllByRecursion, flat_map, onto_first}
 use Rattle.t1_code.specs.Cipher.{eexec}
 use Rattle.t1_code.specs.Pfa.{pfa, hexadecimal_lines}
-use Rattle.t1_code.specs.Pfb.{segment, segment_head, segments, blocks_from, pfb, has_long_part, pfb_of}
+use Rattle.t1_code.specs.Pfb.{segment, segment_head, segments, blocks, pfb, has_long_part, pfb_of}
 use Rattle.t1_code.specs.Segments.{in_segments}
+use Rattle.t1_code.proofs.Blocks.{blocks_from, blocks_in_turn, one_block}
 use Rattle.t1_code.proofs.Segmenting.{segments_are}
-
--- bytes that the room holds stand in one block
-blocks_fit : (size room : ℕ) (bytes : List ℕ) → length bytes ≤ room → blocks_from size room bytes ≡ bytes ∷ []
-blocks_fit size room [] h = refl
-blocks_fit size zero (byte ∷ bytes) h = absurd (omega arith)
-blocks_fit size (suc room) (byte ∷ bytes) h = ap (onto_first byte) (blocks_fit size room bytes (omega arith))
 
 pub segments_fit : (size kind : ℕ) (bytes : List ℕ) → length bytes ≤ size → segments size kind bytes ≡ segment kind bytes
 unfolding segments
-segments_fit size kind bytes h = rw (blocks_fit size size bytes h) (append-nil (segment kind bytes))
+segments_fit size kind bytes h = rw (one_block size bytes h) (append-nil (segment kind bytes))
 
 pub whole_segments : (clear private trailer : List ℕ) → length clear ≤ 2 ^ 31 - 1 → length (eexec private) ≤ 2 ^ 31 - 1 → length trailer ≤ 2 ^ 31 - 1
     → pfb (2 ^ 31 - 1) clear private trailer ≡ segment 1 clear ++ segment 2 (eexec private) ++ segment 1 trailer ++ 128 ∷ 3 ∷ []
@@ -25,8 +20,7 @@ whole_segments clear private trailer c p t =
     rw (segments_fit (2 ^ 31 - 1) 1 clear c, segments_fit (2 ^ 31 - 1) 2 (eexec private) p, segments_fit (2 ^ 31 - 1) 1 trailer t) refl
 
 pub empty_segment : (size kind : ℕ) → segments size kind [] ≡ segment kind []
-unfolding segments
-empty_segment size kind = append-nil (segment kind [])
+empty_segment size kind = segments_fit size kind [] (omega arith)
 
 -- ---- the blocks of a part
 
@@ -34,10 +28,13 @@ onto_joined : (x : ℕ) (blocks : List (List ℕ)) → flat_map (λ block. block
 onto_joined x [] = refl
 onto_joined x (block ∷ blocks) = refl
 
-pub blocks_join : (size room : ℕ) (bytes : List ℕ) → flat_map (λ block. block) (blocks_from size room bytes) ≡ bytes
-blocks_join size room [] = refl
-blocks_join size zero (x ∷ bytes) = onto_joined x (blocks_from size (size - 1) bytes) ∙ ap (λ l. x ∷ l) (blocks_join size (size - 1) bytes)
-blocks_join size (suc room) (x ∷ bytes) = onto_joined x (blocks_from size room bytes) ∙ ap (λ l. x ∷ l) (blocks_join size room bytes)
+joined_from : (size room : ℕ) (bytes : List ℕ) → flat_map (λ block. block) (blocks_from size room bytes) ≡ bytes
+joined_from size room [] = refl
+joined_from size zero (x ∷ bytes) = onto_joined x (blocks_from size (size - 1) bytes) ∙ ap (λ l. x ∷ l) (joined_from size (size - 1) bytes)
+joined_from size (suc room) (x ∷ bytes) = onto_joined x (blocks_from size room bytes) ∙ ap (λ l. x ∷ l) (joined_from size room bytes)
+
+pub blocks_join : (size : ℕ) (bytes : List ℕ) → 1 ≤ size → flat_map (λ block. block) (blocks size bytes) ≡ bytes
+blocks_join size bytes some = ap (flat_map (λ block. block)) (blocks_in_turn size bytes some) ∙ joined_from size size bytes
 
 -- the first block has so many bytes at most, and the others as many as a block
 abbrev HasRoom : ℕ → ℕ → List (List ℕ) → Type 0
@@ -62,8 +59,8 @@ short_all : (size : ℕ) (blocks : List (List ℕ)) → HasRoom size size blocks
 short_all size [] h = absurd h
 short_all size (block ∷ blocks) h = h
 
-pub blocks_short : (size : ℕ) (bytes : List ℕ) → 1 ≤ size → AllByRecursion (λ block. length block ≤ size) (blocks_from size size bytes)
-blocks_short size bytes some = short_all size (blocks_from size size bytes) (have_room size size bytes some)
+pub blocks_short : (size : ℕ) (bytes : List ℕ) → 1 ≤ size → AllByRecursion (λ block. length block ≤ size) (blocks size bytes)
+blocks_short size bytes some = rw (blocks_in_turn size bytes some) (short_all size (blocks_from size size bytes) (have_room size size bytes some))
 
 -- the parts of the file, in order
 pub file_parts : (size : ℕ) (clear private trailer : List ℕ) → 1 ≤ size → pfb size clear private trailer

@@ -1,4 +1,5 @@
 pub mod Adding
+pub mod Blocks
 pub mod Carrying
 pub mod Commands
 pub mod Counting
@@ -14,6 +15,7 @@ pub mod Reading
 pub mod Rows
 pub mod Scanning
 pub mod Segmenting
+pub mod Spelling
 pub mod Summing
 pub mod Tables
 pub mod Writing

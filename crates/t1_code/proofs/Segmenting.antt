@@ -2,9 +2,10 @@
 use Rattle.std.proofs.Common.{◌≡◌, ℕ, zero, suc, ◌+◌, ◌-◌, ◌<◌, ◌≤◌, min, false, nat_eq, List, [], ◌∷◌, ◌++◌, length, refl, sym, ap, ◌∙◌, append_assoc, Option, inl, inr, arith}
 use Rattle.std.proofs.lemmas.Bool.{cases_Bool, eqb-true, eqb-false}
 use Rattle.std.specs.List.{flat_map, onto_first}
-use Rattle.t1_code.specs.Pfb.{segment, segment_head, segments, blocks_from}
+use Rattle.t1_code.specs.Pfb.{segment, segment_head, segments}
 use Rattle.t1_code.specs.Segments.{Segmenting, head_due, opened, past, in_segments, segmenting_after}
 use Rattle.t1_code.specs.Counted.{Outlet, Passes, Stops}
+use Rattle.t1_code.proofs.Blocks.{blocks_from, blocks_in_turn}
 use Rattle.t1_code.proofs.Carrying.{IsChange, Carried, Carried-step, Carried-fails, Carried-breaks}
 use Rattle.t1_code.proofs.Writing.{passing}
 
@@ -53,6 +54,21 @@ room_opens s = elim (cases_Bool (nat_eq s.room 0)) [
   | inl e ↦ rw e (λ h. omega (arith, h))
   | inr e ↦ rw e (λ h. omega (arith, eqb-false s.room 0 e))
 ]
+
+-- no head is due where the segment takes more
+pub no_head : (s : Segmenting) → 0 < s.room → [] ≡ head_due s
+no_head s more = rw (some_is s.room more) refl
+
+-- a full segment: the head of the next one, and that one's start
+pub head_given : (s : Segmenting) (kind count : ℕ) (head : List ℕ) → s.room ≤ 0 → kind ≡ s.kind → count ≡ min s.size s.left → head ≡ segment_head kind count → head ≡ head_due s
+head_given s kind count head full k n e =
+    let none : s.room ≡ 0 = omega (arith, full) in
+    e ∙ ap (λ i. segment_head i count) k ∙ ap (segment_head s.kind) n ∙ rw none refl
+
+pub start_given : (s t : Segmenting) → s.room ≤ 0 → t ≡ record { kind = s.kind; size = s.size; room = s.size; left = s.left } → t ≡ opened s
+start_given s t full e =
+    let none : s.room ≡ 0 = omega (arith, full) in
+    e ∙ rw none refl
 
 -- what is left begins with the head that is due
 head_first : (s : Segmenting) (bytes : List ℕ) → 0 < length bytes → (more : List ℕ) × (in_segments s bytes ≡ head_due s ++ more)
@@ -152,6 +168,6 @@ pub segments_are : (size kind : ℕ) (bytes : List ℕ) → 1 ≤ size → segme
     ≡ segment_head kind (min size (length bytes)) ++ in_segments (record { kind = kind; size = size; room = size; left = length bytes }) bytes
 unfolding segments
 segments_are size kind bytes h =
-    headed kind size size bytes
+    ap (flat_map (segment kind)) (blocks_in_turn size bytes h) ∙ headed kind size size bytes
     ∙ ap (λ n. segment_head kind n ++ beyond_head kind (blocks_from size size bytes)) (first_length size size bytes)
     ∙ ap (λ l. segment_head kind (min size (length bytes)) ++ l) (beyond_is kind size size bytes h)

@@ -1,95 +1,22 @@
 -- How long a file is, by sums.
-use Rattle.std.proofs.Common.{◌≡◌, false, ℕ, zero, suc, ◌+◌, ◌-◌, ◌*◌, ◌/◌, ◌%◌, ◌<◌, ◌≤◌, max, List, [], ◌∷◌, ◌++◌, length, Result, Ok, refl, sym, ap, ◌∙◌, inl, inr, arith}
-use Rattle.std.proofs.Math.Nat.{mul-suc, add-div_right, add-mod_right, div_self, mod_self, zero-div, zero-mod, div-eq_of_lt, mod-eq_of_lt}
-use Rattle.std.proofs.lemmas.Bool.{cases_lt}
+use Rattle.std.proofs.Common.{◌≡◌, false, ℕ, ◌+◌, ◌*◌, ◌≤◌, max, List, [], ◌∷◌, ◌++◌, length, Result, Ok, refl, sym, ap, ◌∙◌, arith}
+use Rattle.std.proofs.Math.Nat.{mul-suc}
 use Rattle.std.proofs.lemmas.List.{length-append}
-use Rattle.std.specs.List.{flat_map, onto_first}
+use Rattle.std.proofs.lemmas.List.FromFn.{length-map-range_with_len}
+use Rattle.std.specs.List.{flat_map}
 use Rattle.std.specs.Int.{div_ceil}
 use Rattle.t1_frac.specs.declared.fault.Fault.{Fault}
 use Rattle.t1_code.specs.Cipher.{eexec}
 use Rattle.t1_code.specs.Parts.{length_of}
 use Rattle.t1_code.specs.Pfa.{digits_of_byte, line_of_digits, hexadecimal_lines, pfa, pfa_of}
-use Rattle.t1_code.specs.Pfb.{blocks_from, segment, segment_head, segments, pfb, pfb_of, has_long_part}
-use Rattle.t1_code.proofs.Digits.{blocks_some}
+use Rattle.t1_code.specs.Pfb.{block, blocks, segment, segment_head, segments, pfb, pfb_of, has_long_part}
 use Rattle.t1_code.proofs.Framing.{blocks_join}
 
--- ---- how many blocks there are
-
-ceil_zero : (size : ℕ) → div_ceil 0 size ≡ 0
-ceil_zero size =
-    let whole : 0 / size ≡ 0 = zero-div size in
-    let rest : 0 % size ≡ 0 = zero-mod size in
-    omega (arith, whole, rest)
-
--- a block more is one more
-ceil_more : (count size : ℕ) → 1 ≤ size → div_ceil (count + size) size ≡ div_ceil count size + 1
-ceil_more count size some =
-    let whole : (count + size) / size ≡ count / size + 1 = add-div_right count {k = size} (omega (arith, some)) in
-    let rest : (count + size) % size ≡ count % size = add-mod_right count size in
-    omega (arith, whole, rest)
-
--- some bytes, no more than a block, are one
-ceil_one : (count size : ℕ) → 1 ≤ count → count ≤ size → div_ceil count size ≡ 1
-ceil_one count size some short = elim (cases_lt count size) [
-  | inl p ↦ (
-      let whole : count / size ≡ 0 = div-eq_of_lt p in
-      let rest : count % size ≡ count = mod-eq_of_lt p in
-      omega (arith, whole, rest, some))
-  | inr p ↦ (
-      let e : count ≡ size = omega (arith, p, short) in
-      let whole : size / size ≡ 1 = div_self {n = size} (omega (arith, some, short)) in
-      let rest : size % size ≡ 0 = mod_self size in
-      omega (arith, ap (λ n. div_ceil n size) e, whole, rest))
-]
-
-few_are_one : (count size : ℕ) → count ≤ size → div_ceil count size ≤ 1
-few_are_one count size short = elim (cases_lt 0 count) [
-  | inl p ↦ (let one = ceil_one count size (omega (arith, p)) short in omega (arith, one))
-  | inr p ↦ (let e : count ≡ 0 = omega (arith, p) in omega (arith, ap (λ n. div_ceil n size) e, ceil_zero size))
-]
-
--- a byte that begins a block, and those after it
-ceil_after : (count size : ℕ) → 1 ≤ size → div_ceil (suc count) size ≡ 1 + div_ceil (count - (size - 1)) size
-ceil_after count size some = elim (cases_lt count size) [
-  | inl p ↦ (
-      let e : count - (size - 1) ≡ 0 = omega (arith, p, some) in
-      let one = ceil_one (suc count) size (omega arith) (omega (arith, p)) in
-      omega (arith, ap (λ n. div_ceil n size) e, ceil_zero size, one))
-  | inr p ↦ (
-      let e : suc count ≡ (count - (size - 1)) + size = omega (arith, p, some) in
-      omega (arith, ap (λ n. div_ceil n size) e, ceil_more (count - (size - 1)) size some))
-]
-
-onto_length : (x : ℕ) (blocks : List (List ℕ)) → 0 < length blocks → length (onto_first x blocks) ≡ length blocks
-onto_length x [] some = absurd (omega (arith, some))
-onto_length x (block ∷ blocks) some = refl
-
-blocks_counted : (size room : ℕ) (bytes : List ℕ) → 1 ≤ size → length (blocks_from size room bytes) ≡ 1 + div_ceil (length bytes - room) size
-blocks_counted size room [] some =
-    let e : 0 - room ≡ 0 = omega arith in
-    omega (arith, ap (λ n. div_ceil n size) e, ceil_zero size)
-blocks_counted size zero (x ∷ bytes) some =
-    let e : suc (length bytes) - 0 ≡ suc (length bytes) = omega arith in
-    let blocks = blocks_from size (size - 1) bytes in
-    omega (arith, ap (λ n. div_ceil n size) e, onto_length x blocks (blocks_some size (size - 1) bytes), blocks_counted size (size - 1) bytes some, ceil_after (length bytes) size some)
-blocks_counted size (suc room) (x ∷ bytes) some =
-    let e : suc (length bytes) - suc room ≡ length bytes - room = omega arith in
-    omega (arith, ap (λ n. div_ceil n size) e, onto_length x (blocks_from size room bytes) (blocks_some size room bytes), blocks_counted size room bytes some)
-
-blocks_of_part : (size : ℕ) (bytes : List ℕ) → 1 ≤ size → max (div_ceil (length bytes) size) 1 ≡ length (blocks_from size size bytes)
-blocks_of_part size bytes some = elim (cases_lt size (length bytes)) [
-  | inl p ↦ (
-      let e : length bytes ≡ (length bytes - size) + size = omega (arith, p) in
-      omega (arith, ap (λ n. div_ceil n size) e, ceil_more (length bytes - size) size some, blocks_counted size size bytes some))
-  | inr p ↦ (
-      let e : length bytes - size ≡ 0 = omega (arith, p) in
-      omega (arith, ap (λ n. div_ceil n size) e, ceil_zero size, few_are_one (length bytes) size p, blocks_counted size size bytes some))
-]
-
 -- one block for each size of bytes, the last with the rest, and one where there is no byte
-pub block_count_is : (size count : ℕ) (bytes : List ℕ) → 1 ≤ size → length bytes ≡ count → max (div_ceil count size) 1 ≡ length (blocks_from size size bytes)
-block_count_is size count bytes some e =
-    ap (λ n. max (div_ceil n size) 1) (sym e) ∙ blocks_of_part size bytes some
+pub block_count_is : (size count : ℕ) (bytes : List ℕ) → length bytes ≡ count → max (div_ceil count size) 1 ≡ length (blocks size bytes)
+unfolding blocks
+block_count_is size count bytes e =
+    ap (λ n. max (div_ceil n size) 1) (sym e) ∙ sym (length-map-range_with_len (block size bytes) 0 (max (div_ceil (length bytes) size) 1))
 
 -- ---- the lengths of what stands in blocks
 
@@ -105,22 +32,20 @@ blocks_length put more each [] = omega arith
 blocks_length put more each (block ∷ blocks) =
     omega (arith, length-append (put block) (flat_map put blocks), length-append block (flat_map (λ block. block) blocks), each block, blocks_length put more each blocks, mul-suc more (length blocks))
 
-pub segments_length : (size kind : ℕ) (bytes : List ℕ) → length (segments size kind bytes) ≡ length bytes + 6 * length (blocks_from size size bytes)
+pub segments_length : (size kind : ℕ) (bytes : List ℕ) → 1 ≤ size → length (segments size kind bytes) ≡ length bytes + 6 * length (blocks size bytes)
 unfolding segments
-segments_length size kind bytes =
-    let blocks = blocks_from size size bytes in
-    omega (arith, blocks_length (segment kind) 6 (segment_length kind) blocks, ap length (blocks_join size size bytes))
+segments_length size kind bytes some =
+    omega (arith, blocks_length (segment kind) 6 (segment_length kind) (blocks size bytes), ap length (blocks_join size bytes some))
 
 pub digits_length : (bytes : List ℕ) → length (flat_map digits_of_byte bytes) ≡ 2 * length bytes
 digits_length [] = refl
 digits_length (byte ∷ bytes) = omega (arith, digits_length bytes)
 
-pub lines_length : (bytes : List ℕ) → length (hexadecimal_lines bytes) ≡ 2 * length bytes + length (blocks_from 64 64 (flat_map digits_of_byte bytes))
+pub lines_length : (bytes : List ℕ) → length (hexadecimal_lines bytes) ≡ 2 * length bytes + length (blocks 64 (flat_map digits_of_byte bytes))
 unfolding hexadecimal_lines
 lines_length bytes =
     let digits = flat_map digits_of_byte bytes in
-    let blocks = blocks_from 64 64 digits in
-    omega (arith, blocks_length line_of_digits 1 (λ block. length-append block (10 ∷ [])) blocks, ap length (blocks_join 64 64 digits), digits_length bytes)
+    omega (arith, blocks_length line_of_digits 1 (λ block. length-append block (10 ∷ [])) (blocks 64 digits), ap length (blocks_join 64 digits (omega arith)), digits_length bytes)
 
 -- ---- the lengths of the files
 

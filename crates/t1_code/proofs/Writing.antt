@@ -1,13 +1,19 @@
 -- One write after another.
-use Rattle.std.proofs.Common.{◌≡◌, ℕ, ◌≤◌, List, [], ◌++◌, Option, take, drop, refl, sym, ap, ◌∙◌, append_assoc, append-nil, subst, Result, Ok, Err}
+use Rattle.std.proofs.Common.{◌≡◌, ℕ, ◌≤◌, true, nat_eq, List, [], ◌∷◌, ◌++◌, length, Option, None, Some, take, drop, refl, sym, ap, ◌∙◌, append_assoc, append-nil, subst, Result, Ok, Err, arith}
+use Rattle.std.proofs.lemmas.Bool.{eqb-true}
 use Rattle.std.specs.Result.{MatchResult, OnOk}
 use Rattle.std.proofs.lemmas.List.{take-append-drop, take-take}
 use Rattle.std.proofs.KnownBytes.{Appends-trans, Appends-nil}
-use Rattle.std.specs.Io.KnownBytes.{Appends}
+use Rattle.std.specs.Io.KnownBytes.{Appends, Keeps}
 use Rattle.t1_frac.specs.declared.fault.Fault.{Fault}
 use Rattle.t1_code.specs.declared.parts.OutError.TheVariants as out
 use Rattle.t1_code.specs.Parts.{PassesFile, Prints}
 use Rattle.t1_code.specs.Counted.{Tally, WritesAll, WritesFront, Outlet, outlet, Passes, Stops, Puts, Writes, one_more}
+
+-- where a text has no byte
+pub nothing_left : (rest : List ℕ) → nat_eq (length rest) 0 ≡ true → rest ≡ []
+nothing_left [] h = refl
+nothing_left (x ∷ rest) h = absurd (omega (arith, eqb-true (length (x ∷ rest)) 0 h))
 
 -- The laws of a way to write, with All for a call that wrote all its bytes and Front for one that failed after a beginning of them.
 pub record IsWriting {S : Type 0} (All Front : S → S → List ℕ → Type 0) : Type 0 where
@@ -113,6 +119,17 @@ Written-more contents start old new bytes rest handed count p within appends fai
   p.1 ∙ ap (λ l. p.0 ++ l) (sym (take-append-drop count rest)) ∙ sym (append_assoc p.0 (take count rest) (drop count rest)),
   WritesAll-append contents start old new p.0 (take count rest) p.2 (record { appends = rw take-take at appends; failures = failures; turns = turns }),
 )
+
+-- a call fails and nothing of the rest went out
+pub Written-broken : {W : Type 0} (contents : W → Option (List ℕ)) (start old new : Tally W) (bytes rest : List ℕ) → Written (writing contents) start old bytes rest
+    → Keeps (contents old.inner) (contents new.inner) → new.failures ≡ one_more old.failures → new.turns ≡ old.turns → WritesFront contents start new bytes
+Written-broken contents start old new bytes rest p keeps failures turns =
+    Written-fails (writing contents) start old new bytes [] rest p
+    (record { appends = ([], [], refl, none (contents old.inner) (contents new.inner) keeps); failures = failures; turns = turns }) where
+      none : (a b : Option (List ℕ)) → Keeps a b → Appends a b []
+      none None b h = tt
+      none (Some x) None h = absurd h
+      none (Some x) (Some y) h = h ∙ sym (append-nil x)
 
 module _ {W : Type 0} (contents : W → Option (List ℕ)) where
   -- at the end what waits goes out too, and its call's result is handed on

@@ -1,12 +1,14 @@
 -- Readers and writers that count their calls, and what calls over them leave.
-use Rattle.std.specs.Prelude.{◌≡◌, ℕ, ◌+◌, ◌-◌, ◌^◌, min, nat_lt, if◌then◌else◌, List, ◌++◌, Option, Result, is_ok, MatchResult}
+use Rattle.std.specs.Prelude.{◌≡◌, ℕ, Bool, ◌+◌, ◌-◌, ◌^◌, min, nat_lt, if◌then◌else◌, List, ◌++◌, Option, Result, is_ok, MatchResult}
 use Rattle.std.specs.Io.KnownBytes.{Appends}
 
--- profile: what contracts see of a reader or writer: itself, its failed calls, and its reads
+-- profile: what contracts see of a reader or writer: itself, its failed calls, its reads, and whether nothing was written
+-- since it was last flushed
 pub record Tally (T : Type 0) : Type 0 where
   pub inner : T
   pub failures : ℕ
   pub turns : ℕ
+  pub is_flushed : Bool
 
 -- profile: a count of failures goes up to 2^64 - 1, and stays there
 abbrev pub one_more : ℕ → ℕ

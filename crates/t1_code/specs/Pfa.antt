@@ -7,7 +7,7 @@ use Rattle.t1_frac.specs.declared.fault.Fault.{Fault}
 use Rattle.t1_frac.specs.declared.fault.Place.TheVariants.{Nowhere}
 use Rattle.t1_frac.specs.Outcome.{fault_at}
 use Rattle.t1_code.specs.Cipher.{eexec}
-use Rattle.t1_code.specs.Pfb.{blocks_from, has_long_part}
+use Rattle.t1_code.specs.Pfb.{blocks, has_long_part}
 
 -- profile: hexadecimal digits are `0` to `9` and `a` to `f`
 abbrev pub hexadecimal_digit : ℕ → ℕ
@@ -23,7 +23,7 @@ line_of_digits digits = digits ++ line_feed ∷ []
 
 -- profile: lines have 64 digits each, the last one the rest
 unfoldable pub hexadecimal_lines : List ℕ → List ℕ
-hexadecimal_lines bytes = flat_map line_of_digits (blocks_from 64 64 (flat_map digits_of_byte bytes))
+hexadecimal_lines bytes = flat_map line_of_digits (blocks 64 (flat_map digits_of_byte bytes))
 
 -- Type 1 Font Format, Chapter 2: the clear text, the encrypted private text, and the trailer
 unfoldable pub pfa : List ℕ → List ℕ → List ℕ → List ℕ

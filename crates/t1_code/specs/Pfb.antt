@@ -1,7 +1,7 @@
 -- The PFB file of a font program (Adobe Technical Note 5040, 3.3).
-use Rattle.std.specs.Prelude.{ℕ, zero, suc, ◌-◌, ◌^◌, Bool, ◌||◌, nat_lt, if◌then◌else◌, List, [], ◌∷◌, ◌++◌, length, decimal, Result, Ok, Err}
-use Rattle.std.specs.Int.{w32, to_le_bytes}
-use Rattle.std.specs.List.{flat_map, onto_first}
+use Rattle.std.specs.Prelude.{ℕ, ◌-◌, ◌*◌, ◌^◌, max, Bool, ◌||◌, nat_lt, if◌then◌else◌, List, [], ◌∷◌, ◌++◌, length, take, drop, map, decimal, Result, Ok, Err}
+use Rattle.std.specs.Int.{w32, div_ceil, to_le_bytes}
+use Rattle.std.specs.List.{flat_map, range_with_len}
 use Rattle.t1_frac.specs.Ascii.{line_feed, space}
 use Rattle.t1_frac.specs.declared.fault.Code.TheVariants.{F23}
 use Rattle.t1_frac.specs.declared.fault.Fault.{Fault}
@@ -43,15 +43,21 @@ segment_head kind count = marker ∷ kind ∷ to_le_bytes w32 count
 unfoldable pub segment : ℕ → List ℕ → List ℕ
 segment kind bytes = segment_head kind (length bytes) ++ bytes
 
--- profile: the bytes in blocks of this size, the last with the rest, where the first block has this much room left
-abbrev pub blocks_from : ℕ → ℕ → List ℕ → List (List ℕ)
-blocks_from size room [] = [] ∷ []
-blocks_from size zero (byte ∷ bytes) = [] ∷ onto_first byte (blocks_from size (size - 1) bytes)
-blocks_from size (suc room) (byte ∷ bytes) = onto_first byte (blocks_from size room bytes)
+-- profile: as many blocks as so many bytes begin, and one where there is no byte
+abbrev pub block_count : ℕ → ℕ → ℕ
+block_count size count = max (div_ceil count size) 1
+
+-- profile: a block has the bytes from its place times the size on, and no more than the size
+abbrev pub block : ℕ → List ℕ → ℕ → List ℕ
+block size bytes place = take size (drop (size * place) bytes)
+
+-- profile: the bytes in blocks of one size, the last with the rest
+unfoldable pub blocks : ℕ → List ℕ → List (List ℕ)
+blocks size bytes = map (block size bytes) (range_with_len 0 (block_count size (length bytes)))
 
 -- profile: a part is cut into segments of its type with blocks of one size
 unfoldable pub segments : ℕ → ℕ → List ℕ → List ℕ
-segments size kind bytes = flat_map (segment kind) (blocks_from size size bytes)
+segments size kind bytes = flat_map (segment kind) (blocks size bytes)
 
 -- Technical Note 5040, 3.3: ASCII segments, binary segments, ASCII segments, and the end of the file
 unfoldable pub pfb : ℕ → List ℕ → List ℕ → List ℕ → List ℕ

@@ -28,14 +28,14 @@ fn push_number(code: &mut Vec<u8>, number: i32) -> Result<(), AllocError>
         code.push((number + 139) as u8)?;
         return Ok(());
     }
-    match number {
-        108..=1131 => code.extend_from_slice(&two_bytes_of(247, number as u16)),
-        -1131..=-108 => code.extend_from_slice(&two_bytes_of(251, -number as u16)),
-        _ => {
-            code.extend_from_slice(&[255])?;
-            code.extend_from_slice(&number.to_be_bytes())
-        }
+    if 108 <= number && number <= 1131 {
+        return code.extend_from_slice(&two_bytes_of(247, number as u16));
     }
+    if -1131 <= number && number <= -108 {
+        return code.extend_from_slice(&two_bytes_of(251, -number as u16));
+    }
+    code.extend_from_slice(&[255])?;
+    code.extend_from_slice(&number.to_be_bytes())
 }
 
 impl Command {
@@ -80,11 +80,11 @@ fn push_operator(code: &mut Vec<u8>, operator: &[u8]) -> Result<(), AllocError>
     ensures front { take (length code.old.items) code.new.items ≡ code.old.items }
     ensures value { OnOk result (code.new.items ≡ code.old.items ++ operator.now) }
 {
-    match operator {
-        [byte] => code.push(*byte)?,
-        _ => code.extend_from_slice(operator)?,
+    if let [byte] = operator {
+        code.push(*byte)?;
+        return Ok(());
     }
-    Ok(())
+    code.extend_from_slice(operator)
 }
 
 /// Adds the bytes of a command.

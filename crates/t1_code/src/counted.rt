@@ -1,5 +1,5 @@
 //! Readers and writers that count their calls.
-ghost use Rattle.std.specs.Prelude.{◌≡◌, ◌≤◌, ◌<◌, [], length, IfOk, IsOk, IsErr};
+ghost use Rattle.std.specs.Prelude.{◌≡◌, ◌≤◌, ◌<◌, true, false, [], length, IfOk, IsOk, IsErr};
 ghost use Rattle.std.specs.Io.{ReadsAtMost};
 ghost use Rattle.std.specs.Io.KnownBytes.{Keeps, ReadConsumes, WriteAppends};
 ghost use Rattle.t1_code.specs.Counted.{Tally, failures_after, turns_after, max_turns, Writes};
@@ -13,12 +13,13 @@ const MAX_TURNS: u64 = (1 << 63) - 1;
 /// The most bytes that one call of a writer is handed.
 pub const MAX_PUT: usize = 4_096;
 
-/// A reader or writer, with a count of its failed calls and one of its reads.
+/// A reader or writer, with a count of its failed calls and one of its reads, and whether what was written has been flushed.
 #[derive(Drop)]
 pub struct Counted<T> {
     inner: T,
     failures: u64,
     turns: u64,
+    is_flushed: bool,
 }
 
 impl<T> Model for Counted<T> {
@@ -26,7 +27,7 @@ impl<T> Model for Counted<T> {
 
     ghost Value = { Tally T };
 
-    ghost view = { λ counted. record { inner = counted.inner; failures = counted.failures; turns = counted.turns } };
+    ghost view = { λ counted. record { inner = counted.inner; failures = counted.failures; turns = counted.turns; is_flushed = counted.is_flushed } };
 }
 
 impl<T> Counted<T> {
@@ -34,11 +35,13 @@ impl<T> Counted<T> {
         ensures inner { result.inner ≡ inner }
         ensures failures { result.failures ≡ 0 }
         ensures turns { result.turns ≡ 0 }
+        ensures flushed { result.is_flushed ≡ true }
     {
         Counted {
             inner,
             failures: 0,
             turns: 0,
+            is_flushed: true,
         }
     }
 
@@ -90,9 +93,13 @@ impl<W: Write> Counted<W> {
         ensures bytes { WriteAppends (W.contents self.old.inner) (W.contents self.new.inner) result bytes.now }
         ensures failures { self.new.failures ≡ failures_after result self.old.failures }
         ensures turns { self.new.turns ≡ self.old.turns }
+        ensures waits { IfOk result (λ count. self.new.is_flushed ≡ false) }
     {
         match self.inner.write(bytes) {
-            Ok(count) if count > 0 => Ok(count),
+            Ok(count) if count > 0 => {
+                self.is_flushed = false;
+                Ok(count)
+            }
             Ok(_) => {
                 self.failures = self.failures.saturating_add(1);
                 Err(ErrorKind::WriteZero.into())
@@ -104,14 +111,17 @@ impl<W: Write> Counted<W> {
         }
     }
 
+    /// Hands on what the writer still holds.
     pub fn flush(&mut self) -> io::Result<()>
         ensures bytes { Keeps (W.contents self.old.inner) (W.contents self.new.inner) }
         ensures failures { self.new.failures ≡ failures_after result self.old.failures }
         ensures turns { self.new.turns ≡ self.old.turns }
+        ensures flushed { IfOk result (λ done. self.new.is_flushed ≡ true) }
     {
         let result = self.inner.flush();
-        if result.is_err() {
-            self.failures = self.failures.saturating_add(1);
+        match result {
+            Ok(()) => self.is_flushed = true,
+            Err(_) => self.failures = self.failures.saturating_add(1),
         }
         result
     }

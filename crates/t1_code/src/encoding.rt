@@ -156,11 +156,10 @@ const NAMES: [(u8, &str); 149] = [
 ];
 
 /// The name that StandardEncoding gives a code; most codes have none.
-#[tactic(auto, unfolding(crate::specs::Encoding::standard_name, crate::specs::Encoding::standard_names))]
 pub fn standard_name(code: u8) -> Option<&'static str>
     ensures { option_map (λ name. name.now) result ≡ name_of code }
 {
-    find(&NAMES, code)
+    find(standard_table(), code)
 }
 
 /// StandardEncoding: each code that has a name, from the lowest on, with the name.
@@ -184,11 +183,10 @@ fn find(names: &[(u8, &'static str)], code: u8) -> Option<&'static str>
 }
 
 /// Whether StandardEncoding gives the name to a code.
-#[tactic(auto, unfolding(crate::specs::Encoding::is_standard_name, crate::specs::Encoding::standard_names))]
 pub fn is_standard_name(name: &[u8]) -> bool
     ensures { result ≡ is_named name.now }
 {
-    is_among(&NAMES, name)
+    is_among(standard_table(), name)
 }
 
 /// Whether a table has the name.

@@ -2,7 +2,7 @@
 ghost use Rattle.std.specs.Prelude.{◌≡◌, ◌<◌, ◌≤◌, ◌+◌, ◌-◌, ◌*◌, ◌^◌, List, ℕ, length};
 ghost use Rattle.t1_code.specs.Parts.{file_of, hexadecimal_file_of, length_of};
 ghost use Rattle.t1_code.specs.Pfa.{hexadecimal_lines};
-ghost use Rattle.t1_code.specs.Pfb.{blocks_from, segments};
+ghost use Rattle.t1_code.specs.Pfb.{blocks, segments};
 ghost use Rattle.t1_frac.specs.Outcome.{reported_at};
 ghost use Rattle.t1_frac.specs.declared.fault.Place.TheVariants.{Nowhere};
 
@@ -22,7 +22,7 @@ const LINE_DIGITS: u64 = 64;
 /// How many blocks of this size so many bytes make; no byte makes one empty block.
 fn block_count(len: u64, size: u64) -> u64
     requires { 1 ≤ size }
-    ensures count { (bytes : List ℕ) → length bytes ≡ len → result ≡ length (blocks_from size size bytes) }
+    ensures count { (bytes : List ℕ) → length bytes ≡ len → result ≡ length (blocks size bytes) }
     ensures at_most { result ≤ len + 1 }
 {
     len.div_ceil(size).max(1)

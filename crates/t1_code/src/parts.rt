@@ -6,7 +6,7 @@ use t1_frac::{Code, Fault, Place, Refusal};
 use thiserror::Error;
 
 /// A piece of the private text.
-#[derive(Clone, Copy, Debug)]
+#[derive(Clone, Copy)]
 pub enum Piece<'a> {
     /// Bytes as they stand.
     Plain(&'a [u8]),
@@ -24,7 +24,7 @@ pub enum Piece<'a> {
 }
 
 /// What a PFB file is made of. The parts are borrowed.
-#[derive(Clone, Copy, Debug)]
+#[derive(Clone, Copy)]
 pub struct Parts<'a> {
     /// The text up to the line that ends in `eexec`.
     pub clear: &'a [u8],

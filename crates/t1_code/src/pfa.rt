@@ -33,7 +33,7 @@ fn put_file<W: Write>(out: &mut Counted<W>, chunk: &mut Chunk, parts: &Parts) ->
 }
 
 /// The PFA form: the private part in lines of 64 lower-case hexadecimal digits.
-#[derive(Clone, Copy, Debug)]
+#[derive(Clone, Copy)]
 pub struct Pfa;
 
 impl FileForm for Pfa {

@@ -48,7 +48,7 @@ fn put_file<W: Write>(
 }
 
 /// The PFB form, in segments of so many bytes.
-#[derive(Debug, Drop)]
+#[derive(Drop)]
 pub struct Pfb {
     size: usize,
 }

@@ -7,7 +7,7 @@ use Rattle.std.specs.Int.{from_le_bytes, to_le_bytes}
 use Rattle.std.specs.List.{flat_map, AllByRecursion}
 use Rattle.t1_frac.specs.Outcome.{◌>>=◌}
 use Rattle.t1_text.specs.Lines.{begins_with}
-use Rattle.t1_code.specs.Pfb.{segment, segments, pfb, blocks_from}
+use Rattle.t1_code.specs.Pfb.{segment, segments, pfb, blocks}
 use Rattle.t1_code.specs.Cipher.{eexec}
 use Rattle.t1_code.proofs.Framing.{blocks_join, blocks_short}
 use Rattle.t1_code.proofs.Encrypting.{length-eexec}
@@ -115,10 +115,10 @@ pub pfb_again : (size : ℕ) (clear private trailer : List ℕ) → 1 ≤ size �
     → font_parts (pfb size clear private trailer) ≡ Ok (record { clear = clear; coded = eexec private; tail = trailer })
 unfolding pfb segments
 pfb_again size clear private trailer some short =
-    let cut = blocks_from size size in
+    let cut = blocks size in
     let fit = λ (bytes : List ℕ). blocks_fit size (cut bytes) short (blocks_short size bytes some) in
     let end : List ℕ = 128 ∷ 3 ∷ [] in
-    let kept = λ (bytes : List ℕ). blocks_join size size bytes in
+    let kept = λ (bytes : List ℕ). blocks_join size bytes some in
     let long : 0 < length (whole (cut (eexec private))) = omega (arith, ap length (kept (eexec private)), length-eexec private) in
     ap font_parts (append_assoc (flat_map (segment 1) (cut clear) ++ flat_map (segment 2) (cut (eexec private))) (flat_map (segment 1) (cut trailer)) end
     ∙ append_assoc (flat_map (segment 1) (cut clear)) (flat_map (segment 2) (cut (eexec private))) (flat_map (segment 1) (cut trailer) ++ end))

@@ -1,11 +1,24 @@
-use Rattle.std.proofs.Common.{◌≡◌, ◌++◌, refl, sym}
+use Rattle.std.proofs.Common.{◌≡◌, ◌++◌, refl, sym, ap, ◌∙◌}
 use Rattle.std.proofs.lemmas.List.{take-append-drop}
 use Rattle.std.proofs.lemmas.Result.{err_from_is_err_and}
 use Rattle.t1_code.specs.Counted.{outlet}
-use Rattle.t1_code.specs.Eexec.{EexecState}
-use Rattle.t1_code.proofs.Carrying.{Carried-step, Carried-fails}
-use Rattle.t1_code.proofs.Enciphering.{enciphering}
+use Rattle.t1_code.specs.Eexec.{EexecState, enciphered, state_after}
+use Rattle.t1_code.proofs.Carrying.{Carried-none, Carried-step, Carried-fails, Carried-all, Carried-end}
+use Rattle.t1_code.proofs.Enciphering.{enciphering, none_enciphered, state_stays}
+use Rattle.t1_code.proofs.Writing.{nothing_left}
 use Rattle.t1_code.proofs.eexec.EexecWriter.put.Goals as goal
+
+pub returns-clause-text : goal.returns-clause-text
+returns-clause-text g c =
+    let state : EexecState = record { key = c.loop-rest.self-inside.cipher; form = c.loop-rest.self-inside.form } in
+    Carried-all g.W.Write.contents enciphering (outlet c.args.out.now c.args.chunk.now) (outlet c.loop-rest.out c.loop-rest.chunk) c.args.self.now state c.args.bytes.now c.loop-rest.rest.now
+    c.loop-rest.invariant (ap (enciphered state) (nothing_left c.loop-rest.rest.now (sym c.is_empty.ensures ∙ c.loop-rest-test.false)) ∙ none_enciphered state)
+
+pub returns-clause-state : goal.returns-clause-state
+returns-clause-state g c =
+    let state : EexecState = record { key = c.loop-rest.self-inside.cipher; form = c.loop-rest.self-inside.form } in
+    Carried-end g.W.Write.contents enciphering (outlet c.args.out.now c.args.chunk.now) (outlet c.loop-rest.out c.loop-rest.chunk) c.args.self.now state c.args.bytes.now c.loop-rest.rest.now
+    c.loop-rest.invariant (ap (state_after state) (nothing_left c.loop-rest.rest.now (sym c.is_empty.ensures ∙ c.loop-rest-test.false)) ∙ state_stays state)
 
 pub returns-in_err-put-clause-text : goal.returns-in_err-put-clause-text
 returns-in_err-put-clause-text g c =

@@ -2,9 +2,24 @@ use Rattle.std.proofs.Common.{◌≡◌, ◌∙◌, ◌++◌, ◌<◌, ◌≤◌
 use Rattle.std.proofs.lemmas.List.{take-append-drop}
 use Rattle.std.proofs.lemmas.Result.{err_from_is_err_and}
 use Rattle.t1_code.specs.Counted.{outlet}
-use Rattle.t1_code.specs.Segments.{opened}
-use Rattle.t1_code.proofs.Segmenting.{some_of, room_opens, head_fails, front_fails, front_passes}
+use Rattle.t1_code.specs.Segments.{opened, in_segments, segmenting_after}
+use Rattle.t1_code.proofs.Carrying.{Carried-none, Carried-all, Carried-end}
+use Rattle.t1_code.proofs.Segmenting.{cutting, some_of, room_opens, head_fails, front_fails, front_passes}
+use Rattle.t1_code.proofs.Writing.{nothing_left}
 use Rattle.t1_code.proofs.segments.Segmenter.put.Goals as goal
+
+pub loop-rest-init : goal.loop-rest-init
+loop-rest-init g c = Carried-none g.W.Write.contents cutting (outlet c.args.out.now c.args.chunk.now) c.args.self.now c.args.bytes.now
+
+pub returns-clause-text : goal.returns-clause-text
+returns-clause-text g c =
+    Carried-all g.W.Write.contents cutting (outlet c.args.out.now c.args.chunk.now) (outlet c.loop-rest.out c.loop-rest.chunk) c.args.self.now c.loop-rest.self c.args.bytes.now c.loop-rest.rest.now
+    c.loop-rest.invariant (ap (in_segments c.loop-rest.self) (nothing_left c.loop-rest.rest.now (sym c.is_empty.ensures ∙ c.loop-rest-test.false)))
+
+pub returns-clause-state : goal.returns-clause-state
+returns-clause-state g c =
+    Carried-end g.W.Write.contents cutting (outlet c.args.out.now c.args.chunk.now) (outlet c.loop-rest.out c.loop-rest.chunk) c.args.self.now c.loop-rest.self c.args.bytes.now c.loop-rest.rest.now
+    c.loop-rest.invariant (ap (segmenting_after c.loop-rest.self) (nothing_left c.loop-rest.rest.now (sym c.is_empty.ensures ∙ c.loop-rest-test.false)))
 
 pub returns-in_err-open-clause-text : goal.returns-in_err-open-clause-text
 returns-in_err-open-clause-text g c =
