@@ -16,7 +16,7 @@ pub struct Pair {
 }
 
 /// The kerning pairs of a font, by the bytes of the left, then the right name.
-#[derive(Debug, Drop)]
+#[derive(Drop)]
 pub struct Pairs {
     alloc: Global,
     pairs: Vec<Pair>,
@@ -54,7 +54,7 @@ impl Model for Sorted {
 
 ghost use Rattle.std.specs.Prelude.{◌≡◌, ◌∷◌, ◌+◌, ◌<◌, ◌≤◌, [], ◌++◌, IfOk, OnOk, OnErr, length, slice_set, option_to_list, true, None, MatchOption};
 ghost use Rattle.std.specs.List.{insert, remove};
-ghost use Rattle.t1_frac.specs.Ascii.{line_feed};
+ghost use Rattle.t1_frac.specs.Ascii.{line_feed, space};
 ghost use Rattle.t1_frac.specs.declared.fault.Place.TheVariants as places;
 ghost use Rattle.t1_frac.specs.Outcome.{Gives, reported_at};
 ghost use Rattle.t1_frac.specs.Words.{words};
@@ -229,15 +229,22 @@ pub fn read_pairs(alloc: Global, bytes: &[u8]) -> Result<Pairs, Refusal>
     Ok(Pairs { alloc, pairs })
 }
 
+/// Adds a name of a pair and a space to a text.
+fn push_name(text: &mut Vec<u8>, name: &[u8]) -> Result<(), AllocError>
+    ensures { OnOk result (text.new.items ≡ text.old.items ++ name.now ++ space ∷ []) }
+{
+    text.extend_from_slice(name)?;
+    text.push(b' ')?;
+    Ok(())
+}
+
 /// Adds the line of a pair to a text.
 fn push_pair(text: &mut Vec<u8>, pair: &Pair) -> Result<(), AllocError>
     ensures { OnOk result (text.new.items ≡ text.old.items ++ kpx_line pair.now ++ line_feed ∷ []) }
 {
     text.extend_from_slice(b"KPX ")?;
-    text.extend_from_slice(pair.left.as_slice())?;
-    text.push(b' ')?;
-    text.extend_from_slice(pair.right.as_slice())?;
-    text.push(b' ')?;
+    push_name(text, pair.left.as_slice())?;
+    push_name(text, pair.right.as_slice())?;
     let mut buffer = Buffer::new();
     text.extend_from_slice(buffer.format(pair.value).as_bytes())?;
     text.push(b'\n')?;

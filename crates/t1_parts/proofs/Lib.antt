@@ -6,6 +6,7 @@ pub mod DemoRows
 pub mod EncodingLaws
 pub mod EntryLaws
 pub mod GroupLaws
+pub mod HeaderLaws
 pub mod ItemLaws
 pub mod KeyLaws
 pub mod LeadLaws
@@ -15,6 +16,7 @@ pub mod PartLaws
 pub mod PieceLaws
 pub mod PlainRunLaws
 pub mod ReadingRows
+pub mod Rows
 pub mod RunCutLaws
 pub mod RunLaws
 pub mod SearchLaws

@@ -8,7 +8,8 @@ use Rattle.t1_frac.specs.declared.fault.Code.TheVariants.{F1, F2}
 use Rattle.t1_frac.specs.declared.fault.Place.TheVariants.{Nowhere}
 use Rattle.t1_frac.specs.Outcome.{fault_at}
 use Rattle.t1_text.specs.Lines.{lines}
-use Rattle.t1_parts.specs.Parts.{is_eexec, is_closefile, parts_of, IsCut, gone, AreCutAfter, NoneGone}
+use Rattle.t1_parts.specs.Parts.{is_eexec, is_closefile, parts_of}
+use Rattle.t1_parts.specs.LineCuts.{IsCut, gone, AreCutAfter, NoneGone}
 
 -- a function of two that are each the same
 pub ap_both : {A B C : Type 0} (f : A → B → C) (x y : A) (u v : B) → x ≡ y → u ≡ v → f x u ≡ f y v

@@ -13,7 +13,8 @@ use Rattle.t1_text.proofs.LineLaws.{after_line, first_line_lem, line_len, stays}
 use Rattle.t1_text.proofs.CutLaws.{line_gone, taken_len, taken_of, front_begins}
 use Rattle.t1_text.proofs.TrimLaws.{cut_at_end}
 use Rattle.t1_text.proofs.WholeLines.{IsCutAt}
-use Rattle.t1_parts.specs.Parts.{ends_in, AreCutAfter, NoneGone}
+use Rattle.t1_parts.specs.Parts.{ends_in}
+use Rattle.t1_parts.specs.LineCuts.{AreCutAfter, NoneGone}
 
 -- ---- a text that stands nowhere ends no line
 

@@ -9,7 +9,6 @@ use Rattle.t1_frac.specs.declared.fault.Code.TheVariants.{F5, F6}
 use Rattle.t1_frac.specs.declared.fault.Fault.{Fault}
 use Rattle.t1_frac.specs.declared.fault.Place.TheVariants.{Nowhere, Line}
 use Rattle.t1_frac.specs.Outcome.{fault_at, reported_at, ◌>>=◌}
-use Rattle.t1_parts.specs.Numbered.{numbered, try_fold}
 use Rattle.t1_text.specs.Tokens.{tokens, first_is, last_is}
 use Rattle.t1_text.specs.Names.{decimal_of, up_to, name_of_token}
 
@@ -89,7 +88,8 @@ array_check l = later_check l >>= λ fine. if is_bad_slot (tokens l) then Err F6
 
 -- profile, encoding: the first fault that a check finds in lines, of which the first has number n
 abbrev pub lines_check : (List ℕ → Result (Unit {0}) Code) → ℕ → List (List ℕ) → Result (Unit {0}) Fault
-lines_check check n ls = try_fold (λ fine l. reported_at (Line l.number) (check l.line)) tt (numbered n ls)
+lines_check check n [] = Ok tt
+lines_check check n (l ∷ ls) = reported_at (Line n) (check l) >>= λ fine. lines_check check (n + 1) ls
 
 -- profile, encoding: the first fault of the lines from the one that opens the encoding; a missing one has no place
 abbrev pub encoding_check : ℕ → List (List ℕ) → Result (Unit {0}) Fault

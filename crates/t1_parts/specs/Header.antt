@@ -1,9 +1,9 @@
 -- Header values of a clear part.
-use Rattle.std.specs.Prelude.{ℕ, Bool, false, not, ◌+◌, ◌-◌, ◌&&◌, ◌==◌, if◌then◌else◌, Option, Some, None, option_and_then, List, [], ◌∷◌, length, take, drop, codes}
-use Rattle.std.specs.List.{list_any, starts_with}
+use Rattle.std.specs.Prelude.{ℕ, Bool, not, ◌&&◌, ◌==◌, count_by, slice_index, if◌then◌else◌, Option, Some, None, option_and_then, List, [], ◌∷◌, length, take, drop, codes}
+use Rattle.std.specs.List.{list_any, position_or_len, range_with_len, starts_with}
 use Rattle.std.specs.Option.{option_or}
 use Rattle.std.specs.Str.{bytes_eq}
-use Rattle.t1_frac.specs.Ascii.{backslash, close_parenthesis, open_parenthesis, slash}
+use Rattle.t1_frac.specs.Ascii.{backslash, close_parenthesis, open_parenthesis, slash, space}
 use Rattle.t1_frac.specs.Words.{trimmed_front}
 use Rattle.t1_parts.specs.SourceParts.{SourceParts}
 use Rattle.t1_text.specs.Lines.{begins_with}
@@ -15,17 +15,21 @@ abbrev pub not_empty : List ℕ → Option (List ℕ)
 not_empty [] = None
 not_empty (c ∷ cs) = Some (c ∷ cs)
 
--- profile, header keys: how many parentheses are open past a byte, which counts for nothing after a backslash
-abbrev pub open_after : Bool → ℕ → ℕ → ℕ
-open_after escaped depth c = if escaped then depth else if c == open_parenthesis then depth + 1 else if c == close_parenthesis then depth - 1 else depth
+-- profile, header keys: a text with a blank in the place of each byte that a backslash escapes
+abbrev pub escapes_blanked : List ℕ → List ℕ
+escapes_blanked [] = []
+escapes_blanked (c ∷ []) = c ∷ []
+escapes_blanked (c ∷ d ∷ rest) = c ∷ (if c == backslash then space ∷ escapes_blanked rest else escapes_blanked (d ∷ rest))
 
--- profile, header keys: how many bytes stand before the `)` that balances, or before the end; a backslash takes
--- the next byte with it
-abbrev pub before_balance : Bool → ℕ → List ℕ → ℕ
-before_balance escaped depth [] = 0
-before_balance escaped depth (c ∷ rest) =
-    if not escaped && c == close_parenthesis && depth == 0 then 0
-    else 1 + before_balance (not escaped && c == backslash) (open_after escaped depth c) rest
+-- profile, header keys: whether a `)` stands at a place, and before it as many `)` as `(`
+abbrev pub balances : List ℕ → ℕ → Bool
+balances text at =
+    slice_index text at == close_parenthesis
+    && count_by (λ c. c == open_parenthesis) (take at text) == count_by (λ c. c == close_parenthesis) (take at text)
+
+-- profile, header keys: how many bytes stand before the `)` that balances, or before the end; escaped bytes count for nothing
+abbrev pub before_balance : List ℕ → ℕ
+before_balance text = position_or_len (balances (escapes_blanked text)) (range_with_len 0 (length text))
 
 -- profile, header keys: a `/` and the name
 abbrev pub name_value : List ℕ → Option (List ℕ)
@@ -34,7 +38,7 @@ name_value rest = option_and_then name_of_token (first_token (tokens rest))
 -- profile, header keys: a `(` and the bytes as written up to the balancing `)`
 abbrev pub text_value : List ℕ → Option (List ℕ)
 text_value rest =
-    if begins_with open_parenthesis rest then not_empty (take (before_balance false 0 (drop 1 rest)) (drop 1 rest)) else None
+    if begins_with open_parenthesis rest then not_empty (take (before_balance (drop 1 rest)) (drop 1 rest)) else None
 
 -- profile, header keys: one token
 abbrev pub token_value : List ℕ → Option (List ℕ)

@@ -6,7 +6,7 @@ pub mod Header
 pub mod ItemRefs
 pub mod Items
 pub mod LenIV
-pub mod Numbered
+pub mod LineCuts
 pub mod NumberedStretches
 pub mod Operator
 pub mod Parts

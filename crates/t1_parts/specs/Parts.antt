@@ -1,12 +1,12 @@
 -- The three parts of a source, and its tail.
-use Rattle.std.specs.Prelude.{◌≡◌, ◌++◌, true, ℕ, Bool, false, ◌+◌, ◌-◌, ◌≤◌, ◌||◌, ◌&&◌, ◌==◌, nat_le, if◌then◌else◌, Some, None, Result, Ok, ok_or, List, [], ◌∷◌, length, take, drop, codes, filter_map}
+use Rattle.std.specs.Prelude.{ℕ, Bool, false, ◌+◌, ◌||◌, ◌&&◌, ◌==◌, nat_le, if◌then◌else◌, Some, None, Result, Ok, ok_or, List, [], ◌∷◌, length, take, drop, codes, filter_map}
 use Rattle.std.specs.List.{list_all, list_any, position, starts_with, ends_with}
 use Rattle.t1_frac.specs.Ascii.{digit_zero}
 use Rattle.t1_frac.specs.declared.fault.Code.TheVariants.{F1, F2}
 use Rattle.t1_frac.specs.declared.fault.Fault.{Fault}
 use Rattle.t1_frac.specs.declared.fault.Place.TheVariants.{Nowhere}
 use Rattle.t1_frac.specs.Outcome.{fault_at, ◌>>=◌}
-use Rattle.t1_text.specs.Lines.{lines, trimmed}
+use Rattle.t1_text.specs.Lines.{trimmed}
 
 -- profile, parts: whether the trimmed line ends in this text
 abbrev pub ends_in : List ℕ → List ℕ → Bool
@@ -19,22 +19,6 @@ is_eexec l = ends_in (codes "currentfile eexec") l
 -- Type 1 Font Format, eexec: the line that ends the private part
 abbrev pub is_closefile : List ℕ → Bool
 is_closefile l = ends_in (codes "mark currentfile closefile") l
-
--- word, parts: lines cut at the first one that passes a test: those before it, the line, and those after it
-abbrev pub IsCut : (List ℕ → Bool) → List (List ℕ) → List (List ℕ) → List ℕ → List (List ℕ) → Type 0
-IsCut test ls before line after = (ls ≡ before ++ line ∷ after) × (list_any test before ≡ false) × (test line ≡ true)
-
--- word, parts: the bytes before the rest of some bytes
-abbrev pub gone : List ℕ → List ℕ → List ℕ
-gone bytes rest = take (length bytes - length rest) bytes
-
--- word, parts: the lines of more of the bytes are those before the rest, and those of the rest's front
-abbrev pub AreCutAfter : List ℕ → List ℕ → Type 0
-AreCutAfter bytes rest = (j : ℕ) → lines (take (length bytes - length rest + j) bytes) ≡ lines (gone bytes rest) ++ lines (take j rest)
-
--- word, parts: the rest of some bytes, cut off before a line, where no line before it passes a test
-abbrev pub NoneGone : (List ℕ → Bool) → List ℕ → List ℕ → Type 0
-NoneGone test bytes rest = (length rest ≤ length bytes) × AreCutAfter bytes rest × (list_any test (lines (gone bytes rest)) ≡ false)
 
 -- profile, parts: the three parts of some lines
 pub record Parts : Type 0 where

@@ -1,19 +1,17 @@
 -- Plain lines that are read together.
 use Rattle.std.specs.Prelude.{◌≡◌, ℕ, Bool, false, is_some, if◌then◌else◌, Result, Ok, List, [], ◌∷◌}
 use Rattle.t1_frac.specs.declared.fault.Fault.{Fault}
-use Rattle.t1_frac.specs.Outcome.{◌>>=◌}
 use Rattle.t1_text.specs.Tokens.{tokens}
 use Rattle.t1_parts.specs.declared.item.Item.TheVariants.{Plain}
 use Rattle.t1_parts.specs.Entries.{NumberedItem, has, opens_subr, opens_glyph}
 use Rattle.t1_parts.specs.Items.{line_says}
-use Rattle.t1_parts.specs.Numbered.{numbered, try_fold}
-use Rattle.t1_parts.specs.Private.{item_at, read_on}
+use Rattle.t1_parts.specs.Private.{item_at, items_after}
 use Rattle.t1_parts.specs.Sections.{is_subrs_line, is_glyphs_line}
 
 -- word, private part: the earlier items and those of these lines, of which the first has number n and belongs to none of
 -- the earlier items
 abbrev pub read_from : List NumberedItem → ℕ → List (List ℕ) → Result (List NumberedItem) Fault
-read_from earlier n ls = try_fold read_on (record { items = earlier; next = n }) (numbered n ls) >>= λ read. Ok read.items
+read_from earlier n ls = items_after earlier n 0 ls
 
 -- word, entries: whether a line opens an entry, where a Subrs line or a CharStrings line came before
 abbrev pub opens_entry : Bool → Bool → List ℕ → Bool

@@ -1,5 +1,5 @@
 -- The items of a private part.
-use Rattle.std.specs.Prelude.{ℕ, ◌+◌, ◌-◌, ◌||◌, nat_lt, if◌then◌else◌, Option, Some, None, Result, Ok, Err, List, [], ◌∷◌, ◌++◌, length, take, drop, map}
+use Rattle.std.specs.Prelude.{ℕ, zero, suc, ◌+◌, ◌-◌, ◌||◌, if◌then◌else◌, Option, Some, None, Result, Ok, Err, List, [], ◌∷◌, ◌++◌, length, take, drop, map}
 use Rattle.t1_frac.specs.declared.fault.Code.{Code}
 use Rattle.t1_frac.specs.declared.fault.Code.TheVariants.{F4}
 use Rattle.t1_frac.specs.declared.fault.Fault.{Fault}
@@ -8,7 +8,6 @@ use Rattle.t1_frac.specs.Outcome.{reported_at, ◌>>=◌}
 use Rattle.t1_parts.specs.declared.item.Item.{Item}
 use Rattle.t1_parts.specs.declared.item.Item.TheVariants.{Plain}
 use Rattle.t1_text.specs.Tokens.{tokens}
-use Rattle.t1_parts.specs.Numbered.{NumberedLine, numbered, try_fold}
 use Rattle.t1_parts.specs.Sections.{subrs_line, glyphs_line, is_subrs_line, is_glyphs_line}
 use Rattle.t1_parts.specs.Entries.{Taken, NumberedItem, has, opens_subr, opens_glyph, opened_body, subr_entry, glyph_entry}
 
@@ -40,24 +39,16 @@ item_at earlier l ls =
     else if has is_subrs_line earlier then among_subrs earlier l ls (opens_subr (tokens l))
     else line_at earlier l
 
--- profile, private part: the items read so far, each with the number of its first line; and the number of the first
--- line that none of them has
-pub record ItemsSoFar : Type 0 where
-  pub items : List NumberedItem
-  pub next : ℕ
-
--- profile, private part: a line before next belongs to an item that is read; any other begins the item after them
-abbrev pub read_on : ItemsSoFar → NumberedLine → Result ItemsSoFar Fault
-read_on read l =
-    if nat_lt l.number read.next then Ok read
-    else reported_at (Line l.number) (item_at read.items l.line l.after) >>= λ x.
-    Ok (record { items = read.items ++ (l.number, x.0) ∷ []; next = l.number + 1 + x.1 })
+-- profile, private part: the earlier items and those of these lines, of which the first has number n; so many lines at the
+-- front belong to the last of the earlier items
+abbrev pub items_after : List NumberedItem → ℕ → ℕ → List (List ℕ) → Result (List NumberedItem) Fault
+items_after earlier n more [] = Ok earlier
+items_after earlier n (suc more) (l ∷ ls) = items_after earlier (n + 1) more ls
+items_after earlier n zero (l ∷ ls) = reported_at (Line n) (item_at earlier l ls) >>= λ taken. items_after (earlier ++ (n, taken.0) ∷ []) (n + 1) taken.1 ls
 
 -- profile, private part: the items of these lines, of which the first has number n, or the first fault
 abbrev pub items_of : ℕ → List (List ℕ) → Result (List NumberedItem) Fault
-items_of n ls = do
-  read ← try_fold read_on (record { items = []; next = n }) (numbered n ls)
-  Ok read.items
+items_of n ls = items_after [] n 0 ls
 
 -- profile, private part: the closefile line opens nothing, and no entry goes past it
 unfoldable pub private_items : ℕ → List (List ℕ) → Result (List NumberedItem) Fault

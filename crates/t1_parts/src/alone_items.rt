@@ -10,7 +10,7 @@ use std::marker::Model;
 use std::slice;
 
 /// The items that are left but for the plain lines that say nothing of lenIV, one after another. Contracts see their list.
-#[derive(Debug, Drop)]
+#[derive(Drop)]
 pub struct AloneItems<'i, 'a> {
     first: Option<&'i Item<'a>>,
     stretches: slice::Iter<'i, Stretch<'a>>,

@@ -1,10 +1,11 @@
 //! The items read so far.
 
-ghost use Rattle.std.specs.Prelude.{◌≡◌, ◌<◌, ◌+◌, ◌^◌, ◌∷◌, [], ◌++◌, length, IfOk, option_map};
+ghost use Rattle.std.specs.Prelude.{◌≡◌, ◌<◌, ◌+◌, ◌^◌, ◌∷◌, [], ◌++◌, length, IfOk, OnOk, option_map};
 ghost use Rattle.t1_text.specs.Lines.{lines};
 ghost use Rattle.t1_parts.specs.Sections.{is_subrs_line, is_glyphs_line};
 ghost use Rattle.t1_parts.specs.Entries.{glyph_name, has, is_subr, is_glyph};
 ghost use Rattle.std.specs.List.{find};
+ghost use Rattle.t1_parts.specs.Gathered.{KeepsNames, KeepsNumbers};
 ghost use Rattle.t1_parts.specs.LenIV.{says_lead};
 ghost use Rattle.t1_parts.specs.NumberedStretches.{numbered_in, numbered_lines};
 ghost use Rattle.t1_parts.specs.Reading.{unnumbered};
@@ -76,6 +77,41 @@ fn first_saying<'s, 'a>(
         }
     }
     None
+}
+
+/// Keeps the number of a further item, where it is a Subr.
+fn keep_number(subrs: &mut BTreeSet<u16>, item: &Item) -> Result<(), AllocError>
+    ensures { OnOk result (KeepsNumbers subrs.old.keys subrs.new.keys item.now) }
+{
+    if let Item::Subr(number, _, _) = item {
+        subrs.insert(*number)?;
+    }
+    Ok(())
+}
+
+/// Keeps the name of a further item, where it is a glyph.
+fn keep_name<'a>(glyphs: &mut IndexSet<&'a [u8]>, name: Option<&'a [u8]>) -> Result<(), AllocError>
+    ensures { OnOk result (KeepsNames glyphs.old.keys glyphs.new.keys (option_map (λ n. n.now) name.entry)) }
+{
+    if let Some(name) = name {
+        glyphs.insert(name)?;
+    }
+    Ok(())
+}
+
+/// Adds a stretch, with the number of its first line.
+fn push_numbered<'a>(
+    numbers: &mut Vec<u64>,
+    stretches: &mut Vec<Stretch<'a>>,
+    number: u64,
+    stretch: Stretch<'a>,
+) -> Result<(), AllocError>
+    ensures number { OnOk result (numbers.new.items ≡ numbers.old.items ++ number ∷ []) }
+    ensures stretch { OnOk result (stretches.new.items ≡ stretches.old.items ++ stretch.entry ∷ []) }
+{
+    numbers.push(number)?;
+    stretches.push(stretch)?;
+    Ok(())
 }
 
 impl<'a> Gathered<'a> {
@@ -161,8 +197,7 @@ impl<'a> Gathered<'a> {
             subrs,
             glyphs,
         } = self;
-        numbers.push(number)?;
-        stretches.push(Stretch::Lines(plain))?;
+        push_numbered(&mut numbers, &mut stretches, number, Stretch::Lines(plain))?;
         Ok(Gathered {
             numbers,
             stretches,
@@ -224,19 +259,9 @@ impl<'a> Gathered<'a> {
         } = self;
         let has_subrs_line = has_subrs_line | is_subrs_line(&item);
         let has_glyphs_line = has_glyphs_line | is_glyphs_line(&item);
-        match &item {
-            Item::Subr(subr, _, _) => {
-                subrs.insert(*subr)?;
-            }
-            Item::Glyph(_, _, _) => {}
-            Item::Plain(_line) => {}
-            Item::Section(_before, _count, _after) => {}
-        }
-        if let Some(name) = name {
-            glyphs.insert(name)?;
-        }
-        numbers.push(number)?;
-        stretches.push(Stretch::One(item))?;
+        keep_number(&mut subrs, &item)?;
+        keep_name(&mut glyphs, name)?;
+        push_numbered(&mut numbers, &mut stretches, number, Stretch::One(item))?;
         Ok(Gathered {
             numbers,
             stretches,

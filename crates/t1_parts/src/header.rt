@@ -1,6 +1,6 @@
 //! Header values of a clear part.
 
-ghost use Rattle.std.specs.Prelude.{◌≡◌, ◌≤◌, ◌<◌, ◌+◌, false, length, option_map};
+ghost use Rattle.std.specs.Prelude.{◌≡◌, ◌≤◌, ◌<◌, ◌+◌, length, option_map};
 ghost use Rattle.std.specs.List.{list_any};
 ghost use Rattle.std.specs.Str.{bytes_eq};
 ghost use Rattle.t1_frac.specs.Words.{trimmed_front};
@@ -11,9 +11,10 @@ use t1_frac::{Bytes, skip_blanks};
 use t1_text::{first_token, is_regular, name_of_token, same};
 
 /// How many bytes stand before the `)` that balances, or before the end.
+#[tactic(auto, using(crate::proofs::HeaderLaws::balance_is))]
 fn before_balance(text: &[u8]) -> usize
     ensures within { result ≤ length text.now }
-    ensures value { result ≡ before_balance false 0 text.now }
+    ensures value { result ≡ before_balance text.now }
 {
     let mut escaped = false;
     let mut depth: usize = 0;

@@ -27,26 +27,39 @@ pub struct Taken<'a> {
     pub after: &'a [u8],
 }
 
+/// Copies of an entry's words and of the text after its closing brace.
+fn copied_body<'a>(
+    alloc: Global,
+    words: &Words<'a>,
+    closing: &SourceText<'a>,
+) -> Result<(Words<'a>, SourceText<'a>), AllocError>
+    ensures words { IfOk result (λ body. body.0 ≡ words.now) }
+    ensures closing { IfOk result (λ body. body.1 ≡ closing.now) }
+{
+    let words = words.copied(alloc)?;
+    Ok((words, closing.copied(alloc)?))
+}
+
 impl<'a> Item<'a> {
     /// A copy. It takes no memory where the texts stand in a source.
     pub fn copied(&self, alloc: Global) -> Result<Item<'a>, AllocError>
         ensures { IfOk result (λ copy. copy ≡ self.now) }
     {
-        Ok(match self {
-            Item::Plain(line) => Item::Plain(line.copied(alloc)?),
+        match self {
+            Item::Plain(line) => Ok(Item::Plain(line.copied(alloc)?)),
             Item::Section(before, count, after) => {
                 let before = before.copied(alloc)?;
-                Item::Section(before, *count, after.copied(alloc)?)
+                Ok(Item::Section(before, *count, after.copied(alloc)?))
             }
             Item::Subr(number, words, closing) => {
-                let words = words.copied(alloc)?;
-                Item::Subr(*number, words, closing.copied(alloc)?)
+                let (words, closing) = copied_body(alloc, words, closing)?;
+                Ok(Item::Subr(*number, words, closing))
             }
             Item::Glyph(name, words, closing) => {
                 let name = name.copied(alloc)?;
-                let words = words.copied(alloc)?;
-                Item::Glyph(name, words, closing.copied(alloc)?)
+                let (words, closing) = copied_body(alloc, words, closing)?;
+                Ok(Item::Glyph(name, words, closing))
             }
-        })
+        }
     }
 }

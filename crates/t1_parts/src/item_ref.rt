@@ -10,7 +10,7 @@ use crate::len_iv::plain_line;
 use crate::sections::{is_glyphs_line, is_subrs_line};
 
 /// An item where it stands: a plain line among the bytes that were read, or an item of any kind.
-#[derive(Clone, Copy, Debug)]
+#[derive(Clone, Copy)]
 pub enum ItemRef<'i, 'a> {
     /// A plain line.
     Line(&'i [u8]),

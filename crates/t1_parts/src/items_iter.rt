@@ -14,7 +14,7 @@ use std::slice;
 
 /// The items that are left, one after another: an item, and those of some lines, of some stretches and of further lines.
 /// Contracts see their list.
-#[derive(Debug, Drop)]
+#[derive(Drop)]
 pub struct ItemsIter<'i, 'a> {
     first: Option<&'i Item<'a>>,
     front: &'i [u8],

@@ -4,7 +4,8 @@ ghost use Rattle.std.specs.Prelude.{◌≡◌, ◌==◌, ◌++◌, ◌∷◌, �
 ghost use Rattle.std.specs.List.{list_any, list_all};
 ghost use Rattle.t1_frac.specs.Ascii.{digit_zero};
 ghost use Rattle.t1_text.specs.Lines.{is_line, lines};
-ghost use Rattle.t1_parts.specs.Parts.{parts_of, ends_in, holds, is_zeros, tail_of, IsCut, NoneGone};
+ghost use Rattle.t1_parts.specs.Parts.{parts_of, ends_in, holds, is_zeros, tail_of};
+ghost use Rattle.t1_parts.specs.LineCuts.{IsCut, NoneGone};
 
 use memchr::memmem::Finder;
 use std::alloc::{AllocError, Global};

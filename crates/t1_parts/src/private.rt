@@ -145,6 +145,26 @@ fn plain_front<'a>(earlier: &Gathered, bytes: &'a [u8]) -> Option<(PlainLines<'a
     Some((PlainLines::counted(front, count), after))
 }
 
+/// The earlier items and the one at the front of some bytes, of which the first line has this number; the number of the next
+/// line; and the bytes from it on.
+fn read_item<'a>(
+    alloc: Global,
+    earlier: Gathered<'a>,
+    number: u64,
+    bytes: &'a [u8],
+) -> Result<(Gathered<'a>, u64, &'a [u8]), Refusal>
+    requires some { 0 < length bytes.now }
+    requires fits { number + length (lines bytes.now) < 2 ^ 64 }
+    ensures read { IfOk result (λ read. read_from earlier.entry number (lines bytes.now) ≡ read_from read.0 read.1 (lines read.2.now)) }
+    ensures number { IfOk result (λ read. read.1 + length (lines read.2.now) ≡ number + length (lines bytes.now)) }
+    ensures shorter { IfOk result (λ read. length (lines read.2.now) < length (lines bytes.now)) }
+    ensures refused { IfErr result (λ refusal. Refuses refusal (read_from earlier.entry number (lines bytes.now))) }
+{
+    let taken = item_at(alloc, &earlier, number, bytes)?;
+    let items = earlier.with(number, taken.item, taken.name)?;
+    Ok((items, number + (taken.more as u64 + 1), taken.after))
+}
+
 /// The earlier items and those at the front of some bytes, of which the first line has this number: plain lines that follow
 /// one another, or one item; the number of the next line; and the bytes from it on.
 fn read_front<'a>(
@@ -165,9 +185,7 @@ fn read_front<'a>(
         let items = earlier.with_lines(number, plain)?;
         return Ok((items, next, after));
     }
-    let taken = item_at(alloc, &earlier, number, bytes)?;
-    let items = earlier.with(number, taken.item, taken.name)?;
-    Ok((items, number + (taken.more as u64 + 1), taken.after))
+    read_item(alloc, earlier, number, bytes)
 }
 
 /// The items of some bytes, of which the first line has this number, each with the number of its first line; and the number
@@ -190,7 +208,7 @@ fn items_of(alloc: Global, number: u64, bytes: &[u8]) -> Result<(Gathered<'_>, u
 }
 
 /// The items of a private part, of which the last line opens nothing. The first of its lines has this number.
-#[tactic(auto, unfolding(crate::specs::Private::private_items), using(crate::proofs::ItemLaws::before_last))]
+#[tactic(auto, using(crate::proofs::ItemLaws::last_refused))]
 pub fn private_items<'a>(
     alloc: Global,
     number: u64,

@@ -1,7 +1,8 @@
 use Rattle.std.proofs.Common.{◌≡◌, ◌++◌, ◌∷◌, subst, sym, ◌∙◌, ap}
 use Rattle.std.specs.List.{list_any}
 use Rattle.t1_text.specs.Lines.{lines}
-use Rattle.t1_parts.specs.Parts.{ends_in, gone, NoneGone}
+use Rattle.t1_parts.specs.Parts.{ends_in}
+use Rattle.t1_parts.specs.LineCuts.{gone, NoneGone}
 use Rattle.t1_parts.proofs.PartLaws.{lines_cut, none_further, none_over}
 use Rattle.t1_parts.proofs.parts.cut_at.Goals as goal
 

@@ -1,5 +1,6 @@
 use Rattle.std.proofs.Common.{length}
-use Rattle.t1_parts.specs.Parts.{ends_in, NoneGone}
+use Rattle.t1_parts.specs.Parts.{ends_in}
+use Rattle.t1_parts.specs.LineCuts.{NoneGone}
 use Rattle.t1_parts.proofs.parts.cut_at.Given as goal
 
 -- none of the lines before the rest ends in the text

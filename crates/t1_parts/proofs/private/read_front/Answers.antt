@@ -1,8 +1,6 @@
 use Rattle.std.proofs.Common.{◌+◌, length, ap, sym, ◌∙◌}
-use Rattle.std.proofs.lemmas.Result.{err_from_is_err_and}
 use Rattle.t1_text.specs.Lines.{lines}
 use Rattle.t1_parts.specs.PlainRuns.{read_from}
-use Rattle.t1_parts.proofs.ItemLaws.{item_read, item_refused}
 use Rattle.t1_parts.proofs.PlainRunLaws.{among_read}
 use Rattle.t1_parts.proofs.private.read_front.Goals as goal
 
@@ -15,14 +13,3 @@ returns-in-Some-clause-read c =
     ∙ among_read c.args.earlier n plain after c.in-Some.ensures.among
     ∙ ap (λ e. read_from e (n + length plain) after) (sym c.in_ok-items.ensures)
     ∙ ap (λ k. read_from c.in_ok-items.items (n + k) after) (sym c.len.ensures.value)
-
-pub returns-in_err-taken-clause-refused : goal.returns-in_err-taken-clause-refused
-returns-in_err-taken-clause-refused c =
-    let p = err_from_is_err_and c.from_residual-in_err-taken.result c.from_residual-in_err-taken.ensures.1 in
-    rw (p.1, p.2) (item_refused c.args.earlier c.args.number c.args.bytes.now c.in_err-taken.field-0.0 c.requires.some c.in_err-taken.ensures.value)
-
-pub returns-clause-read : goal.returns-clause-read
-returns-clause-read c =
-    let taken = c.in_ok-taken.taken in
-    item_read c.args.earlier c.args.number c.args.bytes.now taken.after.now (taken.item, taken.more) c.requires.some c.in_ok-taken.ensures.value c.in_ok-taken.ensures.after
-    ∙ ap (λ e. read_from e (c.args.number + (taken.more + 1)) (lines taken.after.now)) (sym c.in_ok-items-2.ensures)
