@@ -11,8 +11,9 @@ use Rattle.t1_frac.specs.Numbers.{is_number_word}
 use Rattle.t1_run.specs.declared.outline.Point.{Point}
 use Rattle.t1_run.specs.declared.outline.Segment.{Segment}
 use Rattle.t1_run.specs.declared.outline.Segment.TheVariants.{Line}
-use Rattle.t1_run.specs.Composite.{accent_move, joined, outline, outline_foot}
-use Rattle.t1_run.specs.Run.{FontBodies, Subr, Glyph, own, foot, body_stop}
+use Rattle.t1_run.specs.Composite.{accent_move, joined, outline}
+use Rattle.t1_run.specs.Footprint.{foot, outline_foot}
+use Rattle.t1_run.specs.Run.{FontBodies, Subr, Glyph, own, body_stop}
 use Rattle.t1_run.proofs.Rows.{font_of, demo_subrs, pt}
 
 -- the demo font's letter and accent, and a composite of both with this body
@@ -69,13 +70,13 @@ unfolding own body_stop outline joined coordinate_sum coordinate_difference quot
 accent_on_accent = refl
 
 composite_foot : foot (with_composite letter accent (codes "10 600 hsbw 93 170 214 65 200 seac")) (codes "Aacute")
-    ≡ Glyph (codes "Aacute") ∷ Glyph (codes "dieresis") ∷ Glyph (codes "A") ∷ []
+    ≡ Glyph (codes "Aacute") ∷ Glyph (codes "A") ∷ Glyph (codes "dieresis") ∷ []
 unfolding own body_stop outline joined coordinate_sum coordinate_difference quotient lowest gcd commands command_of_word operator_named operator_words is_number_word number_of_word standard_name standard_names foot
 composite_foot = refl
 
 -- the outline depends on the accent's parts, and on the Subr that they enter
 composite_outline_foot : outline_foot (with_composite letter accent (codes "10 600 hsbw 93 170 214 65 200 seac")) (codes "Aacute")
-    ≡ Glyph (codes "Aacute") ∷ Glyph (codes "dieresis") ∷ Glyph (codes "A")
+    ≡ Glyph (codes "Aacute") ∷ Glyph (codes "A") ∷ Glyph (codes "dieresis")
     ∷ Glyph (codes "A")
     ∷ Glyph (codes "dieresis") ∷ Glyph (codes "acute") ∷ Glyph (codes "acute")
     ∷ Glyph (codes "acute") ∷ Subr 4 ∷ Glyph (codes "acute") ∷ Subr 4 ∷ []

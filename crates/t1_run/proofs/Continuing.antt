@@ -1,5 +1,7 @@
 -- A run with a stack of waiting bodies is the run that recurses.
 use Rattle.std.proofs.Common.{◌≡◌, ℕ, zero, suc, ◌+◌, ◌<◌, ◌≤◌, List, [], ◌∷◌, length, refl, subst, sym, ◌∙◌, ap, arith, Option, Some, None}
+use Rattle.std.specs.Borrow.{Bor}
+use Rattle.std.specs.Option.{ok_or}
 use Rattle.std.specs.Prelude.{Result, Ok, Err}
 use Rattle.t1_frac.specs.Outcome.{Refuses, reported_at, fault_at}
 use Rattle.t1_frac.specs.declared.fault.Code.{Code}
@@ -12,22 +14,24 @@ use Rattle.t1_run.specs.declared.halt.Halt.{Halt}
 use Rattle.t1_run.specs.declared.halt.Halt.TheVariants as halts
 use Rattle.t1_run.specs.declared.outline.Accent.{Accent}
 use Rattle.t1_run.specs.declared.outline.Composite.{Composite}
+use Rattle.t1_run.specs.declared.state.Control.{Control}
+use Rattle.t1_run.specs.declared.state.State.{State as StateFields}
 use Rattle.t1_run.specs.State.{State, initial}
 use Rattle.t1_run.specs.Step.{Next, Call, Back, End, Compose, Fault}
 use Rattle.t1_run.specs.Words.{step}
-use Rattle.t1_run.specs.Machine.{RefusesStep, refusal_by}
-use Rattle.t1_run.specs.Continuing.{Continues, Meets, resume}
-use Rattle.t1_run.specs.Run.{FontBodies, Key, Subr, Progress, reached, Completed, Failed, go_on, act, words, call_within, called, too_deep, composed, composite_of, asking_parts, encoded, runs, entering, body_stop, drawing_of, outcome_of}
+use Rattle.t1_run.specs.Machine.{RefusesStep, refusal_by, state_of}
+use Rattle.t1_run.specs.Continuing.{Asks, Comes, Continues, Meets, resume}
+use Rattle.t1_run.specs.Run.{FontBodies, Completed, Failed, go_on, act, words, call_within, called, too_deep, composed, composite_of, runs, entering, body_stop, drawing_of, outcome_of}
 
-resume-completed : (m : FontBodies) (levels : ℕ) (waiting : List (List Command)) (composite : Option Composite) (p : Progress)
-    → resume m levels waiting (Completed composite p) ≡ Completed composite p
-resume-completed m levels [] composite p = refl
-resume-completed m levels (rest ∷ waiting) composite p = resume-completed m (suc levels) waiting composite p
+resume-completed : (m : FontBodies) (levels : ℕ) (waiting : List (List Command)) (composite : Option Composite) (s : State)
+    → resume m levels waiting (Completed composite s) ≡ Completed composite s
+resume-completed m levels [] composite s = refl
+resume-completed m levels (rest ∷ waiting) composite s = resume-completed m (suc levels) waiting composite s
 
-resume-failed : (m : FontBodies) (levels : ℕ) (waiting : List (List Command)) (fault : Code) (asked : List Key)
-    → resume m levels waiting (Failed fault asked) ≡ Failed fault asked
-resume-failed m levels [] fault asked = refl
-resume-failed m levels (rest ∷ waiting) fault asked = resume-failed m (suc levels) waiting fault asked
+resume-failed : (m : FontBodies) (levels : ℕ) (waiting : List (List Command)) (fault : Code)
+    → resume m levels waiting (Failed fault) ≡ Failed fault
+resume-failed m levels [] fault = refl
+resume-failed m levels (rest ∷ waiting) fault = resume-failed m (suc levels) waiting fault
 
 -- ---- the same rest, by another name
 
@@ -43,41 +47,38 @@ at_waiting {m = m} {body = body} {rest = rest} {s = s} h e = subst (λ w. Contin
 
 pub Continues-start : (m : FontBodies) (body : List Command) → Continues m body body [] initial
 unfolding body_stop
-Continues-start m body = record { levels = 10; asked = []; room = refl; same = refl }
+Continues-start m body = record { levels = 10; room = refl; same = refl }
 
 pub Continues-back : {m : FontBodies} {body cs rest : List Command} {waiting : List (List Command)} {s s' : State} {c : Command}
     → Continues m body (c ∷ cs) (rest ∷ waiting) s → step c s ≡ Back s' → Continues m body rest waiting s'
 Continues-back {m = m} {cs = cs} {rest = rest} {waiting = waiting} {s' = s'} h e = record {
   levels = suc h.levels;
-  asked = h.asked;
   room = omega (arith, h.room);
-  same = sym (ap (λ t. resume m h.levels (rest ∷ waiting) (act m (call_within m h.levels) (runs m h.levels cs) t h.asked)) e) ∙ h.same;
+  same = sym (ap (λ t. resume m h.levels (rest ∷ waiting) (act m (call_within m h.levels) (runs m h.levels cs) t)) e) ∙ h.same;
 }
 
 pub Continues-next : {m : FontBodies} {body cs : List Command} {waiting : List (List Command)} {s s' : State} {c : Command}
     → Continues m body (c ∷ cs) waiting s → step c s ≡ Next s' → Continues m body cs waiting s'
 Continues-next {m = m} {cs = cs} {waiting = waiting} {s' = s'} h e = record {
   levels = h.levels;
-  asked = h.asked;
   room = h.room;
-  same = sym (ap (λ t. resume m h.levels waiting (act m (call_within m h.levels) (runs m h.levels cs) t h.asked)) e) ∙ h.same;
+  same = sym (ap (λ t. resume m h.levels waiting (act m (call_within m h.levels) (runs m h.levels cs) t)) e) ∙ h.same;
 }
 
 -- a call of a Subr that the maps have, with room for it
 call_at : (m : FontBodies) (body cs sub : List Command) (waiting : List (List Command)) (s s' : State) (c : Command) (n : ℕ)
-    (levels : ℕ) (asked : List Key) → levels + length waiting ≡ 10
-    → resume m levels waiting (runs m levels (c ∷ cs) (reached s asked)) ≡ body_stop m body
+    (levels : ℕ) → levels + length waiting ≡ 10
+    → resume m levels waiting (runs m levels (c ∷ cs) s) ≡ body_stop m body
     → step c s ≡ Call n s' → m.subrs n ≡ Some sub → length waiting < 10
     → Continues m body sub (cs ∷ waiting) (entering n s')
-call_at m body cs sub waiting s s' c n zero asked room same e found fits = absurd (omega arith)
-call_at m body cs sub waiting s s' c n (suc levels) asked room same e found fits = record {
+call_at m body cs sub waiting s s' c n zero room same e found fits = absurd (omega arith)
+call_at m body cs sub waiting s s' c n (suc levels) room same e found fits = record {
   levels = levels;
-  asked = Subr n ∷ asked;
   room = omega arith;
   same =
-      sym (ap (λ t. resume m (suc levels) waiting (act m (call_within m (suc levels)) (runs m (suc levels) cs) t asked)) e
+      sym (ap (λ t. resume m (suc levels) waiting (act m (call_within m (suc levels)) (runs m (suc levels) cs) t)) e
       ∙ ap (λ b. resume m (suc levels) waiting
-      (go_on (runs m (suc levels) cs) (called (words m (call_within m levels)) b n (reached s' (Subr n ∷ asked))))) found)
+      (go_on (runs m (suc levels) cs) (called (words m (call_within m levels)) b n s'))) found)
       ∙ same;
 }
 
@@ -85,7 +86,19 @@ pub Continues-call : {m : FontBodies} {body cs sub : List Command} {waiting : Li
     → Continues m body (c ∷ cs) waiting s → step c s ≡ Call n s' → m.subrs n ≡ Some sub → length waiting < 10
     → Continues m body sub (cs ∷ waiting) (entering n s')
 Continues-call {m = m} {body = body} {cs = cs} {sub = sub} {waiting = waiting} {s = s} {s' = s'} {c = c} {n = n} h e found fits =
-    call_at m body cs sub waiting s s' c n h.levels h.asked h.room h.same e found fits
+    call_at m body cs sub waiting s s' c n h.levels h.room h.same e found fits
+
+-- what stands in the place of a value that isn't there
+pub lacking : {X : Type 0} (o : Option X) (code found : Code) → Err found ≡ ok_or o code → (o ≡ None) × (found ≡ code)
+lacking None code found e = (refl, cc)
+lacking (Some x) code found e = absurd (cc)
+
+-- the run came to a command that asks for this
+pub asks_for : {m : FontBodies} {body : List Command} {waiting : List (List Command)} {found : Option (Control × Bor (List Command))}
+    {control asked : Control} {rest : Bor (List Command)} (s : StateFields)
+    → Comes m body waiting (Ok found) s → found ≡ Some (control, rest) → control ≡ asked → Asks m body rest.now waiting asked (state_of s)
+asks_for {m = m} {body = body} {waiting = waiting} {rest = rest} s h is e =
+    subst (λ c. Asks m body rest.now waiting c (state_of s)) e (subst (λ f. Comes m body waiting (Ok f) s) is h)
 
 -- ---- the run is over
 
@@ -93,15 +106,15 @@ pub outcome-end : {m : FontBodies} {body cs : List Command} {waiting : List (Lis
     → Continues m body (c ∷ cs) waiting s → step c s ≡ End s' → outcome_of (body_stop m body) ≡ drawing_of s'.metric None s'
 outcome-end {m = m} {cs = cs} {waiting = waiting} {s' = s'} h e =
     ap outcome_of (sym h.same
-    ∙ ap (λ t. resume m h.levels waiting (act m (call_within m h.levels) (runs m h.levels cs) t h.asked)) e
-    ∙ resume-completed m h.levels waiting None (reached s' h.asked))
+    ∙ ap (λ t. resume m h.levels waiting (act m (call_within m h.levels) (runs m h.levels cs) t)) e
+    ∙ resume-completed m h.levels waiting None s')
 
 pub outcome-fault : {m : FontBodies} {body cs : List Command} {waiting : List (List Command)} {s : State} {c : Command} {fault : Code}
     → Continues m body (c ∷ cs) waiting s → step c s ≡ Fault fault → outcome_of (body_stop m body) ≡ Err fault
 outcome-fault {m = m} {cs = cs} {waiting = waiting} {fault = fault} h e =
     ap outcome_of (sym h.same
-    ∙ ap (λ t. resume m h.levels waiting (act m (call_within m h.levels) (runs m h.levels cs) t h.asked)) e
-    ∙ resume-failed m h.levels waiting fault h.asked)
+    ∙ ap (λ t. resume m h.levels waiting (act m (call_within m h.levels) (runs m h.levels cs) t)) e
+    ∙ resume-failed m h.levels waiting fault)
 
 -- the last word of the glyph's own body, and a return there
 pub outcome-over : {m : FontBodies} {body : List Command} {s : State} → Continues m body [] [] s → outcome_of (body_stop m body) ≡ Err F35
@@ -110,69 +123,67 @@ outcome-over h = ap outcome_of (sym h.same)
 pub outcome-back : {m : FontBodies} {body cs : List Command} {s s' : State} {c : Command}
     → Continues m body (c ∷ cs) [] s → step c s ≡ Back s' → outcome_of (body_stop m body) ≡ Err F34
 outcome-back {m = m} {cs = cs} h e =
-    ap outcome_of (sym h.same ∙ ap (λ t. act m (call_within m h.levels) (runs m h.levels cs) t h.asked) e)
+    ap outcome_of (sym h.same ∙ ap (λ t. act m (call_within m h.levels) (runs m h.levels cs) t) e)
 
 -- a call, where so many levels are left, of a Subr that the maps lack
 missing_at : (m : FontBodies) (body cs : List Command) (waiting : List (List Command)) (s s' : State) (c : Command) (n : ℕ)
-    (levels : ℕ) (asked : List Key) → resume m levels waiting (runs m levels (c ∷ cs) (reached s asked)) ≡ body_stop m body
+    (levels : ℕ) → resume m levels waiting (runs m levels (c ∷ cs) s) ≡ body_stop m body
     → step c s ≡ Call n s' → m.subrs n ≡ None → outcome_of (body_stop m body) ≡ Err F32
-missing_at m body cs waiting s s' c n zero asked same e found =
+missing_at m body cs waiting s s' c n zero same e found =
     ap outcome_of (sym same
-    ∙ ap (λ t. resume m zero waiting (act m (call_within m zero) (runs m zero cs) t asked)) e
+    ∙ ap (λ t. resume m zero waiting (act m (call_within m zero) (runs m zero cs) t)) e
     ∙ ap (λ b. resume m zero waiting
-    (go_on (runs m zero cs) (called too_deep b n (reached s' (Subr n ∷ asked))))) found
-    ∙ resume-failed m zero waiting F32 (Subr n ∷ asked))
-missing_at m body cs waiting s s' c n (suc levels) asked same e found =
+    (go_on (runs m zero cs) (called too_deep b n s'))) found
+    ∙ resume-failed m zero waiting F32)
+missing_at m body cs waiting s s' c n (suc levels) same e found =
     ap outcome_of (sym same
-    ∙ ap (λ t. resume m (suc levels) waiting (act m (call_within m (suc levels)) (runs m (suc levels) cs) t asked)) e
+    ∙ ap (λ t. resume m (suc levels) waiting (act m (call_within m (suc levels)) (runs m (suc levels) cs) t)) e
     ∙ ap (λ b. resume m (suc levels) waiting
-    (go_on (runs m (suc levels) cs) (called (words m (call_within m levels)) b n (reached s' (Subr n ∷ asked))))) found
-    ∙ resume-failed m (suc levels) waiting F32 (Subr n ∷ asked))
+    (go_on (runs m (suc levels) cs) (called (words m (call_within m levels)) b n s'))) found
+    ∙ resume-failed m (suc levels) waiting F32)
 
 pub outcome-missing : {m : FontBodies} {body cs : List Command} {waiting : List (List Command)} {s s' : State} {c : Command} {n : ℕ}
     → Continues m body (c ∷ cs) waiting s → step c s ≡ Call n s' → m.subrs n ≡ None → outcome_of (body_stop m body) ≡ Err F32
 outcome-missing {m = m} {body = body} {cs = cs} {waiting = waiting} {s = s} {s' = s'} {c = c} {n = n} h e found =
-    missing_at m body cs waiting s s' c n h.levels h.asked h.same e found
+    missing_at m body cs waiting s s' c n h.levels h.same e found
 
 -- a call where ten Subrs are active
 full_at : (m : FontBodies) (body cs sub : List Command) (waiting : List (List Command)) (s s' : State) (c : Command) (n : ℕ)
-    (levels : ℕ) (asked : List Key) → levels + length waiting ≡ 10
-    → resume m levels waiting (runs m levels (c ∷ cs) (reached s asked)) ≡ body_stop m body
+    (levels : ℕ) → levels + length waiting ≡ 10
+    → resume m levels waiting (runs m levels (c ∷ cs) s) ≡ body_stop m body
     → step c s ≡ Call n s' → m.subrs n ≡ Some sub → 10 ≤ length waiting → outcome_of (body_stop m body) ≡ Err F33
-full_at m body cs sub waiting s s' c n (suc levels) asked room same e found full = absurd (omega arith)
-full_at m body cs sub waiting s s' c n zero asked room same e found full =
+full_at m body cs sub waiting s s' c n (suc levels) room same e found full = absurd (omega arith)
+full_at m body cs sub waiting s s' c n zero room same e found full =
     ap outcome_of (sym same
-    ∙ ap (λ t. resume m zero waiting (act m (call_within m zero) (runs m zero cs) t asked)) e
+    ∙ ap (λ t. resume m zero waiting (act m (call_within m zero) (runs m zero cs) t)) e
     ∙ ap (λ b. resume m zero waiting
-    (go_on (runs m zero cs) (called too_deep b n (reached s' (Subr n ∷ asked))))) found
-    ∙ resume-failed m zero waiting F33 (Subr n ∷ asked))
+    (go_on (runs m zero cs) (called too_deep b n s'))) found
+    ∙ resume-failed m zero waiting F33)
 
 pub outcome-full : {m : FontBodies} {body cs sub : List Command} {waiting : List (List Command)} {s s' : State} {c : Command} {n : ℕ}
     → Continues m body (c ∷ cs) waiting s → step c s ≡ Call n s' → m.subrs n ≡ Some sub → 10 ≤ length waiting
     → outcome_of (body_stop m body) ≡ Err F33
 outcome-full {m = m} {body = body} {cs = cs} {sub = sub} {waiting = waiting} {s = s} {s' = s'} {c = c} {n = n} h e found full =
-    full_at m body cs sub waiting s s' c n h.levels h.asked h.room h.same e found full
+    full_at m body cs sub waiting s s' c n h.levels h.room h.same e found full
 
 -- a composite, where its parts are there, and where one isn't
 pub outcome-compose : {m : FontBodies} {body cs : List Command} {waiting : List (List Command)} {s s' : State} {c : Command} {a : Accent} {parts : Composite}
     → Continues m body (c ∷ cs) waiting s → step c s ≡ Compose a s' → composite_of m.glyphs a ≡ Ok parts
     → outcome_of (body_stop m body) ≡ drawing_of s'.metric (Some parts) s'
 outcome-compose {m = m} {cs = cs} {waiting = waiting} {s' = s'} {a = a} {parts = parts} h e found =
-    let keys = asking_parts (encoded a.base) (encoded a.accent) m.glyphs h.asked in
     ap outcome_of (sym h.same
-    ∙ ap (λ t. resume m h.levels waiting (act m (call_within m h.levels) (runs m h.levels cs) t h.asked)) e
-    ∙ ap (λ r. resume m h.levels waiting (composed r (reached s' keys))) found
-    ∙ resume-completed m h.levels waiting (Some parts) (reached s' keys))
+    ∙ ap (λ t. resume m h.levels waiting (act m (call_within m h.levels) (runs m h.levels cs) t)) e
+    ∙ ap (λ r. resume m h.levels waiting (composed r s')) found
+    ∙ resume-completed m h.levels waiting (Some parts) s')
 
 pub outcome-partless : {m : FontBodies} {body cs : List Command} {waiting : List (List Command)} {s s' : State} {c : Command} {a : Accent} {fault : Code}
     → Continues m body (c ∷ cs) waiting s → step c s ≡ Compose a s' → composite_of m.glyphs a ≡ Err fault
     → outcome_of (body_stop m body) ≡ Err fault
 outcome-partless {m = m} {cs = cs} {waiting = waiting} {s' = s'} {a = a} {fault = fault} h e found =
-    let keys = asking_parts (encoded a.base) (encoded a.accent) m.glyphs h.asked in
     ap outcome_of (sym h.same
-    ∙ ap (λ t. resume m h.levels waiting (act m (call_within m h.levels) (runs m h.levels cs) t h.asked)) e
-    ∙ ap (λ r. resume m h.levels waiting (composed r (reached s' keys))) found
-    ∙ resume-failed m h.levels waiting fault keys)
+    ∙ ap (λ t. resume m h.levels waiting (act m (call_within m h.levels) (runs m h.levels cs) t)) e
+    ∙ ap (λ r. resume m h.levels waiting (composed r s')) found
+    ∙ resume-failed m h.levels waiting fault)
 
 -- ---- what refuses a word, or the search for parts, refuses the run
 

@@ -1,24 +1,16 @@
 -- The outline of a glyph depends on the footprints of all its parts, and on nothing else.
-use Rattle.std.proofs.Common.{◌≡◌, ℕ, zero, suc, List, [], ◌∷◌, ◌++◌, refl, ◌∙◌, ap, inl, inr, Option, Some, None}
+use Rattle.std.proofs.Common.{◌≡◌, ℕ, zero, suc, List, ◌++◌, refl, ◌∙◌, ap, Option, Some, None}
 use Rattle.std.specs.Prelude.{Result, Ok, Err}
 use Rattle.t1_frac.specs.Outcome.{◌>>=◌}
 use Rattle.t1_frac.specs.declared.fault.Code.{Code}
 use Rattle.t1_frac.specs.declared.fault.Code.TheVariants.{F46}
 use Rattle.t1_run.specs.declared.outline.Composite.{Composite}
 use Rattle.t1_run.specs.declared.outline.Segment.{Segment}
-use Rattle.t1_run.specs.Composite.{joined, with_parts, drawn, outline_within, outline, asked_by_parts, asked_after, foot_within, outline_foot}
-use Rattle.t1_run.specs.Footprint.{Includes, AgreeOn, OutlineFootprintLaw}
-use Rattle.t1_run.specs.Run.{FontBodies, Key, Drawing, own, foot}
+use Rattle.t1_run.specs.Composite.{joined, with_parts, drawn, outline_within, outline}
+use Rattle.t1_run.specs.Footprint.{AgreeOn, OutlineFootprintLaw, asked_by_parts, asked_after, foot, foot_within, outline_foot}
+use Rattle.t1_run.specs.Run.{FontBodies, Key, Drawing, own}
+pub use Rattle.t1_run.proofs.Agreeing.{in_first, in_second}
 use Rattle.t1_run.proofs.Agreeing.{agree-part, own_same}
-
-pub in_first : (ks ls : List Key) (k : Key) → Includes ks k → Includes (ks ++ ls) k
-in_first [] ls k i = absurd i
-in_first (x ∷ ks) ls k (inl e) = inl e
-in_first (x ∷ ks) ls k (inr i) = inr (in_first ks ls k i)
-
-pub in_second : (ks ls : List Key) (k : Key) → Includes ls k → Includes (ks ++ ls) k
-in_second [] ls k i = i
-in_second (x ∷ ks) ls k i = inr (in_second ks ls k i)
 
 -- the parts of this glyph draw the same in both fonts, from the same keys
 abbrev SameParts : FontBodies → FontBodies → (List ℕ → Result (List Segment) Code) → (List ℕ → Result (List Segment) Code) → (List ℕ → List Key) → (List ℕ → List Key) → Type 0

@@ -6,63 +6,62 @@ use Rattle.t1_code.specs.declared.command.Command.{Command}
 use Rattle.t1_run.specs.declared.outline.Composite.{Composite}
 use Rattle.t1_run.specs.declared.outline.Metric.{Metric}
 use Rattle.t1_run.specs.Composite.{HasStandardParts}
-use Rattle.t1_run.specs.State.{initial}
+use Rattle.t1_run.specs.State.{State, initial}
 use Rattle.t1_run.specs.Step.{Step, Next, Call, Back, End, Compose, Fault}
 use Rattle.t1_run.specs.Words.{step}
-use Rattle.t1_run.specs.Run.{FontBodies, Key, Subr, Progress, Stop, OutOfWords, Returned, Completed, Failed, Runner, Caller, Drawing, reached, entering, encoded, asking_parts, composite_of, composed, go_on, act, words, called, too_deep, call_within, body_stop, drawing_of, outcome_of, own, own_of}
+use Rattle.t1_run.specs.Run.{FontBodies, Stop, OutOfWords, Returned, Completed, Failed, Runner, Caller, Drawing, entering, composite_of, composed, go_on, act, words, called, too_deep, call_within, body_stop, drawing_of, outcome_of, own, own_of}
 use Rattle.t1_run.proofs.Naming.{standard_parts}
 
 -- so do those of a stop
 abbrev StopsWell : Stop → Type 0
-StopsWell (OutOfWords p) = Unit {0}
-StopsWell (Returned p) = Unit {0}
-StopsWell (Completed composite p) = IfSome composite HasStandardParts
-StopsWell (Failed fault asked) = Unit {0}
+StopsWell (OutOfWords s) = Unit {0}
+StopsWell (Returned s) = Unit {0}
+StopsWell (Completed composite s) = IfSome composite HasStandardParts
+StopsWell (Failed fault) = Unit {0}
 
-composed-well : (glyphs : List ℕ → Option (List Command)) (a : Rattle.t1_run.specs.declared.outline.Accent.Accent) (r : Result Composite Code) (p : Progress)
-    → composite_of glyphs a ≡ r → StopsWell (composed r p)
-composed-well glyphs a (Ok c) p e = standard_parts glyphs a c e
-composed-well glyphs a (Err fault) p e = tt
+composed-well : (glyphs : List ℕ → Option (List Command)) (a : Rattle.t1_run.specs.declared.outline.Accent.Accent) (r : Result Composite Code) (s : State)
+    → composite_of glyphs a ≡ r → StopsWell (composed r s)
+composed-well glyphs a (Ok c) s e = standard_parts glyphs a c e
+composed-well glyphs a (Err fault) s e = tt
 
-go_on-well : (next : Runner) (stop : Stop) → StopsWell stop → ((p : Progress) → StopsWell (next p)) → StopsWell (go_on next stop)
-go_on-well next (OutOfWords p) h rest = rest p
-go_on-well next (Returned p) h rest = rest p
-go_on-well next (Completed composite p) h rest = h
-go_on-well next (Failed fault asked) h rest = h
+go_on-well : (next : Runner) (stop : Stop) → StopsWell stop → ((s : State) → StopsWell (next s)) → StopsWell (go_on next stop)
+go_on-well next (OutOfWords s) h rest = rest s
+go_on-well next (Returned s) h rest = rest s
+go_on-well next (Completed composite s) h rest = h
+go_on-well next (Failed fault) h rest = h
 
-act-well : (m : FontBodies) (caller : Caller) (next : Runner) (s : Step) (asked : List Key) → ((n : ℕ) (p : Progress) → StopsWell (caller n p))
-    → ((p : Progress) → StopsWell (next p)) → StopsWell (act m caller next s asked)
-act-well m caller next (Next s) asked calls rest = rest (reached s asked)
-act-well m caller next (Call n s) asked calls rest = go_on-well next (caller n (reached s (Subr n ∷ asked))) (calls n (reached s (Subr n ∷ asked))) rest
-act-well m caller next (Back s) asked calls rest = tt
-act-well m caller next (End s) asked calls rest = tt
-act-well m caller next (Compose a s) asked calls rest =
-    composed-well m.glyphs a (composite_of m.glyphs a) (reached s (asking_parts (encoded a.base) (encoded a.accent) m.glyphs asked)) refl
-act-well m caller next (Fault fault) asked calls rest = tt
+act-well : (m : FontBodies) (caller : Caller) (next : Runner) (t : Step) → ((n : ℕ) (s : State) → StopsWell (caller n s))
+    → ((s : State) → StopsWell (next s)) → StopsWell (act m caller next t)
+act-well m caller next (Next s) calls rest = rest s
+act-well m caller next (Call n s) calls rest = go_on-well next (caller n s) (calls n s) rest
+act-well m caller next (Back s) calls rest = tt
+act-well m caller next (End s) calls rest = tt
+act-well m caller next (Compose a s) calls rest = composed-well m.glyphs a (composite_of m.glyphs a) s refl
+act-well m caller next (Fault fault) calls rest = tt
 
-words-well : (m : FontBodies) (caller : Caller) → ((n : ℕ) (p : Progress) → StopsWell (caller n p)) → (cs : List Command) (p : Progress) → StopsWell (words m caller cs p)
-words-well m caller calls [] p = tt
-words-well m caller calls (c ∷ cs) p = act-well m caller (words m caller cs) (step c p.state) p.asked calls (words-well m caller calls cs)
+words-well : (m : FontBodies) (caller : Caller) → ((n : ℕ) (s : State) → StopsWell (caller n s)) → (cs : List Command) (s : State) → StopsWell (words m caller cs s)
+words-well m caller calls [] s = tt
+words-well m caller calls (c ∷ cs) s = act-well m caller (words m caller cs) (step c s) calls (words-well m caller calls cs)
 
-called-well : (run : List Command → Runner) (body : Option (List Command)) (n : ℕ) (p : Progress) → ((cs : List Command) (q : Progress) → StopsWell (run cs q))
-    → StopsWell (called run body n p)
-called-well run None n p h = tt
-called-well run (Some body) n p h = h body (reached (entering n p.state) p.asked)
+called-well : (run : List Command → Runner) (body : Option (List Command)) (n : ℕ) (s : State) → ((cs : List Command) (s : State) → StopsWell (run cs s))
+    → StopsWell (called run body n s)
+called-well run None n s h = tt
+called-well run (Some body) n s h = h body (entering n s)
 
-calls-well : (m : FontBodies) (levels : ℕ) (n : ℕ) (p : Progress) → StopsWell (call_within m levels n p)
-calls-well m zero n p = called-well too_deep (m.subrs n) n p (λ cs. λ q. tt)
-calls-well m (suc levels) n p = called-well (words m (call_within m levels)) (m.subrs n) n p (words-well m (call_within m levels) (calls-well m levels))
+calls-well : (m : FontBodies) (levels : ℕ) (n : ℕ) (s : State) → StopsWell (call_within m levels n s)
+calls-well m zero n s = called-well too_deep (m.subrs n) n s (λ cs. λ s'. tt)
+calls-well m (suc levels) n s = called-well (words m (call_within m levels)) (m.subrs n) n s (words-well m (call_within m levels) (calls-well m levels))
 
 stop-well : (m : FontBodies) (body : List Command) → StopsWell (body_stop m body)
 unfolding body_stop
-stop-well m body = words-well m (call_within m 10) (calls-well m 10) body (reached initial [])
+stop-well m body = words-well m (call_within m 10) (calls-well m 10) body initial
 
 drawn-well : (stop : Stop) (d : Drawing) (c : Composite) → StopsWell stop → outcome_of stop ≡ Ok d → d.composite ≡ Some c → HasStandardParts c
-drawn-well (OutOfWords p) d c h e is = absurd (cc)
-drawn-well (Returned p) d c h e is = absurd (cc)
-drawn-well (Failed fault asked) d c h e is = absurd (cc)
-drawn-well (Completed composite p) d c h e is = by p.state.metric e where
-  by : (metric : Option Metric) → drawing_of metric composite p.state ≡ Ok d → HasStandardParts c
+drawn-well (OutOfWords s) d c h e is = absurd (cc)
+drawn-well (Returned s) d c h e is = absurd (cc)
+drawn-well (Failed fault) d c h e is = absurd (cc)
+drawn-well (Completed composite s) d c h e is = by s.metric e where
+  by : (metric : Option Metric) → drawing_of metric composite s ≡ Ok d → HasStandardParts c
   by None f = absurd (cc)
   by (Some metric) f =
       let same : composite ≡ d.composite = cc in

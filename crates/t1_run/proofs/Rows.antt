@@ -16,7 +16,8 @@ use Rattle.t1_code.specs.declared.command.Command.{Command}
 use Rattle.t1_run.specs.declared.outline.Point.{Point}
 use Rattle.t1_run.specs.declared.outline.Segment.{Segment}
 use Rattle.t1_run.specs.declared.outline.Segment.TheVariants.{Line, Curve}
-use Rattle.t1_run.specs.Run.{FontBodies, Drawing, Subr, Glyph, own, foot, body_stop}
+use Rattle.t1_run.specs.Footprint.{foot}
+use Rattle.t1_run.specs.Run.{FontBodies, Drawing, Subr, Glyph, own, body_stop}
 
 -- ---- fonts by the texts of their bodies
 

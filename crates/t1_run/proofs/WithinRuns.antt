@@ -9,7 +9,7 @@ use Rattle.t1_code.specs.declared.command.Command.{Command}
 use Rattle.t1_run.specs.declared.outline.Accent.{Accent}
 use Rattle.t1_run.specs.declared.outline.Composite.{Composite}
 use Rattle.t1_run.specs.declared.outline.Metric.{Metric}
-use Rattle.t1_run.specs.Run.{FontBodies, Key, Subr, Progress, reached, Stop, OutOfWords, Returned, Completed, Failed, Runner, Caller, Drawing, go_on, act, words, call_within, called, too_deep, composed, composite_of, encoded, asking_parts, entering, body_stop, own, own_of, drawing_of, outcome_of}
+use Rattle.t1_run.specs.Run.{FontBodies, Stop, OutOfWords, Returned, Completed, Failed, Runner, Caller, Drawing, go_on, act, words, call_within, called, too_deep, composed, composite_of, encoded, entering, body_stop, own, own_of, drawing_of, outcome_of}
 use Rattle.t1_run.specs.State.{State, initial}
 use Rattle.t1_run.specs.Step.{Step, Next, Call, Back, End, Compose, Fault}
 use Rattle.t1_run.specs.Words.{step}
@@ -22,13 +22,13 @@ pub record PartsWithin (c : Composite) : Type 0 where
   pub ady : IsValue c.ady
 
 abbrev pub StopWithin : Stop → Type 0
-StopWithin (OutOfWords p) = StateWithin p.state
-StopWithin (Returned p) = StateWithin p.state
-StopWithin (Completed composite p) = IfSome composite PartsWithin × StateWithin p.state
-StopWithin (Failed fault asked) = Unit {0}
+StopWithin (OutOfWords s) = StateWithin s
+StopWithin (Returned s) = StateWithin s
+StopWithin (Completed composite s) = IfSome composite PartsWithin × StateWithin s
+StopWithin (Failed fault) = Unit {0}
 
 abbrev RunsWithin : Runner → Type 0
-RunsWithin run = (p : Progress) → StateWithin p.state → StopWithin (run p)
+RunsWithin run = (s : State) → StateWithin s → StopWithin (run s)
 
 abbrev CallsWithin : Caller → Type 0
 CallsWithin caller = (n : ℕ) → RunsWithin (caller n)
@@ -48,46 +48,44 @@ composite-within glyphs a h =
     after-any PartsWithin (ok_or (glyphs accent) F45) _ (λ _.
     record { asb = h.asb; adx = h.adx; ady = h.ady }))))
 
-composed-within : (r : Result Composite Code) (p : Progress) → IfOk r PartsWithin → StateWithin p.state → StopWithin (composed r p)
-composed-within (Ok c) p k h = (k, h)
-composed-within (Err fault) p k h = tt
+composed-within : (r : Result Composite Code) (s : State) → IfOk r PartsWithin → StateWithin s → StopWithin (composed r s)
+composed-within (Ok c) s k h = (k, h)
+composed-within (Err fault) s k h = tt
 
 -- ---- words, calls and runs
 
 go_on-within : (next : Runner) → RunsWithin next → (e : Stop) → StopWithin e → StopWithin (go_on next e)
-go_on-within next runs (OutOfWords p) h = runs p h
-go_on-within next runs (Returned p) h = runs p h
-go_on-within next runs (Completed composite p) h = h
-go_on-within next runs (Failed fault asked) h = tt
+go_on-within next runs (OutOfWords s) h = runs s h
+go_on-within next runs (Returned s) h = runs s h
+go_on-within next runs (Completed composite s) h = h
+go_on-within next runs (Failed fault) h = tt
 
 act-within : (m : FontBodies) (caller : Caller) (next : Runner) → CallsWithin caller → RunsWithin next
-    → (t : Step) (asked : List Key) → StepWithin t → StopWithin (act m caller next t asked)
-act-within m caller next calls runs (Next s) asked h = runs (reached s asked) h
-act-within m caller next calls runs (Call n s) asked h =
-    go_on-within next runs (caller n (reached s (Subr n ∷ asked))) (calls n (reached s (Subr n ∷ asked)) h)
-act-within m caller next calls runs (Back s) asked h = h
-act-within m caller next calls runs (End s) asked h = (tt, h)
-act-within m caller next calls runs (Compose a s) asked h =
-    composed-within (composite_of m.glyphs a) (reached s (asking_parts (encoded a.base) (encoded a.accent) m.glyphs asked)) (composite-within m.glyphs a h.0) h.1
-act-within m caller next calls runs (Fault fault) asked h = tt
+    → (t : Step) → StepWithin t → StopWithin (act m caller next t)
+act-within m caller next calls runs (Next s) h = runs s h
+act-within m caller next calls runs (Call n s) h = go_on-within next runs (caller n s) (calls n s h)
+act-within m caller next calls runs (Back s) h = h
+act-within m caller next calls runs (End s) h = (tt, h)
+act-within m caller next calls runs (Compose a s) h = composed-within (composite_of m.glyphs a) s (composite-within m.glyphs a h.0) h.1
+act-within m caller next calls runs (Fault fault) h = tt
 
 words-within : (m : FontBodies) (caller : Caller) → CallsWithin caller → (cs : List Command) → RunsWithin (words m caller cs)
-words-within m caller calls [] p h = h
-words-within m caller calls (c ∷ cs) p h =
-    act-within m caller (words m caller cs) calls (words-within m caller calls cs) (step c p.state) p.asked (step-within c p.state h)
+words-within m caller calls [] s h = h
+words-within m caller calls (c ∷ cs) s h =
+    act-within m caller (words m caller cs) calls (words-within m caller calls cs) (step c s) (step-within c s h)
 
 entering-within : (n : ℕ) (s : State) → StateWithin s → StateWithin (entering n s)
 entering-within n s h =
     record { stack = h.stack; results = h.results; current = h.current; metric = h.metric; flex = h.flex; segments = h.segments }
 
 called-within : (run : List Command → Runner) → ((body : List Command) → RunsWithin (run body)) → (b : Option (List Command)) → CallsWithin (called run b)
-called-within run runs None n p h = tt
-called-within run runs (Some body) n p h = runs body (reached (entering n p.state) p.asked) (entering-within n p.state h)
+called-within run runs None n s h = tt
+called-within run runs (Some body) n s h = runs body (entering n s) (entering-within n s h)
 
 calls-within : (m : FontBodies) (levels : ℕ) → CallsWithin (call_within m levels)
-calls-within m zero n p h = called-within too_deep (λ body q h'. tt) (m.subrs n) n p h
-calls-within m (suc levels) n p h =
-    called-within (words m (call_within m levels)) (words-within m (call_within m levels) (calls-within m levels)) (m.subrs n) n p h
+calls-within m zero n s h = called-within too_deep (λ body s' h'. tt) (m.subrs n) n s h
+calls-within m (suc levels) n s h =
+    called-within (words m (call_within m levels)) (words-within m (call_within m levels) (calls-within m levels)) (m.subrs n) n s h
 
 initial-within : StateWithin initial
 initial-within = record {
@@ -101,7 +99,7 @@ initial-within = record {
 
 pub stop-within : (m : FontBodies) (body : List Command) → StopWithin (body_stop m body)
 unfolding body_stop
-stop-within m body = words-within m (call_within m 10) (calls-within m 10) body (reached initial []) initial-within
+stop-within m body = words-within m (call_within m 10) (calls-within m 10) body initial initial-within
 
 -- ---- what a run answers
 
@@ -121,10 +119,10 @@ drawing-within None composite s k c h = tt
 drawing-within (Some metric) composite s k c h = record { width = k.width; bearing = k.bearing; segments = h.segments; parts = c }
 
 pub outcome-within : (e : Stop) → StopWithin e → IfOk (outcome_of e) DrawingWithin
-outcome-within (OutOfWords p) h = tt
-outcome-within (Returned p) h = tt
-outcome-within (Completed composite p) h = drawing-within p.state.metric composite p.state h.1.metric h.0 h.1
-outcome-within (Failed fault asked) h = tt
+outcome-within (OutOfWords s) h = tt
+outcome-within (Returned s) h = tt
+outcome-within (Completed composite s) h = drawing-within s.metric composite s h.1.metric h.0 h.1
+outcome-within (Failed fault) h = tt
 
 body-within : (m : FontBodies) (b : Option (List Command)) → OwnWithin (own_of m b)
 body-within m None = tt

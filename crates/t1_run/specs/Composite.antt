@@ -10,7 +10,7 @@ use Rattle.t1_run.specs.declared.outline.Point.{Point}
 use Rattle.t1_run.specs.declared.outline.Segment.{Segment}
 use Rattle.t1_run.specs.declared.outline.Segment.TheVariants.{Line, Curve}
 use Rattle.t1_run.specs.Step.{moved}
-use Rattle.t1_run.specs.Run.{FontBodies, Key, Drawing, own, foot}
+use Rattle.t1_run.specs.Run.{FontBodies, Drawing, own}
 
 -- Type 1 Font Format, Chapter 6 (seac): how far the accent's origin is moved, by the composite's own side bearing
 abbrev pub accent_move : Point → Composite → Result Point Code
@@ -76,28 +76,6 @@ outline_within run (suc depth) glyph = drawn (outline_within run depth) (run gly
 -- profile, limits: composites nest four deep
 unfoldable pub outline : FontBodies → List ℕ → Result (List Segment) Code
 outline m glyph = outline_within (own m) 4 glyph
-
--- ---- what an outline depends on
-
--- profile: what the outlines of both parts depend on
-abbrev pub asked_by_parts : (List ℕ → List Key) → Option Composite → List Key
-asked_by_parts part None = []
-asked_by_parts part (Some c) = part c.base ++ part c.accent
-
--- profile: the same, where the glyph's own run has no fault
-abbrev pub asked_after : (List ℕ → List Key) → Option (Result Drawing Code) → List Key
-asked_after part None = []
-asked_after part (Some (Err fault)) = []
-asked_after part (Some (Ok d)) = asked_by_parts part d.composite
-
--- profile: a glyph's own footprint and those of its parts, so deep
-abbrev pub foot_within : FontBodies → ℕ → List ℕ → List Key
-foot_within m zero glyph = foot m glyph
-foot_within m (suc depth) glyph = foot m glyph ++ asked_after (foot_within m depth) (own m glyph)
-
--- profile: the footprint of a glyph's outline
-unfoldable pub outline_foot : FontBodies → List ℕ → List Key
-outline_foot m glyph = foot_within m 4 glyph
 
 -- ---- parts by their names
 

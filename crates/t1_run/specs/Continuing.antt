@@ -9,7 +9,7 @@ use Rattle.t1_run.specs.declared.state.State.{State as StateFields}
 use Rattle.t1_run.specs.State.{State}
 use Rattle.t1_run.specs.Words.{step}
 use Rattle.t1_run.specs.Machine.{state_of, reported, RefusesStep, refusal_by}
-use Rattle.t1_run.specs.Run.{FontBodies, Key, reached, Stop, go_on, runs, body_stop}
+use Rattle.t1_run.specs.Run.{FontBodies, Stop, go_on, runs, body_stop}
 
 -- word: where a body stopped, the bodies that wait go on, the innermost first; `levels` is what was left there
 abbrev pub resume : FontBodies → ℕ → List (List Command) → Stop → Stop
@@ -19,9 +19,8 @@ resume m levels (rest ∷ waiting) e = resume m (suc levels) waiting (go_on (run
 -- word: the present rest from the present state, and then the bodies that wait, stop as the whole body does
 pub record Continues (m : FontBodies) (body rest : List Command) (waiting : List (List Command)) (s : State) : Type 0 where
   pub levels : ℕ
-  pub asked : List Key
   pub room : levels + length waiting ≡ 10
-  pub same : resume m levels waiting (runs m levels rest (reached s asked)) ≡ body_stop m body
+  pub same : resume m levels waiting (runs m levels rest s) ≡ body_stop m body
 
 -- word: the run has come to this command, whose step asks for this
 pub record Asks (m : FontBodies) (body rest : List Command) (waiting : List (List Command)) (control : Control) (after : State) : Type 0 where

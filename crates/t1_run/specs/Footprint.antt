@@ -1,15 +1,94 @@
--- What laws say of a run: what it depends on, what it asks for, and how many steps it takes.
-use Rattle.std.specs.Prelude.{◌≡◌, ◌⊎◌, ◌↔◌, ◌+◌, ◌≤◌, ℕ, Bool, true, false, ◌||◌, ◌==◌, List, [], ◌∷◌, Option, Some, None, Ok}
+-- What a run and an outline depend on: what is asked of the font meanwhile. With the laws of it, and of the count of steps.
+use Rattle.std.specs.Prelude.{◌≡◌, ◌⊎◌, ◌↔◌, ◌+◌, ◌≤◌, ℕ, zero, suc, Bool, true, false, ◌||◌, ◌==◌, List, [], ◌∷◌, ◌++◌, Option, Some, None, Result, Ok, Err}
 use Rattle.std.specs.List.{list_any}
 use Rattle.std.specs.Str.{bytes_eq}
+use Rattle.t1_frac.specs.declared.fault.Code.{Code}
 use Rattle.t1_frac.specs.declared.fault.Code.TheVariants.{F47}
 use Rattle.t1_code.specs.declared.command.Command.{Command}
 use Rattle.t1_run.specs.declared.outline.Composite.{Composite}
-use Rattle.t1_run.specs.State.{State}
+use Rattle.t1_run.specs.State.{State, initial}
 use Rattle.t1_run.specs.Step.{Step, Next, Call, Back, End, Compose, Fault}
 use Rattle.t1_run.specs.Words.{step}
-use Rattle.t1_run.specs.Run.{FontBodies, Key, Subr, Glyph, Drawing, own, foot}
-use Rattle.t1_run.specs.Composite.{outline, outline_foot}
+use Rattle.t1_run.specs.Run.{FontBodies, Key, Subr, Glyph, Stop, OutOfWords, Returned, Drawing, encoded, entering, call_within, own}
+use Rattle.t1_run.specs.Composite.{outline}
+
+-- ---- what a run asks of the maps
+
+-- profile: the keys that commands ask for from a state on, in their order
+abbrev pub KeysFrom : Type 0
+KeysFrom = State → List Key
+
+-- profile: the keys after a call that stopped so: those of the words after it, from the state that it left
+abbrev pub keys_after : KeysFrom → Stop → List Key
+keys_after next (OutOfWords s) = next s
+keys_after next (Returned s) = next s
+keys_after next _ = []
+
+-- profile: the base, and then the accent where the font has the base
+abbrev pub keys_of_names : List ℕ → List ℕ → Option (List Command) → List Key
+keys_of_names base accent None = Glyph base ∷ []
+keys_of_names base accent (Some _) = Glyph base ∷ Glyph accent ∷ []
+
+-- profile: parts are asked for where both codes have names
+abbrev pub keys_of_parts : FontBodies → Option (List ℕ) → Option (List ℕ) → List Key
+keys_of_parts m (Some base) (Some accent) = keys_of_names base accent (m.glyphs base)
+keys_of_parts m _ _ = []
+
+-- profile: the keys of a word's step and of what comes after it, where so many Subrs more may be active, by the keys of calls; a
+-- call asks for its Subr, whether it is there or not
+abbrev pub keys_of_step : FontBodies → ℕ → (ℕ → KeysFrom) → KeysFrom → Step → List Key
+keys_of_step m levels called next (Next s) = next s
+keys_of_step m levels called next (Call n s) = Subr n ∷ (called n s ++ keys_after next (call_within m levels n s))
+keys_of_step m levels called next (Compose a s) = keys_of_parts m (encoded a.base) (encoded a.accent)
+keys_of_step m levels called next _ = []
+
+-- profile: the keys of words one after another
+abbrev pub keys_of_words : FontBodies → ℕ → (ℕ → KeysFrom) → List Command → KeysFrom
+keys_of_words m levels called [] s = []
+keys_of_words m levels called (c ∷ cs) s = keys_of_step m levels called (keys_of_words m levels called cs) (step c s)
+
+-- profile: the keys of a Subr's body, where there is one
+abbrev pub keys_of_body : (List Command → KeysFrom) → Option (List Command) → ℕ → KeysFrom
+keys_of_body keys None n s = []
+keys_of_body keys (Some body) n s = keys body (entering n s)
+
+-- profile, limits: the keys that a called Subr's body asks for, where so many Subrs more may be active
+abbrev pub keys_of_call : FontBodies → ℕ → ℕ → KeysFrom
+keys_of_call m zero n s = []
+keys_of_call m (suc levels) n s = keys_of_body (keys_of_words m levels (keys_of_call m levels)) (m.subrs n) n s
+
+-- profile: what the run of a body asks of the maps, where there is a body
+abbrev pub asked_of : FontBodies → Option (List Command) → List Key
+asked_of m None = []
+asked_of m (Some body) = keys_of_words m 10 (keys_of_call m 10) body initial
+
+-- profile: the glyph, and what the run of its own body asks of the maps, whether it is there or not
+unfoldable pub foot : FontBodies → List ℕ → List Key
+foot m glyph = Glyph glyph ∷ asked_of m (m.glyphs glyph)
+
+-- ---- what an outline asks of them
+
+-- profile: what the outlines of both parts depend on
+abbrev pub asked_by_parts : (List ℕ → List Key) → Option Composite → List Key
+asked_by_parts part None = []
+asked_by_parts part (Some c) = part c.base ++ part c.accent
+
+-- profile: the same, where the glyph's own run has no fault
+abbrev pub asked_after : (List ℕ → List Key) → Option (Result Drawing Code) → List Key
+asked_after part None = []
+asked_after part (Some (Err fault)) = []
+asked_after part (Some (Ok d)) = asked_by_parts part d.composite
+
+-- profile: a glyph's own footprint and those of its parts, so deep
+abbrev pub foot_within : FontBodies → ℕ → List ℕ → List Key
+foot_within m zero glyph = foot m glyph
+foot_within m (suc depth) glyph = foot m glyph ++ asked_after (foot_within m depth) (own m glyph)
+
+-- profile: the footprint of a glyph's outline
+unfoldable pub outline_foot : FontBodies → List ℕ → List Key
+outline_foot m glyph = foot_within m 4 glyph
+
+-- ---- laws
 
 -- profile: the key is among these
 abbrev pub Includes : List Key → Key → Type 0

@@ -1,5 +1,6 @@
 pub mod Composite
 pub mod Continuing
+pub mod Dispatch
 pub mod Footprint
 pub mod Machine
 pub mod Operands

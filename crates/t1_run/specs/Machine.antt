@@ -2,7 +2,7 @@
 use Rattle.std.specs.Prelude.{◌≡◌, ℕ, List, [], ◌∷◌, ◌++◌, map, reverse, take, Option, Some, None, Result, Ok, Err}
 use Rattle.std.specs.Option.{option_map}
 use Rattle.std.specs.Borrow.{Bor}
-use Rattle.t1_frac.specs.Outcome.{refusal, reported_at, Gives}
+use Rattle.t1_frac.specs.Outcome.{refusal, reported_at, Gives, Refuses}
 use Rattle.t1_frac.specs.declared.fault.Code.{Code}
 use Rattle.t1_frac.specs.declared.fault.Place.TheVariants.{Nowhere}
 use Rattle.t1_frac.specs.declared.fault.Refusal.{Refusal}
@@ -10,6 +10,7 @@ use Rattle.t1_frac.specs.declared.fault.Refusal.TheVariants.{Memory}
 use Rattle.t1_code.specs.declared.command.Command.{Command}
 use Rattle.t1_run.specs.declared.halt.Halt.{Halt}
 use Rattle.t1_run.specs.declared.halt.Halt.TheVariants as halts
+use Rattle.t1_run.specs.declared.outline.Composite.{Composite}
 use Rattle.t1_run.specs.declared.outline.Segment.{Segment}
 use Rattle.t1_run.specs.declared.state.State.{State as StateFields}
 use Rattle.t1_run.specs.declared.state.Control.{Control}
@@ -17,7 +18,7 @@ use Rattle.t1_run.specs.declared.state.Control.TheVariants as controls
 use Rattle.t1_run.specs.State.{State}
 use Rattle.t1_run.specs.Step.{Step, Next, Call, Back, End, Compose, Fault}
 use Rattle.t1_run.specs.OtherSubrs.{end_flex, start_flex, add_flex}
-use Rattle.t1_run.specs.Run.{Drawing, NumberedRun}
+use Rattle.t1_run.specs.Run.{Drawing, NumberedRun, drawing_of}
 use Rattle.t1_run.specs.declared.othersubrs.Effect.{Effect}
 use Rattle.t1_run.specs.declared.othersubrs.Effect.TheVariants.{EndFlex, StartFlex, RecordPoint, Leave, Discard}
 
@@ -69,6 +70,11 @@ Reports step made (Err halt) now = RefusesStep halt made
 abbrev pub GivesOwn : Result NumberedRun Refusal → Option (Result Drawing Code) → Type 0
 GivesOwn result None = ⊥
 GivesOwn result (Some outcome) = Gives (λ run. run.drawing) result (reported_at Nowhere outcome)
+
+-- word: a run that ends here draws what its state and its parts say, or is refused by its fault
+abbrev pub Ends : Result Drawing Code → Result (Option Composite) Refusal → StateFields → Type 0
+Ends outcome (Ok composite) s = outcome ≡ drawing_of s.metric composite (state_of s)
+Ends outcome (Err refused) s = Refuses refused (reported_at Nowhere outcome)
 
 -- word: the othersubr's effect, as the code names it
 abbrev pub effect_of : Effect → State → Step

@@ -1,4 +1,4 @@
--- The run of a glyph's own body, and what it asks of the font.
+-- The run of a glyph's own body.
 use Rattle.std.specs.Prelude.{ℕ, zero, suc, Bool, false, nat_eq, nat_lt, ◌==◌, if◌then◌else◌, List, [], ◌∷◌, Option, Some, None, Result, Ok, Err, ℤ, pos, negsuc}
 use Rattle.std.specs.Option.{ok_or, option_map}
 use Rattle.std.specs.Str.{bytes_eq}
@@ -41,29 +41,20 @@ abbrev pub body_at : FontBodies → Key → Option (List Command)
 body_at m (Subr n) = m.subrs n
 body_at m (Glyph g) = m.glyphs g
 
--- profile: how far a run has come: its state, and the keys asked so far, the newest first
-pub record Progress : Type 0 where
-  pub state : State
-  pub asked : List Key
-
--- profile: the progress to this state, with these keys asked
-abbrev pub reached : State → List Key → Progress
-reached s asked = record { state = s; asked = asked }
-
 -- profile: how a list of commands stops
 pub data Stop : Type 0 where
   -- after its last word
-  OutOfWords : Progress → Stop
+  OutOfWords : State → Stop
   -- by return
-  Returned : Progress → Stop
+  Returned : State → Stop
   -- by endchar, or by seac with the parts that it found
-  Completed : Option Composite → Progress → Stop
-  -- by a fault, with the keys asked before it
-  Failed : Code → List Key → Stop
+  Completed : Option Composite → State → Stop
+  -- by a fault
+  Failed : Code → Stop
 
--- profile: what a list of commands does from where the run has come
+-- profile: what a list of commands does from a state
 abbrev pub Runner : Type 0
-Runner = Progress → Stop
+Runner = State → Stop
 
 -- profile: what a call of a Subr does from there
 abbrev pub Caller : Type 0
@@ -96,57 +87,47 @@ composite_of glyphs a =
     ok_or (glyphs accent) F45 >>= (λ _.
     Ok (record { base = base; accent = accent; asb = a.asb; adx = a.adx; ady = a.ady })))))
 
--- profile: the base is asked for where both codes have names, and then the accent where the font has the base
-abbrev pub asking_accent : Option (List Command) → List ℕ → List Key → List Key
-asking_accent None accent asked = asked
-asking_accent (Some _) accent asked = Glyph accent ∷ asked
-
--- profile: the same, from the names of both
-abbrev pub asking_parts : Option (List ℕ) → Option (List ℕ) → (List ℕ → Option (List Command)) → List Key → List Key
-asking_parts (Some base) (Some accent) glyphs asked = asking_accent (glyphs base) accent (Glyph base ∷ asked)
-asking_parts _ _ glyphs asked = asked
-
 -- profile: the run ends with its composite, or by the composite's fault
 abbrev pub composed : Result Composite Code → Runner
-composed (Ok composite) p = Completed (Some composite) p
-composed (Err fault) p = Failed fault p.asked
+composed (Ok composite) s = Completed (Some composite) s
+composed (Err fault) s = Failed fault
 
 -- ---- words and calls
 
 -- Type 1 Font Format, Chapter 6 (return): where a Subr is over, the caller goes on
 abbrev pub go_on : Runner → Stop → Stop
-go_on next (OutOfWords p) = next p
-go_on next (Returned p) = next p
-go_on next (Completed composite p) = Completed composite p
-go_on next (Failed fault asked) = Failed fault asked
+go_on next (OutOfWords s) = next s
+go_on next (Returned s) = next s
+go_on next (Completed composite s) = Completed composite s
+go_on next (Failed fault) = Failed fault
 
--- profile: what a word's step does to the run, by the keys asked before it
-abbrev pub act : FontBodies → Caller → Runner → Step → List Key → Stop
-act m caller next (Next s) asked = next (reached s asked)
-act m caller next (Call n s) asked = go_on next (caller n (reached s (Subr n ∷ asked)))
-act m caller next (Back s) asked = Returned (reached s asked)
-act m caller next (End s) asked = Completed None (reached s asked)
-act m caller next (Compose a s) asked = composed (composite_of m.glyphs a) (reached s (asking_parts (encoded a.base) (encoded a.accent) m.glyphs asked))
-act m caller next (Fault fault) asked = Failed fault asked
+-- profile: what a word's step does to the run
+abbrev pub act : FontBodies → Caller → Runner → Step → Stop
+act m caller next (Next s) = next s
+act m caller next (Call n s) = go_on next (caller n s)
+act m caller next (Back s) = Returned s
+act m caller next (End s) = Completed None s
+act m caller next (Compose a s) = composed (composite_of m.glyphs a) s
+act m caller next (Fault fault) = Failed fault
 
 -- Type 1 Font Format, Chapter 6: the words one after another
 abbrev pub words : FontBodies → Caller → List Command → Runner
-words m caller [] p = OutOfWords p
-words m caller (c ∷ cs) p = act m caller (words m caller cs) (step c p.state) p.asked
+words m caller [] s = OutOfWords s
+words m caller (c ∷ cs) s = act m caller (words m caller cs) (step c s)
 
 -- Type 1 Font Format, Chapter 6 (callsubr): a Subr's body, run by this runner; F32 where there is no such Subr
 abbrev pub called : (List Command → Runner) → Option (List Command) → Caller
-called run None n p = Failed F32 p.asked
-called run (Some body) n p = run body (reached (entering n p.state) p.asked)
+called run None n s = Failed F32
+called run (Some body) n s = run body (entering n s)
 
 -- profile, limits: a body that is called where no Subr more may be active
 abbrev pub too_deep : List Command → Runner
-too_deep body p = Failed F33 p.asked
+too_deep body s = Failed F33
 
 -- profile, limits: a call, where so many Subrs more may be active at once
 abbrev pub call_within : FontBodies → ℕ → Caller
-call_within m zero n p = called too_deep (m.subrs n) n p
-call_within m (suc levels) n p = called (words m (call_within m levels)) (m.subrs n) n p
+call_within m zero n s = called too_deep (m.subrs n) n s
+call_within m (suc levels) n s = called (words m (call_within m levels)) (m.subrs n) n s
 
 -- profile, limits: what a list of commands does, where so many Subrs may be active at once
 abbrev pub runs : FontBodies → ℕ → List Command → Runner
@@ -154,7 +135,7 @@ runs m levels = words m (call_within m levels)
 
 -- profile, limits: how a glyph's own body stops, in which ten Subrs may be active
 unfoldable pub body_stop : FontBodies → List Command → Stop
-body_stop m body = runs m 10 body (reached initial [])
+body_stop m body = runs m 10 body initial
 
 -- ---- what a run answers
 
@@ -188,31 +169,15 @@ drawing_of (Some metric) composite s =
 
 -- Type 1 Font Format, Chapter 6 (endchar): a glyph's own body ends by endchar or seac
 abbrev pub outcome_of : Stop → Result Drawing Code
-outcome_of (OutOfWords p) = Err F35
-outcome_of (Returned p) = Err F34
-outcome_of (Completed composite p) = drawing_of p.state.metric composite p.state
-outcome_of (Failed fault asked) = Err fault
-
--- profile: the keys that were asked until a run stopped, the newest first
-abbrev pub asked_by : Stop → List Key
-asked_by (OutOfWords p) = p.asked
-asked_by (Returned p) = p.asked
-asked_by (Completed composite p) = p.asked
-asked_by (Failed fault asked) = asked
+outcome_of (OutOfWords s) = Err F35
+outcome_of (Returned s) = Err F34
+outcome_of (Completed composite s) = drawing_of s.metric composite s
+outcome_of (Failed fault) = Err fault
 
 -- profile: what a body draws, or its first fault, where there is a body
 abbrev pub own_of : FontBodies → Option (List Command) → Option (Result Drawing Code)
 own_of m body = option_map (λ cs. outcome_of (body_stop m cs)) body
 
--- profile: what the run of a body asks of the maps, where there is a body
-abbrev pub asked_of : FontBodies → Option (List Command) → List Key
-asked_of m None = []
-asked_of m (Some body) = asked_by (body_stop m body)
-
 -- profile: what the own body of a glyph of the maps draws, or its first fault
 unfoldable pub own : FontBodies → List ℕ → Option (Result Drawing Code)
 own m glyph = own_of m (m.glyphs glyph)
-
--- profile: the glyph, and what the run of its own body asks of the maps, whether it is there or not
-unfoldable pub foot : FontBodies → List ℕ → List Key
-foot m glyph = Glyph glyph ∷ asked_of m (m.glyphs glyph)

@@ -78,33 +78,6 @@ rule HMoveTo values s = with_one values (λ dx. move_by dx zero_fraction s)
 rule VHCurveTo values s = with_four values (λ dy1 dx2 dy2 dx3. curve_by zero_fraction dy1 dx2 dy2 dx3 zero_fraction s)
 rule HVCurveTo values s = with_four values (λ dx1 dx2 dy2 dy3. curve_by dx1 zero_fraction dx2 dy2 zero_fraction dy3 s)
 
--- ---- kinds of commands
-
--- Type 1 Font Format, Chapter 6: the commands that set the current point and draw nothing
-abbrev pub places : Command → Bool
-places RMoveTo = true
-places HMoveTo = true
-places VMoveTo = true
-places Hsbw = true
-places Sbw = true
-places SetCurrentPoint = true
-places _ = false
-
--- Type 1 Font Format, Chapter 6: the commands that put a value on the operand stack
-abbrev pub computes : Command → Bool
-computes (Num n) = true
-computes Pop = true
-computes Div = true
-computes _ = false
-
--- Type 1 Font Format, Chapter 6: the commands after which the next word of the same body comes
-abbrev pub goes_on : Command → Bool
-goes_on CallSubr = false
-goes_on Return = false
-goes_on Seac = false
-goes_on EndChar = false
-goes_on _ = true
-
 -- profile, order of faults: operands enough, the side bearing, the operands, the flex, then the command's own rule
 abbrev pub execute : Command → State → Step
 execute c s =

@@ -54,13 +54,11 @@ pub fn join(
         (reported_at Place.Nowhere (joined own.now.drawing base.now accent.now)) }
     ensures within { IfOk result (λ outline. All IsWithin base.now → All IsWithin outline.items) }
 {
-    let mut outline = Vec::new(alloc);
     let Some(parts) = own.composite() else {
-        outline.extend_from_slice(own.segments())?;
-        return Ok(outline);
+        return Ok(Vec::from_slice(alloc, own.segments())?);
     };
     let by = accent_move(&own.side_bearing(), parts)?;
-    outline.extend_from_slice(own.segments())?;
+    let mut outline = Vec::from_slice(alloc, own.segments())?;
     outline.extend_from_slice(base)?;
     push_moved(&mut outline, accent, &by)?;
     Ok(outline)

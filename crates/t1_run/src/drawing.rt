@@ -1,10 +1,11 @@
 //! Moves, lines, curves and metrics.
 
 ghost use Rattle.std.specs.Prelude.{◌≡◌, [], ◌∷◌, ◌++◌, ◌≤◌, true, length, OnOk};
+ghost use Rattle.t1_run.specs.Dispatch.{sets_point};
 ghost use Rattle.t1_run.specs.Machine.{state_of, going_on, answered, Reports};
 ghost use Rattle.t1_run.specs.Operands.{takes, topmost};
 ghost use Rattle.t1_run.specs.Step.{moved as moved_by, move_by as move_of, line_by as line_of, curve_by as curve_of, set_metric as metric_of, Next, cleared, at_point};
-ghost use Rattle.t1_run.specs.Words.{rule, draws as draws_of, places as places_of};
+ghost use Rattle.t1_run.specs.Words.{rule, draws as draws_of};
 
 use crate::halt::Halt;
 use crate::outline::{Metric, Point, Segment};
@@ -130,15 +131,15 @@ impl State {
                 self.line_by(zero, dy)
             }
             Command::RRCurveTo => {
-                let [dx1, dy1, dx2, dy2, dx3, dy3] = self.operands.top_six();
+                let [dx1, dy1, dx2, dy2, dx3, dy3] = self.operands.topmost::<6>();
                 self.curve_by((dx1, dy1), (dx2, dy2), (dx3, dy3))
             }
             Command::VHCurveTo => {
-                let [dy1, dx2, dy2, dx3] = self.operands.top_four();
+                let [dy1, dx2, dy2, dx3] = self.operands.topmost::<4>();
                 self.curve_by((zero, dy1), (dx2, dy2), (dx3, zero))
             }
             Command::HVCurveTo => {
-                let [dx1, dx2, dy2, dy3] = self.operands.top_four();
+                let [dx1, dx2, dy2, dy3] = self.operands.topmost::<4>();
                 self.curve_by((dx1, zero), (dx2, dy2), (zero, dy3))
             }
             _ => unreachable!(),
@@ -148,7 +149,7 @@ impl State {
     /// A command that sets the current point and draws nothing.
     #[inline(always)]
     pub fn place(&mut self, command: Command) -> Result<(), Code>
-        requires kind { places_of command ≡ true }
+        requires kind { sets_point command ≡ true }
         requires enough { takes command ≤ length self.old.operands }
         ensures reported { rule command (topmost (takes command) self.old.operands) (state_of self.old) ≡ answered going_on result (state_of self.new) }
         ensures steps { self.new.steps ≡ self.old.steps }
@@ -173,7 +174,7 @@ impl State {
                 Ok(())
             }
             Command::Sbw => {
-                let [sbx, sby, wx, wy] = self.operands.top_four();
+                let [sbx, sby, wx, wy] = self.operands.topmost::<4>();
                 self.set_metric(sbx, sby, wx, wy);
                 Ok(())
             }

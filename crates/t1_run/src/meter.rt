@@ -5,7 +5,7 @@ ghost use Rattle.std.specs.Prelude.{◌≡◌, ◌+◌, ◌-◌, ◌^◌, min};
 use std::marker::Model;
 
 /// Counts runs, up to the last count that it can hold. It can't be cloned.
-#[derive(Debug, Drop)]
+#[derive(Drop)]
 pub struct Meter {
     count: u64,
 }

@@ -93,43 +93,16 @@ impl Operands {
         (self.values[self.len - 2], self.values[self.len - 1])
     }
 
-    /// The four topmost values, the lowest first.
+    /// So many topmost values, the lowest first.
     #[inline(always)]
-    pub fn top_four(&self) -> [Frac; 4]
-        requires { 4 ≤ length self.now }
-        ensures { topmost 4 self.now ≡ result }
+    pub fn topmost<const N: usize>(&self) -> [Frac; N]
+        requires { N ≤ length self.now }
+        ensures { topmost N self.now ≡ result }
     {
-        let values = self.as_slice();
-        match &values[values.len() - 4..] {
-            [a, b, c, d] => [*a, *b, *c, *d],
-            _ => unreachable!(),
-        }
-    }
-
-    /// The five topmost values, the lowest first.
-    #[inline(always)]
-    pub fn top_five(&self) -> [Frac; 5]
-        requires { 5 ≤ length self.now }
-        ensures { topmost 5 self.now ≡ result }
-    {
-        let values = self.as_slice();
-        match &values[values.len() - 5..] {
-            [a, b, c, d, e] => [*a, *b, *c, *d, *e],
-            _ => unreachable!(),
-        }
-    }
-
-    /// The six topmost values, the lowest first.
-    #[inline(always)]
-    pub fn top_six(&self) -> [Frac; 6]
-        requires { 6 ≤ length self.now }
-        ensures { topmost 6 self.now ≡ result }
-    {
-        let values = self.as_slice();
-        match &values[values.len() - 6..] {
-            [a, b, c, d, e, f] => [*a, *b, *c, *d, *e, *f],
-            _ => unreachable!(),
-        }
+        let Some(values) = self.as_slice().last_chunk::<N>() else {
+            unreachable!()
+        };
+        *values
     }
 
     #[inline(always)]

@@ -11,7 +11,7 @@ use crate::state::State;
 use t1_frac::{Code, Frac};
 
 /// What an othersubr does with its arguments.
-#[derive(Clone, Copy, Debug, PartialEq, Eq)]
+#[derive(Clone, Copy)]
 pub enum Effect {
     /// Ends the flex, with its height and the point that it ends at.
     EndFlex(Frac, Frac, Frac),

@@ -1,6 +1,6 @@
 //! What a run answers.
 
-ghost use Rattle.std.specs.Prelude.{◌≡◌, All, IfOk, IfSome, MatchResult, Option, Ok, Err};
+ghost use Rattle.std.specs.Prelude.{◌≡◌, All, IfSome, Option, Some, Ok};
 ghost use Rattle.std.specs.Option.{option_copied};
 ghost use Rattle.t1_run.specs.Composite.{HasStandardParts, IsWithin};
 ghost use Rattle.t1_run.specs.Machine.{state_of};
@@ -10,10 +10,9 @@ use crate::entered::Entered;
 use crate::outline::{Composite, Metric, Point, Segment};
 use crate::state::State;
 use std::marker::Model;
-use t1_frac::Code;
 
 /// What the run of a glyph's own body answered. It is made by `run` and `run_of_body` alone, and can't be cloned.
-#[derive(Debug, Drop)]
+#[derive(Drop)]
 pub struct Run {
     metric: Metric,
     segments: Vec<Segment>,
@@ -47,36 +46,32 @@ impl Model for Run {
 }
 
 impl Run {
-    /// The run that ended in this state.
+    /// The run that ended in this state, with this metric.
     pub(crate) fn ended(
         state: State,
+        metric: Metric,
         composite: Option<Composite>,
         serial: u64,
-    ) -> Result<Run, Code>
-        requires within { IfOk (drawing_of state.metric composite (state_of state)) (λ drawing. All IsWithin drawing.segments) }
+    ) -> Run
+        requires within { All IsWithin state.segments.items }
         requires parts { IfSome composite HasStandardParts }
-        ensures drawing { MatchResult
-            result
-            (λ run. drawing_of state.metric composite (state_of state) ≡ Ok run.drawing)
-            (λ code. drawing_of state.metric composite (state_of state) ≡ Err code) }
-        ensures serial { IfOk result (λ run. run.serial ≡ serial) }
+        ensures drawing { drawing_of (Some metric) composite (state_of state) ≡ Ok result.drawing }
+        ensures serial { result.serial ≡ serial }
     {
         let State {
-            metric,
             segments,
             entered,
             steps,
             ..
         } = state;
-        let metric = metric.ok_or(Code::F36)?;
-        Ok(Run {
+        Run {
             metric,
             segments,
             composite,
             entered,
             steps,
             serial,
-        })
+        }
     }
 
     /// The width of the glyph, in x and y.

@@ -16,14 +16,14 @@ pub enum Segment {
 }
 
 /// The side bearing point and the width.
-#[derive(Clone, Copy, Debug, PartialEq, Eq)]
+#[derive(Clone, Copy)]
 pub struct Metric {
     pub bearing: Point,
     pub width: Point,
 }
 
 /// The operands of seac: the accent's side bearing, the place of its origin, and two codes of StandardEncoding.
-#[derive(Clone, Copy, Debug, PartialEq, Eq)]
+#[derive(Clone, Copy)]
 pub struct Accent {
     pub asb: Frac,
     pub adx: Frac,

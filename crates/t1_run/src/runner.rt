@@ -3,14 +3,16 @@
 ghost use Rattle.std.specs.Prelude.{◌≡◌, ◌+◌, ◌-◌, ◌^◌, ◌<◌, ◌≤◌, [], ℕ, List, Some, min, IsSome, IfOk, IfSome};
 ghost use Rattle.t1_frac.specs.Outcome.{Gives, reported_at};
 ghost use Rattle.t1_code.specs.declared.command.Command.{Command as CommandOf};
+ghost use Rattle.t1_run.specs.Composite.{HasStandardParts};
 ghost use Rattle.t1_run.specs.Continuing.{Comes, Continues};
-ghost use Rattle.t1_run.specs.Machine.{state_of, GivesOwn};
+ghost use Rattle.t1_run.specs.Machine.{state_of, Ends, GivesOwn};
 ghost use Rattle.t1_run.specs.Run.{FontBodies, body_stop, outcome_of, own, font};
+ghost use Rattle.t1_run.specs.State.{initial};
 
 use crate::bodies::{Bodies, StoredBodies};
 use crate::meter::Meter;
 use crate::outcome::Run;
-use crate::outline::Segment;
+use crate::outline::{Composite, Segment};
 use crate::returns::ReturnStack;
 use crate::seac::find_parts;
 use crate::state::{Control, State};
@@ -49,26 +51,22 @@ fn run_commands<'a>(
     }
 }
 
-/// Runs a body to its endchar or seac.
-fn run_body<'a, B: Bodies>(
+/// Executes a body, and the Subrs that it calls, up to its endchar or seac: the parts of a glyph that ends by seac. The state isn't
+/// owned here, so that no way out of the loop has to drop it.
+fn run_words<'a, B: Bodies>(
     alloc: Global,
     bodies: &'a B,
     body: &'a [Command],
-    segments: Vec<Segment>,
-    serial: u64,
-) -> Result<Run, Refusal>
-    requires { segments.items ≡ [] }
-    ensures drawing { Gives
-        (λ run. run.drawing)
-        result
-        (reported_at Place.Nowhere (outcome_of (body_stop (font (B.subrs bodies.now) (B.glyphs bodies.now)) body.now))) }
-    ensures serial { IfOk result (λ run. run.serial ≡ serial) }
+    state: &mut State,
+) -> Result<Option<Composite>, Refusal>
+    requires { state_of state.old ≡ initial }
+    ensures ends { Ends (outcome_of (body_stop (font (B.subrs bodies.now) (B.glyphs bodies.now)) body.now)) result state.new }
+    ensures parts { IfOk result (λ composite. IfSome composite HasStandardParts) }
 {
-    let mut state = State::new(alloc, segments);
     let mut returns = ReturnStack::new();
     let mut rest = body;
     'words: loop {
-        let Some((control, tail)) = run_commands(&mut state, rest)? else {
+        let Some((control, tail)) = run_commands(state, rest)? else {
             rest = returns.pop().ok_or(Code::F35)?;
             continue;
         };
@@ -83,13 +81,34 @@ fn run_body<'a, B: Bodies>(
                 rest = called;
             }
             Control::Back => rest = returns.pop().ok_or(Code::F34)?,
-            Control::End => return Ok(Run::ended(state, None, serial)?),
+            Control::End => return Ok(None),
             Control::Compose(accent) => {
                 let parts = find_parts(alloc, bodies, &accent)?;
-                return Ok(Run::ended(state, Some(parts), serial)?);
+                return Ok(Some(parts));
             }
         }
     }
+}
+
+/// Runs a body to its endchar or seac.
+fn run_body<B: Bodies>(
+    alloc: Global,
+    bodies: &B,
+    body: &[Command],
+    segments: Vec<Segment>,
+    serial: u64,
+) -> Result<Run, Refusal>
+    requires { segments.items ≡ [] }
+    ensures drawing { Gives
+        (λ run. run.drawing)
+        result
+        (reported_at Place.Nowhere (outcome_of (body_stop (font (B.subrs bodies.now) (B.glyphs bodies.now)) body.now))) }
+    ensures serial { IfOk result (λ run. run.serial ≡ serial) }
+{
+    let mut state = State::new(alloc, segments);
+    let composite = run_words(alloc, bodies, body, &mut state)?;
+    let metric = state.metric.ok_or(Code::F36)?;
+    Ok(Run::ended(state, metric, composite, serial))
 }
 
 /// Runs the own body of a glyph of the font, exactly. The answer is what it draws, or its first fault, at no place. Of a body that

@@ -14,7 +14,7 @@ use std::alloc::{AllocError, Global};
 use t1_frac::Frac;
 
 /// What a word asks of the run, where it asks for more than the next one.
-#[derive(Clone, Copy, Debug, PartialEq, Eq)]
+#[derive(Clone, Copy)]
 pub enum Control {
     Call(u16),
     Back,

@@ -3,13 +3,14 @@
 ghost use Rattle.std.specs.Prelude.{◌≡◌, ◌∷◌, ◌+◌, ◌≤◌, List, OnOk, IfErr, IfSome, true, false, None, length};
 ghost use Rattle.t1_code.specs.declared.command.Command.{Command as CommandOf};
 ghost use Rattle.t1_run.specs.Continuing.{Continues};
+ghost use Rattle.t1_run.specs.Dispatch.{next_word_follows, pushes_value};
 ghost use Rattle.t1_run.specs.Run.{FontBodies};
 ghost use Rattle.t1_frac.specs.Limits.{exceeds};
 ghost use Rattle.t1_run.specs.Machine.{state_of, going_on, answered, reported, Reports};
 ghost use Rattle.t1_run.specs.Operands.{topmost, below, takes as takes_of, is_whole, operand_faults};
 ghost use Rattle.t1_run.specs.Step.{push as push_of, pop_result as pop_of, divide as divide_of, call as call_of, Call, Compose, Fault, with_stack};
 ghost use Rattle.t1_code.specs.declared.command.Command.TheVariants as Commands;
-ghost use Rattle.t1_run.specs.Words.{step as step_of, execute as execute_of, rule as rule_of, computes as computes_of, goes_on};
+ghost use Rattle.t1_run.specs.Words.{step as step_of, execute as execute_of, rule as rule_of};
 
 use crate::checks::{check_operands, draws_or_ends, needs_bearing, sets_bearing, takes};
 use crate::halt::Halt;
@@ -102,7 +103,7 @@ impl State {
         ensures reported { rule_of Command.Seac (topmost 5 self.old.operands) (state_of self.old) ≡ Compose result (state_of self.new) }
         ensures steps { self.new.steps ≡ self.old.steps }
     {
-        let [asb, adx, ady, base, accent] = self.operands.top_five();
+        let [asb, adx, ady, base, accent] = self.operands.topmost::<5>();
         self.operands.clear();
         Accent {
             asb,
@@ -116,7 +117,7 @@ impl State {
     /// A command that puts a value on the operand stack.
     #[inline(always)]
     fn compute(&mut self, command: Command) -> Result<(), Code>
-        requires kind { computes_of command ≡ true }
+        requires kind { pushes_value command ≡ true }
         requires enough { takes_of command ≤ length self.old.operands }
         ensures reported { rule_of command (topmost (takes_of command) self.old.operands) (state_of self.old) ≡ answered going_on result (state_of self.new) }
         ensures steps { self.new.steps ≡ self.old.steps }
@@ -135,7 +136,7 @@ impl State {
     /// The rule of a command after which the next word comes.
     #[inline(always)]
     fn carry_out(&mut self, command: Command) -> Result<(), Halt>
-        requires kind { goes_on command ≡ true }
+        requires kind { next_word_follows command ≡ true }
         requires enough { takes_of command ≤ length self.old.operands }
         ensures reported { Reports going_on (rule_of command (topmost (takes_of command) self.old.operands) (state_of self.old)) result self.new }
         ensures steps { self.new.steps ≡ self.old.steps }
@@ -174,7 +175,7 @@ impl State {
     /// The rule of a command that asks for more than the next word.
     #[inline(always)]
     fn ask(&mut self, command: Command) -> Result<Control, Code>
-        requires kind { goes_on command ≡ false }
+        requires kind { next_word_follows command ≡ false }
         requires enough { takes_of command ≤ length self.old.operands }
         requires faultless { operand_faults command (topmost (takes_of command) self.old.operands) ≡ None }
         ensures reported { rule_of command (topmost (takes_of command) self.old.operands) (state_of self.old) ≡ answered reported result (state_of self.new) }
@@ -222,7 +223,7 @@ impl State {
     /// A command after which the next word comes, by the order of its tests.
     #[inline(always)]
     fn execute(&mut self, command: Command) -> Result<(), Halt>
-        requires kind { goes_on command ≡ true }
+        requires kind { next_word_follows command ≡ true }
         ensures reported { Reports going_on (execute_of command (state_of self.old)) result self.new }
         ensures steps { self.new.steps ≡ self.old.steps }
     {
@@ -234,7 +235,7 @@ impl State {
     /// which rule comes after them.
     #[inline(always)]
     fn execute_by_name(&mut self, command: Command) -> Result<(), Halt>
-        requires kind { goes_on command ≡ true }
+        requires kind { next_word_follows command ≡ true }
         ensures reported { Reports going_on (execute_of command (state_of self.old)) result self.new }
         ensures steps { self.new.steps ≡ self.old.steps }
     {
@@ -337,7 +338,7 @@ impl State {
     /// A command after which the next word comes: F47 where a run has made its last step already.
     #[inline(always)]
     pub fn step_on(&mut self, command: Command) -> Result<(), Halt>
-        requires kind { goes_on command ≡ true }
+        requires kind { next_word_follows command ≡ true }
         ensures reported { Reports going_on (step_of command (state_of self.old)) result self.new }
         ensures counted { OnOk result (self.new.steps ≡ self.old.steps + 1) }
         ensures bounded { OnOk result (self.new.steps ≤ 100000) }
@@ -352,7 +353,7 @@ impl State {
     /// A command that asks for more than the next word: F47 where a run has made its last step already.
     #[inline(always)]
     pub fn step_asking(&mut self, command: Command) -> Result<Control, Halt>
-        requires kind { goes_on command ≡ false }
+        requires kind { next_word_follows command ≡ false }
         ensures reported { Reports reported (step_of command (state_of self.old)) result self.new }
         ensures counted { OnOk result (self.new.steps ≡ self.old.steps + 1) }
         ensures bounded { OnOk result (self.new.steps ≤ 100000) }
