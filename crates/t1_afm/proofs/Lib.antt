@@ -8,6 +8,7 @@ pub mod EndValues
 pub mod Ends
 pub mod Fonts
 pub mod Longs
+pub mod Products
 pub mod Rows
 pub mod Sampling
 pub mod Sections

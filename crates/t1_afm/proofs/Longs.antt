@@ -62,6 +62,11 @@ sum_fits x y a b m n h k fits =
     let size = sum_size a b m n h.bound k.bound in
     rw (h.same, k.same) (fits_small (a +ℤ b) (omega (arith, size, fits)))
 
+pub difference_fits : (x y a b : ℤ) (m n : ℕ) → IsLong x a m → IsLong y b n → m + n ≤ 2 ^ 60 → FitsSigned w64 (read x -ℤ read y)
+difference_fits x y a b m n h k fits =
+    let size = difference_size a b m n h.bound k.bound in
+    rw (h.same, k.same) (fits_small (a -ℤ b) (omega (arith, size, fits)))
+
 pub multiple_fits : (k : ℕ) (x a : ℤ) (m : ℕ) → IsLong x a m → k * m ≤ 2 ^ 60 → FitsSigned w64 (pos k *ℤ read x)
 multiple_fits k x a m h fits =
     let size = multiple_size k a m h.bound in

@@ -12,7 +12,7 @@ use crate::whole::WholeCubic;
 use t1_frac::Frac;
 
 /// A cubic along one axis, by the coordinates of its four points.
-#[derive(Debug, Drop)]
+#[derive(Drop)]
 pub(crate) struct Cubic {
     pub(crate) start: Frac,
     pub(crate) first: Frac,

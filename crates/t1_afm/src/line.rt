@@ -9,7 +9,7 @@ use std::io::{self, Write};
 use t1_code::{Chunk, Counted, put_plain};
 
 /// A word of a line.
-#[derive(Clone, Copy, Debug)]
+#[derive(Clone, Copy)]
 pub(crate) enum Word<'a> {
     Text(&'a [u8]),
     Number(i64),

@@ -6,7 +6,7 @@ use crate::bbox::BBox;
 use std::marker::Model;
 
 /// The bytes of a name or of a value, borrowed. Contracts see their list.
-#[derive(Debug, Drop)]
+#[derive(Drop)]
 pub struct Text<'a> {
     bytes: &'a [u8],
 }
@@ -34,7 +34,7 @@ impl<'a> Text<'a> {
 }
 
 /// The values of the keys about the whole font, as they are written in the file.
-#[derive(Debug, Drop)]
+#[derive(Drop)]
 pub struct Header<'a> {
     pub font_name: Option<Text<'a>>,
     pub full_name: Option<Text<'a>>,
@@ -49,7 +49,7 @@ pub struct Header<'a> {
 }
 
 /// A glyph's code, width, name and box.
-#[derive(Debug, Drop)]
+#[derive(Drop)]
 pub struct CharMetric<'a> {
     /// The lowest code that the encoding gives the glyph.
     pub code: Option<u8>,
@@ -60,7 +60,7 @@ pub struct CharMetric<'a> {
 }
 
 /// The kerning of a pair of glyphs.
-#[derive(Debug, Drop)]
+#[derive(Drop)]
 pub struct KernPair<'a> {
     pub left: Text<'a>,
     pub right: Text<'a>,
@@ -68,7 +68,7 @@ pub struct KernPair<'a> {
 }
 
 /// A composite, its two parts, and how far the accent's origin is moved.
-#[derive(Debug, Drop)]
+#[derive(Drop)]
 pub struct CompositeMetric<'a> {
     pub name: Text<'a>,
     pub base: Text<'a>,
@@ -78,7 +78,7 @@ pub struct CompositeMetric<'a> {
 }
 
 /// What an AFM file says of a font. The names and values are borrowed.
-#[derive(Debug, Drop)]
+#[derive(Drop)]
 pub struct Metrics<'a> {
     pub header: Header<'a>,
     /// Whether the encoding is StandardEncoding.

@@ -4,7 +4,7 @@ ghost use Rattle.std.specs.Prelude.{◌≡◌, ℕ, List, [], ◌∷◌, ◌++�
 ghost use Rattle.std.specs.Fmt.{signed_decimal};
 ghost use Rattle.t1_code.specs.Counted.{Puts, outlet};
 ghost use Rattle.t1_afm.specs.Afm.{line_text, rest_text, lines_text, value_line, char_line, pair_line, composite_line, sides, entries, code_number};
-ghost use Rattle.t1_afm.specs.Lines.{words_of, value_of};
+ghost use Rattle.t1_afm.specs.Lines.{words_of, word_text, value_of};
 
 use crate::bbox::BBox;
 use crate::line::{Word, put_line};
@@ -39,7 +39,7 @@ pub(crate) fn put_parts<W: Write, P: Part>(
 }
 
 /// A key with its value, where it has one.
-#[derive(Clone, Copy, Debug)]
+#[derive(Clone, Copy)]
 pub(crate) struct Value<'a> {
     pub(crate) key: &'a [u8],
     pub(crate) value: Option<Word<'a>>,
@@ -65,15 +65,22 @@ const NAME: Word<'static> = Word::Text(b"N");
 
 const BOX: Word<'static> = Word::Text(b"B");
 
+/// A side of a box.
+fn side(place: i32) -> Word<'static>
+    ensures { word_text result ≡ signed_decimal place }
+{
+    Word::Number(i64::from(place))
+}
+
 /// The left, bottom, right and top side of a box.
 pub(crate) fn sides(bbox: &BBox) -> [Word<'static>; 4]
     ensures { words_of result ≡ sides bbox.now }
 {
     [
-        Word::Number(i64::from(bbox.left)),
-        Word::Number(i64::from(bbox.bottom)),
-        Word::Number(i64::from(bbox.right)),
-        Word::Number(i64::from(bbox.top)),
+        side(bbox.left),
+        side(bbox.bottom),
+        side(bbox.right),
+        side(bbox.top),
     ]
 }
 
@@ -138,12 +145,13 @@ impl<'a> CharMetric<'a> {
             ≡ entries (codes "W" ∷ signed_decimal self.now.wx ∷ signed_decimal self.now.wy ∷ []) self.now }
     {
         let code = Word::Number(code_number(self.code));
-        let (wx, wy, name) = (
-            Word::Number(self.wx),
-            Word::Number(self.wy),
-            Word::Text(self.name.as_slice()),
-        );
-        let [left, bottom, right, top] = sides(&self.bbox);
+        let wx = Word::Number(self.wx);
+        let wy = Word::Number(self.wy);
+        let name = Word::Text(self.name.as_slice());
+        let left = side(self.bbox.left);
+        let bottom = side(self.bbox.bottom);
+        let right = side(self.bbox.right);
+        let top = side(self.bbox.top);
         [
             code, END, BOTH, wx, wy, END, NAME, name, END, BOX, left, bottom, right, top, END,
         ]
@@ -166,10 +174,8 @@ impl Part for KernPair<'_> {
     ghost text = { λ p. line_text (pair_line p) };
 
     fn put<W: Write>(&self, out: &mut Counted<W>, chunk: &mut Chunk) -> io::Result<()> {
-        let (left, right) = (
-            Word::Text(self.left.as_slice()),
-            Word::Text(self.right.as_slice()),
-        );
+        let left = Word::Text(self.left.as_slice());
+        let right = Word::Text(self.right.as_slice());
         let value = Word::Number(i64::from(self.value));
         put_line(out, chunk, b"KPX", &[left, right, value])
     }
@@ -179,7 +185,8 @@ impl Part for CompositeMetric<'_> {
     ghost text = { λ c. line_text (composite_line c) };
 
     fn put<W: Write>(&self, out: &mut Counted<W>, chunk: &mut Chunk) -> io::Result<()> {
-        let (mut dx, mut dy) = (Buffer::new(), Buffer::new());
+        let mut dx = Buffer::new();
+        let mut dy = Buffer::new();
         put_slices(
             out,
             chunk,

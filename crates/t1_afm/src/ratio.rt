@@ -9,7 +9,7 @@ ghost use Rattle.t1_afm.specs.Points.{times as weighed};
 use t1_frac::Frac;
 
 /// The sum of two coordinates, each times its weight.
-#[derive(Clone, Copy, Debug)]
+#[derive(Clone, Copy)]
 pub(crate) struct WeightedPair {
     num: i128,
     den: u128,
@@ -18,7 +18,7 @@ pub(crate) struct WeightedPair {
 }
 
 /// A curve's value.
-#[derive(Clone, Copy, Debug)]
+#[derive(Clone, Copy)]
 pub(crate) struct Ratio {
     num: i128,
     den: u128,

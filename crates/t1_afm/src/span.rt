@@ -9,7 +9,7 @@ ghost use Rattle.t1_afm.specs.Spans.{span_of, span_around, span_around_one};
 use t1_frac::Frac;
 
 /// The whole numbers around values.
-#[derive(Clone, Copy, Debug, PartialEq, Eq)]
+#[derive(Clone, Copy)]
 pub(crate) struct Span {
     pub(crate) low: i32,
     pub(crate) high: i32,

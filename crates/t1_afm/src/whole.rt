@@ -18,7 +18,7 @@ pub fn numerator(n: i64) -> i64
 }
 
 /// A cubic along one axis, by the whole coordinates of its four points.
-#[derive(Clone, Copy, Debug)]
+#[derive(Clone, Copy)]
 pub struct WholeCubic {
     pub start: i64,
     pub first: i64,
@@ -31,7 +31,7 @@ pub struct WholeCubic {
 }
 
 /// A value of a cubic at a sixty-fourth, times 64^3, with the differences that lead to the next values.
-#[derive(Clone, Copy, Debug)]
+#[derive(Clone, Copy)]
 struct Sample {
     value: i64,
     first: i64,
@@ -99,7 +99,7 @@ fn ceil(sum: i64) -> i32
 }
 
 /// The least and the greatest of the 65 values of a cubic, times 64^3, exactly.
-#[derive(Clone, Copy, Debug)]
+#[derive(Clone, Copy)]
 pub struct Sums {
     pub least: i64,
     pub greatest: i64,

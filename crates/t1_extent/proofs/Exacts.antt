@@ -2,14 +2,15 @@
 use Rattle.std.proofs.Common.{◌≡◌, ℕ, ◌+◌, ◌*◌, ◌<◌, ◌≤◌, ◌^◌, ◌⊎◌, inl, inr, ℤ, pos, negsuc, neg_ℤ, ◌+ℤ◌, ◌-ℤ◌, ◌*ℤ◌, Bool, true, false, arith, refl, sym, ◌∙◌, ap, mul-pos}
 use Rattle.std.specs.Prelude.{◌||◌, if◌then◌else◌, MatchResult, IfOk, Result, Ok, Err, Some}
 use Rattle.std.specs.Int.{int_div_euclid}
-use Rattle.std.specs.Int.RustNames.{unsigned_abs, int_lt}
+use Rattle.std.specs.Int.RustNames.{unsigned_abs, int_lt, FitsSigned}
 use Rattle.std.proofs.Math.Nat.{div-le_self, mul-le-mul, mul-le-mul_right, mul-lt-mul_of_pos_right}
-use Rattle.std.proofs.lemmas.Int.{ints, unsigned_abs-mul}
+use Rattle.std.proofs.lemmas.Int.{ints}
 use borrow.Author.Differences.{up, down, neg_is, product_is, lt-true, lt-false}
-use mir.Syntax.{w128}
+use mir.Syntax.{w64, w128}
 use mir.Val.{to_z, of_z}
 use lib.Signed.{mag}
 use Rattle.t1_afm.proofs.Longs.{read, read_small}
+use Rattle.t1_afm.proofs.Products.{long_product, product_size}
 use Rattle.t1_frac.specs.Fraction.{Fraction, IsSame, lowest, plus, minus, floor_of, ceiling_of}
 use Rattle.t1_frac.specs.Limits.{exceeds, IsCoordinate}
 use Rattle.t1_frac.specs.declared.fault.Code.{Code}
@@ -20,7 +21,7 @@ use Rattle.t1_run.proofs.FoundByUsers.{both-ways}
 use Rattle.t1_extent.specs.Exacts.{raw, value_of}
 use Rattle.t1_frac.proofs.Exact.{lowest_same}
 use Rattle.t1_frac.proofs.Rounded.{round_alike}
-use Rattle.t1_extent.specs.Extremes.{Extremes, is_less, lesser, greater, reaching, shifted, shift_checked, limit_check, move_check}
+use Rattle.t1_extent.specs.Extremes.{Extremes, is_less, lesser, greater, reaching, shifted, shift_checked, limit_check, move_check, shifted_by}
 use Rattle.t1_extent.proofs.Canonical.{lowest_above}
 use Rattle.t1_extent.proofs.Order.{IsUnder, under_trans, under_from_same, less_false}
 use Rattle.t1_extent.proofs.Checking.{is_below, is_above, check, below_under, above_under, exceeds_is}
@@ -142,6 +143,19 @@ right_term x n num d e h f = e ∙ ap (λ k. k *ℤ pos d) (read_long n h ∙ f)
 pub terms_are : (n m : ℤ) (d u bd : ℕ) → mag n < 2 ^ 127 → n ≡ m → u ≡ bd → ◌≡◌ {A = Fraction} (record { num = to_z w128 (of_z w128 n); den = d * u }) (record { num = m; den = d * bd })
 terms_are n m d u bd h e f = rw (read_wide n h, e, f) refl
 
+-- two over one denominator, compared by their numerators
+pub less_read : (a b : Exact) → a.den ≡ b.den → int_lt (read a.num) (read b.num) ≡ is_less (value_of a) (value_of b)
+less_read a b same =
+    ap (λ x. int_lt x (read b.num)) (read_small a.num a.size) ∙ ap (λ y. int_lt a.num y) (read_small b.num b.size)
+    ∙ less_over_one a.num b.num a.den b.den a.above same
+
+-- two over different denominators, compared in 128 bits
+pub less_wide : (a b : Exact) (x y : ℤ) → mag x < 2 ^ 127 → mag y < 2 ^ 127 → x ≡ a.num *ℤ pos b.den → y ≡ b.num *ℤ pos a.den
+    → int_lt (to_z w128 (of_z w128 x)) (to_z w128 (of_z w128 y)) ≡ is_less (value_of a) (value_of b)
+less_wide a b x y h k e f =
+    ap (λ z. int_lt z (to_z w128 (of_z w128 y))) (read_wide x h ∙ e) ∙ ap (λ z. int_lt (a.num *ℤ pos b.den) z) (read_wide y k ∙ f)
+    ∙ sym (less_value (raw a) (raw b) a.above b.above)
+
 -- where it is moved, it is the number, moved
 pub shifted_value : (r : Result Exact Code) (a : Exact) (d p : Fraction) → 0 < a.den → 0 < d.den → p ≡ plus (raw a) d
     → MatchResult r (λ e. (raw e ≡ p) × (exceeds (2 ^ 20) p ≡ false)) (λ c. (c ≡ F40) × (exceeds (2 ^ 20) p ≡ true))
@@ -227,6 +241,23 @@ pub none_out : (by : Point) (e : Extremes) (l b r t : Fraction) → shift_checke
     → shift_checked by.y e.top ≡ Ok t → move_check by (Some e) ≡ Ok tt
 none_out by e l b r t hl hb hr ht = rw (inside_is by.x e.left l hl, inside_is by.x e.right r hr, inside_is by.y e.bottom b hb, inside_is by.y e.top t ht) refl
 
+-- the moved extremes, side by side
+pub moved_sides : (by : Point) (e : Extremes) (l b r t : Fraction) → l ≡ shifted by.x e.left → b ≡ shifted by.y e.bottom → r ≡ shifted by.x e.right → t ≡ shifted by.y e.top
+    → ◌≡◌ {A = Extremes} (record { left = l; bottom = b; right = r; top = t }) (shifted_by by e)
+moved_sides by e l b r t hl hb hr ht = rw (hl, hb, hr, ht) refl
+
+-- moved extremes that a check let through are within the limits
+pub moved_within : (by : Point) (d e : Extremes) → d ≡ shifted_by by e → move_check by (Some e) ≡ Ok tt → limit_check (Some d) ≡ Ok tt
+moved_within by d e h k = rw h k
+
+-- a whole side's denominator, moved
+pub whole_moved : (d n m : ℕ) → d ≡ n * m → n ≤ 1 → m ≤ 2 ^ 20 → d ≤ 2 ^ 20
+whole_moved d n m e h k = rw e (mul-le-mul h k)
+
+-- a side's denominator, moved by a whole distance
+pub moved_whole : (d n m k : ℕ) → d ≡ n * m → m ≡ 1 → n ≤ k → d ≤ k
+moved_whole d n m k e one h = rw (e, one) (omega (arith, h))
+
 pub shifted_fine : (r : Result Exact Code) (a : Exact) (d p : Fraction) → p ≡ plus (raw a) d
     → MatchResult r (λ e. (raw e ≡ p) × (exceeds (2 ^ 20) p ≡ false)) (λ c. (c ≡ F40) × (exceeds (2 ^ 20) p ≡ true))
     → IfOk r (λ e. e.den ≡ a.den * d.den)
@@ -270,27 +301,39 @@ reaching_inside d e h k =
 -- ---- distances
 
 -- the difference of two coordinates, in 64 bits
-pub between_is : (n m d : ℤ) (u : ℕ) (to from : Fraction) → IsCoordinate from → IsCoordinate to → from.den ≡ 1 → n ≡ to.num → m ≡ from.num → d ≡ pos to.den → u ≡ to.den
-    → ◌≡◌ {A = Fraction} (record { num = read (read n -ℤ read (read m *ℤ read d)); den = u }) (minus to from)
-between_is n m d u to from cf ct one en em ed eu =
+pub record IsDifference (n m d : ℤ) (to from : Fraction) : Type 0 where
+  pub product_fits : FitsSigned w64 (read m *ℤ read d)
+  pub fits : FitsSigned w64 (read n -ℤ read (read m *ℤ read d))
+  pub same : read (read n -ℤ read (read m *ℤ read d)) ≡ to.num -ℤ from.num *ℤ pos to.den
+  pub bound : unsigned_abs (read (read n -ℤ read (read m *ℤ read d))) ≤ 2 ^ 60
+
+pub difference_is : (n m d : ℤ) (to from : Fraction) → IsCoordinate from → IsCoordinate to → from.den ≡ 1 → n ≡ to.num → m ≡ from.num → d ≡ pos to.den → IsDifference n m d to from
+difference_is n m d to from cf ct one en em ed =
     let small : unsigned_abs from.num ≤ 2 ^ 20 = omega (arith, cf.size, one) in
     let tall : unsigned_abs to.num ≤ 2 ^ 40 = omega (arith, ct.size, ct.fine) in
-    let product : unsigned_abs (from.num *ℤ pos to.den) ≤ 2 ^ 20 * 2 ^ 20 = rw (unsigned_abs-mul from.num (pos to.den)) (mul-le-mul small ct.fine) in
-    let wide : unsigned_abs (to.num -ℤ from.num *ℤ pos to.den) ≤ 2 ^ 60 = apart_small to.num (from.num *ℤ pos to.den) tall (omega (arith, product)) in
-    let inner : read (read m *ℤ read d) ≡ from.num *ℤ pos to.den =
-    ap (λ x. read (read x *ℤ read d)) em ∙ ap (λ x. read (x *ℤ read d)) (read_small from.num (omega (arith, small)))
-    ∙ ap (λ x. read (from.num *ℤ read x)) ed ∙ ap (λ x. read (from.num *ℤ x)) (read_small (pos to.den) (omega (arith, ct.fine)))
-    ∙ read_small (from.num *ℤ pos to.den) (omega (arith, product)) in
-    let outer : read (read n -ℤ read (read m *ℤ read d)) ≡ to.num -ℤ from.num *ℤ pos to.den =
-    ap (λ x. read (read n -ℤ x)) inner ∙ ap (λ x. read (read x -ℤ from.num *ℤ pos to.den)) en
-    ∙ ap (λ x. read (x -ℤ from.num *ℤ pos to.den)) (read_small to.num (omega (arith, tall)))
-    ∙ read_small (to.num -ℤ from.num *ℤ pos to.den) wide in
-    let den : u ≡ to.den * from.den = eu ∙ over_one to.den from.den one in
-    same_terms _ _ u (to.den * from.den) (outer ∙ crossed_one to.num from.num to.den from.den one) den
+    let num_is : read m ≡ from.num = ap read em ∙ read_small from.num (omega (arith, small)) in
+    let den_is : read d ≡ pos to.den = ap read ed ∙ read_small (pos to.den) (omega (arith, ct.fine)) in
+    let to_is : read n ≡ to.num = ap read en ∙ read_small to.num (omega (arith, tall)) in
+    let product = long_product (read m) (read d) from.num (pos to.den) (2 ^ 20) (2 ^ 20) num_is den_is small ct.fine (omega arith) in
+    let size = product_size from.num (pos to.den) (2 ^ 20) (2 ^ 20) small ct.fine in
+    let wide : unsigned_abs (to.num -ℤ from.num *ℤ pos to.den) ≤ 2 ^ 60 = apart_small to.num (from.num *ℤ pos to.den) tall (omega (arith, size)) in
+    let inside : read n -ℤ read (read m *ℤ read d) ≡ to.num -ℤ from.num *ℤ pos to.den =
+    ap (λ x. x -ℤ read (read m *ℤ read d)) to_is ∙ ap (λ x. to.num -ℤ x) product.same in
+    let same : read (read n -ℤ read (read m *ℤ read d)) ≡ to.num -ℤ from.num *ℤ pos to.den = ap read inside ∙ read_small (to.num -ℤ from.num *ℤ pos to.den) wide in
+    record { product_fits = product.fits; fits = rw inside (fits_long (to.num -ℤ from.num *ℤ pos to.den) wide); same = same; bound = rw same wide }
   where
     apart_small : (a b : ℤ) → unsigned_abs a ≤ 2 ^ 40 → unsigned_abs b ≤ 2 ^ 40 → unsigned_abs (a -ℤ b) ≤ 2 ^ 60
     apart_small a b h k = omega (arith, ints, h, k)
 
+    fits_long : (x : ℤ) → unsigned_abs x ≤ 2 ^ 60 → FitsSigned w64 x
+    fits_long x h = omega (arith, ints, h)
+
+pub between_is : (n m d : ℤ) (u : ℕ) (to from : Fraction) → IsDifference n m d to from → from.den ≡ 1 → u ≡ to.den
+    → ◌≡◌ {A = Fraction} (record { num = read (read n -ℤ read (read m *ℤ read d)); den = u }) (minus to from)
+between_is n m d u to from h one eu =
+    let den : u ≡ to.den * from.den = eu ∙ over_one to.den from.den one in
+    same_terms _ _ u (to.den * from.den) (h.same ∙ crossed_one to.num from.num to.den from.den one) den
+  where
     over_one : (a b : ℕ) → b ≡ 1 → a ≡ a * b
     over_one a b e = rw e (omega arith)
 

@@ -1,10 +1,12 @@
 -- Extremes of outlines within the limits.
-use Rattle.std.proofs.Common.{◌≡◌, ℕ, zero, suc, ◌+◌, ◌*◌, ◌<◌, ◌≤◌, ◌^◌, List, [], ◌∷◌, map, false, arith, refl, ap, ◌∙◌, sym}
+use Rattle.std.proofs.Common.{◌≡◌, ℕ, zero, suc, ◌+◌, ◌*◌, ◌<◌, ◌≤◌, ◌^◌, List, [], ◌∷◌, map, ℤ, false, arith, refl, ap, ◌∙◌, sym}
 use Rattle.std.specs.Prelude.{fold, ◌||◌, nat_lt, IfOk, Result, Ok, Err}
 use Rattle.std.specs.List.{AllByRecursion, list_any, range_with_len}
-use Rattle.std.specs.Int.RustNames.{unsigned_abs}
+use Rattle.std.specs.Int.RustNames.{unsigned_abs, FitsSigned}
 use Rattle.std.proofs.lemmas.Bool.Decides.{nat_tests}
 use Rattle.std.proofs.lemmas.Int.{ints}
+use mir.Syntax.{w32}
+use mir.Val.{to_z, of_z}
 use Rattle.t1_frac.specs.Fraction.{Fraction, lowest, floor_of, ceiling_of, negated}
 use Rattle.t1_frac.specs.Limits.{exceeds}
 use Rattle.t1_frac.specs.declared.fault.Code.{Code}
@@ -15,6 +17,7 @@ use Rattle.t1_run.specs.Composite.{moved_outline, IsPoint, IsWithin}
 use Rattle.t1_run.proofs.Within.{each-append}
 use Rattle.t1_afm.specs.Bounds.{IsInRange}
 use Rattle.t1_afm.specs.Points.{points, points_of, curve_at, sixty_fourths}
+use Rattle.t1_afm.proofs.Longs.{read}
 use Rattle.t1_afm.proofs.Convex.{coordinate_in_range, cubic_in_range, floor_small, negated_in_range}
 use Rattle.t1_extent.specs.Extremes.{at_point, reaching, extremes, corners, limit_check, move_check}
 use Rattle.t1_extent.specs.Laws.{Summary, summary, shifted_summary, AreWithin, LimitsLaw, DrawnMovesLaw}
@@ -125,3 +128,10 @@ pub ceiling_limited : (a : Fraction) → 0 < a.den → exceeds (2 ^ 20) (lowest 
 ceiling_limited a above e =
     let k = floor_small (negated (lowest a)) (negated_in_range (lowest a) (tested (lowest a) (lowest_above a above) e)) in
     omega (arith, ints, k)
+
+-- a number of 64 bits that is small, in 32
+pub narrow_fits : (z n : ℤ) → z ≡ n → unsigned_abs n ≤ 2 ^ 20 → FitsSigned w32 (read z)
+narrow_fits z n e h = rw e (omega (arith, ints, h))
+
+pub narrow : (z n : ℤ) → z ≡ n → unsigned_abs n ≤ 2 ^ 20 → to_z w32 (of_z w32 (read z)) ≡ n
+narrow z n e h = rw e (omega (arith, ints, h))

@@ -9,7 +9,7 @@ use crate::exact::Exact;
 use t1_run::Point;
 
 /// A distance along each axis. It may be past the limit of coordinates.
-#[derive(Clone, Copy, Debug)]
+#[derive(Clone, Copy)]
 pub struct Distance {
     pub x: Exact,
     pub y: Exact,

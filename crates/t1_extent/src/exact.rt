@@ -6,7 +6,7 @@ ghost use Rattle.std.specs.Int.RustNames.{unsigned_abs};
 use t1_frac::{Code, Frac};
 
 /// A fraction, not in lowest terms.
-#[derive(Clone, Copy, Debug)]
+#[derive(Clone, Copy)]
 pub struct Exact {
     num: i64,
     den: u64,
@@ -84,7 +84,6 @@ impl Exact {
     }
 
     /// Whether it is less than another.
-    #[tactic(auto, using(crate::proofs::Exacts::less_value, crate::proofs::Exacts::less_over_one))]
     pub fn is_less(&self, other: &Exact) -> bool
         ensures { result ≡ is_less_of (value_of self.now) (value_of other.now) }
     {
@@ -138,7 +137,6 @@ impl Exact {
     }
 
     /// The least whole number that isn't below it.
-    #[tactic(auto, using(crate::proofs::Exacts::ceiling_value))]
     pub fn ceil(&self) -> i64
         ensures { result ≡ ceiling_of (value_of self.now) }
     {

@@ -15,7 +15,7 @@ use t1_frac::Code;
 use t1_run::Point;
 
 /// The exact extremes of points.
-#[derive(Clone, Copy, Debug)]
+#[derive(Clone, Copy)]
 pub struct Extent {
     pub left: Exact,
     pub bottom: Exact,
@@ -24,7 +24,6 @@ pub struct Extent {
 }
 
 /// A side within the limits, rounded down.
-#[tactic(auto, using(crate::proofs::Limited::floor_limited))]
 fn rounded_down(side: &Exact) -> i32
     requires { exceeds (2 ^ 20) (value_of side.now) ≡ false }
     ensures { result ≡ floor_of (value_of side.now) }
@@ -33,7 +32,6 @@ fn rounded_down(side: &Exact) -> i32
 }
 
 /// A side within the limits, rounded up.
-#[tactic(auto, using(crate::proofs::Limited::ceiling_limited))]
 fn rounded_up(side: &Exact) -> i32
     requires { exceeds (2 ^ 20) (value_of side.now) ≡ false }
     ensures { result ≡ ceiling_of (value_of side.now) }
@@ -71,7 +69,6 @@ impl Extent {
 
     /// The extremes, moved, or F40 where one of them is past 1,048,576. Their denominators are at most 1,048,576, as
     /// those of an outline's own extremes, or the distance is whole.
-    #[tactic(auto, using(crate::proofs::Exacts::none_out))]
     pub fn shifted(&self, by: &Point) -> Result<Extent, Code>
         requires { AreFine (2 ^ 20) self.now ⊎ IsWhole by.now }
         ensures outcome { MatchResult
@@ -96,7 +93,6 @@ impl Extent {
     }
 
     /// The extremes, moved by a distance that may be past the limit, or F40 where one of them comes to be past it.
-    #[tactic(auto, using(crate::proofs::Exacts::none_out))]
     pub fn displaced(&self, by: &Distance) -> Result<Extent, Code>
         requires fine { AreFine (2 ^ 20) self.now }
         requires by { IsFineDistance by.now }

@@ -15,7 +15,7 @@ use t1_frac::Code;
 use t1_run::{Point, Segment};
 
 /// An outline whose coordinates are all whole: where it starts, and how far its drawn points and all its points reach.
-#[derive(Clone, Copy, Debug)]
+#[derive(Clone, Copy)]
 pub struct Figure {
     start: Point,
     drawn: Extent,

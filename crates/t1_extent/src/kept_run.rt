@@ -39,7 +39,7 @@ pub enum Shape {
 }
 
 /// What moves of an outline need of it.
-#[derive(Clone, Copy, Debug)]
+#[derive(Clone, Copy)]
 pub enum Trace<'a> {
     Whole(Option<Figure>),
     Segments(&'a [Segment]),
@@ -128,8 +128,10 @@ impl KeptRun {
         ensures traced { IfOk result (λ kept. traces name.now kept ≡ true) }
     {
         let shape = Shape::of(alloc, name, run.segments())?;
-        let (width, bearing) = (run.width(), run.side_bearing());
-        let (steps, serial) = (run.steps(), run.serial());
+        let width = run.width();
+        let bearing = run.side_bearing();
+        let steps = run.steps();
+        let serial = run.serial();
         let shadow = Shadow::of(&run);
         let (composite, entered, segments) = run.into_parts();
         *room = segments;

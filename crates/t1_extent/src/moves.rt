@@ -10,7 +10,7 @@ use t1_frac::Code;
 use t1_run::{Composite, Point, accent_move};
 
 /// How far an accent is moved.
-#[derive(Clone, Copy, Debug)]
+#[derive(Clone, Copy)]
 pub(crate) struct Move {
     pub(crate) by: Point,
     pub(crate) is_whole: bool,

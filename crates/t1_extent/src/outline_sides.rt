@@ -11,7 +11,7 @@ use crate::wholes::is_whole_segment;
 use t1_run::{Point, Segment};
 
 /// The extremes of the ends of an outline's segments, and those of all its points.
-#[derive(Clone, Copy, Debug)]
+#[derive(Clone, Copy)]
 pub(crate) struct OutlineSides {
     pub(crate) ends: WholeSides,
     pub(crate) corners: WholeSides,

@@ -18,7 +18,7 @@ use t1_frac::Code;
 use t1_run::{Point, Segment};
 
 /// How far the drawn points of an outline reach.
-#[derive(Clone, Copy, Debug)]
+#[derive(Clone, Copy)]
 pub enum Drawn {
     /// Exactly, where all coordinates are whole.
     Whole(Option<Extent>),
@@ -27,7 +27,7 @@ pub enum Drawn {
 }
 
 /// How far an outline reaches: what its box, its moves and their faults need of it.
-#[derive(Clone, Copy, Debug)]
+#[derive(Clone, Copy)]
 pub struct Reached {
     pub drawn: Drawn,
     /// The extremes of all its points.

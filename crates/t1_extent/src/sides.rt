@@ -8,7 +8,7 @@ use crate::extent::Extent;
 use crate::reach::Reach;
 
 /// The numerators of extremes, each over the same denominator.
-#[derive(Clone, Copy, Debug)]
+#[derive(Clone, Copy)]
 pub struct Sides {
     pub(crate) left: i64,
     pub(crate) bottom: i64,

@@ -10,7 +10,7 @@ use t1_afm::numerator;
 use t1_run::Point;
 
 /// The extremes of points whose coordinates are whole.
-#[derive(Clone, Copy, Debug)]
+#[derive(Clone, Copy)]
 pub(crate) struct WholeSides {
     pub(crate) left: i64,
     pub(crate) bottom: i64,

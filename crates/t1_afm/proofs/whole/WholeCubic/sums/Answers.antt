@@ -1,10 +1,26 @@
-use Rattle.std.proofs.Common.{ap, ◌^◌, ◌∙◌, sym, subst, arith, pos, ◌*ℤ◌}
+use Rattle.std.proofs.Common.{◌≡◌, ℤ, ap, ◌≤◌, ◌^◌, ◌∙◌, sym, subst, arith, pos, ◌*ℤ◌}
 use Rattle.std.specs.Int.{int_min, int_max}
+use Rattle.std.specs.Int.RustNames.{unsigned_abs}
 use Rattle.t1_afm.specs.Bounds.{IsInRange, over_cube}
 use Rattle.t1_afm.proofs.EndSums.{least_end, greatest_end, multiple_in_range, span_of_ends}
-use Rattle.t1_afm.proofs.Longs.{below_long, greatest_is_pick, least_is_pick, long, pick_long, read_small}
+use Rattle.t1_afm.proofs.Longs.{IsPick, below_long, greatest_is_pick, least_is_pick, long, pick_long, read, read_small}
 use Rattle.t1_afm.proofs.Wholes.{sum_in_size}
 use Rattle.t1_afm.proofs.whole.WholeCubic.sums.Goals as goal
+
+end_size : (f : ℤ → ℤ → ℤ) → IsPick f → (a b z : ℤ) → unsigned_abs a ≤ 2 ^ 20 → unsigned_abs b ≤ 2 ^ 20 → z ≡ f (read a) (read b) → unsigned_abs (read z) ≤ 2 ^ 20
+end_size f picks a b z h k e =
+    let picked = pick_long f picks a b z a b (2 ^ 20) (long a (2 ^ 20) h (omega arith)) (long b (2 ^ 20) k (omega arith)) (omega arith) e in
+    rw picked.same (picked.bound)
+
+pub numerator-requires : goal.numerator-requires
+numerator-requires c =
+    let p = c.args.self.now in
+    end_size int_min least_is_pick p.start p.end c.min-low.result p.start_size p.end_size c.min-low.ensures.value
+
+pub numerator-requires-then-max-high : goal.numerator-requires-then-max-high
+numerator-requires-then-max-high c =
+    let p = c.args.self.now in
+    end_size int_max greatest_is_pick p.start p.end c.max-high.result p.start_size p.end_size c.max-high.ensures.value
 
 pub returns-then-max-high : goal.returns-then-max-high
 returns-then-max-high c =
