@@ -12,7 +12,7 @@ use Rattle.t1_commands.specs.declared.print.Print.TheVariants as prints
 use Rattle.t1_commands.specs.declared.command.Command.TheVariants as commands
 use Rattle.t1_commands.specs.declared.answer.Answer.TheVariants.{Accepted, Broken, Faulty, OutOfMemory}
 use Rattle.t1_commands.specs.Lines.{finished_lines}
-use Rattle.t1_commands.specs.Commands.{commands_of, input_commands, line_command, removal, setting, whole_print, blocks_print, body_command, bodied_edit, open_command, takes_body, ends_body, number_of}
+use Rattle.t1_commands.specs.Commands.{commands_of, input_commands, line_command, other_command, removal, setting, whole_print, blocks_print, body_command, bodied_edit, open_command, takes_body, ends_body, number_of}
 use Rattle.t1_commands.specs.AnswerTexts.{answer_text, fault_text}
 use Rattle.t1_commands.specs.Answers.{Machine, session_answers}
 
@@ -25,7 +25,7 @@ lines_before_end = refl
 
 -- a command without a body, a line without words, a print
 removes : commands_of false None (codes " remove  glyph A" ∷ codes " " ∷ codes "print pfb" ∷ []) ≡ commands.Edit (edits.RemoveGlyph (codes "A")) ∷ commands.Print prints.Pfb ∷ []
-unfolding takes_body line_command removal whole_print
+unfolding takes_body line_command other_command removal whole_print
 removes = refl
 
 -- a body up to a line that is a dot
@@ -47,20 +47,20 @@ unfolding takes_body ends_body open_command
 unknown_at_end = refl
 
 unknown_print : line_command (codes "print" ∷ codes "otf" ∷ []) ≡ commands.Broken E8
-unfolding line_command whole_print blocks_print
+unfolding line_command other_command whole_print blocks_print
 unknown_print = refl
 
 -- prints of blocks, and lenIV
 blocks_40 : line_command (codes "print" ∷ codes "pfb" ∷ codes "040" ∷ []) ≡ commands.Print (prints.Blocks (pos 40))
-unfolding line_command blocks_print number_of number_word is_number_word
+unfolding line_command other_command blocks_print number_of number_word is_number_word
 blocks_40 = refl
 
 blocks_of_a_pfa : line_command (codes "print" ∷ codes "pfa" ∷ codes "40" ∷ []) ≡ commands.Broken E8
-unfolding line_command blocks_print
+unfolding line_command other_command blocks_print
 blocks_of_a_pfa = refl
 
 blocks_of_two : line_command (codes "print" ∷ codes "pfb" ∷ codes "40" ∷ codes "40" ∷ []) ≡ commands.Broken E8
-unfolding line_command blocks_print
+unfolding line_command other_command blocks_print
 blocks_of_two = refl
 
 lead_set : line_command (codes "set" ∷ codes "leniv" ∷ codes "0" ∷ []) ≡ commands.Edit (edits.LenIv (pos 0))
@@ -73,11 +73,11 @@ lead_of_nothing = refl
 
 -- a command of one word, and the same with a further one
 begins : line_command (codes "begin" ∷ []) ≡ commands.Begin
-unfolding line_command
+unfolding line_command other_command
 begins = refl
 
 begins_with_more : line_command (codes "begin" ∷ codes "x" ∷ []) ≡ commands.Broken E8
-unfolding line_command
+unfolding line_command other_command
 begins_with_more = refl
 
 -- a word that is no number word stands for a number past every range
@@ -87,11 +87,11 @@ no_number = refl
 
 -- the commands of an input that goes on, and of a whole one
 commands_before_end : input_commands false (codes "print kern" ++ 13 ∷ codes "print pfb") ≡ commands.Print prints.Kern ∷ []
-unfolding takes_body line_command whole_print
+unfolding takes_body line_command other_command whole_print
 commands_before_end = refl
 
 commands_at_end : input_commands true (codes "print kern" ++ 13 ∷ codes "print pfb") ≡ commands.Print prints.Kern ∷ commands.Print prints.Pfb ∷ []
-unfolding takes_body line_command whole_print
+unfolding takes_body line_command other_command whole_print
 commands_at_end = refl
 
 -- a machine that takes every command, and the answers to two of them, of which the first met want of memory

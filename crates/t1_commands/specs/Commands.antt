@@ -89,6 +89,15 @@ abbrev pub lone : Command → List (List ℕ) → Command
 lone command [] = command
 lone command (word ∷ rest) = unknown
 
+-- profile, session commands: those that are no edits, by the first word
+unfoldable pub other_command : List ℕ → List (List ℕ) → Command
+other_command verb rest =
+    if bytes_eq verb (codes "print") then print_of rest
+    else if bytes_eq verb (codes "begin") then lone commands.Begin rest
+    else if bytes_eq verb (codes "commit") then lone commands.Commit rest
+    else if bytes_eq verb (codes "abort") then lone commands.Abort rest
+    else unknown
+
 -- profile, session commands: those that take no body
 unfoldable pub line_command : List (List ℕ) → Command
 line_command [] = unknown
@@ -99,11 +108,7 @@ line_command (verb ∷ rest) =
     else if bytes_eq verb (codes "set") then setting rest
     else if bytes_eq verb (codes "kern") then edit_of (λ w. Kern w.0 w.1 (number_of w.2)) (three_words rest)
     else if bytes_eq verb (codes "unkern") then edit_of (λ w. Unkern w.0 w.1) (two_words rest)
-    else if bytes_eq verb (codes "print") then print_of rest
-    else if bytes_eq verb (codes "begin") then lone commands.Begin rest
-    else if bytes_eq verb (codes "commit") then lone commands.Commit rest
-    else if bytes_eq verb (codes "abort") then lone commands.Abort rest
-    else unknown
+    else other_command verb rest
 
 -- profile, session commands: `replace glyph NAME`, `replace subr N`, `add glyph NAME`, `add subr N`, with their body
 unfoldable pub bodied_edit : List ℕ × List ℕ × List ℕ → List ℕ → Edit

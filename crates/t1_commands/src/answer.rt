@@ -13,7 +13,7 @@ use t1_frac::{Bytes, Code, Fault, Place};
 use t1_source::{Cause, Rule};
 
 /// What a command is answered.
-#[derive(Debug, Drop)]
+#[derive(Drop)]
 pub enum Answer {
     /// The edit was taken.
     Accepted,

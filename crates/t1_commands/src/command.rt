@@ -2,7 +2,7 @@
 ghost use Rattle.std.specs.Str.{bytes_eq};
 ghost use Rattle.std.specs.Prelude.{◌≡◌, ◌||◌, option_map, ◌<◌, IfOk};
 ghost use Rattle.t1_frac.specs.Words.{words};
-ghost use Rattle.t1_commands.specs.Commands.{one_word, two_words, three_words, removal, setting, whole_print, blocks_print, print_of, line_command, body_command, bodied_edit, open_command, takes_body, ends_body, edit_of, lone, is_wordless, number_of, Makes};
+ghost use Rattle.t1_commands.specs.Commands.{one_word, two_words, three_words, removal, setting, whole_print, blocks_print, print_of, other_command, line_command, body_command, bodied_edit, open_command, takes_body, ends_body, edit_of, lone, is_wordless, number_of, Makes};
 ghost use Rattle.t1_source.specs.declared.edit.Edit.TheVariants as edits;
 
 use crate::numbers::number_of;
@@ -12,7 +12,7 @@ use t1_frac::{Bytes, next_word};
 use t1_source::{Edit, Rule};
 
 /// One command.
-#[derive(Debug, Drop)]
+#[derive(Drop)]
 pub enum Command {
     Edit(Edit),
     Print(Print),
@@ -55,6 +55,27 @@ fn three_words(line: &[u8]) -> Option<(&[u8], &[u8], &[u8])>
     Some((first, second, third))
 }
 
+/// `remove glyph NAME`, after the second word.
+fn glyph_removal(alloc: Global, line: &[u8]) -> Result<Command, AllocError>
+    ensures { Makes result (edit_of edits.RemoveGlyph (one_word (words line.now))) }
+{
+    let Some(name) = one_word(line) else {
+        return Ok(UNKNOWN);
+    };
+    let name = Bytes::copied(alloc, name)?;
+    Ok(Command::Edit(Edit::RemoveGlyph(name)))
+}
+
+/// `remove subr N`, after the second word.
+fn subr_removal(line: &[u8]) -> Command
+    ensures { result ≡ edit_of (λ number. edits.RemoveSubr (number_of number)) (one_word (words line.now)) }
+{
+    match one_word(line) {
+        Some(number) => Command::Edit(Edit::RemoveSubr(number_of(number))),
+        None => UNKNOWN,
+    }
+}
+
 /// `remove glyph NAME`, `remove subr N`, after the first word.
 #[tactic(auto, unfolding(crate::specs::Commands::removal))]
 fn removal(alloc: Global, line: &[u8]) -> Result<Command, AllocError>
@@ -63,10 +84,22 @@ fn removal(alloc: Global, line: &[u8]) -> Result<Command, AllocError>
     let Some((kind, rest)) = next_word(line) else {
         return Ok(UNKNOWN);
     };
-    match (kind, one_word(rest)) {
-        (b"glyph", Some(name)) => Ok(Command::Edit(Edit::RemoveGlyph(Bytes::copied(alloc, name)?))),
-        (b"subr", Some(number)) => Ok(Command::Edit(Edit::RemoveSubr(number_of(number)))),
-        _ => Ok(UNKNOWN),
+    if kind == b"glyph".as_slice() {
+        glyph_removal(alloc, rest)
+    } else if kind == b"subr".as_slice() {
+        Ok(subr_removal(rest))
+    } else {
+        Ok(UNKNOWN)
+    }
+}
+
+/// `set leniv N`, after the second word.
+fn lead_setting(line: &[u8]) -> Command
+    ensures { result ≡ edit_of (λ number. edits.LenIv (number_of number)) (one_word (words line.now)) }
+{
+    match one_word(line) {
+        Some(number) => Command::Edit(Edit::LenIv(number_of(number))),
+        None => UNKNOWN,
     }
 }
 
@@ -78,9 +111,10 @@ fn setting(line: &[u8]) -> Command
     let Some((kind, rest)) = next_word(line) else {
         return UNKNOWN;
     };
-    match (kind, one_word(rest)) {
-        (b"leniv", Some(number)) => Command::Edit(Edit::LenIv(number_of(number))),
-        _ => UNKNOWN,
+    if kind == b"leniv".as_slice() {
+        lead_setting(rest)
+    } else {
+        UNKNOWN
     }
 }
 
@@ -182,6 +216,24 @@ fn lone(command: Command, line: &[u8]) -> Command
     }
 }
 
+/// A command that is no edit, by its first word, after that word.
+#[tactic(auto, unfolding(crate::specs::Commands::other_command))]
+fn other_command(verb: &[u8], line: &[u8]) -> Command
+    ensures { result ≡ other_command verb.now (words line.now) }
+{
+    if verb == b"print".as_slice() {
+        print_of(line)
+    } else if verb == b"begin".as_slice() {
+        lone(Command::Begin, line)
+    } else if verb == b"commit".as_slice() {
+        lone(Command::Commit, line)
+    } else if verb == b"abort".as_slice() {
+        lone(Command::Abort, line)
+    } else {
+        UNKNOWN
+    }
+}
+
 /// The command of a line that takes no body. An unknown one takes no memory.
 #[tactic(auto, unfolding(crate::specs::Commands::line_command))]
 pub fn line_command(alloc: Global, line: &[u8]) -> Result<Command, AllocError>
@@ -202,16 +254,8 @@ pub fn line_command(alloc: Global, line: &[u8]) -> Result<Command, AllocError>
         kerning(alloc, rest)
     } else if verb == b"unkern".as_slice() {
         unkerning(alloc, rest)
-    } else if verb == b"print".as_slice() {
-        Ok(print_of(rest))
-    } else if verb == b"begin".as_slice() {
-        Ok(lone(Command::Begin, rest))
-    } else if verb == b"commit".as_slice() {
-        Ok(lone(Command::Commit, rest))
-    } else if verb == b"abort".as_slice() {
-        Ok(lone(Command::Abort, rest))
     } else {
-        Ok(UNKNOWN)
+        Ok(other_command(verb, rest))
     }
 }
 

@@ -38,7 +38,7 @@ fn put_data<F: FileForm, W: Write>(
 }
 
 /// The PFB form, in segments of so many bytes, as data.
-#[derive(Debug, Drop)]
+#[derive(Drop)]
 pub struct PfbData {
     size: usize,
 }
@@ -82,7 +82,7 @@ impl FileForm for PfbData {
 }
 
 /// The PFA form, as data.
-#[derive(Debug, Drop)]
+#[derive(Drop)]
 pub struct PfaData;
 
 impl FileForm for PfaData {

@@ -11,7 +11,7 @@ use t1_parts::{
 use t1_text::{copied_bytes, copied_lines, same};
 
 /// The readable source of a font: its clear lines, the items of its private part and its tail.
-#[derive(Debug, Drop)]
+#[derive(Drop)]
 pub struct Source<'a> {
     alloc: Global,
     clear: Vec<Bytes>,

@@ -5,7 +5,7 @@ use t1_pairs::Pair;
 use t1_parts::Item;
 
 /// What an edit changes of a source or of its pairs.
-#[derive(Debug, Drop)]
+#[derive(Drop)]
 pub enum Change<'a> {
     /// The item at a place is replaced by one of its kind and key.
     PutItem(usize, Item<'a>),

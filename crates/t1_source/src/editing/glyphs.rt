@@ -2,11 +2,12 @@
 
 ghost use Rattle.std.specs.Prelude.{◌≡◌, ◌≤◌, ◌<◌, List, length, IfOk, IfSome, codes, option_map};
 ghost use Rattle.std.specs.List.{find, list_any, position};
+ghost use Rattle.t1_parts.specs.declared.item.Item.TheVariants.{Glyph};
 ghost use Rattle.t1_parts.specs.Counts.{is_glyph_entry};
 ghost use Rattle.t1_parts.specs.Entries.{is_glyph};
 ghost use Rattle.t1_parts.specs.ItemRefs.{item_of};
 ghost use Rattle.t1_source.specs.Changes.{changed, Fits};
-ghost use Rattle.t1_source.specs.Editing.{Edits, added_glyph, among_glyphs_items, beside_pairs, closing_among, removed_glyph, replaced_glyph, through_last};
+ghost use Rattle.t1_source.specs.Editing.{Edits, added_glyph, among_glyphs_items, beside_pairs, body_words, closing_among, removed_glyph, replaced_glyph, through_last};
 ghost use Rattle.t1_pairs.specs.declared.pairs.Pair.{Pair};
 
 use crate::edit::{Cause, Rule};
@@ -14,6 +15,7 @@ use crate::editing::change::Change;
 use crate::editing::entries::{closing_at, closing_of};
 use crate::editing::rules::{body_words, good_body, good_name, keeps};
 use crate::source::Source;
+use std::alloc::{AllocError, Global};
 use t1_frac::SourceText;
 use t1_parts::{Item, ItemRef, Items, is_glyphs_line};
 use t1_text::same;
@@ -118,6 +120,21 @@ fn through_glyphs(items: &Items) -> usize
     last
 }
 
+/// The glyph of a name and a body, with a closing text.
+fn glyph_of<'a>(
+    alloc: Global,
+    name: &[u8],
+    body: &[u8],
+    closing: &[u8],
+) -> Result<Item<'a>, AllocError>
+    ensures { IfOk result (λ glyph. glyph ≡ Glyph name.now (body_words body.now) closing.now) }
+{
+    let words = body_words(alloc, body)?;
+    let closing = SourceText::copy_of(alloc, closing)?;
+    let name = SourceText::copy_of(alloc, name)?;
+    Ok(Item::Glyph(name, words, closing))
+}
+
 /// A glyph with another body.
 #[tactic(auto, unfolding(crate::specs::Editing::replaced_glyph))]
 pub fn replacing_glyph<'a>(
@@ -133,13 +150,9 @@ pub fn replacing_glyph<'a>(
     let Some(at) = glyph_at(source.items(), name) else {
         return Err(Cause::Rule(Rule::E1));
     };
-    let alloc = source.alloc();
-    let words = body_words(alloc, body)?;
-    let closing = SourceText::copy_of(alloc, closing_at(at, source.items()))?;
-    Ok(Change::PutItem(
-        at,
-        Item::Glyph(SourceText::copy_of(alloc, name)?, words, closing),
-    ))
+    let closing = closing_at(at, source.items());
+    let glyph = glyph_of(source.alloc(), name, body, closing)?;
+    Ok(Change::PutItem(at, glyph))
 }
 
 /// A new glyph.
@@ -151,10 +164,8 @@ pub fn adding_glyph<'a>(source: &Source<'a>, name: &[u8], body: &[u8]) -> Result
     good_name(name)?;
     good_body(body)?;
     keeps(Rule::E2, !has_glyph(source.items(), name))?;
-    let alloc = source.alloc();
-    let words = body_words(alloc, body)?;
-    let closing = SourceText::copy_of(alloc, glyph_closing(source.items()))?;
-    let glyph = Item::Glyph(SourceText::copy_of(alloc, name)?, words, closing);
+    let closing = glyph_closing(source.items());
+    let glyph = glyph_of(source.alloc(), name, body, closing)?;
     Ok(Change::InsertItem(through_glyphs(source.items()), glyph))
 }
 

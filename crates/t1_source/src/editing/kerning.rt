@@ -1,6 +1,6 @@
 //! Edits of kerning pairs.
 
-ghost use Rattle.std.specs.Prelude.{IfOk};
+ghost use Rattle.std.specs.Prelude.{◌≡◌, IfOk};
 ghost use Rattle.t1_parts.specs.SourceParts.{SourceParts};
 ghost use Rattle.t1_source.specs.Changes.{changed, Fits};
 ghost use Rattle.t1_source.specs.Editing.{Edits, beside_source, kerned, unkerned};
@@ -8,8 +8,18 @@ ghost use Rattle.t1_source.specs.Editing.{Edits, beside_source, kerned, unkerned
 use crate::edit::{Cause, Rule};
 use crate::editing::change::Change;
 use crate::editing::rules::{good_name, kerning_number};
+use std::alloc::{AllocError, Global};
 use t1_frac::Bytes;
 use t1_pairs::{Pair, Pairs};
+
+/// The pair of two names.
+fn pair_of(alloc: Global, left: &[u8], right: &[u8], value: i32) -> Result<Pair, AllocError>
+    ensures { IfOk result (λ pair. pair ≡ record { left = left.now; right = right.now; value = value }) }
+{
+    let left = Bytes::copied(alloc, left)?;
+    let right = Bytes::copied(alloc, right)?;
+    Ok(Pair { left, right, value })
+}
 
 /// A pair put in, or given another value.
 #[tactic(auto, unfolding(crate::specs::Editing::kerned))]
@@ -26,9 +36,7 @@ pub fn kerning_pair<'a>(
     good_name(right)?;
     let value = kerning_number(value)?;
     let place = pairs.place_of(left, right);
-    let left = Bytes::copied(pairs.alloc(), left)?;
-    let right = Bytes::copied(pairs.alloc(), right)?;
-    let pair = Pair { left, right, value };
+    let pair = pair_of(pairs.alloc(), left, right, value)?;
     match place {
         Ok(at) => Ok(Change::PutPair(at, pair)),
         Err(at) => Ok(Change::InsertPair(at, pair)),

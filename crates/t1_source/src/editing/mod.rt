@@ -37,6 +37,19 @@ fn through(len: usize, after: Option<usize>) -> usize
     }
 }
 
+/// A source and pairs with a change made of them that was prepared for them.
+fn committed<'a>(
+    mut source: Source<'a>,
+    mut pairs: Pairs,
+    change: Change<'a>,
+) -> Result<(Source<'a>, Pairs), AllocError>
+    requires { Serves change source pairs }
+    ensures { IfOk result (λ made. made ≡ changed change.entry source.entry pairs) }
+{
+    source.commit(&mut pairs, change)?;
+    Ok((source, pairs))
+}
+
 impl<'a> Source<'a> {
     /// What an edit changes, or the first rule that it breaks.
     #[tactic(auto, unfolding(crate::specs::Editing::edited))]
@@ -96,14 +109,34 @@ impl<'a> Source<'a> {
         Ok(())
     }
 
+    /// Copies of the source and the pairs.
+    fn copies(&self, pairs: &Pairs) -> Result<(Source<'a>, Pairs), AllocError>
+        ensures { IfOk result (λ copies. copies ≡ (self.now, pairs.now)) }
+    {
+        Ok((self.copied()?, pairs.copied()?))
+    }
+
+    /// The source and the pairs after a change that was prepared for them. Nothing handed in is changed.
+    fn changed(&self, pairs: &Pairs, change: Change<'a>) -> Result<(Source<'a>, Pairs), AllocError>
+        requires { Serves change self.now pairs.now }
+        ensures { IfOk result (λ made. made ≡ changed change.entry self.now pairs.now) }
+    {
+        match self.copies(pairs) {
+            Ok((copy, others)) => committed(copy, others, change),
+            Err(error) => {
+                // Called, so that what the drop does is proved once, not for this exit.
+                drop(change);
+                Err(error)
+            }
+        }
+    }
+
     /// The source and the pairs after an edit, or the first rule that it breaks. Nothing handed in is changed.
     pub fn edited(&self, pairs: &Pairs, edit: &Edit) -> Result<(Source<'a>, Pairs), Cause>
         ensures { Edits (λ made. made) result (edited self.now pairs.now edit.now) }
     {
         let change = self.prepared(pairs, edit)?;
-        let mut source = self.copied()?;
-        let mut pairs = pairs.copied()?;
-        source.commit(&mut pairs, change)?;
+        let (source, pairs) = self.changed(pairs, change)?;
         Ok((source, pairs))
     }
 }

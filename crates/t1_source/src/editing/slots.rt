@@ -1,6 +1,6 @@
 //! Editing the array of an encoding.
 
-ghost use Rattle.std.specs.Prelude.{◌≡◌, ◌<◌, ◌≤◌, List, length, Ok, Err, not, filter, reverse, IfOk, IfSome, MatchResult};
+ghost use Rattle.std.specs.Prelude.{◌≡◌, ◌++◌, ◌<◌, ◌≤◌, List, length, Ok, Err, not, filter, reverse, IfOk, IfSome, MatchResult};
 ghost use Rattle.std.specs.List.{list_any, position};
 ghost use Rattle.t1_source.specs.Changes.{changed, Fits};
 ghost use Rattle.t1_source.specs.Editing.{Edits, array_parts, beside_pairs, is_slot, is_slot_of, through_last, slot_line, encoded_lines, encoded, unencoded};
@@ -141,6 +141,21 @@ fn encoded_lines(
     Ok(made)
 }
 
+/// The clear lines with others in the place of those of the array.
+fn with_lines(
+    alloc: Global,
+    array: &ArrayParts,
+    mut lines: Vec<Bytes>,
+) -> Result<Vec<Bytes>, AllocError>
+    ensures { IfOk result (λ clear. clear.items ≡ array.now.front.now ++ lines.items ++ array.now.back.now) }
+{
+    let mut clear = copied_bytes(alloc, array.front)?;
+    clear.append(&mut lines)?;
+    let mut back = copied_bytes(alloc, array.back)?;
+    clear.append(&mut back)?;
+    Ok(clear)
+}
+
 /// A code encoded.
 #[tactic(auto, unfolding(crate::specs::Editing::encoded))]
 pub fn encoding_code<'a>(source: &Source<'a>, code: i64, name: &[u8]) -> Result<Change<'a>, Cause>
@@ -151,11 +166,8 @@ pub fn encoding_code<'a>(source: &Source<'a>, code: i64, name: &[u8]) -> Result<
     let code = number_up_to(255, code)?;
     let array = array_parts(source.clear())?;
     let alloc = source.alloc();
-    let mut clear = copied_bytes(alloc, array.front)?;
-    let mut lines = encoded_lines(alloc, code, name, array.lines)?;
-    clear.append(&mut lines)?;
-    let mut back = copied_bytes(alloc, array.back)?;
-    clear.append(&mut back)?;
+    let lines = encoded_lines(alloc, code, name, array.lines)?;
+    let clear = with_lines(alloc, &array, lines)?;
     Ok(Change::PutClear(clear))
 }
 
@@ -184,10 +196,7 @@ pub fn unencoding_code<'a>(source: &Source<'a>, code: i64) -> Result<Change<'a>,
     let array = array_parts(source.clear())?;
     keeps(Rule::E10, has_slot_of(code, array.lines))?;
     let alloc = source.alloc();
-    let mut clear = copied_bytes(alloc, array.front)?;
-    let mut lines = unencoded_lines(alloc, code, array.lines)?;
-    clear.append(&mut lines)?;
-    let mut back = copied_bytes(alloc, array.back)?;
-    clear.append(&mut back)?;
+    let lines = unencoded_lines(alloc, code, array.lines)?;
+    let clear = with_lines(alloc, &array, lines)?;
     Ok(Change::PutClear(clear))
 }

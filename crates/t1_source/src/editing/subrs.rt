@@ -2,11 +2,12 @@
 
 ghost use Rattle.std.specs.Prelude.{◌≡◌, ◌≤◌, ◌<◌, List, length, IfOk, IfSome, codes, option_map};
 ghost use Rattle.std.specs.List.{find, list_any, position};
+ghost use Rattle.t1_parts.specs.declared.item.Item.TheVariants.{Subr};
 ghost use Rattle.t1_parts.specs.Entries.{is_subr};
 ghost use Rattle.t1_parts.specs.ItemRefs.{item_of};
 ghost use Rattle.t1_parts.specs.Sections.{is_subrs_line};
 ghost use Rattle.t1_source.specs.Changes.{changed, Fits};
-ghost use Rattle.t1_source.specs.Editing.{Edits, added_subr, among_subrs_items, beside_pairs, closing_among, has_section, is_subr_entry, removed_subr, replaced_subr, through_last};
+ghost use Rattle.t1_source.specs.Editing.{Edits, added_subr, among_subrs_items, beside_pairs, body_words, closing_among, has_section, is_subr_entry, removed_subr, replaced_subr, through_last};
 ghost use Rattle.t1_pairs.specs.declared.pairs.Pair.{Pair};
 
 use crate::edit::{Cause, Rule};
@@ -14,6 +15,7 @@ use crate::editing::change::Change;
 use crate::editing::entries::{closing_at, closing_of};
 use crate::editing::rules::{body_words, good_body, keeps, number_up_to};
 use crate::source::Source;
+use std::alloc::{AllocError, Global};
 use t1_frac::SourceText;
 use t1_parts::{Item, ItemRef, Items, is_subrs_line};
 
@@ -132,6 +134,20 @@ fn has_section(source: &Source) -> Result<(), Rule>
     keeps(Rule::E9, has_subrs_line(source.items()))
 }
 
+/// The Subr of a number and a body, with a closing text.
+fn subr_of<'a>(
+    alloc: Global,
+    number: u16,
+    body: &[u8],
+    closing: &[u8],
+) -> Result<Item<'a>, AllocError>
+    ensures { IfOk result (λ subr. subr ≡ Subr number (body_words body.now) closing.now) }
+{
+    let words = body_words(alloc, body)?;
+    let closing = SourceText::copy_of(alloc, closing)?;
+    Ok(Item::Subr(number, words, closing))
+}
+
 /// A Subr with another body.
 #[tactic(auto, unfolding(crate::specs::Editing::replaced_subr))]
 pub fn replacing_subr<'a>(
@@ -148,10 +164,9 @@ pub fn replacing_subr<'a>(
     let Some(at) = subr_at(source.items(), number) else {
         return Err(Cause::Rule(Rule::E1));
     };
-    let alloc = source.alloc();
-    let words = body_words(alloc, body)?;
-    let closing = SourceText::copy_of(alloc, closing_at(at, source.items()))?;
-    Ok(Change::PutItem(at, Item::Subr(number, words, closing)))
+    let closing = closing_at(at, source.items());
+    let subr = subr_of(source.alloc(), number, body, closing)?;
+    Ok(Change::PutItem(at, subr))
 }
 
 /// A new Subr.
@@ -164,10 +179,8 @@ pub fn adding_subr<'a>(source: &Source<'a>, number: i64, body: &[u8]) -> Result<
     good_body(body)?;
     has_section(source)?;
     keeps(Rule::E2, !has_subr(source.items(), number))?;
-    let alloc = source.alloc();
-    let words = body_words(alloc, body)?;
-    let closing = SourceText::copy_of(alloc, subr_closing(source.items()))?;
-    let subr = Item::Subr(number, words, closing);
+    let closing = subr_closing(source.items());
+    let subr = subr_of(source.alloc(), number, body, closing)?;
     Ok(Change::InsertItem(through_subrs(source.items()), subr))
 }
 
