@@ -6,6 +6,7 @@ pub mod Drawing
 pub mod Filing
 pub mod FirstNames
 pub mod Gathering
+pub mod GlyphsOfSource
 pub mod GroupsOfCodes
 pub mod InTurnLaws
 pub mod Keeping
@@ -19,7 +20,6 @@ pub mod Ordering
 pub mod Outlining
 pub mod PrivateLaws
 pub mod Rows
-pub mod SourceMetrics
 pub mod StandardTable
 pub mod StayingLaws
 pub mod SubrsFirst

@@ -1,12 +1,12 @@
 //! The bodies of a source, compiled.
-ghost use Rattle.std.specs.Prelude.{◌≡◌, ◌==◌, ℕ, List, None, IfOk, OnOk, if◌then◌else◌};
+ghost use Rattle.std.specs.Prelude.{◌≡◌, ◌==◌, ℕ, List, [], None, IfOk, OnOk, if◌then◌else◌};
 ghost use Rattle.std.specs.Option.{option_or};
 ghost use Rattle.std.specs.Result.{result_ok};
 ghost use Rattle.std.specs.Str.{bytes_eq};
 ghost use Rattle.t1_frac.specs.Outcome.{Gives, reported_at};
 ghost use Rattle.t1_frac.specs.declared.fault.Place.TheVariants as places;
 ghost use Rattle.t1_code.specs.Words.{commands};
-ghost use Rattle.t1_font.specs.Bodies.{bodies, bodies_check, body_check, words_check, glyph_in, glyph_kept, plain_bodies, subr_in, subr_kept, SameBodies};
+ghost use Rattle.t1_font.specs.Bodies.{bodies, bodies_check, body_check, words_check, glyph_among, glyph_in, glyph_kept, plain_bodies, subr_among, subr_in, subr_kept, SameBodies};
 
 use indexmap::IndexMap;
 use std::alloc::Global;
@@ -93,16 +93,33 @@ fn add_body(
     }
 }
 
-/// The bodies of the entries, or their first fault, at its entry.
+/// Adds the bodies of the entries to none, or answers their first fault, at its entry.
 #[tactic(auto, using(crate::proofs::AloneLaws::checks_alone, crate::proofs::AloneLaws::subrs_alone, crate::proofs::AloneLaws::glyphs_alone))]
+fn add_bodies(
+    alloc: Global,
+    subrs: &mut IndexMap<u16, Body>,
+    glyphs: &mut IndexMap<Vec<u8>, Body>,
+    items: &Items,
+) -> Result<(), Refusal>
+    requires subrs { subrs.old.entries ≡ [] }
+    requires glyphs { glyphs.old.entries ≡ [] }
+    ensures checked { Gives (λ x. x) result (bodies_check items.now) }
+    ensures subrs { OnOk result ((n : ℕ) → subr_kept subrs.new.entries n ≡ subr_among items.now n) }
+    ensures glyphs { OnOk result ((g : List ℕ) → glyph_kept glyphs.new.entries g ≡ glyph_among items.now g) }
+{
+    for item in items.iter().alone() {
+        add_body(alloc, subrs, glyphs, item)?;
+    }
+    Ok(())
+}
+
+/// The bodies of the entries, or their first fault, at its entry.
 pub fn compiled(alloc: Global, items: &Items) -> Result<Plain, Refusal>
     ensures checked { Gives (λ _. tt) result (bodies_check items.now) }
     ensures bodies { IfOk result (λ plain. SameBodies (plain_bodies plain) (bodies items.now)) }
 {
     let mut subrs = IndexMap::new(alloc);
     let mut glyphs = IndexMap::new(alloc);
-    for item in items.iter().alone() {
-        add_body(alloc, &mut subrs, &mut glyphs, item)?;
-    }
+    add_bodies(alloc, &mut subrs, &mut glyphs, items)?;
     Ok(Plain { subrs, glyphs })
 }

@@ -14,7 +14,7 @@ use t1_frac::{Bytes, Code, Place, Refusal, SourceText};
 use t1_run::{Point, accent_move};
 
 /// The parts of a composite, and how far its accent is moved.
-#[derive(Debug, Drop)]
+#[derive(Drop)]
 pub struct PlacedParts {
     pub base: Bytes,
     pub accent: Bytes,
@@ -22,7 +22,7 @@ pub struct PlacedParts {
 }
 
 /// What is measured of a glyph. Its name isn't copied, but borrowed from where it stands.
-#[derive(Debug, Drop)]
+#[derive(Drop)]
 pub struct GlyphMetrics<'a> {
     pub name: SourceText<'a>,
     pub width: Point,

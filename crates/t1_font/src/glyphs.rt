@@ -12,7 +12,7 @@ use t1_parts::Items;
 use t1_source::Item;
 
 /// What is measured of the glyphs of a source, in the order of their entries, and the box around all that draw.
-#[derive(Debug, Drop)]
+#[derive(Drop)]
 pub struct MeasuredGlyphs<'a> {
     metrics: Vec<GlyphMetrics<'a>>,
     font_box: BBox,

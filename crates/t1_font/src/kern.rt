@@ -2,7 +2,7 @@
 ghost use Rattle.std.specs.Prelude.{◌≡◌, ◌||◌, ℕ, List, filter_map, IfOk, OnOk};
 ghost use Rattle.std.specs.Str.{bytes_eq};
 ghost use Rattle.t1_font.specs.Metrics.{kern_of, kern_pairs};
-ghost use Rattle.t1_font.specs.Names.{has_name, HasNames};
+ghost use Rattle.t1_font.specs.Names.{is_name_kept, HasNames};
 
 use crate::glyph_metrics::GlyphMetrics;
 use indexmap::IndexSet;
@@ -12,7 +12,7 @@ use t1_pairs::Pair;
 
 /// Adds a name.
 pub(crate) fn add_name<'a>(names: &mut IndexSet<&'a [u8]>, name: &'a [u8]) -> Result<(), AllocError>
-    ensures { OnOk result ((g : List ℕ) → has_name names.new.keys g ≡ (has_name names.old.keys g || bytes_eq g name.now)) }
+    ensures { OnOk result ((g : List ℕ) → is_name_kept names.new.keys g ≡ (is_name_kept names.old.keys g || bytes_eq g name.now)) }
 {
     names.insert(name)?;
     Ok(())
@@ -34,7 +34,7 @@ fn names_of<'a>(
 
 /// A pair whose both glyphs are there.
 fn kern_pair<'a>(names: &IndexSet<&[u8]>, pair: &'a Pair) -> Option<KernPair<'a>>
-    ensures { result ≡ kern_of (has_name names.now.keys) pair.now }
+    ensures { result ≡ kern_of (is_name_kept names.now.keys) pair.now }
 {
     let left = pair.left.as_slice();
     let right = pair.right.as_slice();
@@ -54,7 +54,7 @@ fn pairs_among<'a>(
     names: &IndexSet<&[u8]>,
     pairs: &'a [Pair],
 ) -> Result<Vec<KernPair<'a>>, AllocError>
-    ensures { IfOk result (λ found. found.items ≡ filter_map (kern_of (has_name names.now.keys)) pairs.now) }
+    ensures { IfOk result (λ found. found.items ≡ filter_map (kern_of (is_name_kept names.now.keys)) pairs.now) }
 {
     let mut found = Vec::new(alloc);
     for pair in pairs {

@@ -1,8 +1,6 @@
 //! Laws of a whole font.
 
 ghost use Rattle.t1_font.specs.Laws.{OutlinesLaw, SubrsFirstLaw, ReadsBackLaw};
-ghost use Rattle.t1_font.specs.SourceChecks.{BySourceMetrics};
-ghost use Rattle.t1_parts.specs.SourceParts.{SourceParts};
 
 use t1_source::laws::{printed_source_read, subrs_stand_first};
 
@@ -26,8 +24,3 @@ pub fn faultless_source_reads_back()
 {
     printed_source_read();
 }
-
-/// The first fault of a source and its usage table follow from the metrics of its glyphs.
-pub fn source_metrics_say_all()
-    ensures { (s : SourceParts) → BySourceMetrics s }
-{}

@@ -127,7 +127,7 @@ pub fn check_parts(clear: &[Bytes], private_len: usize, tail: &[Bytes]) -> Resul
 /// F23 where a part of the PFB file of a source is too long. Its bodies have no fault. Lines are made only where the source is
 /// so long that the lengths of its texts don't answer, and none is kept.
 #[tactic(auto, using(crate::proofs::LengthLaws::length_checked), unfolding(crate::specs::Assembly::length_check))]
-pub(crate) fn check_length(alloc: Global, source: &Source) -> Result<(), Refusal>
+fn check_length(alloc: Global, source: &Source) -> Result<(), Refusal>
     requires { bodies_check source.now.items ≡ Ok tt }
     ensures { Gives (λ x. x) result (length_check source.now) }
 {
@@ -175,16 +175,27 @@ pub fn check_counts(items: &Items) -> Result<(), Fault>
     Err(Fault::from(Code::F23))
 }
 
+/// F23 where a part of the PFB file of a source is too long, or the count of a section line has more than nine digits. Its
+/// bodies have no fault.
+#[tactic(auto, unfolding(crate::specs::Assembly::file_check))]
+pub(crate) fn check_file(alloc: Global, source: &Source) -> Result<(), Refusal>
+    requires { bodies_check source.now.items ≡ Ok tt }
+    ensures { Gives (λ x. x) result (file_check source.now) }
+{
+    check_length(alloc, source)?;
+    check_counts(source.items())?;
+    Ok(())
+}
+
 /// The compiled bodies of a source whose PFB file and text have no fault; or their fault: the first of a body, at its
 /// entry, else F23.
-#[tactic(auto, using(crate::proofs::LengthLaws::body_fault_reported), unfolding(crate::specs::Assembly::file_check))]
+#[tactic(auto, using(crate::proofs::LengthLaws::body_fault_reported))]
 pub fn checked_bodies(alloc: Global, source: &Source) -> Result<Plain, Refusal>
     ensures file { Gives (λ _. tt) result (file_check source.now) }
     ensures no_fault { IfOk result (λ _. bodies_check source.now.items ≡ Ok tt) }
     ensures bodies { IfOk result (λ plain. SameBodies (plain_bodies plain) (bodies_of source.now.items)) }
 {
     let bodies = compiled(alloc, source.items())?;
-    check_length(alloc, source)?;
-    check_counts(source.items())?;
+    check_file(alloc, source)?;
     Ok(bodies)
 }

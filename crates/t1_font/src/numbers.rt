@@ -7,7 +7,7 @@ use std::marker::Model;
 
 /// Numbers of Subrs that own their memory, of which as many as most glyphs enter take no block. Contracts see the list of the
 /// numbers.
-#[derive(Debug, Drop)]
+#[derive(Drop)]
 pub struct SubrNumbers {
     numbers: SmallVec<u16, 8>,
 }

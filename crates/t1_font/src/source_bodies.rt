@@ -1,7 +1,7 @@
 //! A source while its glyphs are compiled and run one after another.
 ghost use Rattle.std.specs.Prelude.{◌≡◌, is_some, ℕ, List};
 ghost use Rattle.t1_font.specs.ToRun.{glyph_to_run, subr_stored};
-ghost use Rattle.t1_font.specs.Names.{has_name};
+ghost use Rattle.t1_font.specs.Names.{is_name_kept};
 
 use crate::subr_bodies::SubrBodies;
 use indexmap::IndexSet;
@@ -16,7 +16,7 @@ pub(crate) struct SourceBodies<'s, 'i> {
     pub(crate) names: &'s IndexSet<&'i [u8]>,
     /// The items of the source. No code reads them; contracts see the bodies of its glyphs in them.
     pub(crate) items: &'s Items<'i>,
-    ghost known: { (g : List ℕ) → has_name names.now.keys g ≡ is_some (glyph_to_run items.now g) },
+    ghost known: { (g : List ℕ) → is_name_kept names.now.keys g ≡ is_some (glyph_to_run items.now g) },
 }
 
 impl Bodies for SourceBodies<'_, '_> {

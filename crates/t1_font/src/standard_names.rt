@@ -1,7 +1,7 @@
 //! The names of StandardEncoding, to be looked up.
 ghost use Rattle.std.specs.Prelude.{◌≡◌, ℕ, List};
 ghost use Rattle.t1_code.specs.Encoding.{is_standard_name};
-ghost use Rattle.t1_font.specs.Names.{has_name};
+ghost use Rattle.t1_font.specs.Names.{is_name_kept};
 
 use crate::kern::add_name;
 use indexmap::IndexSet;
@@ -12,7 +12,7 @@ use t1_code::standard_table;
 #[derive(Drop)]
 pub(crate) struct StandardNames {
     names: IndexSet<&'static [u8]>,
-    ghost all: { (g : List ℕ) → has_name names.keys g ≡ is_standard_name g },
+    ghost all: { (g : List ℕ) → is_name_kept names.keys g ≡ is_standard_name g },
 }
 
 impl StandardNames {

@@ -15,7 +15,7 @@ use t1_code::{Command, compile_onto};
 use t1_frac::{Place, Refusal, Words};
 
 /// Where a body stands among the commands of all.
-#[derive(Clone, Copy, Debug)]
+#[derive(Clone, Copy)]
 pub(crate) struct BodyRange {
     pub(crate) start: usize,
     pub(crate) end: usize,

@@ -11,7 +11,7 @@ ghost use Rattle.t1_font.specs.Bodies.{bodies_check, body_check, subr_in};
 ghost use Rattle.t1_font.specs.Glyphs.{glyph_names, name_in};
 ghost use Rattle.t1_font.specs.InTurn.{staying, AreRows, AreTurnsOf, IsFirstOfName, IsRow, RunsAs, RunsStay};
 ghost use Rattle.t1_font.specs.MeasuredGlyphs.{glyph_metrics_among, glyph_metrics_at, measured};
-ghost use Rattle.t1_font.specs.Names.{has_name};
+ghost use Rattle.t1_font.specs.Names.{is_name_kept};
 ghost use Rattle.t1_font.specs.SourceChecks.{measured_source};
 ghost use Rattle.t1_font.specs.Assembly.{file_check};
 ghost use Rattle.t1_parts.specs.declared.item.Item.{Item as ItemOf};
@@ -22,7 +22,7 @@ use crate::glyph_metrics::{GlyphMetrics, placed_metrics};
 use crate::glyphs::{MeasuredGlyphs, name_of};
 use crate::in_turn::{Row, Scratch, glyph_turn};
 use crate::kern::add_name;
-use crate::lengths::{check_counts, check_length};
+use crate::lengths::check_file;
 use crate::reported::Rows;
 use crate::runs::Runs;
 use crate::source_bodies::SourceBodies;
@@ -36,7 +36,7 @@ use t1_source::{Item, Source};
 
 /// Adds the name of an item, where it is a glyph.
 fn add_item_name<'a>(names: &mut IndexSet<&'a [u8]>, item: &'a Item) -> Result<(), AllocError>
-    ensures { OnOk result ((g : List ℕ) → has_name names.new.keys g ≡ (has_name names.old.keys g || list_any (bytes_eq g) (name_in item.now))) }
+    ensures { OnOk result ((g : List ℕ) → is_name_kept names.new.keys g ≡ (is_name_kept names.old.keys g || list_any (bytes_eq g) (name_in item.now))) }
 {
     match name_of(item) {
         None => Ok(()),
@@ -47,7 +47,7 @@ fn add_item_name<'a>(names: &mut IndexSet<&'a [u8]>, item: &'a Item) -> Result<(
 /// The names of the glyphs.
 #[tactic(auto, using(crate::proofs::AloneLaws::names_alone))]
 fn names_of<'a>(alloc: Global, items: &'a Items) -> Result<IndexSet<&'a [u8]>, AllocError>
-    ensures { IfOk result (λ names. (g : List ℕ) → has_name names.keys g ≡ list_any (bytes_eq g) (glyph_names items.now)) }
+    ensures { IfOk result (λ names. (g : List ℕ) → is_name_kept names.keys g ≡ list_any (bytes_eq g) (glyph_names items.now)) }
 {
     let mut names = IndexSet::new(alloc);
     for item in items.iter().alone() {
@@ -56,45 +56,60 @@ fn names_of<'a>(alloc: Global, items: &'a Items) -> Result<IndexSet<&'a [u8]>, A
     Ok(names)
 }
 
-/// What was made of the items so far.
+/// What is reported of the glyphs of a source, in the order of their entries, and the runs that stay.
 #[derive(Drop)]
-struct Turns<'a> {
-    subrs: SubrBodies,
+struct Reported<'a> {
     rows: Rows<'a>,
-    /// The runs that stay.
     runs: Runs<'a>,
+}
+
+impl<'a> Reported<'a> {
+    /// Of no items, with room for what is reported of so many glyphs.
+    fn with_room(alloc: Global, glyphs: usize) -> Result<Self, AllocError>
+        ensures rows { IfOk result (λ reported. reported.rows ≡ []) }
+        ensures runs { IfOk result (λ reported. reported.runs ≡ []) }
+    {
+        Ok(Reported {
+            rows: Rows::with_room(alloc, glyphs)?,
+            runs: Runs::new(alloc),
+        })
+    }
+}
+
+/// The Subrs of the items so far, and what one glyph after another uses again.
+#[derive(Drop)]
+struct Turns {
+    subrs: SubrBodies,
     scratch: Scratch,
 }
 
-impl<'a> Turns<'a> {
-    /// Of no items, with room for what is reported of so many glyphs.
-    fn new(alloc: Global, glyphs: usize) -> Result<Self, AllocError>
-        ensures subrs { IfOk result (λ turns. (n : ℕ) → subr_stored turns.subrs n ≡ None) }
-        ensures rows { IfOk result (λ turns. turns.rows ≡ []) }
-        ensures runs { IfOk result (λ turns. turns.runs ≡ []) }
+impl Turns {
+    /// Before the first item.
+    fn new(alloc: Global) -> Result<Self, AllocError>
+        ensures { IfOk result (λ turns. (n : ℕ) → subr_stored turns.subrs n ≡ None) }
     {
+        let scratch = Scratch::new(alloc)?;
         Ok(Turns {
             subrs: SubrBodies::new(alloc),
-            rows: Rows::with_room(alloc, glyphs)?,
-            runs: Runs::new(alloc),
-            scratch: Scratch::new(alloc)?,
+            scratch,
         })
     }
 
     /// Takes an item of a source, or answers the fault of its words.
-    fn take(
+    fn take<'a>(
         &mut self,
         alloc: Global,
         items: &'a Items,
         names: &IndexSet<&'a [u8]>,
         item: &'a Item,
+        reported: &mut Reported<'a>,
     ) -> Result<(), Refusal>
-        requires known { (g : List ℕ) → has_name names.now.keys g ≡ is_some (glyph_to_run items.now g) }
+        requires known { (g : List ℕ) → is_name_kept names.now.keys g ≡ is_some (glyph_to_run items.now g) }
         requires first { IsFirstOfName items.now item.now }
         ensures checked { Gives (λ x. x) result (body_check item.now) }
         ensures subrs { OnOk result ((n : ℕ) → subr_stored self.new.subrs n ≡ option_or (subr_stored self.old.subrs n) (subr_in item.now n)) }
-        ensures rows { (run : List ℕ → Option (Result Drawing CodeOf)) (gs : List (List ℕ)) → RunsAs item.now run (font (subr_stored self.old.subrs) (glyph_to_run items.now)) → AreRows run gs self.old.rows → OnOk result (AreRows run (gs ++ name_in item.now) self.new.rows) }
-        ensures runs { (run : List ℕ → Option (Result Drawing CodeOf)) (gs : List (List ℕ)) → RunsAs item.now run (font (subr_stored self.old.subrs) (glyph_to_run items.now)) → ((g : List ℕ) → kept_of self.old.runs g ≡ staying run gs g) → OnOk result ((g : List ℕ) → kept_of self.new.runs g ≡ staying run (gs ++ name_in item.now) g) }
+        ensures rows { (run : List ℕ → Option (Result Drawing CodeOf)) (gs : List (List ℕ)) → RunsAs item.now run (font (subr_stored self.old.subrs) (glyph_to_run items.now)) → AreRows run gs reported.old.rows → OnOk result (AreRows run (gs ++ name_in item.now) reported.new.rows) }
+        ensures runs { (run : List ℕ → Option (Result Drawing CodeOf)) (gs : List (List ℕ)) → RunsAs item.now run (font (subr_stored self.old.subrs) (glyph_to_run items.now)) → ((g : List ℕ) → kept_of reported.old.runs g ≡ staying run gs g) → OnOk result ((g : List ℕ) → kept_of reported.new.runs g ≡ staying run (gs ++ name_in item.now) g) }
     {
         match item {
             Item::Subr(number, words, _) => self.subrs.add(*number, words),
@@ -109,32 +124,88 @@ impl<'a> Turns<'a> {
                     &source,
                     name.as_slice(),
                     words,
-                    &mut self.runs,
+                    &mut reported.runs,
                     &mut self.scratch,
                 )?;
-                self.rows.push(row)?;
+                reported.rows.push(row)?;
                 Ok(())
             }
             Item::Plain(_) => Ok(()),
             Item::Section(_, _, _) => Ok(()),
         }
     }
+
+    /// Takes the items of a source, one after another, or answers the first fault of a body, at its entry.
+    fn take_all<'a>(
+        &mut self,
+        alloc: Global,
+        items: &'a Items,
+        names: &IndexSet<&'a [u8]>,
+        reported: &mut Reported<'a>,
+    ) -> Result<(), Refusal>
+        requires names { (g : List ℕ) → is_name_kept names.now.keys g ≡ list_any (bytes_eq g) (glyph_names items.now) }
+        requires firsts { All (IsFirstOfName items.now) items.now }
+        requires order { SubrsStandFirst items.now }
+        requires subrs { (n : ℕ) → subr_stored self.old.subrs n ≡ None }
+        requires rows { reported.old.rows ≡ [] }
+        requires runs { reported.old.runs ≡ [] }
+        ensures checked { Gives (λ x. x) result (bodies_check items.now) }
+        ensures turns { OnOk result (AreTurnsOf items.now reported.new.rows reported.new.runs) }
+    {
+        for item in items.iter().alone() {
+            self.take(alloc, items, names, item, reported)?;
+        }
+        Ok(())
+    }
 }
 
-/// What is reported of the glyphs of a source, in the order of their entries, and the runs that stay; or the first fault of a body,
-/// at its entry. Subrs are compiled and glyphs are compiled and run in this order, each once.
-fn turns_of<'a>(alloc: Global, items: &'a Items) -> Result<Turns<'a>, Refusal>
+/// Adds what is reported of the glyphs of a source to nothing, and the runs that stay; or answers the first fault of a body, at its
+/// entry. Subrs are compiled and glyphs are compiled and run in the order of the items, each once.
+fn report<'a>(
+    alloc: Global,
+    items: &'a Items,
+    names: &IndexSet<&'a [u8]>,
+    reported: &mut Reported<'a>,
+) -> Result<(), Refusal>
+    requires names { (g : List ℕ) → is_name_kept names.now.keys g ≡ list_any (bytes_eq g) (glyph_names items.now) }
     requires firsts { All (IsFirstOfName items.now) items.now }
-    requires subrs { SubrsStandFirst items.now }
+    requires order { SubrsStandFirst items.now }
+    requires rows { reported.old.rows ≡ [] }
+    requires runs { reported.old.runs ≡ [] }
+    ensures checked { Gives (λ x. x) result (bodies_check items.now) }
+    ensures turns { OnOk result (AreTurnsOf items.now reported.new.rows reported.new.runs) }
+{
+    let mut turns = Turns::new(alloc)?;
+    turns.take_all(alloc, items, names, reported)
+}
+
+/// What is reported of the glyphs of a source, which have these names, and the runs that stay; or the first fault of a body, at its
+/// entry.
+fn reported_of<'a>(
+    alloc: Global,
+    items: &'a Items,
+    names: &IndexSet<&'a [u8]>,
+) -> Result<Reported<'a>, Refusal>
+    requires names { (g : List ℕ) → is_name_kept names.now.keys g ≡ list_any (bytes_eq g) (glyph_names items.now) }
+    requires firsts { All (IsFirstOfName items.now) items.now }
+    requires order { SubrsStandFirst items.now }
+    ensures checked { Gives (λ _. tt) result (bodies_check items.now) }
+    ensures turns { IfOk result (λ turns. AreTurnsOf items.now turns.rows turns.runs) }
+{
+    let mut reported = Reported::with_room(alloc, names.len())?;
+    report(alloc, items, names, &mut reported)?;
+    Ok(reported)
+}
+
+/// The same of a source, by the names of its glyphs.
+fn turns_of<'a>(alloc: Global, items: &'a Items) -> Result<Reported<'a>, Refusal>
+    requires firsts { All (IsFirstOfName items.now) items.now }
+    requires order { SubrsStandFirst items.now }
     ensures checked { Gives (λ _. tt) result (bodies_check items.now) }
     ensures turns { IfOk result (λ turns. AreTurnsOf items.now turns.rows turns.runs) }
 {
     let names = names_of(alloc, items)?;
-    let mut turns = Turns::new(alloc, names.len())?;
-    for item in items.iter().alone() {
-        turns.take(alloc, items, &names, item)?;
-    }
-    Ok(turns)
+    reported_of(alloc, items, &names)
 }
 
 /// What is measured of a glyph of which this is reported, or its first fault, at the glyph.
@@ -168,27 +239,26 @@ fn metrics_of_rows<'a>(
     Ok(metrics)
 }
 
-/// What was made of the items of a source whose PFB file and text have no fault; or the first fault: of a body, at its entry,
-/// else F23.
-#[tactic(auto, using(crate::proofs::LengthLaws::body_fault_reported), unfolding(crate::specs::Assembly::file_check))]
-fn checked_turns<'a>(alloc: Global, source: &'a Source) -> Result<Turns<'a>, Refusal>
+/// What is reported of the glyphs of a source whose PFB file and text have no fault; or the first fault: of a body, at its
+/// entry, else F23.
+#[tactic(auto, using(crate::proofs::LengthLaws::body_fault_reported))]
+fn checked_turns<'a>(alloc: Global, source: &'a Source) -> Result<Reported<'a>, Refusal>
     requires firsts { All (IsFirstOfName source.now.items) source.now.items }
-    requires subrs { SubrsStandFirst source.now.items }
+    requires order { SubrsStandFirst source.now.items }
     ensures file { Gives (λ _. tt) result (file_check source.now) }
     ensures no_fault { IfOk result (λ _. bodies_check source.now.items ≡ Ok tt) }
     ensures turns { IfOk result (λ turns. AreTurnsOf source.now.items turns.rows turns.runs) }
 {
     let turns = turns_of(alloc, source.items())?;
-    check_length(alloc, source)?;
-    check_counts(source.items())?;
+    check_file(alloc, source)?;
     Ok(turns)
 }
 
 /// What is measured of these glyphs, and the box around those that draw, or the first fault of a glyph.
-fn measured_turns<'a>(alloc: Global, turns: Turns<'a>) -> Result<MeasuredGlyphs<'a>, Refusal>
+fn measured_turns<'a>(alloc: Global, turns: Reported<'a>) -> Result<MeasuredGlyphs<'a>, Refusal>
     ensures { (items : List ItemOf) → bodies_check items ≡ Ok tt → AreTurnsOf items turns.entry.rows turns.entry.runs → Gives (λ glyphs. glyphs) result (measured items) }
 {
-    let Turns { rows, runs, .. } = turns;
+    let Reported { rows, runs } = turns;
     let metrics = metrics_of_rows(alloc, &runs, rows)?;
     Ok(MeasuredGlyphs::of(metrics))
 }

@@ -49,7 +49,7 @@ use Rattle.t1_font.specs.Glyphs.{Glyph as Reported}
 use Rattle.t1_font.specs.MeasuredGlyphs.{MeasuredFont, measured}
 use Rattle.t1_font.specs.SourceChecks.{measured_source}
 use Rattle.t1_font.proofs.Counted.{counted-source}
-use Rattle.t1_font.proofs.SourceMetrics.{by-source-metrics}
+use Rattle.t1_font.proofs.GlyphsOfSource.{check-by-glyphs}
 
 -- ---- a source without a fault
 
@@ -59,11 +59,11 @@ measured-file s font e = let step = bind_ok (file_check s) (λ checked. measured
 
 pub file_checked : (s : SourceParts) → source_check s ≡ Ok tt → file_check s ≡ Ok tt
 file_checked s e =
-    let font = bind_ok (measured_source s) (λ metrics. Ok (tt {0})) tt (sym (by-source-metrics s).check ∙ e) in
+    let font = bind_ok (measured_source s) (λ metrics. Ok (tt {0})) tt e in
     (measured-file s font.0 font.1).1
 
 pub right_checked : (s : SourceParts) (records : Records) → IsRight s records → source_check s ≡ Ok tt
-right_checked s records right = ap (λ (r : Result (List Reported) Fault). r >>= λ glyphs. Ok (tt {0})) right.kept.faultless
+right_checked s records right = check-by-glyphs s ∙ ap (λ (r : Result (List Reported) Fault). r >>= λ glyphs. Ok (tt {0})) right.kept.faultless
 
 pub counts_checked : (s : SourceParts) → source_check s ≡ Ok tt → list_all is_counted s.items ≡ true
 counts_checked s e = counted-source s (file_checked s e)

@@ -75,6 +75,11 @@ pub fn prepare_edits(
         &made,
         entries,
     )?;
-    let records = prepare_records(alloc, &mut held.records, changes, &made, meter)?;
-    Ok(ReadyHeld { records, lines })
+    match prepare_records(alloc, &mut held.records, changes, &made, meter) {
+        Ok(records) => Ok(ReadyHeld { records, lines }),
+        Err(refusal) => {
+            drop(lines);
+            Err(refusal)
+        }
+    }
 }

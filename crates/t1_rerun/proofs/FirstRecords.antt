@@ -26,6 +26,7 @@ use Rattle.t1_font.specs.Glyphs.{Glyph as Reported, glyphs, glyphs_by, glyph_nam
 use Rattle.t1_font.specs.MeasuredGlyphs.{glyph_metrics, glyph_metrics_among}
 use Rattle.t1_font.specs.Runs.{Kept as KeptRun, drawing_kept, run_kept, kept_of as run_of, own_among, counted, AreTraced, Counts, CountsSome, IsAfter, IsTracedAs}
 use Rattle.t1_font.specs.SourceChecks.{source_check}
+use Rattle.t1_font.proofs.GlyphsOfSource.{check-by-glyphs}
 use Rattle.t1_font.proofs.Counted.{counted-source}
 use Rattle.t1_font.proofs.Measuring.{keeps-own, names-there, KeepsOwn, outline-is, same-function}
 use Rattle.t1_cache.specs.declared.records.Records.{Records}
@@ -68,7 +69,7 @@ glyphs-reported m names metrics e = by (glyphs m names) refl (sym (reported-by m
 
 module _ (s : SourceParts) (file : file_check s ≡ Ok tt) where
   checked-is : source_check s ≡ check (glyphs (bodies s.items) (glyph_names s.items))
-  checked-is = ap (λ r. (r >>= λ checked. glyphs (bodies s.items) (glyph_names s.items)) >>= λ gs. Ok tt) file
+  checked-is = check-by-glyphs s ∙ ap (λ r. (r >>= λ checked. glyphs (bodies s.items) (glyph_names s.items)) >>= λ gs. Ok tt) file
 
   pub runs-are : opening_runs s ≡ length (glyph_names s.items)
   runs-are = ap (λ r. runs_where r (glyph_names s.items)) file

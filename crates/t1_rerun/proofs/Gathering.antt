@@ -28,6 +28,7 @@ use Rattle.t1_font.specs.Glyphs.{Glyph as Reported, glyph_of, placed_parts_of, g
 use Rattle.t1_font.specs.MeasuredGlyphs.{glyph_metrics, glyph_metrics_among}
 use Rattle.t1_font.specs.Runs.{Kept as KeptRun, drawing_kept, run_kept, kept_of as run_of, own_among, AreTraced, IsTracedAs}
 use Rattle.t1_font.specs.SourceChecks.{source_glyphs, source_check}
+use Rattle.t1_font.proofs.GlyphsOfSource.{check-by-glyphs}
 use Rattle.t1_font.proofs.Measuring.{own-none}
 use Rattle.t1_cache.specs.declared.records.Rerun.{Rerun}
 use Rattle.t1_cache.specs.declared.records.Records.{Records}
@@ -188,7 +189,8 @@ module _ (keys : List Key) (old new : SourceParts) (reported : List Reported) (e
   module _ (file : file_check new ≡ Ok tt) where
     checked-is : source_check new ≡ check (glyphs (bodies new.items) (stale old keys new))
     checked-is =
-        ap (λ r. (r >>= λ checked. glyphs (bodies new.items) (glyph_names new.items)) >>= λ gs. Ok tt) file
+        check-by-glyphs new
+        ∙ ap (λ r. (r >>= λ checked. glyphs (bodies new.items) (glyph_names new.items)) >>= λ gs. Ok tt) file
         ∙ first_fault_stale keys old new reported edit (glyphs-of old reported was)
 
     -- where the stale glyphs were measured, the source has no fault

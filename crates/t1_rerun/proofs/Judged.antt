@@ -7,8 +7,8 @@ use Rattle.t1_parts.specs.SourceParts.{SourceParts}
 use Rattle.t1_run.specs.Run.{Key}
 use Rattle.t1_font.specs.Assembly.{file_check}
 use Rattle.t1_font.specs.Bodies.{bodies}
-use Rattle.t1_font.specs.Glyphs.{glyphs, glyph_names}
-use Rattle.t1_font.specs.SourceChecks.{source_check, source_glyphs}
+use Rattle.t1_font.specs.MeasuredGlyphs.{measured}
+use Rattle.t1_font.specs.SourceChecks.{measured_source, source_check}
 use Rattle.t1_font.proofs.Drawing.{refuses-then}
 use Rattle.t1_cache.specs.declared.records.Records.{Records}
 use Rattle.t1_cache.specs.Bodies.{record_bodies}
@@ -33,9 +33,9 @@ still-right old new same s right = record {
 
 -- the first fault of the file is the source's
 pub file-refused : (s : SourceParts) (refusal : Refusal) → Refuses refusal (file_check s) → Refuses refusal (source_check s)
+unfolding measured_source
 file-refused s refusal h =
-    refuses-then refusal (source_glyphs s) (λ glyphs. Ok tt)
-    (refuses-then refusal (file_check s) (λ checked. glyphs (bodies s.items) (glyph_names s.items)) h)
+    refuses-then refusal (measured_source s) (λ font. Ok tt) (refuses-then refusal (file_check s) (λ checked. measured s.items) h)
 
 -- ---- runs
 

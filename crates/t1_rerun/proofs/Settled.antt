@@ -14,6 +14,7 @@ use Rattle.t1_frac.specs.declared.fault.Code.{Code}
 use Rattle.t1_font.specs.Bodies.{bodies, SameBodies}
 use Rattle.t1_font.specs.Glyphs.{Glyph as Reported, glyph_of, glyph_names}
 use Rattle.t1_font.specs.SourceChecks.{source_glyphs, source_check}
+use Rattle.t1_font.proofs.GlyphsOfSource.{check-by-glyphs}
 use Rattle.t1_cache.specs.declared.records.Records.{Records}
 use Rattle.t1_cache.specs.declared.records.Rerun.{Rerun}
 use Rattle.t1_cache.specs.Bodies.{record_bodies}
@@ -103,7 +104,7 @@ module _ (keys : List Key) (old : SourceParts) (reruns left : List Rerun) (kept 
 -- ---- a source that was edited
 
 pub reported-of : (s : SourceParts) → source_check s ≡ Ok tt → (reported : List Reported) × (source_glyphs s ≡ Ok reported)
-reported-of s e = by (source_glyphs s) refl e where
+reported-of s e = by (source_glyphs s) refl (sym (check-by-glyphs s) ∙ e) where
   by : (r : Result (List Reported) Fault) → source_glyphs s ≡ r → ◌≡◌ {A = Result (Unit {0}) Fault} (check r) (Ok tt) → (reported : List Reported) × (source_glyphs s ≡ Ok reported)
   by (Ok reported) here e = (reported, here)
   by (Err fault) here e = absurd (cc)

@@ -54,35 +54,34 @@ fn taken_body(bodies: &mut IndexMap<Vec<u8>, Body>, name: &[u8]) -> Option<Body>
     bodies.swap_remove(name)
 }
 
-/// Puts in the records of all glyphs, which were run and measured, in the order in which they were, without users.
+/// Puts in the records of all glyphs, which were run and measured, in the order in which they were, without users. It takes out
+/// their bodies and runs.
 fn insert_glyphs(
     alloc: Global,
     records: &mut Records,
-    bodies: IndexMap<Vec<u8>, Body>,
-    runs: Runs,
+    bodies: &mut IndexMap<Vec<u8>, Body>,
+    runs: &mut Runs,
     metrics: &[GlyphMetrics],
 ) -> Result<(), AllocError>
     requires none { map kept_of records.old.glyphs.entries ≡ [] }
     requires distinct { AreDistinct (measured_names metrics.now) }
-    requires bodies { (g : List ℕ) → is_some (glyph_kept bodies.entries g) ≡ list_any (bytes_eq g) (measured_names metrics.now) }
-    requires runs { AllByRecursion (HasRun runs) metrics.now }
+    requires bodies { (g : List ℕ) → is_some (glyph_kept bodies.old.entries g) ≡ list_any (bytes_eq g) (measured_names metrics.now) }
+    requires runs { AllByRecursion (HasRun runs.old) metrics.now }
     ensures subrs { OnOk result ((n : ℕ) → body_at (record_bodies records.new) (Subr n) ≡ body_at (record_bodies records.old) (Subr n)) }
-    ensures glyphs { OnOk result ((g : List ℕ) → body_at (record_bodies records.new) (Glyph g) ≡ glyph_kept bodies.entries g) }
+    ensures glyphs { OnOk result ((g : List ℕ) → body_at (record_bodies records.new) (Glyph g) ≡ glyph_kept bodies.old.entries g) }
     ensures users { OnOk result ((k : Key) (u : List ℕ) → lists records.new k u ≡ lists records.old k u) }
     ensures order { OnOk result (map (λ k. k.name) (map kept_of records.new.glyphs.entries) ≡ measured_names metrics.now) }
-    ensures each { OnOk result (AllByRecursion (IsRecorded runs.entry metrics.now) (map kept_of records.new.glyphs.entries)) }
+    ensures each { OnOk result (AllByRecursion (IsRecorded runs.old metrics.now) (map kept_of records.new.glyphs.entries)) }
 {
-    let mut bodies_left = bodies;
-    let mut runs_left = runs;
     for glyph in metrics {
-        let name = glyph.name.as_slice();
-        let Some(body) = taken_body(&mut bodies_left, name) else {
+        let text = glyph.name.as_slice();
+        let name = Vec::from_slice(alloc, text)?;
+        let Some(body) = taken_body(bodies, text) else {
             continue;
         };
-        let Some(run) = taken(&mut runs_left, name) else {
+        let Some(run) = taken(runs, text) else {
             continue;
         };
-        let name = Vec::from_slice(alloc, name)?;
         insert_glyph(alloc, records, name, body, run, glyph.bbox)?;
     }
     Ok(())
@@ -105,8 +104,10 @@ fn unused_records(
         subrs: IndexMap::new(alloc),
         glyphs: IndexMap::new(alloc),
     };
-    insert_subrs(alloc, &mut records, bodies.subrs)?;
-    insert_glyphs(alloc, &mut records, bodies.glyphs, runs, metrics)?;
+    let Plain { subrs, mut glyphs } = bodies;
+    let mut runs = runs;
+    insert_subrs(alloc, &mut records, subrs)?;
+    insert_glyphs(alloc, &mut records, &mut glyphs, &mut runs, metrics)?;
     Ok(records)
 }
 

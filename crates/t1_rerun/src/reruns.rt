@@ -33,11 +33,13 @@ pub fn reruns_of(
 {
     let mut reruns = Vec::new(alloc);
     for glyph in metrics {
-        let Some(run) = taken(runs, glyph.name.as_slice()) else {
+        let text = glyph.name.as_slice();
+        let name = Vec::from_slice(alloc, text)?;
+        let Some(run) = taken(runs, text) else {
             continue;
         };
         reruns.push(Rerun {
-            name: Vec::from_slice(alloc, glyph.name.as_slice())?,
+            name,
             run,
             bbox: glyph.bbox,
         })?;

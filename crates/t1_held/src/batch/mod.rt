@@ -31,15 +31,31 @@ impl<'a> Model for Batch<'a> {
     ghost view = { λ b. record { source = b.source; pairs = b.pairs; entries = map entry_edit b.entries.items } };
 }
 
-ghost use Rattle.std.specs.Prelude.{◌≡◌, ◌<◌, ◌++◌, [], vec_capacity, vec_len, IfOk, map};
-ghost use Rattle.std.specs.Option.{option_to_list};
+ghost use Rattle.std.specs.Prelude.{◌≡◌, ◌<◌, ◌++◌, [], vec_capacity, vec_len, IfOk, OnOk, map};
+ghost use Rattle.std.specs.Option.{option_map, option_to_list};
 ghost use Rattle.t1_parts.specs.SourceParts.{SourceParts};
 ghost use Rattle.t1_source.specs.WellFormed.{IsWellFormed};
-ghost use Rattle.t1_held.specs.Batch.{entry_edit, Drafts, IsDraftOf};
+ghost use Rattle.t1_rerun.specs.Renewing.{entry_key};
+ghost use Rattle.t1_held.specs.Batch.{adds, entry_edit, Drafts, IsDraftOf};
 
 use crate::batch::entries::edited_entry;
 use std::alloc::{AllocError, Global};
 use t1_source::{Cause, Edit};
+
+/// The entry that an edit names, where it names one, and room for it among those that were noted.
+fn entry_with_room(
+    alloc: Global,
+    entries: &mut Vec<EditedEntry>,
+    edit: &Edit,
+) -> Result<Option<EditedEntry>, AllocError>
+    ensures entry { IfOk result (λ entry. option_map entry_edit entry ≡ option_map (λ key. record { key = key; added = adds edit.now }) (entry_key edit.now)) }
+    ensures same { entries.new.items ≡ entries.old.items }
+    ensures room { OnOk result (vec_len entries.new < vec_capacity entries.new) }
+{
+    let entry = edited_entry(alloc, edit)?;
+    entries.reserve(1)?;
+    Ok(entry)
+}
 
 /// Notes an entry, where there is room for it.
 fn note(entries: &mut Vec<EditedEntry>, entry: Option<EditedEntry>)
@@ -71,11 +87,17 @@ impl<'a> Batch<'a> {
         ensures draft { (s : SourceParts) → IsDraftOf s self.old → IsDraftOf s self.new }
     {
         let change = self.source.prepared(&self.pairs, edit)?;
-        let entry = edited_entry(alloc, edit)?;
-        self.entries.reserve(1)?;
-        self.source.commit(&mut self.pairs, change)?;
-        note(&mut self.entries, entry);
-        Ok(())
+        match entry_with_room(alloc, &mut self.entries, edit) {
+            Ok(entry) => {
+                self.source.commit(&mut self.pairs, change)?;
+                note(&mut self.entries, entry);
+                Ok(())
+            }
+            Err(error) => {
+                drop(change);
+                Err(Cause::from(error))
+            }
+        }
     }
 
     /// Its source.

@@ -35,7 +35,7 @@ pub fn runs_by_name(alloc: Global, reruns: Vec<Rerun>) -> Result<NewRuns, AllocE
             run: rerun.run,
             bbox: rerun.bbox,
         };
-        runs.insert(rerun.name, new)?;
+        drop(runs.insert(rerun.name, new)?);
     }
     Ok(runs)
 }
@@ -89,10 +89,10 @@ fn glyph_step(
     if keeps_place(records, name.as_slice(), moved) {
         return Ok(Step::Put(Named::Glyph(name), body));
     }
+    let users = users_of_glyph(alloc, counts, name.as_slice())?;
     let Some(NewRun { run, bbox }) = taken_run(runs, name.as_slice()) else {
         return Ok(Step::Remove(Named::Glyph(name)));
     };
-    let users = users_of_glyph(alloc, counts, name.as_slice())?;
     let record = GlyphRecord {
         body,
         run,

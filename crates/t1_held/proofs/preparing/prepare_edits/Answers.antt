@@ -1,17 +1,17 @@
-use Rattle.std.proofs.Common.{◌≡◌, ◌∙◌, ap, refl, subst, sym, Ok}
+use Rattle.std.proofs.Common.{◌≡◌, ◌∙◌, ap, refl, subst, sym, Err, Ok}
 use Rattle.std.proofs.lemmas.Result.{err_from_is_err_and}
 use Rattle.t1_frac.specs.Outcome.{Refuses}
 use Rattle.t1_parts.specs.LenIV.{lead}
 use Rattle.t1_font.specs.Assembly.{file_check}
 use Rattle.t1_font.specs.Glyphs.{glyph_names}
-use Rattle.t1_font.specs.Runs.{counted}
+use Rattle.t1_font.specs.Runs.{counted, Counts}
 use Rattle.t1_cache.specs.Edited.{stale}
 use Rattle.t1_charstrings.specs.Made.{made_of as made_in}
 use Rattle.t1_charstrings.specs.Ready.{IsReadyLines}
 use Rattle.t1_rerun.specs.Changing.{AreChangesOf}
 use Rattle.t1_rerun.proofs.Judged.{file-refused}
 use Rattle.t1_rerun.proofs.Preparing.{as-self}
-use Rattle.t1_rerun.proofs.Reaching.{counts-same}
+use Rattle.t1_held.specs.declared.held.ReadyHeld.{ReadyHeld}
 use Rattle.t1_held.specs.Edits.{keys_of, made_of, source_of}
 use Rattle.t1_held.specs.Entries.{fresh_in, gone_keys}
 use Rattle.t1_held.proofs.CommitLaws.{edits_are, made_is, right_held, runs_are, source_by}
@@ -35,6 +35,11 @@ prepare_lines-requires-clause-edits c =
     (edits_are s made changes held.charstrings c.in_ok-entries.entries (right_held e held c.requires).encrypted (right_well e held c.requires) are.compiled are.edited are.keys are.bodies
     (λ k. entries.fresh k ∙ ap (λ l. fresh_in (lead c.source-source.result.now) l k) c.deref.ensures.value ∙ ap (λ x. fresh_in (lead x) changes k) c.source-source.ensures)
     (entries.gone ∙ ap gone_keys c.deref.ensures.value)))
+
+pub returns-in_err-changes-clause-checked : goal.returns-in_err-changes-clause-checked
+returns-in_err-changes-clause-checked c =
+    let p = err_from_is_err_and c.from_residual.result c.from_residual.ensures.1 in
+    rw (p.1, p.2) (file-refused (made_of c.args.edits) c.in_err-changes.field-0.0 (c.in_err-changes.ensures c.args.held.now c.requires))
 
 pub returns-in_err-lines-clause-checked : goal.returns-in_err-lines-clause-checked
 returns-in_err-lines-clause-checked c =
@@ -76,8 +81,8 @@ prepare_records-requires c =
     let of = subst (λ m. AreChangesOf changes s made held.records (glyph_names m.items)) (sym is) (are.prepared file) in
     (s, (made, of))
 
-pub returns-in_err-records-clause-checked : goal.returns-in_err-records-clause-checked
-returns-in_err-records-clause-checked c =
+pub returns-in-Err-clause-checked : goal.returns-in-Err-clause-checked
+returns-in-Err-clause-checked c =
     let e = c.args.edits in
     let s = source_of e in
     let made = made_of e in
@@ -87,15 +92,14 @@ returns-in_err-records-clause-checked c =
     let are = c.in_ok-changes.ensures held c.requires in
     let file : file_check made ≡ Ok tt = subst (λ m. file_check m ≡ Ok tt) is c.in_ok-lines.ensures.judged in
     let of = subst (λ m. AreChangesOf changes s made held.records (glyph_names m.items)) (sym is) (are.prepared file) in
-    let p = err_from_is_err_and c.from_residual-in_err-records.result c.from_residual-in_err-records.ensures.1 in
-    rw (p.1, p.2) (c.in_err-records.ensures.checked s made of)
+    c.in-Err.ensures.checked s made of
 
-pub returns-in_err-records-clause-held : goal.returns-in_err-records-clause-held
-returns-in_err-records-clause-held c =
-    still_held c.args.held.now _ c.in_err-records.ensures.same c.in_ok-lines.ensures.same refl
+pub returns-in-Err-clause-held : goal.returns-in-Err-clause-held
+returns-in-Err-clause-held c =
+    still_held c.args.held.now _ c.in-Err.ensures.same c.in_ok-lines.ensures.same refl
 
-pub returns-in_err-records-clause-counted : goal.returns-in_err-records-clause-counted
-returns-in_err-records-clause-counted c =
+pub returns-in-Err-clause-counted : goal.returns-in-Err-clause-counted
+returns-in-Err-clause-counted c =
     let e = c.args.edits in
     let s = source_of e in
     let made = made_of e in
@@ -105,12 +109,11 @@ returns-in_err-records-clause-counted c =
     let are = c.in_ok-changes.ensures held c.requires in
     let file : file_check made ≡ Ok tt = subst (λ m. file_check m ≡ Ok tt) is c.in_ok-lines.ensures.judged in
     let of = subst (λ m. AreChangesOf changes s made held.records (glyph_names m.items)) (sym is) (are.prepared file) in
-    let p = err_from_is_err_and c.from_residual-in_err-records.result c.from_residual-in_err-records.ensures.1 in
-    counts-same _ _ c.args.meter.now c.prepare_records.new.meter c.prepare_records.result c.from_residual-in_err-records.result
-    c.in_err-records.field-0.0 p.0 c.in_err-records.was p.1 p.2 (runs_are s made (keys_of e) held changes are file) (c.prepare_records.ensures.counted s made of)
+    subst (λ n. Counts {T = ReadyHeld} n c.args.meter.now c.prepare_records.new.meter (Err c.in-Err.refusal)) (runs_are s made (keys_of e) held changes are file)
+    (c.in-Err.ensures.counted s made of)
 
-pub returns-clause-checked : goal.returns-clause-checked
-returns-clause-checked c =
+pub returns-in-Ok-clause-checked : goal.returns-in-Ok-clause-checked
+returns-in-Ok-clause-checked c =
     let e = c.args.edits in
     let s = source_of e in
     let made = made_of e in
@@ -120,10 +123,10 @@ returns-clause-checked c =
     let are = c.in_ok-changes.ensures held c.requires in
     let file : file_check made ≡ Ok tt = subst (λ m. file_check m ≡ Ok tt) is c.in_ok-lines.ensures.judged in
     let of = subst (λ m. AreChangesOf changes s made held.records (glyph_names m.items)) (sym is) (are.prepared file) in
-    c.in_ok-records.ensures.checked s made of
+    c.in-Ok.ensures.checked s made of
 
-pub returns-clause-ready : goal.returns-clause-ready
-returns-clause-ready c =
+pub returns-in-Ok-clause-ready : goal.returns-in-Ok-clause-ready
+returns-in-Ok-clause-ready c =
     let e = c.args.edits in
     let s = source_of e in
     let made = made_of e in
@@ -136,16 +139,16 @@ returns-clause-ready c =
     record {
       changes = changes;
       same = are.same;
-      records = c.in_ok-records.ensures.ready s made of;
+      records = c.in-Ok.ensures.ready s made of;
       lines = subst (λ m. IsReadyLines m c.prepare_lines.new.charstrings c.in_ok-lines.lines) is c.in_ok-lines.ensures.ready;
     }
 
-pub returns-clause-held : goal.returns-clause-held
-returns-clause-held c =
-    still_held c.args.held.now _ c.in_ok-records.ensures.same c.in_ok-lines.ensures.same refl
+pub returns-in-Ok-clause-held : goal.returns-in-Ok-clause-held
+returns-in-Ok-clause-held c =
+    still_held c.args.held.now _ c.in-Ok.ensures.same c.in_ok-lines.ensures.same refl
 
-pub returns-clause-counted : goal.returns-clause-counted
-returns-clause-counted c =
+pub returns-in-Ok-clause-counted : goal.returns-in-Ok-clause-counted
+returns-in-Ok-clause-counted c =
     let e = c.args.edits in
     let s = source_of e in
     let made = made_of e in
@@ -155,4 +158,4 @@ returns-clause-counted c =
     let are = c.in_ok-changes.ensures held c.requires in
     let file : file_check made ≡ Ok tt = subst (λ m. file_check m ≡ Ok tt) is c.in_ok-lines.ensures.judged in
     let of = subst (λ m. AreChangesOf changes s made held.records (glyph_names m.items)) (sym is) (are.prepared file) in
-    subst (λ n. c.prepare_records.new.meter ≡ counted c.args.meter.now n) (runs_are s made (keys_of e) held changes are file) (c.in_ok-records.ensures.counted s made of)
+    subst (λ n. c.prepare_records.new.meter ≡ counted c.args.meter.now n) (runs_are s made (keys_of e) held changes are file) (c.in-Ok.ensures.counted s made of)

@@ -3,4 +3,4 @@ use Rattle.t1_rerun.proofs.opening.insert_glyphs.Given as goal
 
 -- the records so far
 abbrev pub invariant-loop-glyph : goal.invariant-loop-glyph
-invariant-loop-glyph l = AreBuilt l.fn.records l.fn.bodies.entries l.bodies_left.entries l.fn.runs l.runs_left l.metrics l.glyph-index l.records
+invariant-loop-glyph l = AreBuilt l.fn.records l.fn.bodies.entries l.bodies.entries l.fn.runs l.runs l.metrics l.glyph-index l.records

@@ -10,6 +10,7 @@ use Rattle.t1_cache.specs.Renewed.{kept_of}
 use Rattle.t1_font.proofs.Measuring.{names-there}
 use Rattle.t1_rerun.specs.Opened.{measured_names, AreMeasured, IsRecorded}
 use Rattle.t1_rerun.proofs.FirstRecords.{all-after, are-measured, are-right, counts-done, counts-some, first-fault, names-measured, no-fault, runs-are}
+use Rattle.t1_rerun.proofs.Judged.{file-refused}
 use Rattle.t1_rerun.proofs.Reaching.{length-map}
 use Rattle.t1_rerun.proofs.opening.opened_records.Goals as goal
 
@@ -17,6 +18,11 @@ pub runs_of-requires : goal.runs_of-requires
 runs_of-requires c =
     names-there (plain_bodies c.in_ok-bodies.bodies) c.args.source.now.items c.deref.result.now tt c.in_ok-bodies.ensures.no_fault c.in_ok-bodies.ensures.bodies
     (ap (map (λ name. name.now)) c.deref.ensures.value ∙ c.in_ok-names.ensures ∙ ap glyph_names c.items.ensures)
+
+pub returns-in_err-bodies-clause-checked : goal.returns-in_err-bodies-clause-checked
+returns-in_err-bodies-clause-checked c =
+    let p = err_from_is_err_and c.from_residual.result c.from_residual.ensures.1 in
+    rw (p.1, p.2) (file-refused c.args.source.now c.in_err-bodies.field-0.0 c.in_err-bodies.ensures.file)
 
 pub returns-in_err-runs-clause-counted : goal.returns-in_err-runs-clause-counted
 returns-in_err-runs-clause-counted c =

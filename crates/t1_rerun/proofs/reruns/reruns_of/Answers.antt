@@ -14,8 +14,8 @@ loop-glyph-preserved-in_default c =
     let now = c.loop-glyph.runs in
     taken-again c.args.runs.now now c.taken.new.runs metrics at c.loop-glyph.reruns.items m c.loop-glyph-test.true c.glyph-item.is
     (has-run c.args.runs.now metrics at m c.requires c.loop-glyph-test.true c.glyph-item.is) c.loop-glyph.invariant
-    (λ g. c.taken.ensures.others g ∙ ap (λ n. cond (bytes_eq n g) None (run_kept now g)) c.as_slice.ensures)
-    (sym c.in_default.is ∙ c.taken.ensures.run ∙ ap (λ n. run_in (run_kept now n)) c.as_slice.ensures)
+    (λ g. c.taken.ensures.others g ∙ ap (λ n. cond (bytes_eq n g) None (run_kept now g)) c.as_slice-text.ensures)
+    (sym c.in_default.is ∙ c.taken.ensures.run ∙ ap (λ n. run_in (run_kept now n)) c.as_slice-text.ensures)
 
 pub loop-glyph-preserved : goal.loop-glyph-preserved
 loop-glyph-preserved c =
@@ -23,10 +23,10 @@ loop-glyph-preserved c =
     let at = c.loop-glyph.glyph-index in
     let m = c.glyph-item.result in
     let now = c.loop-glyph.runs in
-    let r : Rerun = record { name = c.in_ok-from_slice.field-0; run = c.in-Some.run'; bbox = m.bbox } in
+    let r : Rerun = record { name = c.in_ok-name.name; run = c.in-Some.run'; bbox = m.bbox } in
     subst (AreTaken c.args.runs.now c.taken.new.runs metrics (at + 1)) (sym c.in_ok-push.ensures.items)
     (taken-more c.args.runs.now now c.taken.new.runs metrics at c.loop-glyph.reruns.items m c.loop-glyph-test.true c.glyph-item.is
     (has-run c.args.runs.now metrics at m c.requires c.loop-glyph-test.true c.glyph-item.is) c.loop-glyph.invariant
-    (λ g. c.taken.ensures.others g ∙ ap (λ n. cond (bytes_eq n g) None (run_kept now g)) c.as_slice.ensures)
-    r (c.in_ok-from_slice.ensures.items ∙ c.as_slice-in-loop-glyph.ensures) refl
-    (sym c.in-Some.is ∙ c.taken.ensures.run ∙ ap (λ n. run_in (run_kept now n)) c.as_slice.ensures))
+    (λ g. c.taken.ensures.others g ∙ ap (λ n. cond (bytes_eq n g) None (run_kept now g)) c.as_slice-text.ensures)
+    r (c.in_ok-name.ensures.items ∙ c.as_slice-text.ensures) refl
+    (sym c.in-Some.is ∙ c.taken.ensures.run ∙ ap (λ n. run_in (run_kept now n)) c.as_slice-text.ensures))

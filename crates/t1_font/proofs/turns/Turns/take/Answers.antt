@@ -12,7 +12,7 @@ returns-in_ok-push-in-Glyph-clause-rows c = λ run. λ gs. λ runs. λ before.
     let m = font (subr_stored c.args.self.now.subrs) (glyph_to_run c.args.items.now) in
     let own = subst (λ item. RunsAs item run m) is runs in
     rw (is, c.in_ok-push-in-Glyph.ensures)
-    (rows-more run gs c.in-Glyph.name c.args.self.now.rows c.in_ok-row-in-Glyph.row before
+    (rows-more run gs c.in-Glyph.name c.args.reported.now.rows c.in_ok-row-in-Glyph.row before
     (subst (λ name. Rattle.t1_font.specs.InTurn.IsRow run name c.in_ok-row-in-Glyph.row) c.as_slice.ensures
     (c.in_ok-row-in-Glyph.ensures.row run (subst (λ name. run name ≡ Rattle.t1_run.specs.Run.own m name) (sym c.as_slice.ensures) own))))
 
@@ -22,5 +22,5 @@ returns-in_ok-push-in-Glyph-clause-runs c = λ run. λ gs. λ runs. λ before. �
     let m = font (subr_stored c.args.self.now.subrs) (glyph_to_run c.args.items.now) in
     let own = subst (λ item. RunsAs item run m) is runs in
     rw is
-    (runs-more run gs c.in-Glyph.name g (kept_of c.args.self.now.runs g) (kept_of c.glyph_turn.new.runs g) (before g)
+    (runs-more run gs c.in-Glyph.name g (kept_of c.args.reported.now.runs g) (kept_of c.glyph_turn.new.runs g) (before g)
     (rw (← c.as_slice.ensures) (c.in_ok-row-in-Glyph.ensures.kept run (subst (λ name. run name ≡ Rattle.t1_run.specs.Run.own m name) (sym c.as_slice.ensures) own) g)))

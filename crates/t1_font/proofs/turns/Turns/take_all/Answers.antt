@@ -16,7 +16,7 @@ use Rattle.t1_font.proofs.AloneLaws.{checks_alone, first_alone, names_alone, sub
 use Rattle.t1_font.proofs.Compiling.{or-assoc}
 use Rattle.t1_font.proofs.InTurnLaws.{names-known, refused-first, runs-as}
 use Rattle.t1_font.proofs.SubrsFirst.{later}
-use Rattle.t1_font.proofs.turns.turns_of.Goals as goal
+use Rattle.t1_font.proofs.turns.Turns.take_all.Goals as goal
 
 pub loop-item-init : goal.loop-item-init
 loop-item-init c =
@@ -27,18 +27,18 @@ loop-item-init c =
       tt,
       record {
         firsts = subst (All (IsFirstOfName items)) (sym start) (All-filter stands_alone (IsFirstOfName items) items c.requires.firsts);
-        order = subst SubrsStandFirst (sym start) (first_alone items c.requires.subrs);
+        order = subst SubrsStandFirst (sym start) (first_alone items c.requires.order);
         checked = ap bodies_check start ∙ checks_alone items;
-        subrs = λ n. ap (λ r. option_or r (subr_among left n)) (c.in_ok-turns.ensures.subrs n) ∙ ap (λ l. subr_among l n) start ∙ subrs_alone n items;
+        subrs = λ n. ap (λ r. option_or r (subr_among left n)) (c.requires.subrs n) ∙ ap (λ l. subr_among l n) start ∙ subrs_alone n items;
         done = [];
         names = ap glyph_names start ∙ names_alone items;
-        rows = subst (AreRows (own (font_to_run items)) []) (sym c.in_ok-turns.ensures.rows) tt;
-        runs = λ g. ap (λ runs. kept_of runs g) c.in_ok-turns.ensures.runs;
+        rows = subst (AreRows (own (font_to_run items)) []) (sym c.requires.rows) tt;
+        runs = λ g. ap (λ runs. kept_of runs g) c.requires.runs;
       },
     )
 
 pub take-requires-clause-known : goal.take-requires-clause-known
-take-requires-clause-known c = λ g. c.in_ok-names.ensures g ∙ names-known c.args.items.now g
+take-requires-clause-known c = λ g. c.requires.names g ∙ names-known c.args.items.now g
 
 pub take-requires-clause-first : goal.take-requires-clause-first
 take-requires-clause-first c =
@@ -52,7 +52,7 @@ loop-item-preserved c =
     let rest = c.next.new.self in
     let steps = c.in-Some.ensures.steps in
     let before = c.loop-item.invariant.2 in
-    let subrs = subr_stored c.loop-item.turns.subrs in
+    let subrs = subr_stored c.loop-item.self.subrs in
     let run = own (font_to_run items) in
     let left : (n : ℕ) → option_or (subrs n) (subr_among (item ∷ rest) n) ≡ subr_among items n = λ n. sym (ap (λ l. option_or (subrs n) (subr_among l n)) steps) ∙ before.subrs n in
     let order = subst SubrsStandFirst steps before.order in
@@ -79,5 +79,5 @@ returns-in_err-take-clause-checked c =
     let rest = c.next.new.self in
     let whole = sym (ap bodies_check c.in-Some.ensures.steps) ∙ c.loop-item.invariant.2.checked in
     let refused = c.in_err-take.field-0.0 in
-    let p = err_from_is_err_and c.from_residual-in_err-take.result c.from_residual-in_err-take.ensures.1 in
+    let p = err_from_is_err_and c.from_residual.result c.from_residual.ensures.1 in
     rw (p.1, p.2) (subst (Refuses refused) whole (refused-first refused (body_check item) (bodies_check rest) c.in_err-take.ensures.checked))

@@ -7,7 +7,7 @@ use Rattle.t1_font.specs.Glyphs.{glyph_names}
 use Rattle.t1_font.specs.InTurn.{staying, AreRows, IsFirstOfName}
 use Rattle.t1_font.specs.Runs.{kept_of}
 use Rattle.t1_font.specs.ToRun.{font_to_run, subr_stored, SubrsStandFirst}
-use Rattle.t1_font.proofs.turns.turns_of.Given as goal
+use Rattle.t1_font.proofs.turns.Turns.take_all.Given as goal
 
 -- what was reported of the items so far, and the bodies of those that are left
 abbrev pub invariant-loop-item : goal.invariant-loop-item
@@ -17,9 +17,9 @@ invariant-loop-item l =
       firsts : All (IsFirstOfName l.items) l.item-iterator;
       order : SubrsStandFirst l.item-iterator;
       checked : bodies_check l.item-iterator ≡ bodies_check l.items;
-      subrs : (n : ℕ) → option_or (subr_stored l.turns.subrs n) (subr_among l.item-iterator n) ≡ subr_among l.items n;
+      subrs : (n : ℕ) → option_or (subr_stored l.self.subrs n) (subr_among l.item-iterator n) ≡ subr_among l.items n;
       done : List (List ℕ);
       names : done ++ glyph_names l.item-iterator ≡ glyph_names l.items;
-      rows : AreRows (own (font_to_run l.items)) done l.turns.rows;
-      runs : (g : List ℕ) → kept_of l.turns.runs g ≡ staying (own (font_to_run l.items)) done g;
+      rows : AreRows (own (font_to_run l.items)) done l.reported.rows;
+      runs : (g : List ℕ) → kept_of l.reported.runs g ≡ staying (own (font_to_run l.items)) done g;
     }
