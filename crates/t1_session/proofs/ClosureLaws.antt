@@ -1,5 +1,5 @@
 -- The runs that commands make, by the closure of stale glyphs.
-use Rattle.std.proofs.Common.{◌≡◌, ℕ, Option, Some, None, List, Result, Ok, Err, length}
+use Rattle.std.proofs.Common.{◌≡◌, ℕ, Option, Some, None, List, Result, Ok, Err, length, sym, ◌∙◌}
 use Rattle.t1_frac.proofs.OutcomeLaws.{bind_ok}
 use Rattle.t1_parts.specs.SourceParts.{SourceParts}
 use Rattle.t1_source.specs.declared.edit.Cause.{Cause}
@@ -8,6 +8,7 @@ use Rattle.t1_run.specs.Touched.{AreStale}
 use Rattle.t1_run.proofs.TouchedClosure.{touched_are_stale}
 use Rattle.t1_font.specs.Bodies.{bodies}
 use Rattle.t1_font.specs.SourceChecks.{source_check, source_glyphs}
+use Rattle.t1_font.proofs.GlyphsOfSource.{check-by-glyphs}
 use Rattle.t1_cache.specs.Edited.{is_stale, stale}
 use Rattle.t1_cache.specs.Renewed.{Kept}
 use Rattle.t1_cache.proofs.Drawing.{all_draw}
@@ -19,7 +20,7 @@ use Rattle.t1_session.specs.State.{SessionView}
 
 stale-closure : (s : SourceParts) (keys : List Key) → source_check s ≡ Ok tt → AreStale (bodies s.items) keys (is_stale s keys)
 stale-closure s keys e =
-    let reported = bind_ok (source_glyphs s) (λ glyphs. Ok (tt {0})) tt e in
+    let reported = bind_ok (source_glyphs s) (λ glyphs. Ok (tt {0})) tt (sym (check-by-glyphs s) ∙ e) in
     touched_are_stale (bodies s.items) keys (all_draw s reported.0 reported.1)
 
 abbrev staleness : (e : Edition) (s : SourceParts) → source_check s ≡ Ok tt → Staleness e s

@@ -1,9 +1,9 @@
 -- How a conversation goes on, by one byte, by one line and by one piece.
 use Rattle.std.proofs.Common.{◌≡◌, ◌∙◌, inr, ℕ, Bool, true, false, List, [], ◌∷◌, ◌++◌, append_assoc, append-nil, refl, sym, ap}
 use Rattle.std.specs.Prelude.{Option, Some, None, ◌==◌, Result, Ok, Err}
-use Rattle.t1_code.specs.Counted.{Tally, WritesAll}
-use Rattle.t1_code.proofs.Writing.{writing, WritesAll-append, WritesFront-append}
+use Rattle.t1_code.specs.Counted.{Tally}
 use Rattle.t1_frac.specs.Words.{words}
+use Rattle.t1_session.specs.Flushing.{WritesAndFlushes}
 use Rattle.t1_session.specs.declared.error.ServeError.{ServeError}
 use Rattle.t1_session.specs.declared.error.ServeError.TheVariants as errors
 use Rattle.t1_commands.specs.declared.command.Command.{Command}
@@ -16,6 +16,7 @@ use Rattle.t1_session.specs.Machine.{machine}
 use Rattle.t1_session.specs.State.{State}
 use Rattle.t1_session.specs.Conversation.{Conversation, commands_from, input_after, is_unbroken, Performs, Goes, Grows, IsQuiet, AnswersCommand, LineGoes, EndsCommandLine, IsBodyLine, EndsLine, Answered, StopsForMemory, Feeds, Ends}
 use Rattle.t1_session.specs.LineEnds.{ends_line, ends_in_return}
+use Rattle.t1_session.proofs.Flushing.{flushes-none, flushes-append, flushes-fails}
 use Rattle.t1_session.proofs.LineLaws.{finished_lines-line, finished_lines-unbroken, finished_lines-last, last_line, unified-byte, unified-end, is_unbroken-push}
 
 -- a body that is open is no command before the input ends
@@ -176,7 +177,7 @@ left_at_end c o h k p = at_end c h ∙ rw k (last_leaves o c.line p)
 module _ {W : Type 0} (contents : W → Option (List ℕ)) where
   -- nothing was taken in, and nothing written
   pub Answered-none : (c : Conversation) (sink : Tally W) → Answered contents c c sink sink []
-  Answered-none c sink = record { text = []; goes = Goes-none c; written = (writing contents).none sink }
+  Answered-none c sink = record { text = []; goes = Goes-none c; written = flushes-none contents sink }
 
   -- memory was wanted for the first byte
   pub stopped_at_once : (c : Conversation) (sink : Tally W) (b : ℕ) → is_unbroken c.line ≡ true → commands_from c (b ∷ []) false ≡ [] → Grows c b
@@ -247,11 +248,11 @@ module _ {W : Type 0} (contents : W → Option (List ℕ)) where
 
   -- the end of the input makes none
   pub Ends-nothing : (c : Conversation) (sink : Tally W) → commands_from c [] true ≡ [] → Ends {T = Unit {0}} contents c sink sink (Ok tt)
-  Ends-nothing c sink none = record { marks = []; sends = rw none ((writing contents).none sink) }
+  Ends-nothing c sink none = record { marks = []; sends = rw none (flushes-none contents sink) }
 
   -- a failed call after a first part that was taken
   pub Feeds-after : (T : Type 0) (a b new : Conversation) (first mid last : Tally W) (front piece rest whole text : List ℕ) (error : ServeError)
-      → Goes a b front text → WritesAll contents first mid text → whole ≡ (front ++ piece) ++ rest
+      → Goes a b front text → WritesAndFlushes contents first mid text → whole ≡ (front ++ piece) ++ rest
       → Feeds {T = T} contents b new mid last piece (Err error) → Feeds {T = T} contents a new first last whole (Err error)
   Feeds-after T a b new first mid last front piece rest whole text errors.Memory goes wrote parts e = record {
     front = front ++ e.front;
@@ -262,7 +263,7 @@ module _ {W : Type 0} (contents : W → Option (List ℕ)) where
     answered = record {
       text = text ++ e.answered.text;
       goes = Goes-both a b e.reached front e.front text e.answered.text goes e.answered.goes;
-      written = WritesAll-append contents first mid last text e.answered.text wrote e.answered.written;
+      written = flushes-append contents first mid last text e.answered.text wrote e.answered.written;
     };
     quiet = e.quiet;
     finishes_none = e.finishes_none;
@@ -275,7 +276,7 @@ module _ {W : Type 0} (contents : W → Option (List ℕ)) where
     reached = e.reached;
     text = text ++ e.text;
     goes = Goes-both a b e.reached front e.front text e.text goes e.goes;
-    written = WritesFront-append contents first mid last text e.text wrote e.written;
+    written = flushes-fails contents first mid last text e.text wrote e.written;
   }
   Feeds-after T a b new first mid last front piece rest whole text errors.Read goes wrote parts e = absurd e
   Feeds-after T a b new first mid last front piece rest whole text (errors.Load fault) goes wrote parts e = absurd e

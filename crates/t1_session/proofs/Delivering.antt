@@ -13,7 +13,7 @@ use Rattle.t1_code.specs.Parts.{Prints}
 use Rattle.t1_afm.specs.Afm.{afm}
 use Rattle.t1_font.specs.Assembly.{source_file, source_pfa, file_check}
 use Rattle.t1_font.specs.FontMetrics.{metrics_of}
-use Rattle.t1_font.specs.MeasuredGlyphs.{MeasuredFont, measured}
+use Rattle.t1_font.specs.MeasuredGlyphs.{measured}
 use Rattle.t1_font.specs.SourceChecks.{measured_source}
 use Rattle.t1_session.specs.Files.{assembled, assembled_pfa, metrics_file}
 use Rattle.t1_session.specs.Delivery.{Delivers, reported_by_writing}
@@ -28,15 +28,15 @@ pub pfa_read : (bytes : List ℕ) (s : SourceParts) → reads bytes ≡ Ok s →
 unfolding assembled_pfa
 pfa_read bytes s read = rw read refl
 
--- the AFM file of a source, its pairs and its glyphs, which have no fault
-pub metrics_parts : (source kerning : List ℕ) (s : SourceParts) (ps : List Pair) (glyphs : MeasuredFont)
-    → reads source ≡ Ok s → pairs kerning ≡ Ok ps → measured_source s ≡ Ok glyphs → metrics_file source kerning ≡ Ok (afm (metrics_of s ps glyphs))
+-- the AFM file of the bytes of a source and of its pairs
+pub metrics_read : (source kerning : List ℕ) (s : SourceParts) (ps : List Pair) → reads source ≡ Ok s → pairs kerning ≡ Ok ps
+    → metrics_file source kerning ≡ (measured_source s >>= λ glyphs. Ok (afm (metrics_of s ps glyphs)))
 unfolding metrics_file measured_source
-metrics_parts source kerning s ps glyphs read paired reported = rw (read, paired) (by (file_check s) reported) where
-  by : (r : Result (Unit {0}) Fault) → (r >>= (λ _. measured s.items)) ≡ Ok glyphs
-      → (r >>= (λ _. measured s.items >>= (λ gs. Ok (afm (metrics_of s ps gs))))) ≡ Ok (afm (metrics_of s ps glyphs))
-  by (Ok u) h = rw h refl
-  by (Err fault) h = absurd (cc)
+metrics_read source kerning s ps read paired = rw (read, paired) (by (file_check s)) where
+  by : (r : Result (Unit {0}) Fault) → (r >>= (λ _. measured s.items >>= (λ gs. Ok (afm (metrics_of s ps gs)))))
+      ≡ ((r >>= (λ _. measured s.items)) >>= (λ gs. Ok (afm (metrics_of s ps gs))))
+  by (Ok u) = refl
+  by (Err fault) = refl
 
 module _ {W : Type 0} (contents : W → Option (List ℕ)) (old new : Tally W) (text given : Result (List ℕ) Fault) (same : given ≡ text) where
   pub delivers_failure : (e : OutError) → Prints {T = Unit {0}} contents old new text (Err e) → Delivers {T = Unit {0}} contents old new given (Err (reported_by_writing e))

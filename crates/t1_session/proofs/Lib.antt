@@ -2,6 +2,7 @@ pub mod ClosureLaws
 pub mod Conversations
 pub mod Delivering
 pub mod FaultLaws
+pub mod Flushing
 pub mod LineLaws
 pub mod ReadableLaws
 pub mod Reporting

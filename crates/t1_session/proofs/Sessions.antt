@@ -3,8 +3,9 @@ use Rattle.std.proofs.Common.{◌≡◌, ◌∙◌, inl, inr, ℕ, Bool, true, f
 use Rattle.std.specs.Prelude.{Option, Result, Ok, Err}
 use Rattle.std.specs.Io.KnownBytes.{IsAtEnd}
 use Rattle.t1_frac.specs.declared.fault.Fault.{Fault}
-use Rattle.t1_code.specs.Counted.{Tally, WritesAll}
-use Rattle.t1_code.proofs.Writing.{WritesAll-append, WritesFront-append, WritesFront-longer}
+use Rattle.t1_code.specs.Counted.{Tally}
+use Rattle.t1_code.proofs.Writing.{WritesFront-longer}
+use Rattle.t1_session.specs.Flushing.{WritesAndFlushes}
 use Rattle.t1_session.specs.declared.error.ServeError.{ServeError}
 use Rattle.t1_session.specs.declared.error.ServeError.TheVariants as errors
 use Rattle.t1_commands.specs.Commands.{input_commands}
@@ -14,6 +15,7 @@ use Rattle.t1_session.specs.State.{State}
 use Rattle.t1_session.specs.Conversation.{Conversation, fresh, commands_from, Goes, Grows, IsQuiet, Feeds, Ends}
 use Rattle.t1_session.specs.LineEnds.{ends_line}
 use Rattle.t1_session.specs.Serving.{Streams, Reads, ReadsAndFails, StopsAtRead, WantsRoom, Converses, Serves}
+use Rattle.t1_session.proofs.Flushing.{flushes-append, flushes-fails}
 use Rattle.t1_session.proofs.Conversations.{Goes-both}
 
 -- before the first byte all commands of the input are to come
@@ -61,7 +63,7 @@ module _ (s : State) (c : Conversation) (input text : List ℕ) (goes : Goes (fr
 
 module _ {R W : Type 0} (remaining : R → Option (List ℕ)) (contents : W → Option (List ℕ)) where
   pub stopped_at_read : (s : State) (c : Conversation) (old new : Streams R W) (input text : List ℕ) → Goes (fresh s) c input text → IsQuiet c
-      → ReadsAndFails remaining old.reader new.reader input → WritesAll contents old.writer new.writer text → StopsAtRead remaining contents s old new
+      → ReadsAndFails remaining old.reader new.reader input → WritesAndFlushes contents old.writer new.writer text → StopsAtRead remaining contents s old new
   stopped_at_read s c old new input text goes q read wrote = record {
     input = input;
     marks = goes.performs.marks ++ [];
@@ -71,7 +73,7 @@ module _ {R W : Type 0} (remaining : R → Option (List ℕ)) (contents : W → 
 
   -- the input was read to its end
   pub Converses-ended : {T : Type 0} (s : State) (c : Conversation) (old new : Streams R W) (mid : Tally W) (input text : List ℕ) (r : Result T ServeError)
-      → Goes (fresh s) c input text → Reads remaining old.reader new.reader input → IsAtEnd (remaining new.reader.inner) → WritesAll contents old.writer mid text
+      → Goes (fresh s) c input text → Reads remaining old.reader new.reader input → IsAtEnd (remaining new.reader.inner) → WritesAndFlushes contents old.writer mid text
       → Ends contents c mid new.writer r → Converses remaining contents s old new r
   Converses-ended s c old new mid input text (Ok done) goes read at_end wrote e = record {
     input = input;
@@ -79,7 +81,7 @@ module _ {R W : Type 0} (remaining : R → Option (List ℕ)) (contents : W → 
     reads = read;
     at_end = at_end;
     writes = rw (answered_to_end s c input text goes e.marks)
-        (WritesAll-append contents old.writer mid new.writer text (answers machine c.state (commands_from c [] true) e.marks) wrote e.sends);
+        (flushes-append contents old.writer mid new.writer text (answers machine c.state (commands_from c [] true) e.marks) wrote e.sends);
   }
   Converses-ended s c old new mid input text (Err errors.Memory) goes read at_end wrote e = absurd e.sends
   Converses-ended s c old new mid input text (Err errors.Write) goes read at_end wrote e = record {
@@ -87,14 +89,14 @@ module _ {R W : Type 0} (remaining : R → Option (List ℕ)) (contents : W → 
     marks = goes.performs.marks ++ e.marks;
     reads = read;
     writes = rw (answered_to_end s c input text goes e.marks)
-        (WritesFront-append contents old.writer mid new.writer text (answers machine c.state (commands_from c [] true) e.marks) wrote e.sends);
+        (flushes-fails contents old.writer mid new.writer text (answers machine c.state (commands_from c [] true) e.marks) wrote e.sends);
   }
   Converses-ended s c old new mid input text (Err errors.Read) goes read at_end wrote e = absurd e.sends
   Converses-ended s c old new mid input text (Err (errors.Load fault)) goes read at_end wrote e = absurd e.sends
 
   -- a piece of the input couldn't be answered
   pub Converses-fed : (T : Type 0) (s : State) (c d : Conversation) (old new : Streams R W) (mid : Tally W) (input piece text : List ℕ) (error : ServeError)
-      → Goes (fresh s) c input text → Reads remaining old.reader new.reader (input ++ piece) → WritesAll contents old.writer mid text
+      → Goes (fresh s) c input text → Reads remaining old.reader new.reader (input ++ piece) → WritesAndFlushes contents old.writer mid text
       → Feeds {T = T} contents c d mid new.writer piece (Err error) → Converses remaining contents {T = T} s old new (Err error)
   Converses-fed T s c d old new mid input piece text errors.Memory goes read wrote e =
       let front = e.front in
@@ -109,7 +111,7 @@ module _ {R W : Type 0} (remaining : R → Option (List ℕ)) (contents : W → 
         reads = rw whole read;
         wants_room = room s e.reached (input ++ front) (text ++ did.text) far e.byte e.finishes_none e.grows;
         finishes_none = unfinished s e.reached (input ++ front) (text ++ did.text) far e.byte e.quiet e.finishes_none;
-        writes = rw (answered_so_far s e.reached (input ++ front) (text ++ did.text) far e.quiet) (WritesAll-append contents old.writer mid new.writer text did.text wrote did.written);
+        writes = rw (answered_so_far s e.reached (input ++ front) (text ++ did.text) far e.quiet) (flushes-append contents old.writer mid new.writer text did.text wrote did.written);
       }
   Converses-fed T s c d old new mid input piece text errors.Write goes read wrote e =
       let front = e.front in
@@ -124,7 +126,7 @@ module _ {R W : Type 0} (remaining : R → Option (List ℕ)) (contents : W → 
         marks = far.performs.marks ++ [];
         reads = read;
         writes = rw all (WritesFront-longer contents old.writer new.writer (text ++ e.text) next
-            (WritesFront-append contents old.writer mid new.writer text e.text wrote e.written));
+            (flushes-fails contents old.writer mid new.writer text e.text wrote e.written));
       }
   Converses-fed T s c d old new mid input piece text errors.Read goes read wrote e = absurd e
   Converses-fed T s c d old new mid input piece text (errors.Load fault) goes read wrote e = absurd e

@@ -32,7 +32,6 @@ use Rattle.t1_font.specs.Usage.{usage_table}
 use Rattle.t1_held.specs.declared.held.Held.{Held}
 use Rattle.t1_held.specs.Held.{IsHeld}
 use Rattle.t1_held.proofs.HeldLaws.{file_checked, right_checked}
-use Rattle.t1_font.proofs.SourceMetrics.{by-source-metrics}
 use Rattle.t1_commands.specs.declared.answer.Answer.TheVariants.{Data}
 use Rattle.t1_commands.specs.declared.print.Print.TheVariants as prints
 use Rattle.std.specs.declared.vec.Vec.{Vec}
@@ -47,10 +46,10 @@ use Rattle.t1_session.specs.State.{State}
 -- ---- by the metrics of its glyphs
 
 pub check_passed : (s : SourceParts) (font : MeasuredFont) → measured_source s ≡ Ok font → source_check s ≡ Ok tt
-check_passed s font e = (by-source-metrics s).check ∙ ap (λ (r : Result MeasuredFont Fault). r >>= λ metrics. Ok (tt {0})) e
+check_passed s font e = ap (λ (r : Result MeasuredFont Fault). r >>= λ metrics. Ok (tt {0})) e
 
 pub check_refused : (s : SourceParts) (fault : Fault) → measured_source s ≡ Err fault → source_check s ≡ Err fault
-check_refused s fault e = (by-source-metrics s).check ∙ ap (λ (r : Result MeasuredFont Fault). r >>= λ metrics. Ok (tt {0})) e
+check_refused s fault e = ap (λ (r : Result MeasuredFont Fault). r >>= λ metrics. Ok (tt {0})) e
 
 -- ---- a source judged
 
@@ -74,7 +73,7 @@ has_file s font e =
 
 -- its files in other forms: no form has a fault of its own
 checked-metrics : (s : SourceParts) → source_check s ≡ Ok tt → (font : MeasuredFont) × (measured_source s ≡ Ok font)
-checked-metrics s e = let step = bind_ok (measured_source s) (λ metrics. Ok (tt {0})) tt (sym (by-source-metrics s).check ∙ e) in (step.0, step.1)
+checked-metrics s e = let step = bind_ok (measured_source s) (λ metrics. Ok (tt {0})) tt e in (step.0, step.1)
 
 blocks-of : (size : ℕ) (clear private trailer file : List ℕ) → pfb_of whole_file clear private trailer ≡ Ok file → (made : List ℕ) × (pfb_of size clear private trailer ≡ Ok made)
 blocks-of size clear private trailer file e =

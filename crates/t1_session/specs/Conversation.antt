@@ -14,6 +14,7 @@ use Rattle.t1_commands.specs.Lines.{finished_lines}
 use Rattle.t1_commands.specs.Commands.{Opening, commands_of, ends_body}
 use Rattle.t1_commands.specs.AnswerTexts.{answer_text}
 use Rattle.t1_commands.specs.Answers.{answers, answer_to}
+use Rattle.t1_session.specs.Flushing.{WritesAndFlushes}
 use Rattle.t1_session.specs.LineEnds.{ends_line, ends_in_return}
 use Rattle.t1_session.specs.Machine.{machine, may_want_memory, after_want}
 use Rattle.t1_session.specs.State.{State}
@@ -59,9 +60,9 @@ pub record Goes (old new : Conversation) (input text : List ℕ) : Type 0 where
 abbrev pub IsQuiet : Conversation → Type 0
 IsQuiet c = commands_from c [] false ≡ []
 
--- word: the text went out, or a failed write cut it short
+-- word: the text went out and was passed on, or a failed write cut it short
 abbrev pub Sends : {W T : Type 0} → (W → Option (List ℕ)) → Tally W → Tally W → List ℕ → Result T ServeError → Type 0
-Sends contents old new text (Ok done) = WritesAll contents old new text
+Sends contents old new text (Ok done) = WritesAndFlushes contents old new text
 Sends contents old new text (Err errors.Write) = WritesFront contents old new text
 Sends contents old new text (Err errors.Memory) = ⊥
 Sends contents old new text (Err errors.Read) = ⊥
@@ -96,7 +97,7 @@ pub record LineGoes (old new : Conversation) (text : List ℕ) : Type 0 where
 pub record LineAnswered {W : Type 0} (contents : W → Option (List ℕ)) (old new : Conversation) (before after : Tally W) : Type 0 where
   pub text : List ℕ
   pub goes : LineGoes old new text
-  pub written : WritesAll contents before after text
+  pub written : WritesAndFlushes contents before after text
 
 -- word: the answer to a line went out in part
 pub record LineStops {W : Type 0} (contents : W → Option (List ℕ)) (old : Conversation) (before after : Tally W) : Type 0 where
@@ -131,7 +132,7 @@ EndsLine contents old new before after (Err (errors.Load fault)) = ⊥
 pub record Answered {W : Type 0} (contents : W → Option (List ℕ)) (old new : Conversation) (before after : Tally W) (piece : List ℕ) : Type 0 where
   pub text : List ℕ
   pub goes : Goes old new piece text
-  pub written : WritesAll contents before after text
+  pub written : WritesAndFlushes contents before after text
 
 -- word: a byte that makes what is kept of the input longer: one of a line, or the end of a line that goes into a body,
 -- so that a command would be open if the input ended there

@@ -2,6 +2,7 @@ pub mod Conversation
 pub mod Delivery
 pub mod Dialogues
 pub mod Files
+pub mod Flushing
 pub mod FromScratch
 pub mod LineEnds
 pub mod Machine

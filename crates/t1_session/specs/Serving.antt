@@ -2,13 +2,14 @@
 use Rattle.std.specs.Prelude.{◌≡◌, ◌⊎◌, ℕ, Bool, true, false, List, [], ◌∷◌, ◌++◌, Option, Result, Ok, Err}
 use Rattle.std.specs.Io.KnownBytes.{Consumes, IsAtEnd}
 use Rattle.t1_frac.specs.declared.fault.Fault.{Fault}
-use Rattle.t1_code.specs.Counted.{Tally, WritesAll, WritesFront, one_more}
+use Rattle.t1_code.specs.Counted.{Tally, WritesFront, one_more}
 use Rattle.t1_session.specs.declared.error.ServeError.{ServeError}
 use Rattle.t1_session.specs.declared.error.ServeError.TheVariants as errors
 use Rattle.t1_commands.specs.Answers.{session_answers}
 use Rattle.t1_commands.specs.Commands.{input_commands}
 use Rattle.t1_commands.specs.declared.command.Command.{Command}
 use Rattle.t1_text.specs.Lines.{is_line_end}
+use Rattle.t1_session.specs.Flushing.{WritesAndFlushes}
 use Rattle.t1_session.specs.LineEnds.{ends_line, ends_in_return}
 use Rattle.t1_session.specs.Machine.{machine}
 use Rattle.t1_session.specs.State.{State}
@@ -49,14 +50,14 @@ module _ {R W : Type 0} (remaining : R → Option (List ℕ)) (contents : W → 
     pub marks : List Bool
     pub reads : Reads remaining old.reader new.reader input
     pub at_end : IsAtEnd (remaining new.reader.inner)
-    pub writes : WritesAll contents old.writer new.writer (session_answers machine state input true marks)
+    pub writes : WritesAndFlushes contents old.writer new.writer (session_answers machine state input true marks)
 
   -- profile: at Read, the answer to what was read, as input that goes on, was written
   pub record StopsAtRead (state : State) (old new : Streams R W) : Type 0 where
     pub input : List ℕ
     pub marks : List Bool
     pub reads : ReadsAndFails remaining old.reader new.reader input
-    pub writes : WritesAll contents old.writer new.writer (session_answers machine state input false marks)
+    pub writes : WritesAndFlushes contents old.writer new.writer (session_answers machine state input false marks)
 
   -- profile: at Memory, the answer to a beginning of what was read, as input that goes on, was written; the next byte,
   -- for which there was no memory, goes into a line or a body, and finishes no command
@@ -68,7 +69,7 @@ module _ {R W : Type 0} (remaining : R → Option (List ℕ)) (contents : W → 
     pub reads : Reads remaining old.reader new.reader (front ++ byte ∷ rest)
     pub wants_room : WantsRoom front byte
     pub finishes_none : input_commands false (front ++ byte ∷ []) ≡ input_commands false front
-    pub writes : WritesAll contents old.writer new.writer (session_answers machine state front false marks)
+    pub writes : WritesAndFlushes contents old.writer new.writer (session_answers machine state front false marks)
 
   -- profile: at Write, a beginning of the answer to what was read, as whole input, was written
   pub record StopsAtWrite (state : State) (old new : Streams R W) : Type 0 where

@@ -1,4 +1,5 @@
 //! Commands performed and answered.
+ghost use Rattle.std.specs.Prelude.{◌≡◌, true, IfOk};
 ghost use Rattle.t1_commands.specs.AnswerTexts.{answer_text};
 ghost use Rattle.t1_commands.specs.Commands.{Makes};
 ghost use Rattle.t1_session.specs.Conversation.{Sends, AnswersCommand, IsPerformed};
@@ -25,7 +26,8 @@ fn try_answer<W: Write>(
     made: Result<Command, AllocError>,
     writer: &mut Counted<W>,
 ) -> Result<(), OutError>
-    ensures { (wanted : Command) → Makes made wanted → IsPerformed W.contents session.old session.new writer.old writer.new wanted result }
+    ensures performed { (wanted : Command) → Makes made wanted → IsPerformed W.contents session.old session.new writer.old writer.new wanted result }
+    ensures flushed { IfOk result (λ done. writer.new.is_flushed ≡ true) }
 {
     session.perform(made?, writer)?;
     writer.flush()?;

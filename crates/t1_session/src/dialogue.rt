@@ -153,11 +153,11 @@ impl<'a> Dialogue<'a> {
     /// Ends the input. A last line without its end counts where it isn't empty; a body that is open then is a command
     /// too. Want of memory is answered as any command is.
     pub fn finish<W: Write>(
-        mut self,
+        &mut self,
         alloc: Global,
         writer: &mut Counted<W>,
     ) -> Result<(), ServeError>
-        ensures { Ends W.contents (conversation_of self.entry) writer.old writer.new result }
+        ensures { Ends W.contents (conversation_of self.old) writer.old writer.new result }
     {
         match self.opening.take() {
             None => self.finish_command_line(alloc, writer),

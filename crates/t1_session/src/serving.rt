@@ -1,5 +1,8 @@
 //! A whole session, over a reader and a writer.
+ghost use Rattle.std.specs.Prelude.{◌≡◌};
 ghost use Rattle.t1_frac.specs.Outcome.{Gives};
+ghost use Rattle.t1_session.specs.Conversation.{fresh};
+ghost use Rattle.t1_session.specs.Dialogues.{conversation_of};
 ghost use Rattle.t1_session.specs.Serving.{streams, Serves, Converses};
 ghost use Rattle.t1_session.specs.Machine.{scratch};
 
@@ -37,22 +40,27 @@ pub fn serve<R: Read, W: Write>(
     ensures { Serves R.remaining W.contents (scratch source.now pairs.now) (streams reader.old writer.old) (streams reader.new writer.new) result }
 {
     match loaded(alloc, source, pairs) {
-        Ok(session) => converse(alloc, session, reader, writer),
+        Ok(session) => {
+            let mut dialogue = Dialogue::new(alloc, session);
+            let answered = converse(alloc, &mut dialogue, reader, writer);
+            drop(dialogue);
+            answered
+        }
         Err(Refusal::Fault(fault)) => Err(ServeError::Load(fault)),
         Err(Refusal::Memory) => Err(ServeError::Memory),
     }
 }
 
-/// Answers the input to its end.
+/// Answers the input to its end, from before its first byte.
 fn converse<R: Read, W: Write>(
     alloc: Global,
-    session: Performer,
+    dialogue: &mut Dialogue,
     reader: &mut Counted<R>,
     writer: &mut Counted<W>,
 ) -> Result<(), ServeError>
-    ensures { Converses R.remaining W.contents session.entry (streams reader.old writer.old) (streams reader.new writer.new) result }
+    requires { conversation_of dialogue.old ≡ fresh dialogue.old.session }
+    ensures { Converses R.remaining W.contents dialogue.old.session (streams reader.old writer.old) (streams reader.new writer.new) result }
 {
-    let mut dialogue = Dialogue::new(alloc, session);
     let mut buffer = [0; 4096];
     'pieces: loop {
         let count = match reader.take(&mut buffer) {

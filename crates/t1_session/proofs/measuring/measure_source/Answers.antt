@@ -1,10 +1,10 @@
-use Rattle.std.proofs.lemmas.Result.{err_from_is_err_and}
-use Rattle.t1_session.proofs.Delivering.{delivers_failure, metrics_parts}
+use Rattle.std.proofs.Common.{ℕ, List, Result, subst, sym}
+use Rattle.t1_frac.specs.declared.fault.Fault.{Fault}
+use Rattle.t1_session.specs.Delivery.{Delivers}
+use Rattle.t1_session.proofs.Delivering.{metrics_read}
 use Rattle.t1_session.proofs.measuring.measure_source.Goals as goal
 
-pub returns-in_err-write_source_afm : goal.returns-in_err-write_source_afm
-returns-in_err-write_source_afm g c =
-    let same = metrics_parts c.args.source.now c.args.pairs.now c.in_ok-source.source c.in_ok-pairs.pairs c.in_ok-glyphs.glyphs
-    c.in_ok-source.ensures c.in_ok-pairs.ensures c.in_ok-glyphs.ensures in
-    let p = err_from_is_err_and c.from_residual-in_err-write_source_afm.result c.from_residual-in_err-write_source_afm.ensures.1 in
-    rw (p.1, p.2) (delivers_failure g.W.Write.contents c.args.out.now c.write_source_afm.new.out _ _ same c.in_err-write_source_afm.field-0.0 c.in_err-write_source_afm.ensures)
+pub returns : goal.returns
+returns g c =
+    subst (λ (file : Result (List ℕ) Fault). Delivers g.W.Write.contents c.args.out.now c.write_metrics.new.out file c.write_metrics.result)
+    (sym (metrics_read c.args.source.now c.args.pairs.now c.in_ok-source.source c.in_ok-pairs.pairs c.in_ok-source.ensures c.in_ok-pairs.ensures)) c.write_metrics.ensures

@@ -7,7 +7,7 @@ use Rattle.t1_session.proofs.serving.converse.Given as goal
 -- what was read so far was answered
 abbrev pub invariant-pieces : goal.invariant-pieces
 invariant-pieces g l =
-    (input : List ℕ) × Reads g.R.Read.remaining l.fn.reader l.reader input × Answered g.W.Write.contents (fresh l.fn.session) (conversation_of l.dialogue) l.fn.writer l.writer input
+    (input : List ℕ) × Reads g.R.Read.remaining l.fn.reader l.reader input × Answered g.W.Write.contents (fresh l.fn.dialogue.session) (conversation_of l.dialogue) l.fn.writer l.writer input
 
 abbrev pub decreases-pieces : goal.decreases-pieces
 decreases-pieces g l = 2 ^ 63 - l.reader.turns

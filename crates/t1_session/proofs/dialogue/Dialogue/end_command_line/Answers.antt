@@ -1,11 +1,27 @@
-use Rattle.std.proofs.Common.{◌≡◌, ◌∙◌, sym, ap, refl, List, [], ℕ, true, false}
+use Rattle.std.proofs.Common.{◌≡◌, ◌∙◌, sym, ap, refl, List, [], ℕ, true, false, Some}
 use Rattle.t1_frac.specs.Words.{words}
-use Rattle.t1_commands.specs.Commands.{takes_body, is_wordless, line_command}
+use Rattle.t1_commands.specs.Commands.{Opening, takes_body, is_wordless, line_command}
 use Rattle.t1_session.specs.Conversation.{Conversation}
 use Rattle.t1_session.specs.Dialogues.{conversation_of}
+use Rattle.t1_session.proofs.Flushing.{flushes-none}
 use Rattle.t1_session.proofs.Conversations.{EndsCommandLine-answered, LineGoes-silent}
-use Rattle.t1_code.proofs.Writing.{writing}
 use Rattle.t1_session.proofs.dialogue.Dialogue.end_command_line.Goals as goal
+
+-- a line that a body follows
+pub returns-then-takes_body : goal.returns-then-takes_body
+returns-then-takes_body g c =
+    let kept = ap (λ v. v.items) c.replace-line.ensures.value in
+    let cleared = ap (λ v. v.items) c.replace-line.ensures.after ∙ c.new.ensures.items in
+    let text : List ℕ = c.args.self.now.line.items in
+    let opens : takes_body (words text) ≡ true = ap (λ l. takes_body (words l)) (sym kept ∙ sym c.deref.ensures.value) ∙ sym c.takes_body.ensures ∙ c.if-takes_body.true in
+    let old : Conversation = conversation_of c.args.self.now in
+    let opening : Opening = record { heading = c.replace-line.result.items; body = c.new-then-takes_body.result.items } in
+    let new : Conversation = record old { opening = Some opening; line = c.replace-line.new.dest.items } in
+    record {
+      text = [];
+      goes = LineGoes-silent old new (λ lines ended. rw (c.requires, opens, kept, c.new-then-takes_body.ensures.items) refl) refl cleared refl;
+      written = flushes-none g.W.Write.contents c.args.writer.now;
+    }
 
 -- a line without words is skipped
 pub returns-then-is_blank_line : goal.returns-then-is_blank_line
@@ -20,7 +36,7 @@ returns-then-is_blank_line g c =
     record {
       text = [];
       goes = LineGoes-silent old new (λ lines ended. rw (c.requires, plain, none) refl) refl cleared refl;
-      written = (writing g.W.Write.contents).none c.args.writer.now;
+      written = flushes-none g.W.Write.contents c.args.writer.now;
     }
 
 pub returns : goal.returns

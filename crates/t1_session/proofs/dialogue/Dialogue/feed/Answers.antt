@@ -1,13 +1,13 @@
 use Rattle.std.proofs.Common.{◌≡◌, ◌∙◌, sym, ap, ◌++◌, ◌∷◌, [], ◌+◌, take, drop, get_or, List, ℕ}
 use Rattle.std.proofs.lemmas.Result.{err_from_is_err_and}
 use Rattle.std.proofs.lemmas.List.{take_more, take-append-drop}
-use Rattle.t1_code.proofs.Writing.{writing, WritesAll-append}
 use Rattle.t1_session.specs.Dialogues.{conversation_of}
+use Rattle.t1_session.proofs.Flushing.{flushes-none, flushes-append}
 use Rattle.t1_session.proofs.Conversations.{Feeds-after, Goes-none, Goes-both}
 use Rattle.t1_session.proofs.dialogue.Dialogue.feed.Goals as goal
 
 pub loop-byte-init : goal.loop-byte-init
-loop-byte-init g c = record { text = []; goes = Goes-none (conversation_of c.args.self.now); written = (writing g.W.Write.contents).none c.args.writer.now }
+loop-byte-init g c = record { text = []; goes = Goes-none (conversation_of c.args.self.now); written = flushes-none g.W.Write.contents c.args.writer.now }
 
 pub returns-in_err-push : goal.returns-in_err-push
 returns-in_err-push g c =
@@ -30,5 +30,5 @@ loop-byte-preserved g c =
       text = i.text ++ did.text;
       goes = rw (take_more piece at 0 c.loop-byte-test.true)
           (Goes-both (conversation_of c.args.self.now) (conversation_of c.loop-byte.self) (conversation_of c.push.new.self) (take at piece) (get_or piece at 0 ∷ []) i.text did.text i.goes did.goes);
-      written = WritesAll-append g.W.Write.contents c.args.writer.now c.loop-byte.writer c.push.new.writer i.text did.text i.written did.written;
+      written = flushes-append g.W.Write.contents c.args.writer.now c.loop-byte.writer c.push.new.writer i.text did.text i.written did.written;
     }

@@ -1,10 +1,10 @@
 use Rattle.std.proofs.Common.{◌≡◌, ◌∙◌, sym, [], ap, inl, refl}
 use Rattle.std.specs.Prelude.{is_ok}
 use Rattle.std.proofs.lemmas.Result.{err_from_is_err_and}
-use Rattle.t1_code.proofs.Writing.{writing}
 use Rattle.t1_session.specs.LineEnds.{ends_line}
 use Rattle.t1_session.specs.Dialogues.{conversation_of}
 use Rattle.t1_session.proofs.LineLaws.{unbroken_pushed, differs, not_return, after_a_return}
+use Rattle.t1_session.proofs.Flushing.{flushes-none}
 use Rattle.t1_session.proofs.Conversations.{Feeds-ended, stopped_at_once, byte_alone, Goes-byte, Goes-line_feed}
 use Rattle.t1_session.proofs.dialogue.Dialogue.push.Goals as goal
 
@@ -32,7 +32,7 @@ returns g c =
     record {
       text = [];
       goes = rw (c.in_ok-push.ensures.items, n13) (Goes-byte (conversation_of c.args.self.now) c.args.byte n13 n10);
-      written = (writing g.W.Write.contents).none c.args.writer.now;
+      written = flushes-none g.W.Write.contents c.args.writer.now;
     }
 
 pub returns-then-byte-eq10 : goal.returns-then-byte-eq10
@@ -42,5 +42,5 @@ returns-then-byte-eq10 g c =
     record {
       text = [];
       goes = rw is (Goes-line_feed (conversation_of c.args.self.now) after);
-      written = (writing g.W.Write.contents).none c.args.writer.now;
+      written = flushes-none g.W.Write.contents c.args.writer.now;
     }

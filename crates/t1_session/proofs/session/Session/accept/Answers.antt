@@ -1,4 +1,4 @@
-use Rattle.std.proofs.Common.{ap, map, sym}
+use Rattle.std.proofs.Common.{ap, map, rules, sym}
 use Rattle.t1_cache.specs.Renewed.{kept_of}
 use Rattle.t1_held.specs.Batch.{entry_edit, keys}
 use Rattle.t1_held.specs.declared.held.ReadyHeld.{ReadyHeld}
@@ -12,3 +12,18 @@ returns-in-Err-clause-runs c =
     edits_spend ReadyHeld c.args.self.now _ s.source c.args.source (keys (map entry_edit c.args.entries.items)) s.meter
     (map kept_of s.held.records.glyphs.entries) c.in-Err.refusal
     (ap (λ v. v.state.source) (sym is)) (ap (λ v. v.kept) (sym is)) (ap (λ v. v.runs) (sym is)) c.in-Err.ensures.kept c.in-Err.ensures.counted
+
+pub returns-in-Err-clause-took : goal.returns-in-Err-clause-took
+returns-in-Err-clause-took c = search rules
+
+pub returns-in-Err-clause-right : goal.returns-in-Err-clause-right
+returns-in-Err-clause-right c = search rules
+
+pub returns-clause-took : goal.returns-clause-took
+returns-clause-took c = search rules
+
+pub returns-clause-right : goal.returns-clause-right
+returns-clause-right c = search rules
+
+pub returns-clause-runs : goal.returns-clause-runs
+returns-clause-runs c = search rules

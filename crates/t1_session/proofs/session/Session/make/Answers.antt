@@ -1,4 +1,4 @@
-use Rattle.std.proofs.Common.{◌≡◌, Err, None, Ok, ap, map, subst, sym, true}
+use Rattle.std.proofs.Common.{◌≡◌, Err, None, Ok, ap, map, rules, subst, sym, true}
 use Rattle.std.proofs.lemmas.Result.{err_from_is_err_and}
 use Rattle.t1_font.specs.Runs.{counted, Counts}
 use Rattle.t1_font.specs.SourceChecks.{source_check}
@@ -53,3 +53,18 @@ returns-in-Err-clause-runs c =
     edit_spends ReadyHeld now _ s.source (changed c.args.change now.state.source now.state.pairs).0 c.args.edit.now s.meter (map kept_of s.held.records.glyphs.entries) c.in-Err.refusal
     (ap (λ v. v.state.source) (sym is)) (ap (λ v. v.kept) (sym is)) (ap (λ v. v.runs) (sym is)) c.in-Err.ensures.kept
     (subst (λ (v : SessionView). Counts {T = ReadyHeld} (renewing_runs c.args.edit.now s.source (changed c.args.change v.state.source v.state.pairs).0) s.meter c.prepare_edits-prepared.new.meter (Err c.in-Err.refusal)) is c.in-Err.ensures.counted)
+
+pub returns-in_err-commit-clause-took : goal.returns-in_err-commit-clause-took
+returns-in_err-commit-clause-took c = search rules
+
+pub returns-in_err-commit-clause-right : goal.returns-in_err-commit-clause-right
+returns-in_err-commit-clause-right c = search rules
+
+pub returns-clause-took : goal.returns-clause-took
+returns-clause-took c = search rules
+
+pub returns-clause-right : goal.returns-clause-right
+returns-clause-right c = search rules
+
+pub returns-clause-runs : goal.returns-clause-runs
+returns-clause-runs c = search rules
