@@ -6,4 +6,8 @@
 #[cfg(test)]
 mod batches;
 #[cfg(test)]
+mod prints;
+#[cfg(test)]
+mod short;
+#[cfg(test)]
 mod streams;

@@ -1,6 +1,7 @@
 //! Sessions over readers and writers that give or take less than is asked, with memory that doesn't run out.
+use crate::short::Short;
 use std::alloc::Global;
-use std::io::{self, Read, Write};
+use std::io::{self, Read};
 use std::test::Fail;
 use t1_code::Counted;
 use t1_session::{ServeError, serve};
@@ -34,36 +35,10 @@ impl Read for Sevens<'_> {
     }
 }
 
-/// A writer over memory that takes one byte a call, and none once it has no room, and counts how often it is flushed.
-#[derive(Drop)]
-struct Short {
-    taken: Vec<u8>,
-    room: usize,
-    flushes: u64,
-}
-
-impl Write for Short {
-    fn write(&mut self, bytes: &[u8]) -> io::Result<usize> {
-        let count = bytes.len().min(1).min(self.room);
-        self.taken.extend_from_slice(bytes.split_at(count).0)?;
-        self.room -= count;
-        Ok(count)
-    }
-
-    fn flush(&mut self) -> io::Result<()> {
-        self.flushes = self.flushes.saturating_add(1);
-        Ok(())
-    }
-}
-
 /// A writer with so much room after the session, and whether the session ended by a write.
 fn served(alloc: Global, room: usize) -> Result<(Short, bool), Fail> {
     let mut reader = Counted::new(Sevens { rest: COMMANDS });
-    let mut writer = Counted::new(Short {
-        taken: Vec::new(alloc),
-        room,
-        flushes: 0,
-    });
+    let mut writer = Counted::new(Short::new(alloc, room));
     let result = serve(alloc, EMPTY, b"", &mut reader, &mut writer);
     let cut = matches!(result, Err(ServeError::Write));
     Ok((writer.into_inner(), cut))
@@ -72,15 +47,15 @@ fn served(alloc: Global, room: usize) -> Result<(Short, bool), Fail> {
 #[test]
 fn answers_a_byte_a_call(rt: HostRuntime) -> Result<(), Fail> {
     let (writer, cut) = served(rt.alloc(), usize::MAX)?;
-    assert!(rt; writer.taken.as_slice() == ANSWERS && !cut);
-    assert_eq!(rt; writer.flushes, 5);
+    assert!(rt; writer.taken() == ANSWERS && !cut);
+    assert_eq!(rt; writer.flushes(), 5);
     Ok(())
 }
 
 /// Whether a session over a writer with so much room ends by a write, with a beginning of the answers taken.
 fn stops(alloc: Global, answers: &[u8], room: usize) -> Result<bool, Fail> {
     let (writer, cut) = served(alloc, room)?;
-    Ok(cut && writer.taken.len() == room && answers.starts_with(&writer.taken))
+    Ok(cut && writer.taken().len() == room && answers.starts_with(writer.taken()))
 }
 
 #[test]
