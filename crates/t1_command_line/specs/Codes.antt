@@ -1,7 +1,6 @@
--- The codes that are explained, below their titles, and the lists of them in the helps.
-use Rattle.std.specs.Prelude.{◌≡◌, ℕ, List, [], ◌∷◌, ◌++◌, map, codes}
+-- The codes that are explained, below their titles.
+use Rattle.std.specs.Prelude.{ℕ, List, [], ◌∷◌, map, codes}
 use Rattle.t1_command_line.specs.declared.topic.Section.{Section}
-use Rattle.t1_command_line.specs.Topics.{list_text}
 
 -- profile: a section without its texts: its title, and the codes of its topics in their order
 abbrev pub outline_of : Section → List ℕ × List (List ℕ)
@@ -29,6 +28,13 @@ runs = (
   codes "F30" ∷ codes "F31" ∷ codes "F32" ∷ codes "F33" ∷ codes "F34" ∷ codes "F35" ∷ codes "F36" ∷ codes "F37" ∷ codes "F38" ∷ codes "F39" ∷ codes "F40" ∷ codes "F41" ∷ codes "F42" ∷ codes "F43" ∷ codes "F44" ∷ codes "F45" ∷ codes "F46" ∷ codes "F47" ∷ codes "F48" ∷ [],
 )
 
+-- profile: the faults of disassembling a font's file
+abbrev pub disassembling : List ℕ × List (List ℕ)
+disassembling = (
+  codes "Faults of disassembling a font's file",
+  codes "D1" ∷ codes "D2" ∷ codes "D3" ∷ codes "D4" ∷ codes "D5" ∷ codes "D6" ∷ codes "D7" ∷ codes "D8" ∷ codes "D9" ∷ [],
+)
+
 -- profile: the rules of a session's commands
 abbrev pub rules : List ℕ × List (List ℕ)
 rules = (
@@ -42,25 +48,4 @@ statuses = (codes "Exit statuses", codes "0" ∷ codes "1" ∷ codes "2" ∷ cod
 
 -- profile: all of them, in the order in which they are listed
 abbrev pub of_program : List (List ℕ × List (List ℕ))
-of_program = reading ∷ kerning ∷ bodies ∷ runs ∷ rules ∷ statuses ∷ []
-
--- profile: what assembling can answer
-abbrev pub of_assembling : List (List ℕ × List (List ℕ))
-of_assembling = reading ∷ bodies ∷ statuses ∷ []
-
--- profile: what measuring and checking can answer
-abbrev pub of_measuring : List (List ℕ × List (List ℕ))
-of_measuring = reading ∷ kerning ∷ bodies ∷ runs ∷ statuses ∷ []
-
--- profile: the text is the list of sections of these titles and codes
-pub record Lists (text : List ℕ) (outlines : List (List ℕ × List (List ℕ))) : Type 0 where
-  pub sections : List Section
-  pub titles : map outline_of sections ≡ outlines
-  pub list : text ≡ list_text sections
-
--- profile: the text ends in such a list, after what it says of something else
-pub record EndsInList (text : List ℕ) (outlines : List (List ℕ × List (List ℕ))) : Type 0 where
-  pub front : List ℕ
-  pub last : List ℕ
-  pub whole : text ≡ front ++ last
-  pub lists : Lists last outlines
+of_program = reading ∷ kerning ∷ bodies ∷ runs ∷ disassembling ∷ rules ∷ statuses ∷ []

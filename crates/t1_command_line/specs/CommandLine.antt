@@ -8,6 +8,10 @@ use Rattle.clap.specs.declared.builder.action.ArgAction.TheVariants.{Set, SetTru
 abbrev pub source : Rule
 source = record (new_rule (codes "SOURCE")) { action = Some Set; required = true }
 
+-- profile: the font's file, which must be there
+abbrev pub font : Rule
+font = record (new_rule (codes "FONT")) { action = Some Set; required = true }
+
 -- profile: --kern FILE
 abbrev pub kern : Rule
 kern = record (new_rule (codes "kern")) { long = Some (codes "kern"); action = Some Set; value_names = 1 }
@@ -48,6 +52,10 @@ taking name rules = record (new_shape name) { rules = rules }
 abbrev pub assemble : Shape
 assemble = taking (codes "assemble") (block ∷ pfa ∷ output ∷ source ∷ [])
 
+-- profile: disassemble, which takes an output and the font's file
+abbrev pub disassemble : Shape
+disassemble = taking (codes "disassemble") (output ∷ font ∷ [])
+
 -- profile: measure, which takes kerning, an output and the source
 abbrev pub measure : Shape
 measure = taking (codes "measure") (kern ∷ output ∷ source ∷ [])
@@ -64,12 +72,16 @@ session = taking (codes "session") (kern ∷ source ∷ [])
 abbrev pub explain : Shape
 explain = taking (codes "explain") (code ∷ place ∷ [])
 
+-- word: the program before its commands, of which one must be named
+abbrev pub program_alone : App
+program_alone = record { top = record (new_shape (codes "t1edit")) { has_version = true; subcommand_required = true }; subs = [] }
+
 -- profile: the program, of which a command must be named
 abbrev pub program : App
 program =
     record {
       top = record (new_shape (codes "t1edit")) { is_leaf = false; has_version = true; subcommand_required = true };
-      subs = assemble ∷ measure ∷ check ∷ session ∷ explain ∷ [];
+      subs = assemble ∷ disassemble ∷ measure ∷ check ∷ session ∷ explain ∷ [];
     }
 
 -- profile: a command without commands of its own

@@ -1,34 +1,41 @@
 //! What the command line looks like.
-ghost use Rattle.std.specs.Prelude.{◌≡◌, ◌∷◌, [], codes, map, false, IfOk};
-ghost use Rattle.clap.specs.Words.{app_of, rule_of};
-ghost use Rattle.t1_command_line.specs.CommandLine.{alone, program};
-ghost use Rattle.t1_command_line.specs.CommandLine.{source as source_rule, kern as kern_rule, output as output_rule, block as block_rule, pfa as pfa_rule, code as code_rule, place as place_rule};
-ghost use Rattle.t1_command_line.specs.CommandLine.{assemble as assemble_shape, measure as measure_shape, check as check_shape, session as session_shape, explain as explain_shape};
+ghost use Rattle.std.specs.Prelude.{◌≡◌, ◌∷◌, [], codes, map, true, false, IfOk};
+ghost use Rattle.clap.specs.Words.{App, Shape, app_of, new_app, rule_of, with_subcommand};
+ghost use Rattle.t1_command_line.specs.CommandLine.{alone, program, program_alone};
+ghost use Rattle.t1_command_line.specs.CommandLine.{source as source_rule, font as font_rule, kern as kern_rule, output as output_rule, block as block_rule, pfa as pfa_rule, code as code_rule, place as place_rule};
+ghost use Rattle.t1_command_line.specs.CommandLine.{assemble as assemble_shape, disassemble as disassemble_shape, measure as measure_shape, check as check_shape, session as session_shape, explain as explain_shape};
 
-use crate::help::Helps;
+use crate::help::{CODES, SESSION};
 use clap::{Arg, ArgAction, Command};
 use std::alloc::{AllocError, Global};
 
 const VERSION: &str = "0.1.0";
 
+/// The help of a source that may be standard input.
+const SOURCE: &str =
+    "The readable source of a Type 1 font, as t1disasm writes it; - for standard input";
+
+/// The help of the source of a session.
+const SOURCE_FILE: &str = "The readable source of a Type 1 font, as t1disasm writes it";
+
 /// The argument that names the source.
-fn source<'a>(alloc: Global) -> Arg<'a>
+fn source<'a>(alloc: Global, help: &'a str) -> Arg<'a>
     ensures rule { rule_of result ≡ source_rule }
     ensures local { result.global ≡ false }
 {
     Arg::new(alloc, "SOURCE")
-        .help("The readable source of a Type 1 font, as t1disasm writes it; - for standard input")
+        .help(help)
         .required(true)
         .action(ArgAction::Set)
 }
 
-/// The argument that names the source of a session.
-fn source_file<'a>(alloc: Global) -> Arg<'a>
-    ensures rule { rule_of result ≡ source_rule }
+/// The argument that names a font's file.
+fn font<'a>(alloc: Global) -> Arg<'a>
+    ensures rule { rule_of result ≡ font_rule }
     ensures local { result.global ≡ false }
 {
-    Arg::new(alloc, "SOURCE")
-        .help("The readable source of a Type 1 font, as t1disasm writes it")
+    Arg::new(alloc, "FONT")
+        .help("A Type 1 font as a PFB file, a PFA file or raw bytes; - for standard input")
         .required(true)
         .action(ArgAction::Set)
 }
@@ -65,12 +72,11 @@ fn output<'a>(alloc: Global) -> Arg<'a>
         .action(ArgAction::Set)
 }
 
-/// The option that cuts a PFB file into blocks.
-fn block<'a>(alloc: Global) -> Result<Arg<'a>, AllocError>
-    ensures rule { IfOk result (λ arg. rule_of arg ≡ block_rule) }
-    ensures conflicts { IfOk result (λ arg. map (λ id. id.now) arg.conflicts.items ≡ codes "pfa" ∷ []) }
-    ensures alone { IfOk result (λ arg. (arg.exclusive ≡ false) × (arg.needs.items ≡ [])) }
-    ensures local { IfOk result (λ arg. arg.global ≡ false) }
+/// The option that cuts a PFB file into blocks, before it conflicts with another.
+fn block_alone<'a>(alloc: Global) -> Arg<'a>
+    ensures rule { rule_of result ≡ record block_rule { is_free = true } }
+    ensures free { (result.exclusive ≡ false) × (result.conflicts.items ≡ []) }
+    ensures local { result.global ≡ false }
 {
     Arg::new(alloc, "block")
         .short('l')
@@ -78,7 +84,16 @@ fn block<'a>(alloc: Global) -> Result<Arg<'a>, AllocError>
         .value_name("N")
         .help("Cuts each part of the PFB file into segments of N bytes, from 1 to 2147483647")
         .action(ArgAction::Set)
-        .conflicts_with("pfa")
+}
+
+/// The option that cuts a PFB file into blocks.
+fn block<'a>(alloc: Global) -> Result<Arg<'a>, AllocError>
+    ensures rule { IfOk result (λ arg. rule_of arg ≡ block_rule) }
+    ensures conflicts { IfOk result (λ arg. map (λ id. id.now) arg.conflicts.items ≡ codes "pfa" ∷ []) }
+    ensures alone { IfOk result (λ arg. (arg.exclusive ≡ false) × (arg.needs.items ≡ [])) }
+    ensures local { IfOk result (λ arg. arg.global ≡ false) }
+{
+    block_alone(alloc).conflicts_with("pfa")
 }
 
 /// The option that asks for a PFA file.
@@ -99,7 +114,9 @@ fn code<'a>(alloc: Global) -> Arg<'a>
     ensures local { result.global ≡ false }
 {
     Arg::new(alloc, "CODE")
-        .help("A code as F37, a rule as E4, or an exit status as 3; without it, all are listed")
+        .help(
+            "A code as F37 or D3, a rule as E4, or an exit status as 3; without it, all are listed",
+        )
         .action(ArgAction::Set)
 }
 
@@ -117,77 +134,139 @@ fn place<'a>(alloc: Global) -> Arg<'a>
         .action(ArgAction::Set)
 }
 
-fn assemble<'a>(alloc: Global, helps: &'a Helps) -> Result<Command<'a>, AllocError>
+/// A command by its name, with what its helps say of it, in front of all and after all.
+fn named<'a>(
+    alloc: Global,
+    name: &'a str,
+    about: &'a str,
+    front: &'a str,
+    last: &'a str,
+) -> Command<'a>
+    ensures { app_of result ≡ new_app name.entry.now }
+{
+    Command::new(alloc, name)
+        .about(about)
+        .before_long_help(front)
+        .after_long_help(last)
+}
+
+fn assemble<'a>(alloc: Global) -> Result<Command<'a>, AllocError>
     ensures { IfOk result (λ command. app_of command ≡ alone assemble_shape) }
 {
-    Command::new(alloc, "assemble")
-        .about("Writes the PFB or the PFA file of a source")
-        .before_long_help("Example: t1edit assemble -o font.pfb font.t1")
-        .after_long_help(helps.assemble.as_str())
-        .arg(block(alloc)?)?
-        .arg(pfa(alloc))?
-        .arg(output(alloc))?
-        .arg(source(alloc))
+    named(
+        alloc,
+        "assemble",
+        "Writes the PFB or the PFA file of a source",
+        "Example: t1edit assemble -o font.pfb font.t1",
+        CODES,
+    )
+    .arg(block(alloc)?)?
+    .arg(pfa(alloc))?
+    .arg(output(alloc))?
+    .arg(source(alloc, SOURCE))
 }
 
-fn measure<'a>(alloc: Global, helps: &'a Helps) -> Result<Command<'a>, AllocError>
+fn disassemble<'a>(alloc: Global) -> Result<Command<'a>, AllocError>
+    ensures { IfOk result (λ command. app_of command ≡ alone disassemble_shape) }
+{
+    named(
+        alloc,
+        "disassemble",
+        "Writes the source of a font's PFB, PFA or raw file",
+        "Example: t1edit disassemble -o font.t1 font.pfb",
+        CODES,
+    )
+    .arg(output(alloc))?
+    .arg(font(alloc))
+}
+
+fn measure<'a>(alloc: Global) -> Result<Command<'a>, AllocError>
     ensures { IfOk result (λ command. app_of command ≡ alone measure_shape) }
 {
-    Command::new(alloc, "measure")
-        .about("Runs every glyph and writes the AFM file of a source")
-        .before_long_help("Example: t1edit measure --kern old.afm -o font.afm font.t1")
-        .after_long_help(helps.measure.as_str())
-        .arg(kern(alloc, KERN))?
-        .arg(output(alloc))?
-        .arg(source(alloc))
+    named(
+        alloc,
+        "measure",
+        "Runs every glyph and writes the AFM file of a source",
+        "Example: t1edit measure --kern old.afm -o font.afm font.t1",
+        CODES,
+    )
+    .arg(kern(alloc, KERN))?
+    .arg(output(alloc))?
+    .arg(source(alloc, SOURCE))
 }
 
-fn check<'a>(alloc: Global, helps: &'a Helps) -> Result<Command<'a>, AllocError>
+fn check<'a>(alloc: Global) -> Result<Command<'a>, AllocError>
     ensures { IfOk result (λ command. app_of command ≡ alone check_shape) }
 {
-    Command::new(alloc, "check")
-        .about("Judges a source as measure does, and writes nothing")
-        .before_long_help("Example: t1edit check font.t1")
-        .after_long_help(helps.measure.as_str())
-        .arg(kern(alloc, KERN))?
-        .arg(source(alloc))
+    named(
+        alloc,
+        "check",
+        "Judges a source as measure does, and writes nothing",
+        "Example: t1edit check font.t1",
+        CODES,
+    )
+    .arg(kern(alloc, KERN))?
+    .arg(source(alloc, SOURCE))
 }
 
-fn session<'a>(alloc: Global, helps: &'a Helps) -> Result<Command<'a>, AllocError>
+fn session<'a>(alloc: Global) -> Result<Command<'a>, AllocError>
     ensures { IfOk result (λ command. app_of command ≡ alone session_shape) }
 {
-    Command::new(alloc, "session")
-        .about("Edits and prints a source by commands from standard input")
-        .before_long_help("Example: t1edit session font.t1 < commands > answers")
-        .after_long_help(helps.session.as_str())
-        .arg(kern(alloc, KERN_FILE))?
-        .arg(source_file(alloc))
+    named(
+        alloc,
+        "session",
+        "Edits and prints a source by commands from standard input",
+        "Example: t1edit session font.t1 < commands > answers",
+        SESSION,
+    )
+    .arg(kern(alloc, KERN_FILE))?
+    .arg(source(alloc, SOURCE_FILE))
 }
 
-fn explain<'a>(alloc: Global, helps: &'a Helps) -> Result<Command<'a>, AllocError>
+fn explain<'a>(alloc: Global) -> Result<Command<'a>, AllocError>
     ensures { IfOk result (λ command. app_of command ≡ alone explain_shape) }
 {
-    Command::new(alloc, "explain")
-        .about("Says what a code, a rule or an exit status means, and what to do")
-        .before_long_help("Example: t1edit explain F38")
-        .after_long_help(helps.program.as_str())
-        .arg(code(alloc))?
-        .arg(place(alloc))
+    named(
+        alloc,
+        "explain",
+        "Says what a code, a rule or an exit status means, and what to do",
+        "Example: t1edit explain F38",
+        CODES,
+    )
+    .arg(code(alloc))?
+    .arg(place(alloc))
 }
 
-/// The command line of the program: its commands, and the arguments that each takes.
-pub fn command<'a>(alloc: Global, helps: &'a Helps) -> Result<Command<'a>, AllocError>
-    ensures { IfOk result (λ command. app_of command ≡ program) }
+/// The program with one command more, where both could be made.
+fn with_command<'a>(
+    program: Result<Command<'a>, AllocError>,
+    command: Result<Command<'a>, AllocError>,
+) -> Result<Command<'a>, AllocError>
+    ensures { (before : App) (shape : Shape) → IfOk program.entry (λ p. app_of p ≡ before) → IfOk command.entry (λ c. app_of c ≡ alone shape)
+        → shape.is_plain ≡ true → IfOk result (λ r. app_of r ≡ with_subcommand before shape) }
+{
+    program?.subcommand(command?)
+}
+
+/// The program before its commands, of which one must be named.
+fn program_alone<'a>(alloc: Global) -> Command<'a>
+    ensures { app_of result ≡ program_alone }
 {
     Command::new(alloc, "t1edit")
         .version(VERSION)
         .about("An assembler for Adobe Type 1 fonts")
-        .after_help("t1edit explain CODE says what a code of standard error means, and what to do.")
-        .after_long_help(helps.program.as_str())
+        .after_help(CODES)
         .subcommand_required(true)
-        .subcommand(assemble(alloc, helps)?)?
-        .subcommand(measure(alloc, helps)?)?
-        .subcommand(check(alloc, helps)?)?
-        .subcommand(session(alloc, helps)?)?
-        .subcommand(explain(alloc, helps)?)
+}
+
+/// The command line of the program: its commands, and the arguments that each takes.
+pub fn command<'a>(alloc: Global) -> Result<Command<'a>, AllocError>
+    ensures { IfOk result (λ command. app_of command ≡ program) }
+{
+    let program = with_command(Ok(program_alone(alloc)), assemble(alloc));
+    let program = with_command(program, disassemble(alloc));
+    let program = with_command(program, measure(alloc));
+    let program = with_command(program, check(alloc));
+    let program = with_command(program, session(alloc));
+    with_command(program, explain(alloc))
 }

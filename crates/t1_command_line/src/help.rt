@@ -1,15 +1,11 @@
 //! What the helps say after the arguments.
 
-ghost use Rattle.std.specs.Prelude.{◌≡◌, ◌++◌, codes, string_bytes, IfOk};
-ghost use Rattle.t1_command_line.specs.Topics.{list_text};
-ghost use Rattle.t1_command_line.specs.Codes.{Lists, EndsInList, of_program, of_assembling, of_measuring};
+/// What each help says of codes.
+pub(crate) const CODES: &str =
+    "t1edit explain lists all codes, and t1edit explain CODE says what one means, and what to do.";
 
-use crate::table::{all_sections, of_assembling, of_measuring};
-use crate::topic::{Section, list};
-use std::alloc::{AllocError, Global};
-
-/// What the help of a session says of its commands.
-const SESSION: &str = "\
+/// What the help of a session says of its commands, and of codes.
+pub(crate) const SESSION: &str = "\
 Commands, a line each:
   replace glyph NAME, replace subr N   another body; the lines of the body follow
   add glyph NAME, add subr N           a new entry; the lines of the body follow
@@ -48,38 +44,5 @@ Example:
   data 12
   KPX A V -92
 
-";
 
-/// The texts of the helps.
-#[derive(Drop)]
-pub struct Helps {
-    pub program: String,
-    pub assemble: String,
-    pub measure: String,
-    pub session: String,
-}
-
-/// A text, an empty line, and what the sections list.
-fn with_list(alloc: Global, text: &str, sections: &[Section]) -> Result<String, AllocError>
-    ensures { IfOk result (λ help. string_bytes help ≡ (text.now ++ codes "\n") ++ list_text sections.now) }
-{
-    let mut help = String::from_str(alloc, text)?;
-    help.push_str("\n")?;
-    help.push_str(list(alloc, sections)?.as_str())?;
-    Ok(help)
-}
-
-/// The texts of the helps, whose lists come from the one table: each has the codes that its command may report.
-pub fn help_texts(alloc: Global) -> Result<Helps, AllocError>
-    ensures program { IfOk result (λ helps. Lists (string_bytes helps.program) of_program) }
-    ensures assemble { IfOk result (λ helps. Lists (string_bytes helps.assemble) of_assembling) }
-    ensures measure { IfOk result (λ helps. Lists (string_bytes helps.measure) of_measuring) }
-    ensures session { IfOk result (λ helps. EndsInList (string_bytes helps.session) of_program) }
-{
-    Ok(Helps {
-        program: list(alloc, &all_sections())?,
-        assemble: list(alloc, &of_assembling())?,
-        measure: list(alloc, &of_measuring())?,
-        session: with_list(alloc, SESSION, &all_sections())?,
-    })
-}
+t1edit explain lists all codes, and t1edit explain CODE says what one means, and what to do.";

@@ -1,7 +1,7 @@
 //! What the program says of itself: its command line, its helps, and what each code, rule and exit status means.
 //!
-//! [`command`] is the command line, whose helps are those of [`help_texts`]. [`all_sections`] is the one table of all codes;
-//! [`explanation`] is what it says of one, or its list.
+//! [`command`] is the command line with its helps. [`all_sections`] is the one table of all codes; [`explanation`] is what it
+//! says of one, or its list.
 //!
 //! All of it is for the program.
 #![tactic(auto)]
@@ -12,6 +12,5 @@ mod table;
 mod topic;
 
 pub use command_line::command;
-pub use help::{Helps, help_texts};
 pub use table::all_sections;
 pub use topic::{Section, Topic, explanation};

@@ -1,8 +1,8 @@
 //! Every code, rule and status that the program answers, with its meaning: the one table of their texts.
 
 ghost use Rattle.std.specs.Prelude.{◌≡◌, map};
-ghost use Rattle.t1_command_line.specs.Codes.{outline_of, of_program, of_assembling, of_measuring};
-ghost use Rattle.t1_command_line.specs.Codes.{reading as reading_outline, kerning as kerning_outline, bodies as bodies_outline, runs as runs_outline, rules as rules_outline, statuses as statuses_outline};
+ghost use Rattle.t1_command_line.specs.Codes.{outline_of, of_program};
+ghost use Rattle.t1_command_line.specs.Codes.{reading as reading_outline, kerning as kerning_outline, bodies as bodies_outline, runs as runs_outline, disassembling as disassembling_outline, rules as rules_outline, statuses as statuses_outline};
 
 use crate::topic::{Section, Topic};
 
@@ -11,6 +11,18 @@ const FAULT_EXAMPLE: &str = "For example, this has the fault:\n\n";
 
 /// What stands above commands that break a rule.
 const RULE_EXAMPLE: &str = "For example, this breaks the rule:\n\n";
+
+/// What stands above the first bytes of a file that has a fault.
+const FILE_EXAMPLE: &str =
+    "For example, a file that begins with these bytes, in hexadecimal, has the fault:\n\n";
+
+/// What stands above a line of a font's private text that causes a fault.
+const PRIVATE_EXAMPLE: &str =
+    "For example, this line of the private text, which eexec encrypts, has the fault:\n\n";
+
+/// What stands above the bytes of a charstring that cause a fault.
+const CHARSTRING_EXAMPLE: &str =
+    "For example, a charstring of these bytes, in hexadecimal and decrypted, has the fault:\n\n";
 
 /// What is said of each fault of a run.
 const OF_A_RUN: &str = "\n\
@@ -508,6 +520,133 @@ const RUNS: Section = Section {
     ],
 };
 
+const DISASSEMBLING: Section = Section {
+    title: "Faults of disassembling a font's file",
+    topics: &[
+        Topic {
+            code: "D1",
+            meaning: "no line of the clear text ends in 'currentfile eexec'",
+            lead: FAULT_EXAMPLE,
+            text: "\tcurrentfile eexec % private\n\
+                \n\
+                The clear text of a PFB file is its segments of text before the first binary\n\
+                one; that of another file ends with the first line that ends in these two words,\n\
+                with one space between them.\n\
+                \n\
+                What to do: see that the file is a Type 1 font, and whole. An OpenType or\n\
+                TrueType font isn't one.\n",
+            note: "",
+        },
+        Topic {
+            code: "D2",
+            meaning: "a segment of the PFB file is cut off, or of no type",
+            lead: FILE_EXAMPLE,
+            text: "\t80 04 00 00 00 00\n\
+                \n\
+                A file whose first byte is 128 is a PFB file. Each of its segments begins with\n\
+                this byte and a type: 1 for text, 2 for binary bytes, or 3 for the end. After 1\n\
+                and 2 follows the number of its bytes, in four bytes, the lowest first. The\n\
+                place is the number of bytes in front of the segment.\n\
+                \n\
+                What to do: get the file anew, as a binary file. One that lacks its last bytes\n\
+                was cut off.\n",
+            note: "",
+        },
+        Topic {
+            code: "D3",
+            meaning: "another byte stands among the hexadecimal digits",
+            lead: FAULT_EXAMPLE,
+            text: "\t6e5b1f!0\n\
+                \n\
+                The encrypted part of a PFA file is hexadecimal digits, with blanks between\n\
+                them. Another byte ends it, here before the private text has ended. The place is\n\
+                the number of bytes in front of that byte, the heads of segments not counted.\n\
+                \n\
+                What to do: get the file anew. One that an editor or a mail program has changed\n\
+                is lost.\n",
+            note: "",
+        },
+        Topic {
+            code: "D4",
+            meaning: "no line of the private text ends in 'mark currentfile closefile'",
+            lead: PRIVATE_EXAMPLE,
+            text: "\tcurrentfile closefile\n\
+                \n\
+                The private text ends with the first line that ends in these three words, with\n\
+                one space between each two.\n\
+                \n\
+                What to do: get the file anew, if it was cut off. A font that ends its private\n\
+                text by other words isn't read.\n",
+            note: "",
+        },
+        Topic {
+            code: "D5",
+            meaning: "an entry's length goes past the encrypted part",
+            lead: PRIVATE_EXAMPLE,
+            text: "\t/V 9999 RD\n\
+                \n\
+                A Subr stands after 'dup', its number, a length and RD, a glyph after its name,\n\
+                a length and RD; then follow one space and so many bytes. RD may have another\n\
+                name, as -|.\n\
+                \n\
+                What to do: get the file anew, if it was cut off; else the program that wrote it\n\
+                has to be mended.\n",
+            note: "",
+        },
+        Topic {
+            code: "D6",
+            meaning: "a charstring is shorter than lenIV",
+            lead: PRIVATE_EXAMPLE,
+            text: "\t/V 3 RD abc ND\n\
+                \n\
+                lenIV bytes stand in front of each charstring: as many as the line with /lenIV\n\
+                says, else four.\n\
+                \n\
+                What to do: the program that wrote the font has to be mended.\n",
+            note: "",
+        },
+        Topic {
+            code: "D7",
+            meaning: "bytes of a charstring are no command",
+            lead: CHARSTRING_EXAMPLE,
+            text: "\t8b 8b 0d 0f\n\
+                \n\
+                The bytes 0, 2, 15 to 20 and 23 to 29 are no commands; after a 12 only 0, 1, 2,\n\
+                6, 7, 12, 16, 17 and 33 make one.\n\
+                \n\
+                What to do: see that the font is of type 1, and that what /lenIV says is true of\n\
+                it.\n",
+            note: "",
+        },
+        Topic {
+            code: "D8",
+            meaning: "a number of a charstring is cut off",
+            lead: CHARSTRING_EXAMPLE,
+            text: "\t8b 8b 0d ff 00\n\
+                \n\
+                A number has one byte where that is from 32 to 246, two where the first is from\n\
+                247 to 254, and five where it is 255. The last one has fewer.\n\
+                \n\
+                What to do: see that the lengths of entries are right, and that what /lenIV says\n\
+                is true of the font.\n",
+            note: "",
+        },
+        Topic {
+            code: "D9",
+            meaning: "lenIV isn't a number from 0 to 64",
+            lead: PRIVATE_EXAMPLE,
+            text: "\t/lenIV 65 def\n\
+                \n\
+                It is what follows /lenIV in the first line that has it, before the first Subrs\n\
+                or CharStrings line. A font with lenIV -1, whose charstrings aren't encrypted,\n\
+                isn't read.\n\
+                \n\
+                What to do: have the program that wrote the font write it with lenIV 4.\n",
+            note: "",
+        },
+    ],
+};
+
 const RULES: Section = Section {
     title: "Rules of a session's commands",
     topics: &[
@@ -660,10 +799,10 @@ const STATUSES: Section = Section {
         },
         Topic {
             code: "1",
-            meaning: "the source or the kerning file has a fault",
+            meaning: "the source, the kerning file or the font has a fault",
             lead: "",
             text: "Standard error has the first fault, its code and its place, as 't1edit: F38 glyph Aacute',\n\
-                'F22 subr 7', 'F7 line 5' or 'F1'. Lines are counted from 1. Nothing was written.\n\
+                'F22 subr 7', 'F7 line 5', 'D3 byte 812' or 'F1'. Lines are counted from 1. Nothing was written.\n\
                 \n\
                 What to do: 't1edit explain CODE' says it.\n",
             note: "",
@@ -730,6 +869,12 @@ fn runs() -> Section
     RUNS
 }
 
+fn disassembling() -> Section
+    ensures { outline_of result ≡ disassembling_outline }
+{
+    DISASSEMBLING
+}
+
 fn rules() -> Section
     ensures { outline_of result ≡ rules_outline }
 {
@@ -743,22 +888,16 @@ fn statuses() -> Section
 }
 
 /// All of them, each code once, in the order in which they are listed.
-pub fn all_sections() -> [Section; 6]
+pub fn all_sections() -> [Section; 7]
     ensures { map outline_of result ≡ of_program }
 {
-    [reading(), kerning(), bodies(), runs(), rules(), statuses()]
-}
-
-/// What assembling can answer.
-pub fn of_assembling() -> [Section; 3]
-    ensures { map outline_of result ≡ of_assembling }
-{
-    [reading(), bodies(), statuses()]
-}
-
-/// What measuring and checking can answer.
-pub fn of_measuring() -> [Section; 5]
-    ensures { map outline_of result ≡ of_measuring }
-{
-    [reading(), kerning(), bodies(), runs(), statuses()]
+    [
+        reading(),
+        kerning(),
+        bodies(),
+        runs(),
+        disassembling(),
+        rules(),
+        statuses(),
+    ]
 }

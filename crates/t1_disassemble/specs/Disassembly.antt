@@ -31,14 +31,14 @@ tail_after parts coded count = if length parts.coded == 0 then after_coded coded
 abbrev pub coded_place : FontParts → List ℕ → ℕ
 coded_place parts coded = length parts.clear + length parts.coded - length coded
 
--- word: the source of the parts of a file, whose encrypted part and private text these are, after the lines of the clear text
+-- profile: the source of the parts of a file, whose encrypted part and private text these are, after the lines of the clear text
 abbrev pub plain_onto : List ℕ → FontParts → List ℕ → List ℕ → Result (List ℕ) FontFault
 plain_onto text parts coded plain =
     reported_at Nowhere (leading_bytes (lines plain)) >>= λ lead.
     with_digits (coded_place parts coded) coded (private_onto (reading_operator (lines plain)) lead text false plain) >>= λ private.
     Ok (private.0 ++ joined (tail_of (lines (tail_after parts coded (4 + (length plain - length private.1))))))
 
--- word: the same, of the encrypted part alone
+-- profile: the same, of the encrypted part alone
 abbrev pub source_onto : List ℕ → FontParts → List ℕ → Result (List ℕ) FontFault
 source_onto text parts coded = plain_onto text parts coded (decrypted_private (coded_bytes coded))
 

@@ -5,19 +5,19 @@ use Rattle.t1_frac.specs.Ascii.{tab, line_feed, carriage_return, space}
 use Rattle.t1_text.specs.Lines.{is_line_end, after_end}
 use Rattle.t1_parts.specs.Parts.{is_eexec}
 
--- word: how many bytes stand before the first line end
+-- profile: how many bytes stand before the first line end
 abbrev pub line_len : List ℕ → ℕ
 line_len bytes = position_or_len is_line_end bytes
 
--- word: the first line
+-- profile: the first line
 abbrev pub front_line : List ℕ → List ℕ
 front_line bytes = take (line_len bytes) bytes
 
--- word: the bytes after the first line and its end, of which CR LF is one
+-- profile: the bytes after the first line and its end, of which CR LF is one
 abbrev pub past_line : List ℕ → List ℕ
 past_line bytes = after_end (drop (line_len bytes) bytes)
 
--- word: the same as the next, of so many lines at most
+-- profile: the same as the next, of so many lines at most
 abbrev pub after_eexec_within : ℕ → List ℕ → Option (List ℕ)
 after_eexec_within zero bytes = None
 after_eexec_within (suc most) [] = None
@@ -28,7 +28,7 @@ after_eexec_within (suc most) (c ∷ bytes) =
 unfoldable pub after_eexec : List ℕ → Option (List ℕ)
 after_eexec bytes = after_eexec_within (length bytes) bytes
 
--- word: the bytes in front of the rest of some bytes
+-- profile: the bytes in front of the rest of some bytes
 abbrev pub before_rest : List ℕ → List ℕ → List ℕ
 before_rest bytes rest = take (length bytes - length rest) bytes
 

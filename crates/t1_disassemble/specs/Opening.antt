@@ -27,12 +27,12 @@ subr_opening operator dup number count reads =
     then Some (record { at = dup.0; name = codes "dup " ++ number.1; count = decimal_value count.1; end = reads.0 + length reads.1 })
     else None
 
--- word: the first of two, where it is something
+-- profile: the first of two, where it is something
 abbrev pub or_other : Option Opening → Option Opening → Option Opening
 or_other None other = other
 or_other (Some opening) other = Some opening
 
--- word: the Subr that three tokens and the next open
+-- profile: the Subr that three tokens and the next open
 abbrev pub subr_here : List ℕ → ℕ × List ℕ → ℕ × List ℕ → ℕ × List ℕ → List (ℕ × List ℕ) → Option Opening
 subr_here operator a b c [] = None
 subr_here operator a b c (d ∷ more) = subr_opening operator a b c d

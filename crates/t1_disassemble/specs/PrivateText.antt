@@ -26,14 +26,14 @@ front_text waits front = if waits then plain_text true front else (if length (tr
 abbrev pub head_line : List ℕ → List ℕ
 head_line name = name ++ codes " {" ++ line_feed ∷ []
 
--- word: what is read of the private text: the text so far, whether an entry waits for its closing text, what is left, and whether that is all
+-- profile: what is read of the private text: the text so far, whether an entry waits for its closing text, what is left, and whether that is all
 pub record PieceRead : Type 0 where
   pub text : List ℕ
   pub waits : Bool
   pub rest : List ℕ
   pub is_last : Bool
 
--- word: an entry after a text, which waits for its closing text
+-- profile: an entry after a text, which waits for its closing text
 abbrev pub entry_left : List ℕ → List ℕ → PieceRead
 entry_left text rest = record { text = text; waits = true; rest = rest; is_last = false }
 
@@ -60,11 +60,11 @@ read_piece operator lead text waits bytes =
     if length bytes == 0 then Err (fault_at Nowhere D4)
     else piece_onto lead text waits bytes (first_opening operator (places_from 0 (front_line bytes)))
 
--- word: all that is read, or what comes after a piece
+-- profile: all that is read, or what comes after a piece
 abbrev pub go_on : (List ℕ → Bool → List ℕ → Result (List ℕ × List ℕ) FontFault) → PieceRead → Result (List ℕ × List ℕ) FontFault
 go_on next piece = if piece.is_last then Ok (piece.text, piece.rest) else next piece.text piece.waits piece.rest
 
--- word: the same as the next, of so many pieces at most
+-- profile: the same as the next, of so many pieces at most
 abbrev pub private_within : ℕ → List ℕ → ℕ → List ℕ → Bool → List ℕ → Result (List ℕ × List ℕ) FontFault
 private_within zero operator lead text waits bytes = Err (fault_at Nowhere D4)
 private_within (suc most) operator lead text waits bytes = read_piece operator lead text waits bytes >>= go_on (private_within most operator lead)

@@ -32,7 +32,7 @@ lines bytes = split_lines (unified bytes)
 abbrev pub line_ends : List ℕ → ℕ
 line_ends bytes = length (filter (λ c. c == line_feed) (unified bytes))
 
--- word, lines: the bytes after a line end, of which CR LF is one
+-- profile, lines: the bytes after a line end, of which CR LF is one
 abbrev pub after_end : List ℕ → List ℕ
 after_end [] = []
 after_end (c ∷ rest) = if c == carriage_return && begins_with line_feed rest then drop 1 rest else rest

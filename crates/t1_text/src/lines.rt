@@ -1,6 +1,6 @@
 //! Cutting a text into lines.
 
-ghost use Rattle.std.specs.Prelude.{◌≡◌, ◌<◌, ◌≤◌, ◌-◌, ◌+◌, ℕ, true, false, List, ◌∷◌, ◌++◌, ◌==◌, count_by, length, take, drop, IfOk, reverse};
+ghost use Rattle.std.specs.Prelude.{◌≡◌, ◌<◌, ◌≤◌, ◌-◌, ◌+◌, ℕ, true, false, List, [], ◌∷◌, ◌++◌, ◌==◌, count_by, length, take, drop, IfOk, OnOk, reverse};
 ghost use Rattle.std.specs.List.{prefix_len, position_or_len};
 ghost use Rattle.t1_frac.specs.declared.fault.Place.TheVariants as places;
 ghost use Rattle.t1_frac.specs.Ascii.{line_feed};
@@ -23,13 +23,21 @@ pub fn fault_on(number: u64, code: Code) -> Fault
     }
 }
 
+/// Adds a copy of some bytes.
+fn push_copy(alloc: Global, copies: &mut Vec<Bytes>, bytes: &[u8]) -> Result<(), AllocError>
+    ensures { OnOk result (copies.new.items ≡ copies.old.items ++ bytes.now ∷ []) }
+{
+    copies.push(Bytes::copied(alloc, bytes)?)?;
+    Ok(())
+}
+
 /// Copies of some runs of bytes.
 pub fn copied_bytes(alloc: Global, lines: &[Bytes]) -> Result<Vec<Bytes>, AllocError>
     ensures { IfOk result (λ copies. copies.items ≡ lines.now) }
 {
     let mut copies = Vec::new(alloc);
     for line in lines {
-        copies.push(Bytes::copied(alloc, line.as_slice())?)?;
+        push_copy(alloc, &mut copies, line.as_slice())?;
     }
     Ok(copies)
 }
@@ -102,7 +110,7 @@ pub fn copied_lines(alloc: Global, text: &[u8]) -> Result<Vec<Bytes>, AllocError
     let mut rest = text;
     while !rest.is_empty() {
         let (line, after) = first_line(rest);
-        copies.push(Bytes::copied(alloc, line)?)?;
+        push_copy(alloc, &mut copies, line)?;
         rest = after;
     }
     Ok(copies)

@@ -21,5 +21,7 @@ Explains contents old new given (Err (stops.Misused misuses.NoText)) = ⊥
 Explains contents old new given (Err (stops.Misused misuses.BlockLength)) = ⊥
 Explains contents old new given (Err (stops.Misused misuses.OutputOverSource)) = ⊥
 Explains contents old new given (Err (stops.Misused misuses.OutputOverPairs)) = ⊥
+Explains contents old new given (Err (stops.Misused misuses.OutputOverFont)) = ⊥
+Explains contents old new given (Err (stops.Faulty fault)) = ⊥
 Explains contents old new given (Err (stops.Failed (errors.Load fault))) = ⊥
 Explains contents old new given (Err (stops.Failed errors.Read)) = ⊥

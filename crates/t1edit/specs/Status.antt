@@ -4,10 +4,14 @@ use Rattle.t1_code.specs.Counted.{Tally, WritesAll, WritesFront}
 use Rattle.t1_commands.specs.AnswerTexts.{fault_text}
 use Rattle.t1_session.specs.declared.error.ServeError.{ServeError}
 use Rattle.t1_session.specs.declared.error.ServeError.TheVariants.{Load, Read, Write, Memory}
+use Rattle.t1_disassemble.specs.declared.fault.FontFault.{FontFault}
+use Rattle.t1_disassemble.specs.declared.fault.FontRefusal.{FontRefusal}
+use Rattle.t1_disassemble.specs.declared.fault.FontRefusal.TheVariants as refusals
+use Rattle.t1edit.specs.FontFaults.{font_fault_text}
 use Rattle.t1edit.specs.declared.status.Misuse.{Misuse}
-use Rattle.t1edit.specs.declared.status.Misuse.TheVariants.{InputTwice, InputOfSession, UnknownCode, NoText, BlockLength, OutputOverSource, OutputOverPairs}
+use Rattle.t1edit.specs.declared.status.Misuse.TheVariants.{InputTwice, InputOfSession, UnknownCode, NoText, BlockLength, OutputOverSource, OutputOverPairs, OutputOverFont}
 use Rattle.t1edit.specs.declared.status.Stop.{Stop}
-use Rattle.t1edit.specs.declared.status.Stop.TheVariants.{Rejected, Misused, Failed}
+use Rattle.t1edit.specs.declared.status.Stop.TheVariants.{Rejected, Misused, Failed, Faulty}
 use Rattle.t1edit.specs.declared.unopened.Unopened.{Unopened}
 use Rattle.t1edit.specs.declared.unopened.Unopened.TheVariants as unopened
 
@@ -15,6 +19,11 @@ use Rattle.t1edit.specs.declared.unopened.Unopened.TheVariants as unopened
 abbrev pub stop_of_unopened : Unopened → Stop
 stop_of_unopened unopened.Refused = Failed Write
 stop_of_unopened (unopened.Memory want) = Failed Memory
+
+-- profile: the fault of a font's file, or want of memory
+abbrev pub stop_of_font : FontRefusal → Stop
+stop_of_font (refusals.Fault fault) = Faulty fault
+stop_of_font refusals.Memory = Failed Memory
 
 -- profile: 1 for a source or pairs that are refused, 3 where reading or writing failed, 4 for want of memory
 abbrev pub status_of : ServeError → ℕ
@@ -27,11 +36,12 @@ status_of Memory = 4
 abbrev pub status_of_misuse : ℕ
 status_of_misuse = 2
 
--- profile: the status of a run that stopped
+-- profile: the status of a run that stopped: 1 for a font's file that has a fault
 abbrev pub status_of_stop : Stop → ℕ
 status_of_stop Rejected = status_of_misuse
 status_of_stop (Misused misuse) = status_of_misuse
 status_of_stop (Failed error) = status_of error
+status_of_stop (Faulty fault) = 1
 
 -- profile: 0 where all was done
 abbrev pub status_of_run : {T : Type 0} → Result T Stop → ℕ
@@ -45,6 +55,10 @@ error_line Read = codes "t1edit: read failed\n"
 error_line Write = codes "t1edit: write failed\n"
 error_line Memory = codes "t1edit: out of memory\n"
 
+-- profile: the line that reports the fault of a font's file
+abbrev pub font_fault_line : FontFault → List ℕ
+font_fault_line fault = codes "t1edit: " ++ font_fault_text fault ++ codes "\n"
+
 -- profile: the line that reports a misuse
 abbrev pub misuse_line : Misuse → List ℕ
 misuse_line InputTwice = codes "t1edit: only one of SOURCE and FILE can be standard input\n"
@@ -54,6 +68,7 @@ misuse_line NoText = codes "t1edit: an argument is no UTF-8 text\n"
 misuse_line BlockLength = codes "t1edit: a block has 1 to 2147483647 bytes\n"
 misuse_line OutputOverSource = codes "t1edit: -o would write over SOURCE\n"
 misuse_line OutputOverPairs = codes "t1edit: -o would write over the kerning file\n"
+misuse_line OutputOverFont = codes "t1edit: -o would write over FONT\n"
 
 -- profile: a line went out, or a beginning of it before a write that failed
 abbrev pub IsWritten : {W : Type 0} → (W → Option (List ℕ)) → Tally W → Tally W → List ℕ → Type 0
@@ -64,6 +79,7 @@ abbrev pub ReportsStop : {W : Type 0} → (W → Option (List ℕ)) → Tally W 
 ReportsStop contents old new Rejected = new ≡ old
 ReportsStop contents old new (Misused misuse) = IsWritten contents old new (misuse_line misuse)
 ReportsStop contents old new (Failed error) = IsWritten contents old new (error_line error)
+ReportsStop contents old new (Faulty fault) = IsWritten contents old new (font_fault_line fault)
 
 -- profile: a run that did all reports nothing
 abbrev pub ReportsRun : {W T : Type 0} → (W → Option (List ℕ)) → Tally W → Tally W → Result T Stop → Type 0

@@ -3,13 +3,14 @@ use Rattle.std.specs.Prelude.{◌≡◌, ◌≢◌, List, ℕ, Option, Some, Non
 use Rattle.std.specs.IoError.{error_kind}
 use Rattle.std.specs.declared.io.ErrorKind.TheVariants.{OutOfMemory}
 use Rattle.std.specs.declared.io.Error.{Error}
-use Rattle.t1_session.specs.declared.error.ServeError.{ServeError}
 use Rattle.t1_session.specs.declared.error.ServeError.TheVariants as errors
 use Rattle.t1edit.specs.declared.output.Destination.{Destination}
 use Rattle.t1edit.specs.declared.output.Destination.TheVariants as destinations
 use Rattle.t1edit.specs.declared.output.Ended.{Ended}
 use Rattle.t1edit.specs.declared.output.Ended.TheVariants as endings
 use Rattle.t1edit.specs.declared.output.Output.{Output}
+use Rattle.t1edit.specs.declared.status.Stop.{Stop}
+use Rattle.t1edit.specs.declared.status.Stop.TheVariants.{Failed}
 use Rattle.t1edit.specs.declared.unopened.Unopened.{Unopened}
 use Rattle.t1edit.specs.declared.unopened.Unopened.TheVariants as unopened
 
@@ -23,10 +24,10 @@ abbrev pub IsToldOf : Error → Unopened → Type 0
 IsToldOf error (unopened.Memory want) = error_kind error ≡ OutOfMemory
 IsToldOf error unopened.Refused = error_kind error ≢ OutOfMemory
 
--- word: the error of a call that didn't write all is the answer; where it did, only a failed write is
-abbrev pub HandsOn : {S T : Type 0} → Result S ServeError → Result T ServeError → Type 0
-HandsOn (Err e) result = result ≡ Err e
-HandsOn (Ok done) result = IfErr result (λ e. e ≡ errors.Write)
+-- word: why a call didn't write all is the answer; where it did, only a failed write is
+abbrev pub HandsOn : {S T : Type 0} → Result S Stop → Result T Stop → Type 0
+HandsOn (Err stop) result = result ≡ Err stop
+HandsOn (Ok done) result = IfErr result (λ stop. stop ≡ Failed errors.Write)
 
 -- word: a draft has taken its place, and nothing else has
 abbrev pub EndsAs : Destination → Ended → Type 0

@@ -5,6 +5,7 @@ ghost use Rattle.t1edit.specs.Writing.{HandsOn};
 
 mod steps;
 
+use crate::status::Stop;
 use crate::unopened::Unopened;
 use std::alloc::{AllocError, Global};
 use std::fs::{self, File, OpenOptions};
@@ -74,22 +75,25 @@ impl Draft {
 
     /// Ends the draft of a call that has answered: it takes its place where the call wrote all, and
     /// is removed where it did not, or where it cannot take its place.
-    pub fn finish(
-        self,
-        rt: &HostRuntime,
-        answer: Result<(), ServeError>,
-    ) -> Result<Stood, ServeError>
+    pub fn finish(self, rt: &HostRuntime, answer: Result<(), Stop>) -> Result<Stood, Stop>
         ensures ok { IfOk result (λ _. IsOk answer) }
         ensures err { HandsOn answer result }
     {
         let stood = match answer {
-            Ok(()) => self.in_place(rt),
-            Err(error) => Err(error),
+            Ok(()) => self.placed(rt),
+            Err(stop) => Err(stop),
         };
         if stood.is_err() {
             let _removed = fs::remove_file(rt, &self.path);
         }
         stood
+    }
+
+    /// Takes its place, or is why the run stops.
+    fn placed(&self, rt: &HostRuntime) -> Result<Stood, Stop>
+        ensures { IfErr result (λ stop. stop ≡ Stop.Failed ServeError.Write) }
+    {
+        Ok(self.in_place(rt)?)
     }
 
     /// Takes its place, by each step in turn.

@@ -3,8 +3,10 @@
 
 mod assembling;
 mod checking;
+mod disassembling;
 mod draft;
 mod explaining;
+mod font_fault;
 mod identity;
 mod input;
 mod links;
@@ -17,15 +19,16 @@ use assembling::{assemble_as, form_of};
 use checking::check_source;
 use clap::error::ErrorKind;
 use clap::{ArgMatches, Error};
+use disassembling::disassemble_to;
 use explaining::explain;
 use input::{is_standard_input, read_input};
 use output::{Ended, Output};
-use overwriting::refuse_over_input;
+use overwriting::{refuse_over_font, refuse_over_input};
 use status::{Misuse, Stop, run_ending};
 use std::process::ExitCode;
 use std::{env, io};
 use t1_code::Counted;
-use t1_command_line::{all_sections, command, help_texts};
+use t1_command_line::{all_sections, command};
 use t1_session::{ServeError, measure_source, serve};
 
 /// The paths that the command line gives: of the source, and of the kerning file where it names one.
@@ -70,6 +73,11 @@ fn output_path<'a>(rt: &HostRuntime, matches: &ArgMatches<'a>) -> Result<Option<
     Ok(path)
 }
 
+/// What an answer of the calls over whole sources is to a run.
+fn run_answer(answer: Result<(), ServeError>) -> Result<(), Stop> {
+    Ok(answer?)
+}
+
 /// Writes the PFB file of a source, in blocks where their length is given, or its PFA file.
 fn assemble(rt: &HostRuntime, matches: &ArgMatches<'_>) -> Result<Ended, Stop> {
     let form = form_of(matches.get_flag("pfa"), matches.get_str("block"))?;
@@ -77,7 +85,7 @@ fn assemble(rt: &HostRuntime, matches: &ArgMatches<'_>) -> Result<Ended, Stop> {
     let source = read_input(rt, paths(matches).0)?;
     let mut output = Output::open(rt, path)?;
     let answer = assemble_as(rt.alloc(), &source, &form, &mut output.out);
-    Ok(output.finish(rt, answer)?)
+    output.finish(rt, run_answer(answer))
 }
 
 /// Writes the AFM file of a source.
@@ -86,7 +94,20 @@ fn measure(rt: &HostRuntime, matches: &ArgMatches<'_>) -> Result<Ended, Stop> {
     let (source, pairs) = inputs_of(rt, matches)?;
     let mut output = Output::open(rt, path)?;
     let answer = measure_source(rt.alloc(), &source, &pairs, &mut output.out);
-    Ok(output.finish(rt, answer)?)
+    output.finish(rt, run_answer(answer))
+}
+
+/// Writes the source of a font's file.
+fn disassemble(rt: &HostRuntime, matches: &ArgMatches<'_>) -> Result<Ended, Stop> {
+    let font = matches.get_str("FONT").unwrap_or("");
+    let path = matches.get_str("output");
+    if let Some(path) = path {
+        refuse_over_font(rt, path, font)?;
+    }
+    let bytes = read_input(rt, font)?;
+    let mut output = Output::open(rt, path)?;
+    let answer = disassemble_to(rt.alloc(), &bytes, &mut output.out);
+    output.finish(rt, answer)
 }
 
 /// Judges a source and its pairs.
@@ -139,10 +160,7 @@ fn all_written(_ended: Ended) {}
 
 /// Runs the command that the words spell.
 fn run(rt: &HostRuntime, words: &[String]) -> Result<(), Stop> {
-    let Ok(helps) = help_texts(rt.alloc()) else {
-        return Err(Stop::Failed(ServeError::Memory));
-    };
-    let Ok(command) = command(rt.alloc(), &helps) else {
+    let Ok(command) = command(rt.alloc()) else {
         return Err(Stop::Failed(ServeError::Memory));
     };
     let matches = match command.try_get_matches_from(words) {
@@ -151,11 +169,25 @@ fn run(rt: &HostRuntime, words: &[String]) -> Result<(), Stop> {
     };
     match matches.subcommand() {
         Some(("assemble", matches)) => Ok(all_written(assemble(rt, matches)?)),
+        Some(("disassemble", matches)) => Ok(all_written(disassemble(rt, matches)?)),
         Some(("measure", matches)) => Ok(all_written(measure(rt, matches)?)),
         Some(("check", matches)) => check(rt, matches),
         Some(("session", matches)) => session(rt, matches),
         Some(("explain", matches)) => explain_code(rt, matches),
         _ => Ok(()),
+    }
+}
+
+/// Whether a word is the option that asks for a help.
+fn is_help_option(word: &str) -> bool {
+    word == "--help" || word == "-h"
+}
+
+/// Whether the words ask for the help of `help`, which is that of the program.
+fn ask_for_help_of_help(words: &[String]) -> bool {
+    match words {
+        [_, help, asked] => help.as_str() == "help" && is_help_option(asked),
+        _ => false,
     }
 }
 
@@ -168,9 +200,12 @@ fn run_arguments(rt: &HostRuntime) -> Result<(), Stop> {
         }
         Err(_) => return Err(Stop::Misused(Misuse::NoText)),
     };
-    let Ok(words) = args.collect::<Vec<String>>(rt.alloc()) else {
+    let Ok(mut words) = args.collect::<Vec<String>>(rt.alloc()) else {
         return Err(Stop::Failed(ServeError::Memory));
     };
+    if ask_for_help_of_help(&words) {
+        words.truncate(2);
+    }
     run(rt, &words)
 }
 

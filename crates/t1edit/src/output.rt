@@ -7,12 +7,12 @@ ghost use Rattle.t1edit.specs.Writing.{HandsOn, EndsAs, OpensByWord};
 use crate::draft::{Draft, PERMISSIONS, Stood};
 use crate::identity::Descriptor;
 use crate::links::{End, end_of};
+use crate::status::Stop;
 use crate::unopened::Unopened;
 use std::fs::{self, File, Metadata, OpenOptions};
 use std::io::{self, ErrorKind, Stderr, Stdout, Write};
 use std::os::unix::fs::PermissionsExt;
 use t1_code::Counted;
-use t1_session::ServeError;
 
 /// The word that names standard output in place of a file.
 const STANDARD_OUTPUT: &str = "-";
@@ -97,11 +97,7 @@ impl Output {
 
     /// Ends the output of a call that has answered: a draft takes its place where the call wrote
     /// all, and is removed where it did not, or where it cannot take its place.
-    pub fn finish(
-        self,
-        rt: &HostRuntime,
-        answer: Result<(), ServeError>,
-    ) -> Result<Ended, ServeError>
+    pub fn finish(self, rt: &HostRuntime, answer: Result<(), Stop>) -> Result<Ended, Stop>
         ensures ok { IfOk result (λ _. IsOk answer) }
         ensures stood { IfOk result (EndsAs self.out.inner) }
         ensures err { HandsOn answer result }

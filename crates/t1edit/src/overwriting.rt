@@ -13,23 +13,35 @@ fn is_input(rt: &HostRuntime, input: &str, there: &Metadata) -> bool {
     stands_at(rt, input, there)
 }
 
-/// Refuses a path for the output at which the source or the kerning file stands, where that is a
-/// file: a device may be both.
+/// The file at a path for the output, where there is one: a device or a pipe may be an input too.
+fn file_at(rt: &HostRuntime, output: &str) -> Option<Metadata> {
+    if is_standard_output(output) {
+        return None;
+    }
+    match fs::metadata(rt, output) {
+        Ok(there) if there.is_file() => Some(there),
+        _ => None,
+    }
+}
+
+/// Refuses a path for the output at which the font's file stands.
+pub fn refuse_over_font(rt: &HostRuntime, output: &str, font: &str) -> Result<(), Misuse> {
+    match file_at(rt, output) {
+        Some(there) if is_input(rt, font, &there) => Err(Misuse::OutputOverFont),
+        _ => Ok(()),
+    }
+}
+
+/// Refuses a path for the output at which the source or the kerning file stands.
 pub fn refuse_over_input(
     rt: &HostRuntime,
     output: &str,
     source: &str,
     kern: Option<&str>,
 ) -> Result<(), Misuse> {
-    if is_standard_output(output) {
-        return Ok(());
-    }
-    let Ok(there) = fs::metadata(rt, output) else {
+    let Some(there) = file_at(rt, output) else {
         return Ok(());
     };
-    if !there.is_file() {
-        return Ok(());
-    }
     if is_input(rt, source, &there) {
         return Err(Misuse::OutputOverSource);
     }

@@ -1,14 +1,19 @@
 //! How the program ends.
 ghost use Rattle.std.specs.Prelude.{◌≡◌};
 ghost use Rattle.t1_code.specs.Counted.{Writes};
-ghost use Rattle.t1edit.specs.Status.{error_line, misuse_line, status_of, status_of_misuse, status_of_stop, status_of_run, IsWritten, ReportsStop, ReportsRun};
+ghost use Rattle.t1edit.specs.Status.{error_line, font_fault_line, misuse_line, status_of, status_of_misuse, status_of_stop, status_of_run, IsWritten, ReportsStop, ReportsRun};
 
+use crate::font_fault::put_font_fault;
 use crate::unopened::Unopened;
 use std::io::{self, Write};
 use t1_code::Counted;
 use t1_commands::put_fault;
+use t1_disassemble::{FontFault, FontRefusal};
 use t1_frac::Refusal;
 use t1_session::ServeError;
+
+/// The status of a fault.
+const FAULT: u8 = 1;
 
 /// The status of a command line that isn't accepted.
 const USAGE: u8 = 2;
@@ -30,6 +35,8 @@ pub enum Misuse {
     OutputOverSource,
     /// The output would be written over the kerning file.
     OutputOverPairs,
+    /// The output would be written over the font's file.
+    OutputOverFont,
 }
 
 impl Misuse {
@@ -47,6 +54,7 @@ impl Misuse {
             Misuse::BlockLength => b"t1edit: a block has 1 to 2147483647 bytes\n",
             Misuse::OutputOverSource => b"t1edit: -o would write over SOURCE\n",
             Misuse::OutputOverPairs => b"t1edit: -o would write over the kerning file\n",
+            Misuse::OutputOverFont => b"t1edit: -o would write over FONT\n",
         }
     }
 }
@@ -58,6 +66,8 @@ pub enum Stop {
     Rejected,
     Misused(Misuse),
     Failed(ServeError),
+    /// The file of a font has a fault.
+    Faulty(FontFault),
 }
 
 impl From<Misuse> for Stop {
@@ -108,6 +118,20 @@ impl From<Refusal> for Stop {
     }
 }
 
+impl From<FontRefusal> for Stop {
+    ghost use Rattle.std.specs.Prelude.{◌≡◌};
+    ghost use Rattle.t1edit.specs.Status.{stop_of_font};
+
+    ghost from_gives = { λ refused stop. stop ≡ stop_of_font refused };
+
+    fn from(refused: FontRefusal) -> Stop {
+        match refused {
+            FontRefusal::Fault(fault) => Stop::Faulty(fault),
+            FontRefusal::Memory => Stop::Failed(ServeError::Memory),
+        }
+    }
+}
+
 /// Writes the line that reports an error.
 fn report<W: Write>(error: &ServeError, writer: &mut Counted<W>) -> io::Result<()>
     ensures { Writes W.contents writer.old writer.new (error_line error.now) result }
@@ -125,7 +149,7 @@ fn status_of(error: &ServeError) -> u8
     ensures { result ≡ status_of error.now }
 {
     match error {
-        ServeError::Load(_) => 1,
+        ServeError::Load(_) => FAULT,
         ServeError::Read | ServeError::Write => 3,
         ServeError::Memory => 4,
     }
@@ -139,6 +163,16 @@ fn ending<W: Write>(error: &ServeError, writer: &mut Counted<W>) -> u8
 {
     let _written = report(error, writer);
     status_of(error)
+}
+
+/// The exit status of a fault of a font's file, whose line is written; a write that fails changes no status.
+#[tactic(auto, using(crate::proofs::Lines::is_written))]
+fn faulty<W: Write>(fault: &FontFault, writer: &mut Counted<W>) -> u8
+    ensures status { result ≡ 1 }
+    ensures line { IsWritten W.contents writer.old writer.new (font_fault_line fault.now) }
+{
+    let _written = put_font_fault(fault, writer);
+    FAULT
 }
 
 /// The exit status of a misuse, whose line is written; a write that fails changes no status.
@@ -160,6 +194,7 @@ fn stopped<W: Write>(stop: &Stop, writer: &mut Counted<W>) -> u8
         Stop::Rejected => USAGE,
         Stop::Misused(misuse) => misused(*misuse, writer),
         Stop::Failed(error) => ending(error, writer),
+        Stop::Faulty(fault) => faulty(fault, writer),
     }
 }
 

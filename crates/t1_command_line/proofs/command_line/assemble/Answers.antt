@@ -1,4 +1,4 @@
-use Rattle.std.proofs.Common.{rules, ap₂, codes, ◌≡◌, ◌∙◌}
+use Rattle.std.proofs.Common.{ap₂, codes, ◌≡◌, ◌∙◌}
 use Rattle.std.proofs.lemmas.Result.{IfOk-weaker}
 use Rattle.clap.specs.Words.{App, app_of, new_app, with_rule}
 use Rattle.t1_command_line.specs.CommandLine.{block, pfa, output}
@@ -16,9 +16,8 @@ with_output = with_rule with_pfa output
 
 pub returns : goal.returns
 returns c =
-    let named : app_of c.after_long_help.result ≡ new_app (codes "assemble") = search rules in
     let first : app_of c.in_ok-arg.field-0 ≡ with_block =
-    c.in_ok-arg.ensures.shape c.in_ok-block.ensures.local ∙ ap₂ with_rule named c.in_ok-block.ensures.rule in
+    c.in_ok-arg.ensures.shape c.in_ok-block.ensures.local ∙ ap₂ with_rule c.named.ensures c.in_ok-block.ensures.rule in
     let second : app_of c.in_ok-arg-2.field-0 ≡ with_pfa =
     c.in_ok-arg-2.ensures.shape c.pfa.ensures.local ∙ ap₂ with_rule first c.pfa.ensures.rule in
     let third : app_of c.in_ok-arg-3.field-0 ≡ with_output =

@@ -1,0 +1,25 @@
+//! The source of a font's file.
+ghost use Rattle.t1_disassemble.specs.Disassembly.{disassembled};
+ghost use Rattle.t1edit.specs.Disassembling.{DeliversSource};
+
+use crate::status::Stop;
+use std::alloc::Global;
+use std::io::Write;
+use t1_code::Counted;
+use t1_disassemble::disassemble;
+use t1_session::ServeError;
+
+/// Writes the source of a font's file.
+pub fn disassemble_to<W: Write>(
+    alloc: Global,
+    font: &[u8],
+    out: &mut Counted<W>,
+) -> Result<(), Stop>
+    ensures { DeliversSource W.contents out.old out.new (disassembled font.now) result }
+{
+    let source = disassemble(alloc, font)?;
+    match out.put_all(&source) {
+        Ok(()) => Ok(()),
+        Err(_) => Err(Stop::Failed(ServeError::Write)),
+    }
+}
