@@ -20,6 +20,7 @@ BESIDE = [
     "tests/random --runs --count 100",
     "tests/documents",
     "tests/clients",
+    "tests/python/run",
     "tests/random --measure --count 300",
     "tests/memory",
     "tests/endings",
@@ -34,6 +35,7 @@ BESIDE = [
     "tests/wrapper",
     "tests/faults",
     "tests/completions",
+    "tests/disassemble",
     "tests/files",
     "tests/reference/check",
 ]

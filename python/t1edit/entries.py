@@ -1,0 +1,119 @@
+"""The glyphs and the Subrs of a font."""
+
+from __future__ import annotations
+
+from collections.abc import Iterator, Mapping
+from dataclasses import dataclass, field
+
+from .metrics import Metrics
+from .queries import Queries
+from .uses import Uses
+
+
+@dataclass(unsafe_hash=True)
+class Glyph:
+    """A glyph of a font by its name, as long as the font has it."""
+
+    name: str
+    _queries: Queries = field(repr=False)
+
+    @property
+    def body(self) -> str:
+        """Its charstring as text: numbers and commands, a line for each command. Comments aren't kept."""
+        return self._queries.glyph_body(self.name)
+
+    @body.setter
+    def body(self, body: str) -> None:
+        """Replaces the body. Where the font would have a fault then, Refused is raised, and it stays as it was."""
+        self._queries.session.edit("replace", "glyph", self.name, body=body)
+
+    @property
+    def metrics(self) -> Metrics:
+        """Its line in the AFM file."""
+        return self._queries.metrics(self.name)
+
+    @property
+    def uses(self) -> Uses:
+        """The Subrs and glyphs that it stands on."""
+        return self._queries.uses(self.name)
+
+
+@dataclass(unsafe_hash=True)
+class Subr:
+    """A Subr of a font by its number, as long as the font has it."""
+
+    number: int
+    _queries: Queries = field(repr=False)
+
+    @property
+    def body(self) -> str:
+        """Its charstring as text, as of a glyph."""
+        return self._queries.subr_body(self.number)
+
+    @body.setter
+    def body(self, body: str) -> None:
+        self._queries.session.edit("replace", "subr", self.number, body=body)
+
+
+class Glyphs(Mapping[str, Glyph]):
+    """The glyphs of a font by their names, in the order of the source."""
+
+    def __init__(self, queries: Queries) -> None:
+        self._queries = queries
+        self._session = queries.session
+
+    def __getitem__(self, name: str) -> Glyph:
+        """A glyph. Raises Missing, which is a KeyError."""
+        if name not in self:
+            raise self._session.refusal("E1", name)
+        return Glyph(name, self._queries)
+
+    def __contains__(self, name: object) -> bool:
+        return isinstance(name, str) and self._queries.has_glyph(name)
+
+    def __iter__(self) -> Iterator[str]:
+        return iter(self._queries.glyph_names())
+
+    def __len__(self) -> int:
+        return len(self._queries.glyph_names())
+
+    def add(self, name: str, body: str) -> Glyph:
+        """Adds a glyph after all others."""
+        self._session.edit("add", "glyph", name, body=body)
+        return Glyph(name, self._queries)
+
+    def __delitem__(self, name: str) -> None:
+        """Removes a glyph; codes and kerning pairs that name it stay."""
+        self._session.edit("remove", "glyph", name)
+
+
+class Subrs(Mapping[int, Subr]):
+    """The Subrs of a font by their numbers, in the order of the source."""
+
+    def __init__(self, queries: Queries) -> None:
+        self._queries = queries
+        self._session = queries.session
+
+    def __getitem__(self, number: int) -> Subr:
+        """A Subr. Raises Missing, which is a KeyError."""
+        if number not in self:
+            raise self._session.refusal("E1", str(number))
+        return Subr(number, self._queries)
+
+    def __contains__(self, number: object) -> bool:
+        return isinstance(number, int) and self._queries.has_subr(number)
+
+    def __iter__(self) -> Iterator[int]:
+        return iter(self._queries.subr_numbers())
+
+    def __len__(self) -> int:
+        return len(self._queries.subr_numbers())
+
+    def add(self, number: int, body: str) -> Subr:
+        """Adds a Subr after all others, by a number from 0 to 32000 that none has."""
+        self._session.edit("add", "subr", number, body=body)
+        return Subr(number, self._queries)
+
+    def __delitem__(self, number: int) -> None:
+        """Removes a Subr, which leaves its number free."""
+        self._session.edit("remove", "subr", number)
