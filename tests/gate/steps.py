@@ -14,8 +14,8 @@ TOP = os.path.dirname(os.path.dirname(os.path.dirname(os.path.abspath(__file__))
 CLOSING = re.compile(r"(\d+) passed, (\d+) failed(?:, (\d+) skipped)?(?: \(.*\))?")
 # What is to be seen of a program, the longest first, and what shows times and so runs by itself.
 BESIDE = [
-    "tests/growths --every 25",
-    "tests/peers",
+    "tests/alloc-failures --every 25",
+    "tests/interop",
     "tests/random --sessions --count 100",
     "tests/random --runs --count 100",
     "tests/documents",
@@ -23,12 +23,12 @@ BESIDE = [
     "tests/python/run",
     "tests/random --measure --count 300",
     "tests/memory",
-    "tests/endings",
+    "tests/exit-status",
     "tests/pipes",
     "tests/package",
     "tests/random --count 300",
     "tests/random --all-changes",
-    "tests/calls",
+    "tests/session-api",
     "tests/t1asm",
     "tests/run",
     "tests/gate-times --try",

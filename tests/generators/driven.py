@@ -4,9 +4,9 @@
 import os
 import subprocess
 
-from chance.recount import Recount
-from chance.sessions import Chooser
-from chance.unjudged import Unjudged
+from generators.recount import Recount
+from generators.sessions import Chooser
+from generators.unjudged import Unjudged
 from edits import form_of
 from session import commands
 from source import kern_text

@@ -3,7 +3,7 @@
 
 from collections import Counter
 
-from chance.fonts import CODE_OF, FONT_NAMES, glyph_body, parts
+from generators.fonts import CODE_OF, FONT_NAMES, glyph_body, parts
 from charstrings import STANDARD
 from session import commands
 

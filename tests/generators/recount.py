@@ -3,7 +3,7 @@
 
 import subprocess
 
-from chance.unjudged import Unjudged
+from generators.unjudged import Unjudged
 from edits import form_of
 from faults import Fault
 from session import BATCHES
