@@ -1,0 +1,4 @@
+pub mod Counting
+pub mod Laws
+pub mod Shown
+pub mod Text
