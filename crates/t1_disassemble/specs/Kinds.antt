@@ -17,7 +17,8 @@ abbrev pub without : List ℕ → FontCode → List ℕ → Result (List ℕ) Fo
 without text code bytes =
     if nat_lt (text_place text bytes) (length bytes) then Err (fault_at (Byte (text_place text bytes)) code) else Ok bytes
 
--- Technical Note 5015 (multiple master fonts), Technical Note 5014 (CID-keyed fonts): the clear text of a font that is neither
+-- profile, faults: the clear text of a font that is neither a multiple master (Technical Note 5015) nor CID-keyed (Technical Note
+-- 5014)
 unfoldable pub plain_kind : List ℕ → Result (List ℕ) FontFault
 plain_kind clear = without (codes "/WeightVector") D12 clear >>= without (codes "/CIDFontName") D13
 
