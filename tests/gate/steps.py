@@ -36,6 +36,7 @@ BESIDE = [
     "tests/faults",
     "tests/completions",
     "tests/disassemble",
+    "tests/damaged",
     "tests/files",
     "tests/reference/check",
 ]

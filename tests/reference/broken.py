@@ -41,6 +41,8 @@ def broken(code, shown, small):
         whole = pfa(read_source(small))
         at = whole.index(CLEAR_END) + len(CLEAR_END)
         return whole[:at] + line + whole[at:]
+    if code in ("D12", "D13"):
+        return raw(clear + line + CLEAR_END, private(SOUND))
     clear += CLEAR_END
     if code == "D4":
         return raw(clear, private(SOUND, close=line))[: -len(TAIL)]
@@ -48,5 +50,7 @@ def broken(code, shown, small):
         return raw(clear, private(line))
     if code in ("D7", "D8"):
         return raw(clear, private(entry(b"/space", bytes.fromhex(shown.decode()))))
-    assert code == "D9", code
+    if code == "D11":
+        return raw(clear, private(SOUND + line))
+    assert code in ("D9", "D10"), code
     return raw(clear, private(SOUND, before=line))

@@ -1,33 +1,112 @@
 # Independent implementation for the tests; no part of the product.
-"""A font disassembled to a readable source, for fonts that t1disasm can't read to their end.
+"""A font's file read back into its source, or the first fault of the file, as docs/DISASSEMBLE.md says it.
 
 usage: disassemble.py FONT > SOURCE
 """
 
 import re
 import sys
+from dataclasses import dataclass
 
-from charstrings import COMMANDS
+from charstrings import CHARSTRING_KEY, COMMANDS, EEXEC_KEY
+from source import DECIMAL, is_name, lines, token_places, tokens
 
 NAMES = {code: name for name, (code, _) in COMMANDS.items()}
-ENTRY = re.compile(rb"(dup \d+|/[^\s{}/]+) (\d+) (RD|-\|) ")
+BLANKS = b"\0\t\n\x0c\r "
+DIGITS = frozenset(b"0123456789abcdefABCDEF")
+LINE_END = re.compile(rb"\r\n|\r|\n")
+CLOSEFILE = b"mark currentfile closefile"
+LONGEST_COUNT = 9
 
 
-ZEROS = re.compile(rb"(0{64}[\r\n]+){8}")
+class FontFault(Exception):
+    """What is told of a file that isn't read, as `D7 glyph A`."""
+
+    def __init__(self, code, place=b""):
+        super().__init__(code, place)
+        self.told = code + (b" " + place if place else b"")
+
+
+@dataclass
+class Parts:
+    clear: bytes = b""
+    coded: bytes = b""
+    tail: bytes = b""
+
+
+# The file
+
+def segments(file):
+    """The segments, each with its type, up to the end that is said or that of the file."""
+    at = 0
+    while at < len(file):
+        fault = FontFault(b"D2", b"byte %d" % at)
+        if file[at] != 128 or at + 1 == len(file):
+            raise fault
+        kind = file[at + 1]
+        if kind == 3:
+            return
+        start = at + 6
+        end = start + int.from_bytes(file[at + 2 : start], "little")
+        if kind not in (1, 2) or start > len(file) or end > len(file):
+            raise fault
+        yield kind, file[start:end]
+        at = end
 
 
 def parts(file):
-    """The clear text, the encrypted bytes and the trailer of a font with segments or without."""
-    if file[0] != 128:
-        start = re.search(rb"currentfile eexec(\r\n|\r|\n)", file).end()
-        end = [match.start() for match in ZEROS.finditer(file)][-1]
-        return file[:start], file[start:end], file[end:]
-    at, found = 0, []
-    while file[at + 1] != 3:
-        size = int.from_bytes(file[at + 2 : at + 6], "little")
-        found.append(file[at + 6 : at + 6 + size])
-        at += 6 + size
-    return found[0], b"".join(found[1:-1]), found[-1]
+    """The clear text, the encrypted bytes and the text after them of a file with segments; of any other all is clear text."""
+    if file[:1] != b"\x80":
+        return Parts(file)
+    found = Parts()
+    for kind, part in segments(file):
+        if kind == 2:
+            found.coded += part
+        elif found.coded:
+            found.tail += part
+        else:
+            found.clear += part
+    return found
+
+
+def line_starts(text):
+    """Where each line begins, where it ends, and where its end ends."""
+    at = 0
+    while at < len(text):
+        stop = LINE_END.search(text, at)
+        end, after = stop.span() if stop else (len(text), len(text))
+        yield at, end, after
+        at = after
+
+
+def eexec_end(text):
+    """Where the clear text ends."""
+    words = b"currentfile eexec"
+    for start, end, after in line_starts(text):
+        if text[start:end].strip(BLANKS).endswith(words):
+            return after
+    found = text.find(words + b" ")
+    return None if found < 0 else found + len(words)
+
+
+def judge_kind(clear):
+    for words, code in (b"/WeightVector", b"D12"), (b"/CIDFontName", b"D13"):
+        if words in clear:
+            raise FontFault(code, b"byte %d" % clear.index(words))
+
+
+def is_hexadecimal(coded):
+    return len(coded) >= 4 and DIGITS.issuperset(coded[:4])
+
+
+def digits_end(coded):
+    """How many bytes stand before the first that is neither a digit nor a blank."""
+    return next((at for at, byte in enumerate(coded) if byte not in DIGITS and byte not in BLANKS), len(coded))
+
+
+def bytes_of_digits(coded):
+    digits = bytes(byte for byte in coded[: digits_end(coded)] if byte in DIGITS)
+    return bytes.fromhex(digits[: len(digits) // 2 * 2].decode())
 
 
 def decrypted(key, lead, bytes_):
@@ -38,9 +117,107 @@ def decrypted(key, lead, bytes_):
     return bytes(plain[lead:])
 
 
+def private_bytes(coded):
+    return decrypted(EEXEC_KEY, 4, bytes_of_digits(coded) if is_hexadecimal(coded) else coded)
+
+
+def after_digits(coded, count):
+    """What stands after so many digits and the end of the line of the last."""
+    at = 0
+    while count and at < len(coded):
+        count -= coded[at] in DIGITS
+        at += 1
+    stop = LINE_END.search(coded, at)
+    return coded[stop.end() :] if stop else b""
+
+
+# The private text
+
+def is_count(token):
+    return len(token) <= LONGEST_COUNT and bool(DECIMAL.fullmatch(token))
+
+
+def section_kind(line):
+    """`Subrs` or `CharStrings` for a section line, and both where it is both."""
+    found = tokens(line)
+    triples = list(zip(found, found[1:], found[2:]))
+    kinds = (b"/Subrs", b"array"), (b"/CharStrings", b"dict")
+    return {key for key, word in kinds if any(a == key and is_count(n) and b == word for a, n, b in triples)}
+
+
+def ends_in_key(line):
+    return line.endswith((b"/Subrs", b"/CharStrings"))
+
+
+def begins_section(line):
+    """Whether a section line may go on with the next line."""
+    line = line.strip(BLANKS)
+    return ends_in_key(line) or ends_in_key(line.rstrip(b"0123456789").strip(BLANKS))
+
+
+def lines_before_sections(plain):
+    """The lines before the first on which a section begins."""
+    for line in lines(plain):
+        if section_kind(line) or begins_section(line):
+            return
+        yield line
+
+
+def reading_operator(plain):
+    """The name that is defined in front of the first `string currentfile`."""
+    for line in lines_before_sections(plain):
+        place = line.find(b"string currentfile")
+        if place >= 0:
+            names = [line[start + 1 : end] for start, end in token_places(line) if end <= place and line[start : start + 1] == b"/"]
+            names = [name for name in names if is_name(name)]
+            return names[-1] if names else b"RD"
+    return b"RD"
+
+
+def leading_bytes(plain):
+    for line in lines_before_sections(plain):
+        found = tokens(line)
+        if b"/lenIV" not in found:
+            continue
+        said = found[found.index(b"/lenIV") + 1 :][:1]
+        if said == [b"-1"]:
+            raise FontFault(b"D10")
+        if not said or not DECIMAL.fullmatch(said[0]) or int(said[0]) > 64:
+            raise FontFault(b"D9")
+        return int(said[0])
+    return 4
+
+
+@dataclass(frozen=True)
+class Opening:
+    """An entry: where it begins on its line, its head, the length of its charstring, and where the reading operator ends."""
+
+    at: int
+    name: bytes
+    count: int
+    end: int
+
+    def place(self):
+        return b"glyph " + self.name[1:] if self.name[:1] == b"/" else b"subr " + self.name[len(b"dup ") :]
+
+
+def first_opening(operator, line):
+    places = token_places(line)
+    words = [line[start:end] for start, end in places]
+    for at, word in enumerate(words):
+        if word[:1] == b"/" and words[at + 2 : at + 3] == [operator] and is_count(words[at + 1]):
+            return Opening(places[at][0], word, int(words[at + 1]), places[at + 2][1])
+        if word == b"dup" and words[at + 3 : at + 4] == [operator] and DECIMAL.fullmatch(words[at + 1]) and is_count(words[at + 2]):
+            return Opening(places[at][0], b"dup " + words[at + 1], int(words[at + 2]), places[at + 3][1])
+    return None
+
+
 def number(code, at):
     """A number and where it ends."""
     first = code[at]
+    size = 5 if first == 255 else 2 if first >= 247 else 1
+    if at + size > len(code):
+        raise FontFault(b"D8")
     if first == 255:
         return int.from_bytes(code[at + 1 : at + 5], "big", signed=True), at + 5
     if first >= 251:
@@ -52,53 +229,156 @@ def number(code, at):
 
 def body(code):
     """The lines of a charstring, each up to its command."""
-    lines, words, at = [], [], 0
+    found, words, at = [], [], 0
     while at < len(code):
         if code[at] >= 32:
             value, at = number(code, at)
             words.append(b"%d" % value)
             continue
         size = 2 if code[at] == 12 else 1
+        if code[at : at + size] not in NAMES:
+            raise FontFault(b"D7")
         words.append(NAMES[code[at : at + size]])
         at += size
-        lines.append(b"\t" + b" ".join(words) + b"\n")
+        found.append(b"\t" + b" ".join(words) + b"\n")
         words = []
     if words:
-        lines.append(b"\t" + b" ".join(words) + b"\n")
-    return b"".join(lines)
+        found.append(b"\t" + b" ".join(words) + b"\n")
+    return b"".join(found)
 
 
-def private_text(plain, lead):
-    """The private text with its entries disassembled."""
-    made, at = [], 0
-    while True:
-        match = ENTRY.search(plain, at)
-        if match is None:
-            return b"".join([*made, lines_of(plain[at:])])
-        start = match.end()
-        end = start + int(match[2])
-        stop = re.compile(rb"\r\n|\r|\n").search(plain, end)
-        closing = plain[end : stop.start()].strip()
-        made += [lines_of(plain[at : match.start()]), match[1], b" {\n"]
-        made += [body(decrypted(4330, lead, plain[start:end])), b"\t} " if closing else b"\t}", closing, b"\n"]
-        at = stop.end()
+def charstring_lines(lead, opening, code):
+    try:
+        if len(code) < lead:
+            raise FontFault(b"D6")
+        return body(decrypted(CHARSTRING_KEY, lead, code))
+    except FontFault as fault:
+        raise FontFault(fault.told, opening.place()) from None
+
+
+def is_closefile(line):
+    return line.strip(BLANKS).endswith(CLOSEFILE)
+
+
+def is_border(line):
+    return bool(section_kind(line)) or is_closefile(line)
+
+
+def as_one(line, following):
+    """Two lines as one, where only both together are a section line or close the encrypted part."""
+    bare = line.strip(BLANKS)
+    begins = begins_section(line) or bare.endswith((b"mark", b"mark currentfile"))
+    if is_border(line) or is_border(following) or not begins:
+        return None
+    both = bare + b" " + following.strip(BLANKS)
+    return both if is_border(both) else None
+
+
+def line_at(text, at):
+    """The line that begins there, and where the next one does."""
+    stop = LINE_END.search(text, at)
+    return (text[at : stop.start()], stop.end()) if stop else (text[at:], len(text))
+
+
+def closing_line(text):
+    text = text.strip(BLANKS)
+    return b"\t} " + text + b"\n" if text else b"\t}\n"
+
+
+def private_text(operator, lead, plain):
+    """The lines of the private text, and what stands after it."""
+    made, at, waits = [], 0, False
+    while at < len(plain):
+        line, after = line_at(plain, at)
+        opening = first_opening(operator, line)
+        if opening is None:
+            following, later = line_at(plain, after)
+            both = None if first_opening(operator, following) else as_one(line, following)
+            if both is not None:
+                line, after = both, later
+            made.append(closing_line(line) if waits else line + b"\n")
+            at, waits = after, False
+            if is_closefile(line):
+                return b"".join(made), plain[at:]
+            continue
+        front = line[: opening.at]
+        if waits:
+            made.append(closing_line(front))
+        elif front.strip(BLANKS):
+            made.append(front + b"\n")
+        start = at + opening.end + 1
+        if start + opening.count > len(plain) and opening.count:
+            raise FontFault(b"D5", opening.place())
+        made.append(opening.name + b" {\n")
+        made.append(charstring_lines(lead, opening, plain[start : start + opening.count]))
+        at, waits = start + opening.count, True
+    raise FontFault(b"D4")
+
+
+def judge_sections(text):
+    found = [kind for line in lines(text) if line[:1] != b"\t" for kind in section_kind(line)]
+    if len(found) != len(set(found)):
+        raise FontFault(b"D11")
 
 
 def lines_of(text):
-    return text.replace(b"\r\n", b"\n").replace(b"\r", b"\n")
+    return b"".join(line + b"\n" for line in lines(text))
+
+
+def tail_lines(tail):
+    kept = [line for line in lines(tail) if line.strip(BLANKS).strip(b"0") or not line.strip(BLANKS)]
+    return b"".join(line + b"\n" for line in ([] if any(b"cleartomark" in it for it in kept) else [b"cleartomark"]) + kept)
+
+
+def encrypted_part(file):
+    """The parts of a file, its clear text, and its encrypted bytes with what stands after them."""
+    found = parts(file)
+    end = eexec_end(found.clear)
+    clear = found.clear if end is None else found.clear[:end]
+    judge_kind(clear)
+    if end is None:
+        raise FontFault(b"D1")
+    return found, clear, (found.clear[end:] + found.coded).lstrip(b" \t\r\n")
 
 
 def disassembled(file):
-    """The source of a font whose private part is encrypted to bytes, not to hexadecimal digits."""
-    clear, binary, tail = parts(file)
-    plain = decrypted(55665, 4, binary)
-    closed = plain.index(b"closefile") + len(b"closefile")
-    lead = re.search(rb"/lenIV (\d+)", plain)
-    private = private_text(plain[:closed] + b"\n", int(lead[1]) if lead else 4)
-    kept = [line for line in lines_of(tail).split(b"\n") if line.strip(b"0")]
-    return lines_of(clear) + private + b"\n".join(kept) + b"\n"
+    """The source of a font's file."""
+    found, clear, coded = encrypted_part(file)
+    plain = private_bytes(coded)
+    lead = leading_bytes(plain)
+    try:
+        private, rest = private_text(reading_operator(plain), lead, plain)
+    except FontFault as fault:
+        end = digits_end(coded)
+        if fault.told[:2] in (b"D4", b"D5") and is_hexadecimal(coded) and end < len(coded):
+            place = len(found.clear) + len(found.coded) - len(coded) + end
+            raise FontFault(b"D3", b"byte %d" % place) from None
+        raise
+    judge_sections(private)
+    used = 4 + len(plain) - len(rest)
+    tail = found.tail if found.coded else after_digits(coded, 2 * used) if is_hexadecimal(coded) else coded[used:]
+    return lines_of(clear) + private + tail_lines(tail)
+
+
+def charstrings(file):
+    """The plain bytes of each charstring by the head of its entry."""
+    plain = private_bytes(encrypted_part(file)[2])
+    operator, lead, found, at = reading_operator(plain), leading_bytes(plain), [], 0
+    while at < len(plain):
+        line, after = line_at(plain, at)
+        opening = first_opening(operator, line)
+        if opening is None:
+            at = after
+            continue
+        start = at + opening.end + 1
+        at = start + opening.count
+        found.append((opening.name, decrypted(CHARSTRING_KEY, lead, plain[start:at])))
+    return found
 
 
 if __name__ == "__main__":
     with open(sys.argv[1], "rb") as font:
-        sys.stdout.buffer.write(disassembled(font.read()))
+        try:
+            sys.stdout.buffer.write(disassembled(font.read()))
+        except FontFault as refused:
+            sys.exit("disassemble.py: " + refused.told.decode("latin-1"))

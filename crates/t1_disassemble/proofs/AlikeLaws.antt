@@ -63,7 +63,7 @@ limited n read cs h = elim (cases_Bool (nat_lt 65535 n)) [
   | inr f ↦ (f, rw f at h)
 ]
 
-commands_alike : (ws : List (List ℕ)) (cs : List Command) → commands ws ≡ Ok cs → commands (map plain_word ws) ≡ Ok cs
+pub commands_alike : (ws : List (List ℕ)) (cs : List Command) → commands ws ≡ Ok cs → commands (map plain_word ws) ≡ Ok cs
 unfolding commands
 commands_alike ws cs h =
     let parts = limited (length ws) (commands_of_words ws) cs h in

@@ -19,17 +19,18 @@ use Rattle.t1_parts.specs.Printing.{item_lines, text}
 use Rattle.t1_disassemble.specs.declared.fault.FontFault.{FontFault}
 use Rattle.t1_disassemble.specs.Decipher.{deciphered, decrypted_private}
 use Rattle.t1_disassemble.specs.Digits.{digit_value, digit_bytes, after_digits, is_hexadecimal}
-use Rattle.t1_disassemble.specs.Disassembly.{coded_bytes, after_coded, tail_after, plain_onto, source_onto, source_of, disassembled}
-use Rattle.t1_disassemble.specs.Front.{past_line, after_eexec, before_rest, past_spaces}
-use Rattle.t1_disassemble.specs.Laws.{plain_item, items_text, IsReadBack, AreBytes}
-use Rattle.t1_disassemble.specs.PrivateText.{private_onto}
+use Rattle.t1_disassemble.specs.Disassembly.{coded_bytes, after_coded, tail_after, source_of, disassembled}
+use Rattle.t1_disassemble.specs.Front.{past_line, after_eexec, past_spaces}
+use Rattle.t1_disassemble.specs.Laws.{plain_item, items_text, source_lines, IsReadBack, AreBytes}
+use Rattle.t1_disassemble.specs.PiecesOnto.{private_onto}
 use Rattle.t1_disassemble.specs.SegmentsRead.{FontParts, font_parts}
+use Rattle.t1_disassemble.specs.SourceOnto.{plain_onto, source_onto}
 use Rattle.t1_disassemble.specs.Settings.{reading_operator, leading_bytes}
 use Rattle.t1_disassemble.proofs.Deciphering.{deciphered_cipher, deciphered-append}
 use Rattle.t1_disassemble.proofs.DigitLaws.{lines_again, lines_passed}
 use Rattle.t1_disassemble.proofs.ItemLaws.{private_again}
 use Rattle.t1_disassemble.proofs.PlainWords.{joined-append}
-use Rattle.t1_disassemble.proofs.WholeLaws.{Coded, eexec_coded, items_say, clear_again, before_again, private_of, plain_again}
+use Rattle.t1_disassemble.proofs.WholeLaws.{Coded, eexec_coded, items_say, clear_again, before_again, private_of, plain_again, kind_again, single_after}
 
 -- ---- encrypted bytes are bytes
 
@@ -110,7 +111,7 @@ digits_again clear operator lead items last bytes trailer is made all_bytes no_m
     let plain : decrypted_private (coded_bytes coded) ≡ private ++ more =
     ap decrypted_private (chosen_bytes coded hex ∙ lines_again (eexec private) trailer are) ∙ deciphered_more private junk
     in
-    let text : joined (lines (before_rest file coded)) ≡ joined clear = ap (λ l. joined (lines l)) (before_again (joined clear) coded) ∙ ap joined (lines_joined clear is.front.lines) in
+    let text : joined (lines (joined clear)) ≡ joined clear = ap joined (lines_joined clear is.front.lines) in
     let grouped : private ++ more ≡ bytes ++ ((last ++ 10 ∷ []) ++ more) = append_assoc bytes (last ++ 10 ∷ []) more in
     let ended : private ++ more ≡ bytes ++ (last ++ 10 ∷ more) = grouped ∙ ap (λ l. bytes ++ l) (append_assoc last (10 ∷ []) more) in
     let says = items_say operator lead items bytes is.each made is.said.section ((last ++ 10 ∷ []) ++ more) in
@@ -123,11 +124,12 @@ digits_again clear operator lead items last bytes trailer is made all_bytes no_m
     ap disassembled (hexadecimal_parts (joined clear) private trailer)
     ∙ ap (λ (r : Result FontParts FontFault). r >>= λ p. source_of p (after_eexec p.clear)) (flat_parts file (unmarked (joined clear) coded some no_mark))
     ∙ ap (source_of parts) (clear_again clear coded is.front)
+    ∙ kind_again parts coded (joined clear) (before_again (joined clear) coded) is.kind
     ∙ ap (λ t. source_onto t parts (past_spaces (coded ++ []))) text
     ∙ ap (source_onto (joined clear) parts) spaces
     ∙ ap (plain_onto (joined clear) parts coded) plain
     ∙ plain_again (joined clear) parts coded (private ++ more) operator all more lead (ap (λ l. leading_bytes (lines l)) grouped ∙ says.1 ∙ is.said.leads) (ap (λ l. reading_operator (lines l)) grouped ∙ says.0 ∙ is.said.reads)
-    (ap (private_onto operator lead (joined clear) false) ended ∙ private_again operator lead items bytes (joined clear) last more is.said.name is.said.small is.each made is.end.line is.end.none is.end.closes)
+    (ap (private_onto operator lead (joined clear) false) ended ∙ private_again operator lead items bytes (joined clear) last more is.said.name is.said.small is.each made is.end.line is.end.none is.end.closes) (single_after (joined clear) (joined (source_lines items last)) is.single)
     ∙ ap (λ t. Ok (all ++ joined (tail_of (lines t)))) tail
 
 -- ---- the source's text

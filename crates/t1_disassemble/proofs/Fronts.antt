@@ -1,10 +1,13 @@
 -- The line at the front of some bytes.
-use Rattle.std.proofs.Common.{◌≡◌, ℕ, zero, suc, Bool, false, if◌then◌else◌, ◌-◌, ◌+◌, ◌≤◌, ◌<◌, List, [], ◌∷◌, length, drop, Option, None, Some, refl, sym, ap, ◌∙◌, inl, inr, arith}
+use Rattle.std.proofs.Common.{◌≡◌, ℕ, zero, suc, Bool, true, false, ◌==◌, ◌&&◌, if◌then◌else◌, ◌-◌, ◌+◌, ◌≤◌, ◌<◌, List, [], ◌∷◌, length, drop, Option, None, Some, refl, sym, ap, ◌∙◌, inl, inr, arith}
 use Rattle.std.proofs.lemmas.Bool.{cases_Bool}
 use Rattle.std.specs.List.{prefix_len}
+use Rattle.std.specs.Prelude.{find, option_map}
+use Rattle.t1_text.specs.Lines.{after_end, begins_with}
 use Rattle.t1_text.proofs.CutLaws.{line_gone}
 use Rattle.t1_parts.specs.Parts.{is_eexec}
-use Rattle.t1_disassemble.specs.Front.{line_len, front_line, past_line, after_eexec_within, after_eexec}
+use Rattle.t1_disassemble.specs.Front.{line_len, front_line, past_line, line_starts, after_eexec_line}
+use Rattle.t1_disassemble.proofs.CutPieces.{IsLeft, left_twice, first_gone, left_pieces}
 
 -- so many bytes from the front on pass a test; those after some of them are as many less
 prefix_later : (test : ℕ → Bool) (n : ℕ) (bytes : List ℕ) → n ≤ prefix_len test bytes → prefix_len test bytes - n ≡ prefix_len test (drop n bytes)
@@ -20,34 +23,44 @@ prefix_later test (suc n) (c ∷ bytes) h = elim (cases_Bool (test c)) [
 pub line_len_later : (known passed : ℕ) (bytes : List ℕ) → known ≡ line_len bytes → passed ≤ known → known - passed ≡ line_len (drop passed bytes)
 line_len_later known passed bytes e h = ap (λ n. n - passed) e ∙ prefix_later _ passed bytes (omega (arith, e, h))
 
--- ---- the eexec line doesn't depend on how many lines there might be
+-- ---- the eexec line is the first one, or stands behind it
 
-enough : (j k : ℕ) (bytes : List ℕ) → length bytes ≤ j → length bytes ≤ k → after_eexec_within j bytes ≡ after_eexec_within k bytes
-enough zero zero [] p q = refl
-enough zero (suc k) [] p q = refl
-enough (suc j) zero [] p q = refl
-enough (suc j) (suc k) [] p q = refl
-enough zero k (c ∷ bytes) p q = absurd (omega (arith, p))
-enough (suc j) zero (c ∷ bytes) p q = absurd (omega (arith, q))
-enough (suc j) (suc k) (c ∷ bytes) p q =
-    let shorter = line_gone (c ∷ bytes) (omega arith) in
-    ap (λ (found : Option (List ℕ)). if is_eexec (front_line (c ∷ bytes)) then Some (past_line (c ∷ bytes)) else found)
-    (enough j k (past_line (c ∷ bytes)) (omega (arith, shorter, p)) (omega (arith, shorter, q)))
+end_left : (l : List ℕ) → IsLeft l (after_end l)
+end_left [] = (0, refl)
+end_left (c ∷ rest) = elim (cases_Bool (c == 13 && begins_with 10 rest)) [
+  | inl t ↦ rw t (2, refl)
+  | inr f ↦ rw f (1, refl)
+]
 
-pub eexec_more : (bytes : List ℕ) → 0 < length bytes → after_eexec bytes ≡ (if is_eexec (front_line bytes) then Some (past_line bytes) else after_eexec (past_line bytes))
-unfolding after_eexec
+pub line_left : (l : List ℕ) → IsLeft l (past_line l)
+line_left l = left_twice l (drop (line_len l) l) (past_line l) (line_len l, refl) (end_left (drop (line_len l) l))
+
+-- the bytes from each line on: all, and those from the lines after the first on
+pub starts_more : (c : ℕ) (bytes : List ℕ) → line_starts (c ∷ bytes) ≡ (c ∷ bytes) ∷ line_starts (past_line (c ∷ bytes))
+starts_more c bytes =
+    let gone = first_gone c bytes (past_line (c ∷ bytes)) (line_left (c ∷ bytes)) (line_gone (c ∷ bytes) (omega arith)) in
+    ap (λ (froms : List (List ℕ)). (c ∷ bytes) ∷ froms) (left_pieces past_line bytes (past_line (c ∷ bytes)) gone)
+
+abbrev begins_eexec : List ℕ → Bool
+begins_eexec from = is_eexec (front_line from)
+
+chosen : (here : Bool) (bytes : List ℕ) (other : Option (List ℕ)) → option_map past_line (if here then Some bytes else other) ≡ (if here then Some (past_line bytes) else option_map past_line other)
+chosen true bytes other = refl
+chosen false bytes other = refl
+
+pub eexec_more : (bytes : List ℕ) → 0 < length bytes → after_eexec_line bytes ≡ (if is_eexec (front_line bytes) then Some (past_line bytes) else after_eexec_line (past_line bytes))
+unfolding after_eexec_line
 eexec_more [] h = absurd (omega (arith, h))
 eexec_more (c ∷ bytes) h =
-    let shorter = line_gone (c ∷ bytes) (omega arith) in
-    ap (λ (found : Option (List ℕ)). if is_eexec (front_line (c ∷ bytes)) then Some (past_line (c ∷ bytes)) else found)
-    (enough (length bytes) (length (past_line (c ∷ bytes))) (past_line (c ∷ bytes)) (omega (arith, shorter)) (omega arith))
+    ap (λ (froms : List (List ℕ)). option_map past_line (find begins_eexec froms)) (starts_more c bytes)
+    ∙ chosen (is_eexec (front_line (c ∷ bytes))) (c ∷ bytes) (find begins_eexec (line_starts (past_line (c ∷ bytes))))
 
-pub no_eexec : (bytes : List ℕ) → length bytes ≡ 0 → after_eexec bytes ≡ None
-unfolding after_eexec
+pub no_eexec : (bytes : List ℕ) → length bytes ≡ 0 → after_eexec_line bytes ≡ None
+unfolding after_eexec_line
 no_eexec [] h = refl
 no_eexec (c ∷ bytes) h = absurd (omega (arith, h))
 
-pub eexec_later : (bytes line after : List ℕ) → 0 < length bytes → line ≡ front_line bytes → after ≡ past_line bytes → is_eexec line ≡ false → after_eexec after ≡ after_eexec bytes
+pub eexec_later : (bytes line after : List ℕ) → 0 < length bytes → line ≡ front_line bytes → after ≡ past_line bytes → is_eexec line ≡ false → after_eexec_line after ≡ after_eexec_line bytes
 eexec_later bytes line after some is past off =
     let not_here : is_eexec (front_line bytes) ≡ false = ap is_eexec (sym is) ∙ off in
-    ap after_eexec past ∙ sym (eexec_more bytes some ∙ ap (λ (t : Bool). if t then Some (past_line bytes) else after_eexec (past_line bytes)) not_here)
+    ap after_eexec_line past ∙ sym (eexec_more bytes some ∙ ap (λ (t : Bool). if t then Some (past_line bytes) else after_eexec_line (past_line bytes)) not_here)

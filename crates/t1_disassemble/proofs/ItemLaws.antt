@@ -25,8 +25,10 @@ use Rattle.t1_parts.specs.Printing.{item_lines, entry_lines, last_line}
 use Rattle.t1_parts.proofs.EntryLaws.{digits_regular, name_regular}
 use Rattle.t1_disassemble.specs.declared.fault.FontFault.{FontFault}
 use Rattle.t1_disassemble.specs.Laws.{plain_word, plain_item, item_text, items_text, reads_line, reads_closing, reads_item}
+use Rattle.t1_disassemble.specs.Layouts.{begins_border}
 use Rattle.t1_disassemble.specs.Opening.{Opening, first_opening}
-use Rattle.t1_disassemble.specs.PrivateText.{head_line, private_onto}
+use Rattle.t1_disassemble.specs.PiecesOnto.{private_onto}
+use Rattle.t1_disassemble.specs.PrivateText.{head_line}
 use Rattle.t1_disassemble.specs.Words.{words_of_encrypted, printed_words}
 use Rattle.t1_disassemble.proofs.FrontLaws.{IsToken, regular_token}
 use Rattle.t1_disassemble.proofs.PieceLaws.{Opens, three, three_more, glyph_opens, subr_opens, plain_again, last_again, entry_more}
@@ -42,13 +44,15 @@ record Reads (operator line : List ℕ) : Type 0 where
   whole : is_line line ≡ true
   none : first_opening operator (places_from 0 line) ≡ None
   stays : is_closefile line ≡ false
+  alone : begins_border line ≡ false
 
 reads : (operator line : List ℕ) → reads_line operator line ≡ true → Reads operator line
 reads operator line h =
     let found = first_opening operator (places_from 0 line) in
-    let outer = and_parts (is_line line && is_none found) (not (is_closefile line)) h in
+    let all = and_parts (is_line line && is_none found && not (is_closefile line)) (not (begins_border line)) h in
+    let outer = and_parts (is_line line && is_none found) (not (is_closefile line)) all.0 in
     let inner = and_parts (is_line line) (is_none found) outer.0 in
-    record { whole = inner.0; none = none_of found inner.1; stays = not-true (is_closefile line) outer.1 }
+    record { whole = inner.0; none = none_of found inner.1; stays = not-true (is_closefile line) outer.1; alone = not-true (begins_border line) all.1 }
 
 -- what is read of bytes, whatever comes after them: these lines
 abbrev pub Gives : List ℕ → ℕ → List ℕ → List (List ℕ) → Type 0
@@ -58,7 +62,7 @@ line_gives : (operator : List ℕ) (lead : ℕ) (line : List ℕ) → reads_line
 line_gives operator lead line h text rest =
     let r = reads operator line h in
     ap (private_onto operator lead text false) (append_assoc line (10 ∷ []) rest)
-    ∙ plain_again operator lead text false line rest r.whole r.none r.stays
+    ∙ plain_again operator lead text false line rest r.whole r.none r.stays r.alone
     ∙ ap (λ t. private_onto operator lead (text ++ t) false rest) (sym (append-nil (line ++ 10 ∷ [])))
 
 -- ---- a closing text
@@ -76,7 +80,7 @@ closing_gives operator lead text closing rest h =
     let parts = and_parts (bytes_eq (trimmed closing) closing) (reads_line operator (closing_text closing)) h in
     let r = reads operator (closing_text closing) parts.1 in
     let bare = trimmed_closing closing ((bytes_eq-Decides (trimmed closing) closing).0 parts.0) in
-    plain_again operator lead text true (closing_text closing) rest r.whole r.none r.stays
+    plain_again operator lead text true (closing_text closing) rest r.whole r.none r.stays r.alone
     ∙ ap (λ l. private_onto operator lead (text ++ (last_line l ++ 10 ∷ [])) false rest) bare
 
 -- ---- an entry

@@ -1,10 +1,12 @@
 pub mod AlikeLaws
+pub mod CutPieces
 pub mod Deciphering
 pub mod DigitFileLaws
 pub mod DigitLaws
 pub mod FrontLaws
 pub mod Fronts
 pub mod ItemLaws
+pub mod KindLaws
 pub mod Openings
 pub mod PieceLaws
 pub mod Pieces
@@ -12,5 +14,6 @@ pub mod PlainWords
 pub mod Reading
 pub mod SegmentLaws
 pub mod Segmented
+pub mod Sources
 pub mod WholeLaws
 pub mod WordLaws

@@ -1,8 +1,9 @@
 -- Lines and entries of a private text read back.
-use Rattle.std.proofs.Common.{◌≡◌, ℕ, Bool, true, false, ◌+◌, List, [], ◌∷◌, ◌++◌, length, drop, codes, Option, None, Some, Result, Ok, refl, ap, ◌∙◌, append-nil, append_assoc, length-append, arith}
-use Rattle.std.proofs.lemmas.Bool.{ne_eqb, le-ltb}
+use Rattle.std.proofs.Common.{◌≡◌, ◌⊎◌, ℕ, Bool, true, false, not, ◌&&◌, ◌+◌, List, [], ◌∷◌, ◌++◌, length, drop, codes, Option, None, Some, Result, Ok, refl, ap, ◌∙◌, append-nil, append_assoc, length-append, inl, inr, arith}
+use Rattle.std.proofs.lemmas.Bool.{cases_Bool, ne_eqb, le-ltb}
 use Rattle.std.proofs.lemmas.List.{take_at, drop_at}
 use Rattle.std.proofs.lemmas.Slice.Eq.{bytes_eq-Decides}
+use Rattle.std.specs.Prelude.{is_none}
 use Rattle.std.specs.Str.{bytes_eq}
 use Rattle.t1_frac.specs.Outcome.{◌>>=◌}
 use Rattle.t1_frac.specs.Numbers.{decimal_value}
@@ -12,35 +13,73 @@ use Rattle.t1_text.specs.Tokens.{places_from}
 use Rattle.t1_parts.specs.Parts.{is_closefile}
 use Rattle.t1_disassemble.specs.declared.fault.FontFault.{FontFault}
 use Rattle.t1_disassemble.specs.Front.{front_line, past_line}
+use Rattle.t1_disassemble.specs.Layouts.{is_border, begins_border, one_line, are_one}
 use Rattle.t1_disassemble.specs.Opening.{Opening, glyph_opening, subr_opening, subr_here, opening_here, or_other, first_opening}
-use Rattle.t1_disassemble.specs.PrivateText.{PieceRead, plain_text, head_line, entry_left, entry_onto, piece_onto, read_piece, go_on, private_onto}
+use Rattle.t1_disassemble.specs.PiecesOnto.{entry_left, entry_onto, piece_onto, read_onto, private_onto}
+use Rattle.t1_disassemble.specs.PrivateText.{PieceRead, plain_text, head_line, goes_on, source_line, past_source_line}
+use Rattle.t1_disassemble.specs.Settings.{is_section}
 use Rattle.t1_disassemble.specs.Words.{words_of_encrypted, printed_words}
 use Rattle.t1_disassemble.proofs.FrontLaws.{front_append, line_front, line_past, lines_parts, IsToken, token_place, token_line}
 use Rattle.t1_disassemble.proofs.Openings.{here_glyph, here_other}
-use Rattle.t1_disassemble.proofs.Pieces.{private_more}
+use Rattle.t1_disassemble.proofs.Pieces.{go_on, private_more}
 
--- ---- a line on which nothing opens
+-- ---- a line on which nothing opens, and that doesn't go on with the next
+
+never_first : (a b c d : Bool) → b ≡ false → (not a && b && c && d) ≡ false
+never_first true b c d h = refl
+never_first false b c d h = rw h refl
+
+never_border : (a b c d : Bool) → a ≡ true → (not a && b && c && d) ≡ false
+never_border a b c d h = rw h refl
+
+-- it may not go on, or is a border by itself
+abbrev Alone : List ℕ → Type 0
+Alone line = (begins_border line ≡ false) ⊎ (is_border line ≡ true)
+
+not_one : (l m : List ℕ) → Alone l → are_one l m ≡ false
+not_one l m (inl h) = never_first (is_border l) (begins_border l) (not (is_border m)) (is_border (one_line l m)) h
+not_one l m (inr h) = never_border (is_border l) (begins_border l) (not (is_border m)) (is_border (one_line l m)) h
+
+stays_one : (operator line rest : List ℕ) → is_line line ≡ true → Alone line → goes_on operator (line ++ 10 ∷ rest) ≡ false
+stays_one operator line rest whole alone =
+    let bytes = line ++ 10 ∷ rest in
+    let next = front_line (past_line bytes) in
+    ap (λ (l : List ℕ). are_one l next && is_none (first_opening operator (places_from 0 next))) (line_front line rest whole)
+    ∙ ap (λ (one : Bool). one && is_none (first_opening operator (places_from 0 next))) (not_one line next alone)
+
+source_again : (operator line rest : List ℕ) → is_line line ≡ true → Alone line → source_line operator (line ++ 10 ∷ rest) ≡ line
+source_again operator line rest whole alone = rw (stays_one operator line rest whole alone) (line_front line rest whole)
+
+past_again : (operator line rest : List ℕ) → is_line line ≡ true → Alone line → past_source_line operator (line ++ 10 ∷ rest) ≡ rest
+past_again operator line rest whole alone = rw (stays_one operator line rest whole alone) (line_past line rest whole)
+
+closes_alone : (line : List ℕ) → is_closefile line ≡ true → Alone line
+closes_alone line h = inr (elim (cases_Bool (is_section line)) [
+  | inl t ↦ rw t refl
+  | inr f ↦ rw f h
+])
 
 made : List ℕ → Bool → List ℕ → List ℕ → PieceRead
 made text waits line rest = record { text = text ++ plain_text waits line; waits = false; rest = rest; is_last = is_closefile line }
 
-plain_read : (operator : List ℕ) (lead : ℕ) (text : List ℕ) (waits : Bool) (line rest : List ℕ) → is_line line ≡ true → first_opening operator (places_from 0 line) ≡ None
-    → read_piece operator lead text waits (line ++ 10 ∷ rest) ≡ Ok (made text waits line rest)
-unfolding read_piece made
-plain_read operator lead text waits line rest whole none =
+plain_read : (operator : List ℕ) (lead : ℕ) (text : List ℕ) (waits : Bool) (line rest : List ℕ) → is_line line ≡ true → first_opening operator (places_from 0 line) ≡ None → Alone line
+    → read_onto operator lead text waits (line ++ 10 ∷ rest) ≡ Ok (made text waits line rest)
+unfolding read_onto made
+plain_read operator lead text waits line rest whole none alone =
     let bytes = line ++ 10 ∷ rest in
     let front = line_front line rest whole in
     rw (ne_eqb (length bytes) 0 (omega (arith, length-append line (10 ∷ rest))))
-    (ap (λ (o : Option Opening). piece_onto lead text waits bytes o) (ap (λ (l : List ℕ). first_opening operator (places_from 0 l)) front ∙ none)
-    ∙ ap (λ (l : List ℕ). Ok (made text waits l (past_line bytes))) front ∙ ap (λ (r : List ℕ). Ok (made text waits line r)) (line_past line rest whole))
+    (ap (λ (o : Option Opening). piece_onto operator lead text waits bytes o) (ap (λ (l : List ℕ). first_opening operator (places_from 0 l)) front ∙ none)
+    ∙ ap (λ (l : List ℕ). Ok (made text waits l (past_source_line operator bytes))) (source_again operator line rest whole alone)
+    ∙ ap (λ (r : List ℕ). Ok (made text waits line r)) (past_again operator line rest whole alone))
 
 -- a line that doesn't close the encrypted part, and what comes after it
-pub plain_again : (operator : List ℕ) (lead : ℕ) (text : List ℕ) (waits : Bool) (line rest : List ℕ) → is_line line ≡ true → first_opening operator (places_from 0 line) ≡ None → is_closefile line ≡ false
+pub plain_again : (operator : List ℕ) (lead : ℕ) (text : List ℕ) (waits : Bool) (line rest : List ℕ) → is_line line ≡ true → first_opening operator (places_from 0 line) ≡ None → is_closefile line ≡ false → begins_border line ≡ false
     → private_onto operator lead text waits (line ++ 10 ∷ rest) ≡ private_onto operator lead (text ++ plain_text waits line) false rest
 unfolding made
-plain_again operator lead text waits line rest whole none stays =
+plain_again operator lead text waits line rest whole none stays alone =
     private_more operator lead text waits (line ++ 10 ∷ rest)
-    ∙ ap (λ (r : Result PieceRead FontFault). r >>= go_on (private_onto operator lead)) (plain_read operator lead text waits line rest whole none) ∙ rw stays refl
+    ∙ ap (λ (r : Result PieceRead FontFault). r >>= go_on (private_onto operator lead)) (plain_read operator lead text waits line rest whole none (inl alone)) ∙ rw stays refl
 
 -- the line that closes it
 pub last_again : (operator : List ℕ) (lead : ℕ) (text : List ℕ) (line rest : List ℕ) → is_line line ≡ true → first_opening operator (places_from 0 line) ≡ None → is_closefile line ≡ true
@@ -48,7 +87,7 @@ pub last_again : (operator : List ℕ) (lead : ℕ) (text : List ℕ) (line rest
 unfolding made
 last_again operator lead text line rest whole none closes =
     private_more operator lead text false (line ++ 10 ∷ rest)
-    ∙ ap (λ (r : Result PieceRead FontFault). r >>= go_on (private_onto operator lead)) (plain_read operator lead text false line rest whole none) ∙ rw closes refl
+    ∙ ap (λ (r : Result PieceRead FontFault). r >>= go_on (private_onto operator lead)) (plain_read operator lead text false line rest whole none (closes_alone line closes)) ∙ rw closes refl
 
 -- ---- an entry
 
@@ -64,13 +103,13 @@ pub record Opens (operator head name : List ℕ) (count end : ℕ) : Type 0 wher
   pub opens : (rest : List ℕ) → first_opening operator (places_from 0 (head ++ rest)) ≡ Some (record { at = 0; name = name; count = count; end = end })
 
 entry_read : (operator : List ℕ) (lead : ℕ) (text head name code more : List ℕ) (ws : List (List ℕ)) (end : ℕ) → Opens operator head name (length code) end → words_of_encrypted lead code ≡ Ok ws
-    → read_piece operator lead text false (head ++ (code ++ more)) ≡ Ok (entry_left ((text ++ head_line name) ++ printed_words false ws) more)
-unfolding read_piece
+    → read_onto operator lead text false (head ++ (code ++ more)) ≡ Ok (entry_left ((text ++ head_line name) ++ printed_words false ws) more)
+unfolding read_onto
 entry_read operator lead text head name code more ws end is said =
     let bytes = head ++ (code ++ more) in
     let o : Opening = record { at = 0; name = name; count = length code; end = end } in
     rw (ne_eqb (length bytes) 0 (omega (arith, is.size, length-append head (code ++ more))))
-    (ap (λ (found : Option Opening). piece_onto lead text false bytes found)
+    (ap (λ (found : Option Opening). piece_onto operator lead text false bytes found)
     (ap (λ (l : List ℕ). first_opening operator (places_from 0 l)) (front_append head (code ++ more) is.line) ∙ is.opens (front_line (code ++ more)))
     ∙ ap (λ (t : List ℕ). entry_onto lead t o (drop (end + 1) bytes)) (append-nil text)
     ∙ ap (entry_onto lead text o) (drop_at head (code ++ more) (end + 1) is.size)

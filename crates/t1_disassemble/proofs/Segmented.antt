@@ -1,35 +1,36 @@
 -- The segments of a file, one after another.
-use Rattle.std.proofs.Common.{◌≡◌, ℕ, zero, suc, ltb, ◌==◌, ◌||◌, ◌<◌, ◌-◌, List, [], ◌∷◌, length, Option, None, Some, Result, Ok, Err, refl, ap, ◌∙◌, inl, inr, arith}
+use Rattle.std.proofs.Common.{◌≡◌, ℕ, ltb, ◌==◌, ◌||◌, ◌-◌, List, [], ◌∷◌, length, Option, None, Some, Result, Ok, Err, refl, ap, ◌∙◌, inl, inr}
 use Rattle.std.proofs.lemmas.Bool.{cases_Bool}
-use Rattle.std.proofs.lemmas.List.{length-drop}
 use Rattle.std.specs.Int.{w32, from_le_bytes}
 use Rattle.t1_frac.specs.Outcome.{◌>>=◌}
 use Rattle.t1_disassemble.specs.declared.fault.FontCode.{FontCode}
 use Rattle.t1_disassemble.specs.declared.fault.FontFault.{FontFault}
 use Rattle.t1_disassemble.specs.declared.fault.FontPlace.{FontPlace}
 use Rattle.t1_disassemble.specs.declared.fault.FontPlace.TheVariants.{Byte}
+use Rattle.t1_disassemble.specs.Cuts.{pieces_after}
 use Rattle.t1_disassemble.specs.Outcome.{reported_at}
-use Rattle.t1_disassemble.specs.SegmentsRead.{Segment, FontParts, cut_segment, segment_after, some_found, typed_segment, segment_at, placed_segment, before_others, segments_within, segments_of, parts_onto, with_segment}
+use Rattle.t1_disassemble.specs.SegmentsRead.{Segment, FontParts, cut_segment, segment_after, some_found, typed_segment, segment_at, segment_left, placed_segment, before_others, segments_at, segments_of, parts_onto, with_segment}
+use Rattle.t1_disassemble.proofs.CutPieces.{IsLeft, left_twice, left_pieces}
 
--- what stands after a segment is shorter
-abbrev Leaves : {E : Type 0} → List ℕ → Result (Segment × List ℕ) E → Type 0
-Leaves rest (Ok found) = length found.1 < suc (length rest)
+-- what stands after a segment is what is left
+abbrev Leaves : List ℕ → Result (Segment × List ℕ) FontCode → Type 0
+Leaves rest (Ok found) = IsLeft rest found.1
 Leaves rest (Err e) = Unit {0}
 
--- the same, where there is a segment
-abbrev pub Shorter : {E : Type 0} → List ℕ → Result (Option (Segment × List ℕ)) E → Type 0
-Shorter rest (Ok (Some found)) = length found.1 < length rest
-Shorter rest (Ok None) = Unit {0}
-Shorter rest (Err e) = Unit {0}
+-- the same of what stands after the first byte, where there is a segment
+abbrev LeavesMaybe : List ℕ → Result (Option (Segment × List ℕ)) FontCode → Type 0
+LeavesMaybe rest (Ok (Some found)) = IsLeft rest found.1
+LeavesMaybe rest (Ok None) = Unit {0}
+LeavesMaybe rest (Err e) = Unit {0}
 
 cut_leaves : (kind count : ℕ) (rest : List ℕ) → Leaves rest (cut_segment kind count rest)
 cut_leaves kind count rest = elim (cases_Bool (ltb (length rest) count)) [
   | inl t ↦ rw t tt
-  | inr f ↦ rw f (omega (arith, length-drop count rest))
+  | inr f ↦ rw f (count, refl)
 ]
 
 four_leaves : (a b c d : ℕ) (rest : List ℕ) (found : Result (Segment × List ℕ) FontCode) → Leaves rest found → Leaves (a ∷ b ∷ c ∷ d ∷ rest) found
-four_leaves a b c d rest (Ok found) h = omega (arith, h)
+four_leaves a b c d rest (Ok found) h = left_twice (a ∷ b ∷ c ∷ d ∷ rest) rest found.1 (4, refl) h
 four_leaves a b c d rest (Err code) h = tt
 
 after_leaves : (kind : ℕ) (rest : List ℕ) → Leaves rest (segment_after kind rest)
@@ -41,56 +42,48 @@ after_leaves kind (a ∷ b ∷ c ∷ d ∷ rest) =
     let count = from_le_bytes w32 (a ∷ b ∷ c ∷ d ∷ []) in
     four_leaves a b c d rest (cut_segment kind count rest) (cut_leaves kind count rest)
 
-some_shorter : (first kind : ℕ) (rest : List ℕ) (found : Result (Segment × List ℕ) FontCode) → Leaves rest found → Shorter (first ∷ kind ∷ rest) (some_found found)
-some_shorter first kind rest (Ok found) h = omega (arith, h)
-some_shorter first kind rest (Err code) h = tt
+some_leaves : (kind : ℕ) (rest : List ℕ) (found : Result (Segment × List ℕ) FontCode) → Leaves rest found → LeavesMaybe (kind ∷ rest) (some_found found)
+some_leaves kind rest (Ok found) h = left_twice (kind ∷ rest) rest found.1 (1, refl) h
+some_leaves kind rest (Err code) h = tt
 
-typed_shorter : (first kind : ℕ) (rest : List ℕ) → Shorter (first ∷ kind ∷ rest) (typed_segment kind rest)
-typed_shorter first kind rest = elim (cases_Bool (kind == 3)) [
+typed_leaves : (kind : ℕ) (rest : List ℕ) → LeavesMaybe (kind ∷ rest) (typed_segment kind rest)
+typed_leaves kind rest = elim (cases_Bool (kind == 3)) [
   | inl t ↦ rw t tt
   | inr f ↦ rw f (elim (cases_Bool (kind == 1 || kind == 2)) [
-    | inl t ↦ rw t (some_shorter first kind rest (segment_after kind rest) (after_leaves kind rest))
+    | inl t ↦ rw t (some_leaves kind rest (segment_after kind rest) (after_leaves kind rest))
     | inr g ↦ rw g tt
   ])
 ]
 
-at_shorter : (rest : List ℕ) → Shorter rest (segment_at rest)
-at_shorter [] = tt
-at_shorter (first ∷ []) = tt
-at_shorter (first ∷ kind ∷ rest) = elim (cases_Bool (first == 128)) [
-  | inl t ↦ rw t (typed_shorter first kind rest)
+at_leaves : (first : ℕ) (rest : List ℕ) → LeavesMaybe rest (segment_at (first ∷ rest))
+at_leaves first [] = tt
+at_leaves first (kind ∷ rest) = elim (cases_Bool (first == 128)) [
+  | inl t ↦ rw t (typed_leaves kind rest)
   | inr f ↦ rw f tt
 ]
 
-reported_shorter : (place : FontPlace) (rest : List ℕ) (found : Result (Option (Segment × List ℕ)) FontCode) → Shorter rest found → Shorter rest (reported_at place found)
-reported_shorter place rest (Ok (Some found)) h = h
-reported_shorter place rest (Ok None) h = tt
-reported_shorter place rest (Err code) h = tt
+-- ---- the first segment, and those after it
 
-pub placed_shorter : (total : ℕ) (rest : List ℕ) → Shorter rest (placed_segment total rest)
-placed_shorter total rest = reported_shorter (Byte (total - length rest)) rest (segment_at rest) (at_shorter rest)
+-- what comes after a segment, of the bytes that it leaves
+abbrev before_rest : ℕ → Option (Segment × List ℕ) → Result (List Segment) FontFault
+before_rest total None = Ok []
+before_rest total (Some found) = segments_of total found.1 >>= λ more. Ok (found.0 ∷ more)
 
--- ---- the segments of a file don't depend on how many it might have
+abbrev after_first : List ℕ → List ℕ
+after_first bytes = segment_left (segment_at bytes)
 
-then_alike : (rest : List ℕ) (found : Result (Option (Segment × List ℕ)) FontFault) (f g : List ℕ → Result (List Segment) FontFault) → Shorter rest found
-    → ((after : List ℕ) → length after < length rest → f after ≡ g after) → (found >>= before_others f) ≡ (found >>= before_others g)
-then_alike rest (Ok (Some found)) f g h same = ap (λ (r : Result (List Segment) FontFault). r >>= λ more. Ok (found.0 ∷ more)) (same found.1 h)
-then_alike rest (Ok None) f g h same = refl
-then_alike rest (Err fault) f g h same = refl
-
-pub enough : (j k total : ℕ) (rest : List ℕ) → length rest < j → length rest < k → segments_within j total rest ≡ segments_within k total rest
-enough zero k total rest p q = absurd (omega arith)
-enough (suc j) zero total rest p q = absurd (omega arith)
-enough (suc j) (suc k) total rest p q =
-    then_alike rest (placed_segment total rest) (segments_within j total) (segments_within k total) (placed_shorter total rest)
-    (λ after h. enough j k total after (omega (arith, h, p)) (omega (arith, h, q)))
-
--- the first one, and those after it
-pub one_more : (total : ℕ) (rest : List ℕ) → segments_of total rest ≡ (placed_segment total rest >>= before_others (segments_of total))
+found_more : (total : ℕ) (place : FontPlace) (rest : List ℕ) (found : Result (Option (Segment × List ℕ)) FontCode) → LeavesMaybe rest found
+    → (reported_at place found >>= before_others (segments_at total (pieces_after after_first (length rest - length (segment_left found)) rest))) ≡ (reported_at place found >>= before_rest total)
 unfolding segments_of
-one_more total rest =
-    then_alike rest (placed_segment total rest) (segments_within (length rest) total) (λ after. segments_within (suc (length after)) total after) (placed_shorter total rest)
-    (λ after h. enough (length rest) (suc (length after)) total after h (omega arith))
+found_more total place rest (Ok (Some found)) h =
+    ap (λ (froms : List (List ℕ)). segments_at total froms >>= λ more. Ok (found.0 ∷ more)) (left_pieces after_first rest found.1 h)
+found_more total place rest (Ok None) h = refl
+found_more total place rest (Err code) h = refl
+
+one_more : (total : ℕ) (rest : List ℕ) → segments_of total rest ≡ (placed_segment total rest >>= before_rest total)
+unfolding segments_of
+one_more total [] = refl
+one_more total (first ∷ rest) = found_more total (Byte (total - length (first ∷ rest))) rest (segment_at (first ∷ rest)) (at_leaves first rest)
 
 -- ---- each segment is put into its part
 
@@ -105,7 +98,7 @@ onto_first parts s (Ok more) = refl
 onto_first parts s (Err fault) = refl
 
 onto_found : (parts : FontParts) (total : ℕ) (found : Result (Option (Segment × List ℕ)) FontFault)
-    → parts_onto parts (found >>= before_others (segments_of total)) ≡ (found >>= parts_after parts total)
+    → parts_onto parts (found >>= before_rest total) ≡ (found >>= parts_after parts total)
 onto_found parts total (Ok (Some found)) = onto_first parts found.0 (segments_of total found.1)
 onto_found parts total (Ok None) = refl
 onto_found parts total (Err fault) = refl

@@ -1,5 +1,5 @@
 -- The words of charstrings that commands made.
-use Rattle.std.proofs.Common.{◌≡◌, ℕ, ℤ, suc, true, ◌+◌, ◌*◌, ◌^◌, ◌≤◌, ◌<◌, List, [], ◌∷◌, ◌++◌, length, map, Result, Ok, Err, refl, sym, ap, ◌∙◌, subst, inl, inr, arith, pos, negsuc, FitsSigned, w32}
+use Rattle.std.proofs.Common.{◌≡◌, ℕ, ℤ, suc, true, ◌+◌, ◌*◌, ◌^◌, ◌≤◌, ◌<◌, List, [], ◌∷◌, ◌++◌, map, Result, Ok, refl, sym, ap, ◌∙◌, inl, inr, arith, pos, negsuc, FitsSigned, w32}
 use Rattle.std.proofs.lemmas.Bool.{lt-ltb, le-ltb}
 use Rattle.std.specs.Fmt.{decimal, signed_decimal}
 use Rattle.std.specs.Int.{cast_signed, from_be_bytes}
@@ -11,15 +11,9 @@ use Rattle.t1_code.specs.declared.command.Command.TheVariants.{Num}
 use Rattle.t1_code.specs.Charstring.{Spells, SpellsNumber, SpellsAll, AllFit, Fits32Bits}
 use Rattle.t1_code.specs.Words.{command_of_word, commands_of_words, number_of_word, operator_named, operator_words, fits_32_bits}
 use Rattle.t1_disassemble.specs.declared.fault.FontCode.{FontCode}
-use Rattle.t1_disassemble.specs.declared.fault.FontCode.TheVariants.{D7}
 use Rattle.t1_disassemble.specs.CommandWords.{command_word}
-use Rattle.t1_disassemble.specs.Words.{word_at, words_of}
-use Rattle.t1_disassemble.proofs.Reading.{Shortens, word_shortens, enough, then_words, number_is_word}
-
--- the word at the front of a charstring
-abbrev front_word : List ℕ → Result (List ℕ × List ℕ) FontCode
-front_word [] = Err D7
-front_word (v ∷ rest) = word_at v rest
+use Rattle.t1_disassemble.specs.Words.{word_at, front_word, words_of}
+use Rattle.t1_disassemble.proofs.Reading.{words_more, then_words, number_is_word}
 
 abbrev spelled : List ℕ → ℤ → Result (List ℕ × List ℕ) FontCode
 spelled rest n = Ok (signed_decimal n, rest)
@@ -55,15 +49,9 @@ unfolding word_at
 word_again a (Num n) x h = number_again a n x h
 word_again a command x h = rw h refl
 
-short_of : (v : ℕ) (rest w after : List ℕ) → word_at v rest ≡ Ok (w, after) → length after ≤ length rest
-short_of v rest w after e = subst (λ (found : Result (List ℕ × List ℕ) FontCode). Shortens rest found) e (word_shortens v rest)
-
 one_word : (code w after : List ℕ) → front_word code ≡ Ok (w, after) → words_of code ≡ (words_of after >>= λ words. Ok (w ∷ words))
-unfolding words_of
 one_word [] w after e = absurd (cc)
-one_word (v ∷ rest) w after e =
-    ap (then_words (length rest)) e
-    ∙ ap (λ (r : Result (List (List ℕ)) FontCode). r >>= λ words. Ok (w ∷ words)) (enough (length rest) (length after) after (short_of v rest w after e) (omega arith))
+one_word (v ∷ rest) w after e = words_more v rest ∙ ap then_words e
 
 no_words : words_of [] ≡ Ok []
 unfolding words_of

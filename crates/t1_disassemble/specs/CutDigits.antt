@@ -1,7 +1,7 @@
 -- A private text in hexadecimal that ends too early, since another byte stands among its digits.
 use Rattle.std.specs.Prelude.{ℕ, Bool, true, false, ◌&&◌, ◌+◌, nat_lt, if◌then◌else◌, List, length, Result, Ok, Err}
 use Rattle.t1_disassemble.specs.declared.fault.FontCode.{FontCode}
-use Rattle.t1_disassemble.specs.declared.fault.FontCode.TheVariants.{D1, D2, D3, D4, D5, D6, D7, D8, D9}
+use Rattle.t1_disassemble.specs.declared.fault.FontCode.TheVariants.{D1, D2, D3, D4, D5, D6, D7, D8, D9, D10, D11, D12, D13}
 use Rattle.t1_disassemble.specs.declared.fault.FontFault.{FontFault}
 use Rattle.t1_disassemble.specs.declared.fault.FontPlace.TheVariants.{Byte}
 use Rattle.t1_disassemble.specs.declared.fault.FontRefusal.{FontRefusal}
@@ -20,6 +20,10 @@ is_early D6 = false
 is_early D7 = false
 is_early D8 = false
 is_early D9 = false
+is_early D10 = false
+is_early D11 = false
+is_early D12 = false
+is_early D13 = false
 
 -- Type 1 Font Format, 7.2 (eexec): digits with another byte among them, before the end
 abbrev pub is_cut : List ℕ → Bool

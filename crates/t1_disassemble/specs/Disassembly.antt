@@ -1,5 +1,5 @@
 -- The source of a font's file.
-use Rattle.std.specs.Prelude.{ℕ, ◌+◌, ◌*◌, ◌-◌, ◌==◌, false, if◌then◌else◌, Option, None, Some, List, ◌++◌, drop, length, Result, Ok, Err}
+use Rattle.std.specs.Prelude.{ℕ, ◌+◌, ◌*◌, ◌-◌, ◌==◌, if◌then◌else◌, Option, None, Some, List, ◌++◌, drop, length, Result, Ok, Err}
 use Rattle.t1_frac.specs.Outcome.{◌>>=◌}
 use Rattle.t1_text.specs.Lines.{lines, joined}
 use Rattle.t1_parts.specs.Parts.{tail_of}
@@ -10,8 +10,9 @@ use Rattle.t1_disassemble.specs.CutDigits.{with_digits}
 use Rattle.t1_disassemble.specs.Decipher.{decrypted_private}
 use Rattle.t1_disassemble.specs.Digits.{digit_bytes, after_digits, is_hexadecimal}
 use Rattle.t1_disassemble.specs.Front.{after_eexec, before_rest, past_line, past_spaces}
+use Rattle.t1_disassemble.specs.Kinds.{plain_kind, single_sections}
 use Rattle.t1_disassemble.specs.Outcome.{fault_at, reported_at}
-use Rattle.t1_disassemble.specs.PrivateText.{private_onto}
+use Rattle.t1_disassemble.specs.PrivateText.{private_text}
 use Rattle.t1_disassemble.specs.SegmentsRead.{FontParts, font_parts}
 use Rattle.t1_disassemble.specs.Settings.{reading_operator, leading_bytes}
 
@@ -31,21 +32,24 @@ tail_after parts coded count = if length parts.coded == 0 then after_coded coded
 abbrev pub coded_place : FontParts → List ℕ → ℕ
 coded_place parts coded = length parts.clear + length parts.coded - length coded
 
--- profile: the source of the parts of a file, whose encrypted part and private text these are, after the lines of the clear text
-abbrev pub plain_onto : List ℕ → FontParts → List ℕ → List ℕ → Result (List ℕ) FontFault
-plain_onto text parts coded plain =
+-- Type 1 Font Format, Chapter 2: the lines of the private text that this encrypted part holds, and those of the tail
+abbrev pub private_source : FontParts → List ℕ → List ℕ → Result (List ℕ) FontFault
+private_source parts coded plain =
     reported_at Nowhere (leading_bytes (lines plain)) >>= λ lead.
-    with_digits (coded_place parts coded) coded (private_onto (reading_operator (lines plain)) lead text false plain) >>= λ private.
+    with_digits (coded_place parts coded) coded (private_text (reading_operator (lines plain)) lead plain) >>= λ private.
+    single_sections private.0 >>= λ single.
     Ok (private.0 ++ joined (tail_of (lines (tail_after parts coded (4 + (length plain - length private.1))))))
 
--- profile: the same, of the encrypted part alone
-abbrev pub source_onto : List ℕ → FontParts → List ℕ → Result (List ℕ) FontFault
-source_onto text parts coded = plain_onto text parts coded (decrypted_private (coded_bytes coded))
+-- Type 1 Font Format, 7.2 (eexec): the same, of the encrypted part alone
+abbrev pub coded_source : FontParts → List ℕ → Result (List ℕ) FontFault
+coded_source parts coded = private_source parts coded (decrypted_private (coded_bytes coded))
 
 -- Type 1 Font Format, Chapter 2: the lines of the clear text, those of the private text, and the tail
 abbrev pub source_of : FontParts → Option (List ℕ) → Result (List ℕ) FontFault
-source_of parts None = Err (fault_at Nowhere D1)
-source_of parts (Some after) = source_onto (joined (lines (before_rest parts.clear after))) parts (past_spaces (after ++ parts.coded))
+source_of parts None = plain_kind parts.clear >>= λ clear. Err (fault_at Nowhere D1)
+source_of parts (Some after) =
+    plain_kind (before_rest parts.clear after) >>= λ clear.
+    coded_source parts (past_spaces (after ++ parts.coded)) >>= λ others. Ok (joined (lines clear) ++ others)
 
 -- Type 1 Font Format, Chapter 2: the source of a font's file, or its first fault
 unfoldable pub disassembled : List ℕ → Result (List ℕ) FontFault

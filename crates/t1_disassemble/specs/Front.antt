@@ -1,9 +1,11 @@
 -- The line at the front of some bytes, and the part of a font that ends with its eexec line.
-use Rattle.std.specs.Prelude.{◌==◌, ◌||◌, ℕ, zero, suc, ◌-◌, Bool, length, if◌then◌else◌, List, [], ◌∷◌, take, drop, Option, None, Some}
+use Rattle.std.specs.Prelude.{◌==◌, ◌||◌, ℕ, ◌+◌, ◌-◌, nat_lt, Bool, if◌then◌else◌, length, List, take, drop, find, codes, Option, None, Some, option_map}
 use Rattle.std.specs.List.{position_or_len, prefix_len}
 use Rattle.t1_frac.specs.Ascii.{tab, line_feed, carriage_return, space}
 use Rattle.t1_text.specs.Lines.{is_line_end, after_end}
+use Rattle.t1_parts.specs.Operator.{text_place}
 use Rattle.t1_parts.specs.Parts.{is_eexec}
+use Rattle.t1_disassemble.specs.Cuts.{pieces}
 
 -- profile: how many bytes stand before the first line end
 abbrev pub line_len : List ℕ → ℕ
@@ -17,16 +19,27 @@ front_line bytes = take (line_len bytes) bytes
 abbrev pub past_line : List ℕ → List ℕ
 past_line bytes = after_end (drop (line_len bytes) bytes)
 
--- profile: the same as the next, of so many lines at most
-abbrev pub after_eexec_within : ℕ → List ℕ → Option (List ℕ)
-after_eexec_within zero bytes = None
-after_eexec_within (suc most) [] = None
-after_eexec_within (suc most) (c ∷ bytes) =
-    if is_eexec (front_line (c ∷ bytes)) then Some (past_line (c ∷ bytes)) else after_eexec_within most (past_line (c ∷ bytes))
+-- profile: the bytes from each line on
+abbrev pub line_starts : List ℕ → List (List ℕ)
+line_starts bytes = pieces past_line bytes
 
 -- Type 1 Font Format, 2.4 (eexec): what stands after the first line that, trimmed, ends in `currentfile eexec`
-unfoldable pub after_eexec : List ℕ → Option (List ℕ)
-after_eexec bytes = after_eexec_within (length bytes) bytes
+unfoldable pub after_eexec_line : List ℕ → Option (List ℕ)
+after_eexec_line bytes = option_map past_line (find (λ from. is_eexec (front_line from)) (line_starts bytes))
+
+-- Type 1 Font Format, 2.4 (eexec): what stands after the first `currentfile eexec` with a space behind it
+unfoldable pub after_eexec_words : List ℕ → Option (List ℕ)
+after_eexec_words bytes =
+    if nat_lt (text_place (codes "currentfile eexec ") bytes) (length bytes) then Some (drop (text_place (codes "currentfile eexec ") bytes + 17) bytes) else None
+
+-- profile: the first of two, where there is one
+abbrev pub first_of : Option (List ℕ) → Option (List ℕ) → Option (List ℕ)
+first_of None other = other
+first_of (Some found) other = Some found
+
+-- Type 1 Font Format, 2.4 (eexec): what stands after the clear text: after its eexec line, or, where no line ends so, on it
+abbrev pub after_eexec : List ℕ → Option (List ℕ)
+after_eexec bytes = first_of (after_eexec_line bytes) (after_eexec_words bytes)
 
 -- profile: the bytes in front of the rest of some bytes
 abbrev pub before_rest : List ℕ → List ℕ → List ℕ

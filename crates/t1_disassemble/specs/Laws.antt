@@ -7,7 +7,7 @@ use Rattle.t1_frac.specs.Ascii.{line_feed, slash}
 use Rattle.t1_frac.specs.Numbers.{is_number_word, number_written}
 use Rattle.t1_frac.specs.Outcome.{◌>>=◌}
 use Rattle.t1_frac.specs.declared.fault.Code.{Code}
-use Rattle.t1_text.specs.Lines.{is_line, trimmed}
+use Rattle.t1_text.specs.Lines.{is_line, joined, trimmed}
 use Rattle.t1_text.specs.Names.{is_name}
 use Rattle.t1_text.specs.Tokens.{places_from}
 use Rattle.t1_code.specs.Cipher.{encrypted_words}
@@ -15,8 +15,11 @@ use Rattle.t1_code.specs.Pfb.{marker, end_of_file, entry_text, closing_text}
 use Rattle.t1_parts.specs.declared.item.Item.{Item}
 use Rattle.t1_parts.specs.declared.item.Item.TheVariants.{Plain, Section, Subr, Glyph}
 use Rattle.t1_parts.specs.Parts.{is_closefile, is_eexec}
+use Rattle.t1_parts.specs.Printing.{item_lines}
+use Rattle.t1_disassemble.specs.Kinds.{plain_kind, single_sections}
+use Rattle.t1_disassemble.specs.Layouts.{begins_border}
 use Rattle.t1_disassemble.specs.Opening.{first_opening}
-use Rattle.t1_disassemble.specs.Settings.{is_section, reading_operator, leading_bytes}
+use Rattle.t1_disassemble.specs.Settings.{opens_section, reading_operator, leading_bytes}
 
 -- profile: the bytes of blocks, one after another
 abbrev pub whole : List (List ℕ) → List ℕ
@@ -57,9 +60,10 @@ abbrev pub items_text : ℕ → List ℕ → List Item → Result (List ℕ) Cod
 items_text lead operator [] = Ok []
 items_text lead operator (item ∷ items) = item_text lead operator item >>= λ text. items_text lead operator items >>= λ texts. Ok (text ++ texts)
 
--- profile: whether a line, or a closing text after its space, reads as itself: it has no line end, opens no entry of a font, and doesn't close the encrypted part
+-- profile: whether a line, or a closing text after its space, reads as itself: it has no line end, opens no entry of a font, doesn't
+-- close the encrypted part, and doesn't end as the first of two lines does that a source has as one
 abbrev pub reads_line : List ℕ → List ℕ → Bool
-reads_line operator line = is_line line && is_none (first_opening operator (places_from 0 line)) && not (is_closefile line)
+reads_line operator line = is_line line && is_none (first_opening operator (places_from 0 line)) && not (is_closefile line) && not (begins_border line)
 
 -- profile: whether a closing text does, and has no blanks at its ends
 abbrev pub reads_closing : List ℕ → List ℕ → Bool
@@ -84,7 +88,7 @@ front_lines (Glyph name words closing ∷ items) = []
 pub record AreSaid (operator : List ℕ) (lead : ℕ) (items : List Item) : Type 0 where
   pub name : is_name operator ≡ true
   pub small : lead ≤ 64
-  pub section : list_any is_section (front_lines items) ≡ true
+  pub section : list_any opens_section (front_lines items) ≡ true
   pub reads : reading_operator (front_lines items) ≡ operator
   pub leads : leading_bytes (front_lines items) ≡ Ok lead
 
@@ -103,9 +107,15 @@ pub record IsLast (operator last : List ℕ) : Type 0 where
   pub none : is_none (first_opening operator (places_from 0 last)) ≡ true
   pub closes : is_closefile last ≡ true
 
+-- profile: the lines of items and of the line that closes the encrypted part, in the source that comes back
+abbrev pub source_lines : List Item → List ℕ → List (List ℕ)
+source_lines items last = flat_map item_lines (map plain_item items) ++ last ∷ []
+
 -- profile: a source whose file is read back: all of it is a test
 pub record IsReadBack (clear : List (List ℕ)) (operator : List ℕ) (lead : ℕ) (items : List Item) (last : List ℕ) : Type 0 where
   pub front : IsClear clear
   pub said : AreSaid operator lead items
   pub each : list_all (reads_item operator) items ≡ true
   pub end : IsLast operator last
+  pub kind : plain_kind (joined clear) ≡ Ok (joined clear)
+  pub single : single_sections (joined (source_lines items last)) ≡ Ok (joined (source_lines items last))

@@ -1,5 +1,5 @@
 -- The private text of a font, read into the lines of a source.
-use Rattle.std.specs.Prelude.{ℕ, zero, suc, ◌+◌, nat_lt, Bool, true, false, ◌==◌, if◌then◌else◌, Option, None, Some, List, [], ◌∷◌, ◌++◌, take, drop, length, codes, Result, Ok, Err}
+use Rattle.std.specs.Prelude.{ℕ, ◌+◌, ◌&&◌, is_none, nat_lt, Bool, true, false, ◌==◌, if◌then◌else◌, Option, None, Some, List, [], ◌∷◌, ◌++◌, take, drop, length, codes, Result, Ok, Err}
 use Rattle.t1_frac.specs.Ascii.{line_feed}
 use Rattle.t1_frac.specs.Outcome.{◌>>=◌}
 use Rattle.t1_text.specs.Lines.{trimmed}
@@ -9,10 +9,12 @@ use Rattle.t1_parts.specs.Printing.{last_line}
 use Rattle.t1_disassemble.specs.declared.fault.FontCode.TheVariants.{D4, D5}
 use Rattle.t1_disassemble.specs.declared.fault.FontFault.{FontFault}
 use Rattle.t1_disassemble.specs.declared.fault.FontPlace.TheVariants.{Nowhere, Entry}
+use Rattle.t1_disassemble.specs.Cuts.{pieces}
 use Rattle.t1_disassemble.specs.Front.{front_line, past_line}
+use Rattle.t1_disassemble.specs.Layouts.{are_one, one_line}
 use Rattle.t1_disassemble.specs.Opening.{Opening, first_opening}
 use Rattle.t1_disassemble.specs.Outcome.{fault_at, reported_at}
-use Rattle.t1_disassemble.specs.Words.{words_of_encrypted, words_onto}
+use Rattle.t1_disassemble.specs.Words.{words_of_encrypted, printed_words}
 
 -- profile: what stands between two entries, or lines: the closing text of an entry that waits for it, or a line as it stands
 abbrev pub plain_text : Bool → List ℕ → List ℕ
@@ -26,49 +28,68 @@ front_text waits front = if waits then plain_text true front else (if length (tr
 abbrev pub head_line : List ℕ → List ℕ
 head_line name = name ++ codes " {" ++ line_feed ∷ []
 
--- profile: what is read of the private text: the text so far, whether an entry waits for its closing text, what is left, and whether that is all
+-- profile: a piece of the private text: its lines in the source, whether an entry waits for its closing text after them, the bytes
+-- after the piece, and whether it closes the encrypted part
 pub record PieceRead : Type 0 where
   pub text : List ℕ
   pub waits : Bool
   pub rest : List ℕ
   pub is_last : Bool
 
--- profile: an entry after a text, which waits for its closing text
-abbrev pub entry_left : List ℕ → List ℕ → PieceRead
-entry_left text rest = record { text = text; waits = true; rest = rest; is_last = false }
-
--- Type 1 Font Format, 2.4 (Subrs and CharStrings): an entry with its charstring's words
-abbrev pub entry_onto : ℕ → List ℕ → Opening → List ℕ → Result PieceRead FontFault
-entry_onto lead text o bytes =
+-- Type 1 Font Format, 2.4 (Subrs and CharStrings): an entry with its charstring's words, and what stands before it
+abbrev pub entry_piece : ℕ → List ℕ → Opening → List ℕ → Result PieceRead FontFault
+entry_piece lead front o bytes =
     if nat_lt (length bytes) o.count then Err (fault_at (Entry o.name) D5)
-    else (reported_at (Entry o.name) (words_onto (text ++ head_line o.name) false (words_of_encrypted lead (take o.count bytes))) >>= λ all.
-    Ok (entry_left all (drop o.count bytes)))
+    else (reported_at (Entry o.name) (words_of_encrypted lead (take o.count bytes)) >>= λ words.
+    Ok (record { text = front ++ (head_line o.name ++ printed_words false words); waits = true; rest = drop o.count bytes; is_last = false }))
+
+-- profile, layouts: whether the first line and the next one are one line of the source, on which no entry opens
+abbrev pub goes_on : List ℕ → List ℕ → Bool
+goes_on operator bytes =
+    are_one (front_line bytes) (front_line (past_line bytes)) && is_none (first_opening operator (places_from 0 (front_line (past_line bytes))))
+
+-- profile, layouts: the first line, with the next one where both are one
+abbrev pub source_line : List ℕ → List ℕ → List ℕ
+source_line operator bytes = if goes_on operator bytes then one_line (front_line bytes) (front_line (past_line bytes)) else front_line bytes
+
+-- profile, layouts: the bytes after it
+abbrev pub past_source_line : List ℕ → List ℕ → List ℕ
+past_source_line operator bytes = if goes_on operator bytes then past_line (past_line bytes) else past_line bytes
 
 -- Type 1 Font Format, 2.4: a whole line, or the rest of one, which may close the encrypted part
-abbrev pub line_left : List ℕ → Bool → List ℕ → PieceRead
-line_left text waits bytes =
-    record { text = text ++ plain_text waits (front_line bytes); waits = false; rest = past_line bytes; is_last = is_closefile (front_line bytes) }
+abbrev pub line_piece : List ℕ → Bool → List ℕ → PieceRead
+line_piece operator waits bytes =
+    record { text = plain_text waits (source_line operator bytes); waits = false; rest = past_source_line operator bytes; is_last = is_closefile (source_line operator bytes) }
 
--- Type 1 Font Format, 2.4 (Subrs and CharStrings): the next line, through the entry that opens on it, or whole
-abbrev pub piece_onto : ℕ → List ℕ → Bool → List ℕ → Option Opening → Result PieceRead FontFault
-piece_onto lead text waits bytes None = Ok (line_left text waits bytes)
-piece_onto lead text waits bytes (Some o) = entry_onto lead (text ++ front_text waits (take o.at bytes)) o (drop (o.end + 1) bytes)
+-- profile: the entry that opens on the first line, or that line where none does
+abbrev pub opened_piece : List ℕ → ℕ → Bool → List ℕ → Option Opening → Result PieceRead FontFault
+opened_piece operator lead waits bytes None = Ok (line_piece operator waits bytes)
+opened_piece operator lead waits bytes (Some o) = entry_piece lead (front_text waits (take o.at bytes)) o (drop (o.end + 1) bytes)
 
--- Type 1 Font Format, 2.4: the next piece of the private text, whose last line closes the encrypted part
-unfoldable pub read_piece : List ℕ → ℕ → List ℕ → Bool → List ℕ → Result PieceRead FontFault
-read_piece operator lead text waits bytes =
-    if length bytes == 0 then Err (fault_at Nowhere D4)
-    else piece_onto lead text waits bytes (first_opening operator (places_from 0 (front_line bytes)))
+-- Type 1 Font Format, 2.4 (Subrs and CharStrings): the piece at the front: a line through the entry that opens on it, or whole
+abbrev pub read_piece : List ℕ → ℕ → Bool → List ℕ → Result PieceRead FontFault
+read_piece operator lead waits bytes = opened_piece operator lead waits bytes (first_opening operator (places_from 0 (front_line bytes)))
 
--- profile: all that is read, or what comes after a piece
-abbrev pub go_on : (List ℕ → Bool → List ℕ → Result (List ℕ × List ℕ) FontFault) → PieceRead → Result (List ℕ × List ℕ) FontFault
-go_on next piece = if piece.is_last then Ok (piece.text, piece.rest) else next piece.text piece.waits piece.rest
+-- profile: what such a piece leaves
+abbrev pub opened_left : List ℕ → List ℕ → Option Opening → List ℕ
+opened_left operator bytes None = past_source_line operator bytes
+opened_left operator bytes (Some o) = drop o.count (drop (o.end + 1) bytes)
 
--- profile: the same as the next, of so many pieces at most
-abbrev pub private_within : ℕ → List ℕ → ℕ → List ℕ → Bool → List ℕ → Result (List ℕ × List ℕ) FontFault
-private_within zero operator lead text waits bytes = Err (fault_at Nowhere D4)
-private_within (suc most) operator lead text waits bytes = read_piece operator lead text waits bytes >>= go_on (private_within most operator lead)
+-- profile: what the piece at the front leaves
+abbrev pub piece_left : List ℕ → List ℕ → List ℕ
+piece_left operator bytes = opened_left operator bytes (first_opening operator (places_from 0 (front_line bytes)))
 
--- Type 1 Font Format, 2.4: the lines of the private text after a text, and the bytes after its last line; or the first fault
-unfoldable pub private_onto : List ℕ → ℕ → List ℕ → Bool → List ℕ → Result (List ℕ × List ℕ) FontFault
-private_onto operator lead text waits bytes = private_within (suc (length bytes)) operator lead text waits bytes
+-- profile: the lines of a piece in front of those that come after it, where it isn't the last
+abbrev pub before_text : (Bool → Result (List ℕ × List ℕ) FontFault) → PieceRead → Result (List ℕ × List ℕ) FontFault
+before_text others piece =
+    if piece.is_last then Ok (piece.text, piece.rest) else (others piece.waits >>= λ more. Ok (piece.text ++ more.0, more.1))
+
+-- Type 1 Font Format, 2.4: the lines of the pieces that begin at these places, through the one that closes the encrypted part, and
+-- the bytes after it; or the first fault. An entry may wait for its closing text before the first of them
+abbrev pub pieces_text : List ℕ → ℕ → List (List ℕ) → Bool → Result (List ℕ × List ℕ) FontFault
+pieces_text operator lead [] waits = Err (fault_at Nowhere D4)
+pieces_text operator lead (from ∷ others) waits = read_piece operator lead waits from >>= before_text (pieces_text operator lead others)
+
+-- Type 1 Font Format, 2.4: the lines of the private text, and the bytes after its last line; or the first fault
+unfoldable pub private_text : List ℕ → ℕ → List ℕ → Result (List ℕ × List ℕ) FontFault
+private_text operator lead bytes = pieces_text operator lead (pieces (piece_left operator) bytes) false

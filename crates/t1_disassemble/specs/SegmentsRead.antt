@@ -1,5 +1,5 @@
 -- The segments of a PFB file, and what they hold (Adobe Technical Note 5040, 3.3).
-use Rattle.std.specs.Prelude.{ℕ, zero, suc, ◌-◌, ◌==◌, ◌||◌, nat_lt, if◌then◌else◌, List, [], ◌∷◌, ◌++◌, take, drop, length, fold, Option, None, Some, Result, Ok, Err}
+use Rattle.std.specs.Prelude.{ℕ, ◌-◌, ◌==◌, ◌||◌, nat_lt, if◌then◌else◌, List, [], ◌∷◌, ◌++◌, take, drop, length, fold, Option, None, Some, Result, Ok, Err}
 use Rattle.std.specs.Int.{w32, from_le_bytes}
 use Rattle.t1_frac.specs.Outcome.{◌>>=◌}
 use Rattle.t1_text.specs.Lines.{begins_with}
@@ -8,6 +8,7 @@ use Rattle.t1_disassemble.specs.declared.fault.FontCode.{FontCode}
 use Rattle.t1_disassemble.specs.declared.fault.FontCode.TheVariants.{D2}
 use Rattle.t1_disassemble.specs.declared.fault.FontFault.{FontFault}
 use Rattle.t1_disassemble.specs.declared.fault.FontPlace.TheVariants.{Byte}
+use Rattle.t1_disassemble.specs.Cuts.{pieces}
 use Rattle.t1_disassemble.specs.Outcome.{reported_at}
 
 -- Technical Note 5040, 3.3: a segment, of its type
@@ -46,19 +47,24 @@ segment_at (first ∷ kind ∷ rest) = if first == marker then typed_segment kin
 abbrev pub placed_segment : ℕ → List ℕ → Result (Option (Segment × List ℕ)) FontFault
 placed_segment total rest = reported_at (Byte (total - length rest)) (segment_at rest)
 
--- profile: a segment in front of those that come after it
-abbrev pub before_others : (List ℕ → Result (List Segment) FontFault) → Option (Segment × List ℕ) → Result (List Segment) FontFault
+-- profile: a segment in front of those that come after it; nothing where the file has said its end
+abbrev pub before_others : Result (List Segment) FontFault → Option (Segment × List ℕ) → Result (List Segment) FontFault
 before_others others None = Ok []
-before_others others (Some found) = others found.1 >>= λ more. Ok (found.0 ∷ more)
+before_others others (Some found) = others >>= λ more. Ok (found.0 ∷ more)
 
--- Technical Note 5040, 3.3: at most so many segments, one after another
-abbrev pub segments_within : ℕ → ℕ → List ℕ → Result (List Segment) FontFault
-segments_within zero total rest = Ok []
-segments_within (suc most) total rest = placed_segment total rest >>= before_others (segments_within most total)
+-- profile: what is left after a segment; nothing where there is none
+abbrev pub segment_left : Result (Option (Segment × List ℕ)) FontCode → List ℕ
+segment_left (Ok (Some found)) = found.1
+segment_left _ = []
 
--- Technical Note 5040, 3.3: the segments that are left of a file of so many bytes, or the first fault
+-- Technical Note 5040, 3.3: the segments that begin at these places of a file of so many bytes, or the first fault
+abbrev pub segments_at : ℕ → List (List ℕ) → Result (List Segment) FontFault
+segments_at total [] = Ok []
+segments_at total (from ∷ others) = placed_segment total from >>= before_others (segments_at total others)
+
+-- Technical Note 5040, 3.3: the segments that are left of a file of so many bytes, one after another, or the first fault
 unfoldable pub segments_of : ℕ → List ℕ → Result (List Segment) FontFault
-segments_of total rest = segments_within (suc (length rest)) total rest
+segments_of total rest = segments_at total (pieces (λ bytes. segment_left (segment_at bytes)) rest)
 
 -- Type 1 Font Format, Chapter 2: the clear text, the encrypted part, and the text after it
 pub record FontParts : Type 0 where

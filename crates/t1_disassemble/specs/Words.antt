@@ -1,5 +1,5 @@
 -- The words of a charstring's bytes.
-use Rattle.std.specs.Prelude.{ℕ, zero, suc, ◌+◌, ◌-◌, ◌*◌, ◌==◌, ℤ, pos, neg_ℤ, ◌-ℤ◌, Bool, true, false, nat_lt, nat_eq, if◌then◌else◌, List, [], ◌∷◌, ◌++◌, length, codes, Option, None, Some, Result, Ok, Err}
+use Rattle.std.specs.Prelude.{ℕ, ◌+◌, ◌-◌, ◌*◌, ◌==◌, ℤ, pos, neg_ℤ, ◌-ℤ◌, Bool, true, false, nat_lt, nat_eq, if◌then◌else◌, List, [], ◌∷◌, ◌++◌, length, codes, Option, None, Some, Result, Ok, Err}
 use Rattle.std.specs.Fmt.{signed_decimal}
 use Rattle.std.specs.Int.{w32, cast_signed, from_be_bytes}
 use Rattle.std.specs.Map.{lookup}
@@ -8,6 +8,7 @@ use Rattle.t1_frac.specs.Numbers.{is_number_word}
 use Rattle.t1_frac.specs.Outcome.{◌>>=◌}
 use Rattle.t1_disassemble.specs.declared.fault.FontCode.{FontCode}
 use Rattle.t1_disassemble.specs.declared.fault.FontCode.TheVariants.{D6, D7, D8}
+use Rattle.t1_disassemble.specs.Cuts.{pieces}
 use Rattle.t1_disassemble.specs.Decipher.{decrypted_charstring}
 
 -- Type 1 Font Format, Chapter 6 (charstring command encoding): the commands of one byte, and their words
@@ -90,15 +91,24 @@ number_word_at v rest = number_at v rest >>= λ found. Ok (signed_decimal found.
 unfoldable pub word_at : ℕ → List ℕ → Result (List ℕ × List ℕ) FontCode
 word_at v rest = if nat_lt v 32 then operator_at v rest else number_word_at v rest
 
--- Type 1 Font Format, Chapter 6: the words of a charstring of so many bytes at most, or the fault of the first bytes that are none
-abbrev pub words_within : ℕ → List ℕ → Result (List (List ℕ)) FontCode
-words_within most [] = Ok []
-words_within zero (v ∷ rest) = Err D7
-words_within (suc most) (v ∷ rest) = word_at v rest >>= λ found. words_within most found.1 >>= λ words. Ok (found.0 ∷ words)
+-- Type 1 Font Format, Chapter 6: the word at the front of some bytes, and the bytes after it
+abbrev pub front_word : List ℕ → Result (List ℕ × List ℕ) FontCode
+front_word [] = Err D7
+front_word (v ∷ rest) = word_at v rest
 
--- Type 1 Font Format, Chapter 6: the words of a charstring
+-- profile: what is left after a word; nothing where there is none
+abbrev pub word_left : Result (List ℕ × List ℕ) FontCode → List ℕ
+word_left (Ok found) = found.1
+word_left (Err code) = []
+
+-- Type 1 Font Format, Chapter 6: the words that begin at these places, or the fault of the first bytes that are none
+abbrev pub words_at : List (List ℕ) → Result (List (List ℕ)) FontCode
+words_at [] = Ok []
+words_at (from ∷ others) = front_word from >>= λ found. words_at others >>= λ words. Ok (found.0 ∷ words)
+
+-- Type 1 Font Format, Chapter 6: the words of a charstring, one after another
 unfoldable pub words_of : List ℕ → Result (List (List ℕ)) FontCode
-words_of code = words_within (length code) code
+words_of code = words_at (pieces (λ bytes. word_left (front_word bytes)) code)
 
 -- Type 1 Font Format, Chapter 7: the words of an encrypted charstring
 unfoldable pub words_of_encrypted : ℕ → List ℕ → Result (List (List ℕ)) FontCode
@@ -110,16 +120,3 @@ abbrev pub printed_words : Bool → List (List ℕ) → List ℕ
 printed_words is_open [] = if is_open then line_feed ∷ [] else []
 printed_words is_open (w ∷ ws) =
     (if is_open then space else tab) ∷ w ++ (if is_number_word w then printed_words true ws else line_feed ∷ printed_words false ws)
-
--- profile, printing: a text in front of the words, or their fault
-abbrev pub words_onto : List ℕ → Bool → Result (List (List ℕ)) FontCode → Result (List ℕ) FontCode
-words_onto text is_open (Ok ws) = Ok (text ++ printed_words is_open ws)
-words_onto text is_open (Err fault) = Err fault
-
--- profile, printing: a word after a text, on a line that is open or begins; a word that isn't a number word ends its line
-abbrev pub with_word : List ℕ → Bool → List ℕ → List ℕ
-with_word text is_open w = text ++ (if is_open then space else tab) ∷ w ++ (if is_number_word w then [] else line_feed ∷ [])
-
--- profile, printing: the text with its next word, whether the word's line is still open, and the bytes after it, or the fault
-abbrev pub put_first : List ℕ → Bool → ℕ → List ℕ → Result (List ℕ × Bool × List ℕ) FontCode
-put_first text is_open v rest = word_at v rest >>= λ found. Ok (with_word text is_open found.0, is_number_word found.0, found.1)

@@ -4,7 +4,8 @@ ghost use Rattle.std.specs.Fmt.{signed_decimal};
 ghost use Rattle.std.specs.Map.{lookup};
 ghost use Rattle.t1_frac.specs.Numbers.{is_number_word};
 ghost use Rattle.t1_disassemble.specs.Outcome.{Gives, reported_at};
-ghost use Rattle.t1_disassemble.specs.Words.{one_byte_words, two_byte_words, escaped_at, operator_at, positive_at, negative_at, long_at, number_at, printed_words, put_first, with_word, words_of, words_of_encrypted, words_onto};
+ghost use Rattle.t1_disassemble.specs.Words.{one_byte_words, two_byte_words, escaped_at, operator_at, positive_at, negative_at, long_at, number_at, printed_words, words_of, words_of_encrypted};
+ghost use Rattle.t1_disassemble.specs.WordsOnto.{put_first, with_word, words_onto};
 ghost use Rattle.t1_disassemble.specs.declared.fault.FontPlace.TheVariants.{Nowhere};
 
 use crate::cipher::decipher_charstring;

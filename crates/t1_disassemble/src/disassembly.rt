@@ -4,15 +4,17 @@ ghost use Rattle.t1_text.specs.Lines.{lines, joined};
 ghost use Rattle.t1_parts.specs.Parts.{tail_of};
 ghost use Rattle.t1_disassemble.specs.CutDigits.{is_early, is_cut, digits_refusal, with_digits};
 ghost use Rattle.t1_disassemble.specs.Decipher.{deciphered};
-ghost use Rattle.t1_disassemble.specs.Disassembly.{coded_bytes, coded_place, after_coded, tail_after, plain_onto, source_onto, source_of, disassembled};
+ghost use Rattle.t1_disassemble.specs.Disassembly.{coded_bytes, coded_place, after_coded, tail_after, source_of, disassembled};
 ghost use Rattle.t1_disassemble.specs.Front.{after_eexec};
 ghost use Rattle.t1_disassemble.specs.Outcome.{Gives};
-ghost use Rattle.t1_disassemble.specs.PrivateText.{private_onto};
+ghost use Rattle.t1_disassemble.specs.PiecesOnto.{private_onto};
+ghost use Rattle.t1_disassemble.specs.SourceOnto.{plain_onto, source_onto};
 
 use crate::cipher::decipher_private;
 use crate::digits::{after_digits, digits_len, is_hexadecimal, push_bytes};
 use crate::fault::{FontCode, FontFault, FontPlace, FontRefusal};
-use crate::front::{after_eexec, past_line, past_spaces};
+use crate::front::{after_eexec, past, past_line, past_spaces};
+use crate::kinds::{check_kind, check_sections};
 use crate::private::{Settings, push_private};
 use crate::segments::{Parts, font_parts};
 use crate::settings::{leading_bytes, reading_operator};
@@ -95,6 +97,7 @@ fn is_early(code: FontCode) -> bool
         FontCode::D4 | FontCode::D5 => true,
         FontCode::D1 | FontCode::D2 | FontCode::D3 => false,
         FontCode::D6 | FontCode::D7 | FontCode::D8 | FontCode::D9 => false,
+        FontCode::D10 | FontCode::D11 | FontCode::D12 | FontCode::D13 => false,
     }
 }
 
@@ -178,7 +181,9 @@ fn push_plain(
         lead,
     };
     let place = coded_place(parts, coded);
+    let front = text.len();
     let rest = push_checked(alloc, text, &settings, place, coded, plain)?;
+    check_sections(past(text, front))?;
     let count = EEXEC_LEAD + (plain.len() - rest.len());
     push_tail(alloc, text, tail_after(parts, coded, count))?;
     Ok(())
@@ -217,6 +222,7 @@ fn joined_bytes(alloc: Global, after: &[u8], coded: &[u8]) -> Result<Vec<u8>, Al
 }
 
 /// The source of the parts of a file.
+#[tactic(auto, using(crate::proofs::Sources::source_same))]
 fn source_of_parts(alloc: Global, parts: &Parts) -> Result<Vec<u8>, FontRefusal>
     ensures { Gives
         (λ text. text.items)
@@ -225,10 +231,13 @@ fn source_of_parts(alloc: Global, parts: &Parts) -> Result<Vec<u8>, FontRefusal>
 {
     let clear = parts.clear.as_slice();
     let Some(after) = after_eexec(clear) else {
+        check_kind(clear)?;
         return Err(FontRefusal::from(FontCode::D1));
     };
+    let front = clear.split_at(clear.len() - after.len()).0;
+    check_kind(front)?;
     let mut text = Vec::new(alloc);
-    push_lines_of(&mut text, clear.split_at(clear.len() - after.len()).0)?;
+    push_lines_of(&mut text, front)?;
     let bytes = joined_bytes(alloc, after, parts.coded.as_slice())?;
     push_source(alloc, &mut text, parts, past_spaces(&bytes))?;
     Ok(text)

@@ -23,13 +23,21 @@ pub enum FontCode {
     D8,
     /// LenIV isn't 0 to 64.
     D9,
+    /// LenIV is -1: the charstrings aren't encrypted.
+    D10,
+    /// A second Subrs line or a second CharStrings line.
+    D11,
+    /// A multiple master font.
+    D12,
+    /// A CID-keyed font.
+    D13,
 }
 
 /// Where a fault of a file stands.
 #[derive(Debug, Drop)]
 pub enum FontPlace {
     Nowhere,
-    /// This many bytes after the file's first; of D3 without the heads of segments.
+    /// This many bytes after the file's first; of D3, D12 and D13 without the heads of segments.
     Byte(u64),
     /// At the entry whose line begins so, as `dup 5` or `/A`.
     Entry(Bytes),

@@ -3,10 +3,21 @@ ghost use Rattle.std.specs.Prelude.{◌≡◌, ◌≤◌, ◌<◌, length, optio
 ghost use Rattle.std.specs.List.{prefix_len};
 ghost use Rattle.t1_text.specs.Lines.{is_line_end};
 ghost use Rattle.t1_parts.specs.Parts.{is_eexec};
-ghost use Rattle.t1_disassemble.specs.Front.{line_len, front_line, past_line, after_eexec, is_space, past_spaces};
+ghost use Rattle.t1_disassemble.specs.Front.{line_len, front_line, past_line, after_eexec_line, after_eexec_words, after_eexec, is_space, past_spaces};
 
+use crate::settings::text_place;
 use memchr::memchr2;
 use t1_text::{cut_line, trimmed};
+
+/// How many bytes `currentfile eexec` has.
+const EEXEC_LEN: usize = 17;
+
+/// The bytes after so many, or none.
+pub(crate) fn past(bytes: &[u8], count: usize) -> &[u8]
+    ensures { result.now ≡ drop count bytes.now }
+{
+    bytes.split_at(count.min(bytes.len())).1
+}
 
 /// How many bytes stand before the first line end.
 pub(crate) fn line_len(bytes: &[u8]) -> usize
@@ -40,8 +51,8 @@ fn is_eexec(line: &[u8]) -> bool
 
 /// What stands after the line that ends the clear part.
 #[tactic(auto, using(crate::proofs::Fronts::eexec_more, crate::proofs::Fronts::no_eexec, t1_text::proofs::CutLaws::line_gone, t1_text::proofs::CutLaws::after_within))]
-pub(crate) fn after_eexec(bytes: &[u8]) -> Option<&[u8]>
-    ensures value { option_map (λ after. after.now) result ≡ after_eexec bytes.now }
+fn after_eexec_line(bytes: &[u8]) -> Option<&[u8]>
+    ensures value { option_map (λ after. after.now) result ≡ after_eexec_line bytes.now }
     ensures within { IfSome result (λ after. length after.now ≤ length bytes.now) }
 {
     let mut rest = bytes;
@@ -53,6 +64,30 @@ pub(crate) fn after_eexec(bytes: &[u8]) -> Option<&[u8]>
         rest = after;
     }
     None
+}
+
+/// What stands after the first `currentfile eexec` with a space behind it.
+#[tactic(auto, unfolding(crate::specs::Front::after_eexec_words))]
+fn after_eexec_words(bytes: &[u8]) -> Option<&[u8]>
+    ensures value { option_map (λ after. after.now) result ≡ after_eexec_words bytes.now }
+    ensures within { IfSome result (λ after. length after.now ≤ length bytes.now) }
+{
+    let place = text_place(b"currentfile eexec ", bytes);
+    if place < bytes.len() {
+        return Some(past(bytes, place + EEXEC_LEN));
+    }
+    None
+}
+
+/// What stands after the clear text: after its eexec line, or on it where no line ends so.
+pub(crate) fn after_eexec(bytes: &[u8]) -> Option<&[u8]>
+    ensures value { option_map (λ after. after.now) result ≡ after_eexec bytes.now }
+    ensures within { IfSome result (λ after. length after.now ≤ length bytes.now) }
+{
+    match after_eexec_line(bytes) {
+        Some(after) => Some(after),
+        None => after_eexec_words(bytes),
+    }
 }
 
 /// Whether a byte may stand between eexec and the encrypted bytes.

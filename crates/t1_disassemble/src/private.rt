@@ -1,21 +1,26 @@
 //! The private text of a font, read into the lines of a source.
-ghost use Rattle.std.specs.Prelude.{◌≡◌, ◌<◌, ◌≤◌, ◌+◌, ◌^◌, ℕ, suc, ◌++◌, ◌∷◌, [], false, length, take, drop, IfOk, OnOk};
+ghost use Rattle.std.specs.Prelude.{◌≡◌, ◌<◌, ◌≤◌, ◌+◌, ◌^◌, ◌&&◌, is_none, ℕ, suc, ◌++◌, ◌∷◌, [], true, false, length, take, drop, IfOk, OnOk};
 ghost use Rattle.t1_frac.specs.Ascii.{line_feed};
 ghost use Rattle.t1_text.specs.Lines.{after_end};
-ghost use Rattle.t1_parts.specs.Parts.{is_closefile};
+ghost use Rattle.t1_text.specs.Tokens.{places_from};
 ghost use Rattle.t1_parts.specs.Printing.{last_line};
 ghost use Rattle.t1_disassemble.specs.declared.fault.FontPlace.TheVariants.{Entry};
 ghost use Rattle.t1_disassemble.specs.Front.{line_len};
+ghost use Rattle.t1_disassemble.specs.Layouts.{are_one, one_line};
 ghost use Rattle.t1_disassemble.specs.Opened.{opening_of};
+ghost use Rattle.t1_disassemble.specs.Opening.{first_opening};
 ghost use Rattle.t1_disassemble.specs.Outcome.{Gives, reported_at};
 ghost use Rattle.t1_disassemble.specs.PieceLeft.{piece_of};
 ghost use Rattle.t1_disassemble.specs.Placed.{IsPlaced};
-ghost use Rattle.t1_disassemble.specs.PrivateText.{plain_text, front_text, head_line, line_left, entry_left, entry_onto, read_piece, private_onto};
-ghost use Rattle.t1_disassemble.specs.Words.{words_of_encrypted, words_onto};
+ghost use Rattle.t1_disassemble.specs.PiecesOnto.{line_onto, entry_left, entry_onto, read_onto, private_onto};
+ghost use Rattle.t1_disassemble.specs.PrivateText.{plain_text, front_text, head_line};
+ghost use Rattle.t1_disassemble.specs.Words.{words_of_encrypted};
+ghost use Rattle.t1_disassemble.specs.WordsOnto.{words_onto};
 
 use crate::charstring::push_encrypted;
 use crate::fault::{FontCode, FontFault, FontPlace, FontRefusal};
-use crate::front::{line_len, line_len_after};
+use crate::front::{line_len, line_len_after, past};
+use crate::layouts::{are_one, is_closefile};
 use crate::opening::{Opening, first_opening};
 use std::alloc::{AllocError, Global};
 use t1_frac::Bytes;
@@ -131,13 +136,6 @@ pub(crate) struct Piece<'a> {
     pub(crate) is_last: bool,
 }
 
-/// The bytes after so many, or none.
-fn past(bytes: &[u8], count: usize) -> &[u8]
-    ensures { result.now ≡ drop count bytes.now }
-{
-    bytes.split_at(count.min(bytes.len())).1
-}
-
 /// The first so many bytes, or all.
 fn up_to(bytes: &[u8], count: usize) -> &[u8]
     ensures { result.now ≡ take count bytes.now }
@@ -153,13 +151,6 @@ fn after_end(bytes: &[u8]) -> &[u8]
         [b'\r', b'\n', rest @ ..] | [_, rest @ ..] => rest,
         [] => bytes,
     }
-}
-
-/// Whether a line closes the encrypted part.
-fn is_closefile(line: &[u8]) -> bool
-    ensures { result ≡ is_closefile line.now }
-{
-    trimmed(line).ends_with(b"mark currentfile closefile")
 }
 
 /// Adds an entry, whose charstring stands at the front of some bytes, and answers what stands after
@@ -196,10 +187,31 @@ pub(crate) struct Settings<'a> {
     pub(crate) lead: u8,
 }
 
-/// Adds the line that stands at the front, and answers what is left.
-#[tactic(auto, using(t1_text::proofs::CutLaws::line_gone))]
+/// Whether a line and the next, on which no entry opens, are one in the source, which the buffer
+/// holds then.
+fn goes_on(
+    buffer: &mut Vec<u8>,
+    operator: &[u8],
+    line: &[u8],
+    next: &[u8],
+) -> Result<bool, AllocError>
+    ensures value { IfOk result
+        (λ one. one ≡ (are_one line.now next.now
+        && is_none (first_opening operator.now (places_from 0 next.now)))) }
+    ensures joined { IfOk result
+        (λ one. one ≡ true → buffer.new.items ≡ one_line line.now next.now) }
+{
+    let one = are_one(buffer, line, next)?;
+    Ok(one && first_opening(operator, next).is_none())
+}
+
+/// Adds the line that stands at the front, with the next one where both are one in the source, and
+/// answers what is left.
+#[tactic(auto, using(t1_text::proofs::CutLaws::line_gone, t1_text::proofs::CutLaws::after_within))]
 fn push_whole_line<'a>(
     text: &mut Vec<u8>,
+    buffer: &mut Vec<u8>,
+    operator: &[u8],
     waits: bool,
     end: usize,
     bytes: &'a [u8],
@@ -209,23 +221,36 @@ fn push_whole_line<'a>(
     requires some { 0 < length bytes.now }
     ensures value { IfOk
         result
-        (λ piece. piece_of text.new.items piece ≡ line_left text.old.items waits bytes.now) }
+        (λ piece. piece_of text.new.items piece
+        ≡ line_onto operator.now text.old.items waits bytes.now) }
     ensures shorter { IfOk result (λ piece. length piece.rest.now < length bytes.now) }
     ensures end { IfOk result (λ piece. piece.end ≡ line_len piece.rest.now) }
 {
     let (line, ended) = bytes.split_at(end);
     let rest = after_end(ended);
+    let next_end = line_len(rest);
+    let (next, next_ended) = rest.split_at(next_end);
+    if goes_on(buffer, operator, line, next)? {
+        push_plain(text, waits, buffer)?;
+        let after = after_end(next_ended);
+        return Ok(Piece {
+            rest: after,
+            end: line_len(after),
+            waits: false,
+            is_last: is_closefile(buffer),
+        });
+    }
     push_plain(text, waits, line)?;
     Ok(Piece {
         rest,
-        end: line_len(rest),
+        end: next_end,
         waits: false,
         is_last: is_closefile(line),
     })
 }
 
 /// Adds the next piece of the private text: a line through the entry that opens on it, or whole.
-#[tactic(auto, unfolding(crate::specs::PrivateText::read_piece), using(crate::proofs::Pieces::shorter_after, crate::proofs::Pieces::dropped_twice))]
+#[tactic(auto, unfolding(crate::specs::PiecesOnto::read_onto), using(crate::proofs::Pieces::shorter_after, crate::proofs::Pieces::dropped_twice))]
 fn push_piece<'a>(
     alloc: Global,
     text: &mut Vec<u8>,
@@ -239,7 +264,7 @@ fn push_piece<'a>(
     ensures value { Gives
         (λ piece. piece_of text.new.items piece)
         result
-        (read_piece settings.now.operator.now settings.now.lead text.old.items waits bytes.now) }
+        (read_onto settings.now.operator.now settings.now.lead text.old.items waits bytes.now) }
     ensures end { IfOk result (λ piece. piece.end ≡ line_len piece.rest.now) }
     ensures shorter { IfOk result (λ piece. length piece.rest.now < length bytes.now) }
 {
@@ -247,7 +272,7 @@ fn push_piece<'a>(
         return Err(FontRefusal::from(FontCode::D4));
     }
     let Some(opening) = first_opening(settings.operator, up_to(bytes, end)) else {
-        let piece = push_whole_line(text, waits, end, bytes)?;
+        let piece = push_whole_line(text, buffer, settings.operator, waits, end, bytes)?;
         return Ok(piece);
     };
     push_front(text, waits, up_to(bytes, opening.at))?;

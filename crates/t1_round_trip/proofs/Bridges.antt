@@ -23,7 +23,7 @@ use Rattle.t1_parts.specs.Operator.{operator}
 use Rattle.t1_parts.specs.Parts.{tail_of}
 use Rattle.t1_parts.specs.Printing.{text}
 use Rattle.t1_parts.specs.SourceParts.{SourceParts}
-use Rattle.t1_font.specs.Assembly.{entry_line, item_line, private_text, trailer_text, file_in, source_file, source_pfa}
+use Rattle.t1_font.specs.Assembly.{entry_line, item_line, private_text, trailer_text, source_file, source_pfa}
 use Rattle.t1_disassemble.specs.Disassembly.{disassembled}
 use Rattle.t1_disassemble.specs.Laws.{plain_item, item_text, items_text, AreBytes}
 use Rattle.t1_disassemble.proofs.DigitFileLaws.{digits_again, text_again}
@@ -96,12 +96,12 @@ unmade : (long : Bool) (made file : List ℕ) → (if long then Err (fault_at pl
 unmade true made file h = absurd (cc)
 unmade false made file h = cc
 
-record Made (form : List ℕ → List ℕ → List ℕ → Result (List ℕ) Fault) (source : SourceParts) (file : List ℕ) : Type 0 where
-  private : List ℕ
-  said : private_text (lead source) (operator source) source.items ≡ Ok private
-  is : form (joined source.clear) private (trailer_text source.tail) ≡ Ok file
+pub record Made (form : List ℕ → List ℕ → List ℕ → Result (List ℕ) Fault) (source : SourceParts) (file : List ℕ) : Type 0 where
+  pub private : List ℕ
+  pub said : private_text (lead source) (operator source) source.items ≡ Ok private
+  pub is : form (joined source.clear) private (trailer_text source.tail) ≡ Ok file
 
-made_from : (form : List ℕ → List ℕ → List ℕ → Result (List ℕ) Fault) (source : SourceParts) (file : List ℕ) (read : Result (List ℕ) Fault) → private_text (lead source) (operator source) source.items ≡ read
+pub made_from : (form : List ℕ → List ℕ → List ℕ → Result (List ℕ) Fault) (source : SourceParts) (file : List ℕ) (read : Result (List ℕ) Fault) → private_text (lead source) (operator source) source.items ≡ read
     → (read >>= λ private. form (joined source.clear) private (trailer_text source.tail)) ≡ Ok file → Made form source file
 made_from form source file (Ok private) e h = record { private = private; said = e; is = h }
 made_from form source file (Err fault) e h = absurd (cc)

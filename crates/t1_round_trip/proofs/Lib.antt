@@ -1,1 +1,3 @@
+pub mod AgainLaws
 pub mod Bridges
+pub mod PlainLaws

@@ -1,15 +1,17 @@
 -- Sources whose files are read back.
-use Rattle.std.specs.Prelude.{◌≡◌, ℕ, true, List, [], ◌∷◌, ◌++◌, map, Result, Ok}
+use Rattle.std.specs.Prelude.{◌≡◌, ℕ, true, List, [], ◌∷◌, ◌++◌, map, Ok}
 use Rattle.std.specs.List.{list_all}
-use Rattle.t1_frac.specs.declared.fault.Fault.{Fault}
+use Rattle.t1_frac.specs.Outcome.{◌>>=◌}
 use Rattle.t1_text.specs.Lines.{is_line}
 use Rattle.t1_parts.specs.declared.item.Item.{Item}
 use Rattle.t1_parts.specs.declared.item.Item.TheVariants.{Plain}
 use Rattle.t1_parts.specs.LenIV.{lead}
 use Rattle.t1_parts.specs.Operator.{operator}
 use Rattle.t1_parts.specs.Parts.{tail_of}
+use Rattle.t1_parts.specs.Reading.{reads}
 use Rattle.t1_parts.specs.SourceParts.{SourceParts}
-use Rattle.t1_font.specs.Assembly.{private_text}
+use Rattle.t1_font.specs.Assembly.{private_text, source_file}
+use Rattle.t1_disassemble.specs.Disassembly.{disassembled}
 use Rattle.t1_disassemble.specs.Laws.{plain_item, AreBytes, IsReadBack}
 
 -- profile: a source as it comes back: each number word in its one plain spelling
@@ -28,3 +30,9 @@ pub record ReadsAsItself (source : SourceParts) : Type 0 where
 -- profile: the private text of a source is of numbers that bytes hold, as all text that a file gives is
 abbrev pub HasBytes : SourceParts → Type 0
 HasBytes source = (private : List ℕ) → private_text (lead source) (operator source) source.items ≡ Ok private → AreBytes private
+
+-- profile: what is read back of a font's file is a text of which this very file is assembled
+pub record IsAssembledAgain (size : ℕ) (file : List ℕ) : Type 0 where
+  pub text : List ℕ
+  pub read : disassembled file ≡ Ok text
+  pub assembled : (reads text >>= source_file size) ≡ Ok file

@@ -27,6 +27,10 @@ fn code_name(code: FontCode) -> &'static [u8]
         FontCode::D7 => b"D7",
         FontCode::D8 => b"D8",
         FontCode::D9 => b"D9",
+        FontCode::D10 => b"D10",
+        FontCode::D11 => b"D11",
+        FontCode::D12 => b"D12",
+        FontCode::D13 => b"D13",
     }
 }
 

@@ -2,7 +2,8 @@ use Rattle.std.proofs.Common.{◌≡◌, ℕ, List, [], ◌++◌, false, Ok, sym
 use Rattle.std.proofs.lemmas.List.{nil_from_length}
 use Rattle.t1_disassemble.specs.Outcome.{reported_at}
 use Rattle.t1_disassemble.specs.declared.fault.FontPlace.TheVariants.{Nowhere}
-use Rattle.t1_disassemble.specs.Words.{words_of, words_onto, printed_words}
+use Rattle.t1_disassemble.specs.Words.{words_of, printed_words}
+use Rattle.t1_disassemble.specs.WordsOnto.{words_onto}
 use Rattle.t1_disassemble.proofs.Reading.{push_none}
 use Rattle.t1_disassemble.proofs.charstring.push_words.Goals as goal
 

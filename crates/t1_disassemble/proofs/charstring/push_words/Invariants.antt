@@ -1,5 +1,6 @@
 use Rattle.std.proofs.Common.{◌≡◌, length, false}
-use Rattle.t1_disassemble.specs.Words.{words_of, words_onto}
+use Rattle.t1_disassemble.specs.Words.{words_of}
+use Rattle.t1_disassemble.specs.WordsOnto.{words_onto}
 use Rattle.t1_disassemble.proofs.charstring.push_words.Given as goal
 
 -- the text so far, and the words that are left

@@ -1,6 +1,6 @@
 use Rattle.std.proofs.Common.{◌≡◌, ◌≤◌, length, false}
 use Rattle.t1_disassemble.specs.Front.{line_len}
-use Rattle.t1_disassemble.specs.PrivateText.{private_onto}
+use Rattle.t1_disassemble.specs.PiecesOnto.{private_onto}
 use Rattle.t1_disassemble.proofs.private.push_private.Given as goal
 
 -- the text so far, and the pieces that are left

@@ -2,7 +2,7 @@ use Rattle.std.proofs.Common.{◌≡◌, ◌<◌, length, false, ◌∙◌, ap, 
 use Rattle.t1_text.proofs.CutLaws.{line_gone}
 use Rattle.t1_parts.specs.Parts.{is_eexec}
 use Rattle.t1_disassemble.proofs.Fronts.{eexec_later}
-use Rattle.t1_disassemble.proofs.front.after_eexec.Goals as goal
+use Rattle.t1_disassemble.proofs.front.after_eexec_line.Goals as goal
 
 pub loop-rest-preserved : goal.loop-rest-preserved
 loop-rest-preserved c =

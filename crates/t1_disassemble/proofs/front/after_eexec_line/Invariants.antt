@@ -1,11 +1,11 @@
 use Rattle.std.proofs.Common.{◌≡◌, ◌≤◌, length}
-use Rattle.t1_disassemble.specs.Front.{after_eexec}
-use Rattle.t1_disassemble.proofs.front.after_eexec.Given as goal
+use Rattle.t1_disassemble.specs.Front.{after_eexec_line}
+use Rattle.t1_disassemble.proofs.front.after_eexec_line.Given as goal
 
 -- the line is looked for in the rest
 abbrev pub invariant-loop-rest : goal.invariant-loop-rest
 invariant-loop-rest l = record {
-  line : after_eexec l.rest ≡ after_eexec l.bytes;
+  line : after_eexec_line l.rest ≡ after_eexec_line l.bytes;
   within : length l.rest ≤ length l.bytes;
 }
 

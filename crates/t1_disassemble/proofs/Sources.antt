@@ -1,0 +1,62 @@
+-- The source of an encrypted part after other lines is that source alone, behind them.
+use Rattle.std.proofs.Common.{◌≡◌, ℕ, false, ◌+◌, ◌-◌, List, ◌++◌, drop, length, Result, Ok, Err, refl, ap, ◌∙◌, append_assoc}
+use Rattle.std.proofs.lemmas.List.{drop_at}
+use Rattle.t1_frac.specs.Outcome.{◌>>=◌}
+use Rattle.t1_text.specs.Lines.{lines, joined}
+use Rattle.t1_parts.specs.Parts.{tail_of}
+use Rattle.t1_disassemble.specs.declared.fault.FontCode.{FontCode}
+use Rattle.t1_disassemble.specs.declared.fault.FontFault.{FontFault}
+use Rattle.t1_disassemble.specs.declared.fault.FontPlace.TheVariants.{Nowhere}
+use Rattle.t1_disassemble.specs.CutDigits.{with_digits}
+use Rattle.t1_disassemble.specs.Decipher.{decrypted_private}
+use Rattle.t1_disassemble.specs.Disassembly.{coded_bytes, coded_place, tail_after, private_source, coded_source}
+use Rattle.t1_disassemble.specs.Kinds.{single_sections}
+use Rattle.t1_disassemble.specs.Outcome.{reported_at}
+use Rattle.t1_disassemble.specs.PiecesOnto.{text_onto, private_onto}
+use Rattle.t1_disassemble.specs.PrivateText.{private_text}
+use Rattle.t1_disassemble.specs.SegmentsRead.{FontParts}
+use Rattle.t1_disassemble.specs.Settings.{reading_operator, leading_bytes}
+use Rattle.t1_disassemble.specs.SourceOnto.{plain_onto, source_onto}
+
+-- the lines of a whole private text, after others
+pub text_same : (operator : List ℕ) (lead : ℕ) (text plain : List ℕ) → private_onto operator lead text false plain ≡ text_onto text (private_text operator lead plain)
+unfolding private_onto private_text
+text_same operator lead text plain = refl
+
+-- the tail that stands behind what was read
+abbrev tail_lines : FontParts → List ℕ → List ℕ → List ℕ → List ℕ
+tail_lines parts coded plain rest = joined (tail_of (lines (tail_after parts coded (4 + (length plain - length rest)))))
+
+-- what is made of the private text, where it has one section of a kind
+abbrev ended : FontParts → List ℕ → List ℕ → List ℕ × List ℕ → Result (List ℕ) FontFault
+ended parts coded plain private = single_sections private.0 >>= λ single. Ok (private.0 ++ tail_lines parts coded plain private.1)
+
+-- the same after a text
+abbrev ended_onto : List ℕ → FontParts → List ℕ → List ℕ → List ℕ × List ℕ → Result (List ℕ) FontFault
+ended_onto text parts coded plain private = single_sections (drop (length text) private.0) >>= λ single. Ok (private.0 ++ tail_lines parts coded plain private.1)
+
+judged_same : (text made tail : List ℕ) (judged : Result (List ℕ) FontFault) → (judged >>= λ single. Ok ((text ++ made) ++ tail)) ≡ ((judged >>= λ single. Ok (made ++ tail)) >>= λ more. Ok (text ++ more))
+judged_same text made tail (Ok single) = ap (λ (t : List ℕ). Ok t) (append_assoc text made tail)
+judged_same text made tail (Err fault) = refl
+
+digits_same : (place : ℕ) (text : List ℕ) (parts : FontParts) (coded plain : List ℕ) (read : Result (List ℕ × List ℕ) FontFault)
+    → (with_digits place coded (text_onto text read) >>= ended_onto text parts coded plain) ≡ ((with_digits place coded read >>= ended parts coded plain) >>= λ more. Ok (text ++ more))
+digits_same place text parts coded plain (Ok found) =
+    let tail = tail_lines parts coded plain found.1 in
+    ap (λ (l : List ℕ). single_sections l >>= λ single. Ok ((text ++ found.0) ++ tail)) (drop_at text found.0 (length text) refl)
+    ∙ judged_same text found.0 tail (single_sections found.0)
+digits_same place text parts coded plain (Err fault) = refl
+
+lead_same : (text : List ℕ) (parts : FontParts) (coded plain operator : List ℕ) (lead : Result ℕ FontCode)
+    → (reported_at Nowhere lead >>= λ n. with_digits (coded_place parts coded) coded (private_onto operator n text false plain) >>= ended_onto text parts coded plain)
+    ≡ ((reported_at Nowhere lead >>= λ n. with_digits (coded_place parts coded) coded (private_text operator n plain) >>= ended parts coded plain) >>= λ more. Ok (text ++ more))
+lead_same text parts coded plain operator (Ok n) =
+    ap (λ (r : Result (List ℕ × List ℕ) FontFault). with_digits (coded_place parts coded) coded r >>= ended_onto text parts coded plain) (text_same operator n text plain)
+    ∙ digits_same (coded_place parts coded) text parts coded plain (private_text operator n plain)
+lead_same text parts coded plain operator (Err code) = refl
+
+plain_same : (text : List ℕ) (parts : FontParts) (coded plain : List ℕ) → plain_onto text parts coded plain ≡ (private_source parts coded plain >>= λ more. Ok (text ++ more))
+plain_same text parts coded plain = lead_same text parts coded plain (reading_operator (lines plain)) (leading_bytes (lines plain))
+
+pub source_same : (text : List ℕ) (parts : FontParts) (coded : List ℕ) → source_onto text parts coded ≡ (coded_source parts coded >>= λ more. Ok (text ++ more))
+source_same text parts coded = plain_same text parts coded (decrypted_private (coded_bytes coded))

@@ -1,0 +1,18 @@
+use Rattle.std.proofs.Common.{◌≡◌, ◌≤◌, ◌+◌, length}
+use Rattle.std.specs.Prelude.{filter}
+use Rattle.t1_text.specs.Lines.{lines}
+use Rattle.t1_parts.specs.Sections.{subrs_line, glyphs_line}
+use Rattle.t1_disassemble.specs.Kinds.{is_line_of}
+use Rattle.t1_disassemble.proofs.kinds.has_second.Given as goal
+
+-- the lines of each kind so far, and those that are left
+abbrev pub invariant-loop-rest : goal.invariant-loop-rest
+invariant-loop-rest l = record {
+  subrs : l.subrs + length (filter (is_line_of subrs_line) (lines l.rest)) ≡ length (filter (is_line_of subrs_line) (lines l.text));
+  glyphs : l.glyphs + length (filter (is_line_of glyphs_line) (lines l.rest)) ≡ length (filter (is_line_of glyphs_line) (lines l.text));
+  few : l.subrs + length l.rest ≤ length l.text;
+  fewer : l.glyphs + length l.rest ≤ length l.text;
+}
+
+abbrev pub decreases-loop-rest : goal.decreases-loop-rest
+decreases-loop-rest l = length l.rest

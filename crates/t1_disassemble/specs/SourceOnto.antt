@@ -1,0 +1,27 @@
+-- The source of an encrypted part, after other lines.
+use Rattle.std.specs.Prelude.{ℕ, ◌+◌, ◌-◌, false, List, ◌++◌, drop, length, Result, Ok}
+use Rattle.t1_frac.specs.Outcome.{◌>>=◌}
+use Rattle.t1_text.specs.Lines.{lines, joined}
+use Rattle.t1_parts.specs.Parts.{tail_of}
+use Rattle.t1_disassemble.specs.declared.fault.FontFault.{FontFault}
+use Rattle.t1_disassemble.specs.declared.fault.FontPlace.TheVariants.{Nowhere}
+use Rattle.t1_disassemble.specs.CutDigits.{with_digits}
+use Rattle.t1_disassemble.specs.Decipher.{decrypted_private}
+use Rattle.t1_disassemble.specs.Disassembly.{coded_bytes, coded_place, tail_after}
+use Rattle.t1_disassemble.specs.Kinds.{single_sections}
+use Rattle.t1_disassemble.specs.Outcome.{reported_at}
+use Rattle.t1_disassemble.specs.PiecesOnto.{private_onto}
+use Rattle.t1_disassemble.specs.SegmentsRead.{FontParts}
+use Rattle.t1_disassemble.specs.Settings.{reading_operator, leading_bytes}
+
+-- word: the lines of the private text and of the tail, after a text
+abbrev pub plain_onto : List ℕ → FontParts → List ℕ → List ℕ → Result (List ℕ) FontFault
+plain_onto text parts coded plain =
+    reported_at Nowhere (leading_bytes (lines plain)) >>= λ lead.
+    with_digits (coded_place parts coded) coded (private_onto (reading_operator (lines plain)) lead text false plain) >>= λ private.
+    single_sections (drop (length text) private.0) >>= λ single.
+    Ok (private.0 ++ joined (tail_of (lines (tail_after parts coded (4 + (length plain - length private.1))))))
+
+-- word: the same, of the encrypted part alone
+abbrev pub source_onto : List ℕ → FontParts → List ℕ → Result (List ℕ) FontFault
+source_onto text parts coded = plain_onto text parts coded (decrypted_private (coded_bytes coded))

@@ -1,0 +1,93 @@
+//! Fonts of kinds that aren't read.
+ghost use Rattle.std.specs.Prelude.{◌≡◌, ◌||◌, Ok, Err, if◌then◌else◌, MatchResult, List, ℕ};
+ghost use Rattle.t1_text.specs.Lines.{lines};
+ghost use Rattle.t1_parts.specs.Sections.{subrs_line, glyphs_line};
+ghost use Rattle.t1_disassemble.specs.Kinds.{without, plain_kind, is_line_of, has_second, single_sections};
+
+use crate::fault::{FontCode, FontFault, FontPlace};
+use crate::settings::{is_glyphs_line, is_subrs_line, text_place};
+use t1_text::first_line;
+
+/// Bytes that hold a text are refused where it first stands.
+fn check_without(text: &[u8], code: FontCode, bytes: &[u8]) -> Result<(), FontFault>
+    ensures { MatchResult
+        result
+        (λ _. without text.now code bytes.now ≡ Ok bytes.now)
+        (λ fault. without text.now code bytes.now ≡ Err fault) }
+{
+    let place = text_place(text, bytes);
+    if place < bytes.len() {
+        return Err(FontFault {
+            code,
+            place: FontPlace::Byte(place as u64),
+        });
+    }
+    Ok(())
+}
+
+/// The clear text of a multiple master or CID-keyed font is refused where it first says so.
+#[tactic(auto, unfolding(crate::specs::Kinds::plain_kind))]
+pub(crate) fn check_kind(clear: &[u8]) -> Result<(), FontFault>
+    ensures { MatchResult
+        result
+        (λ _. plain_kind clear.now ≡ Ok clear.now)
+        (λ fault. plain_kind clear.now ≡ Err fault) }
+{
+    check_without(b"/WeightVector", FontCode::D12, clear)?;
+    check_without(b"/CIDFontName", FontCode::D13, clear)
+}
+
+/// One for the Subrs line of a source, none for any other line.
+fn subrs_count(line: &[u8]) -> usize
+    ensures { result ≡ (if is_line_of subrs_line line.now then 1 else 0) }
+{
+    if line.first() == Some(&b'\t') || !is_subrs_line(line) {
+        return 0;
+    }
+    1
+}
+
+/// One for the CharStrings line of a source, none for any other line.
+fn glyphs_count(line: &[u8]) -> usize
+    ensures { result ≡ (if is_line_of glyphs_line line.now then 1 else 0) }
+{
+    if line.first() == Some(&b'\t') || !is_glyphs_line(line) {
+        return 0;
+    }
+    1
+}
+
+/// Whether a text has two Subrs lines or two CharStrings lines.
+#[tactic(auto, using(crate::proofs::KindLaws::lines_counted))]
+fn has_second(text: &[u8]) -> bool
+    ensures { result
+        ≡ (has_second subrs_line (lines text.now) || has_second glyphs_line (lines text.now)) }
+{
+    let mut subrs = 0;
+    let mut glyphs = 0;
+    let mut rest = text;
+    while !rest.is_empty() {
+        let (line, after) = first_line(rest);
+        subrs += subrs_count(line);
+        glyphs += glyphs_count(line);
+        rest = after;
+    }
+    1 < subrs || 1 < glyphs
+}
+
+/// The lines of a private text with two Subrs lines or two CharStrings lines are refused.
+#[tactic(auto, unfolding(crate::specs::Kinds::single_sections))]
+pub(crate) fn check_sections(text: &[u8]) -> Result<(), FontFault>
+    ensures { MatchResult
+        result
+        (λ _. single_sections text.now ≡ Ok text.now)
+        (λ fault. single_sections text.now ≡ Err fault) }
+{
+    if has_second(text) {
+        return Err(FontFault {
+            code: FontCode::D11,
+            place: FontPlace::Nowhere,
+        });
+    }
+    Ok(())
+}
