@@ -12,7 +12,7 @@ _t1edit() {
                 -o|--output) mapfile -t COMPREPLY < <(compgen -f -- "$word"); return ;;
                 -l|--block) return ;;
             esac
-            [[ $word == -* ]] && words="-l --block -a --pfa -o --output -h --help"
+            [[ $word == -* ]] && words="-l --block -a --pfa --font -o --output -h --help"
             [[ $word != -* ]] && mapfile -t COMPREPLY < <(compgen -f -- "$word") && return
             ;;
         disassemble)
@@ -26,21 +26,21 @@ _t1edit() {
             case "$before" in
                 --kern|-o|--output) mapfile -t COMPREPLY < <(compgen -f -- "$word"); return ;;
             esac
-            [[ $word == -* ]] && words="--kern -o --output -h --help"
+            [[ $word == -* ]] && words="--kern --font -o --output -h --help"
             [[ $word != -* ]] && mapfile -t COMPREPLY < <(compgen -f -- "$word") && return
             ;;
         check)
             case "$before" in
                 --kern) mapfile -t COMPREPLY < <(compgen -f -- "$word"); return ;;
             esac
-            [[ $word == -* ]] && words="--kern -h --help"
+            [[ $word == -* ]] && words="--kern --font -h --help"
             [[ $word != -* ]] && mapfile -t COMPREPLY < <(compgen -f -- "$word") && return
             ;;
         session)
             case "$before" in
                 --kern) mapfile -t COMPREPLY < <(compgen -f -- "$word"); return ;;
             esac
-            [[ $word == -* ]] && words="--kern -h --help"
+            [[ $word == -* ]] && words="--kern --font -h --help"
             [[ $word != -* ]] && mapfile -t COMPREPLY < <(compgen -f -- "$word") && return
             ;;
         explain)

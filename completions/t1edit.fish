@@ -5,12 +5,13 @@ complete -c t1edit -n '__fish_use_subcommand' -s V -l version -d 'Print version'
 complete -c t1edit -n __fish_use_subcommand -a assemble -d 'Writes the PFB or the PFA file of a source'
 complete -c t1edit -n __fish_use_subcommand -a disassemble -d 'Writes the source of a font\'s PFB, PFA or raw file'
 complete -c t1edit -n __fish_use_subcommand -a measure -d 'Runs every glyph and writes the AFM file of a source'
-complete -c t1edit -n __fish_use_subcommand -a check -d 'Judges a source as measure does, and writes nothing'
+complete -c t1edit -n __fish_use_subcommand -a check -d 'Judges sources as measure does, and writes nothing'
 complete -c t1edit -n __fish_use_subcommand -a session -d 'Edits and prints a source by commands from standard input'
 complete -c t1edit -n __fish_use_subcommand -a explain -d 'Says what a code, a rule or an exit status means, and what to do'
 complete -c t1edit -n __fish_use_subcommand -a help -d 'Print this message or the help of the given subcommand(s)'
 complete -c t1edit -n '__fish_seen_subcommand_from assemble' -s l -l block -x -d 'Cuts each part of the PFB file into segments of N bytes, from 1 to 2147483647'
 complete -c t1edit -n '__fish_seen_subcommand_from assemble' -s a -l pfa -d 'Writes the PFA file, whose encrypted part is hexadecimal'
+complete -c t1edit -n '__fish_seen_subcommand_from assemble' -l font -d 'Takes a font\'s PFB, PFA or raw file as SOURCE, and disassembles it first'
 complete -c t1edit -n '__fish_seen_subcommand_from assemble' -s o -l output -r -F -d 'Writes to this file, whole or not at all; - for standard output'
 complete -c t1edit -n '__fish_seen_subcommand_from assemble' -s h -l help -d 'Print help (see a summary with \'-h\')'
 complete -c t1edit -n '__fish_seen_subcommand_from assemble' -F
@@ -18,13 +19,16 @@ complete -c t1edit -n '__fish_seen_subcommand_from disassemble' -s o -l output -
 complete -c t1edit -n '__fish_seen_subcommand_from disassemble' -s h -l help -d 'Print help (see a summary with \'-h\')'
 complete -c t1edit -n '__fish_seen_subcommand_from disassemble' -F
 complete -c t1edit -n '__fish_seen_subcommand_from measure' -l kern -r -F -d 'A file with the kerning pairs, of which the KPX lines count; - for standard input'
+complete -c t1edit -n '__fish_seen_subcommand_from measure' -l font -d 'Takes a font\'s PFB, PFA or raw file as SOURCE, and disassembles it first'
 complete -c t1edit -n '__fish_seen_subcommand_from measure' -s o -l output -r -F -d 'Writes to this file, whole or not at all; - for standard output'
 complete -c t1edit -n '__fish_seen_subcommand_from measure' -s h -l help -d 'Print help (see a summary with \'-h\')'
 complete -c t1edit -n '__fish_seen_subcommand_from measure' -F
 complete -c t1edit -n '__fish_seen_subcommand_from check' -l kern -r -F -d 'A file with the kerning pairs, of which the KPX lines count; - for standard input'
+complete -c t1edit -n '__fish_seen_subcommand_from check' -l font -d 'Takes fonts\' PFB, PFA or raw files as SOURCE, and disassembles each first'
 complete -c t1edit -n '__fish_seen_subcommand_from check' -s h -l help -d 'Print help (see a summary with \'-h\')'
 complete -c t1edit -n '__fish_seen_subcommand_from check' -F
 complete -c t1edit -n '__fish_seen_subcommand_from session' -l kern -r -F -d 'A file with the kerning pairs, of which the KPX lines count'
+complete -c t1edit -n '__fish_seen_subcommand_from session' -l font -d 'Takes a font\'s PFB, PFA or raw file as SOURCE, and disassembles it first'
 complete -c t1edit -n '__fish_seen_subcommand_from session' -s h -l help -d 'Print help (see a summary with \'-h\')'
 complete -c t1edit -n '__fish_seen_subcommand_from session' -F
 complete -c t1edit -n '__fish_seen_subcommand_from explain' -s h -l help -d 'Print help (see a summary with \'-h\')'

@@ -17,8 +17,9 @@ const SECTION: Section = Section {
                 The clear part of a font ends with the first line that ends in these two words, with one\n\
                 space between them. Other bytes may stand before them, and only blanks after them.\n\
                 \n\
-                What to do: let the line end there, and give a comment a line of its own. A PFB or PFA\n\
-                file isn't a source; t1disasm makes one of it.\n",
+                What to do: let the line end there, and give a comment a line of its own. The PFB, PFA or\n\
+                raw file of a font isn't a source: give --font, or make a source of it by 't1edit\n\
+                disassemble'.\n",
             note: "",
         },
         Topic {
@@ -32,7 +33,8 @@ const SECTION: Section = Section {
                 blanks after them.\n\
                 \n\
                 What to do: write the three words at the end of one line. A source that was cut off lacks\n\
-                the line; so does a PFB or PFA file, which isn't a source until t1disasm has read it.\n",
+                the line; so does the PFB, PFA or raw file of a font, which isn't a source: give --font, or\n\
+                make a source of it by 't1edit disassemble'.\n",
             note: "",
         },
         Topic {
@@ -44,7 +46,9 @@ const SECTION: Section = Section {
                 The glyphs follow a line of the private part that holds /CharStrings, a number of at most\n\
                 nine digits, and dict, one after another.\n\
                 \n\
-                What to do: write these three on one line, before the first glyph.\n",
+                What to do: write these three on one line, before the first glyph. Where t1disasm wrote them\n\
+                on several, take the font's PFB, PFA or raw file in place of the source: give --font, or make\n\
+                a source of it by 't1edit disassemble'.\n",
             note: "",
         },
         Topic {
