@@ -9,6 +9,9 @@ use crate::topic::{Section, Topic};
 const FILE_EXAMPLE: &str =
     "For example, a file that begins with these bytes, in hexadecimal, has the fault:\n\n";
 
+/// What stands above a line of a font's clear text that causes a fault.
+const CLEAR_EXAMPLE: &str = "For example, this line of the clear text has the fault:\n\n";
+
 /// What stands above a line of a font's private text that causes a fault.
 const PRIVATE_EXAMPLE: &str =
     "For example, this line of the private text, which eexec encrypts, has the fault:\n\n";
@@ -24,11 +27,12 @@ const SECTION: Section = Section {
             code: "D1",
             meaning: "no line of the clear text ends in 'currentfile eexec'",
             lead: FAULT_EXAMPLE,
-            text: "\tcurrentfile eexec % private\n\
+            text: "\tcurrentfile eexec% private\n\
                 \n\
                 The clear text of a PFB file is its segments of text before the first binary\n\
                 one; that of another file ends with the first line that ends in these two words,\n\
-                with one space between them.\n\
+                with one space between them. Where no line does, it ends with the first two such\n\
+                words that a space follows: the encrypted part begins on their line.\n\
                 \n\
                 What to do: see that the file is a Type 1 font, and whole. An OpenType or\n\
                 TrueType font isn't one.\n",
@@ -70,7 +74,7 @@ const SECTION: Section = Section {
             text: "\tcurrentfile closefile\n\
                 \n\
                 The private text ends with the first line that ends in these three words, with\n\
-                one space between each two.\n\
+                one space between each two; they may stand on two lines, one after the other.\n\
                 \n\
                 What to do: get the file anew, if it was cut off. A font that ends its private\n\
                 text by other words isn't read.\n",
@@ -135,10 +139,62 @@ const SECTION: Section = Section {
             text: "\t/lenIV 65 def\n\
                 \n\
                 It is what follows /lenIV in the first line that has it, before the first Subrs\n\
-                or CharStrings line. A font with lenIV -1, whose charstrings aren't encrypted,\n\
-                isn't read.\n\
+                or CharStrings line.\n\
                 \n\
                 What to do: have the program that wrote the font write it with lenIV 4.\n",
+            note: "",
+        },
+        Topic {
+            code: "D10",
+            meaning: "lenIV is -1: the charstrings aren't encrypted",
+            lead: PRIVATE_EXAMPLE,
+            text: "\t/lenIV -1 def\n\
+                \n\
+                A font says so whose charstrings stand there as they are. Such a font isn't\n\
+                read.\n\
+                \n\
+                What to do: write the font anew with encrypted charstrings, as 'tx -t1' does, by\n\
+                which lenIV is 4 unless '-e' says another number.\n",
+            note: "",
+        },
+        Topic {
+            code: "D11",
+            meaning: "a second Subrs line or a second CharStrings line",
+            lead: PRIVATE_EXAMPLE,
+            text: "\t/CharStrings 1 dict dup begin\n\
+                \n\
+                The line stands in the private text after another one of its kind. A synthetic\n\
+                font has two sets of Subrs or of CharStrings, of which a printer takes the one\n\
+                that it needs; a source has one of each.\n\
+                \n\
+                What to do: write the font anew with one set of each, as 'tx -t1' does.\n",
+            note: "",
+        },
+        Topic {
+            code: "D12",
+            meaning: "a multiple master font",
+            lead: CLEAR_EXAMPLE,
+            text: "\t/WeightVector [0.5 0.5] def\n\
+                \n\
+                The outlines of such a font depend on weights, by othersubrs of its own, and it\n\
+                has no metrics without them. The place is the number of bytes in front of\n\
+                /WeightVector, the heads of segments not counted.\n\
+                \n\
+                What to do: make an instance of it, with the weights that are wanted, as\n\
+                'mmpfb --weight=400 font.pfb' does.\n",
+            note: "",
+        },
+        Topic {
+            code: "D13",
+            meaning: "a CID-keyed font",
+            lead: CLEAR_EXAMPLE,
+            text: "\t/CIDFontName /Demo def\n\
+                \n\
+                The glyphs of such a font have numbers in place of names, and stand in binary\n\
+                data that isn't laid out as a private text is. The place is the number of bytes\n\
+                in front of /CIDFontName.\n\
+                \n\
+                What to do: make a font with named glyphs of it, as 'tx -t1 -decid' does.\n",
             note: "",
         },
     ],
