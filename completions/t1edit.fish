@@ -48,7 +48,7 @@ complete -c t1edit -n '__fish_seen_subcommand_from explain; and test (count (com
 complete -c t1edit -n '__fish_seen_subcommand_from explain; and test (count (commandline -opc)) -eq 2' -k -a E4 -d 'not a number, or out of range'
 complete -c t1edit -n '__fish_seen_subcommand_from explain; and test (count (commandline -opc)) -eq 2' -k -a E3 -d 'a bad name'
 complete -c t1edit -n '__fish_seen_subcommand_from explain; and test (count (commandline -opc)) -eq 2' -k -a E2 -d 'add: there already'
-complete -c t1edit -n '__fish_seen_subcommand_from explain; and test (count (commandline -opc)) -eq 2' -k -a E1 -d 'replace or remove: no such glyph or Subr'
+complete -c t1edit -n '__fish_seen_subcommand_from explain; and test (count (commandline -opc)) -eq 2' -k -a E1 -d 'replace, remove or show: no such glyph or Subr'
 complete -c t1edit -n '__fish_seen_subcommand_from explain; and test (count (commandline -opc)) -eq 2' -k -a D13 -d 'a CID-keyed font'
 complete -c t1edit -n '__fish_seen_subcommand_from explain; and test (count (commandline -opc)) -eq 2' -k -a D12 -d 'a multiple master font'
 complete -c t1edit -n '__fish_seen_subcommand_from explain; and test (count (commandline -opc)) -eq 2' -k -a D11 -d 'a second Subrs line or a second CharStrings line'

@@ -12,7 +12,7 @@ const SECTION: Section = Section {
     topics: &[
         Topic {
             code: "E1",
-            meaning: "replace or remove: no such glyph or Subr",
+            meaning: "replace, remove or show: no such glyph or Subr",
             lead: RULE_EXAMPLE,
             text: "\tremove glyph B\n\
                 \n\
