@@ -2,11 +2,19 @@
 use Rattle.std.specs.Prelude.{ℕ, List, [], ◌∷◌, true, false, Some, codes}
 use Rattle.clap.specs.Words.{App, Rule, Shape, new_rule}
 use Rattle.clap.specs.Simple.{new_shape}
-use Rattle.clap.specs.declared.builder.action.ArgAction.TheVariants.{Set, SetTrue}
+use Rattle.clap.specs.declared.builder.action.ArgAction.TheVariants.{Append, Set, SetTrue}
 
 -- profile: the source, which must be there
 abbrev pub source : Rule
 source = record (new_rule (codes "SOURCE")) { action = Some Set; required = true }
+
+-- profile: the sources, of which one must be there
+abbrev pub sources : Rule
+sources = record (new_rule (codes "SOURCE")) { action = Some Append; required = true }
+
+-- profile: --font, by which the source is a font's file
+abbrev pub as_font : Rule
+as_font = record (new_rule (codes "font")) { long = Some (codes "font"); action = Some SetTrue }
 
 -- profile: the font's file, which must be there
 abbrev pub font : Rule
@@ -48,25 +56,25 @@ place = record (new_rule (codes "PLACE")) { action = Some Set; value_names = 2 }
 abbrev pub taking : List ℕ → List Rule → Shape
 taking name rules = record (new_shape name) { rules = rules }
 
--- profile: assemble, which takes a block length or a form, an output and the source
+-- profile: assemble, which takes a block length or a form, an output and the source or a font
 abbrev pub assemble : Shape
-assemble = taking (codes "assemble") (block ∷ pfa ∷ output ∷ source ∷ [])
+assemble = taking (codes "assemble") (block ∷ pfa ∷ as_font ∷ output ∷ source ∷ [])
 
 -- profile: disassemble, which takes an output and the font's file
 abbrev pub disassemble : Shape
 disassemble = taking (codes "disassemble") (output ∷ font ∷ [])
 
--- profile: measure, which takes kerning, an output and the source
+-- profile: measure, which takes kerning, an output and the source or a font
 abbrev pub measure : Shape
-measure = taking (codes "measure") (kern ∷ output ∷ source ∷ [])
+measure = taking (codes "measure") (kern ∷ as_font ∷ output ∷ source ∷ [])
 
--- profile: check, which takes kerning and the source
+-- profile: check, which takes kerning, and sources or fonts
 abbrev pub check : Shape
-check = taking (codes "check") (kern ∷ source ∷ [])
+check = taking (codes "check") (kern ∷ as_font ∷ sources ∷ [])
 
--- profile: session, which takes kerning and the source
+-- profile: session, which takes kerning, and the source or a font
 abbrev pub session : Shape
-session = taking (codes "session") (kern ∷ source ∷ [])
+session = taking (codes "session") (kern ∷ as_font ∷ source ∷ [])
 
 -- profile: explain, which takes what is to be explained, and a place after it
 abbrev pub explain : Shape

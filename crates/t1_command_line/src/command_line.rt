@@ -2,7 +2,7 @@
 ghost use Rattle.std.specs.Prelude.{◌≡◌, ◌∷◌, [], codes, map, true, false, IfOk};
 ghost use Rattle.clap.specs.Words.{App, Shape, app_of, new_app, rule_of, with_subcommand};
 ghost use Rattle.t1_command_line.specs.CommandLine.{alone, program, program_alone};
-ghost use Rattle.t1_command_line.specs.CommandLine.{source as source_rule, font as font_rule, kern as kern_rule, output as output_rule, block as block_rule, pfa as pfa_rule, code as code_rule, place as place_rule};
+ghost use Rattle.t1_command_line.specs.CommandLine.{source as source_rule, sources as sources_rule, as_font as as_font_rule, font as font_rule, kern as kern_rule, output as output_rule, block as block_rule, pfa as pfa_rule, code as code_rule, place as place_rule};
 ghost use Rattle.t1_command_line.specs.CommandLine.{assemble as assemble_shape, disassemble as disassemble_shape, measure as measure_shape, check as check_shape, session as session_shape, explain as explain_shape};
 
 use crate::help::{CODES, SESSION};
@@ -28,6 +28,39 @@ fn source<'a>(alloc: Global, help: &'a str) -> Arg<'a>
         .required(true)
         .action(ArgAction::Set)
 }
+
+/// The help of sources of which one may be standard input.
+const SOURCES: &str =
+    "Readable sources of Type 1 fonts, as t1disasm writes them; - for standard input";
+
+/// The argument that names sources, one or more.
+fn sources<'a>(alloc: Global) -> Arg<'a>
+    ensures rule { rule_of result ≡ sources_rule }
+    ensures local { result.global ≡ false }
+{
+    Arg::new(alloc, "SOURCE")
+        .help(SOURCES)
+        .required(true)
+        .action(ArgAction::Append)
+}
+
+/// The option that says of the source that it is a font's file.
+fn as_font<'a>(alloc: Global, help: &'a str) -> Arg<'a>
+    ensures rule { rule_of result ≡ as_font_rule }
+    ensures local { result.global ≡ false }
+{
+    Arg::new(alloc, "font")
+        .long("font")
+        .help(help)
+        .action(ArgAction::SetTrue)
+}
+
+/// The help of that option.
+const AS_FONT: &str = "Takes a font's PFB, PFA or raw file as SOURCE, and disassembles it first";
+
+/// Its help where there may be several sources.
+const EACH_AS_FONT: &str =
+    "Takes fonts' PFB, PFA or raw files as SOURCE, and disassembles each first";
 
 /// The argument that names a font's file.
 fn font<'a>(alloc: Global) -> Arg<'a>
@@ -162,6 +195,7 @@ fn assemble<'a>(alloc: Global) -> Result<Command<'a>, AllocError>
     )
     .arg(block(alloc)?)?
     .arg(pfa(alloc))?
+    .arg(as_font(alloc, AS_FONT))?
     .arg(output(alloc))?
     .arg(source(alloc, SOURCE))
 }
@@ -191,6 +225,7 @@ fn measure<'a>(alloc: Global) -> Result<Command<'a>, AllocError>
         CODES,
     )
     .arg(kern(alloc, KERN))?
+    .arg(as_font(alloc, AS_FONT))?
     .arg(output(alloc))?
     .arg(source(alloc, SOURCE))
 }
@@ -201,12 +236,13 @@ fn check<'a>(alloc: Global) -> Result<Command<'a>, AllocError>
     named(
         alloc,
         "check",
-        "Judges a source as measure does, and writes nothing",
+        "Judges sources as measure does, and writes nothing",
         "Example: t1edit check font.t1",
         CODES,
     )
     .arg(kern(alloc, KERN))?
-    .arg(source(alloc, SOURCE))
+    .arg(as_font(alloc, EACH_AS_FONT))?
+    .arg(sources(alloc))
 }
 
 fn session<'a>(alloc: Global) -> Result<Command<'a>, AllocError>
@@ -220,6 +256,7 @@ fn session<'a>(alloc: Global) -> Result<Command<'a>, AllocError>
         SESSION,
     )
     .arg(kern(alloc, KERN_FILE))?
+    .arg(as_font(alloc, AS_FONT))?
     .arg(source(alloc, SOURCE_FILE))
 }
 

@@ -22,6 +22,10 @@ Commands, a line each:
   print pfa                            the same, with its encrypted part in hexadecimal
   print afm                            its AFM file
   print uses                           the Subrs and glyphs that each glyph stands on
+  show glyph NAME, show subr N         the words of an entry
+  show metrics NAME                    the line of a glyph in the AFM file
+  show outline NAME                    the lines and curves of a glyph, with those of its parts
+  show encoding                        a line for each code that has a name
   begin, commit, abort                 a batch of edits, which are judged together
 
 A body ends with a line that holds a single dot.
@@ -32,7 +36,7 @@ Answers, a line each:
   refused F20 subr 7
                    the edited font would have this fault, and nothing changed
   refused memory   there wasn't memory enough, and nothing changed
-  data LENGTH      a print: so many bytes follow, and a line end
+  data LENGTH      a print or what is shown: so many bytes follow, and a line end
 
 A commit that is refused closes its batch, and drops its edits.
 

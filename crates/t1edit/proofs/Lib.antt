@@ -1,1 +1,3 @@
+mod InTurn
 mod Lines
+mod Sources

@@ -1,12 +1,16 @@
 -- What checking a source answers.
-use Rattle.std.specs.Prelude.{ℕ, List, Result, Ok, Err}
+use Rattle.std.specs.Prelude.{◌≡◌, ℕ, List, Result, Ok, Err}
 use Rattle.t1_frac.specs.declared.fault.Refusal.{Refusal}
 use Rattle.t1_frac.specs.declared.fault.Refusal.TheVariants as refusals
 use Rattle.t1_session.specs.declared.error.ServeError.{ServeError}
 use Rattle.t1_session.specs.declared.error.ServeError.TheVariants as errors
 use Rattle.t1_frac.specs.declared.fault.Fault.{Fault}
 use Rattle.t1_frac.specs.Outcome.{◌>>=◌}
+use Rattle.t1_session.specs.Delivery.{reported_by_refusal}
 use Rattle.t1_session.specs.Files.{metrics_file}
+use Rattle.t1_disassemble.specs.declared.fault.FontFault.{FontFault}
+use Rattle.t1edit.specs.Sources.{AnswersAs, TellsFontFault}
+use Rattle.t1edit.specs.declared.file_error.FileError.{FileError}
 
 -- word: what judging answers where measuring answers this
 abbrev pub judged_by : {T : Type 0} → Result T ServeError → Result (Unit {0}) Refusal
@@ -19,3 +23,21 @@ judged_by (Err errors.Memory) = Err refusals.Memory
 -- profile: a source and its pairs pass where they have an AFM file, and are refused by the fault that measuring them reports
 abbrev pub verdict : List ℕ → List ℕ → Result (Unit {0}) Fault
 verdict source kerning = metrics_file source kerning >>= λ file. Ok tt
+
+-- word: what judging answers, as a call over whole files does
+abbrev pub reported : {T : Type 0} → Result T Refusal → Result T ServeError
+reported (Ok done) = Ok done
+reported (Err refused) = Err (reported_by_refusal refused)
+
+-- profile: what is judged passes where the verdict is so, and is refused by its fault, unless memory ran out
+abbrev pub Judges : {T : Type 0} → Result (Unit {0}) Fault → Result T ServeError → Type 0
+Judges given (Ok done) = given ≡ Ok tt
+Judges given (Err (errors.Load fault)) = given ≡ Err fault
+Judges given (Err errors.Memory) = Unit {0}
+Judges given (Err errors.Read) = ⊥
+Judges given (Err errors.Write) = ⊥
+
+-- profile: the source of a file is judged with its pairs, or the fault of a font is told, unless memory ran out
+abbrev pub JudgesFile : {T : Type 0} → Result (List ℕ) FontFault → List ℕ → Result T FileError → Type 0
+JudgesFile (Ok source) kerning answer = AnswersAs (Judges (verdict source kerning)) answer
+JudgesFile (Err fault) kerning answer = TellsFontFault fault answer

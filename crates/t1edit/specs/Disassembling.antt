@@ -14,6 +14,7 @@ DeliversSource contents old new given (Err (stops.Failed errors.Write)) = (whole
 DeliversSource contents old new given (Err (stops.Faulty fault)) = (given ≡ Err fault) × (new ≡ old)
 DeliversSource contents old new given (Err (stops.Failed errors.Memory)) = new ≡ old
 DeliversSource contents old new given (Err stops.Rejected) = ⊥
+DeliversSource contents old new given (Err (stops.Told status)) = ⊥
 DeliversSource contents old new given (Err (stops.Misused misuse)) = ⊥
 DeliversSource contents old new given (Err (stops.Failed (errors.Load fault))) = ⊥
 DeliversSource contents old new given (Err (stops.Failed errors.Read)) = ⊥

@@ -15,6 +15,7 @@ Explains contents old new given (Err (stops.Failed errors.Write)) = (whole : Lis
 Explains contents old new given (Err (stops.Misused misuses.UnknownCode)) = (given ≡ None) × (new ≡ old)
 Explains contents old new given (Err (stops.Failed errors.Memory)) = new ≡ old
 Explains contents old new given (Err stops.Rejected) = ⊥
+Explains contents old new given (Err (stops.Told status)) = ⊥
 Explains contents old new given (Err (stops.Misused misuses.InputTwice)) = ⊥
 Explains contents old new given (Err (stops.Misused misuses.InputOfSession)) = ⊥
 Explains contents old new given (Err (stops.Misused misuses.NoText)) = ⊥

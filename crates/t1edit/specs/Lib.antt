@@ -2,7 +2,10 @@ pub mod Assembling
 pub mod Checking
 pub mod Disassembling
 pub mod Explaining
+pub mod FileErrors
 pub mod FontFaults
 pub mod Reading
+pub mod Several
+pub mod Sources
 pub mod Status
 pub mod Writing

@@ -11,7 +11,7 @@ use Rattle.t1edit.specs.FontFaults.{font_fault_text}
 use Rattle.t1edit.specs.declared.status.Misuse.{Misuse}
 use Rattle.t1edit.specs.declared.status.Misuse.TheVariants.{InputTwice, InputOfSession, UnknownCode, NoText, BlockLength, OutputOverSource, OutputOverPairs, OutputOverFont}
 use Rattle.t1edit.specs.declared.status.Stop.{Stop}
-use Rattle.t1edit.specs.declared.status.Stop.TheVariants.{Rejected, Misused, Failed, Faulty}
+use Rattle.t1edit.specs.declared.status.Stop.TheVariants.{Rejected, Misused, Failed, Faulty, Told}
 use Rattle.t1edit.specs.declared.unopened.Unopened.{Unopened}
 use Rattle.t1edit.specs.declared.unopened.Unopened.TheVariants as unopened
 
@@ -36,28 +36,37 @@ status_of Memory = 4
 abbrev pub status_of_misuse : ℕ
 status_of_misuse = 2
 
--- profile: the status of a run that stopped: 1 for a font's file that has a fault
+-- profile: the status of a run that stopped: 1 for a font's file that has a fault, the worst of several sources
 abbrev pub status_of_stop : Stop → ℕ
 status_of_stop Rejected = status_of_misuse
 status_of_stop (Misused misuse) = status_of_misuse
 status_of_stop (Failed error) = status_of error
 status_of_stop (Faulty fault) = 1
+status_of_stop (Told status) = status
 
 -- profile: 0 where all was done
 abbrev pub status_of_run : {T : Type 0} → Result T Stop → ℕ
 status_of_run (Ok done) = 0
 status_of_run (Err stop) = status_of_stop stop
 
+-- profile: an error in words
+abbrev pub error_text : ServeError → List ℕ
+error_text (Load fault) = fault_text fault
+error_text Read = codes "read failed"
+error_text Write = codes "write failed"
+error_text Memory = codes "out of memory"
+
+-- profile: a line that holds a text after what begins it
+abbrev pub line_of : List ℕ → List ℕ → List ℕ
+line_of front text = front ++ text ++ codes "\n"
+
 -- profile: the line that reports an error
 abbrev pub error_line : ServeError → List ℕ
-error_line (Load fault) = codes "t1edit: " ++ fault_text fault ++ codes "\n"
-error_line Read = codes "t1edit: read failed\n"
-error_line Write = codes "t1edit: write failed\n"
-error_line Memory = codes "t1edit: out of memory\n"
+error_line error = line_of (codes "t1edit: ") (error_text error)
 
 -- profile: the line that reports the fault of a font's file
 abbrev pub font_fault_line : FontFault → List ℕ
-font_fault_line fault = codes "t1edit: " ++ font_fault_text fault ++ codes "\n"
+font_fault_line fault = line_of (codes "t1edit: ") (font_fault_text fault)
 
 -- profile: the line that reports a misuse
 abbrev pub misuse_line : Misuse → List ℕ
@@ -74,12 +83,14 @@ misuse_line OutputOverFont = codes "t1edit: -o would write over FONT\n"
 abbrev pub IsWritten : {W : Type 0} → (W → Option (List ℕ)) → Tally W → Tally W → List ℕ → Type 0
 IsWritten contents old new line = WritesAll contents old new line ⊎ WritesFront contents old new line
 
--- profile: the line of a run that stopped is written, and none where the command line was rejected, since its text stands there
+-- profile: the line of a run that stopped is written, and none where the command line was rejected, or the sources were told
+-- of, since their lines stand there
 abbrev pub ReportsStop : {W : Type 0} → (W → Option (List ℕ)) → Tally W → Tally W → Stop → Type 0
 ReportsStop contents old new Rejected = new ≡ old
 ReportsStop contents old new (Misused misuse) = IsWritten contents old new (misuse_line misuse)
 ReportsStop contents old new (Failed error) = IsWritten contents old new (error_line error)
 ReportsStop contents old new (Faulty fault) = IsWritten contents old new (font_fault_line fault)
+ReportsStop contents old new (Told status) = new ≡ old
 
 -- profile: a run that did all reports nothing
 abbrev pub ReportsRun : {W T : Type 0} → (W → Option (List ℕ)) → Tally W → Tally W → Result T Stop → Type 0

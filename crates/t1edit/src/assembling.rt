@@ -31,7 +31,10 @@ pub enum Form {
 ghost use Rattle.std.specs.Prelude.{option_map};
 ghost use Rattle.t1_session.specs.Delivery.{Delivers};
 ghost use Rattle.t1edit.specs.Assembling.{FormIs, file_in_form};
+ghost use Rattle.t1edit.specs.Sources.{OnSource, source_in as source_in_file};
 
+use crate::file_error::{FileError, served};
+use crate::kind::{Kind, source_in};
 use crate::status::{Misuse, Stop};
 use std::alloc::Global;
 use std::io::Write;
@@ -69,4 +72,19 @@ pub fn assemble_as<W: Write>(
         Form::Blocks(block) => assemble_blocks(alloc, source, block.size, out),
         Form::Pfa => assemble_pfa(alloc, source, out),
     }
+}
+
+/// Writes the file of the source of a file in a form.
+pub fn assemble_file<W: Write>(
+    alloc: Global,
+    kind: Kind,
+    file: Vec<u8>,
+    form: &Form,
+    out: &mut Counted<W>,
+) -> Result<(), FileError>
+    ensures { OnSource (source_in_file kind file.items) out.old out.new
+        (λ source answer. Delivers W.contents out.old out.new (file_in_form form.now source) answer) result }
+{
+    let source = source_in(alloc, kind, file)?;
+    served(assemble_as(alloc, &source, form, out))
 }

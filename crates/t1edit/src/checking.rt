@@ -1,8 +1,11 @@
 //! Judging a font without writing its metrics.
 ghost use Rattle.std.specs.Prelude.{◌≡◌};
 ghost use Rattle.t1_frac.specs.Outcome.{Gives};
-ghost use Rattle.t1edit.specs.Checking.{judged_by, verdict};
+ghost use Rattle.t1edit.specs.Checking.{JudgesFile, judged_by, reported, verdict};
+ghost use Rattle.t1edit.specs.Sources.{source_in as source_in_file};
 
+use crate::file_error::{FileError, served};
+use crate::kind::{Kind, source_in};
 use std::alloc::Global;
 use std::io;
 use t1_code::Counted;
@@ -26,4 +29,22 @@ fn judged_by(answer: Result<(), ServeError>) -> Result<(), Refusal>
         Err(ServeError::Load(fault)) => Err(Refusal::Fault(fault)),
         Err(ServeError::Read | ServeError::Memory) => Err(Refusal::Memory),
     }
+}
+
+/// What judging answers, as a call over whole files does.
+fn reported(answer: Result<(), Refusal>) -> Result<(), ServeError>
+    ensures { result ≡ reported answer }
+{
+    match answer {
+        Ok(()) => Ok(()),
+        Err(refused) => Err(ServeError::from(refused)),
+    }
+}
+
+/// Judges the source of a file and a kerning file, and writes nothing.
+pub fn check_file(alloc: Global, kind: Kind, file: Vec<u8>, pairs: &[u8]) -> Result<(), FileError>
+    ensures { JudgesFile (source_in_file kind file.items) pairs.now result }
+{
+    let source = source_in(alloc, kind, file)?;
+    served(reported(check_source(alloc, &source, pairs)))
 }

@@ -1,9 +1,9 @@
 //! The line that reports a fault of a font's file.
-ghost use Rattle.std.specs.Prelude.{◌≡◌, ◌++◌, codes, decimal, drop};
+ghost use Rattle.std.specs.Prelude.{◌≡◌, ◌++◌, decimal, drop};
 ghost use Rattle.t1_code.specs.Counted.{Writes};
 ghost use Rattle.t1_code.specs.Parts.{bytes_of};
 ghost use Rattle.t1edit.specs.FontFaults.{font_code_name, font_place_number, font_place_text, font_fault_text, entry_text, is_glyph};
-ghost use Rattle.t1edit.specs.Status.{font_fault_line};
+ghost use Rattle.t1edit.specs.Status.{line_of};
 
 use itoa::Buffer;
 use std::io::{self, Write};
@@ -62,25 +62,30 @@ fn past(count: usize, bytes: &[u8]) -> &[u8]
 }
 
 /// The line of a fault at an entry, in slices.
-fn entry_slices<'a>(code: &'a [u8], entry: &'a [u8]) -> [&'a [u8]; 5]
-    ensures { bytes_of result ≡ codes "t1edit: " ++ (code.now ++ entry_text entry.now) ++ codes "\n" }
+fn entry_slices<'a>(front: &'a [u8], code: &'a [u8], entry: &'a [u8]) -> [&'a [u8]; 5]
+    ensures { bytes_of result ≡ line_of front.now (code.now ++ entry_text entry.now) }
 {
     if is_glyph(entry) {
-        [b"t1edit: ", code, b" glyph ", past(1, entry), b"\n"]
+        [front, code, b" glyph ", past(1, entry), b"\n"]
     } else {
-        [b"t1edit: ", code, b" subr ", past(DUP_LEN, entry), b"\n"]
+        [front, code, b" subr ", past(DUP_LEN, entry), b"\n"]
     }
 }
 
 /// The line of a fault, in slices. The number is that of the place.
-fn line_slices<'a>(code: &'a [u8], place: &'a FontPlace, number: &'a str) -> [&'a [u8]; 5]
+fn line_slices<'a>(
+    front: &'a [u8],
+    code: &'a [u8],
+    place: &'a FontPlace,
+    number: &'a str,
+) -> [&'a [u8]; 5]
     requires { number.now ≡ decimal (font_place_number place.now) }
-    ensures { bytes_of result ≡ codes "t1edit: " ++ (code.now ++ font_place_text place.now) ++ codes "\n" }
+    ensures { bytes_of result ≡ line_of front.now (code.now ++ font_place_text place.now) }
 {
     match place {
-        FontPlace::Nowhere => [b"t1edit: ", code, b"", b"", b"\n"],
-        FontPlace::Byte(_) => [b"t1edit: ", code, b" byte ", number.as_bytes(), b"\n"],
-        FontPlace::Entry(entry) => entry_slices(code, entry.as_slice()),
+        FontPlace::Nowhere => [front, code, b"", b"", b"\n"],
+        FontPlace::Byte(_) => [front, code, b" byte ", number.as_bytes(), b"\n"],
+        FontPlace::Entry(entry) => entry_slices(front, code, entry.as_slice()),
     }
 }
 
@@ -93,15 +98,33 @@ fn write_slices<W: Write>(writer: &mut Counted<W>, slices: &[&[u8]]) -> io::Resu
     chunk.send(writer)
 }
 
-/// Writes the line that reports a fault of a font's file, by its code and its place, where it has one: `D7 glyph A`. It
-/// takes no memory.
+/// A line that holds a text after what begins it, in slices.
+fn text_slices<'a>(front: &'a [u8], text: &'a [u8]) -> [&'a [u8]; 3]
+    ensures { bytes_of result ≡ line_of front.now text.now }
+{
+    [front, text, b"\n"]
+}
+
+/// Writes a line that holds a text after what begins it. It takes no memory.
+pub fn put_line<W: Write>(front: &[u8], text: &[u8], writer: &mut Counted<W>) -> io::Result<()>
+    ensures { Writes W.contents writer.old writer.new (line_of front.now text.now) result }
+{
+    write_slices(writer, &text_slices(front, text))
+}
+
+/// Writes the line that reports a fault of a font's file, after a text that begins it, by its code and its place, where it
+/// has one: `D7 glyph A`. It takes no memory.
 #[tactic(auto, unfolding(crate::specs::FontFaults::font_fault_text))]
-pub fn put_font_fault<W: Write>(fault: &FontFault, writer: &mut Counted<W>) -> io::Result<()>
-    ensures { Writes W.contents writer.old writer.new (font_fault_line fault.now) result }
+pub fn put_font_fault<W: Write>(
+    front: &[u8],
+    fault: &FontFault,
+    writer: &mut Counted<W>,
+) -> io::Result<()>
+    ensures { Writes W.contents writer.old writer.new (line_of front.now (font_fault_text fault.now)) result }
 {
     let code = code_name(fault.code);
     let mut buffer = Buffer::new();
     let number = buffer.format(place_number(&fault.place));
-    let slices = line_slices(code, &fault.place, number);
+    let slices = line_slices(front, code, &fault.place, number);
     write_slices(writer, &slices)
 }

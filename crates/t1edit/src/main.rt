@@ -6,30 +6,40 @@ mod checking;
 mod disassembling;
 mod draft;
 mod explaining;
+mod file_error;
 mod font_fault;
 mod identity;
 mod input;
+mod kind;
 mod links;
+mod measuring;
 mod output;
 mod overwriting;
+mod serving;
+mod several;
 mod status;
 mod unopened;
 
-use assembling::{assemble_as, form_of};
-use checking::check_source;
+use assembling::{assemble_file, form_of};
+use checking::check_file;
 use clap::error::ErrorKind;
 use clap::{ArgMatches, Error};
 use disassembling::disassemble_to;
 use explaining::explain;
+use file_error::FileError;
 use input::{is_standard_input, read_input};
+use kind::{Kind, kind_of};
+use measuring::measure_file;
 use output::{Ended, Output};
 use overwriting::{refuse_over_font, refuse_over_input};
-use status::{Misuse, Stop, run_ending};
+use serving::serve_file;
+use several::check_files;
+use status::{Misuse, Stop, run_ending, told};
 use std::process::ExitCode;
 use std::{env, io};
 use t1_code::Counted;
 use t1_command_line::{all_sections, command};
-use t1_session::{ServeError, measure_source, serve};
+use t1_session::ServeError;
 
 /// The paths that the command line gives: of the source, and of the kerning file where it names one.
 fn paths<'a>(matches: &ArgMatches<'a>) -> (&'a str, Option<&'a str>) {
@@ -39,27 +49,47 @@ fn paths<'a>(matches: &ArgMatches<'a>) -> (&'a str, Option<&'a str>) {
     )
 }
 
-/// The bytes of the source and of the kerning file, both read before anything is judged; no pairs where no file is
-/// named.
+/// What the file is that is named as the source.
+fn asked_kind(matches: &ArgMatches<'_>) -> Kind {
+    kind_of(matches.get_flag("font"))
+}
+
+/// The bytes of the kerning file; no pairs where no file is named.
+fn pairs_of(rt: &HostRuntime, kern: Option<&str>) -> Result<Vec<u8>, ServeError> {
+    match kern {
+        Some(path) => read_input(rt, path),
+        None => Ok(Vec::new(rt.alloc())),
+    }
+}
+
+/// The bytes of the source and of the kerning file, both read before anything is judged.
 fn inputs(
     rt: &HostRuntime,
     source: &str,
     kern: Option<&str>,
 ) -> Result<(Vec<u8>, Vec<u8>), ServeError> {
     let source = read_input(rt, source)?;
-    let pairs = match kern {
-        Some(path) => read_input(rt, path)?,
-        None => Vec::new(rt.alloc()),
-    };
-    Ok((source, pairs))
+    Ok((source, pairs_of(rt, kern)?))
+}
+
+/// Refuses more than one of the inputs from standard input.
+fn refuse_input_twice(sources: &[&str], kern: Option<&str>) -> Result<(), Misuse> {
+    let mut is_taken = kern.is_some_and(is_standard_input);
+    for source in sources {
+        if is_standard_input(source) {
+            if is_taken {
+                return Err(Misuse::InputTwice);
+            }
+            is_taken = true;
+        }
+    }
+    Ok(())
 }
 
 /// The bytes of the source and of the kerning file, of which one may be standard input.
 fn inputs_of(rt: &HostRuntime, matches: &ArgMatches<'_>) -> Result<(Vec<u8>, Vec<u8>), Stop> {
     let (source, kern) = paths(matches);
-    if is_standard_input(source) && kern.is_some_and(is_standard_input) {
-        return Err(Stop::Misused(Misuse::InputTwice));
-    }
+    refuse_input_twice(&[source], kern)?;
     Ok(inputs(rt, source, kern)?)
 }
 
@@ -73,8 +103,8 @@ fn output_path<'a>(rt: &HostRuntime, matches: &ArgMatches<'a>) -> Result<Option<
     Ok(path)
 }
 
-/// What an answer of the calls over whole sources is to a run.
-fn run_answer(answer: Result<(), ServeError>) -> Result<(), Stop> {
+/// What an answer of the calls over files is to a run.
+fn run_answer(answer: Result<(), FileError>) -> Result<(), Stop> {
     Ok(answer?)
 }
 
@@ -84,7 +114,13 @@ fn assemble(rt: &HostRuntime, matches: &ArgMatches<'_>) -> Result<Ended, Stop> {
     let path = output_path(rt, matches)?;
     let source = read_input(rt, paths(matches).0)?;
     let mut output = Output::open(rt, path)?;
-    let answer = assemble_as(rt.alloc(), &source, &form, &mut output.out);
+    let answer = assemble_file(
+        rt.alloc(),
+        asked_kind(matches),
+        source,
+        &form,
+        &mut output.out,
+    );
     output.finish(rt, run_answer(answer))
 }
 
@@ -93,7 +129,13 @@ fn measure(rt: &HostRuntime, matches: &ArgMatches<'_>) -> Result<Ended, Stop> {
     let path = output_path(rt, matches)?;
     let (source, pairs) = inputs_of(rt, matches)?;
     let mut output = Output::open(rt, path)?;
-    let answer = measure_source(rt.alloc(), &source, &pairs, &mut output.out);
+    let answer = measure_file(
+        rt.alloc(),
+        asked_kind(matches),
+        source,
+        &pairs,
+        &mut output.out,
+    );
     output.finish(rt, run_answer(answer))
 }
 
@@ -110,10 +152,34 @@ fn disassemble(rt: &HostRuntime, matches: &ArgMatches<'_>) -> Result<Ended, Stop
     output.finish(rt, answer)
 }
 
-/// Judges a source and its pairs.
-fn check(rt: &HostRuntime, matches: &ArgMatches<'_>) -> Result<(), Stop> {
+/// Judges one source and its pairs.
+fn check_alone(rt: &HostRuntime, matches: &ArgMatches<'_>) -> Result<(), Stop> {
     let (source, pairs) = inputs_of(rt, matches)?;
-    Ok(check_source(rt.alloc(), &source, &pairs)?)
+    Ok(check_file(rt.alloc(), asked_kind(matches), source, &pairs)?)
+}
+
+/// Judges several sources, each with the same pairs.
+fn check_in_turn(rt: &HostRuntime, matches: &ArgMatches<'_>, sources: &[&str]) -> Result<(), Stop> {
+    let kern = matches.get_str("kern");
+    refuse_input_twice(sources, kern)?;
+    let pairs = pairs_of(rt, kern)?;
+    let mut lines = Counted::new(rt.stderr());
+    told(check_files(
+        rt.alloc(),
+        rt,
+        asked_kind(matches),
+        sources,
+        &pairs,
+        &mut lines,
+    ))
+}
+
+/// Judges sources and their pairs.
+fn check(rt: &HostRuntime, matches: &ArgMatches<'_>) -> Result<(), Stop> {
+    match matches.get_strs("SOURCE") {
+        Some(sources) if sources.len() > 1 => check_in_turn(rt, matches, sources),
+        _ => check_alone(rt, matches),
+    }
 }
 
 /// Serves the commands of standard input on a source.
@@ -125,7 +191,14 @@ fn session(rt: &HostRuntime, matches: &ArgMatches<'_>) -> Result<(), Stop> {
     let (source, pairs) = inputs(rt, source, kern)?;
     let mut input = Counted::new(rt.stdin());
     let mut out = Counted::new(rt.stdout());
-    Ok(serve(rt.alloc(), &source, &pairs, &mut input, &mut out)?)
+    Ok(serve_file(
+        rt.alloc(),
+        asked_kind(matches),
+        source,
+        &pairs,
+        &mut input,
+        &mut out,
+    )?)
 }
 
 /// What came of a command line that clap doesn't take for a command, with clap's text: a help, the version, or what is

@@ -1,19 +1,22 @@
 //! How the program ends.
-ghost use Rattle.std.specs.Prelude.{◌≡◌};
+ghost use Rattle.std.specs.Prelude.{◌≡◌, IfErr};
 ghost use Rattle.t1_code.specs.Counted.{Writes};
-ghost use Rattle.t1edit.specs.Status.{error_line, font_fault_line, misuse_line, status_of, status_of_misuse, status_of_stop, status_of_run, IsWritten, ReportsStop, ReportsRun};
+ghost use Rattle.t1edit.specs.Status.{error_line, error_text, font_fault_line, line_of, misuse_line, status_of, status_of_misuse, status_of_stop, status_of_run, IsWritten, ReportsStop, ReportsRun};
 
-use crate::font_fault::put_font_fault;
+use crate::file_error::FileError;
+use crate::font_fault::{put_font_fault, put_line};
 use crate::unopened::Unopened;
 use std::io::{self, Write};
 use t1_code::Counted;
 use t1_commands::put_fault;
 use t1_disassemble::{FontFault, FontRefusal};
-use t1_frac::Refusal;
 use t1_session::ServeError;
 
 /// The status of a fault.
-const FAULT: u8 = 1;
+pub const FAULT: u8 = 1;
+
+/// What each line begins with that isn't of one file of several.
+const NAME: &[u8] = b"t1edit: ";
 
 /// The status of a command line that isn't accepted.
 const USAGE: u8 = 2;
@@ -68,6 +71,8 @@ pub enum Stop {
     Failed(ServeError),
     /// The file of a font has a fault.
     Faulty(FontFault),
+    /// Of several sources some are refused, and the line of each was written; this is the worst status.
+    Told(u8),
 }
 
 impl From<Misuse> for Stop {
@@ -106,15 +111,17 @@ impl From<Unopened> for Stop {
     }
 }
 
-impl From<Refusal> for Stop {
+impl From<FileError> for Stop {
     ghost use Rattle.std.specs.Prelude.{◌≡◌};
-    ghost use Rattle.t1_session.specs.Delivery.{reported_by_refusal};
-    ghost use Rattle.t1edit.specs.declared.status.Stop.TheVariants.{Failed};
+    ghost use Rattle.t1edit.specs.FileErrors.{stop_of_file};
 
-    ghost from_gives = { λ refused stop. stop ≡ Failed (reported_by_refusal refused) };
+    ghost from_gives = { λ error stop. stop ≡ stop_of_file error };
 
-    fn from(refused: Refusal) -> Stop {
-        Stop::Failed(ServeError::from(refused))
+    fn from(error: FileError) -> Stop {
+        match error {
+            FileError::Served(error) => Stop::Failed(error),
+            FileError::Font(fault) => Stop::Faulty(fault),
+        }
     }
 }
 
@@ -132,20 +139,20 @@ impl From<FontRefusal> for Stop {
     }
 }
 
-/// Writes the line that reports an error.
-fn report<W: Write>(error: &ServeError, writer: &mut Counted<W>) -> io::Result<()>
-    ensures { Writes W.contents writer.old writer.new (error_line error.now) result }
+/// Writes the line that reports an error, after a text that begins it. It takes no memory.
+pub fn report<W: Write>(front: &[u8], error: &ServeError, writer: &mut Counted<W>) -> io::Result<()>
+    ensures { Writes W.contents writer.old writer.new (line_of front.now (error_text error.now)) result }
 {
     match error {
-        ServeError::Load(fault) => put_fault(writer, b"t1edit: ", fault, b"\n"),
-        ServeError::Read => writer.put_all(b"t1edit: read failed\n"),
-        ServeError::Write => writer.put_all(b"t1edit: write failed\n"),
-        ServeError::Memory => writer.put_all(b"t1edit: out of memory\n"),
+        ServeError::Load(fault) => put_fault(writer, front, fault, b"\n"),
+        ServeError::Read => put_line(front, b"read failed", writer),
+        ServeError::Write => put_line(front, b"write failed", writer),
+        ServeError::Memory => put_line(front, b"out of memory", writer),
     }
 }
 
 /// The exit status of an error.
-fn status_of(error: &ServeError) -> u8
+pub fn status_of(error: &ServeError) -> u8
     ensures { result ≡ status_of error.now }
 {
     match error {
@@ -161,7 +168,7 @@ fn ending<W: Write>(error: &ServeError, writer: &mut Counted<W>) -> u8
     ensures status { result ≡ status_of error.now }
     ensures line { IsWritten W.contents writer.old writer.new (error_line error.now) }
 {
-    let _written = report(error, writer);
+    let _written = report(NAME, error, writer);
     status_of(error)
 }
 
@@ -171,7 +178,7 @@ fn faulty<W: Write>(fault: &FontFault, writer: &mut Counted<W>) -> u8
     ensures status { result ≡ 1 }
     ensures line { IsWritten W.contents writer.old writer.new (font_fault_line fault.now) }
 {
-    let _written = put_font_fault(fault, writer);
+    let _written = put_font_fault(NAME, fault, writer);
     FAULT
 }
 
@@ -195,6 +202,19 @@ fn stopped<W: Write>(stop: &Stop, writer: &mut Counted<W>) -> u8
         Stop::Misused(misuse) => misused(*misuse, writer),
         Stop::Failed(error) => ending(error, writer),
         Stop::Faulty(fault) => faulty(fault, writer),
+        Stop::Told(status) => *status,
+    }
+}
+
+/// That sources were checked in turn, and each that is refused was told of, with the worst of their statuses.
+pub fn told(worst: u8) -> Result<(), Stop>
+    ensures status { status_of_run result ≡ worst }
+    ensures told { IfErr result (λ stop. stop ≡ Stop.Told worst) }
+{
+    if worst == 0 {
+        Ok(())
+    } else {
+        Err(Stop::Told(worst))
     }
 }
 

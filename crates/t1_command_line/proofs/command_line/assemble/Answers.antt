@@ -1,7 +1,7 @@
 use Rattle.std.proofs.Common.{ap₂, codes, ◌≡◌, ◌∙◌}
 use Rattle.std.proofs.lemmas.Result.{IfOk-weaker}
 use Rattle.clap.specs.Words.{App, app_of, new_app, with_rule}
-use Rattle.t1_command_line.specs.CommandLine.{block, pfa, output}
+use Rattle.t1_command_line.specs.CommandLine.{as_font, block, output, pfa}
 use Rattle.t1_command_line.proofs.command_line.assemble.Goals as goal
 
 -- the command with its first arguments
@@ -11,8 +11,11 @@ with_block = with_rule (new_app (codes "assemble")) block
 abbrev with_pfa : App
 with_pfa = with_rule with_block pfa
 
+abbrev with_as_font : App
+with_as_font = with_rule with_pfa as_font
+
 abbrev with_output : App
-with_output = with_rule with_pfa output
+with_output = with_rule with_as_font output
 
 pub returns : goal.returns
 returns c =
@@ -20,6 +23,8 @@ returns c =
     c.in_ok-arg.ensures.shape c.in_ok-block.ensures.local ∙ ap₂ with_rule c.named.ensures c.in_ok-block.ensures.rule in
     let second : app_of c.in_ok-arg-2.field-0 ≡ with_pfa =
     c.in_ok-arg-2.ensures.shape c.pfa.ensures.local ∙ ap₂ with_rule first c.pfa.ensures.rule in
-    let third : app_of c.in_ok-arg-3.field-0 ≡ with_output =
-    c.in_ok-arg-3.ensures.shape c.output.ensures.local ∙ ap₂ with_rule second c.output.ensures.rule in
-    IfOk-weaker c.arg-4.result _ _ (λ _ h. h.shape c.source.ensures.local ∙ ap₂ with_rule third c.source.ensures.rule) c.arg-4.ensures
+    let third : app_of c.in_ok-arg-3.field-0 ≡ with_as_font =
+    c.in_ok-arg-3.ensures.shape c.as_font.ensures.local ∙ ap₂ with_rule second c.as_font.ensures.rule in
+    let fourth : app_of c.in_ok-arg-4.field-0 ≡ with_output =
+    c.in_ok-arg-4.ensures.shape c.output.ensures.local ∙ ap₂ with_rule third c.output.ensures.rule in
+    IfOk-weaker c.arg-5.result _ _ (λ _ h. h.shape c.source.ensures.local ∙ ap₂ with_rule fourth c.source.ensures.rule) c.arg-5.ensures

@@ -1,5 +1,0 @@
-use Rattle.std.proofs.Common.{refl}
-use Rattle.t1_command_line.proofs.table.reading.Goals as goal
-
-pub returns : goal.returns
-returns c = refl

@@ -1,0 +1,69 @@
+//! Why a call over the bytes of a file stops.
+ghost use Rattle.std.specs.Prelude.{◌≡◌};
+ghost use Rattle.t1_code.specs.Counted.{Writes};
+ghost use Rattle.t1edit.specs.FileErrors.{file_error_text, served, status_of_file};
+ghost use Rattle.t1edit.specs.Status.{line_of};
+
+use crate::font_fault::put_font_fault;
+use crate::status::{FAULT, report, status_of};
+use std::io::{self, Write};
+use t1_code::Counted;
+use t1_disassemble::{FontFault, FontRefusal};
+use t1_session::ServeError;
+
+/// Why a call over the bytes of a file stops before its end.
+#[derive(Debug, Drop)]
+pub enum FileError {
+    /// A fault of the source or the pairs, a read or a write that failed, or want of memory.
+    Served(ServeError),
+    /// The file of a font has a fault.
+    Font(FontFault),
+}
+
+impl From<FontRefusal> for FileError {
+    ghost use Rattle.std.specs.Prelude.{◌≡◌};
+    ghost use Rattle.t1edit.specs.FileErrors.{told_of_font};
+
+    ghost from_gives = { λ refused told. told ≡ told_of_font refused };
+
+    fn from(refused: FontRefusal) -> FileError {
+        match refused {
+            FontRefusal::Fault(fault) => FileError::Font(fault),
+            FontRefusal::Memory => FileError::Served(ServeError::Memory),
+        }
+    }
+}
+
+/// What a call over a source answers, as one over a file.
+pub fn served(answer: Result<(), ServeError>) -> Result<(), FileError>
+    ensures { result ≡ served answer }
+{
+    match answer {
+        Ok(()) => Ok(()),
+        Err(error) => Err(FileError::Served(error)),
+    }
+}
+
+/// Writes the line of an error of a file, after a text that begins it. It takes no memory.
+pub fn put_file_error<W: Write>(
+    front: &[u8],
+    error: &FileError,
+    writer: &mut Counted<W>,
+) -> io::Result<()>
+    ensures { Writes W.contents writer.old writer.new (line_of front.now (file_error_text error.now)) result }
+{
+    match error {
+        FileError::Served(error) => report(front, error, writer),
+        FileError::Font(fault) => put_font_fault(front, fault, writer),
+    }
+}
+
+/// The exit status of an error of a file.
+pub fn status_of_file(error: &FileError) -> u8
+    ensures { result ≡ status_of_file error.now }
+{
+    match error {
+        FileError::Served(error) => status_of(error),
+        FileError::Font(_) => FAULT,
+    }
+}
