@@ -2,7 +2,11 @@
 ghost use Rattle.std.specs.Prelude.{◌≡◌, ◌∷◌, [], codes, map, true, false, IfOk};
 ghost use Rattle.clap.specs.Words.{App, Shape, app_of, new_app, rule_of, with_subcommand};
 ghost use Rattle.t1_command_line.specs.CommandLine.{alone, program, program_alone};
-ghost use Rattle.t1_command_line.specs.CommandLine.{source as source_rule, sources as sources_rule, as_font as as_font_rule, font as font_rule, kern as kern_rule, output as output_rule, block as block_rule, pfa as pfa_rule, code as code_rule, place as place_rule};
+ghost use Rattle.t1_command_line.specs.CommandLine.{source as source_rule, sources as sources_rule};
+ghost use Rattle.t1_command_line.specs.CommandLine.{as_font as as_font_rule, font as font_rule};
+ghost use Rattle.t1_command_line.specs.CommandLine.{kern as kern_rule, output as output_rule};
+ghost use Rattle.t1_command_line.specs.CommandLine.{block as block_rule, pfa as pfa_rule};
+ghost use Rattle.t1_command_line.specs.CommandLine.{code as code_rule, place as place_rule};
 ghost use Rattle.t1_command_line.specs.CommandLine.{assemble as assemble_shape, disassemble as disassemble_shape, measure as measure_shape, check as check_shape, session as session_shape, explain as explain_shape};
 
 use crate::help::{CODES, SESSION};

@@ -1,6 +1,6 @@
-//! Every code, rule and status that the program answers, with its meaning: the one table of their texts, a file for each
-//! section. Each section is handed out by a function of its own, since the prover looks through a whole constant wherever
-//! it stands.
+//! Every code, rule and status that the program answers, with its meaning: the one table of their
+//! texts, a file for each section. Each section is handed out by a function of its own, since the
+//! prover looks through a whole constant wherever it stands.
 
 ghost use Rattle.std.specs.Prelude.{◌≡◌, map};
 ghost use Rattle.t1_command_line.specs.Codes.{outline_of, of_program};

@@ -83,7 +83,8 @@ pub fn assemble_file<W: Write>(
     out: &mut Counted<W>,
 ) -> Result<(), FileError>
     ensures { OnSource (source_in_file kind file.items) out.old out.new
-        (λ source answer. Delivers W.contents out.old out.new (file_in_form form.now source) answer) result }
+        (λ source answer. Delivers W.contents out.old out.new
+        (file_in_form form.now source) answer) result }
 {
     let source = source_in(alloc, kind, file)?;
     served(assemble_as(alloc, &source, form, out))

@@ -50,7 +50,8 @@ pub fn put_file_error<W: Write>(
     error: &FileError,
     writer: &mut Counted<W>,
 ) -> io::Result<()>
-    ensures { Writes W.contents writer.old writer.new (line_of front.now (file_error_text error.now)) result }
+    ensures { Writes W.contents writer.old writer.new
+        (line_of front.now (file_error_text error.now)) result }
 {
     match error {
         FileError::Served(error) => report(front, error, writer),

@@ -89,7 +89,8 @@ fn line_slices<'a>(
     }
 }
 
-/// Writes slices, one after another, by way of a chunk: one call of the writer takes up to 4,096 bytes of them.
+/// Writes slices, one after another, by way of a chunk: one call of the writer takes up to 4,096
+/// bytes of them.
 fn write_slices<W: Write>(writer: &mut Counted<W>, slices: &[&[u8]]) -> io::Result<()>
     ensures { Writes W.contents writer.old writer.new (bytes_of slices.now) result }
 {
@@ -112,15 +113,16 @@ pub fn put_line<W: Write>(front: &[u8], text: &[u8], writer: &mut Counted<W>) ->
     write_slices(writer, &text_slices(front, text))
 }
 
-/// Writes the line that reports a fault of a font's file, after a text that begins it, by its code and its place, where it
-/// has one: `D7 glyph A`. It takes no memory.
+/// Writes the line that reports a fault of a font's file, after a text that begins it, by its code
+/// and its place, where it has one: `D7 glyph A`. It takes no memory.
 #[tactic(auto, unfolding(crate::specs::FontFaults::font_fault_text))]
 pub fn put_font_fault<W: Write>(
     front: &[u8],
     fault: &FontFault,
     writer: &mut Counted<W>,
 ) -> io::Result<()>
-    ensures { Writes W.contents writer.old writer.new (line_of front.now (font_fault_text fault.now)) result }
+    ensures { Writes W.contents writer.old writer.new
+        (line_of front.now (font_fault_text fault.now)) result }
 {
     let code = code_name(fault.code);
     let mut buffer = Buffer::new();

@@ -1,4 +1,5 @@
-//! What a file is that the command line names as the source: a source, or a font of which the source is made.
+//! What a file is that the command line names as the source: a source, or a font of which the
+//! source is made.
 ghost use Rattle.std.specs.Prelude.{◌≡◌};
 ghost use Rattle.t1edit.specs.Sources.{GivesSource, kind_of, source_in};
 
@@ -22,7 +23,8 @@ pub fn kind_of(is_font: bool) -> Kind
     if is_font { Kind::Font } else { Kind::Source }
 }
 
-/// The source that a file has or, of a font, is disassembled to. The memory of a font's file is given back.
+/// The source that a file has or, of a font, is disassembled to. The memory of a font's file is
+/// given back.
 pub fn source_in(alloc: Global, kind: Kind, file: Vec<u8>) -> Result<Vec<u8>, FileError>
     ensures { GivesSource (λ text. text.items) result (source_in kind file.items) }
 {

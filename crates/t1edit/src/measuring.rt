@@ -19,7 +19,8 @@ pub fn measure_file<W: Write>(
     out: &mut Counted<W>,
 ) -> Result<(), FileError>
     ensures { OnSource (source_in_file kind file.items) out.old out.new
-        (λ source answer. Delivers W.contents out.old out.new (metrics_file source pairs.now) answer) result }
+        (λ source answer. Delivers W.contents out.old out.new
+        (metrics_file source pairs.now) answer) result }
 {
     let source = source_in(alloc, kind, file)?;
     served(measure_source(alloc, &source, pairs, out))

@@ -20,7 +20,8 @@ pub fn serve_file<R: Read, W: Write>(
     reader: &mut Counted<R>,
     writer: &mut Counted<W>,
 ) -> Result<(), FileError>
-    ensures { OnSource (source_in_file kind file.items) (streams reader.old writer.old) (streams reader.new writer.new)
+    ensures { OnSource (source_in_file kind file.items)
+        (streams reader.old writer.old) (streams reader.new writer.new)
         (λ source answer. Serves R.remaining W.contents (scratch source pairs.now)
         (streams reader.old writer.old) (streams reader.new writer.new) answer) result }
 {

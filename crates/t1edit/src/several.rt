@@ -2,7 +2,8 @@
 ghost use Rattle.std.specs.Prelude.{◌≡◌};
 ghost use Rattle.t1_code.specs.Counted.{Writes};
 ghost use Rattle.t1edit.specs.FileErrors.{file_error_text};
-ghost use Rattle.t1edit.specs.Several.{AreWritten, Becomes, ChecksAll, answer_lines, front_of, status_of_answer};
+ghost use Rattle.t1edit.specs.Several.{AreWritten, Becomes, ChecksAll};
+ghost use Rattle.t1edit.specs.Several.{answer_lines, front_of, status_of_answer};
 ghost use Rattle.t1edit.specs.Status.{line_of};
 
 use crate::checking::check_file;
@@ -63,14 +64,15 @@ fn check_path<F: Files>(
 
 /// Writes the line of a file that is refused, which begins with the file's name.
 fn put_refused<W: Write>(path: &str, error: &FileError, writer: &mut Counted<W>) -> io::Result<()>
-    ensures { Writes W.contents writer.old writer.new (line_of (front_of path.now) (file_error_text error.now)) result }
+    ensures { Writes W.contents writer.old writer.new
+        (line_of (front_of path.now) (file_error_text error.now)) result }
 {
     writer.put_all(path.as_bytes())?;
     put_file_error(b": ", error, writer)
 }
 
-/// The exit status of a file that was checked, whose line is written where it is refused; a write that fails changes no
-/// status.
+/// The exit status of a file that was checked, whose line is written where it is refused; a write
+/// that fails changes no status.
 fn tell<W: Write>(path: &str, answer: &Result<(), FileError>, writer: &mut Counted<W>) -> u8
     ensures status { result ≡ status_of_answer answer.now }
     ensures line { AreWritten W.contents writer.old writer.new (answer_lines path.now answer.now) }
@@ -84,8 +86,8 @@ fn tell<W: Write>(path: &str, answer: &Result<(), FileError>, writer: &mut Count
     }
 }
 
-/// Checks files in turn, whatever becomes of those before. Of each that is refused a line is written, and the worst status
-/// is answered.
+/// Checks files in turn, whatever becomes of those before. Of each that is refused a line is
+/// written, and the worst status is answered.
 pub fn check_files<F: Files, W: Write>(
     alloc: Global,
     files: &F,
@@ -94,7 +96,8 @@ pub fn check_files<F: Files, W: Write>(
     pairs: &[u8],
     writer: &mut Counted<W>,
 ) -> u8
-    ensures { ChecksAll (Becomes F.holds F.fails files.now kind pairs.now) W.contents paths.now writer.old writer.new result }
+    ensures { ChecksAll (Becomes F.holds F.fails files.now kind pairs.now)
+        W.contents paths.now writer.old writer.new result }
 {
     let mut worst = 0;
     for path in paths {

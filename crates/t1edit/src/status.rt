@@ -1,7 +1,9 @@
 //! How the program ends.
 ghost use Rattle.std.specs.Prelude.{◌≡◌, IfErr};
 ghost use Rattle.t1_code.specs.Counted.{Writes};
-ghost use Rattle.t1edit.specs.Status.{error_line, error_text, font_fault_line, line_of, misuse_line, status_of, status_of_misuse, status_of_stop, status_of_run, IsWritten, ReportsStop, ReportsRun};
+ghost use Rattle.t1edit.specs.Status.{error_line, error_text, font_fault_line, line_of, misuse_line};
+ghost use Rattle.t1edit.specs.Status.{status_of, status_of_misuse, status_of_stop, status_of_run};
+ghost use Rattle.t1edit.specs.Status.{IsWritten, ReportsStop, ReportsRun};
 
 use crate::file_error::FileError;
 use crate::font_fault::{put_font_fault, put_line};
@@ -71,7 +73,8 @@ pub enum Stop {
     Failed(ServeError),
     /// The file of a font has a fault.
     Faulty(FontFault),
-    /// Of several sources some are refused, and the line of each was written; this is the worst status.
+    /// Of several sources some are refused, and the line of each was written; this is the worst
+    /// status.
     Told(u8),
 }
 
@@ -141,7 +144,8 @@ impl From<FontRefusal> for Stop {
 
 /// Writes the line that reports an error, after a text that begins it. It takes no memory.
 pub fn report<W: Write>(front: &[u8], error: &ServeError, writer: &mut Counted<W>) -> io::Result<()>
-    ensures { Writes W.contents writer.old writer.new (line_of front.now (error_text error.now)) result }
+    ensures { Writes W.contents writer.old writer.new
+        (line_of front.now (error_text error.now)) result }
 {
     match error {
         ServeError::Load(fault) => put_fault(writer, front, fault, b"\n"),
@@ -172,7 +176,8 @@ fn ending<W: Write>(error: &ServeError, writer: &mut Counted<W>) -> u8
     status_of(error)
 }
 
-/// The exit status of a fault of a font's file, whose line is written; a write that fails changes no status.
+/// The exit status of a fault of a font's file, whose line is written; a write that fails changes
+/// no status.
 #[tactic(auto, using(crate::proofs::Lines::is_written))]
 fn faulty<W: Write>(fault: &FontFault, writer: &mut Counted<W>) -> u8
     ensures status { result ≡ 1 }
@@ -206,7 +211,8 @@ fn stopped<W: Write>(stop: &Stop, writer: &mut Counted<W>) -> u8
     }
 }
 
-/// That sources were checked in turn, and each that is refused was told of, with the worst of their statuses.
+/// That sources were checked in turn, and each that is refused was told of, with the worst of their
+/// statuses.
 pub fn told(worst: u8) -> Result<(), Stop>
     ensures status { status_of_run result ≡ worst }
     ensures told { IfErr result (λ stop. stop ≡ Stop.Told worst) }
