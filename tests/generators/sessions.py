@@ -20,6 +20,7 @@ ANY = b"""
 replace glyph NAME|replace subr SUBR|add glyph NAME|add subr SUBR|remove glyph NAME|remove subr SUBR|encode CODE NAME
 unencode CODE|kern NAME NAME VALUE|unkern NAME NAME|frobnicate|replace glyph|add glyph A B|print|kern A V|begin now
 set leniv VALUE|set leniv CODE|print pfb LENGTH|print pfb 1 2|print pfa 1|commit|abort|abort A|print sources
+show|show glyph NAME|show subr SUBR|show metrics NAME|show encoding|show encoding A|show glyph|show subr 3 4|show metric A
 """.strip().replace(b"\n", b"|").split(b"|")
 WRONG = b"""
 % } {|}|moveto|2147483648|pop|0 div|32001 hmoveto|93 170 214 65 194 seac|0 0 0 65 32 seac|9 callsubr|
@@ -45,6 +46,7 @@ WEIGHTS = {
     "set leniv": (2, 2),
     "print pfa": (1, 1),
     "print pfb N": (1, 1),
+    "show": (10, 6),
     "any": (6, 6),
 }
 KINDS = [kind for kind in WEIGHTS if kind not in ("print", "any")]
@@ -98,6 +100,10 @@ class Chooser:
             return b"unkern " + self.of([b" ".join(it) for it in pairs], [b"A V", b"V A"])
         if kind == "print":
             return self.chance.choice(PRINTS)
+        if kind == "show":
+            what = self.chance.choice((b"glyph", b"subr", b"metrics", b"encoding"))
+            subject = {b"encoding": b"", b"subr": self.of(subrs, SUBRS)}.get(what, self.of(glyphs, NAMES))
+            return b" ".join((b"show", what, subject))
         if kind == "set leniv":
             return b"set leniv %d" % self.chance.choice((0, 1, 4, 4, 64))
         if kind == "print pfb N":
@@ -175,7 +181,7 @@ class Tally:
         self.ends[kind, end] += 1
         if end == "refused":
             self.reported[answer.split()[1].decode()] += 1
-        elif kind != "print" and session.batch is None and session.font:
+        elif kind not in ("print", "show") and session.batch is None and session.font:
             self.deep += Counter(depths(session.font))
 
     def lines(self):
@@ -184,7 +190,7 @@ class Tally:
             for kind in [*KINDS, "print", "others"]
             if self.ends[kind, "accepted"] + self.ends[kind, "refused"]
         )
-        edits = [kind for kind in KINDS if kind not in ("begin", "commit", "abort", "print pfa", "print pfb N")]
+        edits = [kind for kind in KINDS if kind not in ("begin", "commit", "abort", "print pfa", "print pfb N", "show")]
         taken, refused = (sum(self.ends[kind, end] for kind in edits) for end in ("accepted", "refused"))
         yield f"of {taken + refused} edits {100 * taken // max(1, taken + refused)}% were accepted"
         reported = sorted(self.reported, key=lambda it: (it[0] == "F", len(it), it))

@@ -48,11 +48,16 @@ def nearest(value):
     return math.floor(value + Fraction(1, 2))
 
 
+def names(source):
+    """The name of each code that has one, by code."""
+    array = source.encoding()
+    found = STANDARD if array is None else dict(slot for _, slot in sorted(array.slots.items()))
+    return dict(sorted(found.items()))
+
+
 def codes(source):
     """Each name's lowest code."""
-    array = source.encoding()
-    slots = STANDARD if array is None else dict(slot for _, slot in sorted(array.slots.items()))
-    found = {name: code for code, name in sorted(slots.items(), reverse=True)}
+    found = {name: code for code, name in reversed(names(source).items())}
     found.pop(b".notdef", None)
     return found
 

@@ -3,12 +3,13 @@
 
 from edits import Edit, edited, form_of, in_range, takes_body
 from faults import Broken, Fault
-from metrics import afm, uses
+from metrics import afm, names, uses
 from pfb import LARGEST, assembly_fault, pfa, pfb
 from runs import Font
-from source import joined, kern_text, lines, trimmed, words
+from source import joined, kern_text, lines, printed, trimmed, words
 
 PRINTS = (b"pfb", b"afm", b"source", b"kern", b"uses", b"pfa")
+SHOWS = (b"glyph", b"subr", b"metrics")  # (each of one entry)
 BATCHES = ((b"begin",), (b"commit",), (b"abort",))
 
 
@@ -61,6 +62,8 @@ class Session:
         if these[0] == b"print":
             prints = PRINTS if self.runs else (b"pfb", b"source", b"kern")
             return these[1:2] and these[1] in prints and len(these) <= 2 + (these[1] == b"pfb" and self.runs)
+        if these[0] == b"show":
+            return self.runs and (these == (b"show", b"encoding") or len(these) == 3 and these[1] in SHOWS)
         if these in BATCHES or these[:2] == (b"set", b"leniv"):
             return self.runs and (these in BATCHES or len(these) == 3)
         return form_of(these) is not None
@@ -81,6 +84,11 @@ class Session:
             raise Broken("E8")
         if these[0] == b"print":
             text = self.printed(these[1], these[2:])
+            return b"data %d\n%s\n" % (len(text), text)
+        if these[0] == b"show":
+            text = self.shown(these[1], *these[2:])
+            if text is None:
+                raise Broken("E1")
             return b"data %d\n%s\n" % (len(text), text)
         if these in BATCHES:
             return self.change_batch(these[0])
@@ -124,3 +132,16 @@ class Session:
         if what == b"uses":
             return uses(self.font)
         return self.source.text() if what == b"source" else kern_text(self.pairs)
+
+    def shown(self, what, subject=None):
+        """What a query shows; None where there is no such glyph or Subr."""
+        if what == b"encoding":
+            return joined(b"%d %s" % named for named in names(self.source).items())
+        if what == b"metrics":
+            found = (it for it in lines(afm(self.source, self.pairs, self.font)) if it.startswith(b"C "))
+            return next((it + b"\n" for it in found if it.split(b" ; ")[2] == b"N " + subject), None)
+        if what == b"glyph":
+            entry = self.source.glyphs().get(subject)
+        else:
+            entry = self.source.subrs().get(in_range(subject, 0, 32000))
+        return None if entry is None else joined(printed(entry)[1:-1])

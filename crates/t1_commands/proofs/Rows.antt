@@ -9,10 +9,11 @@ use Rattle.t1_text.specs.Lines.{unified}
 use Rattle.t1_source.specs.declared.edit.Edit.TheVariants as edits
 use Rattle.t1_source.specs.declared.edit.Rule.TheVariants.{E7, E8}
 use Rattle.t1_commands.specs.declared.print.Print.TheVariants as prints
+use Rattle.t1_commands.specs.declared.show.Show.TheVariants as shows
 use Rattle.t1_commands.specs.declared.command.Command.TheVariants as commands
 use Rattle.t1_commands.specs.declared.answer.Answer.TheVariants.{Accepted, Broken, Faulty, OutOfMemory}
 use Rattle.t1_commands.specs.Lines.{finished_lines}
-use Rattle.t1_commands.specs.Commands.{commands_of, input_commands, line_command, other_command, removal, setting, whole_print, blocks_print, body_command, bodied_edit, open_command, takes_body, ends_body, number_of}
+use Rattle.t1_commands.specs.Commands.{commands_of, input_commands, line_command, other_command, removal, setting, whole_print, blocks_print, whole_show, entry_show, body_command, bodied_edit, open_command, takes_body, ends_body, number_of}
 use Rattle.t1_commands.specs.AnswerTexts.{answer_text, fault_text}
 use Rattle.t1_commands.specs.Answers.{Machine, session_answers}
 
@@ -70,6 +71,27 @@ lead_set = refl
 lead_of_nothing : line_command (codes "set" ∷ codes "leniv" ∷ []) ≡ commands.Broken E8
 unfolding line_command setting
 lead_of_nothing = refl
+
+-- queries
+glyph_shown : line_command (codes "show" ∷ codes "glyph" ∷ codes "A" ∷ []) ≡ commands.Show (shows.Glyph (codes "A"))
+unfolding line_command entry_show
+glyph_shown = refl
+
+subr_shown : line_command (codes "show" ∷ codes "subr" ∷ codes "04" ∷ []) ≡ commands.Show (shows.Subr (pos 4))
+unfolding line_command entry_show number_of number_word is_number_word
+subr_shown = refl
+
+encoding_shown : line_command (codes "show" ∷ codes "encoding" ∷ []) ≡ commands.Show shows.Encoding
+unfolding line_command whole_show
+encoding_shown = refl
+
+metrics_of_all : line_command (codes "show" ∷ codes "metrics" ∷ []) ≡ commands.Broken E8
+unfolding line_command whole_show
+metrics_of_all = refl
+
+encoding_of_a_glyph : line_command (codes "show" ∷ codes "encoding" ∷ codes "A" ∷ []) ≡ commands.Broken E8
+unfolding line_command entry_show
+encoding_of_a_glyph = refl
 
 -- a command of one word, and the same with a further one
 begins : line_command (codes "begin" ∷ []) ≡ commands.Begin

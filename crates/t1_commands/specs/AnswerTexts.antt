@@ -88,7 +88,7 @@ fault_text fault = code_name fault.code ++ place_text fault.place
 abbrev pub data_head : ℕ → List ℕ
 data_head len = codes "data " ++ decimal len ++ line_feed ∷ []
 
--- profile, answers: what a print shows, after its length
+-- profile, answers: what a print or a query shows, after its length
 abbrev pub data_text : List ℕ → List ℕ
 data_text bytes = codes "data " ++ decimal (length bytes) ++ line_feed ∷ bytes ++ line_feed ∷ []
 

@@ -10,6 +10,7 @@ use Rattle.t1_source.specs.declared.edit.Edit.TheVariants.{ReplaceGlyph, AddGlyp
 use Rattle.t1_source.specs.declared.edit.Rule.TheVariants.{E7, E8}
 use Rattle.t1_commands.specs.Lines.{finished_lines}
 use Rattle.t1_commands.specs.declared.print.Print.TheVariants as prints
+use Rattle.t1_commands.specs.declared.show.Show.TheVariants as shows
 use Rattle.t1_commands.specs.declared.command.Command.{Command}
 use Rattle.t1_commands.specs.declared.command.Command.TheVariants as commands
 
@@ -84,12 +85,34 @@ print_by None two = blocks_print two
 abbrev pub print_of : List (List ℕ) → Command
 print_of rest = print_by (one_word rest) (two_words rest)
 
+-- profile, session commands: `show encoding`
+unfoldable pub whole_show : List ℕ → Command
+whole_show word = if bytes_eq word (codes "encoding") then commands.Show shows.Encoding else unknown
+
+-- profile, session commands: `show glyph NAME`, `show subr N`, `show metrics NAME`
+unfoldable pub entry_show : Option (List ℕ × List ℕ) → Command
+entry_show None = unknown
+entry_show (Some w) =
+    if bytes_eq w.0 (codes "glyph") then commands.Show (shows.Glyph w.1)
+    else if bytes_eq w.0 (codes "subr") then commands.Show (shows.Subr (number_of w.1))
+    else if bytes_eq w.0 (codes "metrics") then commands.Show (shows.Metrics w.1)
+    else unknown
+
+-- profile, session commands: the query of one word, else that of two
+abbrev pub show_by : Option (List ℕ) → Option (List ℕ × List ℕ) → Command
+show_by (Some word) two = whole_show word
+show_by None two = entry_show two
+
+-- profile, session commands: a query has one word or two
+abbrev pub show_of : List (List ℕ) → Command
+show_of rest = show_by (one_word rest) (two_words rest)
+
 -- profile, session commands: `begin`, `commit`, `abort`, without further words
 abbrev pub lone : Command → List (List ℕ) → Command
 lone command [] = command
 lone command (word ∷ rest) = unknown
 
--- profile, session commands: those that are no edits, by the first word
+-- profile, session commands: those that are no edits and no queries, by the first word
 unfoldable pub other_command : List ℕ → List (List ℕ) → Command
 other_command verb rest =
     if bytes_eq verb (codes "print") then print_of rest
@@ -108,6 +131,7 @@ line_command (verb ∷ rest) =
     else if bytes_eq verb (codes "set") then setting rest
     else if bytes_eq verb (codes "kern") then edit_of (λ w. Kern w.0 w.1 (number_of w.2)) (three_words rest)
     else if bytes_eq verb (codes "unkern") then edit_of (λ w. Unkern w.0 w.1) (two_words rest)
+    else if bytes_eq verb (codes "show") then show_of rest
     else other_command verb rest
 
 -- profile, session commands: `replace glyph NAME`, `replace subr N`, `add glyph NAME`, `add subr N`, with their body
@@ -171,14 +195,15 @@ commands_of ended (Some o) (line ∷ lines) =
 abbrev pub input_commands : Bool → List ℕ → List Command
 input_commands ended input = commands_of ended None (finished_lines ended (unified input))
 
--- word, session commands: whether a command is an edit, whose names and body are kept while it is performed
-abbrev pub is_edit : Command → Bool
-is_edit (commands.Edit edit) = true
-is_edit (commands.Print print) = false
-is_edit commands.Begin = false
-is_edit commands.Commit = false
-is_edit commands.Abort = false
-is_edit (commands.Broken rule) = false
+-- word, session commands: whether a command is an edit or a query, whose names and body are kept while it is performed
+abbrev pub is_edit_or_query : Command → Bool
+is_edit_or_query (commands.Edit edit) = true
+is_edit_or_query (commands.Print print) = false
+is_edit_or_query (commands.Show show) = true
+is_edit_or_query commands.Begin = false
+is_edit_or_query commands.Commit = false
+is_edit_or_query commands.Abort = false
+is_edit_or_query (commands.Broken rule) = false
 
 -- word: whether a command holds bytes of its own
 abbrev pub holds_bytes : Command → Bool
@@ -186,9 +211,12 @@ holds_bytes (commands.Edit (RemoveSubr n)) = false
 holds_bytes (commands.Edit (Unencode code)) = false
 holds_bytes (commands.Edit (LenIv n)) = false
 holds_bytes (commands.Edit edit) = true
+holds_bytes (commands.Show (shows.Subr n)) = false
+holds_bytes (commands.Show shows.Encoding) = false
+holds_bytes (commands.Show show) = true
 holds_bytes command = false
 
--- word, session commands: a call makes this command, or wants memory for an edit
+-- word, session commands: a call makes this command, or wants memory for an edit or a query
 abbrev pub Makes : {E : Type 0} → Result Command E → Command → Type 0
 Makes (Ok command) wanted = command ≡ wanted
-Makes (Err e) wanted = (is_edit wanted ≡ true) × (holds_bytes wanted ≡ true)
+Makes (Err e) wanted = (is_edit_or_query wanted ≡ true) × (holds_bytes wanted ≡ true)

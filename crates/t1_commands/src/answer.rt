@@ -23,7 +23,7 @@ pub enum Answer {
     Faulty(Fault),
     /// Memory ran out, and nothing changed.
     OutOfMemory,
-    /// What a print shows.
+    /// What a print or a query shows.
     Data(Bytes),
 }
 
@@ -159,7 +159,7 @@ pub fn put_fault<W: Write>(
     write_slices(writer, &slices)
 }
 
-/// What a print shows, in slices after its length.
+/// What is shown, in slices after its length.
 fn data_slices<'a>(bytes: &'a [u8], digits: &'a str) -> [&'a [u8]; 5]
     requires { digits.now ≡ decimal (length bytes.now) }
     ensures { bytes_of result ≡ data_text bytes.now }
@@ -167,7 +167,7 @@ fn data_slices<'a>(bytes: &'a [u8], digits: &'a str) -> [&'a [u8]; 5]
     [b"data ", digits.as_bytes(), b"\n", bytes, b"\n"]
 }
 
-/// Writes what a print shows, after its length.
+/// Writes what is shown, after its length.
 fn put_data<W: Write>(writer: &mut Counted<W>, bytes: &[u8]) -> io::Result<()>
     ensures { Writes W.contents writer.old writer.new (data_text bytes.now) result }
 {

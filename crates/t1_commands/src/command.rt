@@ -2,11 +2,12 @@
 ghost use Rattle.std.specs.Str.{bytes_eq};
 ghost use Rattle.std.specs.Prelude.{◌≡◌, ◌||◌, option_map, ◌<◌, IfOk};
 ghost use Rattle.t1_frac.specs.Words.{words};
-ghost use Rattle.t1_commands.specs.Commands.{one_word, two_words, three_words, removal, setting, whole_print, blocks_print, print_of, other_command, line_command, body_command, bodied_edit, open_command, takes_body, ends_body, edit_of, lone, is_wordless, number_of, Makes};
+ghost use Rattle.t1_commands.specs.Commands.{one_word, two_words, three_words, removal, setting, whole_print, blocks_print, print_of, whole_show, entry_show, show_of, other_command, line_command, body_command, bodied_edit, open_command, takes_body, ends_body, edit_of, lone, is_wordless, number_of, Makes};
 ghost use Rattle.t1_source.specs.declared.edit.Edit.TheVariants as edits;
 
 use crate::numbers::number_of;
 use crate::print::Print;
+use crate::show::Show;
 use std::alloc::{AllocError, Global};
 use t1_frac::{Bytes, next_word};
 use t1_source::{Edit, Rule};
@@ -16,6 +17,7 @@ use t1_source::{Edit, Rule};
 pub enum Command {
     Edit(Edit),
     Print(Print),
+    Show(Show),
     Begin,
     Commit,
     Abort,
@@ -161,6 +163,50 @@ fn print_of(line: &[u8]) -> Command
     }
 }
 
+/// `show encoding`, by the second word.
+#[tactic(auto, unfolding(crate::specs::Commands::whole_show))]
+fn whole_show(word: &[u8]) -> Command
+    ensures { result ≡ whole_show word.now }
+{
+    if word == b"encoding".as_slice() {
+        Command::Show(Show::Encoding)
+    } else {
+        UNKNOWN
+    }
+}
+
+/// `show glyph NAME`, `show subr N`, `show metrics NAME`, after the first word.
+#[tactic(auto, unfolding(crate::specs::Commands::entry_show))]
+fn entry_show(alloc: Global, line: &[u8]) -> Result<Command, AllocError>
+    ensures { Makes result (entry_show (two_words (words line.now))) }
+{
+    let Some((kind, subject)) = two_words(line) else {
+        return Ok(UNKNOWN);
+    };
+    if kind == b"glyph".as_slice() {
+        let name = Bytes::copied(alloc, subject)?;
+        return Ok(Command::Show(Show::Glyph(name)));
+    }
+    if kind == b"subr".as_slice() {
+        return Ok(Command::Show(Show::Subr(number_of(subject))));
+    }
+    if kind == b"metrics".as_slice() {
+        let name = Bytes::copied(alloc, subject)?;
+        return Ok(Command::Show(Show::Metrics(name)));
+    }
+    Ok(UNKNOWN)
+}
+
+/// A query, after the first word.
+fn show_of(alloc: Global, line: &[u8]) -> Result<Command, AllocError>
+    ensures { Makes result (show_of (words line.now)) }
+{
+    match one_word(line) {
+        Some(word) => Ok(whole_show(word)),
+        None => entry_show(alloc, line),
+    }
+}
+
 /// `encode CODE NAME`, after the first word.
 fn encoding(alloc: Global, line: &[u8]) -> Result<Command, AllocError>
     ensures { Makes result (edit_of (λ w. edits.Encode (number_of w.0) w.1) (two_words (words line.now))) }
@@ -216,7 +262,7 @@ fn lone(command: Command, line: &[u8]) -> Command
     }
 }
 
-/// A command that is no edit, by its first word, after that word.
+/// A command that is no edit and no query, by its first word, after that word.
 #[tactic(auto, unfolding(crate::specs::Commands::other_command))]
 fn other_command(verb: &[u8], line: &[u8]) -> Command
     ensures { result ≡ other_command verb.now (words line.now) }
@@ -254,6 +300,8 @@ pub fn line_command(alloc: Global, line: &[u8]) -> Result<Command, AllocError>
         kerning(alloc, rest)
     } else if verb == b"unkern".as_slice() {
         unkerning(alloc, rest)
+    } else if verb == b"show".as_slice() {
+        show_of(alloc, rest)
     } else {
         Ok(other_command(verb, rest))
     }

@@ -12,6 +12,7 @@ mod command;
 mod data;
 mod numbers;
 mod print;
+mod show;
 
 pub use answer::{Answer, answer_of, put_answer, put_fault};
 pub use command::{
@@ -20,3 +21,4 @@ pub use command::{
 pub use data::{PfaData, PfbData};
 pub use numbers::{block_size, block_size_of_word};
 pub use print::Print;
+pub use show::Show;

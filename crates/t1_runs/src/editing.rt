@@ -57,12 +57,28 @@ fn print_of(alloc: Global, session: &Session, print: Print) -> Result<Vec<u8>, S
     }
 }
 
-/// Writes all prints of a session.
+/// Writes a text that a query found, or that there is none.
+fn put_found<W: Write>(name: &str, found: Option<Vec<u8>>, out: &mut W) -> Result<(), Stop> {
+    match found {
+        Some(text) => put_text(name, &text, out),
+        None => Ok(out.write_all(b"refused E1\n")?),
+    }
+}
+
+/// Writes what a session shows of one glyph, of one Subr and of its encoding.
+fn put_shows<W: Write>(session: &Session, out: &mut W) -> Result<(), Stop> {
+    put_found("show glyph acute", session.show_glyph(b"acute")?, out)?;
+    put_found("show subr 4", session.show_subr(4)?, out)?;
+    put_found("show metrics acute", session.show_metrics(b"acute")?, out)?;
+    put_text("show encoding", &session.show_encoding()?, out)
+}
+
+/// Writes all prints of a session, and what it shows.
 fn put_prints<W: Write>(alloc: Global, session: &Session, out: &mut W) -> Result<(), Stop> {
     for (name, print) in &PRINTS {
         put_text(name, &print_of(alloc, session, *print)?, out)?;
     }
-    Ok(())
+    put_shows(session, out)
 }
 
 /// The session of the bytes of a source and of a kerning file that are read, or why it isn't opened.

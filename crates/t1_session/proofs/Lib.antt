@@ -4,6 +4,7 @@ pub mod Delivering
 pub mod FaultLaws
 pub mod Flushing
 pub mod LineLaws
+pub mod QueryLaws
 pub mod ReadableLaws
 pub mod Reporting
 pub mod RerunLaws

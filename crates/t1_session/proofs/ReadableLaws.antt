@@ -1,5 +1,5 @@
 -- What is true of every state that a session reaches.
-use Rattle.std.proofs.Common.{◌≡◌, ◌++◌, ℕ, Bool, true, ◌&&◌, List, Option, Some, None, Result, Ok, Err, refl, sym, ap, ◌∙◌, inl, inr, subst}
+use Rattle.std.proofs.Common.{◌≡◌, ◌++◌, ℕ, Bool, true, ◌&&◌, List, Option, Some, None, Result, Ok, Err, refl, inl, inr, subst}
 use Rattle.std.proofs.lemmas.Bool.{cases_Bool}
 use Rattle.t1_frac.specs.declared.fault.Fault.{Fault}
 use Rattle.t1_frac.specs.Outcome.{◌>>=◌}
@@ -7,7 +7,7 @@ use Rattle.t1_text.specs.Lines.{lines}
 use Rattle.t1_parts.specs.Reading.{reads}
 use Rattle.t1_parts.specs.SourceParts.{SourceParts}
 use Rattle.t1_pairs.specs.declared.pairs.Pair.{Pair}
-use Rattle.t1_pairs.specs.Kerning.{are_pairs, kern, pairs}
+use Rattle.t1_pairs.specs.Kerning.{are_pairs, pairs}
 use Rattle.t1_pairs.proofs.KernLaws.{kern_again}
 use Rattle.t1_pairs.proofs.PairsWellFormedLaws.{lines_good}
 use Rattle.t1_source.specs.declared.edit.Edit.{Edit}
@@ -22,12 +22,14 @@ use Rattle.t1_held.proofs.HeldLaws.{counts_checked}
 use Rattle.t1_commands.specs.declared.command.Command.{Command}
 use Rattle.t1_commands.specs.declared.command.Command.TheVariants as commands
 use Rattle.t1_commands.specs.declared.print.Print.TheVariants as prints
+use Rattle.t1_commands.specs.declared.show.Show.TheVariants as shows
 use Rattle.t1_commands.specs.Answers.{answer_to}
 use Rattle.t1_commands.specs.Blocks.{block_size}
-use Rattle.t1_session.specs.Machine.{abort_in, after_want, begin_in, blocks_answer, commit_in, drafted, edit_in, file_answer, holding, judged, machine, may_want_memory, opened, perform, scratch, taken}
-use Rattle.t1_session.specs.Readable.{AreMade, IsDraftMade, IsFaultless, IsReadable, KeepsFaultless, KeepsReadable, OpensFaultless, OpensReadable, PrintsWithoutFault, ReadsBack, TellsNoFault}
+use Rattle.t1_session.specs.Machine.{abort_in, after_want, begin_in, blocks_answer, commit_in, drafted, edit_in, file_answer, holding, judged, machine, may_want_memory, opened, perform, query_answer, scratch, taken}
+use Rattle.t1_session.specs.Readable.{AreMade, IsDraftMade, IsFaultless, IsReadable, KeepsFaultless, KeepsReadable, OpensFaultless, OpensReadable, PrintsWithoutFault, ReadsBack, ShowsWithoutFault, TellsNoFault}
 use Rattle.t1_session.specs.State.{State}
-use Rattle.t1_session.proofs.StateLaws.{blocks_there, metrics_there, pfa_there, pfb_there, uses_there}
+use Rattle.t1_session.specs.Queries.{encoding_text, glyph_text, subr_text}
+use Rattle.t1_session.proofs.StateLaws.{asked_scratch, blocks_there, metrics_line_there, metrics_there, pfa_there, pfb_there, uses_there}
 
 -- ---- after an answer, marked or not
 
@@ -35,6 +37,7 @@ module _ (P : State → Type 0) (alone : (s : State) → P s → P (holding s.so
   after-want : (s : State) (command : Command) → P s → P (after_want s command)
   after-want s (commands.Edit edit) h = h
   after-want s (commands.Print print) h = h
+  after-want s (commands.Show show) h = h
   after-want s commands.Begin h = h
   after-want s commands.Commit h = alone s h
   after-want s commands.Abort h = h
@@ -90,6 +93,7 @@ performed-faultless : (s : State) (command : Command) → IsFaultless s → IsFa
 unfolding perform
 performed-faultless s (commands.Edit edit) h = edit-faultless s.batch s edit h
 performed-faultless s (commands.Print print) h = h
+performed-faultless s (commands.Show show) h = h
 performed-faultless s commands.Begin h = begin-faultless s.batch s h
 performed-faultless s commands.Commit h = commit-faultless s.batch s h
 performed-faultless s commands.Abort h = abort-faultless s.batch s h
@@ -162,6 +166,7 @@ performed-readable : (s : State) (command : Command) → IsReadable s → IsRead
 unfolding perform
 performed-readable s (commands.Edit edit) h = edit-readable s.batch s edit h.draft h
 performed-readable s (commands.Print print) h = h
+performed-readable s (commands.Show show) h = h
 performed-readable s commands.Begin h = begin-readable s.batch s h
 performed-readable s commands.Commit h = commit-readable s.batch s h.draft h
 performed-readable s commands.Abort h = abort-readable s.batch s h
@@ -190,3 +195,18 @@ prints_without_fault s (prints.Blocks number) h = blocks-tell-none s (block_size
 prints_without_fault s prints.Pfa h = let back = reads_back s h in tells-none _ (pfa_there s h.faultless back.0 back.1)
 prints_without_fault s prints.Afm h = let back = reads_back s h in tells-none _ (metrics_there s h.faultless back.0 back.1)
 prints_without_fault s prints.Uses h = let back = reads_back s h in tells-none _ (uses_there s h.faultless back.0 back.1)
+
+-- ---- no query tells a fault
+
+found-tells-none : (r : Result (Option (List ℕ)) Fault) (found : Option (List ℕ)) → r ≡ Ok found → TellsNoFault (query_answer r)
+found-tells-none r None e = rw e tt
+found-tells-none r (Some text) e = rw e tt
+
+pub shows_without_fault : ShowsWithoutFault
+shows_without_fault s (shows.Glyph name) h = found-tells-none _ _ (asked_scratch (glyph_text name) s (reads_back s h).0)
+shows_without_fault s (shows.Subr number) h = found-tells-none _ _ (asked_scratch (subr_text number) s (reads_back s h).0)
+shows_without_fault s (shows.Metrics name) h =
+    let back = reads_back s h in
+    let line = metrics_line_there s h.faultless back.0 back.1 name in
+    found-tells-none _ line.0 line.1
+shows_without_fault s shows.Encoding h = tells-none _ (encoding_text s.source, asked_scratch encoding_text s (reads_back s h).0)

@@ -1,5 +1,5 @@
 -- Commands that were performed, and what was written of them.
-use Rattle.std.proofs.Common.{◌≡◌, ℕ, List, Option, Result, Ok, Err, refl, sym, subst}
+use Rattle.std.proofs.Common.{◌≡◌, ℕ, true, List, Option, Result, Ok, Err, refl, sym, subst}
 use Rattle.t1_frac.specs.declared.fault.Fault.{Fault}
 use Rattle.t1_code.specs.declared.parts.OutError.{OutError}
 use Rattle.t1_code.specs.declared.parts.OutError.TheVariants as out
@@ -12,10 +12,11 @@ use Rattle.t1_commands.specs.declared.answer.Answer.TheVariants.{Broken}
 use Rattle.t1_commands.specs.declared.command.Command.{Command}
 use Rattle.t1_commands.specs.declared.command.Command.TheVariants as commands
 use Rattle.t1_commands.specs.declared.print.Print.{Print}
+use Rattle.t1_commands.specs.declared.show.Show.{Show}
 use Rattle.t1_commands.specs.AnswerTexts.{answer_text}
 use Rattle.t1_commands.specs.Answering.{Reports, SendsText}
 use Rattle.t1_session.specs.Conversation.{IsPerformed}
-use Rattle.t1_session.specs.Machine.{perform, printed}
+use Rattle.t1_session.specs.Machine.{after_want, may_want_memory, perform, printed, shown, stays}
 use Rattle.t1_session.specs.State.{State}
 
 module _ {W : Type 0} (contents : W → Option (List ℕ)) (old new : State) (before after : Tally W) where
@@ -29,13 +30,29 @@ module _ {W : Type 0} (contents : W → Option (List ℕ)) (old new : State) (be
 same-text : (text whole : List ℕ) → ◌≡◌ {A = Result (List ℕ) Fault} (Ok text) (Ok whole) → whole ≡ text
 same-text text whole h = cc
 
-pub printed_performed : {W E : Type 0} (contents : W → Option (List ℕ)) (s : State) (before after : Tally W) (print : Print) (r : Result E OutError)
+-- a command that changes nothing, and may want memory, was answered
+module _ {W E : Type 0} (contents : W → Option (List ℕ)) (s : State) (before after : Tally W) (command : Command) (answer : Answer) (r : Result E OutError)
+    (performed : perform s command ≡ stays s answer) (may_want : may_want_memory s command ≡ true) (want : after_want s command ≡ s) where
+  pub shown_performed : Prints contents before after (Ok (answer_text answer)) r → IsPerformed contents s s before after command r
+  shown_performed h = by r h
+    where
+      by : (r : Result E OutError) → Prints contents before after (Ok (answer_text answer)) r → IsPerformed contents s s before after command r
+      by (Ok done) h = rw performed (subst (WritesAll contents before after) (same-text _ h.0 h.1) h.2, refl)
+      by (Err out.Write) h = rw performed (subst (WritesFront contents before after) (same-text _ h.0 h.1) h.2, refl)
+      by (Err (out.Fault fault)) h = absurd (let none = h.0 in cc)
+      by (Err out.Memory) h = (h, may_want, sym want)
+
+pub print_performed : {W E : Type 0} (contents : W → Option (List ℕ)) (s : State) (before after : Tally W) (print : Print) (r : Result E OutError)
     → Prints contents before after (Ok (answer_text (printed s print))) r → IsPerformed contents s s before after (commands.Print print) r
 unfolding perform
-printed_performed contents s before after print (Ok done) h = (subst (WritesAll contents before after) (same-text _ h.0 h.1) h.2, refl)
-printed_performed contents s before after print (Err out.Write) h = (subst (WritesFront contents before after) (same-text _ h.0 h.1) h.2, refl)
-printed_performed contents s before after print (Err (out.Fault fault)) h = absurd (let none = h.0 in cc)
-printed_performed contents s before after print (Err out.Memory) h = (h, refl, refl)
+print_performed contents s before after print r h =
+    shown_performed contents s before after (commands.Print print) (printed s print) r refl refl refl h
+
+pub query_performed : {W E : Type 0} (contents : W → Option (List ℕ)) (s : State) (before after : Tally W) (show : Show) (r : Result E OutError)
+    → Prints contents before after (Ok (answer_text (shown s show))) r → IsPerformed contents s s before after (commands.Show show) r
+unfolding perform
+query_performed contents s before after show r h =
+    shown_performed contents s before after (commands.Show show) (shown s show) r refl refl refl h
 
 pub broken_performed : {W E : Type 0} (contents : W → Option (List ℕ)) (s : State) (before after : Tally W) (rule : Rule) (r : Result E OutError)
     → Reports {T = Unit {0}} contents before after (Err (causes.Rule rule)) r → IsPerformed contents s s before after (commands.Broken rule) r

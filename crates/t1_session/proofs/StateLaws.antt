@@ -1,6 +1,6 @@
 -- What the source of a session gives.
-use Rattle.std.proofs.Common.{◌≡◌, ◌++◌, ℕ, true, List, Option, Some, None, Result, Ok, Err, refl, ap, sym, ◌∙◌, inl, inr, subst}
-use Rattle.std.specs.Prelude.{IfOk}
+use Rattle.std.proofs.Common.{◌≡◌, ℕ, true, List, Option, None, Result, Ok, Err, refl, ap, sym, ◌∙◌, inl, inr}
+use Rattle.std.specs.Prelude.{IfOk, option_map}
 use Rattle.std.proofs.lemmas.Bool.{cases_Bool}
 use Rattle.t1_frac.specs.declared.fault.Fault.{Fault}
 use Rattle.t1_frac.specs.declared.fault.Refusal.{Refusal}
@@ -34,12 +34,14 @@ use Rattle.t1_held.specs.Held.{IsHeld}
 use Rattle.t1_held.proofs.HeldLaws.{file_checked, right_checked}
 use Rattle.t1_commands.specs.declared.answer.Answer.TheVariants.{Data}
 use Rattle.t1_commands.specs.declared.print.Print.TheVariants as prints
+use Rattle.std.specs.declared.alloc.Global.{Global}
 use Rattle.std.specs.declared.vec.Vec.{Vec}
 use Rattle.t1_commands.specs.AnswerTexts.{answer_text, data_of}
 use Rattle.t1_session.specs.Files.{assembled, assembled_pfa}
-use Rattle.t1_session.specs.FromScratch.{blocks_from_scratch, pfa_from_scratch, texts_of, from_scratch, pfb_from_scratch, metrics_from_scratch, uses_from_scratch}
+use Rattle.t1_session.specs.FromScratch.{asked, blocks_from_scratch, pfa_from_scratch, texts_of, from_scratch, pfb_from_scratch, metrics_from_scratch, metrics_line_from_scratch, uses_from_scratch}
 use Rattle.t1_session.specs.Machine.{file_answer, holding, judged, printed}
-use Rattle.t1_session.specs.Outcomes.{AnswersNoFault, Took, refused_source}
+use Rattle.t1_session.specs.Outcomes.{AnswersNoFault, Finds, Took, refused_source}
+use Rattle.t1_session.specs.Queries.{metrics_line}
 use Rattle.t1_held.specs.Batch.{Draft}
 use Rattle.t1_session.specs.State.{State}
 
@@ -164,7 +166,7 @@ uses_shown (Err e) s table is known = tt
 module _ (s : State) (font : MeasuredFont) (known : measured_source s.source ≡ Ok font)
     (source : reads (text s.source) ≡ Ok s.source) (kerning : pairs (kern s.pairs) ≡ Ok s.pairs) where
   all-texts : (file : List ℕ) → source_file whole_file s.source ≡ Ok file
-      → from_scratch s ≡ Ok (record { pfb = file; metrics = afm (metrics_of s.source s.pairs font); uses = usage_table font.metrics })
+      → from_scratch s ≡ Ok (record { pfb = file; metrics = metrics_of s.source s.pairs font; uses = usage_table font.metrics })
   unfolding texts_of
   all-texts file made = rw (source, kerning, known, made) refl
 
@@ -176,7 +178,12 @@ module _ (s : State) (font : MeasuredFont) (known : measured_source s.source ≡
   pub metrics_scratch : metrics_from_scratch s ≡ Ok (afm (metrics_of s.source s.pairs font))
   metrics_scratch =
       let file = has_file s.source font known in
-      ap (λ r. r >>= λ texts. Ok texts.metrics) (all-texts file.0 file.1)
+      ap (λ r. r >>= λ texts. Ok (afm texts.metrics)) (all-texts file.0 file.1)
+
+  pub metrics_line_scratch : (name : List ℕ) → metrics_line_from_scratch name s ≡ Ok (metrics_line name (metrics_of s.source s.pairs font))
+  metrics_line_scratch name =
+      let file = has_file s.source font known in
+      ap (λ r. r >>= λ texts. Ok (metrics_line name texts.metrics)) (all-texts file.0 file.1)
 
   pub uses_scratch : uses_from_scratch s ≡ Ok (usage_table font.metrics)
   uses_scratch =
@@ -187,6 +194,21 @@ pub pfb_checked : (s : State) → source_check s.source ≡ Ok tt → reads (tex
     → pfb_from_scratch s ≡ file_in (pfb_of whole_file) s.source
 unfolding source_file
 pfb_checked s e source kerning = let font = checked-metrics s.source e in pfb_scratch s font.0 font.1 source kerning
+
+-- what is asked of the printed source is asked of the session's
+pub asked_scratch : {X : Type 0} (answer : SourceParts → X) (s : State) → reads (text s.source) ≡ Ok s.source → asked answer s ≡ Ok (answer s.source)
+asked_scratch answer s source = ap (λ r. r >>= λ parts. Ok (answer parts)) source
+
+-- a text that was found is the one from scratch
+pub found_scratch : {E : Type 0} (r : Result (Option (Vec ℕ Global)) E) (given : Result (Option (List ℕ)) Fault) (found : Option (List ℕ))
+    → IfOk r (λ texts. option_map (λ text. text.items) texts ≡ found) → given ≡ Ok found → Finds r given
+found_scratch (Ok texts) given found is known = known ∙ ap (λ (o : Option (List ℕ)). Ok o) (sym is)
+found_scratch (Err e) given found is known = tt
+
+pub told_scratch : {A E : Type 0} (r : Result (Vec ℕ A) E) (given : Result (List ℕ) Fault) (told : List ℕ)
+    → IfOk r (λ text. text.items ≡ told) → given ≡ Ok told → IfOk r (λ text. given ≡ Ok text.items)
+told_scratch (Ok text) given told is known = known ∙ ap (λ (l : List ℕ). Ok l) (sym is)
+told_scratch (Err e) given told is known = tt
 
 -- the files that the assembler alone makes
 pub blocks_scratch : (s : State) (size : ℕ) → reads (text s.source) ≡ Ok s.source → blocks_from_scratch size s ≡ file_in (pfb_of size) s.source
@@ -227,6 +249,11 @@ module _ (s : State) (checked : source_check s.source ≡ Ok tt) (source : reads
 
   pub metrics_there : (file : List ℕ) × (metrics_from_scratch s ≡ Ok file)
   metrics_there = let font = checked-metrics s.source checked in (afm (metrics_of s.source s.pairs font.0), metrics_scratch s font.0 font.1 source kerning)
+
+  pub metrics_line_there : (name : List ℕ) → (line : Option (List ℕ)) × (metrics_line_from_scratch name s ≡ Ok line)
+  metrics_line_there name =
+      let font = checked-metrics s.source checked in
+      (metrics_line name (metrics_of s.source s.pairs font.0), metrics_line_scratch s font.0 font.1 source kerning name)
 
   pub uses_there : (file : List ℕ) × (uses_from_scratch s ≡ Ok file)
   uses_there = let font = checked-metrics s.source checked in (usage_table font.0.metrics, uses_scratch s font.0 font.1 source kerning)

@@ -1,5 +1,5 @@
 -- The table of users that contracts see, and that of the records.
-use Rattle.std.proofs.Common.{◌≡◌, ◌∷◌, [], ◌∙◌, ap, refl, Bool, List, Option, None, Some, inl, inr, ℕ, map, nat_eq, option_map}
+use Rattle.std.proofs.Common.{◌≡◌, ◌∷◌, [], ◌∙◌, ap, refl, List, Option, None, Some, inl, inr, ℕ, map, nat_eq, option_map}
 use Rattle.std.specs.List.{list_any}
 use Rattle.std.specs.Map.{lookup}
 use Rattle.std.specs.Str.{bytes_eq}
@@ -9,7 +9,7 @@ use Rattle.std.proofs.lemmas.Bool.{cases_Bool}
 use Rattle.std.proofs.lemmas.Map.Made.{lookup-map_values}
 use Rattle.t1_parts.specs.SourceParts.{SourceParts}
 use Rattle.t1_run.specs.Run.{Key, Subr, Glyph}
-use Rattle.t1_cache.specs.Users.{UserSet, among, lists, users_of, users_at as recorded_at}
+use Rattle.t1_cache.specs.Users.{UserSet, among, users_of, users_at as recorded_at}
 use Rattle.t1_cache.specs.declared.records.GlyphRecord.{GlyphRecord}
 use Rattle.t1_cache.specs.declared.records.Records.{Records}
 use Rattle.t1_cache.specs.declared.records.SubrRecord.{SubrRecord}

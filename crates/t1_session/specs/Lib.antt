@@ -7,6 +7,7 @@ pub mod FromScratch
 pub mod LineEnds
 pub mod Machine
 pub mod Outcomes
+pub mod Queries
 pub mod Readable
 pub mod Reruns
 pub mod RerunsByTest

@@ -1,5 +1,5 @@
 -- The commands of a session.
-use Rattle.std.specs.Prelude.{◌≡◌, ◌++◌, ℕ, Bool, true, false, not, List, [], Option, Some, None, is_some, Result, Ok, Err}
+use Rattle.std.specs.Prelude.{◌++◌, ℕ, Bool, true, false, not, List, [], Option, Some, None, is_some, Result, Ok, Err}
 use Rattle.t1_frac.specs.declared.fault.Fault.{Fault}
 use Rattle.t1_frac.specs.Outcome.{◌>>=◌}
 use Rattle.t1_parts.specs.SourceParts.{SourceParts}
@@ -8,20 +8,22 @@ use Rattle.t1_parts.specs.Printing.{text}
 use Rattle.t1_pairs.specs.declared.pairs.Pair.{Pair}
 use Rattle.t1_source.specs.declared.edit.Edit.{Edit}
 use Rattle.t1_source.specs.declared.edit.Rule.{Rule}
-use Rattle.t1_source.specs.declared.edit.Rule.TheVariants.{E4, E11, E12}
+use Rattle.t1_source.specs.declared.edit.Rule.TheVariants.{E1, E4, E11, E12}
 use Rattle.t1_pairs.specs.Kerning.{pairs, kern}
 use Rattle.t1_source.specs.Editing.{edited}
 use Rattle.t1_font.specs.SourceChecks.{source_check}
 use Rattle.t1_held.specs.Batch.{Draft, EntryEdit, edited_entries}
 use Rattle.t1_commands.specs.declared.print.Print.{Print}
 use Rattle.t1_commands.specs.declared.print.Print.TheVariants as prints
+use Rattle.t1_commands.specs.declared.show.Show.{Show}
+use Rattle.t1_commands.specs.declared.show.Show.TheVariants as shows
 use Rattle.t1_commands.specs.declared.answer.Answer.{Answer}
 use Rattle.t1_commands.specs.declared.answer.Answer.TheVariants.{Accepted, Broken, Faulty, Data}
 use Rattle.t1_commands.specs.declared.command.Command.{Command}
 use Rattle.t1_commands.specs.declared.command.Command.TheVariants as commands
 use Rattle.t1_commands.specs.Blocks.{block_size}
 use Rattle.t1_commands.specs.Answers.{Performed, Machine}
-use Rattle.t1_session.specs.FromScratch.{blocks_from_scratch, metrics_from_scratch, pfa_from_scratch, pfb_from_scratch, uses_from_scratch}
+use Rattle.t1_session.specs.FromScratch.{blocks_from_scratch, encoding_from_scratch, glyph_from_scratch, metrics_from_scratch, metrics_line_from_scratch, pfa_from_scratch, pfb_from_scratch, subr_from_scratch, uses_from_scratch}
 use Rattle.t1_session.specs.State.{State}
 
 -- profile: the state with this source and these pairs, and no batch
@@ -79,7 +81,7 @@ abort_in (Some d) s = record { answer = Accepted; next = holding s.source s.pair
 
 -- ---- prints
 
--- profile: what a print of a text is answered; the source of a session has no fault
+-- profile: what a print or a query of a text is answered; the source of a session has no fault
 abbrev pub file_answer : Result (List ℕ) Fault → Answer
 file_answer (Ok file) = Data file
 file_answer (Err fault) = Faulty fault
@@ -100,21 +102,43 @@ printed s prints.Pfa = file_answer (pfa_from_scratch s)
 printed s prints.Afm = file_answer (metrics_from_scratch s)
 printed s prints.Uses = file_answer (uses_from_scratch s)
 
+-- ---- queries
+
+-- profile: what a query is answered; E1 where there is no such glyph or Subr
+abbrev pub found_answer : Option (List ℕ) → Answer
+found_answer None = Broken E1
+found_answer (Some text) = Data text
+
+-- profile: the same, of a text from scratch; the source of a session has no fault
+abbrev pub query_answer : Result (Option (List ℕ)) Fault → Answer
+query_answer (Ok found) = found_answer found
+query_answer (Err fault) = Faulty fault
+
+-- profile, session commands: what a query shows, by what reading and measuring the printed source gives from scratch; in a
+-- batch, of the session as before it
+abbrev pub shown : State → Show → Answer
+shown s (shows.Glyph name) = query_answer (glyph_from_scratch name s)
+shown s (shows.Subr number) = query_answer (subr_from_scratch number s)
+shown s (shows.Metrics name) = query_answer (metrics_line_from_scratch name s)
+shown s shows.Encoding = file_answer (encoding_from_scratch s)
+
 -- ---- all commands
 
 -- profile, session commands: what a command is answered, and the state after it
 unfoldable pub perform : State → Command → Performed State
 perform s (commands.Edit edit) = edit_in s.batch s edit
 perform s (commands.Print print) = stays s (printed s print)
+perform s (commands.Show show) = stays s (shown s show)
 perform s commands.Begin = begin_in s.batch s
 perform s commands.Commit = commit_in s.batch s
 perform s commands.Abort = abort_in s.batch s
 perform s (commands.Broken rule) = stays s (Broken rule)
 
--- profile, answers: which commands may meet want of memory: edits and prints, a `begin` outside a batch, a `commit` in one
+-- profile, answers: which commands may meet want of memory: edits, prints and queries, a `begin` outside a batch, a `commit` in one
 abbrev pub may_want_memory : State → Command → Bool
 may_want_memory s (commands.Edit edit) = true
 may_want_memory s (commands.Print print) = true
+may_want_memory s (commands.Show show) = true
 may_want_memory s commands.Begin = not (is_some s.batch)
 may_want_memory s commands.Commit = is_some s.batch
 may_want_memory s commands.Abort = false

@@ -1,5 +1,8 @@
 -- What a call that performs a command answers, and what it leaves.
-use Rattle.std.specs.Prelude.{◌≡◌, Bool, true, Result, Ok, Err}
+use Rattle.std.specs.Prelude.{◌≡◌, ℕ, Bool, true, List, Option, option_map, Result, Ok, Err}
+use Rattle.std.specs.declared.alloc.Global.{Global}
+use Rattle.std.specs.declared.vec.Vec.{Vec}
+use Rattle.t1_frac.specs.declared.fault.Fault.{Fault}
 use Rattle.t1_frac.specs.declared.fault.Refusal.{Refusal}
 use Rattle.t1_frac.specs.declared.fault.Refusal.TheVariants as refusals
 use Rattle.t1_source.specs.declared.edit.Cause.{Cause}
@@ -40,3 +43,8 @@ AnswersNoFault (Ok done) = Unit {0}
 AnswersNoFault (Err out.Write) = Unit {0}
 AnswersNoFault (Err (out.Fault fault)) = ⊥
 AnswersNoFault (Err out.Memory) = Unit {0}
+
+-- profile: a query answers what a definition gives, or that memory ran out
+abbrev pub Finds : {E : Type 0} → Result (Option (Vec ℕ Global)) E → Result (Option (List ℕ)) Fault → Type 0
+Finds (Ok found) given = given ≡ Ok (option_map (λ text. text.items) found)
+Finds (Err e) given = Unit {0}

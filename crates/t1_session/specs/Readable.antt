@@ -1,6 +1,5 @@
--- What is true of every state that a session reaches: its texts read back, and no print of it answers a fault.
-use Rattle.std.specs.Prelude.{◌≡◌, ℕ, Bool, true, List, Option, Some, None, Result, Ok}
-use Rattle.t1_frac.specs.declared.fault.Fault.{Fault}
+-- What is true of every state that a session reaches: its texts read back, and no print or query of it answers a fault.
+use Rattle.std.specs.Prelude.{◌≡◌, ℕ, Bool, true, List, Option, Some, None, Ok}
 use Rattle.t1_parts.specs.Printing.{text}
 use Rattle.t1_parts.specs.Reading.{reads}
 use Rattle.t1_parts.specs.SourceParts.{SourceParts}
@@ -13,8 +12,9 @@ use Rattle.t1_commands.specs.declared.answer.Answer.{Answer}
 use Rattle.t1_commands.specs.declared.answer.Answer.TheVariants as answers
 use Rattle.t1_commands.specs.declared.command.Command.{Command}
 use Rattle.t1_commands.specs.declared.print.Print.{Print}
+use Rattle.t1_commands.specs.declared.show.Show.{Show}
 use Rattle.t1_commands.specs.Answers.{answer_to}
-use Rattle.t1_session.specs.Machine.{machine, opened, printed, scratch}
+use Rattle.t1_session.specs.Machine.{machine, opened, printed, scratch, shown}
 use Rattle.t1_session.specs.State.{State}
 
 -- profile: the source of a state has no fault
@@ -64,3 +64,7 @@ TellsNoFault answer = Unit {0}
 -- profile: no print of a readable state tells a fault
 abbrev pub PrintsWithoutFault : Type 0
 PrintsWithoutFault = (s : State) (print : Print) → IsReadable s → TellsNoFault (printed s print)
+
+-- profile: no query of a readable state tells a fault
+abbrev pub ShowsWithoutFault : Type 0
+ShowsWithoutFault = (s : State) (show : Show) → IsReadable s → TellsNoFault (shown s show)

@@ -4,7 +4,7 @@ ghost use Rattle.t1_font.specs.Assembly.{source_file, source_pfa};
 ghost use Rattle.t1_font.specs.SourceChecks.{source_check};
 ghost use Rattle.t1_parts.specs.SourceParts.{SourceParts};
 ghost use Rattle.t1_session.specs.Files.{MetricsTellFirstFault};
-ghost use Rattle.t1_session.specs.Readable.{KeepsFaultless, KeepsReadable, OpensFaultless, OpensReadable, PrintsWithoutFault, ReadsBack};
+ghost use Rattle.t1_session.specs.Readable.{KeepsFaultless, KeepsReadable, OpensFaultless, OpensReadable, PrintsWithoutFault, ReadsBack, ShowsWithoutFault};
 
 /// The source of a session never has a fault: of its bodies, F23, or of a glyph.
 pub fn a_session_is_faultless()
@@ -12,12 +12,14 @@ pub fn a_session_is_faultless()
     ensures keeps { KeepsFaultless }
 {}
 
-/// What a session prints reads back as what it holds, and no print of it answers a fault, whatever commands came before.
+/// What a session prints reads back as what it holds, and no print or query of it answers a fault,
+/// whatever commands came before.
 pub fn a_session_reads_back()
     ensures opens { OpensReadable }
     ensures keeps { KeepsReadable }
     ensures reads { ReadsBack }
     ensures prints { PrintsWithoutFault }
+    ensures shows { ShowsWithoutFault }
 {}
 
 /// The AFM file of a source and its pairs, which were read, is refused by the source's first fault and by nothing else.

@@ -10,9 +10,12 @@
 mod answering;
 mod assembling;
 mod dialogue;
+mod encoding;
+mod entries;
 mod error;
 pub mod laws;
 mod measuring;
+mod metrics_line;
 mod performer;
 mod serving;
 mod session;

@@ -38,7 +38,7 @@ impl<'a> Model for Session<'a> {
     ghost invariant = { λ s. IsHeld s.source s.held × IsOpenOn s.source s.batch };
 }
 
-ghost use Rattle.std.specs.Prelude.{◌≡◌, ◌≤◌, ◌-◌, ◌^◌, Ok, IfOk, None, Some, is_some, length, map, true};
+ghost use Rattle.std.specs.Prelude.{◌≡◌, ◌≤◌, ◌-◌, ◌^◌, Ok, IfOk, None, Some, is_some, length, map, option_map, true};
 ghost use Rattle.t1_frac.specs.Outcome.{Gives};
 ghost use Rattle.t1_source.specs.Changes.{changed, Serves};
 ghost use Rattle.t1_source.specs.Editing.{edited};
@@ -54,22 +54,25 @@ ghost use Rattle.t1_cache.specs.Kept.{KeepsAll};
 ghost use Rattle.t1_held.specs.Batch.{entry_edit, keys, IsEditedBy};
 ghost use Rattle.t1_commands.specs.declared.command.Command.TheVariants as commands;
 ghost use Rattle.t1_commands.specs.declared.print.Print.TheVariants as prints;
-ghost use Rattle.t1_session.specs.FromScratch.{blocks_from_scratch, pfa_from_scratch, pfb_from_scratch, metrics_from_scratch, uses_from_scratch};
+ghost use Rattle.t1_session.specs.FromScratch.{blocks_from_scratch, encoding_from_scratch, glyph_from_scratch, metrics_from_scratch, metrics_line_from_scratch, pfa_from_scratch, pfb_from_scratch, subr_from_scratch, uses_from_scratch};
 ghost use Rattle.t1_commands.specs.Blocks.{block_size};
 ghost use Rattle.t1_commands.specs.declared.answer.Answer.TheVariants.{Data};
 ghost use Rattle.t1_commands.specs.AnswerTexts.{answer_text};
-ghost use Rattle.t1_session.specs.Machine.{blocks_answer, file_answer, opened, judged, printed};
-ghost use Rattle.t1_session.specs.Outcomes.{AnswersNoFault, Takes, TakesOrReturns, Took, refused_source};
+ghost use Rattle.t1_session.specs.Machine.{blocks_answer, file_answer, found_answer, opened, judged, printed, shown};
+ghost use Rattle.t1_session.specs.Outcomes.{AnswersNoFault, Finds, Takes, TakesOrReturns, Took, refused_source};
 ghost use Rattle.t1_session.specs.Reruns.{edition, AreKept, Reruns, RerunsOrReturns};
 ghost use Rattle.t1_session.specs.RerunsByTest.{RerunsByTest};
 ghost use Rattle.t1_session.specs.Users.{AreUsers};
 
+use crate::encoding::encoding_text;
+use crate::entries::{entry_text, glyph_named, subr_numbered};
+use crate::metrics_line::metrics_line;
 use std::alloc::AllocError;
 use std::io::Write;
 use std::mem;
 use t1_code::{Counted, OutError, Pfa, Pfb, WHOLE_PARTS};
-use t1_commands::{Answer, PfaData, PfbData, Print, block_size, put_answer};
-use t1_font::{MeasuredGlyphs, afm_of_source, usage_text, write_source_afm};
+use t1_commands::{Answer, PfaData, PfbData, Print, Show, block_size, put_answer};
+use t1_font::{MeasuredGlyphs, afm_of_source, metrics, usage_text, write_source_afm};
 use t1_frac::{Bytes, Refusal};
 use t1_held::{EditedEntry, Edits, held_metrics, held_of, prepare_edits, settle, write_held_file};
 use t1_pairs::laws::text_of_pairs_read;
@@ -393,6 +396,43 @@ impl<'a> Session<'a> {
         put_text(&text, out)
     }
 
+    /// The words of a glyph, in the lines that the printed source has; none where there is no
+    /// glyph of this name.
+    pub fn show_glyph(&self, name: &[u8]) -> Result<Option<Vec<u8>>, AllocError>
+        ensures { Finds result (glyph_from_scratch name.now self.now.state) }
+    {
+        self.reads_back();
+        entry_text(self.alloc, glyph_named(self.source.items(), name))
+    }
+
+    /// The words of a Subr, in the lines that the printed source has; none where there is no Subr
+    /// of this number.
+    pub fn show_subr(&self, number: i64) -> Result<Option<Vec<u8>>, AllocError>
+        ensures { Finds result (subr_from_scratch number self.now.state) }
+    {
+        self.reads_back();
+        entry_text(self.alloc, subr_numbered(self.source.items(), number))
+    }
+
+    /// The line of a glyph in the AFM file, with its end; none where there is no glyph of this
+    /// name.
+    pub fn show_metrics(&self, name: &[u8]) -> Result<Option<Vec<u8>>, AllocError>
+        ensures { Finds result (metrics_line_from_scratch name.now self.now.state) }
+    {
+        self.reads_back();
+        let glyphs = self.glyphs()?;
+        let metrics = metrics(self.alloc, &self.source, &self.pairs, &glyphs)?;
+        metrics_line(self.alloc, &metrics, name)
+    }
+
+    /// The codes that have a name, each with it on a line, as `65 A`, by code.
+    pub fn show_encoding(&self) -> Result<Vec<u8>, AllocError>
+        ensures { IfOk result (λ text. encoding_from_scratch self.now.state ≡ Ok text.items) }
+    {
+        self.reads_back();
+        encoding_text(self.alloc, &self.source)
+    }
+
     /// Writes the PFB file as the data of an answer. No file is made in memory.
     fn put_pfb<W: Write>(&self, size: usize, out: &mut Counted<W>) -> Result<(), OutError>
         requires some { 1 ≤ size }
@@ -466,6 +506,32 @@ impl<'a> Session<'a> {
             Print::Afm => put_data(self.metrics_text()?, out),
             Print::Uses => put_data(self.uses_text()?, out),
         }
+    }
+
+    /// Writes what a query is answered. All that takes memory is there before any of it is written.
+    pub(crate) fn put_show<W: Write>(
+        &self,
+        show: &Show,
+        out: &mut Counted<W>,
+    ) -> Result<(), OutError>
+        ensures { Prints W.contents out.old out.new (Ok (answer_text (shown self.now.state show.now))) result }
+    {
+        match show {
+            Show::Glyph(name) => put_found(self.show_glyph(name.as_slice())?, out),
+            Show::Subr(number) => put_found(self.show_subr(*number)?, out),
+            Show::Metrics(name) => put_found(self.show_metrics(name.as_slice())?, out),
+            Show::Encoding => put_data(self.show_encoding()?, out),
+        }
+    }
+}
+
+/// Writes a text that was asked for as the data of an answer; E1 where there is none.
+fn put_found<W: Write>(found: Option<Vec<u8>>, out: &mut Counted<W>) -> Result<(), OutError>
+    ensures { Prints W.contents out.old out.new (Ok (answer_text (found_answer (option_map (λ text. text.items) found)))) result }
+{
+    match found {
+        Some(text) => put_data(text, out),
+        None => Ok(put_answer(out, &Answer::Broken(Rule::E1))?),
     }
 }
 

@@ -1,4 +1,4 @@
-use Rattle.t1_session.proofs.ReadableLaws.{keeps_readable, opens_readable, prints_without_fault, reads_back}
+use Rattle.t1_session.proofs.ReadableLaws.{keeps_readable, opens_readable, prints_without_fault, reads_back, shows_without_fault}
 use Rattle.t1_session.proofs.laws.a_session_reads_back.Goals as goal
 
 pub returns-clause-opens : goal.returns-clause-opens
@@ -12,3 +12,6 @@ returns-clause-reads c = reads_back
 
 pub returns-clause-prints : goal.returns-clause-prints
 returns-clause-prints c = prints_without_fault
+
+pub returns-clause-shows : goal.returns-clause-shows
+returns-clause-shows c = shows_without_fault

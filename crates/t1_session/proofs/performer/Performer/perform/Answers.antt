@@ -1,15 +1,20 @@
 use Rattle.std.proofs.Common.{Ok, subst}
 use Rattle.t1_code.specs.Parts.{Prints}
 use Rattle.t1_commands.specs.AnswerTexts.{answer_text}
-use Rattle.t1_session.specs.Machine.{printed}
+use Rattle.t1_session.specs.Machine.{printed, shown}
 use Rattle.t1_session.specs.State.{State}
-use Rattle.t1_session.proofs.Reporting.{broken_performed, printed_performed}
+use Rattle.t1_session.proofs.Reporting.{broken_performed, print_performed, query_performed}
 use Rattle.t1_session.proofs.performer.Performer.perform.Goals as goal
 
 pub returns-in-Print : goal.returns-in-Print
 returns-in-Print g c =
-    rw c.in-Print.is (printed_performed g.W.Write.contents c.args.self.now c.args.out.now c.put_print.new.out c.in-Print.print c.put_print.result
+    rw c.in-Print.is (print_performed g.W.Write.contents c.args.self.now c.args.out.now c.put_print.new.out c.in-Print.print c.put_print.result
     (subst (λ (s : State). Prints g.W.Write.contents c.args.out.now c.put_print.new.out (Ok (answer_text (printed s c.in-Print.print))) c.put_print.result) c.self.view_is c.put_print.ensures))
+
+pub returns-in-Show : goal.returns-in-Show
+returns-in-Show g c =
+    rw c.in-Show.is (query_performed g.W.Write.contents c.args.self.now c.args.out.now c.put_show.new.out c.in-Show.show c.put_show.result
+    (subst (λ (s : State). Prints g.W.Write.contents c.args.out.now c.put_show.new.out (Ok (answer_text (shown s c.in-Show.show))) c.put_show.result) c.self.view_is c.put_show.ensures))
 
 pub returns-in-Broken : goal.returns-in-Broken
 returns-in-Broken g c =

@@ -1,0 +1,12 @@
+use Rattle.std.proofs.Common.{◌∙◌, ap, filter, refl, rules, tests}
+use Rattle.std.proofs.lemmas.Iterator.Consumers.{YieldsList-from_first}
+use Rattle.std.proofs.lemmas.Iterator.Search.{find_from_yields_List}
+use Rattle.t1_parts.specs.Entries.{is_subr}
+use Rattle.t1_parts.specs.Items.{stands_alone}
+use Rattle.t1_source.proofs.AloneSearchLaws.{find_alone}
+use Rattle.t1_session.proofs.entries.numbered.Goals as goal
+
+pub returns : goal.returns
+returns c =
+    find_from_yields_List (is_subr c.args.number) _ _ c.find.result c.find.ensures.ran (YieldsList-from_first (λ item. item.now) (λ left. left) _ (c.alone-alone.ensures ∙ ap (filter stands_alone) c.iter.ensures.items)) (λ x b q k. search (rules, tests))
+    ∙ find_alone (is_subr c.args.number) (λ l. refl) c.args.items.now
