@@ -4,12 +4,13 @@
 from edits import Edit, edited, form_of, in_range, takes_body
 from faults import Broken, Fault
 from metrics import afm, names, uses
+from outlines import outline_text
 from pfb import LARGEST, assembly_fault, pfa, pfb
 from runs import Font
 from source import joined, kern_text, lines, printed, trimmed, words
 
 PRINTS = (b"pfb", b"afm", b"source", b"kern", b"uses", b"pfa")
-SHOWS = (b"glyph", b"subr", b"metrics")  # (each of one entry)
+SHOWS = (b"glyph", b"subr", b"metrics", b"outline")  # (each of one entry)
 BATCHES = ((b"begin",), (b"commit",), (b"abort",))
 
 
@@ -140,6 +141,8 @@ class Session:
         if what == b"metrics":
             found = (it for it in lines(afm(self.source, self.pairs, self.font)) if it.startswith(b"C "))
             return next((it + b"\n" for it in found if it.split(b" ; ")[2] == b"N " + subject), None)
+        if what == b"outline":
+            return outline_text(self.font.outline(subject)) if subject in self.font.glyphs else None
         if what == b"glyph":
             entry = self.source.glyphs().get(subject)
         else:

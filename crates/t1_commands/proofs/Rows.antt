@@ -85,6 +85,10 @@ encoding_shown : line_command (codes "show" ∷ codes "encoding" ∷ []) ≡ com
 unfolding line_command whole_show
 encoding_shown = refl
 
+outline_shown : line_command (codes "show" ∷ codes "outline" ∷ codes "A" ∷ []) ≡ commands.Show (shows.Outline (codes "A"))
+unfolding line_command entry_show
+outline_shown = refl
+
 metrics_of_all : line_command (codes "show" ∷ codes "metrics" ∷ []) ≡ commands.Broken E8
 unfolding line_command whole_show
 metrics_of_all = refl

@@ -89,13 +89,14 @@ print_of rest = print_by (one_word rest) (two_words rest)
 unfoldable pub whole_show : List ℕ → Command
 whole_show word = if bytes_eq word (codes "encoding") then commands.Show shows.Encoding else unknown
 
--- profile, session commands: `show glyph NAME`, `show subr N`, `show metrics NAME`
+-- profile, session commands: `show glyph NAME`, `show subr N`, `show metrics NAME`, `show outline NAME`
 unfoldable pub entry_show : Option (List ℕ × List ℕ) → Command
 entry_show None = unknown
 entry_show (Some w) =
     if bytes_eq w.0 (codes "glyph") then commands.Show (shows.Glyph w.1)
     else if bytes_eq w.0 (codes "subr") then commands.Show (shows.Subr (number_of w.1))
     else if bytes_eq w.0 (codes "metrics") then commands.Show (shows.Metrics w.1)
+    else if bytes_eq w.0 (codes "outline") then commands.Show (shows.Outline w.1)
     else unknown
 
 -- profile, session commands: the query of one word, else that of two

@@ -175,7 +175,7 @@ fn whole_show(word: &[u8]) -> Command
     }
 }
 
-/// `show glyph NAME`, `show subr N`, `show metrics NAME`, after the first word.
+/// `show glyph NAME`, `show subr N`, `show metrics NAME`, `show outline NAME`, after the first word.
 #[tactic(auto, unfolding(crate::specs::Commands::entry_show))]
 fn entry_show(alloc: Global, line: &[u8]) -> Result<Command, AllocError>
     ensures { Makes result (entry_show (two_words (words line.now))) }
@@ -193,6 +193,10 @@ fn entry_show(alloc: Global, line: &[u8]) -> Result<Command, AllocError>
     if kind == b"metrics".as_slice() {
         let name = Bytes::copied(alloc, subject)?;
         return Ok(Command::Show(Show::Metrics(name)));
+    }
+    if kind == b"outline".as_slice() {
+        let name = Bytes::copied(alloc, subject)?;
+        return Ok(Command::Show(Show::Outline(name)));
     }
     Ok(UNKNOWN)
 }

@@ -11,6 +11,8 @@ pub enum Show {
     Subr(i64),
     /// The line of the glyph of this name in the AFM file.
     Metrics(Bytes),
+    /// The outline of the glyph of this name, with its parts.
+    Outline(Bytes),
     /// The names of the codes.
     Encoding,
 }

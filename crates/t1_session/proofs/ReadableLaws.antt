@@ -1,5 +1,5 @@
 -- What is true of every state that a session reaches.
-use Rattle.std.proofs.Common.{◌≡◌, ◌++◌, ℕ, Bool, true, ◌&&◌, List, Option, Some, None, Result, Ok, Err, refl, inl, inr, subst}
+use Rattle.std.proofs.Common.{◌≡◌, ◌++◌, ℕ, Bool, true, ◌&&◌, List, Option, Some, None, Result, Ok, Err, refl, ◌∙◌, inl, inr, subst}
 use Rattle.std.proofs.lemmas.Bool.{cases_Bool}
 use Rattle.t1_frac.specs.declared.fault.Fault.{Fault}
 use Rattle.t1_frac.specs.Outcome.{◌>>=◌}
@@ -29,7 +29,12 @@ use Rattle.t1_session.specs.Machine.{abort_in, after_want, begin_in, blocks_answ
 use Rattle.t1_session.specs.Readable.{AreMade, IsDraftMade, IsFaultless, IsReadable, KeepsFaultless, KeepsReadable, OpensFaultless, OpensReadable, PrintsWithoutFault, ReadsBack, ShowsWithoutFault, TellsNoFault}
 use Rattle.t1_session.specs.State.{State}
 use Rattle.t1_session.specs.Queries.{encoding_text, glyph_text, subr_text}
-use Rattle.t1_session.proofs.StateLaws.{asked_scratch, blocks_there, metrics_line_there, metrics_there, pfa_there, pfb_there, uses_there}
+use Rattle.t1_outline.proofs.OfSources.{stored, glyph-shown, other-shown}
+use Rattle.std.specs.List.{list_any}
+use Rattle.t1_parts.specs.Entries.{is_glyph}
+use Rattle.t1_outline.specs.Shown.{source_outline}
+use Rattle.t1_outline.specs.Text.{outline_text}
+use Rattle.t1_session.proofs.StateLaws.{asked_scratch, blocks_there, outline_scratch, metrics_line_there, metrics_there, pfa_there, pfb_there, uses_there}
 
 -- ---- after an answer, marked or not
 
@@ -202,6 +207,13 @@ found-tells-none : (r : Result (Option (List ℕ)) Fault) (found : Option (List 
 found-tells-none r None e = rw e tt
 found-tells-none r (Some text) e = rw e tt
 
+outline-there : (s : SourceParts) (name : List ℕ) → source_check s ≡ Ok tt → (found : Option (List ℕ)) × (source_outline s name ≡ Ok found)
+outline-there s name checked =
+    elim (cases_Bool (list_any (is_glyph name) s.items)) [
+      | inl is ↦ let made = glyph-shown s name checked is in (Some (outline_text made.segments), made.shown)
+      | inr other ↦ (None, other-shown s name checked other)
+    ]
+
 pub shows_without_fault : ShowsWithoutFault
 shows_without_fault s (shows.Glyph name) h = found-tells-none _ _ (asked_scratch (glyph_text name) s (reads_back s h).0)
 shows_without_fault s (shows.Subr number) h = found-tells-none _ _ (asked_scratch (subr_text number) s (reads_back s h).0)
@@ -209,4 +221,7 @@ shows_without_fault s (shows.Metrics name) h =
     let back = reads_back s h in
     let line = metrics_line_there s h.faultless back.0 back.1 name in
     found-tells-none _ line.0 line.1
+shows_without_fault s (shows.Outline name) h =
+    let outline = outline-there s.source name h.faultless in
+    found-tells-none _ outline.0 (outline_scratch s name (reads_back s h).0 ∙ outline.1)
 shows_without_fault s shows.Encoding h = tells-none _ (encoding_text s.source, asked_scratch encoding_text s (reads_back s h).0)

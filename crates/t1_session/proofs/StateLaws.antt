@@ -29,6 +29,7 @@ use Rattle.t1_font.specs.FontMetrics.{metrics_of}
 use Rattle.t1_font.specs.MeasuredGlyphs.{MeasuredFont}
 use Rattle.t1_font.specs.SourceChecks.{measured_source, source_check}
 use Rattle.t1_font.specs.Usage.{usage_table}
+use Rattle.t1_outline.specs.Shown.{source_outline}
 use Rattle.t1_held.specs.declared.held.Held.{Held}
 use Rattle.t1_held.specs.Held.{IsHeld}
 use Rattle.t1_held.proofs.HeldLaws.{file_checked, right_checked}
@@ -38,7 +39,7 @@ use Rattle.std.specs.declared.alloc.Global.{Global}
 use Rattle.std.specs.declared.vec.Vec.{Vec}
 use Rattle.t1_commands.specs.AnswerTexts.{answer_text, data_of}
 use Rattle.t1_session.specs.Files.{assembled, assembled_pfa}
-use Rattle.t1_session.specs.FromScratch.{asked, blocks_from_scratch, pfa_from_scratch, texts_of, from_scratch, pfb_from_scratch, metrics_from_scratch, metrics_line_from_scratch, uses_from_scratch}
+use Rattle.t1_session.specs.FromScratch.{asked, blocks_from_scratch, pfa_from_scratch, texts_of, from_scratch, pfb_from_scratch, metrics_from_scratch, metrics_line_from_scratch, outline_from_scratch, uses_from_scratch}
 use Rattle.t1_session.specs.Machine.{file_answer, holding, judged, printed}
 use Rattle.t1_session.specs.Outcomes.{AnswersNoFault, Finds, Took, refused_source}
 use Rattle.t1_session.specs.Queries.{metrics_line}
@@ -198,6 +199,9 @@ pfb_checked s e source kerning = let font = checked-metrics s.source e in pfb_sc
 -- what is asked of the printed source is asked of the session's
 pub asked_scratch : {X : Type 0} (answer : SourceParts → X) (s : State) → reads (text s.source) ≡ Ok s.source → asked answer s ≡ Ok (answer s.source)
 asked_scratch answer s source = ap (λ r. r >>= λ parts. Ok (answer parts)) source
+
+pub outline_scratch : (s : State) (name : List ℕ) → reads (text s.source) ≡ Ok s.source → outline_from_scratch name s ≡ source_outline s.source name
+outline_scratch s name source = ap (λ r. r >>= λ parts. source_outline parts name) source
 
 -- a text that was found is the one from scratch
 pub found_scratch : {E : Type 0} (r : Result (Option (Vec ℕ Global)) E) (given : Result (Option (List ℕ)) Fault) (found : Option (List ℕ))

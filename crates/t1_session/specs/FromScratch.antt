@@ -12,6 +12,7 @@ use Rattle.t1_font.specs.Assembly.{source_file}
 use Rattle.t1_font.specs.FontMetrics.{metrics_of}
 use Rattle.t1_font.specs.SourceChecks.{measured_source}
 use Rattle.t1_font.specs.Usage.{usage_table}
+use Rattle.t1_outline.specs.Shown.{source_outline}
 use Rattle.t1_session.specs.Files.{assembled, assembled_pfa}
 use Rattle.t1_session.specs.Queries.{encoding_text, glyph_text, metrics_line, subr_text}
 use Rattle.t1_session.specs.State.{State}
@@ -77,3 +78,7 @@ encoding_from_scratch s = asked encoding_text s
 -- profile: the line of a glyph in the AFM file of the texts from scratch
 abbrev pub metrics_line_from_scratch : List ℕ → State → Result (Option (List ℕ)) Fault
 metrics_line_from_scratch name s = from_scratch s >>= λ texts. Ok (metrics_line name texts.metrics)
+
+-- profile: the outline of a glyph of the printed source, with its parts
+abbrev pub outline_from_scratch : List ℕ → State → Result (Option (List ℕ)) Fault
+outline_from_scratch name s = reads (text s.source) >>= λ source. source_outline source name

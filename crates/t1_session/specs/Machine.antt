@@ -23,7 +23,7 @@ use Rattle.t1_commands.specs.declared.command.Command.{Command}
 use Rattle.t1_commands.specs.declared.command.Command.TheVariants as commands
 use Rattle.t1_commands.specs.Blocks.{block_size}
 use Rattle.t1_commands.specs.Answers.{Performed, Machine}
-use Rattle.t1_session.specs.FromScratch.{blocks_from_scratch, encoding_from_scratch, glyph_from_scratch, metrics_from_scratch, metrics_line_from_scratch, pfa_from_scratch, pfb_from_scratch, subr_from_scratch, uses_from_scratch}
+use Rattle.t1_session.specs.FromScratch.{blocks_from_scratch, encoding_from_scratch, glyph_from_scratch, metrics_from_scratch, metrics_line_from_scratch, outline_from_scratch, pfa_from_scratch, pfb_from_scratch, subr_from_scratch, uses_from_scratch}
 use Rattle.t1_session.specs.State.{State}
 
 -- profile: the state with this source and these pairs, and no batch
@@ -120,6 +120,7 @@ abbrev pub shown : State → Show → Answer
 shown s (shows.Glyph name) = query_answer (glyph_from_scratch name s)
 shown s (shows.Subr number) = query_answer (subr_from_scratch number s)
 shown s (shows.Metrics name) = query_answer (metrics_line_from_scratch name s)
+shown s (shows.Outline name) = query_answer (outline_from_scratch name s)
 shown s shows.Encoding = file_answer (encoding_from_scratch s)
 
 -- ---- all commands

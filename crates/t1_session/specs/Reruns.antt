@@ -11,6 +11,7 @@ use Rattle.t1_run.specs.Touched.{AreStale}
 use Rattle.t1_font.specs.Bodies.{bodies}
 use Rattle.t1_font.specs.Glyphs.{glyph_names}
 use Rattle.t1_font.specs.Runs.{counted}
+use Rattle.t1_outline.specs.Counting.{outline_runs}
 use Rattle.t1_cache.specs.Edited.{named}
 use Rattle.t1_cache.specs.Renewal.{IsOneOf}
 use Rattle.t1_cache.specs.Renewed.{Kept}
@@ -80,3 +81,14 @@ Reruns (Some e) old (Err cause) new = Spends e old new
 abbrev pub RerunsOrReturns : {T E : Type 0} → Option Edition → SessionView → Result T (Cause × E) → SessionView → Type 0
 RerunsOrReturns {T} e old (Ok done) new = Reruns {T = T} e old (Ok done) new
 RerunsOrReturns {T} e old (Err refused) new = Reruns {T = T} e old (Err refused.0) new
+
+-- profile: all is as it was but for the count of runs
+abbrev pub IsSameButForRuns : SessionView → SessionView → Type 0
+IsSameButForRuns old new = new ≡ record old { runs = new.runs }
+
+-- profile: for an outline that is shown as many runs were made as glyphs are run for it, the glyph and its parts; where memory ran
+-- out, at most so many
+abbrev pub RunsForOutline : {T E : Type 0} → List ℕ → SessionView → Result T E → SessionView → Type 0
+RunsForOutline name old (Ok found) new = new.runs ≡ counted old.runs (outline_runs (bodies old.state.source.items) name)
+RunsForOutline name old (Err e) new =
+    (made : ℕ) × (made ≤ outline_runs (bodies old.state.source.items) name) × (new.runs ≡ counted old.runs made)

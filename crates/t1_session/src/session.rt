@@ -54,13 +54,13 @@ ghost use Rattle.t1_cache.specs.Kept.{KeepsAll};
 ghost use Rattle.t1_held.specs.Batch.{entry_edit, keys, IsEditedBy};
 ghost use Rattle.t1_commands.specs.declared.command.Command.TheVariants as commands;
 ghost use Rattle.t1_commands.specs.declared.print.Print.TheVariants as prints;
-ghost use Rattle.t1_session.specs.FromScratch.{blocks_from_scratch, encoding_from_scratch, glyph_from_scratch, metrics_from_scratch, metrics_line_from_scratch, pfa_from_scratch, pfb_from_scratch, subr_from_scratch, uses_from_scratch};
+ghost use Rattle.t1_session.specs.FromScratch.{blocks_from_scratch, encoding_from_scratch, glyph_from_scratch, metrics_from_scratch, metrics_line_from_scratch, outline_from_scratch, pfa_from_scratch, pfb_from_scratch, subr_from_scratch, uses_from_scratch};
 ghost use Rattle.t1_commands.specs.Blocks.{block_size};
 ghost use Rattle.t1_commands.specs.declared.answer.Answer.TheVariants.{Data};
 ghost use Rattle.t1_commands.specs.AnswerTexts.{answer_text};
 ghost use Rattle.t1_session.specs.Machine.{blocks_answer, file_answer, found_answer, opened, judged, printed, shown};
 ghost use Rattle.t1_session.specs.Outcomes.{AnswersNoFault, Finds, Takes, TakesOrReturns, Took, refused_source};
-ghost use Rattle.t1_session.specs.Reruns.{edition, AreKept, Reruns, RerunsOrReturns};
+ghost use Rattle.t1_session.specs.Reruns.{edition, AreKept, IsSameButForRuns, Reruns, RerunsOrReturns, RunsForOutline};
 ghost use Rattle.t1_session.specs.RerunsByTest.{RerunsByTest};
 ghost use Rattle.t1_session.specs.Users.{AreUsers};
 
@@ -75,6 +75,8 @@ use t1_commands::{Answer, PfaData, PfbData, Print, Show, block_size, put_answer}
 use t1_font::{MeasuredGlyphs, afm_of_source, metrics, usage_text, write_source_afm};
 use t1_frac::{Bytes, Refusal};
 use t1_held::{EditedEntry, Edits, held_metrics, held_of, prepare_edits, settle, write_held_file};
+use t1_outline::glyph_outline;
+use t1_outline::laws::a_source_shows_its_outlines;
 use t1_pairs::laws::text_of_pairs_read;
 use t1_source::laws::text_of_source_read;
 use t1_source::{Cause, Change, Edit, Rule};
@@ -425,6 +427,23 @@ impl<'a> Session<'a> {
         metrics_line(self.alloc, &metrics, name)
     }
 
+    /// The outline of a glyph with its parts, a line each: `M x y` where a segment doesn't begin where the last one ended, `L x y`,
+    /// `C x y x y x y`; none where there is no glyph of this name. The glyph and its parts are run and counted, each as often as it is
+    /// drawn; nothing else changes.
+    pub fn show_outline(&mut self, name: &[u8]) -> Result<Option<Vec<u8>>, AllocError>
+        ensures shown { Finds result (outline_from_scratch name.now self.old.state) }
+        ensures same { IsSameButForRuns self.old self.new }
+        ensures runs { RunsForOutline name.now self.old result self.new }
+    {
+        self.reads_back();
+        a_source_shows_its_outlines();
+        match glyph_outline(self.alloc, &self.held.records, name, &mut self.meter) {
+            Ok(found) => Ok(found),
+            // The source has no fault, and so no outline has one.
+            Err(_) => Err(AllocError),
+        }
+    }
+
     /// The codes that have a name, each with it on a line, as `65 A`, by code.
     pub fn show_encoding(&self) -> Result<Vec<u8>, AllocError>
         ensures { IfOk result (λ text. encoding_from_scratch self.now.state ≡ Ok text.items) }
@@ -510,16 +529,18 @@ impl<'a> Session<'a> {
 
     /// Writes what a query is answered. All that takes memory is there before any of it is written.
     pub(crate) fn put_show<W: Write>(
-        &self,
+        &mut self,
         show: &Show,
         out: &mut Counted<W>,
     ) -> Result<(), OutError>
-        ensures { Prints W.contents out.old out.new (Ok (answer_text (shown self.now.state show.now))) result }
+        ensures prints { Prints W.contents out.old out.new (Ok (answer_text (shown self.old.state show.now))) result }
+        ensures same { self.new.state ≡ self.old.state }
     {
         match show {
             Show::Glyph(name) => put_found(self.show_glyph(name.as_slice())?, out),
             Show::Subr(number) => put_found(self.show_subr(*number)?, out),
             Show::Metrics(name) => put_found(self.show_metrics(name.as_slice())?, out),
+            Show::Outline(name) => put_found(self.show_outline(name.as_slice())?, out),
             Show::Encoding => put_data(self.show_encoding()?, out),
         }
     }
