@@ -2,8 +2,8 @@
 ghost use Rattle.std.specs.Prelude.{◌≡◌, ◌∷◌, [], codes, map, true, false, IfOk};
 ghost use Rattle.clap.specs.Words.{App, Shape, app_of, new_app, rule_of, with_subcommand};
 ghost use Rattle.t1_command_line.specs.CommandLine.{alone, program, program_alone};
-ghost use Rattle.t1_command_line.specs.CommandLine.{source as source_rule, sources as sources_rule, as_font as as_font_rule, font as font_rule, kern as kern_rule, output as output_rule, block as block_rule, pfa as pfa_rule, code as code_rule, place as place_rule};
-ghost use Rattle.t1_command_line.specs.CommandLine.{assemble as assemble_shape, disassemble as disassemble_shape, measure as measure_shape, check as check_shape, session as session_shape, explain as explain_shape};
+ghost use Rattle.t1_command_line.specs.CommandLine.{source as source_rule, sources as sources_rule, as_font as as_font_rule, font as font_rule, kern as kern_rule, output as output_rule, block as block_rule, pfa as pfa_rule, code as code_rule, place as place_rule, strict as strict_rule};
+ghost use Rattle.t1_command_line.specs.CommandLine.{assemble as assemble_shape, disassemble as disassemble_shape, measure as measure_shape, check as check_shape, notes as notes_shape, session as session_shape, explain as explain_shape};
 
 use crate::help::{CODES, SESSION};
 use clap::{Arg, ArgAction, Command};
@@ -91,6 +91,17 @@ const KERN: &str =
 
 /// The help of a kerning file.
 const KERN_FILE: &str = "A file with the kerning pairs, of which the KPX lines count";
+
+/// The option that lets notes end the program with a status of their own.
+fn strict<'a>(alloc: Global) -> Arg<'a>
+    ensures rule { rule_of result ≡ strict_rule }
+    ensures local { result.global ≡ false }
+{
+    Arg::new(alloc, "strict")
+        .long("strict")
+        .help("Ends with status 1 where there are notes")
+        .action(ArgAction::SetTrue)
+}
 
 /// The option that names a file for the output.
 fn output<'a>(alloc: Global) -> Arg<'a>
@@ -245,6 +256,20 @@ fn check<'a>(alloc: Global) -> Result<Command<'a>, AllocError>
     .arg(sources(alloc))
 }
 
+fn notes<'a>(alloc: Global) -> Result<Command<'a>, AllocError>
+    ensures { IfOk result (λ command. app_of command ≡ alone notes_shape) }
+{
+    named(
+        alloc,
+        "notes",
+        "Writes what is no fault in sources and is most likely a mistake",
+        "Example: t1edit notes font.t1",
+        CODES,
+    )
+    .arg(strict(alloc))?
+    .arg(sources(alloc))
+}
+
 fn session<'a>(alloc: Global) -> Result<Command<'a>, AllocError>
     ensures { IfOk result (λ command. app_of command ≡ alone session_shape) }
 {
@@ -304,6 +329,7 @@ pub fn command<'a>(alloc: Global) -> Result<Command<'a>, AllocError>
     let program = with_command(program, disassemble(alloc));
     let program = with_command(program, measure(alloc));
     let program = with_command(program, check(alloc));
+    let program = with_command(program, notes(alloc));
     let program = with_command(program, session(alloc));
     with_command(program, explain(alloc))
 }

@@ -1,7 +1,7 @@
 //! The meaning of a code: how it is found, and how it is printed.
 ghost use Rattle.std.specs.Prelude.{◌≡◌, ◌≤◌, ◌==◌, ◌++◌, length, option_map, string_bytes, IfOk, OnOk};
 ghost use Rattle.std.specs.List.{position_or_len};
-ghost use Rattle.t1_command_line.specs.Topics.{topic_in, topic_of, line_text, section_text, other_sections_text, list_text, lines_text, before_space, whole_text as text_of, explanation as explanation_of};
+ghost use Rattle.t1_command_line.specs.Topics.{has_code, topic_in, topic_of, line_text, section_text, other_sections_text, list_text, lines_text, before_space, whole_text as text_of, explanation as explanation_of};
 
 use std::alloc::{AllocError, Global};
 
@@ -29,19 +29,27 @@ pub struct Section {
     pub topics: &'static [Topic],
 }
 
-/// The first of the topics that has this code.
+/// Whether a topic has this code, in letters of either case.
+#[tactic(auto, unfolding(crate::specs::Topics::has_code))]
+fn has_code(topic: &Topic, code: &[u8]) -> bool
+    ensures { result ≡ has_code topic.now code.now }
+{
+    topic.code.as_bytes().eq_ignore_ascii_case(code)
+}
+
+/// The first of the topics that has this code, in letters of either case.
 fn find(topics: &'static [Topic], code: &[u8]) -> Option<&'static Topic>
     ensures { option_map (λ topic. topic.now) result ≡ topic_in topics.now code.now }
 {
     for topic in topics {
-        if topic.code.as_bytes() == code {
+        if has_code(topic, code) {
             return Some(topic);
         }
     }
     None
 }
 
-/// The first topic of the sections that has this code.
+/// The first topic of the sections that has this code, in letters of either case.
 fn find_in(sections: &[Section], code: &[u8]) -> Option<&'static Topic>
     ensures { option_map (λ topic. topic.now) result ≡ topic_of sections.now code.now }
 {
@@ -150,8 +158,7 @@ pub fn explanation(
     let Some(text) = text else {
         return Ok(Some(list(alloc, sections)?));
     };
-    let code = before_space(text.as_bytes()).to_ascii_uppercase(alloc)?;
-    match find_in(sections, &code) {
+    match find_in(sections, before_space(text.as_bytes())) {
         Some(topic) => Ok(Some(whole_text(alloc, topic)?)),
         None => Ok(None),
     }
