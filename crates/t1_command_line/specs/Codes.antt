@@ -35,6 +35,13 @@ disassembling = (
   codes "D1" ∷ codes "D2" ∷ codes "D3" ∷ codes "D4" ∷ codes "D5" ∷ codes "D6" ∷ codes "D7" ∷ codes "D8" ∷ codes "D9" ∷ codes "D10" ∷ codes "D11" ∷ codes "D12" ∷ codes "D13" ∷ [],
 )
 
+-- profile: the notes on a source
+abbrev pub notes : List ℕ × List (List ℕ)
+notes = (
+  codes "Notes on a source, by t1edit notes",
+  codes "byte-order-mark" ∷ codes "first-line" ∷ codes "encoded-name" ∷ codes "count" ∷ codes "plain-entry" ∷ codes "no-notdef" ∷ codes "no-entry" ∷ codes "after-end" ∷ codes "values-left" ∷ codes "open-path" ∷ [],
+)
+
 -- profile: the rules of a session's commands
 abbrev pub rules : List ℕ × List (List ℕ)
 rules = (
@@ -48,4 +55,4 @@ statuses = (codes "Exit statuses", codes "0" ∷ codes "1" ∷ codes "2" ∷ cod
 
 -- profile: all of them, in the order in which they are listed
 abbrev pub of_program : List (List ℕ × List (List ℕ))
-of_program = reading ∷ kerning ∷ bodies ∷ runs ∷ disassembling ∷ rules ∷ statuses ∷ []
+of_program = reading ∷ kerning ∷ bodies ∷ runs ∷ disassembling ∷ notes ∷ rules ∷ statuses ∷ []

@@ -24,6 +24,10 @@ font = record (new_rule (codes "FONT")) { action = Some Set; required = true }
 abbrev pub kern : Rule
 kern = record (new_rule (codes "kern")) { long = Some (codes "kern"); action = Some Set; value_names = 1 }
 
+-- profile: --strict, by which notes are faults
+abbrev pub strict : Rule
+strict = record (new_rule (codes "strict")) { long = Some (codes "strict"); action = Some SetTrue }
+
 -- profile: -o FILE, --output FILE
 abbrev pub output : Rule
 output =
@@ -72,6 +76,10 @@ measure = taking (codes "measure") (kern ∷ as_font ∷ output ∷ source ∷ [
 abbrev pub check : Shape
 check = taking (codes "check") (kern ∷ as_font ∷ sources ∷ [])
 
+-- profile: notes, which takes sources, and whether they must have none
+abbrev pub notes : Shape
+notes = taking (codes "notes") (strict ∷ sources ∷ [])
+
 -- profile: session, which takes kerning, and the source or a font
 abbrev pub session : Shape
 session = taking (codes "session") (kern ∷ as_font ∷ source ∷ [])
@@ -89,7 +97,7 @@ abbrev pub program : App
 program =
     record {
       top = record (new_shape (codes "t1edit")) { is_leaf = false; has_version = true; subcommand_required = true };
-      subs = assemble ∷ disassemble ∷ measure ∷ check ∷ session ∷ explain ∷ [];
+      subs = assemble ∷ disassemble ∷ measure ∷ check ∷ notes ∷ session ∷ explain ∷ [];
     }
 
 -- profile: a command without commands of its own

@@ -1,16 +1,19 @@
 -- What is said of a code, a rule or a status: how it is found, and what is printed.
-use Rattle.std.specs.Prelude.{ℕ, List, [], ◌∷◌, ◌++◌, Option, Some, None, option_map, map, take, codes, if◌then◌else◌, ◌==◌}
+use Rattle.std.specs.Prelude.{ℕ, Bool, List, [], ◌∷◌, ◌++◌, Option, Some, None, option_map, take, codes, if◌then◌else◌, ◌==◌}
 use Rattle.std.specs.Option.{option_or}
-use Rattle.std.specs.Str.{bytes_eq}
+use Rattle.std.specs.Str.{str_eq_ignore_ascii_case}
 use Rattle.std.specs.List.{position_or_len}
-use Rattle.std.specs.Char.{to_ascii_uppercase}
 use Rattle.t1_command_line.specs.declared.topic.Topic.{Topic}
 use Rattle.t1_command_line.specs.declared.topic.Section.{Section}
+
+-- profile: whether a topic has this code, in letters of either case: of 'f38' it is F38
+unfoldable pub has_code : Topic → List ℕ → Bool
+has_code topic code = str_eq_ignore_ascii_case topic.code.now code
 
 -- profile: the first topic with this code
 abbrev pub topic_in : List Topic → List ℕ → Option Topic
 topic_in [] code = None
-topic_in (topic ∷ topics) code = if bytes_eq topic.code.now code then Some topic else topic_in topics code
+topic_in (topic ∷ topics) code = if has_code topic code then Some topic else topic_in topics code
 
 -- profile: the first topic of the sections with this code
 abbrev pub topic_of : List Section → List ℕ → Option Topic
@@ -48,11 +51,7 @@ whole_text topic = line_text topic ++ (codes "\n" ++ (topic.lead.now ++ (topic.t
 abbrev pub before_space : List ℕ → List ℕ
 before_space text = take (position_or_len (λ byte. byte == 32) text) text
 
--- profile: the code that a text begins with, its letters in upper case: of 'f38' and of 'F38 glyph Aacute' it is F38
-abbrev pub asked_code : List ℕ → List ℕ
-asked_code text = map to_ascii_uppercase (before_space text)
-
 -- profile: what is said of the code that a text begins with, if anything; the list of all where no text is given
 abbrev pub explanation : List Section → Option (List ℕ) → Option (List ℕ)
 explanation sections None = Some (list_text sections)
-explanation sections (Some text) = option_map whole_text (topic_of sections (asked_code text))
+explanation sections (Some text) = option_map whole_text (topic_of sections (before_space text))

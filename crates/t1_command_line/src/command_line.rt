@@ -7,7 +7,12 @@ ghost use Rattle.t1_command_line.specs.CommandLine.{as_font as as_font_rule, fon
 ghost use Rattle.t1_command_line.specs.CommandLine.{kern as kern_rule, output as output_rule};
 ghost use Rattle.t1_command_line.specs.CommandLine.{block as block_rule, pfa as pfa_rule};
 ghost use Rattle.t1_command_line.specs.CommandLine.{code as code_rule, place as place_rule};
-ghost use Rattle.t1_command_line.specs.CommandLine.{assemble as assemble_shape, disassemble as disassemble_shape, measure as measure_shape, check as check_shape, session as session_shape, explain as explain_shape};
+ghost use Rattle.t1_command_line.specs.CommandLine.{strict as strict_rule};
+ghost use Rattle.t1_command_line.specs.CommandLine.{assemble as assemble_shape};
+ghost use Rattle.t1_command_line.specs.CommandLine.{disassemble as disassemble_shape};
+ghost use Rattle.t1_command_line.specs.CommandLine.{measure as measure_shape, check as check_shape};
+ghost use Rattle.t1_command_line.specs.CommandLine.{notes as notes_shape, session as session_shape};
+ghost use Rattle.t1_command_line.specs.CommandLine.{explain as explain_shape};
 
 use crate::help::{CODES, SESSION};
 use clap::{Arg, ArgAction, Command};
@@ -95,6 +100,17 @@ const KERN: &str =
 
 /// The help of a kerning file.
 const KERN_FILE: &str = "A file with the kerning pairs, of which the KPX lines count";
+
+/// The option that lets notes end the program with a status of their own.
+fn strict<'a>(alloc: Global) -> Arg<'a>
+    ensures rule { rule_of result ≡ strict_rule }
+    ensures local { result.global ≡ false }
+{
+    Arg::new(alloc, "strict")
+        .long("strict")
+        .help("Ends with status 1 where there are notes")
+        .action(ArgAction::SetTrue)
+}
 
 /// The option that names a file for the output.
 fn output<'a>(alloc: Global) -> Arg<'a>
@@ -249,6 +265,20 @@ fn check<'a>(alloc: Global) -> Result<Command<'a>, AllocError>
     .arg(sources(alloc))
 }
 
+fn notes<'a>(alloc: Global) -> Result<Command<'a>, AllocError>
+    ensures { IfOk result (λ command. app_of command ≡ alone notes_shape) }
+{
+    named(
+        alloc,
+        "notes",
+        "Writes what is no fault in sources and is most likely a mistake",
+        "Example: t1edit notes font.t1",
+        CODES,
+    )
+    .arg(strict(alloc))?
+    .arg(sources(alloc))
+}
+
 fn session<'a>(alloc: Global) -> Result<Command<'a>, AllocError>
     ensures { IfOk result (λ command. app_of command ≡ alone session_shape) }
 {
@@ -283,7 +313,8 @@ fn with_command<'a>(
     program: Result<Command<'a>, AllocError>,
     command: Result<Command<'a>, AllocError>,
 ) -> Result<Command<'a>, AllocError>
-    ensures { (before : App) (shape : Shape) → IfOk program.entry (λ p. app_of p ≡ before) → IfOk command.entry (λ c. app_of c ≡ alone shape)
+    ensures { (before : App) (shape : Shape) → IfOk program.entry (λ p. app_of p ≡ before) → IfOk
+        command.entry (λ c. app_of c ≡ alone shape)
         → shape.is_plain ≡ true → IfOk result (λ r. app_of r ≡ with_subcommand before shape) }
 {
     program?.subcommand(command?)
@@ -308,6 +339,7 @@ pub fn command<'a>(alloc: Global) -> Result<Command<'a>, AllocError>
     let program = with_command(program, disassemble(alloc));
     let program = with_command(program, measure(alloc));
     let program = with_command(program, check(alloc));
+    let program = with_command(program, notes(alloc));
     let program = with_command(program, session(alloc));
     with_command(program, explain(alloc))
 }

@@ -1,7 +1,8 @@
-//! What the program says of itself: its command line, its helps, and what each code, rule and exit status means.
+//! What the program says of itself: its command line, its helps, and what each code, rule and exit
+//! status means.
 //!
-//! [`command`] is the command line with its helps. [`all_sections`] is the one table of all codes; [`explanation`] is what it
-//! says of one, or its list.
+//! [`command`] is the command line with its helps. [`all_sections`] is the one table of all codes;
+//! [`explanation`] is what it says of one, or its list.
 //!
 //! All of it is for the program.
 #![tactic(auto)]

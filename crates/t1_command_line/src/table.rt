@@ -8,6 +8,7 @@ ghost use Rattle.t1_command_line.specs.Codes.{outline_of, of_program};
 mod bodies;
 mod disassembling;
 mod kerning;
+mod notes;
 mod reading;
 mod rules;
 mod runs;
@@ -19,7 +20,7 @@ use crate::topic::Section;
 pub(crate) const FAULT_EXAMPLE: &str = "For example, this has the fault:\n\n";
 
 /// All of them, each code once, in the order in which they are listed.
-pub fn all_sections() -> [Section; 7]
+pub fn all_sections() -> [Section; 8]
     ensures { map outline_of result ≡ of_program }
 {
     [
@@ -28,6 +29,7 @@ pub fn all_sections() -> [Section; 7]
         bodies::section(),
         runs::section(),
         disassembling::section(),
+        notes::section(),
         rules::section(),
         statuses::section(),
     ]

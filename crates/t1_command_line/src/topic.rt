@@ -1,7 +1,11 @@
 //! The meaning of a code: how it is found, and how it is printed.
-ghost use Rattle.std.specs.Prelude.{◌≡◌, ◌≤◌, ◌==◌, ◌++◌, length, option_map, string_bytes, IfOk, OnOk};
+ghost use Rattle.std.specs.Prelude.{◌≡◌, ◌≤◌, ◌==◌, ◌++◌, length, option_map, string_bytes, IfOk};
+ghost use Rattle.std.specs.Prelude.{OnOk};
 ghost use Rattle.std.specs.List.{position_or_len};
-ghost use Rattle.t1_command_line.specs.Topics.{topic_in, topic_of, line_text, section_text, other_sections_text, list_text, lines_text, before_space, whole_text as text_of, explanation as explanation_of};
+ghost use Rattle.t1_command_line.specs.Topics.{has_code, topic_in, topic_of, line_text};
+ghost use Rattle.t1_command_line.specs.Topics.{section_text, other_sections_text, list_text};
+ghost use Rattle.t1_command_line.specs.Topics.{lines_text, before_space, whole_text as text_of};
+ghost use Rattle.t1_command_line.specs.Topics.{explanation as explanation_of};
 
 use std::alloc::{AllocError, Global};
 
@@ -15,8 +19,8 @@ pub struct Topic {
     pub meaning: &'static str,
     /// What stands above the lines that cause it; empty where there are none.
     pub lead: &'static str,
-    /// Lines of a source, a kerning file or a session that cause it, where lines can, each after a tab; then what it
-    /// means at length, and what to do.
+    /// Lines of a source, a kerning file or a session that cause it, where lines can, each after a
+    /// tab; then what it means at length, and what to do.
     pub text: &'static str,
     /// What is said of each of its kind; empty where there is nothing to say.
     pub note: &'static str,
@@ -29,19 +33,27 @@ pub struct Section {
     pub topics: &'static [Topic],
 }
 
-/// The first of the topics that has this code.
+/// Whether a topic has this code, in letters of either case.
+#[tactic(auto, unfolding(crate::specs::Topics::has_code))]
+fn has_code(topic: &Topic, code: &[u8]) -> bool
+    ensures { result ≡ has_code topic.now code.now }
+{
+    topic.code.as_bytes().eq_ignore_ascii_case(code)
+}
+
+/// The first of the topics that has this code, in letters of either case.
 fn find(topics: &'static [Topic], code: &[u8]) -> Option<&'static Topic>
     ensures { option_map (λ topic. topic.now) result ≡ topic_in topics.now code.now }
 {
     for topic in topics {
-        if topic.code.as_bytes() == code {
+        if has_code(topic, code) {
             return Some(topic);
         }
     }
     None
 }
 
-/// The first topic of the sections that has this code.
+/// The first topic of the sections that has this code, in letters of either case.
 fn find_in(sections: &[Section], code: &[u8]) -> Option<&'static Topic>
     ensures { option_map (λ topic. topic.now) result ≡ topic_of sections.now code.now }
 {
@@ -78,7 +90,8 @@ fn push_lines(text: &mut String, topics: &[Topic]) -> Result<(), AllocError>
 /// Adds a section's title, and the line of each of its topics.
 #[tactic(auto, unfolding(crate::specs::Topics::section_text))]
 fn push_section(text: &mut String, section: &Section) -> Result<(), AllocError>
-    ensures { OnOk result (string_bytes text.new ≡ string_bytes text.old ++ section_text section.now) }
+    ensures { OnOk result (string_bytes text.new ≡ string_bytes text.old ++ section_text
+        section.now) }
 {
     text.push_str(section.title)?;
     text.push_str(":\n")?;
@@ -87,7 +100,8 @@ fn push_section(text: &mut String, section: &Section) -> Result<(), AllocError>
 
 /// Adds sections, each after an empty line.
 fn push_others(text: &mut String, sections: &[Section]) -> Result<(), AllocError>
-    ensures { OnOk result (string_bytes text.new ≡ string_bytes text.old ++ other_sections_text sections.now) }
+    ensures { OnOk result (string_bytes text.new ≡ string_bytes text.old ++ other_sections_text
+        sections.now) }
 {
     for section in sections {
         text.push_str("\n")?;
@@ -138,20 +152,20 @@ fn before_space(text: &[u8]) -> &[u8]
     text.split_at(word_len(text)).0
 }
 
-/// What is said of the code that a text begins with, in letters of either case, or nothing where the sections don't have
-/// it; the list of all where no text is given.
+/// What is said of the code that a text begins with, in letters of either case, or nothing where
+/// the sections don't have it; the list of all where no text is given.
 pub fn explanation(
     alloc: Global,
     sections: &[Section],
     text: Option<&str>,
 ) -> Result<Option<String>, AllocError>
-    ensures { IfOk result (λ said. option_map string_bytes said ≡ explanation_of sections.now (option_map (λ word. word.now) text.entry)) }
+    ensures { IfOk result (λ said. option_map string_bytes said ≡ explanation_of sections.now
+        (option_map (λ word. word.now) text.entry)) }
 {
     let Some(text) = text else {
         return Ok(Some(list(alloc, sections)?));
     };
-    let code = before_space(text.as_bytes()).to_ascii_uppercase(alloc)?;
-    match find_in(sections, &code) {
+    match find_in(sections, before_space(text.as_bytes())) {
         Some(topic) => Ok(Some(whole_text(alloc, topic)?)),
         None => Ok(None),
     }

@@ -2,7 +2,12 @@
 ghost use Rattle.std.specs.Str.{bytes_eq};
 ghost use Rattle.std.specs.Prelude.{◌≡◌, ◌||◌, option_map, ◌<◌, IfOk};
 ghost use Rattle.t1_frac.specs.Words.{words};
-ghost use Rattle.t1_commands.specs.Commands.{one_word, two_words, three_words, removal, setting, whole_print, blocks_print, print_of, whole_show, entry_show, show_of, other_command, line_command, body_command, bodied_edit, open_command, takes_body, ends_body, edit_of, lone, is_wordless, number_of, Makes};
+ghost use Rattle.t1_commands.specs.Commands.{one_word, two_words, three_words, removal, setting};
+ghost use Rattle.t1_commands.specs.Commands.{whole_print, blocks_print, print_of, whole_show};
+ghost use Rattle.t1_commands.specs.Commands.{entry_show, show_of, other_command, line_command};
+ghost use Rattle.t1_commands.specs.Commands.{body_command, bodied_edit, open_command, takes_body};
+ghost use Rattle.t1_commands.specs.Commands.{ends_body, edit_of, lone, is_wordless, number_of};
+ghost use Rattle.t1_commands.specs.Commands.{Makes};
 ghost use Rattle.t1_source.specs.declared.edit.Edit.TheVariants as edits;
 
 use crate::numbers::number_of;
@@ -70,7 +75,8 @@ fn glyph_removal(alloc: Global, line: &[u8]) -> Result<Command, AllocError>
 
 /// `remove subr N`, after the second word.
 fn subr_removal(line: &[u8]) -> Command
-    ensures { result ≡ edit_of (λ number. edits.RemoveSubr (number_of number)) (one_word (words line.now)) }
+    ensures { result ≡ edit_of (λ number. edits.RemoveSubr (number_of number))
+        (one_word (words line.now)) }
 {
     match one_word(line) {
         Some(number) => Command::Edit(Edit::RemoveSubr(number_of(number))),
@@ -97,7 +103,8 @@ fn removal(alloc: Global, line: &[u8]) -> Result<Command, AllocError>
 
 /// `set leniv N`, after the second word.
 fn lead_setting(line: &[u8]) -> Command
-    ensures { result ≡ edit_of (λ number. edits.LenIv (number_of number)) (one_word (words line.now)) }
+    ensures { result ≡ edit_of (λ number. edits.LenIv (number_of number))
+        (one_word (words line.now)) }
 {
     match one_word(line) {
         Some(number) => Command::Edit(Edit::LenIv(number_of(number))),
@@ -120,7 +127,8 @@ fn setting(line: &[u8]) -> Command
     }
 }
 
-/// `print source`, `print kern`, `print pfb`, `print pfa`, `print afm`, `print uses`, by the second word.
+/// `print source`, `print kern`, `print pfb`, `print pfa`, `print afm`, `print uses`, by the second
+/// word.
 #[tactic(auto, unfolding(crate::specs::Commands::whole_print))]
 fn whole_print(word: &[u8]) -> Command
     ensures { result ≡ whole_print word.now }
@@ -175,7 +183,8 @@ fn whole_show(word: &[u8]) -> Command
     }
 }
 
-/// `show glyph NAME`, `show subr N`, `show metrics NAME`, `show outline NAME`, after the first word.
+/// `show glyph NAME`, `show subr N`, `show metrics NAME`, `show outline NAME`, after the first
+/// word.
 #[tactic(auto, unfolding(crate::specs::Commands::entry_show))]
 fn entry_show(alloc: Global, line: &[u8]) -> Result<Command, AllocError>
     ensures { Makes result (entry_show (two_words (words line.now))) }
@@ -213,7 +222,8 @@ fn show_of(alloc: Global, line: &[u8]) -> Result<Command, AllocError>
 
 /// `encode CODE NAME`, after the first word.
 fn encoding(alloc: Global, line: &[u8]) -> Result<Command, AllocError>
-    ensures { Makes result (edit_of (λ w. edits.Encode (number_of w.0) w.1) (two_words (words line.now))) }
+    ensures { Makes result (edit_of (λ w. edits.Encode (number_of w.0) w.1)
+        (two_words (words line.now))) }
 {
     let Some((code, name)) = two_words(line) else {
         return Ok(UNKNOWN);
@@ -234,7 +244,8 @@ fn unencoding(line: &[u8]) -> Command
 
 /// `kern LEFT RIGHT N`, after the first word.
 fn kerning(alloc: Global, line: &[u8]) -> Result<Command, AllocError>
-    ensures { Makes result (edit_of (λ w. edits.Kern w.0 w.1 (number_of w.2)) (three_words (words line.now))) }
+    ensures { Makes result (edit_of (λ w. edits.Kern w.0 w.1 (number_of w.2))
+        (three_words (words line.now))) }
 {
     let Some((left, right, value)) = three_words(line) else {
         return Ok(UNKNOWN);

@@ -8,7 +8,8 @@ use t1_source::Source;
 
 /// Adds the line of a code, where it has a name.
 fn push_code(text: &mut Vec<u8>, code: u16, name: Option<&[u8]>) -> Result<(), AllocError>
-    ensures { OnOk result (text.new.items ≡ text.old.items ++ code_line code (option_map (λ n. n.now) name.entry)) }
+    ensures { OnOk result (text.new.items ≡ text.old.items ++ code_line code
+        (option_map (λ n. n.now) name.entry)) }
 {
     let Some(name) = name else {
         return Ok(());

@@ -6,7 +6,8 @@ ghost use Rattle.t1_frac.specs.Words.{words};
 ghost use Rattle.t1_text.specs.Lines.{joined};
 ghost use Rattle.t1_parts.specs.Entries.{is_glyph, is_subr};
 ghost use Rattle.t1_parts.specs.Printing.{body_line, word_groups};
-ghost use Rattle.t1_session.specs.Queries.{entry_text, entry_words, glyph_named, subr_number, subr_numbered};
+ghost use Rattle.t1_session.specs.Queries.{entry_text, entry_words, glyph_named, subr_number};
+ghost use Rattle.t1_session.specs.Queries.{subr_numbered};
 
 use std::alloc::{AllocError, Global};
 use t1_frac::{is_number_word, next_word};
@@ -84,7 +85,8 @@ fn entry_words<'i>(item: &'i Item) -> &'i [u8]
 
 /// Adds a word to a line of words that is open or begins with it.
 fn push_word(text: &mut Vec<u8>, is_open: bool, word: &[u8]) -> Result<(), AllocError>
-    ensures { OnOk result (text.new.items ≡ text.old.items ++ (if is_open then space else tab) ∷ word.now) }
+    ensures { OnOk result (text.new.items ≡ text.old.items ++ (if is_open then space else tab) ∷
+        word.now) }
 {
     text.push(if is_open { b' ' } else { b'\t' })?;
     text.extend_from_slice(word)?;
@@ -94,7 +96,8 @@ fn push_word(text: &mut Vec<u8>, is_open: bool, word: &[u8]) -> Result<(), Alloc
 /// Adds the lines of a body's words to a text.
 #[tactic(auto, using(t1_parts::proofs::GroupLaws::left_number, t1_parts::proofs::GroupLaws::left_other))]
 fn push_words(text: &mut Vec<u8>, bytes: &[u8]) -> Result<(), AllocError>
-    ensures { OnOk result (text.new.items ≡ text.old.items ++ joined (map body_line (word_groups (words bytes.now)))) }
+    ensures { OnOk result (text.new.items ≡ text.old.items ++ joined
+        (map body_line (word_groups (words bytes.now)))) }
 {
     let mut is_open = false;
     let mut rest = bytes;

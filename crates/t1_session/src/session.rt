@@ -6,9 +6,9 @@ use t1_pairs::Pairs;
 use t1_run::Meter;
 use t1_source::Source;
 
-/// A font under edits: its source and its pairs, the batch that is open, what is held of its Subrs and glyphs, and the count
-/// of runs. The source has no fault, what is held is that of the source from scratch, and the batch's source is what its edits
-/// made of the session's.
+/// A font under edits: its source and its pairs, the batch that is open, what is held of its Subrs
+/// and glyphs, and the count of runs. The source has no fault, what is held is that of the source
+/// from scratch, and the batch's source is what its edits made of the session's.
 #[derive(Drop)]
 pub struct Session<'a> {
     alloc: Global,
@@ -38,7 +38,8 @@ impl<'a> Model for Session<'a> {
     ghost invariant = { λ s. IsHeld s.source s.held × IsOpenOn s.source s.batch };
 }
 
-ghost use Rattle.std.specs.Prelude.{◌≡◌, ◌≤◌, ◌-◌, ◌^◌, Ok, IfOk, None, Some, is_some, length, map, option_map, true};
+ghost use Rattle.std.specs.Prelude.{◌≡◌, ◌≤◌, ◌-◌, ◌^◌, Ok, IfOk, None, Some, is_some, length, map};
+ghost use Rattle.std.specs.Prelude.{option_map, true};
 ghost use Rattle.t1_frac.specs.Outcome.{Gives};
 ghost use Rattle.t1_source.specs.Changes.{changed, Serves};
 ghost use Rattle.t1_source.specs.Editing.{edited};
@@ -54,13 +55,20 @@ ghost use Rattle.t1_cache.specs.Kept.{KeepsAll};
 ghost use Rattle.t1_held.specs.Batch.{entry_edit, keys, IsEditedBy};
 ghost use Rattle.t1_commands.specs.declared.command.Command.TheVariants as commands;
 ghost use Rattle.t1_commands.specs.declared.print.Print.TheVariants as prints;
-ghost use Rattle.t1_session.specs.FromScratch.{blocks_from_scratch, encoding_from_scratch, glyph_from_scratch, metrics_from_scratch, metrics_line_from_scratch, outline_from_scratch, pfa_from_scratch, pfb_from_scratch, subr_from_scratch, uses_from_scratch};
+ghost use Rattle.t1_session.specs.FromScratch.{blocks_from_scratch, encoding_from_scratch};
+ghost use Rattle.t1_session.specs.FromScratch.{glyph_from_scratch, metrics_from_scratch};
+ghost use Rattle.t1_session.specs.FromScratch.{metrics_line_from_scratch, outline_from_scratch};
+ghost use Rattle.t1_session.specs.FromScratch.{pfa_from_scratch, pfb_from_scratch};
+ghost use Rattle.t1_session.specs.FromScratch.{subr_from_scratch, uses_from_scratch};
 ghost use Rattle.t1_commands.specs.Blocks.{block_size};
 ghost use Rattle.t1_commands.specs.declared.answer.Answer.TheVariants.{Data};
 ghost use Rattle.t1_commands.specs.AnswerTexts.{answer_text};
-ghost use Rattle.t1_session.specs.Machine.{blocks_answer, file_answer, found_answer, opened, judged, printed, shown};
-ghost use Rattle.t1_session.specs.Outcomes.{AnswersNoFault, Finds, Takes, TakesOrReturns, Took, refused_source};
-ghost use Rattle.t1_session.specs.Reruns.{edition, AreKept, IsSameButForRuns, Reruns, RerunsOrReturns, RunsForOutline};
+ghost use Rattle.t1_session.specs.Machine.{blocks_answer, file_answer, found_answer, opened};
+ghost use Rattle.t1_session.specs.Machine.{judged, printed, shown};
+ghost use Rattle.t1_session.specs.Outcomes.{AnswersNoFault, Finds, Takes, TakesOrReturns, Took};
+ghost use Rattle.t1_session.specs.Outcomes.{refused_source};
+ghost use Rattle.t1_session.specs.Reruns.{edition, AreKept, IsSameButForRuns, Reruns};
+ghost use Rattle.t1_session.specs.Reruns.{RerunsOrReturns, RunsForOutline};
 ghost use Rattle.t1_session.specs.RerunsByTest.{RerunsByTest};
 ghost use Rattle.t1_session.specs.Users.{AreUsers};
 
@@ -92,14 +100,15 @@ fn cause_of(refusal: Refusal) -> Cause
 }
 
 impl<'a> Session<'a> {
-    /// The session of a source and its pairs, or the source's first fault: of a body, F23, or of a glyph, in the order of
-    /// the source. A refusal drops both.
+    /// The session of a source and its pairs, or the source's first fault: of a body, F23, or of a
+    /// glyph, in the order of the source. A refusal drops both.
     #[tactic(auto, using(crate::proofs::StateLaws::check_refused, crate::proofs::StateLaws::check_passed))]
     pub fn open(alloc: Global, source: Source<'a>, pairs: Pairs) -> Result<Session<'a>, Refusal>
         ensures checked { Gives (λ session. session.state) result (opened source.entry pairs) }
         ensures right { IfOk result (λ session. KeepsAll session.state.source session.kept) }
         ensures users { IfOk result (λ session. AreUsers session.state.source session.users) }
-        ensures runs { IfOk result (λ session. session.runs ≡ counted 0 (length (glyph_names source.entry.items))) }
+        ensures runs { IfOk result (λ session. session.runs ≡ counted 0
+            (length (glyph_names source.entry.items))) }
     {
         let mut meter = Meter::new();
         let held = held_of(alloc, &source, &mut meter)?;
@@ -122,16 +131,17 @@ impl<'a> Session<'a> {
         self.batch.is_some()
     }
 
-    /// How many runs of glyphs were made since the session was opened, or 2^64 - 1 where they are more: each glyph's once at the
-    /// opening, then those of the glyphs that edits made stale.
+    /// How many runs of glyphs were made since the session was opened, or 2^64 - 1 where they are
+    /// more: each glyph's once at the opening, then those of the glyphs that edits made stale.
     pub fn runs(&self) -> u64
         ensures { result ≡ self.now.runs }
     {
         self.meter.count()
     }
 
-    /// Takes an edit, or refuses it. Outside a batch the first edit rule that it breaks refuses it, else the first fault of
-    /// the edited source; in a batch the edit rules alone. A refusal drops the edit and changes nothing.
+    /// Takes an edit, or refuses it. Outside a batch the first edit rule that it breaks refuses it,
+    /// else the first fault of the edited source; in a batch the edit rules alone. A refusal drops
+    /// the edit and changes nothing.
     pub fn apply(&mut self, edit: Edit) -> Result<(), Cause>
         ensures takes { Takes self.old.state (commands.Edit edit) result self.new.state }
         ensures right { KeepsAll self.new.state.source self.new.kept }
@@ -146,10 +156,12 @@ impl<'a> Session<'a> {
 
     /// Does what `apply` does, and hands the edit back with a refusal.
     pub fn try_apply(&mut self, edit: Edit) -> Result<(), (Cause, Edit)>
-        ensures takes { TakesOrReturns self.old.state (commands.Edit edit) edit result self.new.state }
+        ensures takes { TakesOrReturns self.old.state (commands.Edit edit) edit result
+            self.new.state }
         ensures right { KeepsAll self.new.state.source self.new.kept }
         ensures users { AreUsers self.new.state.source self.new.users }
-        ensures runs { RerunsOrReturns (edition self.old.state (commands.Edit edit)) self.old result self.new }
+        ensures runs { RerunsOrReturns (edition self.old.state (commands.Edit edit)) self.old result
+            self.new }
     {
         self.reads_back();
         let taken = self.take(&edit);
@@ -174,9 +186,9 @@ impl<'a> Session<'a> {
         Ok(())
     }
 
-    /// Closes the batch, and takes its source and its pairs unless the source has a fault; E12 where none is open. Each glyph
-    /// that some edit of the batch makes stale is run once. A refusal, also for want of memory, leaves the session as before
-    /// the batch.
+    /// Closes the batch, and takes its source and its pairs unless the source has a fault; E12
+    /// where none is open. Each glyph that some edit of the batch makes stale is run once. A
+    /// refusal, also for want of memory, leaves the session as before the batch.
     pub fn commit(&mut self) -> Result<(), Cause>
         ensures takes { Takes self.old.state commands.Commit result self.new.state }
         ensures right { KeepsAll self.new.state.source self.new.kept }
@@ -201,12 +213,14 @@ impl<'a> Session<'a> {
         }
     }
 
-    /// Closes the batch, and takes its source and its pairs unless the source has a fault; E12 where none is open.
+    /// Closes the batch, and takes its source and its pairs unless the source has a fault; E12
+    /// where none is open.
     #[tactic(auto, unfolding(crate::specs::Machine::perform))]
     fn close_batch(&mut self) -> Result<(), Cause>
         ensures takes { Takes self.old.state commands.Commit result self.new.state }
         ensures right { KeepsAll self.new.state.source self.new.kept }
-        ensures runs { RerunsByTest (edition self.old.state commands.Commit) self.old result self.new }
+        ensures runs { RerunsByTest (edition self.old.state commands.Commit) self.old result
+            self.new }
     {
         match self.batch.take() {
             Some(batch) => {
@@ -222,7 +236,8 @@ impl<'a> Session<'a> {
     fn take(&mut self, edit: &Edit) -> Result<(), Cause>
         ensures takes { Takes self.old.state (commands.Edit edit.now) result self.new.state }
         ensures right { KeepsAll self.new.state.source self.new.kept }
-        ensures runs { RerunsByTest (edition self.old.state (commands.Edit edit.now)) self.old result self.new }
+        ensures runs { RerunsByTest (edition self.old.state (commands.Edit edit.now)) self.old
+            result self.new }
     {
         if let Some(batch) = &mut self.batch {
             return batch.edit(self.alloc, edit);
@@ -231,15 +246,24 @@ impl<'a> Session<'a> {
         self.make(edit, change)
     }
 
-    /// Makes the change that was prepared for an edit, unless the edited source has a fault. The glyphs that the edit makes
-    /// stale are run, and no others.
+    /// Makes the change that was prepared for an edit, unless the edited source has a fault. The
+    /// glyphs that the edit makes stale are run, and no others.
     fn make(&mut self, edit: &Edit, change: Change<'a>) -> Result<(), Cause>
         requires none { self.old.state.batch ≡ None }
         requires serves { Serves change self.old.state.source self.old.state.pairs }
         requires made { edited self.old.state.source self.old.state.pairs edit.now ≡ Ok (changed change self.old.state.source self.old.state.pairs) }
-        ensures took { Took self.old.state (judged self.old.state (changed change.entry self.old.state.source self.old.state.pairs) (source_check (changed change.entry self.old.state.source self.old.state.pairs).0)) true self.old.state result self.new.state }
+        ensures took { Took self.old.state
+            (judged self.old.state (changed change.entry self.old.state.source self.old.state.pairs)
+            (source_check (changed change.entry self.old.state.source self.old.state.pairs).0)) true
+            self.old.state result self.new.state }
         ensures right { KeepsAll self.new.state.source self.new.kept }
-        ensures runs { RerunsByTest (Some (record { keys = named edit.now; source = (changed change.entry self.old.state.source self.old.state.pairs).0 })) self.old result self.new }
+        ensures runs { RerunsByTest (Some
+            (record {
+              keys = named edit.now;
+              source =
+                  (changed change.entry self.old.state.source self.old.state.pairs).0;
+            })) self.old result
+            self.new }
     {
         text_of_source_read(&self.source);
         let edits = Edits::One {
@@ -261,8 +285,8 @@ impl<'a> Session<'a> {
         Ok(())
     }
 
-    /// Takes the source and the pairs of a batch in the place of its own, unless the source has a fault. The glyphs that its
-    /// edits make stale are run, and no others.
+    /// Takes the source and the pairs of a batch in the place of its own, unless the source has a
+    /// fault. The glyphs that its edits make stale are run, and no others.
     fn accept(
         &mut self,
         source: Source<'a>,
@@ -271,9 +295,13 @@ impl<'a> Session<'a> {
     ) -> Result<(), Cause>
         requires none { self.old.state.batch ≡ None }
         requires edited { IsEditedBy (map entry_edit entries.items) self.old.state.source source }
-        ensures took { Took self.old.state (judged self.old.state (source.entry, pairs) (source_check source.entry)) true self.old.state result self.new.state }
+        ensures took { Took self.old.state
+            (judged self.old.state (source.entry, pairs) (source_check source.entry)) true
+            self.old.state result self.new.state }
         ensures right { KeepsAll self.new.state.source self.new.kept }
-        ensures runs { RerunsByTest (Some (record { keys = keys (map entry_edit entries.items); source = source.entry })) self.old result self.new }
+        ensures runs { RerunsByTest (Some
+            (record { keys = keys (map entry_edit entries.items); source = source.entry })) self.old
+            result self.new }
     {
         let edits = Edits::Batch {
             source: &self.source,
@@ -330,8 +358,8 @@ impl<'a> Session<'a> {
         write_held_file(self.alloc, &self.held, &self.source, &form, out)
     }
 
-    /// Writes the PFB file in segments of so many bytes, the last of a part with the rest: that of the printed source from
-    /// scratch.
+    /// Writes the PFB file in segments of so many bytes, the last of a part with the rest: that of
+    /// the printed source from scratch.
     #[tactic(auto, using(crate::proofs::StateLaws::blocks_scratch))]
     pub fn print_pfb_blocks<W: Write>(
         &self,
@@ -340,7 +368,8 @@ impl<'a> Session<'a> {
     ) -> Result<(), OutError>
         requires some { 1 ≤ size }
         requires short { size ≤ 2 ^ 31 - 1 }
-        ensures prints { Prints W.contents out.old out.new (blocks_from_scratch size self.now.state) result }
+        ensures prints { Prints W.contents out.old out.new (blocks_from_scratch size self.now.state)
+            result }
         ensures no_fault { AnswersNoFault result }
     {
         self.reads_back();
@@ -360,7 +389,8 @@ impl<'a> Session<'a> {
 
     /// Writes the AFM file: that of the printed source and pairs from scratch.
     pub fn print_afm<W: Write>(&self, out: &mut Counted<W>) -> Result<(), OutError>
-        ensures prints { Prints W.contents out.old out.new (metrics_from_scratch self.now.state) result }
+        ensures prints { Prints W.contents out.old out.new (metrics_from_scratch self.now.state)
+            result }
         ensures no_fault { AnswersNoFault result }
     {
         self.reads_back();
@@ -427,9 +457,10 @@ impl<'a> Session<'a> {
         metrics_line(self.alloc, &metrics, name)
     }
 
-    /// The outline of a glyph with its parts, a line each: `M x y` where a segment doesn't begin where the last one ended, `L x y`,
-    /// `C x y x y x y`; none where there is no glyph of this name. The glyph and its parts are run and counted, each as often as it is
-    /// drawn; nothing else changes.
+    /// The outline of a glyph with its parts, a line each: `M x y` where a segment doesn't begin
+    /// where the last one ended, `L x y`, `C x y x y x y`; none where there is no glyph of this
+    /// name. The glyph and its parts are run and counted, each as often as it is drawn; nothing
+    /// else changes.
     pub fn show_outline(&mut self, name: &[u8]) -> Result<Option<Vec<u8>>, AllocError>
         ensures shown { Finds result (outline_from_scratch name.now self.old.state) }
         ensures same { IsSameButForRuns self.old self.new }
@@ -456,7 +487,8 @@ impl<'a> Session<'a> {
     fn put_pfb<W: Write>(&self, size: usize, out: &mut Counted<W>) -> Result<(), OutError>
         requires some { 1 ≤ size }
         requires short { size ≤ 2 ^ 31 - 1 }
-        ensures { Prints W.contents out.old out.new (Ok (answer_text (file_answer (blocks_from_scratch size self.now.state)))) result }
+        ensures { Prints W.contents out.old out.new
+            (Ok (answer_text (file_answer (blocks_from_scratch size self.now.state)))) result }
     {
         self.reads_back();
         let form = PfbData::in_blocks(size);
@@ -466,7 +498,8 @@ impl<'a> Session<'a> {
     /// Writes the PFB file as the data of an answer, a segment a part.
     #[tactic(auto, using(crate::proofs::StateLaws::blocks_in_one))]
     fn put_whole_pfb<W: Write>(&self, out: &mut Counted<W>) -> Result<(), OutError>
-        ensures { Prints W.contents out.old out.new (Ok (answer_text (printed self.now.state prints.Pfb))) result }
+        ensures { Prints W.contents out.old out.new
+            (Ok (answer_text (printed self.now.state prints.Pfb))) result }
     {
         self.reads_back();
         self.put_pfb(WHOLE_PARTS, out)
@@ -474,7 +507,8 @@ impl<'a> Session<'a> {
 
     /// Writes what a print in segments of so many bytes is answered.
     fn put_blocks<W: Write>(&self, number: i64, out: &mut Counted<W>) -> Result<(), OutError>
-        ensures { Prints W.contents out.old out.new (Ok (answer_text (blocks_answer self.now.state (block_size number)))) result }
+        ensures { Prints W.contents out.old out.new
+            (Ok (answer_text (blocks_answer self.now.state (block_size number)))) result }
     {
         match block_size(number) {
             Some(size) => self.put_pfb(size, out),
@@ -484,7 +518,8 @@ impl<'a> Session<'a> {
 
     /// Writes the PFA file as the data of an answer. No file is made in memory.
     fn put_pfa<W: Write>(&self, out: &mut Counted<W>) -> Result<(), OutError>
-        ensures { Prints W.contents out.old out.new (Ok (answer_text (printed self.now.state prints.Pfa))) result }
+        ensures { Prints W.contents out.old out.new
+            (Ok (answer_text (printed self.now.state prints.Pfa))) result }
     {
         self.reads_back();
         write_held_file(self.alloc, &self.held, &self.source, &PfaData, out)
@@ -514,7 +549,8 @@ impl<'a> Session<'a> {
         print: Print,
         out: &mut Counted<W>,
     ) -> Result<(), OutError>
-        ensures { Prints W.contents out.old out.new (Ok (answer_text (printed self.now.state print))) result }
+        ensures { Prints W.contents out.old out.new
+            (Ok (answer_text (printed self.now.state print))) result }
     {
         match print {
             Print::Source => put_data(self.source.text()?, out),
@@ -533,7 +569,8 @@ impl<'a> Session<'a> {
         show: &Show,
         out: &mut Counted<W>,
     ) -> Result<(), OutError>
-        ensures prints { Prints W.contents out.old out.new (Ok (answer_text (shown self.old.state show.now))) result }
+        ensures prints { Prints W.contents out.old out.new
+            (Ok (answer_text (shown self.old.state show.now))) result }
         ensures same { self.new.state ≡ self.old.state }
     {
         match show {
@@ -548,7 +585,8 @@ impl<'a> Session<'a> {
 
 /// Writes a text that was asked for as the data of an answer; E1 where there is none.
 fn put_found<W: Write>(found: Option<Vec<u8>>, out: &mut Counted<W>) -> Result<(), OutError>
-    ensures { Prints W.contents out.old out.new (Ok (answer_text (found_answer (option_map (λ text. text.items) found)))) result }
+    ensures { Prints W.contents out.old out.new
+        (Ok (answer_text (found_answer (option_map (λ text. text.items) found)))) result }
 {
     match found {
         Some(text) => put_data(text, out),

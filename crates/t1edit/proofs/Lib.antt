@@ -1,3 +1,4 @@
 mod InTurn
 mod Lines
 mod Sources
+pub mod NotesInTurn

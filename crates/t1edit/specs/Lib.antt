@@ -4,6 +4,7 @@ pub mod Disassembling
 pub mod Explaining
 pub mod FileErrors
 pub mod FontFaults
+pub mod Noting
 pub mod Reading
 pub mod Several
 pub mod Sources

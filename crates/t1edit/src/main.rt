@@ -13,6 +13,7 @@ mod input;
 mod kind;
 mod links;
 mod measuring;
+mod noting;
 mod output;
 mod overwriting;
 mod serving;
@@ -30,6 +31,7 @@ use file_error::FileError;
 use input::{is_standard_input, read_input};
 use kind::{Kind, kind_of};
 use measuring::measure_file;
+use noting::note_files;
 use output::{Ended, Output};
 use overwriting::{refuse_over_font, refuse_over_input};
 use serving::serve_file;
@@ -182,6 +184,18 @@ fn check(rt: &HostRuntime, matches: &ArgMatches<'_>) -> Result<(), Stop> {
     }
 }
 
+/// Writes the notes on sources.
+fn notes(rt: &HostRuntime, matches: &ArgMatches<'_>) -> Result<(), Stop> {
+    let Some(sources) = matches.get_strs("SOURCE") else {
+        return Ok(());
+    };
+    refuse_input_twice(sources, None)?;
+    let is_strict = matches.get_flag("strict");
+    let mut out = Counted::new(rt.stdout());
+    let mut lines = Counted::new(rt.stderr());
+    told(note_files(rt.alloc(), rt, is_strict, sources, &mut out, &mut lines))
+}
+
 /// Serves the commands of standard input on a source.
 fn session(rt: &HostRuntime, matches: &ArgMatches<'_>) -> Result<(), Stop> {
     let (source, kern) = paths(matches);
@@ -245,6 +259,7 @@ fn run(rt: &HostRuntime, words: &[String]) -> Result<(), Stop> {
         Some(("disassemble", matches)) => Ok(all_written(disassemble(rt, matches)?)),
         Some(("measure", matches)) => Ok(all_written(measure(rt, matches)?)),
         Some(("check", matches)) => check(rt, matches),
+        Some(("notes", matches)) => notes(rt, matches),
         Some(("session", matches)) => session(rt, matches),
         Some(("explain", matches)) => explain_code(rt, matches),
         _ => Ok(()),

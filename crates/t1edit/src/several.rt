@@ -73,7 +73,7 @@ fn put_refused<W: Write>(path: &str, error: &FileError, writer: &mut Counted<W>)
 
 /// The exit status of a file that was checked, whose line is written where it is refused; a write
 /// that fails changes no status.
-fn tell<W: Write>(path: &str, answer: &Result<(), FileError>, writer: &mut Counted<W>) -> u8
+pub fn tell<W: Write>(path: &str, answer: &Result<(), FileError>, writer: &mut Counted<W>) -> u8
     ensures status { result ≡ status_of_answer answer.now }
     ensures line { AreWritten W.contents writer.old writer.new (answer_lines path.now answer.now) }
 {

@@ -1,7 +1,8 @@
 //! How the program ends.
 ghost use Rattle.std.specs.Prelude.{◌≡◌, IfErr};
 ghost use Rattle.t1_code.specs.Counted.{Writes};
-ghost use Rattle.t1edit.specs.Status.{error_line, error_text, font_fault_line, line_of, misuse_line};
+ghost use Rattle.t1edit.specs.Status.{error_line, error_text, font_fault_line, line_of};
+ghost use Rattle.t1edit.specs.Status.{misuse_line};
 ghost use Rattle.t1edit.specs.Status.{status_of, status_of_misuse, status_of_stop, status_of_run};
 ghost use Rattle.t1edit.specs.Status.{IsWritten, ReportsStop, ReportsRun};
 

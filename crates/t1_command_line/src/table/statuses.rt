@@ -21,6 +21,7 @@ const SECTION: Section = Section {
             lead: "",
             text: "Standard error has the first fault, its code and its place, as 't1edit: F38 glyph Aacute',\n\
                 'F22 subr 7', 'F7 line 5', 'D3 byte 812' or 'F1'. Lines are counted from 1. Nothing was written.\n\
+                t1edit notes --strict ends so where there are notes, which stand on standard output.\n\
                 \n\
                 What to do: 't1edit explain CODE' says it.\n",
             note: "",

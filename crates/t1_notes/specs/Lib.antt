@@ -1,0 +1,6 @@
+pub mod BodyWords
+pub mod Heads
+pub mod LineSections
+pub mod Notes
+pub mod NoteTexts
+pub mod NumberedLines

@@ -1,0 +1,178 @@
+-- The notes on a text: what is no fault and is most likely a mistake.
+use Rattle.std.specs.Prelude.{ℕ, Bool, false, true, not, ◌+◌, ◌||◌, ◌&&◌, ◌==◌, nat_le, max, if◌then◌else◌, Option, Some, None, is_none, is_some, List, [], ◌∷◌, ◌++◌, drop, codes, filter_map, count_by}
+use Rattle.std.specs.List.{list_any, starts_with}
+use Rattle.std.specs.Str.{bytes_eq}
+use Rattle.t1_frac.specs.Numbers.{decimal_value}
+use Rattle.t1_text.specs.Lines.{lines}
+use Rattle.t1_text.specs.Names.{decimal_of, name_of_token, up_to}
+use Rattle.t1_text.specs.Tokens.{first_is, first_token, is_token, last_is, places_from, tokens}
+use Rattle.t1_parts.specs.Encoding.{slot_of_tokens}
+use Rattle.t1_parts.specs.Entries.{opens_glyph, opens_subr}
+use Rattle.t1_parts.specs.Sections.{count_between}
+use Rattle.t1_notes.specs.declared.line.Line.{Line}
+use Rattle.t1_notes.specs.declared.note.Note.{Note}
+use Rattle.t1_notes.specs.declared.note.NoteKind.{NoteKind}
+use Rattle.t1_notes.specs.declared.note.NoteKind.TheVariants.{ByteOrderMark, FirstLine, EncodedName, Count, PlainEntry, NoNotdef, NoEntry, AfterEnd}
+use Rattle.t1_notes.specs.declared.sections.Section.{Section}
+use Rattle.t1_notes.specs.declared.sections.Section.TheVariants.{Subrs, Glyphs}
+use Rattle.t1_notes.specs.BodyWords.{body_notes, nothing}
+use Rattle.t1_notes.specs.Heads.{heads}
+use Rattle.t1_notes.specs.LineSections.{is_section, opens, section_count}
+use Rattle.t1_notes.specs.NumberedLines.{before, from, note_on, numbered}
+
+-- profile, notes: a note of a kind on each line whose text passes a test
+abbrev pub noted : NoteKind → (List ℕ → Bool) → List Line → List Note
+noted kind test ls = filter_map (λ l. if test l.text then Some (note_on kind l) else None) ls
+
+-- Type 1 Font Format, Chapter 2: whether a text begins as programs know a Type 1 font
+abbrev pub is_font : List ℕ → Bool
+is_font text = starts_with (λ x y. x == y) text (codes "%!PS-AdobeFont") || starts_with (λ x y. x == y) text (codes "%!FontType1")
+
+-- profile, notes: a text may begin with the byte order mark of UTF-8
+abbrev pub opening_kind : List ℕ → NoteKind
+opening_kind text = if starts_with (λ x y. x == y) text (239 ∷ 187 ∷ 191 ∷ []) then ByteOrderMark else FirstLine
+
+-- profile, notes: how a text begins
+abbrev pub opening_notes : List ℕ → List Note
+opening_notes text = if is_font text then [] else record { kind = opening_kind text; line = 1; column = 1 } ∷ []
+
+-- Type 1 Font Format, Chapter 2: a line that holds `/Encoding` N `array`
+abbrev pub opens_array : List ℕ → Bool
+opens_array l = is_some (count_between (codes "/Encoding") (codes "array") (places_from 0 l))
+
+-- profile, encoding: whether a line ends an encoding array
+abbrev pub ends_array : List ℕ → Bool
+ends_array l = last_is (codes "def") (tokens l)
+
+-- profile, notes: the lines of the encoding array
+abbrev pub array_lines : List Line → List Line
+array_lines ls = before ends_array (drop 1 (from opens_array ls))
+
+-- profile, notes: whether a token is the name of this glyph
+abbrev pub is_name_of : List ℕ → Option (List ℕ) → Bool
+is_name_of glyph None = false
+is_name_of glyph (Some t) = is_token glyph (name_of_token t)
+
+-- profile, notes: whether a line opens the glyph of this name
+abbrev pub names : List ℕ → List ℕ → Bool
+names glyph l = is_name_of glyph (opens_glyph (tokens l))
+
+-- profile, notes: whether one of the lines opens the glyph of this name
+abbrev pub has_glyph : List ℕ → List Line → Bool
+has_glyph glyph heads = list_any (λ l. names glyph l.text) heads
+
+-- profile, notes: whether a slot's glyph is neither there nor `.notdef`
+abbrev pub is_lost_slot : List Line → Option (ℕ × List ℕ) → Bool
+is_lost_slot heads None = false
+is_lost_slot heads (Some slot) = not (bytes_eq slot.1 (codes ".notdef")) && not (has_glyph slot.1 heads)
+
+-- profile, notes: whether a line is such a slot
+abbrev pub is_lost : List Line → List ℕ → Bool
+is_lost heads l = is_lost_slot heads (slot_of_tokens (tokens l))
+
+-- profile, notes: the slots of the encoding array that name none of the glyphs
+abbrev pub encoding_notes : List Line → List Line → List Note
+encoding_notes ls heads = noted EncodedName (is_lost heads) (array_lines ls)
+
+-- profile, notes: a number plus one
+abbrev pub past_number : Option ℕ → ℕ
+past_number None = 0
+past_number (Some n) = n + 1
+
+-- profile, notes: what the Subr whose number is this token needs of the count
+abbrev pub number_need : Option (List ℕ) → ℕ
+number_need None = 0
+number_need (Some t) = past_number (up_to 32000 (decimal_of t))
+
+-- profile, notes: the number of the Subr that a line opens plus one
+abbrev pub subr_need : List ℕ → ℕ
+subr_need l = number_need (opens_subr (tokens l))
+
+-- profile, notes: the highest number of a Subr plus one
+abbrev pub subrs_need : List Line → ℕ
+subrs_need [] = 0
+subrs_need (l ∷ ls) = max (subr_need l.text) (subrs_need ls)
+
+-- profile, notes: the number of glyphs
+abbrev pub glyphs_need : List Line → ℕ
+glyphs_need heads = count_by (λ l. opens Glyphs l.text) heads
+
+-- profile, notes: a count that is higher than what is needed
+abbrev pub too_high : Line → Option (ℕ × List ℕ) → ℕ → List Note
+too_high l None need = []
+too_high l (Some n) need = if nat_le (decimal_value n.1) need then [] else record { kind = Count; line = l.number; column = n.0 + 1 } ∷ []
+
+-- profile, notes: the count of a section line
+abbrev pub count_notes : Section → Line → ℕ → List Note
+count_notes section l need = too_high l (section_count section l.text) need
+
+-- profile, notes: whether a line looks like the entry of a Subr, and opens none
+abbrev pub is_plain_entry : List ℕ → Bool
+is_plain_entry l = not (opens Subrs l) && (first_is (codes "dup") (tokens l) || last_is (codes "{") (tokens l))
+
+-- profile, notes: such lines
+abbrev pub plain_notes : List Line → List Note
+plain_notes heads = noted PlainEntry is_plain_entry heads
+
+-- profile, notes: the section of the Subrs
+abbrev pub subrs_from : List Line → List Note
+subrs_from [] = []
+subrs_from (section ∷ later) =
+    count_notes Subrs section (subrs_need (heads Subrs false later)) ++ (plain_notes (heads Subrs false later) ++ body_notes nothing later)
+
+-- profile, notes: the section of the Subrs, where the lines before the glyphs have one
+abbrev pub subr_notes : List Line → List Note
+subr_notes ls = subrs_from (from (is_section Subrs) ls)
+
+-- Type 1 Font Format, Chapter 2: the line that ends the glyphs
+abbrev pub is_end : List ℕ → Bool
+is_end l = first_is (codes "end") (tokens l)
+
+-- profile, notes: whether a line has nothing but blanks and a comment
+abbrev pub is_bare : List ℕ → Bool
+is_bare l = is_none (first_token (tokens l))
+
+-- Type 1 Font Format, Chapter 2: each font has a glyph `.notdef`
+abbrev pub notdef_notes : Line → List Line → List Note
+notdef_notes section heads = if has_glyph (codes ".notdef") heads then [] else note_on NoNotdef section ∷ []
+
+-- profile, notes: the lines that belong to no glyph: the first of those that follow one another
+abbrev pub stray_notes : Bool → List Line → List Note
+stray_notes goes_on [] = []
+stray_notes goes_on (l ∷ ls) =
+    if opens Glyphs l.text then stray_notes false ls
+    else if not goes_on && not (is_bare l.text) then note_on NoEntry l ∷ stray_notes true ls
+    else stray_notes goes_on ls
+
+-- profile, notes: the glyphs after the line that ends the glyphs
+abbrev pub late_notes : List Line → List Note
+late_notes heads = noted AfterEnd (opens Glyphs) heads
+
+-- profile, notes: the section of the glyphs, by its lines to the one that ends the glyphs, and
+-- those from there on
+abbrev pub glyph_notes : Line → List Line → List Line → List Note
+glyph_notes section heads late =
+    count_notes Glyphs section (glyphs_need heads) ++ (notdef_notes section heads ++ (stray_notes false heads ++ late_notes late))
+
+-- profile, notes: the lines before the glyphs, the line of their section, its lines to the one that
+-- ends the glyphs, and those from there on
+abbrev pub ended_notes : List Line → Line → List Line → List Line → List Note
+ended_notes front section heads late = encoding_notes front heads ++ (subr_notes front ++ glyph_notes section heads late)
+
+-- profile, notes: the lines before the glyphs, the line of their section, and its lines
+abbrev pub section_notes : List Line → Line → List Line → List Note
+section_notes front section heads = ended_notes front section (before is_end heads) (from is_end heads)
+
+-- profile, notes: the lines before the glyphs, and those from the line of their section on, without
+-- which a text has no sections
+abbrev pub parted_notes : List Line → List Line → List Note
+parted_notes front [] = []
+parted_notes front (section ∷ later) = section_notes front section (heads Glyphs false later) ++ body_notes nothing later
+
+-- profile, notes: the lines of a text
+abbrev pub line_notes : List Line → List Note
+line_notes ls = parted_notes (before (is_section Glyphs) ls) (from (is_section Glyphs) ls)
+
+-- profile, notes: the notes on a text, in the order of its parts; those on bodies come last in each section
+unfoldable pub notes_of : List ℕ → List Note
+notes_of text = opening_notes text ++ line_notes (numbered 1 (lines text))
