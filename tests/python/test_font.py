@@ -5,7 +5,7 @@ import stat
 import subprocess
 from unittest import mock
 
-from room import ARRAY, BODY, DEMO, PRINTED, PROGRAM, SMALL, Room, changed, data
+from room import ARRAY, BODY, DEMO, PRINTED, PROGRAM, SANS, SMALL, Room, changed, data
 
 from t1edit import Box, Font, Metrics, Missing, Refused, Uses
 
@@ -70,6 +70,19 @@ class Glyphs(Room):
             self.assertEqual(font.glyphs["A"].metrics, Metrics("A", 65, 500, Box(10, 0, 310, 800)))
             font.glyphs["V"].body = "0 0 500 20 sbw endchar"
             self.assertEqual(font.glyphs["V"].metrics, Metrics("V", 86, 500, Box(0, 0, 0, 0), rise=20))
+
+    def test_metrics_of_many(self):
+        with Font(SANS) as font:
+            before = [glyph.metrics for glyph in font.glyphs.values()]
+            self.assertEqual([it.name for it in before], list(font.glyphs))
+            self.assertEqual(font.glyphs["A"].metrics, before[2])
+            glyph = font.glyphs["V"]
+            del font.glyphs["V"]
+            self.assertEqual(self.refused(Missing, lambda: glyph.metrics).word, "V")
+            self.assertEqual([glyph.metrics for glyph in font.glyphs.values()], [it for it in before if it.name != "V"])
+            self.assertEqual(self.refused(Missing, lambda: glyph.metrics).word, "V")
+            font.glyphs["A"].body = BODY
+            self.assertEqual(font.glyphs["A"].metrics.width, 600)
 
     def test_metrics_of_all(self):
         header = ("(Medium)", "(N A ; N V ; B 1 2 3 4 ;)"), ("(Demo Roman)", "(C 1 ; WX 1 ; N A ; B 1 1 1 1 ;)")
