@@ -9,6 +9,7 @@ from __future__ import annotations
 from typing import Any, Callable, Dict, List, Mapping, Optional, Tuple, TypeVar, cast
 
 from .metrics import Metrics, metric_lines, metrics_of
+from .outlines import Segment, segments_of
 from .printed_source import bodies, slots
 from .session import Session, Word
 from .uses import Uses, use_lines, uses_of
@@ -54,6 +55,9 @@ class Queries:
             return metrics_of(self._of(name, self._read("afm", metric_lines)))
         self._shown_metrics += 1
         return metrics_of(self._show("metrics", name).rstrip("\n"))
+
+    def outline(self, name: str) -> Tuple[Segment, ...]:
+        return segments_of(self._show("outline", name))
 
     def uses(self, name: str) -> Uses:
         return uses_of(self._of(name, self._uses()))

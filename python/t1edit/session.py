@@ -132,8 +132,8 @@ class Session:
         return self.send("print", *what.split(" ")).result()
 
     def show(self, what: str, *word: Word) -> bytes:
-        """The bytes of what is shown of one entry: show('glyph', 'A'), show('subr', 4), show('metrics', 'A'); or of the
-        encoding: show('encoding')."""
+        """The bytes of what is shown of one entry: show('glyph', 'A'), show('subr', 4), show('metrics', 'A'),
+        show('outline', 'A'); or of the encoding: show('encoding')."""
         return self.send("show", what, *word).result()
 
     @contextlib.contextmanager

@@ -49,6 +49,7 @@ class Answers(Room):
             missing = self.refused(Missing, wrong.result)
             self.assertEqual((missing.code, missing.word), ("E1", "nosuch"))
             self.assertEqual(session.show("subr", 3), b"\treturn\n")
+            self.assertEqual(session.show("outline", "space"), b"")
             self.assertEqual(session.show("encoding").split(b"\n")[0], b"32 space")
             self.assertEqual(self.refused(Refused, session.show, "subr", "x").word, "x")
 
