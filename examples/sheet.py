@@ -1,90 +1,172 @@
 #!/usr/bin/env python3
-"""Draws all glyphs of a font to an SVG file: their outlines, as FreeType reads them from the assembled font, and their
-boxes, as `t1edit measure` gives them.
+"""Writes a sheet of all glyphs of a font, to look at before it ships: an HTML file, or a picture in SVG.
 
-usage: sheet.py SOURCE FILE.svg
+usage: sheet.py [--against OLD] SOURCE FILE.html
+       sheet.py SOURCE FILE.svg
 
-It needs FreeType's module for Python (Debian: python3-freetype). A font without a FontMatrix gets the usual one.
+A cell of the HTML file has a glyph with its baseline, its advance and its box, and in numbers its code, width and box; a field
+filters them. Where FreeType's module for Python is there (Debian: python3-freetype), each box is compared with the one that
+FreeType finds in the assembled font, and those that differ are framed in red, and counted. With --against only the glyphs are
+shown that differ from those of another source, the old ones in red under the new.
 """
 
+import argparse
 import html
-import io
 import os
-import re
-import subprocess
 import sys
 
-try:
-    import freetype
-except ImportError:
-    sys.exit("sheet.py: FreeType's module for Python isn't installed")
+from pages import by_freetype
+from pages.cells import cells_of, drawing, filled, heights, outline, view
+from t1edit import Error, Font
 
-PROGRAM = os.environ.get("T1EDIT", "t1edit")
-MATRIX = b"/FontMatrix [0.001 0 0 0.001 0 0] readonly def\n"
-CELL, COLUMNS, LABEL = 1400, 8, 90
-CHAR = re.compile(r"(?m)^C (-?\d+) ; WX? (-?\d+).* ; N (\S+) ; B (-?\d+) (-?\d+) (-?\d+) (-?\d+) ;$")
-
-
-def by_program(command, source):
-    ran = subprocess.run([PROGRAM, command, "-"], input=source, stdout=subprocess.PIPE)
-    if ran.returncode:
-        sys.exit(ran.returncode)  # (the program has said why)
-    return ran.stdout
+# Of the picture: glyphs in a row, how wide each is shown, and the height for a name below it in character space units.
+COLUMNS, WIDTH, LABEL = 7, 110, 150
+STYLE = (
+    ".glyph{fill:black} .box{fill:none;stroke:#c00;stroke-width:3} .line{fill:none;stroke:#999;stroke-width:3} "
+    "text{font:75px sans-serif}"
+)
 
 
-def path(outline):
-    """The outline as a path of SVG."""
-    steps = []
+def main():
+    given = command_line()
+    with Font(given.source) as font:
+        cells = cells_of(font)
+        if given.file.endswith(".svg"):
+            said, text = f"{count(cells)} in {given.file}", picture(cells)
+        elif given.against:
+            with Font(given.against) as old:
+                said, text = differences(font, cells, cells_of(old), os.path.basename(given.against))
+        else:
+            said, text = sheet(font, cells)
+    with open(given.file, "w", encoding="utf-8") as file:
+        file.write(text)
+    print(said)
 
-    def add(letter, *points):
-        steps.append(letter + " ".join(f"{point.x} {point.y}" for point in points))
 
-    outline.decompose(
-        None,
-        move_to=lambda to, _: add("M", to),
-        line_to=lambda to, _: add("L", to),
-        conic_to=lambda by, to, _: add("Q", by, to),
-        cubic_to=lambda one, two, to, _: add("C", one, two, to),
-    )
-    return " ".join(steps)
+def command_line():
+    parser = argparse.ArgumentParser(usage=__doc__.split("usage: ")[1].split("\n\n")[0])
+    parser.add_argument("--against")
+    parser.add_argument("source")
+    parser.add_argument("file")
+    given = parser.parse_args()
+    if not given.file.endswith((".html", ".svg")) or given.against and given.file.endswith(".svg"):
+        parser.error("FILE ends with .html, or with .svg where no other source is given")
+    return given
 
 
-def cell(at, name, width, box, outline):
-    """A glyph's outline, its box and its advance, in its place of the sheet."""
-    x, y = (at % COLUMNS) * CELL + 200, (at // COLUMNS) * CELL + 1000
-    left, bottom, right, top = box
+def count(cells):
+    return f"{len(cells)} glyph{'s' * (len(cells) != 1)}"
+
+
+def share(found, cells, what):
+    return f"{len(found)} of {len(cells)} {what} differ{'s' * (len(found) == 1)}"
+
+
+# The HTML file.
+
+
+def sheet(font, cells):
+    """A line that says what was found, and the page of all glyphs."""
+    differ = {}
+    try:
+        found = by_freetype.boxes(font.source())
+        differ = {it.name: by_other(found.get(it.name)) for it in cells if found.get(it.name) != it.box}
+        compared = f"{share(differ, cells, 'boxes')} from FreeType's"
+    except by_freetype.NotCompared as why:
+        compared = f"boxes aren't compared: {why}"
+    low, high = heights(cells)
+    figures = [figure(it, drawing(it, low, high), view([it], low, high), differ.get(it.name)) for it in cells]
+    lines = [f"{count(cells)}: those with a code by the code, then by name", compared]
+    return f"{count(cells)}; {compared}", page(font, lines, figures)
+
+
+def by_other(box):
+    return "FreeType can't load it" if box is None else f"FreeType's box {numbers(box)}"
+
+
+def differences(font, cells, old_cells, path):
+    """A line that says how many glyphs differ from those of another font, and the page of them."""
+    old, new = ({it.name: it for it in those} for those in (old_cells, cells))
+    low, high = heights([*cells, *old_cells])
+    figures = [
+        difference(old.get(name), new.get(name), low, high)
+        for name in {**new, **old}
+        if old.get(name) != new.get(name)
+    ]
+    line = f"{share(figures, cells, 'glyphs')} from {path}"
+    return line, page(font, [f"{line}: old in red under new"], figures)
+
+
+def difference(old, new, low, high):
+    """The cell of a glyph that differs; there is no old one where it was added, and no new one where it was removed."""
+    drawn = (outline(old, "old") if old else "") + (drawing(new, low, high, "over") if new else "")
+    if not (old and new):
+        said = "removed" if old else "added"
+    else:
+        said = "outline" if facts(old) == facts(new) else f"was {facts(old)}"
+    return figure(new or old, drawn, view(filter(None, (old, new)), low, high), said)
+
+
+def page(font, lines, figures):
+    header = header_of(font)
+    title = header.get("FullName") or header.get("FontName") or "A font"
+    fields = {
+        "title": html.escape(title),
+        "lines": "\n".join(f"  <p>{html.escape(line)}</p>" for line in [f"FontBBox {header['FontBBox']}", *lines]),
+        "cells": "\n".join(figures),
+    }
+    return filled("sheet.html", fields)
+
+
+def header_of(font):
+    """The lines of the AFM file before those of the glyphs, by their keys."""
+    lines = font.afm().decode("latin-1").split("\nStartCharMetrics")[0].splitlines()
+    return {key: value for key, _, value in (line.partition(" ") for line in lines)}
+
+
+def figure(cell, drawn, box, said):
+    """A cell: its drawing in its own viewBox, its facts, and in which way it differs, where it does."""
+    name, code = html.escape(cell.name), "" if cell.code is None else cell.code
+    kind, more = (' class="differs"', f'<br><span class="said">{html.escape(said)}</span>') if said else ("", "")
     return (
-        f'<g transform="translate({x} {y})"><g transform="scale(1 -1)">'
-        f'<path d="M0 -250 V750 M{width} -250 V750" class="advance"/>'
-        f'<rect x="{left}" y="{bottom}" width="{right - left}" height="{top - bottom}" class="box"/>'
-        f'<path d="{outline}" class="glyph"/></g><text y="350">{html.escape(name)}</text></g>\n'
+        f'<figure data-name="{name}" data-code="{code}"{kind}><svg viewBox="{numbers(box)}">{drawn}</svg>'
+        f"<figcaption><b>{name}</b> {code}<br>{facts(cell)}{more}</figcaption></figure>"
     )
 
 
-def main(source, target):
-    with open(source, "rb") as file:
-        text = file.read()
-    if b"/FontMatrix" not in text:
-        text = text.replace(b"currentfile eexec", MATRIX + b"currentfile eexec", 1)
-    chars = CHAR.findall(by_program("measure", text).decode("latin-1"))
-    face = freetype.Face(io.BytesIO(by_program("assemble", text)))
-    cells = []
-    for at, (_, width, name, *box) in enumerate(chars):
-        face.load_glyph(face.get_name_index(name.encode("latin-1")), freetype.FT_LOAD_NO_SCALE | freetype.FT_LOAD_NO_HINTING)
-        cells.append(cell(at, name, int(width), tuple(map(int, box)), path(face.glyph.outline)))
+def facts(cell):
+    return f"width {cell.width}, box {numbers(cell.box)}"
+
+
+def numbers(found):
+    return " ".join(map(str, found))
+
+
+# The picture.
+
+
+def picture(cells):
+    """All glyphs in rows of one scale, with their names, on white."""
+    low, high = heights(cells)
+    views = [view([it], low, high) for it in cells]
+    across, down = max((width for _, _, width, _ in views), default=1), high - low + LABEL
     rows = -(-len(cells) // COLUMNS)
-    with open(target, "w", encoding="utf-8") as file:
-        file.write(f'<svg xmlns="http://www.w3.org/2000/svg" width="1600" viewBox="0 0 {COLUMNS * CELL} {rows * CELL}">\n')
-        file.write("<style>.glyph{fill:black} .box{fill:none;stroke:red;stroke-width:4} .advance{stroke:gray;stroke-width:2}")
-        file.write(f" text{{font:{LABEL}px sans-serif}}</style>\n")
-        file.writelines(cells)
-        file.write("</svg>\n")
-    print(f"{len(cells)} glyphs in {target}")
+    size = f'width="{COLUMNS * WIDTH}" height="{rows * down * WIDTH // across}"'
+    parts = [
+        f'<svg xmlns="http://www.w3.org/2000/svg" {size} viewBox="0 0 {COLUMNS * across} {rows * down}">',
+        f"<style>{STYLE}</style>",
+        '<rect width="100%" height="100%" fill="white"/>',
+    ]
+    for at, (cell, (left, _, width, _)) in enumerate(zip(cells, views)):
+        x, y = at % COLUMNS * across, at // COLUMNS * down
+        parts.append(
+            f'<g transform="translate({x + (across - width) // 2 - left} {y + high})">{drawing(cell, low, high)}</g>'
+            f'<text x="{x + across // 2}" y="{y + high - low + LABEL // 2}" text-anchor="middle">{html.escape(cell.name)}</text>'
+        )
+    return "\n".join([*parts, "</svg>"]) + "\n"
 
 
-if len(sys.argv) != 3:
-    sys.exit("usage: sheet.py SOURCE FILE.svg")
 try:
-    main(*sys.argv[1:])
-except (OSError, freetype.FT_Exception) as error:
+    main()
+except (Error, OSError) as error:
     sys.exit(f"sheet.py: {error}")

@@ -13,6 +13,7 @@ from .entries import Glyph, Glyphs, Subr, Subrs
 from .font import Font
 from .metrics import Box, Metrics
 from .once import assemble, check, explain, measure
+from .outlines import Pen
 from .refusals import Error, Missing, NotSent, Refused, Stopped
 from .session import Reply, Session
 from .tables import Encoding, Kerning
@@ -29,6 +30,7 @@ __all__ = [
     "Metrics",
     "Missing",
     "NotSent",
+    "Pen",
     "Refused",
     "Reply",
     "Session",

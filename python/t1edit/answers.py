@@ -6,7 +6,7 @@ from typing import NamedTuple, Optional
 
 
 class Answer(NamedTuple):
-    """A whole answer: its line, as 'ok' or 'refused E4', and for a print its bytes."""
+    """A whole answer: its line, as 'ok' or 'refused E4', and for a print or a show its bytes."""
 
     line: str
     data: Optional[bytes] = None
@@ -21,7 +21,7 @@ class Answers:
 
     def __init__(self) -> None:
         self._bytes = bytearray()
-        # the count of bytes of the print that is under way
+        # the count of bytes of the data that are under way
         self._length: Optional[int] = None
 
     def feed(self, piece: bytes) -> None:

@@ -4,8 +4,10 @@ from __future__ import annotations
 
 from collections.abc import Iterator, Mapping
 from dataclasses import dataclass, field
+from typing import Tuple
 
 from .metrics import Metrics
+from .outlines import Pen, Segment, draw
 from .queries import Queries
 from .uses import Uses
 
@@ -31,6 +33,18 @@ class Glyph:
     def metrics(self) -> Metrics:
         """Its line in the AFM file."""
         return self._queries.metrics(self.name)
+
+    def outline(self) -> Tuple[Segment, ...]:
+        """What it draws, its parts' outlines included, exact: ('M', x, y) where a segment doesn't begin where the one before
+        it ended, ('L', x, y) for a line, ('C', x, y, x, y, x, y) for a curve. Coordinates are Fractions, in character space
+        units; nothing where nothing is drawn. The program runs the glyph for it."""
+        return self._queries.outline(self.name)
+
+    def draw(self, pen: Pen) -> None:
+        """Draws its outline with a pen that has the calls moveTo, lineTo, curveTo and closePath, as those of fontTools.
+        Coordinates are in character space units: whole ones as int, others as the nearest float. Each contour is closed
+        at its end."""
+        draw(self.outline(), pen)
 
     @property
     def uses(self) -> Uses:

@@ -1,7 +1,7 @@
 """What a font is asked about one glyph, one Subr, a pair or a code.
 
-A session prints whole files only. So a print is read once for all glyphs, and kept until the next edit that is accepted.
-Each method below becomes one command of the session, once there are such that ask for one glyph.
+A session shows one entry by a command. What is asked of all of them, as their names, is printed: a print is read once, and
+kept until the next edit that is accepted.
 """
 
 from __future__ import annotations
@@ -9,12 +9,15 @@ from __future__ import annotations
 from typing import Any, Callable, Dict, List, Mapping, Optional, Tuple, TypeVar, cast
 
 from .metrics import Metrics, metric_lines, metrics_of
-from .printed_source import bodies, slots, without_tabs
-from .session import Session
-from .standard_encoding import STANDARD
+from .outlines import Segment, segments_of
+from .printed_source import bodies, slots
+from .session import Session, Word
 from .uses import Uses, use_lines, uses_of
 
 T = TypeVar("T")
+
+# Of so many glyphs the metrics are shown one by one; of any more without an edit between, those of all are printed.
+FEW = 8
 
 
 class Queries:
@@ -24,6 +27,7 @@ class Queries:
         self.session = session
         self._changes = -1
         self._kept: Dict[object, Any] = {}
+        self._shown_metrics = 0
 
     def glyph_names(self) -> List[str]:
         """The names of all glyphs, in the order of the source."""
@@ -33,20 +37,27 @@ class Queries:
         return name in self._uses()
 
     def glyph_body(self, name: str) -> str:
-        return without_tabs(self._of(name, self._bodies()[1]))
+        return body_of(self._show("glyph", name))
 
     def subr_numbers(self) -> List[int]:
         """The numbers of all Subrs, in the order of the source."""
-        return list(map(int, self._bodies()[0]))
+        return list(map(int, self._subrs()))
 
     def has_subr(self, number: int) -> bool:
-        return str(number) in self._bodies()[0]
+        return str(number) in self._subrs()
 
     def subr_body(self, number: int) -> str:
-        return without_tabs(self._of(str(number), self._bodies()[0]))
+        return body_of(self._show("subr", number))
 
     def metrics(self, name: str) -> Metrics:
-        return metrics_of(self._of(name, self._read("afm", metric_lines)))
+        self._forget_what_changed()
+        if self._shown_metrics == FEW:
+            return metrics_of(self._of(name, self._read("afm", metric_lines)))
+        self._shown_metrics += 1
+        return metrics_of(self._show("metrics", name).rstrip("\n"))
+
+    def outline(self, name: str) -> Tuple[Segment, ...]:
+        return segments_of(self._show("outline", name))
 
     def uses(self, name: str) -> Uses:
         return uses_of(self._of(name, self._uses()))
@@ -60,9 +71,12 @@ class Queries:
         return self._read("source", slots)
 
     def encoding(self) -> Mapping[int, str]:
-        """The names that codes have."""
-        found = self.slots()
-        return STANDARD if found is None else found
+        """The names that codes have, by ascending codes."""
+        return self._kept_of(encoding_of, lambda: self._show("encoding"))
+
+    def _show(self, what: str, *word: Word) -> str:
+        """What a session shows, each byte of which is a character."""
+        return self.session.show(what, *word).decode("latin-1")
 
     def _of(self, key: str, found: Mapping[str, T]) -> T:
         if key not in found:
@@ -72,21 +86,41 @@ class Queries:
     def _uses(self) -> Dict[str, str]:
         return self._read("uses", use_lines)
 
-    def _bodies(self) -> Tuple[Dict[str, str], Dict[str, str]]:
-        return self._read("source", bodies)
+    def _subrs(self) -> Dict[str, str]:
+        return self._read("source", bodies)[0]
 
     def _read(self, what: str, reader: Callable[[str], T]) -> T:
         """What a reader finds in a print, each byte of which is a character."""
+        return self._kept_of(reader, lambda: self.session.print(what).decode("latin-1"))
+
+    def _kept_of(self, reader: Callable[[str], T], given: Callable[[], str]) -> T:
+        """What a reader finds in what the session gives; it is asked again once the font has changed."""
+        self._forget_what_changed()
+        if reader not in self._kept:
+            self._kept[reader] = reader(given())
+        return cast(T, self._kept[reader])
+
+    def _forget_what_changed(self) -> None:
+        """Keeps nothing that was read before the last edit that was accepted."""
         changes = self.session.changes
         if changes != self._changes:
             self._changes = changes
             self._kept.clear()
-        if reader not in self._kept:
-            self._kept[reader] = reader(self.session.print(what).decode("latin-1"))
-        return cast(T, self._kept[reader])
+            self._shown_metrics = 0
 
 
 def pairs_of(kern: str) -> Dict[Tuple[str, str], int]:
     """The pairs of a kerning file in its printed form."""
     lines = (line.split(" ") for line in kern.split("\n")[:-1])
     return {(left, right): int(value) for _, left, right, value in lines}
+
+
+def body_of(shown: str) -> str:
+    """A body as a session shows it, without the tab in front of each line, and without its last line end."""
+    return "\n".join(line.removeprefix("\t") for line in shown.split("\n")[:-1])
+
+
+def encoding_of(shown: str) -> Dict[int, str]:
+    """The names that codes have, as a session shows them, a line each: '65 A'."""
+    lines = (line.split(" ") for line in shown.split("\n")[:-1])
+    return {int(code): name for code, name in lines}

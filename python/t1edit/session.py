@@ -28,7 +28,12 @@ GUILTY: Dict[str, Dict[str, int]] = {
     "kern": {"E4": 3},
     "set": {"E4": 2},
     "print": {"E4": 2},
+    "show": {"E1": 2},
 }
+
+
+# The commands that are answered with data.
+WITH_DATA = ("print", "show")
 
 
 class Reply:
@@ -40,10 +45,10 @@ class Reply:
         self._answer: Optional[Answer] = None
 
     def _is_answered_by(self, answer: Answer) -> bool:
-        return answer.line.startswith("refused ") or (answer.line == "data") == (self._words[0] == "print")
+        return answer.line.startswith("refused ") or (answer.line == "data") == (self._words[0] in WITH_DATA)
 
     def result(self) -> bytes:
-        """Waits for the answer: the bytes of a print, and none of any other command. Raises Refused and Stopped."""
+        """Waits for the answer: the bytes of a print or a show, and none of any other command. Raises Refused and Stopped."""
         answer = self._session._wait_for(self)
         if answer.line.startswith("refused "):
             said = answer.line[len("refused ") :]
@@ -125,6 +130,11 @@ class Session:
     def print(self, what: str) -> bytes:
         """The bytes of what is printed: 'source', 'kern', 'pfb', 'pfb N' in segments of N bytes, 'pfa', 'afm', 'uses'."""
         return self.send("print", *what.split(" ")).result()
+
+    def show(self, what: str, *word: Word) -> bytes:
+        """The bytes of what is shown of one entry: show('glyph', 'A'), show('subr', 4), show('metrics', 'A'),
+        show('outline', 'A'); or of the encoding: show('encoding')."""
+        return self.send("show", what, *word).result()
 
     @contextlib.contextmanager
     def batch(self) -> Iterator[None]:

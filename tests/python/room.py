@@ -12,6 +12,7 @@ sys.path[:0] = [PACKAGE]
 
 PROGRAM = os.path.abspath(os.environ.get("T1EDIT") or os.path.join(TOP, "crates/t1edit/out/t1edit"))
 DEMO = os.path.join(TOP, "fonts", "demo.t1")
+SANS = os.path.join(TOP, "fonts", "sans.t1")
 SMALL = os.path.join(TOP, "fonts", "small.t1")
 SECONDS = 120
 BODY = "10 600 hsbw 400 hlineto 700 vlineto closepath endchar"

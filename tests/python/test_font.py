@@ -3,9 +3,10 @@
 import os
 import stat
 import subprocess
+from fractions import Fraction
 from unittest import mock
 
-from room import ARRAY, BODY, DEMO, PRINTED, PROGRAM, SMALL, Room, changed, data
+from room import ARRAY, BODY, DEMO, PRINTED, PROGRAM, SANS, SMALL, Room, changed, data
 
 from t1edit import Box, Font, Metrics, Missing, Refused, Uses
 
@@ -71,6 +72,19 @@ class Glyphs(Room):
             font.glyphs["V"].body = "0 0 500 20 sbw endchar"
             self.assertEqual(font.glyphs["V"].metrics, Metrics("V", 86, 500, Box(0, 0, 0, 0), rise=20))
 
+    def test_metrics_of_many(self):
+        with Font(SANS) as font:
+            before = [glyph.metrics for glyph in font.glyphs.values()]
+            self.assertEqual([it.name for it in before], list(font.glyphs))
+            self.assertEqual(font.glyphs["A"].metrics, before[2])
+            glyph = font.glyphs["V"]
+            del font.glyphs["V"]
+            self.assertEqual(self.refused(Missing, lambda: glyph.metrics).word, "V")
+            self.assertEqual([glyph.metrics for glyph in font.glyphs.values()], [it for it in before if it.name != "V"])
+            self.assertEqual(self.refused(Missing, lambda: glyph.metrics).word, "V")
+            font.glyphs["A"].body = BODY
+            self.assertEqual(font.glyphs["A"].metrics.width, 600)
+
     def test_metrics_of_all(self):
         header = ("(Medium)", "(N A ; N V ; B 1 2 3 4 ;)"), ("(Demo Roman)", "(C 1 ; WX 1 ; N A ; B 1 1 1 1 ;)")
         with Font(changed(*header)) as font:
@@ -89,6 +103,76 @@ class Glyphs(Room):
             font.glyphs["V"].body = "0 500 hsbw 0 0 rmoveto 4 callsubr 3 callsubr 4 callsubr closepath endchar"
             self.assertEqual(font.glyphs["V"].uses, Uses(subrs=(3, 4)))
             self.assertEqual(font.glyphs["A"].uses, Uses())
+
+
+class Recording:
+    """A pen that keeps what it is called with."""
+
+    def __init__(self):
+        self.calls = []
+
+    def __getattr__(self, name):
+        return lambda *points: self.calls.append((name, *points))
+
+
+class Outlines(Room):
+    def test_outline(self):
+        with Font(SANS) as font:
+            self.assertEqual(font.glyphs["I"].outline(), (("M", 80, 0), ("L", 170, 0), ("L", 170, 700), ("L", 80, 700)))
+            self.assertEqual(font.glyphs["space"].outline(), ())
+            curve = font.glyphs["P"].outline()[4]
+            self.assertEqual(curve, ("C", 462, 275, 560, Fraction(741, 2), 560, Fraction(975, 2)))
+            self.assertTrue(all(type(it) is Fraction for it in curve[1:]))
+
+    def test_composites_have_the_outlines_of_their_parts(self):
+        with Font(SANS) as font:
+            base, accent, whole = (font.glyphs[name].outline() for name in ("A", "acute", "Aacute"))
+            moved = tuple((letter, x + 150, y + 190) for letter, x, y in accent)
+            self.assertEqual(whole, base + moved)
+
+    def test_outline_follows_edits(self):
+        with Font(SANS) as font:
+            font.glyphs["acute"].body = "0 333 hsbw 0 500 rmoveto 100 1 3 div rlineto endchar"
+            self.assertEqual(font.glyphs["acute"].outline(), (("M", 0, 500), ("L", 100, Fraction(1501, 3))))
+            self.assertEqual(font.glyphs["Aacute"].outline()[-1][0], "L")
+            with font.batch():
+                font.glyphs["acute"].body = "0 333 hsbw endchar"
+                self.assertEqual(len(font.glyphs["acute"].outline()), 2)
+            self.assertEqual(font.glyphs["acute"].outline(), ())
+            glyph = font.glyphs["V"]
+            del font.glyphs["V"]
+            self.assertEqual(self.refused(Missing, glyph.outline).word, "V")
+
+    def test_outline_with_flex(self):
+        flex = "1 callsubr 0 5 rmoveto 2 callsubr " + "10 0 rmoveto 2 callsubr " * 6 + "50 60 500 0 callsubr"
+        with Font(SANS) as font:
+            font.glyphs["V"].body = f"0 500 hsbw 0 500 rmoveto {flex} endchar"
+            self.assertEqual(font.glyphs["V"].outline(), (
+                ("M", 0, 500), ("C", 10, 505, 20, 505, 30, 505), ("C", 40, 505, 50, 505, 60, 505)))
+
+    def test_boxes(self):
+        with Font(SANS) as font:
+            for glyph in font.glyphs.values():
+                points = [it[-2:] for it in glyph.outline()]
+                if points:
+                    box = glyph.metrics.box
+                    self.assertEqual((min(x for x, _ in points), max(y for _, y in points)), (box.left, box.top), glyph)
+
+    def test_draw(self):
+        with Font(SANS) as font:
+            pen = Recording()
+            font.glyphs["dieresis"].draw(pen)
+            dot = [("lineTo", (150, 590)), ("lineTo", (150, 690)), ("lineTo", (50, 690)), ("closePath",)]
+            self.assertEqual(pen.calls[:5], [("moveTo", (50, 590)), *dot])
+            self.assertEqual(pen.calls[5], ("moveTo", (183, 590)))
+            self.assertEqual(len(pen.calls), 10)
+            pen = Recording()
+            font.glyphs["P"].draw(pen)
+            self.assertEqual(pen.calls[4], ("curveTo", (462, 275), (560, 370.5), (560, 487.5)))
+            self.assertEqual({type(x) for _, *points in pen.calls for point in points for x in point}, {int, float})
+            pen = Recording()
+            font.glyphs["space"].draw(pen)
+            self.assertEqual(pen.calls, [])
 
 
 class Subrs(Room):

@@ -4,11 +4,10 @@ import glob
 import os
 import sys
 
-from room import ARRAY, TOP, Room, changed, data
+from room import ARRAY, DEMO, TOP, Room, changed, data
 
 from t1edit import Font
 from t1edit.printed_source import bodies, slots, without_tabs
-from t1edit.standard_encoding import STANDARD
 
 sys.path.append(os.path.join(TOP, "tests", "reference"))
 
@@ -83,4 +82,5 @@ class Printed(Room):
                                  {number: of_reference(it) for number, it in wanted.subrs().items()})
 
     def test_standard_encoding(self):
-        self.assertEqual(STANDARD, {code: name.decode() for code, name in charstrings.STANDARD.items()})
+        with Font(DEMO) as font:
+            self.assertEqual(dict(font.encoding), {code: name.decode() for code, name in charstrings.STANDARD.items()})

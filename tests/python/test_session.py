@@ -11,7 +11,7 @@ import warnings
 
 from room import BODY, DEMO, PACKAGE, PRINTED, PROGRAM, Room, changed
 
-from t1edit import Font, Refused, Session, Stopped
+from t1edit import Font, Missing, Refused, Session, Stopped
 
 MANY = 20000
 LONG = "\n".join(["0 250 hsbw", *["0 hmoveto"] * 20000, "endchar"])
@@ -41,6 +41,17 @@ class Answers(Room):
             self.assertEqual(kern.result(), b"")
             for _ in range(2):
                 self.assertEqual(self.refused(Refused, wrong.result).code, "E8")
+
+    def test_shows(self):
+        with Session(DEMO) as session:
+            shown, wrong = session.send("show", "glyph", "space"), session.send("show", "glyph", "nosuch")
+            self.assertEqual(shown.result(), b"\t0 250 hsbw\n\tendchar\n")
+            missing = self.refused(Missing, wrong.result)
+            self.assertEqual((missing.code, missing.word), ("E1", "nosuch"))
+            self.assertEqual(session.show("subr", 3), b"\treturn\n")
+            self.assertEqual(session.show("outline", "space"), b"")
+            self.assertEqual(session.show("encoding").split(b"\n")[0], b"32 space")
+            self.assertEqual(self.refused(Refused, session.show, "subr", "x").word, "x")
 
     def test_edits_under_way_are_seen(self):
         with Font(DEMO) as font:

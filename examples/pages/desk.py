@@ -1,0 +1,206 @@
+"""A font under a designer's hands: edits that are drawn at once, and undone one by one."""
+
+from __future__ import annotations
+
+import contextlib
+import os
+import threading
+from dataclasses import asdict, dataclass, field
+from typing import Dict, Iterable, List, Mapping, Optional, Set, Tuple
+
+from t1edit import Font, Refused
+
+from .cells import Cell, cell_of, cells_of, heights
+from .characters import characters
+from .difference import Edit, edits_between, undoing
+from .guilty import guilty_word
+
+# What a page is told, to be written as JSON.
+News = Dict[str, object]
+
+
+@dataclass
+class Step:
+    """What takes an accepted change back: edits, and the texts that bodies had when they were typed."""
+
+    edits: List[Edit]
+    texts: Dict[str, Optional[str]] = field(default_factory=dict)
+
+
+class Desk:
+    """A font, what pages know of it, and the steps to undo. Each call may come from another thread.
+
+    A call that edits gives the news for pages: the 'changed' cells, those of composites too, and the names of 'removed'
+    glyphs; the 'texts' of bodies that have changed otherwise than by typing; the pairs, where one has. What is 'refused' has
+    its code and place, what it means, and where in the body the word stands at which it comes up. It has changed nothing.
+    """
+
+    def __init__(self, source: str, kern: Optional[str] = None) -> None:
+        self.source, self.kern_file = source, kern
+        self._lock = threading.RLock()
+        self._open(Font(source, kern))
+
+    def close(self) -> None:
+        with self._lock:
+            self._font.close()
+
+    def everything(self) -> News:
+        """What a page needs at its beginning. The heights, in character space units, are how low and how high it draws."""
+        with self._lock:
+            low, high = heights(self._cells.values())
+            return {
+                "name": os.path.basename(self.source),
+                "cells": [asdict(it) for it in self._cells.values()],
+                "low": low,
+                "high": high,
+                "characters": characters(self._cells),
+                **self._pairs(),
+                **self._standing(),
+            }
+
+    def text(self, name: str) -> News:
+        """The body of a glyph, as it was typed where it was."""
+        with self._lock:
+            return {"text": self._text(name)}
+
+    def edit(self, name: str, text: str) -> News:
+        """Gives a glyph the body that was typed."""
+        with self._lock:
+            body, typed, cells = self._font.glyphs[name].body, self._texts.get(name), dict(self._cells)
+            try:
+                self._font.glyphs[name].body = text
+            except Refused as refused:
+                return refusal(refused, guilty_word(self._font, name, text, refused))
+            self._texts[name] = text
+            self._steps.append(Step([(("replace", "glyph", name), body)], {name: typed}))
+            self._read_again({name})
+            return self._news(cells)
+
+    def kern(self, left: str, right: str, value: Optional[int]) -> News:
+        """Moves the right one of two glyphs by so many units, or takes their pair out."""
+        with self._lock:
+            before = self._font.kern.get((left, right))
+            if before == value:
+                return self._standing()
+            try:
+                self._font.session.edit(*pair_edit(left, right, value))
+            except Refused as refused:
+                return refusal(refused)
+            self._steps.append(Step([(pair_edit(left, right, before), None)]))
+            return {**self._pairs(), **self._standing()}
+
+    def undo(self) -> News:
+        """Takes the last accepted change back, where there is one."""
+        with self._lock:
+            if not self._steps:
+                return self._standing()
+            step, cells = self._steps[-1], dict(self._cells)
+            self._perform(step.edits)
+            self._steps.pop()
+            names = glyphs_of(step.edits)
+            for name in names:
+                self._texts.pop(name, None)
+            self._texts.update({name: text for name, text in step.texts.items() if text is not None})
+            self._read_again(names, touches_all(step.edits))
+            return {**self._news(cells, names), **self._pairs()}
+
+    def save(self) -> News:
+        """Writes the source, and the kerning file where one was given."""
+        with self._lock:
+            self._font.save(self.source)
+            if self.kern_file:
+                self._font.save(self.kern_file, "kern")
+            return {"saved": [it for it in (self.source, self.kern_file) if it]}
+
+    def bring_in(self, source: bytes) -> News:
+        """Takes what another program has written to the source: the entries that differ are edited. Where more than these has
+        changed, as a line of the header, the font is opened anew, and nothing can be undone."""
+        with self._lock:
+            try:
+                with Font(source) as other:
+                    return self._become(other, source)
+            except Refused as refused:
+                return {"file": refusal(refused)}
+
+    def _become(self, other: Font, source: bytes) -> News:
+        edits, cells = edits_between(self._font, other), dict(self._cells)
+        back, names = undoing(self._font, edits), glyphs_of(edits)
+        with contextlib.suppress(Refused):  # (as where Subrs are added, and the font has had none)
+            self._perform(edits)
+        if self._font.source() != other.source():
+            pairs = self._font.session.print("kern")
+            self._font.close()
+            self._open(Font(source, pairs))
+            return {**self._news(cells, self._cells), "file": {}}
+        if edits:
+            self._steps.append(Step(back, {name: self._texts.pop(name, None) for name in names}))
+        self._read_again(names, touches_all(edits))
+        return {**self._news(cells, names), "file": {}}
+
+    def _open(self, font: Font) -> None:
+        self._font = font
+        self._cells = {it.name: it for it in cells_of(font)}
+        self._parts = {name: glyph.uses.parts for name, glyph in font.glyphs.items()}
+        self._texts: Dict[str, str] = {}
+        self._steps: List[Step] = []
+
+    def _perform(self, edits: Iterable[Edit]) -> None:
+        """Performs edits as a batch. Raises Refused, and has changed nothing then."""
+        with self._font.batch():
+            for words, body in edits:
+                self._font.session.edit(*words, body=body)
+
+    def _text(self, name: str) -> str:
+        return self._texts[name] if name in self._texts else self._font.glyphs[name].body
+
+    def _standing(self) -> News:
+        return {"undo": len(self._steps)}
+
+    def _pairs(self) -> News:
+        return {"pairs": {f"{left} {right}": value for (left, right), value in self._font.kern.items()}}
+
+    def _read_again(self, names: Set[str], with_all: bool = False) -> None:
+        """Reads again what glyphs draw that were edited, and composites on them; or all glyphs."""
+        there = self._font.glyphs
+        for name in names:
+            self._parts[name] = there[name].uses.parts if name in there else ()
+        for name in self._parts if with_all else self._standing_on(names):
+            if name in there:
+                self._cells[name] = cell_of(there[name])
+            else:
+                self._cells.pop(name, None)
+
+    def _news(self, before: Mapping[str, Cell], retyped: Iterable[str] = ()) -> News:
+        """What is new beside the cells that there were; retyped are the glyphs whose bodies nobody has typed."""
+        return {
+            "changed": [asdict(it) for name, it in self._cells.items() if it is not before.get(name) and it != before.get(name)],
+            "removed": [name for name in before if name not in self._cells],
+            "texts": {name: self._text(name) for name in retyped if name in self._cells},
+            **self._standing(),
+        }
+
+    def _standing_on(self, found: Set[str]) -> Set[str]:
+        """These glyphs, and the composites that have them as parts, or as parts of parts."""
+        more = found
+        while more:
+            found = found | more
+            more = {name for name, parts in self._parts.items() if name not in found and not found.isdisjoint(parts)}
+        return found
+
+
+def pair_edit(left: str, right: str, value: Optional[int]) -> Tuple[object, ...]:
+    return ("unkern", left, right) if value is None else ("kern", left, right, value)
+
+
+def glyphs_of(edits: Iterable[Edit]) -> Set[str]:
+    """The glyphs that are edited."""
+    return {str(words[2]) for words, _ in edits if words[1] == "glyph"}
+
+
+def touches_all(edits: Iterable[Edit]) -> bool:
+    """Whether an edit may change what any glyph draws, or its code."""
+    return any(words[1] == "subr" or words[0] in ("encode", "unencode") for words, _ in edits)
+
+
+def refusal(refused: Refused, at: Optional[Tuple[int, int]] = None) -> News:
+    return {"refused": {"said": refused.said, "text": refused.text, "word": refused.word, "at": at}}
