@@ -1,0 +1,127 @@
+-- The source has the word of each fault at its line and column.
+use Rattle.std.proofs.Common.{◌≡◌, ◌∙◌, ℕ, Bool, true, false, ◌+◌, ◌-◌, List, [], ◌∷◌, ◌++◌, length, take, drop, map, Option, None, Some, Result, Ok, Err, refl, sym, ap, subst, inl, inr, arith}
+use Rattle.std.specs.Prelude.{nat_lt, flat_map, option_map, IfSome}
+use Rattle.std.specs.List.{list_any, AllByRecursion}
+use Rattle.std.specs.Option.{option_to_list}
+use Rattle.std.proofs.lemmas.Bool.{cases_Bool}
+use Rattle.std.proofs.lemmas.List.{append_assoc, take-append-drop}
+use Rattle.t1_frac.specs.declared.fault.Code.{Code}
+use Rattle.t1_frac.specs.declared.fault.Place.{Place}
+use Rattle.t1_code.specs.declared.command.Command.{Command}
+use Rattle.t1_code.specs.Words.{command_of_word}
+use Rattle.t1_faults.specs.declared.found.FoundFault.{FoundFault}
+use Rattle.t1_faults.specs.declared.placed.PlacedWord.{PlacedWord}
+use Rattle.t1_faults.specs.Entries.{Entry, placed_words}
+use Rattle.t1_faults.specs.Found.{at_entry, at_word, body_faults, code_of, length_faults, word_fault, word_faults}
+use Rattle.t1_faults.specs.Judging.{OwnRuns, certain, entry_faults, join_fault, join_faults, or_others, run_fault, run_faults}
+use Rattle.t1_faults.specs.Telling.{TellsWord}
+use Rattle.std.specs.Prelude.{ok_or}
+use Rattle.std.specs.List.{position}
+use Rattle.t1_frac.specs.Outcome.{fault_at, ◌>>=◌}
+use Rattle.t1_frac.specs.declared.fault.Code.TheVariants.{F1, F2}
+use Rattle.t1_frac.specs.declared.fault.Fault.{Fault}
+use Rattle.t1_frac.specs.declared.fault.Place.TheVariants.{Nowhere}
+use Rattle.t1_frac.proofs.OutcomeLaws.{bind_ok}
+use Rattle.t1_text.specs.Lines.{lines}
+use Rattle.t1_parts.specs.Parts.{Parts, is_closefile, is_eexec, parts_of}
+use Rattle.t1_parts.specs.Reading.{reads}
+use Rattle.t1_parts.specs.SourceParts.{SourceParts}
+use Rattle.t1_source.proofs.WellFormedSourceLaws.{taken_apart, TakenApart}
+use Rattle.t1_run.specs.Run.{own}
+use Rattle.t1_font.specs.Assembly.{file_check}
+use Rattle.t1_font.specs.Bodies.{bodies_check}
+use Rattle.t1_font.specs.ToRun.{font_to_run}
+use Rattle.t1_faults.specs.Entries.{entries_from}
+use Rattle.t1_faults.specs.Judging.{entries_in, faults_of, faults_read, file_faults, is_faulty_subr, source_faults}
+use Rattle.t1_faults.proofs.PlacedLaws.{all_append}
+use Rattle.t1_faults.proofs.StandingLaws.{Stands, WordsStand, entries_stand}
+
+words_tell : (all : List (List ℕ)) (place : Place) (ws : List PlacedWord) → AllByRecursion (Stands all) ws → AllByRecursion (TellsWord all) (word_faults place ws)
+words_tell all place [] h = tt
+words_tell all place (w ∷ ws) h = by (words_tell all place ws h.1) (command_of_word w.word) refl where
+  by : AllByRecursion (TellsWord all) (word_faults place ws) → (r : Result Command Code) → command_of_word w.word ≡ r → AllByRecursion (TellsWord all) (word_faults place (w ∷ ws))
+  by below (Ok c) e = rw e below
+  by below (Err code) e = rw e (h.0, below)
+
+body_tells : (all : List (List ℕ)) (e : Entry) → WordsStand all e → AllByRecursion (TellsWord all) (body_faults e)
+body_tells all e h =
+    all_append (TellsWord all) (length_faults e (placed_words e)) (word_faults e.place (placed_words e)) lengths (words_tell all e.place (placed_words e) h)
+  where
+    lengths : AllByRecursion (TellsWord all) (length_faults e (placed_words e))
+    lengths = elim (cases_Bool (nat_lt 65535 (length (placed_words e)))) [
+      | inl long ↦ rw long (tt, tt)
+      | inr short ↦ rw short tt
+    ]
+
+one_tells : (all : List (List ℕ)) (e : Entry) (code : Option Code) → AllByRecursion (TellsWord all) (option_to_list (option_map (at_entry e) code))
+one_tells all e None = tt
+one_tells all e (Some code) = (tt, tt)
+
+others_tell : (all : List (List ℕ)) (xs ys : List FoundFault) → AllByRecursion (TellsWord all) xs → AllByRecursion (TellsWord all) ys → AllByRecursion (TellsWord all) (or_others xs ys)
+others_tell all [] ys h k = k
+others_tell all (x ∷ xs) ys h k = h
+
+pub entries_tell : (all : List (List ℕ)) (unsure : Bool) (run : OwnRuns) (es : List Entry) → AllByRecursion (WordsStand all) es
+    → AllByRecursion (TellsWord all) (flat_map (entry_faults unsure run) es)
+entries_tell all unsure run [] h = tt
+entries_tell all unsure run (e ∷ es) h =
+    all_append (TellsWord all) (entry_faults unsure run e) (flat_map (entry_faults unsure run) es)
+    (others_tell all (body_faults e) (run_faults unsure run e) (body_tells all e h.0) (one_tells all e (certain unsure (run_fault run e.place))))
+    (entries_tell all unsure run es h.1)
+
+pub joins_tell : (all : List (List ℕ)) (run : OwnRuns) (es : List Entry) → AllByRecursion (TellsWord all) (flat_map (join_faults run) es)
+joins_tell all run [] = tt
+joins_tell all run (e ∷ es) =
+    all_append (TellsWord all) (join_faults run e) (flat_map (join_faults run) es) (one_tells all e (join_fault run e.place)) (joins_tell all run es)
+
+-- ---- a source
+
+-- the parts of some lines are all of them
+parts_whole : (ls : List (List ℕ)) (p : Parts) → parts_of ls ≡ Ok p → ls ≡ p.clear ++ (p.private ++ p.tail)
+unfolding parts_of
+parts_whole ls p e =
+    let a = bind_ok (ok_or (position is_eexec ls) (fault_at Nowhere F1)) (λ (eexec : ℕ). ok_or (position is_closefile (drop (eexec + 1) ls)) (fault_at Nowhere F2) >>= λ (closefile : ℕ).
+    Ok (record {
+      clear = take (eexec + 1) ls;
+      private = take (closefile + 1) (drop (eexec + 1) ls);
+      tail = drop (closefile + 1) (drop (eexec + 1) ls);
+    })) p e in
+    let after = drop (a.0 + 1) ls in
+    let b = bind_ok (ok_or (position is_closefile after) (fault_at Nowhere F2)) (λ (closefile : ℕ). Ok (record { clear = take (a.0 + 1) ls; private = take (closefile + 1) after; tail = drop (closefile + 1) after })) p a.2 in
+    let made : Parts = record { clear = take (a.0 + 1) ls; private = take (b.0 + 1) after; tail = drop (b.0 + 1) after } in
+    let last : ◌≡◌ {A = Result Parts Fault} (Ok made) (Ok p) = b.2 in
+    let same : made ≡ p = cc in
+    subst (λ (q : Parts). ls ≡ q.clear ++ (q.private ++ q.tail)) same
+    (sym (take-append-drop (a.0 + 1) ls) ∙ ap (λ t. take (a.0 + 1) ls ++ t) (sym (take-append-drop (b.0 + 1) after)))
+
+lines_stand : (ls : List (List ℕ)) (s : SourceParts) → TakenApart ls s → AllByRecursion (WordsStand ls) (entries_in (parts_of ls) s)
+lines_stand ls s t =
+    let n = length t.parts.private - 1 in
+    let whole : ls ≡ t.parts.clear ++ (take n t.parts.private ++ (drop n t.parts.private ++ t.parts.tail)) =
+      parts_whole ls t.parts t.cut ∙ ap (λ x. t.parts.clear ++ (x ++ t.parts.tail)) (sym (take-append-drop n t.parts.private))
+      ∙ ap (λ x. t.parts.clear ++ x) (append_assoc (take n t.parts.private) (drop n t.parts.private) t.parts.tail) in
+    let clear : t.parts.clear ≡ s.clear = ap (λ (m : SourceParts). m.clear) t.same in
+    let number : length s.clear + 1 ≡ length t.parts.clear + 1 = ap (λ (c : List (List ℕ)). length c + 1) (sym clear) in
+    subst (λ r. AllByRecursion (WordsStand ls) (entries_in r s)) (sym t.cut)
+    (entries_stand ls t.parts.clear (drop n t.parts.private ++ t.parts.tail) (length s.clear + 1) (take n t.parts.private) s.items whole number)
+
+file_tells : (all : List (List ℕ)) (bodies file : Result (Unit {0}) Fault) → AllByRecursion (TellsWord all) (file_faults bodies file)
+file_tells all (Ok u) (Ok v) = tt
+file_tells all (Ok u) (Err fault) = (tt, tt)
+file_tells all (Err first) file = tt
+
+found_of : (ls : List (List ℕ)) (s : SourceParts) → AllByRecursion (WordsStand ls) (entries_in (parts_of ls) s) → AllByRecursion (TellsWord ls) (faults_of ls s)
+found_of ls s h =
+    let run = own (font_to_run s.items) in
+    let es = entries_in (parts_of ls) s in
+    let unsure = list_any is_faulty_subr s.items in
+    let file = file_faults (bodies_check s.items) (file_check s) in
+    all_append (TellsWord ls) (flat_map (entry_faults unsure run) es) (file ++ flat_map (join_faults run) es) (entries_tell ls unsure run es h)
+    (all_append (TellsWord ls) file (flat_map (join_faults run) es) (file_tells ls (bodies_check s.items) (file_check s)) (joins_tell ls run es))
+
+-- the source has the word of each fault that is found at its line and column
+pub words_there : (bytes : List ℕ) (s : SourceParts) → reads bytes ≡ Ok s → AllByRecursion (TellsWord (lines bytes)) (source_faults bytes)
+unfolding reads
+words_there bytes s e =
+    subst (λ r. AllByRecursion (TellsWord (lines bytes)) (faults_read (lines bytes) r)) (sym e)
+    (found_of (lines bytes) s (lines_stand (lines bytes) s (taken_apart (lines bytes) s e)))

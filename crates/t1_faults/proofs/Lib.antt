@@ -1,0 +1,15 @@
+pub mod CheckLaws
+pub mod ColumnLaws
+pub mod DepthLaws
+pub mod EntryLaws
+pub mod FoundLaws
+pub mod JudgingLaws
+pub mod LoopLaws
+pub mod PlacedLaws
+pub mod ReadingLaws
+pub mod SoundLaws
+pub mod StandingLaws
+pub mod TakenLaws
+pub mod TellingLaws
+pub mod ToRunLaws
+pub mod WordCodeLaws

@@ -1,0 +1,359 @@
+-- What check reports is told, or stands on what is told.
+use Rattle.std.proofs.Common.{◌≡◌, ◌∙◌, ℕ, zero, suc, Bool, true, false, cond, ◌&&◌, ◌||◌, ◌⊎◌, List, [], ◌∷◌, ◌++◌, length, map, Option, None, Some, Result, Ok, Err, refl, sym, ap, subst, inl, inr}
+use Rattle.std.specs.Prelude.{nat_lt, flat_map, option_map}
+use Rattle.std.specs.List.{list_any}
+use Rattle.std.specs.Option.{option_to_list}
+use Rattle.std.specs.Str.{bytes_eq}
+use Rattle.std.proofs.lemmas.Bool.{cases_Bool}
+use Rattle.t1_frac.specs.Outcome.{fault_at, reported_at, ◌>>=◌}
+use Rattle.t1_frac.specs.declared.fault.Code.{Code}
+use Rattle.t1_frac.specs.declared.fault.Code.TheVariants.{F22}
+use Rattle.t1_frac.specs.declared.fault.Fault.{Fault}
+use Rattle.t1_frac.specs.declared.fault.Place.{Place}
+use Rattle.t1_frac.specs.declared.fault.Place.TheVariants as places
+use Rattle.t1_frac.specs.declared.fault.Refusal.TheVariants as refusals
+use Rattle.t1_text.specs.Lines.{lines}
+use Rattle.t1_parts.specs.declared.item.Item.{Item}
+use Rattle.t1_parts.specs.declared.item.Item.TheVariants.{Plain, Section, Subr, Glyph}
+use Rattle.t1_parts.specs.Parts.{parts_of}
+use Rattle.t1_parts.specs.Reading.{reads}
+use Rattle.t1_parts.specs.SourceParts.{SourceParts}
+use Rattle.t1_code.specs.declared.command.Command.{Command}
+use Rattle.t1_code.specs.Words.{command_of_word, command_then, commands, commands_of_words}
+use Rattle.t1_afm.specs.Box.{united}
+use Rattle.t1_run.specs.declared.outline.Composite.{Composite}
+use Rattle.t1_run.specs.Run.{Drawing, own}
+use Rattle.t1_run.proofs.Asked.{bytes_same, bytes_self}
+use Rattle.t1_font.specs.declared.glyph_metrics.GlyphMetrics.{GlyphMetrics}
+use Rattle.t1_font.specs.Assembly.{file_check}
+use Rattle.t1_font.specs.Bodies.{bodies_check, words_check}
+use Rattle.t1_font.specs.Glyphs.{glyph_names}
+use Rattle.t1_font.specs.MeasuredGlyphs.{MeasuredFont, glyph_metrics_among, glyph_metrics_at, measured}
+use Rattle.t1_font.specs.SourceChecks.{measured_source, source_check}
+use Rattle.t1_font.specs.ToRun.{font_to_run}
+use Rattle.t1_font.proofs.Gathering.{put_after, one-refused, one-reported}
+use Rattle.t1_font.proofs.LengthLaws.{body_fault_reported}
+use Rattle.t1_font.proofs.Measuring.{all-refused, all-reported, next-ok, first-ok}
+use Rattle.t1_font.proofs.MeasuringTurns.{runs-own}
+use Rattle.t1_faults.specs.declared.found.FoundFault.{FoundFault}
+use Rattle.t1_faults.specs.declared.placed.PlacedWord.{PlacedWord}
+use Rattle.t1_faults.specs.Entries.{Entry, placed_words}
+use Rattle.t1_faults.specs.Found.{at_entry, at_word, body_faults, code_of, length_faults, word_fault, word_faults}
+use Rattle.t1_faults.specs.Judging.{OwnRuns, certain, checked, entries_in, entry_faults, fault_of, faults_by, faults_of, faults_read, file_faults, is_f32, is_faulty_subr, join_fault, join_faults, or_others, run_fault, run_faults, sound_parts, sound_run, sound_within, source_faults}
+use Rattle.t1_faults.specs.Reading.{reading_fault}
+use Rattle.t1_faults.specs.Telling.{IsTold, IsAnswered, StandsOn, runs_read}
+use Rattle.t1_faults.proofs.CheckLaws.{absent, bodies_pass, among_all, after_none}
+use Rattle.t1_faults.proofs.EntryLaws.{read_entries}
+use Rattle.t1_faults.proofs.SoundLaws.{body_fine, long_as, words_there}
+use Rattle.t1_faults.proofs.TakenLaws.{AreOf}
+
+told_left : (code : Code) (place : Place) (xs ys : List FoundFault) → IsTold code place xs → IsTold code place (xs ++ ys)
+told_left code place [] ys h = absurd h
+told_left code place (x ∷ xs) ys (inl h) = inl h
+told_left code place (x ∷ xs) ys (inr h) = inr (told_left code place xs ys h)
+
+told_right : (code : Code) (place : Place) (xs ys : List FoundFault) → IsTold code place ys → IsTold code place (xs ++ ys)
+told_right code place [] ys h = h
+told_right code place (x ∷ xs) ys h = inr (told_right code place xs ys h)
+
+told_first : (code : Code) (place : Place) (xs ys : List FoundFault) → IsTold code place xs → IsTold code place (or_others xs ys)
+told_first code place [] ys h = absurd h
+told_first code place (x ∷ xs) ys h = h
+
+-- ---- a body
+
+words_told : (place : Place) (ws : List PlacedWord) (code : Code) → commands_of_words (map (λ w. w.word) ws) ≡ Err code → IsTold code place (word_faults place ws)
+words_told place [] code e = absurd (cc)
+words_told place (w ∷ ws) code e = by (λ h. words_told place ws code h) (command_of_word w.word) refl where
+  rest : (commands_of_words (map (λ w. w.word) ws) ≡ Err code → IsTold code place (word_faults place ws)) → (c : Command) (r : Result (List Command) Code) → commands_of_words (map (λ w. w.word) ws) ≡ r → command_then (Ok c) r ≡ Err code → IsTold code place (word_faults place ws)
+  rest below c (Ok cs) f h = absurd (cc)
+  rest below c (Err other) f h = let same : other ≡ code = cc in below (f ∙ ap Err same)
+
+  by : (commands_of_words (map (λ w. w.word) ws) ≡ Err code → IsTold code place (word_faults place ws)) → (r : Result Command Code) → command_of_word w.word ≡ r → IsTold code place (word_faults place (w ∷ ws))
+  by below (Ok c) h =
+      let all : command_then (Ok c) (commands_of_words (map (λ w. w.word) ws)) ≡ Err code = rw h at e in
+      rw h (rest below c (commands_of_words (map (λ w. w.word) ws)) refl all)
+  by below (Err other) h =
+      let first : ◌≡◌ {A = Result (List Command) Code} (Err other) (Err code) = rw h at e in
+      let same : other ≡ code = cc in
+      rw h (inl (same, refl))
+
+body_told : (e : Entry) (ws : List (List ℕ)) (code : Code) → map (λ w. w.word) (placed_words e) ≡ ws → commands ws ≡ Err code → IsTold code e.place (body_faults e)
+unfolding commands
+body_told e ws code is refused =
+    elim (cases_Bool (nat_lt 65535 (length ws))) [
+      | inl long ↦
+          let first : ◌≡◌ {A = Result (List Command) Code} (Err F22) (Err code) = rw long at refused in
+          let same : F22 ≡ code = cc in
+          let count : nat_lt 65535 (length (placed_words e)) ≡ true = ap (nat_lt 65535) (sym (long_as (placed_words e)) ∙ ap length is) ∙ long in
+          told_left code e.place (length_faults e (placed_words e)) (word_faults e.place (placed_words e)) (rw count (inl (same, refl)))
+      | inr short ↦
+          let read : commands_of_words ws ≡ Err code = rw short at refused in
+          told_right code e.place (length_faults e (placed_words e)) (word_faults e.place (placed_words e))
+          (words_told e.place (placed_words e) code (ap commands_of_words is ∙ read))
+    ]
+
+words_fault : (place : Place) (ws : List (List ℕ)) (r : Result (List Command) Code) → commands ws ≡ r → (words_check place ws ≡ Ok tt) ⊎ ((code : Code) × (commands ws ≡ Err code) × (words_check place ws ≡ Err (fault_at place code)))
+unfolding words_check
+words_fault place ws (Ok cs) h = inl (rw h refl)
+words_fault place ws (Err code) h = inr (code, h, rw h refl)
+
+-- the first fault of bodies is that of an entry, or of one after it
+entry_told : (unsure : Bool) (run : OwnRuns) (x : Entry) (es : List Entry) (fault : Fault) (place : Place) (words : List (List ℕ)) (next : Result (Unit {0}) Fault)
+    → x.place ≡ place → map (λ w. w.word) (placed_words x) ≡ words → ◌≡◌ {A = Result (Unit {0}) Fault} (words_check place words >>= λ _. next) (Err fault)
+    → (words_check place words ≡ Ok tt) ⊎ ((code : Code) × (commands words ≡ Err code) × (words_check place words ≡ Err (fault_at place code)))
+    → (next ≡ Err fault → IsTold fault.code fault.place (flat_map (entry_faults unsure run) es))
+    → IsTold fault.code fault.place (entry_faults unsure run x ++ flat_map (entry_faults unsure run) es)
+entry_told unsure run x es fault place words next stands is e (inl passed) later =
+    let left : next ≡ Err fault = rw passed at e in
+    told_right fault.code fault.place (entry_faults unsure run x) (flat_map (entry_faults unsure run) es) (later left)
+entry_told unsure run x es fault place words next stands is e (inr w) later =
+    let first : ◌≡◌ {A = Result (Unit {0}) Fault} (Err (fault_at place w.0)) (Err fault) = rw w.2 at e in
+    let same : fault_at place w.0 ≡ fault = cc in
+    let here : IsTold w.0 x.place (body_faults x) = body_told x words w.0 is w.1 in
+    let there = told_left w.0 x.place (entry_faults unsure run x) (flat_map (entry_faults unsure run) es) (told_first w.0 x.place (body_faults x) (run_faults unsure run x) here) in
+    let placed = subst (λ p. IsTold w.0 p (entry_faults unsure run x ++ flat_map (entry_faults unsure run) es)) stands there in
+    subst (λ (f : Fault). IsTold f.code f.place (entry_faults unsure run x ++ flat_map (entry_faults unsure run) es)) same placed
+
+bodies_told : (unsure : Bool) (run : OwnRuns) (items : List Item) (es : List Entry) (fault : Fault) → AreOf items es → bodies_check items ≡ Err fault
+    → IsTold fault.code fault.place (flat_map (entry_faults unsure run) es)
+bodies_told unsure run [] es fault are e = absurd (cc)
+bodies_told unsure run (Plain l ∷ items) es fault are e = bodies_told unsure run items es fault are e
+bodies_told unsure run (Section before n after ∷ items) es fault are e = bodies_told unsure run items es fault are e
+bodies_told unsure run (Subr n words closing ∷ items) [] fault are e = absurd are
+bodies_told unsure run (Subr n words closing ∷ items) (x ∷ es) fault are e =
+    entry_told unsure run x es fault (places.Subr n) words (bodies_check items) are.0 are.1 e (words_fault (places.Subr n) words (commands words) refl)
+    (λ later. bodies_told unsure run items es fault are.2 later)
+bodies_told unsure run (Glyph g words closing ∷ items) [] fault are e = absurd are
+bodies_told unsure run (Glyph g words closing ∷ items) (x ∷ es) fault are e =
+    entry_told unsure run x es fault (places.Glyph g) words (bodies_check items) are.0 are.1 e (words_fault (places.Glyph g) words (commands words) refl)
+    (λ later. bodies_told unsure run items es fault are.2 later)
+
+-- ---- a run
+
+-- where no body has a fault, that of a glyph's own run is told
+run_told : (run : OwnRuns) (items : List Item) (es : List Entry) (p : List ℕ) (code : Code) → AreOf items es → bodies_check items ≡ Ok tt → list_any (bytes_eq p) (glyph_names items) ≡ true
+    → run p ≡ Some (Err code) → IsTold code (places.Glyph p) (flat_map (entry_faults false run) es)
+run_told run [] es p code are checked there fails = absurd (cc)
+run_told run (Plain l ∷ items) es p code are checked there fails = run_told run items es p code are checked there fails
+run_told run (Section before n after ∷ items) es p code are checked there fails = run_told run items es p code are checked there fails
+run_told run (Subr n words closing ∷ items) [] p code are checked there fails = absurd are
+run_told run (Subr n words closing ∷ items) (x ∷ es) p code are checked there fails =
+    told_right code (places.Glyph p) (entry_faults false run x) (flat_map (entry_faults false run) es)
+    (run_told run items es p code are.2 (next-ok (words_check (places.Subr n) words) (bodies_check items) tt checked) there fails)
+run_told run (Glyph name words closing ∷ items) [] p code are checked there fails = absurd are
+run_told run (Glyph name words closing ∷ items) (x ∷ es) p code are checked there fails =
+    elim (cases_Bool (bytes_eq p name)) [
+      | inl same ↦
+          let equal = bytes_same p name same in
+          let read = words_there (places.Glyph name) words (first-ok (words_check (places.Glyph name) words) (bodies_check items) tt checked) in
+          let body = body_fine x words read.0 are.1 read.1 in
+          let own : run_fault run x.place ≡ Some code = ap (run_fault run) are.0 ∙ ap (λ g. fault_of (run g)) (sym equal) ∙ ap fault_of fails in
+          let listed : entry_faults false run x ≡ at_entry x code ∷ [] =
+            ap (λ fs. or_others fs (run_faults false run x)) body ∙ ap (λ f. option_to_list (option_map (at_entry x) (certain false f))) own in
+          told_left code (places.Glyph p) (entry_faults false run x) (flat_map (entry_faults false run) es)
+          (subst (IsTold code (places.Glyph p)) (sym listed) (inl (refl, are.0 ∙ ap (λ n. places.Glyph n) (sym equal))))
+      | inr other ↦
+          told_right code (places.Glyph p) (entry_faults false run x) (flat_map (entry_faults false run) es)
+          (run_told run items es p code are.2 (next-ok (words_check (places.Glyph name) words) (bodies_check items) tt checked) (rw other at there) fails)
+    ]
+
+-- ---- a join
+
+join_told : (run : OwnRuns) (items : List Item) (es : List Entry) (g : List ℕ) (code : Code) → AreOf items es → list_any (bytes_eq g) (glyph_names items) ≡ true
+    → sound_within run 4 g ≡ true → glyph_metrics_at run g ≡ Err code → IsTold code (places.Glyph g) (flat_map (join_faults run) es)
+join_told run [] es g code are there sound fails = absurd (cc)
+join_told run (Plain l ∷ items) es g code are there sound fails = join_told run items es g code are there sound fails
+join_told run (Section before n after ∷ items) es g code are there sound fails = join_told run items es g code are there sound fails
+join_told run (Subr n words closing ∷ items) [] g code are there sound fails = absurd are
+join_told run (Subr n words closing ∷ items) (x ∷ es) g code are there sound fails =
+    told_right code (places.Glyph g) (join_faults run x) (flat_map (join_faults run) es) (join_told run items es g code are.2 there sound fails)
+join_told run (Glyph name words closing ∷ items) [] g code are there sound fails = absurd are
+join_told run (Glyph name words closing ∷ items) (x ∷ es) g code are there sound fails =
+    elim (cases_Bool (bytes_eq g name)) [
+      | inl same ↦
+          let equal = bytes_same g name same in
+          let judged : cond (sound_within run 4 g) (code_of (glyph_metrics_at run g)) None ≡ Some code =
+            ap (λ b. cond b (code_of (glyph_metrics_at run g)) None) sound ∙ ap code_of fails in
+          let own : join_fault run x.place ≡ Some code = ap (join_fault run) are.0 ∙ ap (λ n. join_fault run (places.Glyph n)) (sym equal) ∙ judged in
+          let listed : join_faults run x ≡ at_entry x code ∷ [] = ap (λ f. option_to_list (option_map (at_entry x) f)) own in
+          told_left code (places.Glyph g) (join_faults run x) (flat_map (join_faults run) es)
+          (subst (IsTold code (places.Glyph g)) (sym listed) (inl (refl, are.0 ∙ ap (λ n. places.Glyph n) (sym equal))))
+      | inr other ↦
+          told_right code (places.Glyph g) (join_faults run x) (flat_map (join_faults run) es) (join_told run items es g code are.2 (rw other at there) sound fails)
+    ]
+
+-- a glyph that isn't sound stands on one whose own run has a fault
+abbrev Unsound : OwnRuns → ℕ → List ℕ → Type 0
+Unsound run depth g = (p : List ℕ) × (code : Code) × StandsOn run depth g p × (run p ≡ Some (Err code))
+
+unsound : (run : OwnRuns) (depth : ℕ) (g : List ℕ) → sound_within run depth g ≡ false → Unsound run depth g
+unsound run zero g h = by (run g) refl where
+  parts : (c : Option Composite) → sound_parts (λ part. true) c ≡ true
+  parts None = refl
+  parts (Some c) = refl
+
+  by : (r : Option (Result Drawing Code)) → run g ≡ r → Unsound run zero g
+  by None e = let none : true ≡ false = sym (ap (sound_run (λ part. true)) e) ∙ h in absurd (cc)
+  by (Some (Err code)) e = (g, code, refl, e)
+  by (Some (Ok d)) e = let none : true ≡ false = sym (ap (sound_run (λ part. true)) e ∙ parts d.composite) ∙ h in absurd (cc)
+unsound run (suc depth) g h = by (λ part k. unsound run depth part k) (run g) refl where
+  one : ((part : List ℕ) → sound_within run depth part ≡ false → Unsound run depth part) → (d : Drawing) (c : Option Composite) → run g ≡ Some (Ok d) → d.composite ≡ c → sound_parts (sound_within run depth) c ≡ false → Unsound run (suc depth) g
+  one below d None e f k = absurd (cc)
+  one below d (Some c) e f k =
+      elim (cases_Bool (sound_within run depth c.base)) [
+        | inl base ↦
+            let accent : sound_within run depth c.accent ≡ false = rw base at k in
+            let w = below c.accent accent in
+            (w.0, w.1, inr (d, c, e, f, inr w.2), w.3)
+        | inr base ↦ let w = below c.base base in (w.0, w.1, inr (d, c, e, f, inl w.2), w.3)
+      ]
+
+  by : ((part : List ℕ) → sound_within run depth part ≡ false → Unsound run depth part) → (r : Option (Result Drawing Code)) → run g ≡ r → Unsound run (suc depth) g
+  by below None e = let none : true ≡ false = sym (ap (sound_run (sound_within run depth)) e) ∙ h in absurd (cc)
+  by below (Some (Err code)) e = (g, code, inl refl, e)
+  by below (Some (Ok d)) e = one below d d.composite e refl (sym (ap (sound_run (sound_within run depth)) e) ∙ h)
+
+-- ---- the first fault of glyphs
+
+or_second : (a b : Bool) → b ≡ true → (a || b) ≡ true
+or_second true b h = refl
+or_second false b h = h
+
+or_first : (a b : Bool) → a ≡ true → (a || b) ≡ true
+or_first true b h = refl
+or_first false b h = absurd (cc)
+
+abbrev FirstOf : OwnRuns → List (List ℕ) → Fault → Type 0
+FirstOf run names fault =
+    (g : List ℕ) × (code : Code) × (list_any (bytes_eq g) names ≡ true) × (fault_at (places.Glyph g) code ≡ fault) × (glyph_metrics_at run g ≡ Err code)
+
+none_first : (run : OwnRuns) (fault : Fault) → glyph_metrics_among run [] ≡ Err fault → FirstOf run [] fault
+unfolding glyph_metrics_among
+none_first run fault e = absurd (cc)
+
+first_of : (run : OwnRuns) (names : List (List ℕ)) (fault : Fault) → glyph_metrics_among run names ≡ Err fault → FirstOf run names fault
+first_of run [] fault e = none_first run fault e
+first_of run (name ∷ names) fault e = by (λ h. first_of run names fault h) (glyph_metrics_at run name) refl where
+  later : (glyph_metrics_among run names ≡ Err fault → FirstOf run names fault) → (s : GlyphMetrics) (r : Result (List GlyphMetrics) Fault) → glyph_metrics_among run names ≡ r → put_after (s ∷ []) r ≡ Err fault → FirstOf run (name ∷ names) fault
+  later below s (Ok ms) f k = absurd (cc)
+  later below s (Err other) f k =
+      let same : other ≡ fault = cc in
+      let w = below (f ∙ ap Err same) in
+      (w.0, w.1, or_second (bytes_eq w.0 name) (list_any (bytes_eq w.0) names) w.2, w.3, w.4)
+
+  by : (glyph_metrics_among run names ≡ Err fault → FirstOf run names fault) → (r : Result GlyphMetrics Code) → glyph_metrics_at run name ≡ r → FirstOf run (name ∷ names) fault
+  by below (Ok s) h =
+      later below s (glyph_metrics_among run names) refl (one-reported run [] name names s (ap (reported_at (places.Glyph name)) h) ∙ ap (put_after []) e)
+  by below (Err code) h =
+      let refused : put_after [] (glyph_metrics_among run (name ∷ names)) ≡ Err (fault_at (places.Glyph name) code) =
+        one-refused run [] name names (refusals.Fault (fault_at (places.Glyph name) code)) (ap (reported_at (places.Glyph name)) h) in
+      let both : ◌≡◌ {A = Result (List GlyphMetrics) Fault} (Err (fault_at (places.Glyph name) code)) (Err fault) = sym refused ∙ ap (put_after []) e in
+      let same : fault_at (places.Glyph name) code ≡ fault = cc in
+      (name, code, or_first (bytes_eq name name) (list_any (bytes_eq name) names) (bytes_self name), same, h)
+
+measured_first : (items : List Item) (fault : Fault) → bodies_check items ≡ Ok tt → measured items ≡ Err fault → FirstOf (own (font_to_run items)) (glyph_names items) fault
+measured_first items fault bodies e = by (glyph_metrics_among (own (font_to_run items)) (glyph_names items)) refl where
+  by : (r : Result (List GlyphMetrics) Fault) → glyph_metrics_among (own (font_to_run items)) (glyph_names items) ≡ r → FirstOf (own (font_to_run items)) (glyph_names items) fault
+  by (Ok ms) h =
+      let fine = all-reported items (own (font_to_run items)) ms (united (map (λ (m : GlyphMetrics). m.bbox) ms)) (runs-own items bodies) h refl in
+      let none : ◌≡◌ {A = Result MeasuredFont Fault} (Ok (record { metrics = ms; font_box = united (map (λ (m : GlyphMetrics). m.bbox) ms) })) (Err fault) = sym fine ∙ e in
+      absurd (cc)
+  by (Err other) h =
+      let refused : measured items ≡ Err other = all-refused items (own (font_to_run items)) (refusals.Fault other) (runs-own items bodies) h in
+      let both : ◌≡◌ {A = Result MeasuredFont Fault} (Err other) (Err fault) = sym refused ∙ e in
+      let same : other ≡ fault = cc in
+      first_of (own (font_to_run items)) (glyph_names items) fault (h ∙ ap Err same)
+
+-- ---- a source
+
+sure : (items : List Item) → bodies_check items ≡ Ok tt → list_any is_faulty_subr items ≡ false
+sure [] e = refl
+sure (Plain l ∷ items) e = sure items e
+sure (Section before n after ∷ items) e = sure items e
+sure (Subr n words closing ∷ items) e =
+    let read = words_there (places.Subr n) words (first-ok (words_check (places.Subr n) words) (bodies_check items) tt e) in
+    rw read.1 (sure items (next-ok (words_check (places.Subr n) words) (bodies_check items) tt e))
+sure (Glyph g words closing ∷ items) e = sure items (next-ok (words_check (places.Glyph g) words) (bodies_check items) tt e)
+
+-- what has a run is a glyph of the source
+is_glyph_of : (items : List Item) (p : List ℕ) (code : Code) → own (font_to_run items) p ≡ Some (Err code) → list_any (bytes_eq p) (glyph_names items) ≡ true
+is_glyph_of items p code e =
+    elim (cases_Bool (list_any (bytes_eq p) (glyph_names items))) [
+      | inl there ↦ there
+      | inr not_there ↦ let none : Some code ≡ None = sym (ap fault_of e) ∙ absent items p not_there in absurd (cc)
+    ]
+
+glyph_answered : (s : SourceParts) (es : List Entry) (fault : Fault) → AreOf s.items es → bodies_check s.items ≡ Ok tt → measured s.items ≡ Err fault
+    → IsAnswered (own (font_to_run s.items)) (faults_by (own (font_to_run s.items)) s es) fault
+glyph_answered s es fault are bodies e =
+    let run = own (font_to_run s.items) in
+    let unsure = list_any is_faulty_subr s.items in
+    let file = file_faults (bodies_check s.items) (file_check s) in
+    let joins = flat_map (join_faults run) es in
+    let w = measured_first s.items fault bodies e in
+    elim (cases_Bool (sound_within run 4 w.0)) [
+      | inl sound ↦
+          let told = join_told run s.items es w.0 w.1 are w.2 sound w.4 in
+          let all = told_right w.1 (places.Glyph w.0) (flat_map (entry_faults unsure run) es) (file ++ joins) (told_right w.1 (places.Glyph w.0) file joins told) in
+          inl (subst (λ (f : Fault). IsTold f.code f.place (faults_by run s es)) w.3 all)
+      | inr not_sound ↦
+          let u = unsound run 4 w.0 not_sound in
+          let told = run_told run s.items es u.0 u.1 are bodies (is_glyph_of s.items u.0 u.1 u.3) u.3 in
+          let same : unsure ≡ false = sure s.items bodies in
+          let own_told = subst (λ b. IsTold u.1 (places.Glyph u.0) (flat_map (entry_faults b run) es)) (sym same) told in
+          inr (w.0, u.0, u.1, sym (ap (λ (f : Fault). f.place) w.3), u.2, told_left u.1 (places.Glyph u.0) (flat_map (entry_faults unsure run) es) (file ++ joins) own_told)
+    ]
+
+source_answered : (s : SourceParts) (es : List Entry) (fault : Fault) → AreOf s.items es → source_check s ≡ Err fault
+    → IsAnswered (own (font_to_run s.items)) (faults_by (own (font_to_run s.items)) s es) fault
+unfolding measured_source
+source_answered s es fault are e = bodies (bodies_check s.items) refl where
+  file : (r : Result (Unit {0}) Fault) → bodies_check s.items ≡ Ok tt → file_check s ≡ r → IsAnswered (own (font_to_run s.items)) (faults_by (own (font_to_run s.items)) s es) fault
+  file (Ok u) sound h = glyphs (measured s.items) refl
+    where
+      glyphs : (m : Result MeasuredFont Fault) → measured s.items ≡ m → IsAnswered (own (font_to_run s.items)) (faults_by (own (font_to_run s.items)) s es) fault
+      glyphs (Ok font) k = let none : ◌≡◌ {A = Result (Unit {0}) Fault} (Ok tt) (Err fault) = rw (h, k) at e in absurd (cc)
+      glyphs (Err other) k =
+          let first : ◌≡◌ {A = Result (Unit {0}) Fault} (Err other) (Err fault) = rw (h, k) at e in
+          let same : other ≡ fault = cc in
+          glyph_answered s es fault are sound (k ∙ ap Err same)
+  file (Err other) sound h =
+      let first : ◌≡◌ {A = Result (Unit {0}) Fault} (Err other) (Err fault) = rw h at e in
+      let same : other ≡ fault = cc in
+      let run = own (font_to_run s.items) in
+      let one : IsTold fault.code fault.place (file_faults (Ok tt) (Err fault)) = inl (refl, refl) in
+      let told = subst (λ r. IsTold fault.code fault.place (file_faults r (file_check s))) (sym sound) (subst (λ r. IsTold fault.code fault.place (file_faults (Ok tt) r)) (sym (h ∙ ap Err same)) one) in
+      inl (told_right fault.code fault.place (flat_map (entry_faults (list_any is_faulty_subr s.items) run) es) (file_faults (bodies_check s.items) (file_check s) ++ flat_map (join_faults run) es)
+      (told_left fault.code fault.place (file_faults (bodies_check s.items) (file_check s)) (flat_map (join_faults run) es) told))
+
+  bodies : (r : Result (Unit {0}) Fault) → bodies_check s.items ≡ r → IsAnswered (own (font_to_run s.items)) (faults_by (own (font_to_run s.items)) s es) fault
+  bodies (Ok u) h = file (file_check s) h refl
+  bodies (Err other) h =
+      let early = body_fault_reported s other h in
+      let first : ◌≡◌ {A = Result (Unit {0}) Fault} (Err other) (Err fault) = rw early at e in
+      let same : other ≡ fault = cc in
+      let run = own (font_to_run s.items) in
+      let unsure = list_any is_faulty_subr s.items in
+      inl (told_left fault.code fault.place (flat_map (entry_faults unsure run) es) (file_faults (bodies_check s.items) (file_check s) ++ flat_map (join_faults run) es)
+      (bodies_told unsure run s.items es fault are (h ∙ ap Err same)))
+
+-- what check reports of some bytes is told, or is a glyph's that stands on one of which a fault is told
+pub answered : (bytes : List ℕ) (fault : Fault) → checked bytes ≡ Err fault → IsAnswered (runs_read (reads bytes)) (source_faults bytes) fault
+answered bytes fault e = by (reads bytes) refl where
+  reading : (f : Fault) (place : Place) → f.place ≡ place → IsTold f.code place (reading_fault (lines bytes) (fault_at place f.code) ∷ [])
+  reading f places.Nowhere h = inl (refl, refl)
+  reading f (places.Line n) h = inl (refl, refl)
+  reading f (places.Subr n) h = inl (refl, refl)
+  reading f (places.Glyph g) h = inl (refl, refl)
+
+  by : (r : Result SourceParts Fault) → reads bytes ≡ r → IsAnswered (runs_read (reads bytes)) (source_faults bytes) fault
+  by (Ok s) h =
+      let judged : source_check s ≡ Err fault = ap (λ r. r >>= source_check) (sym h) ∙ e in
+      subst (λ r. IsAnswered (runs_read r) (faults_read (lines bytes) r) fault) (sym h)
+      (source_answered s (entries_in (parts_of (lines bytes)) s) fault (read_entries bytes s h) judged)
+  by (Err other) h =
+      let first : ◌≡◌ {A = Result (Unit {0}) Fault} (Err other) (Err fault) = ap (λ r. r >>= source_check) (sym h) ∙ e in
+      let same : other ≡ fault = cc in
+      subst (λ r. IsAnswered (runs_read r) (faults_read (lines bytes) r) fault) (sym (h ∙ ap Err same))
+      (inl (reading fault fault.place refl))

@@ -1,0 +1,105 @@
+-- What is run of a source, and the runs that are kept of it.
+use Rattle.std.proofs.Common.{◌≡◌, ◌∙◌, ℕ, Bool, true, false, ◌||◌, ◌<◌, cond, List, [], ◌∷◌, ◌++◌, filter, length, map, Option, None, Some, is_some, refl, sym, ap, subst, inl, inr}
+use Rattle.std.specs.Prelude.{Result, Ok, Err, IsSome, IfOk}
+use Rattle.std.specs.Borrow.{Bor}
+use Rattle.std.specs.List.{list_any, All}
+use Rattle.std.proofs.lemmas.List.Elements.{All-nil, All-cons}
+use Rattle.std.specs.Option.{option_or, option_map}
+use Rattle.std.specs.Str.{bytes_eq}
+use Rattle.std.proofs.lemmas.Bool.{cases_Bool}
+use Rattle.t1_frac.specs.declared.fault.Code.{Code}
+use Rattle.t1_parts.specs.declared.item.Item.{Item}
+use Rattle.t1_parts.specs.declared.item.Item.TheVariants.{Plain, Section, Subr, Glyph}
+use Rattle.t1_parts.specs.Items.{line_says, stands_alone}
+use Rattle.t1_code.specs.declared.command.Command.{Command}
+use Rattle.t1_code.specs.Words.{commands}
+use Rattle.t1_run.specs.Run.{FontBodies, Drawing, font, own}
+use Rattle.t1_font.specs.Bodies.{subr_among}
+use Rattle.t1_font.specs.Glyphs.{glyph_names}
+use Rattle.t1_font.specs.Runs.{Kept, kept_of, own_among}
+use Rattle.t1_font.specs.ToRun.{commands_or_none, font_to_run, glyph_to_run}
+use Rattle.t1_run.proofs.Asked.{bytes_self}
+use Rattle.t1_font.proofs.Compiling.{none-there}
+use Rattle.t1_font.proofs.InTurnLaws.{names-known}
+use Rattle.t1_font.proofs.Measuring.{own-none, same-function}
+use Rattle.t1_faults.specs.Judging.{is_faulty_subr}
+use Rattle.t1_faults.specs.ToRun.{glyph_run_in}
+
+pub run_first : (item : Item) (items : List Item) (g : List ℕ) → glyph_to_run (item ∷ items) g ≡ option_or (glyph_run_in item g) (glyph_to_run items g)
+run_first (Plain l) items g = refl
+run_first (Section before n after) items g = refl
+run_first (Subr n words closing) items g = refl
+run_first (Glyph name words closing) items g = by (bytes_eq g name) (commands_or_none (commands words)) (glyph_to_run items g) where
+  by : {X : Type 0} (b : Bool) (x : X) (r : Option X) → cond b (Some x) r ≡ option_or (cond b (Some x) None) r
+  by true x r = refl
+  by false x r = refl
+
+-- what plain lines add nothing to is the same without those that don't stand alone
+same_alone : {X : Type 0} (f : List Item → X) → ((l : List ℕ) (items : List Item) → f (Plain l ∷ items) ≡ f items)
+    → ((item : Item) (xs ys : List Item) → f xs ≡ f ys → f (item ∷ xs) ≡ f (item ∷ ys))
+    → (items : List Item) → f (filter stands_alone items) ≡ f items
+unfolding stands_alone
+same_alone f plain more [] = refl
+same_alone f plain more (Plain l ∷ items) =
+    let left = same_alone f plain more items in
+    elim (cases_Bool (line_says l)) [
+      | inl says ↦ rw says (more (Plain l) (filter stands_alone items) items left)
+      | inr silent ↦ rw silent (left ∙ sym (plain l items))
+    ]
+same_alone f plain more (Section before count after ∷ items) = more (Section before count after) (filter stands_alone items) items (same_alone f plain more items)
+same_alone f plain more (Subr number words closing ∷ items) = more (Subr number words closing) (filter stands_alone items) items (same_alone f plain more items)
+same_alone f plain more (Glyph name words closing ∷ items) = more (Glyph name words closing) (filter stands_alone items) items (same_alone f plain more items)
+
+pub glyphs_alone : (g : List ℕ) (items : List Item) → glyph_to_run (filter stands_alone items) g ≡ glyph_to_run items g
+glyphs_alone g items = same_alone (λ is. glyph_to_run is g) (λ l is. refl)
+    (λ item xs ys e. run_first item xs g ∙ ap (option_or (glyph_run_in item g)) e ∙ sym (run_first item ys g)) items
+
+pub faulty_alone : (items : List Item) → list_any is_faulty_subr (filter stands_alone items) ≡ list_any is_faulty_subr items
+faulty_alone items = same_alone (list_any is_faulty_subr) (λ l is. refl) (λ item xs ys e. ap (λ b. is_faulty_subr item || b) e) items
+
+-- ---- the runs
+
+-- what is kept of all glyphs is what their own bodies draw
+pub all_own : (items : List Item) (kept : List ℕ → Option (Result Drawing Code)) → ((g : List ℕ) → kept g ≡ own_among (font_to_run items) (glyph_names items) g) → kept ≡ own (font_to_run items)
+all_own items kept h = same-function kept (own (font_to_run items)) (λ g. h g ∙ by g (list_any (bytes_eq g) (glyph_names items)) refl) where
+  by : (g : List ℕ) (b : Bool) → list_any (bytes_eq g) (glyph_names items) ≡ b → cond b (own (font_to_run items) g) None ≡ own (font_to_run items) g
+  by g true e = refl
+  by g false e = sym (own-none (font_to_run items) g (none-there (glyph_to_run items g) (sym (names-known items g) ∙ e)))
+
+-- fonts whose maps are the same are the same
+pub same_fonts : (subrs subrs' : ℕ → Option (List Command)) (glyphs glyphs' : List ℕ → Option (List Command))
+    → ((n : ℕ) → subrs n ≡ subrs' n) → ((g : List ℕ) → glyphs g ≡ glyphs' g) → font subrs glyphs ≡ font subrs' glyphs'
+same_fonts subrs subrs' glyphs glyphs' s g = ap (λ m. font m glyphs) (same-function subrs subrs' s) ∙ ap (font subrs') (same-function glyphs glyphs' g)
+
+-- ---- all names have something to be run
+
+or_first : (a b : Bool) → a ≡ true → (a || b) ≡ true
+or_first true b h = refl
+or_first false b h = absurd (cc)
+
+or_second : (a b : Bool) → b ≡ true → (a || b) ≡ true
+or_second true b h = refl
+or_second false b h = h
+
+all_there : (P : List ℕ → Type 0) (names : List (Bor (List ℕ))) → ((g : List ℕ) → list_any (bytes_eq g) (map (λ name. name.now) names) ≡ true → P g)
+    → All (λ name. P name.now) names
+all_there P [] h = All-nil (λ name. P name.now)
+all_there P (name ∷ names) h =
+    All-cons (λ name. P name.now) name names (h name.now (or_first (bytes_eq name.now name.now) _ (bytes_self name.now)))
+    (all_there P names (λ g e. h g (or_second (bytes_eq g name.now) _ e)))
+
+pub names_there : (glyphs : List ℕ → Option (List Command)) (items : List Item) (names : List (Bor (List ℕ))) → ((g : List ℕ) → glyphs g ≡ glyph_to_run items g)
+    → map (λ name. name.now) names ≡ glyph_names items → All (λ name. IsSome (glyphs name.now)) names
+names_there glyphs items names same is =
+    all_there (λ g. IsSome (glyphs g)) names (λ g among. rw (same g) (sym (names-known items g) ∙ sym (ap (list_any (bytes_eq g)) is) ∙ among))
+
+-- what a call keeps that runs these glyphs is what their own bodies draw
+pub kept_own : {E : Type 0} (items : List Item) (subrs : ℕ → Option (List Command)) (glyphs : List ℕ → Option (List Command))
+    → ((n : ℕ) → subrs n ≡ subr_among items n) → ((g : List ℕ) → glyphs g ≡ glyph_to_run items g)
+    → (names : List (Bor (List ℕ))) → map (λ name. name.now) names ≡ glyph_names items
+    → (result : Result (List Kept) E) → IfOk result (λ runs. (g : List ℕ) → kept_of runs g ≡ own_among (font subrs glyphs) (map (λ name. name.now) names) g)
+    → IfOk result (λ runs. kept_of runs ≡ own (font_to_run items))
+kept_own items subrs glyphs s g names are (Err e) h = tt
+kept_own items subrs glyphs s g names are (Ok runs) h =
+    let same : font subrs glyphs ≡ font_to_run items = same_fonts subrs (subr_among items) glyphs (glyph_to_run items) s g in
+    all_own items (kept_of runs) (λ q. h q ∙ ap (λ m. own_among m (map (λ name. name.now) names) q) same ∙ ap (λ ns. own_among (font_to_run items) ns q) are)

@@ -1,0 +1,131 @@
+-- Every fault of a source, each where it stands.
+use Rattle.std.specs.Prelude.{ℕ, zero, suc, Bool, true, false, ◌+◌, ◌-◌, ◌&&◌, if◌then◌else◌, is_none, Option, None, Some, Result, Ok, Err, List, [], ◌∷◌, ◌++◌, length, take, flat_map, option_map}
+use Rattle.std.specs.List.{list_any}
+use Rattle.std.specs.Option.{option_to_list}
+use Rattle.std.specs.Result.{result_ok}
+use Rattle.t1_frac.specs.Outcome.{◌>>=◌}
+use Rattle.t1_frac.specs.declared.fault.Code.{Code}
+use Rattle.t1_frac.specs.declared.fault.Code.TheVariants.{F32}
+use Rattle.t1_frac.specs.declared.fault.Fault.{Fault}
+use Rattle.t1_frac.specs.declared.fault.Place.{Place}
+use Rattle.t1_frac.specs.declared.fault.Place.TheVariants as places
+use Rattle.t1_text.specs.Lines.{lines}
+use Rattle.t1_parts.specs.declared.item.Item.{Item}
+use Rattle.t1_parts.specs.declared.item.Item.TheVariants.{Subr}
+use Rattle.t1_parts.specs.Parts.{Parts, parts_of}
+use Rattle.t1_parts.specs.Reading.{reads}
+use Rattle.t1_parts.specs.SourceParts.{SourceParts}
+use Rattle.t1_code.specs.Words.{commands}
+use Rattle.t1_run.specs.declared.outline.Composite.{Composite}
+use Rattle.t1_run.specs.Run.{Drawing, own}
+use Rattle.t1_font.specs.Assembly.{file_check}
+use Rattle.t1_font.specs.Bodies.{bodies_check}
+use Rattle.t1_font.specs.MeasuredGlyphs.{glyph_metrics_at}
+use Rattle.t1_font.specs.SourceChecks.{source_check}
+use Rattle.t1_font.specs.ToRun.{font_to_run}
+use Rattle.t1_faults.specs.Entries.{Entry, entries_from}
+use Rattle.t1_faults.specs.Found.{at_entry, body_faults, code_of}
+use Rattle.t1_faults.specs.Reading.{at_front, reading_fault}
+use Rattle.t1_faults.specs.declared.found.FoundFault.{FoundFault}
+
+-- profile, faults: what runs of glyphs' own bodies draw, or their first faults, by the glyphs' names
+abbrev pub OwnRuns : Type 0
+OwnRuns = List ℕ → Option (Result Drawing Code)
+
+-- profile, faults: the first fault of a run, where there is a run and it has one
+abbrev pub fault_of : Option (Result Drawing Code) → Option Code
+fault_of None = None
+fault_of (Some run) = code_of run
+
+-- profile, faults: the first fault of an entry's own run; a Subr has none
+abbrev pub run_fault : OwnRuns → Place → Option Code
+run_fault run (places.Glyph g) = fault_of (run g)
+run_fault run place = None
+
+-- profile, faults: whether a code is F32, a missing Subr
+abbrev pub is_f32 : Code → Bool
+is_f32 F32 = true
+is_f32 code = false
+
+-- profile, faults: where a Subr's words have a fault, a missing Subr is no fault of a run: it may be that Subr
+abbrev pub certain : Bool → Option Code → Option Code
+certain unsure None = None
+certain unsure (Some code) = if unsure && is_f32 code then None else Some code
+
+-- profile, faults: the first faults, or the others where there is none
+abbrev pub or_others : List FoundFault → List FoundFault → List FoundFault
+or_others [] others = others
+or_others (fault ∷ faults) others = fault ∷ faults
+
+-- profile, faults: the first fault of an entry's own run, at the entry
+abbrev pub run_faults : Bool → OwnRuns → Entry → List FoundFault
+run_faults unsure run e = option_to_list (option_map (at_entry e) (certain unsure (run_fault run e.place)))
+
+-- profile, faults: an entry's own faults: those of its body's words, else the first one of its own run
+abbrev pub entry_faults : Bool → OwnRuns → Entry → List FoundFault
+entry_faults unsure run e = or_others (body_faults e) (run_faults unsure run e)
+
+-- profile, faults: whether an item is a Subr whose words have a fault
+abbrev pub is_faulty_subr : Item → Bool
+is_faulty_subr (Subr n words closing) = is_none (result_ok (commands words))
+is_faulty_subr _ = false
+
+-- profile, faults: F23 of a source whose bodies have no fault, at the front of the source
+abbrev pub file_faults : Result (Unit {0}) Fault → Result (Unit {0}) Fault → List FoundFault
+file_faults (Ok sound) (Ok fits) = []
+file_faults (Ok sound) (Err fault) = at_front fault.code fault.place ∷ []
+file_faults (Err first) check = []
+
+-- profile, faults: whether both parts are sound, where there are parts
+abbrev pub sound_parts : (List ℕ → Bool) → Option Composite → Bool
+sound_parts part None = true
+sound_parts part (Some c) = part c.base && part c.accent
+
+-- profile, faults: whether a run has no fault, and the parts that it found are sound
+abbrev pub sound_run : (List ℕ → Bool) → Option (Result Drawing Code) → Bool
+sound_run part None = true
+sound_run part (Some (Err code)) = false
+sound_run part (Some (Ok d)) = sound_parts part d.composite
+
+-- profile, faults: whether a glyph and all the parts that it stands on, which may nest so deep, have own runs without a fault
+abbrev pub sound_within : OwnRuns → ℕ → List ℕ → Bool
+sound_within run zero g = sound_run (λ part. true) (run g)
+sound_within run (suc depth) g = sound_run (sound_within run depth) (run g)
+
+-- profile, faults: the fault of a glyph's outline, where it stands on no glyph whose own run has a fault: F46, F40 or F39
+abbrev pub join_fault : OwnRuns → Place → Option Code
+join_fault run (places.Glyph g) = if sound_within run 4 g then code_of (glyph_metrics_at run g) else None
+join_fault run place = None
+
+-- profile, faults: the same, at the composite
+abbrev pub join_faults : OwnRuns → Entry → List FoundFault
+join_faults run e = option_to_list (option_map (at_entry e) (join_fault run e.place))
+
+-- profile, faults: every fault of a source by its entries and the runs of its glyphs: the entries' own faults, F23, and those of
+-- joins
+abbrev pub faults_by : OwnRuns → SourceParts → List Entry → List FoundFault
+faults_by run s entries =
+    flat_map (entry_faults (list_any is_faulty_subr s.items) run) entries
+    ++ (file_faults (bodies_check s.items) (file_check s) ++ flat_map (join_faults run) entries)
+
+-- profile, places: the entries of a source in its lines, of which these are the parts; none where the lines have no parts
+abbrev pub entries_in : Result Parts Fault → SourceParts → List Entry
+entries_in (Ok parts) s = entries_from (length s.clear + 1) (take (length parts.private - 1) parts.private) s.items
+entries_in (Err fault) s = []
+
+-- profile, faults: every fault of a source that was read of these lines
+abbrev pub faults_of : List (List ℕ) → SourceParts → List FoundFault
+faults_of ls s = faults_by (own (font_to_run s.items)) s (entries_in (parts_of ls) s)
+
+-- profile, faults: every fault of a source that was read of these lines, or the one fault of reading them
+abbrev pub faults_read : List (List ℕ) → Result SourceParts Fault → List FoundFault
+faults_read ls (Ok s) = faults_of ls s
+faults_read ls (Err fault) = reading_fault ls fault ∷ []
+
+-- profile, faults: every fault of some bytes as a source, each where it stands
+abbrev pub source_faults : List ℕ → List FoundFault
+source_faults bytes = faults_read (lines bytes) (reads bytes)
+
+-- profile, faults: what `check` says of some bytes: nothing, or the first fault of reading them or of the source
+abbrev pub checked : List ℕ → Result (Unit {0}) Fault
+checked bytes = reads bytes >>= source_check

@@ -1,0 +1,41 @@
+-- What `check` reports is among the faults that are found, or stands on one of them.
+use Rattle.std.specs.Prelude.{◌≡◌, ℕ, zero, suc, ◌⊎◌, Option, None, Some, Result, Ok, Err, IfSome, List, [], ◌∷◌}
+use Rattle.t1_frac.specs.declared.fault.Code.{Code}
+use Rattle.t1_frac.specs.declared.fault.Fault.{Fault}
+use Rattle.t1_frac.specs.declared.fault.Place.{Place}
+use Rattle.t1_frac.specs.declared.fault.Place.TheVariants as places
+use Rattle.t1_parts.specs.Reading.{reads}
+use Rattle.t1_parts.specs.SourceParts.{SourceParts}
+use Rattle.t1_run.specs.declared.outline.Composite.{Composite}
+use Rattle.t1_run.specs.Run.{Drawing, own}
+use Rattle.t1_font.specs.ToRun.{font_to_run}
+use Rattle.t1_faults.specs.Judging.{OwnRuns}
+use Rattle.t1_faults.specs.Placed.{HasAt}
+use Rattle.t1_faults.specs.declared.found.FoundFault.{FoundFault}
+
+-- profile, faults: one of the faults has this code and this place
+abbrev pub IsTold : Code → Place → List FoundFault → Type 0
+IsTold code place [] = ⊥
+IsTold code place (fault ∷ faults) = ((fault.code ≡ code) × (fault.place ≡ place)) ⊎ IsTold code place faults
+
+-- Type 1 Font Format, Chapter 6 (seac): a glyph stands on this one: it is it, or its base or its accent does, which nest so deep
+abbrev pub StandsOn : OwnRuns → ℕ → List ℕ → List ℕ → Type 0
+StandsOn run zero g p = g ≡ p
+StandsOn run (suc depth) g p =
+    (g ≡ p)
+    ⊎ ((d : Drawing) × (c : Composite) × (run g ≡ Some (Ok d)) × (d.composite ≡ Some c) × (StandsOn run depth c.base p ⊎ StandsOn run depth c.accent p))
+
+-- profile, faults: a fault is told; or it is a glyph's that stands on one of which a fault is told
+abbrev pub IsAnswered : OwnRuns → List FoundFault → Fault → Type 0
+IsAnswered run found fault =
+    IsTold fault.code fault.place found
+    ⊎ ((g : List ℕ) × (p : List ℕ) × (code : Code) × (fault.place ≡ places.Glyph g) × StandsOn run 4 g p × IsTold code (places.Glyph p) found)
+
+-- profile, faults: the runs of a source that was read; no runs where it wasn't
+abbrev pub runs_read : Result SourceParts Fault → OwnRuns
+runs_read (Ok s) = own (font_to_run s.items)
+runs_read (Err fault) = λ g. None
+
+-- profile, places: these lines have the word of a fault at its line and column, where it has a word
+abbrev pub TellsWord : List (List ℕ) → FoundFault → Type 0
+TellsWord ls fault = IfSome fault.word (HasAt ls fault.line fault.column)

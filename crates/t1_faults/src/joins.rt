@@ -1,0 +1,101 @@
+//! The faults of runs and of joins.
+
+ghost use Rattle.std.specs.Prelude.{◌≡◌, IfOk};
+ghost use Rattle.t1_font.specs.MeasuredGlyphs.{glyph_metrics_at};
+ghost use Rattle.t1_font.specs.Runs.{kept_of};
+ghost use Rattle.t1_faults.specs.Found.{code_of};
+ghost use Rattle.t1_faults.specs.Judging.{certain, is_f32, join_fault, run_fault, sound_within};
+
+use std::alloc::{AllocError, Global};
+use t1_font::{Runs, glyph_metrics_of};
+use t1_frac::{Code, Place, Refusal};
+
+/// How deep composites nest.
+const MAX_DEPTH: u8 = 4;
+
+/// The first fault of an entry's own run; a Subr has none.
+pub(crate) fn run_fault(runs: &Runs, place: &Place) -> Option<Code>
+    ensures { result ≡ run_fault (kept_of runs.now) place.now }
+{
+    match place {
+        Place::Glyph(name) => match runs.get(name.as_slice()) {
+            Some(Err(code)) => Some(*code),
+            _ => None,
+        },
+        _ => None,
+    }
+}
+
+/// Whether a code is F32.
+fn is_f32(code: Code) -> bool
+    ensures { result ≡ is_f32 code }
+{
+    matches!(code, Code::F32)
+}
+
+/// The fault of a run, unless it may be that of a Subr whose words have a fault.
+pub(crate) fn certain(unsure: bool, code: Option<Code>) -> Option<Code>
+    ensures { result ≡ certain unsure code }
+{
+    match code {
+        None => None,
+        Some(code) => {
+            if unsure && is_f32(code) {
+                None
+            } else {
+                Some(code)
+            }
+        }
+    }
+}
+
+/// Whether a glyph and all the parts that it stands on, which may nest so deep, have own runs without a fault.
+fn is_sound(runs: &Runs, depth: u8, name: &[u8]) -> bool
+    ensures { result ≡ sound_within (kept_of runs.now) depth name.now }
+{
+    let run = match runs.get(name) {
+        None => return true,
+        Some(Err(_code)) => return false,
+        Some(Ok(run)) => run,
+    };
+    let Some(parts) = run.composite() else {
+        return true;
+    };
+    if depth == 0 {
+        return true;
+    }
+    if !is_sound(runs, depth - 1, parts.base.as_slice()) {
+        return false;
+    }
+    is_sound(runs, depth - 1, parts.accent.as_slice())
+}
+
+/// The first fault of what is measured of a glyph.
+fn measured_fault(alloc: Global, runs: &Runs, name: &[u8]) -> Result<Option<Code>, AllocError>
+    ensures { IfOk result (λ code. code ≡ code_of (glyph_metrics_at (kept_of runs.now) name.now)) }
+{
+    match glyph_metrics_of(alloc, runs, &[name]) {
+        Ok(_metrics) => Ok(None),
+        Err(Refusal::Fault(fault)) => Ok(Some(fault.code)),
+        Err(Refusal::Memory) => Err(AllocError),
+    }
+}
+
+/// The fault of an entry's outline, where it stands on no glyph whose own run has a fault; a Subr has none.
+pub(crate) fn join_fault(
+    alloc: Global,
+    runs: &Runs,
+    place: &Place,
+) -> Result<Option<Code>, AllocError>
+    ensures { IfOk result (λ code. code ≡ join_fault (kept_of runs.now) place.now) }
+{
+    match place {
+        Place::Glyph(name) => {
+            if !is_sound(runs, MAX_DEPTH, name.as_slice()) {
+                return Ok(None);
+            }
+            measured_fault(alloc, runs, name.as_slice())
+        }
+        _ => Ok(None),
+    }
+}

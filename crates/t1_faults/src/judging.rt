@@ -1,0 +1,201 @@
+//! Every fault of a source, each where it stands.
+
+ghost use Rattle.std.specs.Prelude.{◌≡◌, ◌++◌, ◌∷◌, [], flat_map, is_ok, map, IfOk, OnOk};
+ghost use Rattle.t1_text.specs.Lines.{lines};
+ghost use Rattle.t1_parts.specs.Parts.{parts_of};
+ghost use Rattle.t1_font.specs.Assembly.{file_check};
+ghost use Rattle.t1_font.specs.Bodies.{bodies_check};
+ghost use Rattle.t1_faults.specs.Reading.{fault_in};
+ghost use Rattle.t1_font.specs.Runs.{kept_of};
+ghost use Rattle.t1_faults.specs.Entries.{entry_of};
+ghost use Rattle.t1_faults.specs.Judging.{entries_in, entry_faults, faults_of, file_faults, join_faults, run_faults, source_faults};
+
+use crate::entry::entries_of;
+use crate::entry_text::EntryText;
+use crate::found::{FoundFault, at_entry, push_body_faults};
+use crate::joins::{certain, join_fault, run_fault};
+use crate::reading::{at_front, reading_fault};
+use crate::to_run::{has_faulty_subr, own_runs};
+use std::alloc::{AllocError, Global};
+use t1_font::{Runs, checked_bodies, compiled};
+use t1_frac::{Fault, Refusal};
+use t1_parts::parts_of;
+use t1_source::{Source, read_source};
+
+/// Adds the first fault of an entry's own run, at the entry.
+fn push_run_fault<'a>(
+    alloc: Global,
+    found: &mut Vec<FoundFault<'a>>,
+    unsure: bool,
+    runs: &Runs,
+    entry: &EntryText<'a>,
+) -> Result<(), AllocError>
+    ensures { OnOk result (found.new.items ≡ found.old.items ++ run_faults unsure (kept_of runs.now) (entry_of entry.now)) }
+{
+    let Some(code) = certain(unsure, run_fault(runs, &entry.place)) else {
+        return Ok(());
+    };
+    found.push(at_entry(alloc, entry, code)?)?;
+    Ok(())
+}
+
+/// Adds an entry's own faults: those of its body's words, else the first one of its own run.
+fn push_entry_faults<'a>(
+    alloc: Global,
+    found: &mut Vec<FoundFault<'a>>,
+    unsure: bool,
+    runs: &Runs,
+    entry: &EntryText<'a>,
+) -> Result<(), AllocError>
+    ensures { OnOk result (found.new.items ≡ found.old.items ++ entry_faults unsure (kept_of runs.now) (entry_of entry.now)) }
+{
+    let before = found.len();
+    push_body_faults(alloc, found, entry)?;
+    if found.len() > before {
+        return Ok(());
+    }
+    push_run_fault(alloc, found, unsure, runs, entry)
+}
+
+/// Adds the own faults of all entries, in their order.
+fn push_own_faults<'a>(
+    alloc: Global,
+    found: &mut Vec<FoundFault<'a>>,
+    unsure: bool,
+    runs: &Runs,
+    entries: &[EntryText<'a>],
+) -> Result<(), AllocError>
+    ensures { OnOk result (found.new.items ≡ found.old.items ++ flat_map (entry_faults unsure (kept_of runs.now)) (map entry_of entries.now)) }
+{
+    for entry in entries {
+        push_entry_faults(alloc, found, unsure, runs, entry)?;
+    }
+    Ok(())
+}
+
+/// Adds the fault of a composite's join, at the composite.
+fn push_join_fault<'a>(
+    alloc: Global,
+    found: &mut Vec<FoundFault<'a>>,
+    runs: &Runs,
+    entry: &EntryText<'a>,
+) -> Result<(), AllocError>
+    ensures { OnOk result (found.new.items ≡ found.old.items ++ join_faults (kept_of runs.now) (entry_of entry.now)) }
+{
+    let Some(code) = join_fault(alloc, runs, &entry.place)? else {
+        return Ok(());
+    };
+    found.push(at_entry(alloc, entry, code)?)?;
+    Ok(())
+}
+
+/// Adds the faults of all joins, in the order of the composites.
+fn push_join_faults<'a>(
+    alloc: Global,
+    found: &mut Vec<FoundFault<'a>>,
+    runs: &Runs,
+    entries: &[EntryText<'a>],
+) -> Result<(), AllocError>
+    ensures { OnOk result (found.new.items ≡ found.old.items ++ flat_map (join_faults (kept_of runs.now)) (map entry_of entries.now)) }
+{
+    for entry in entries {
+        push_join_fault(alloc, found, runs, entry)?;
+    }
+    Ok(())
+}
+
+/// The fault of a source whose bodies have none, where a part of its file or a count is too long.
+fn file_fault(alloc: Global, source: &Source) -> Result<Option<Fault>, AllocError>
+    ensures { IfOk result (λ fault. fault ≡ fault_in (file_check source.now)) }
+{
+    match checked_bodies(alloc, source) {
+        Ok(_bodies) => Ok(None),
+        Err(Refusal::Fault(fault)) => Ok(Some(fault)),
+        Err(Refusal::Memory) => Err(AllocError),
+    }
+}
+
+/// Whether the bodies of a source have no fault.
+fn are_sound(alloc: Global, source: &Source) -> Result<bool, AllocError>
+    ensures { IfOk result (λ sound. sound ≡ is_ok (bodies_check source.now.items)) }
+{
+    match compiled(alloc, source.items()) {
+        Ok(_bodies) => Ok(true),
+        Err(Refusal::Fault(_fault)) => Ok(false),
+        Err(Refusal::Memory) => Err(AllocError),
+    }
+}
+
+/// Adds the fault of a source whose bodies have none, where a part of its file or a count is too long.
+fn push_file_fault<'a>(
+    alloc: Global,
+    found: &mut Vec<FoundFault<'a>>,
+    source: &Source,
+) -> Result<(), AllocError>
+    ensures { OnOk result (found.new.items ≡ found.old.items ++ file_faults (bodies_check source.now.items) (file_check source.now)) }
+{
+    if !are_sound(alloc, source)? {
+        return Ok(());
+    }
+    let Some(Fault { code, place }) = file_fault(alloc, source)? else {
+        return Ok(());
+    };
+    found.push(at_front(code, place))?;
+    Ok(())
+}
+
+/// The entries of a source in the bytes that it was read from.
+fn source_entries<'a>(
+    alloc: Global,
+    bytes: &'a [u8],
+    source: &Source,
+) -> Result<Vec<EntryText<'a>>, AllocError>
+    ensures { IfOk result (λ entries. map entry_of entries.items ≡ entries_in (parts_of (lines bytes.now)) source.now) }
+{
+    match parts_of(bytes) {
+        Ok(parts) => {
+            let number = source.clear().len() as u64 + 1;
+            entries_of(alloc, number, parts.private, source.items())
+        }
+        Err(_fault) => Ok(Vec::new(alloc)),
+    }
+}
+
+/// Every fault of a source that was read of some bytes.
+fn faults_of_source<'a>(
+    alloc: Global,
+    bytes: &'a [u8],
+    source: &Source,
+) -> Result<Vec<FoundFault<'a>>, AllocError>
+    ensures { IfOk result (λ found. found.items ≡ faults_of (lines bytes.now) source.now) }
+{
+    let entries = source_entries(alloc, bytes, source)?;
+    let runs = own_runs(alloc, source.items())?;
+    let unsure = has_faulty_subr(alloc, source.items())?;
+    let mut found = Vec::new(alloc);
+    push_own_faults(alloc, &mut found, unsure, &runs, &entries)?;
+    push_file_fault(alloc, &mut found, source)?;
+    push_join_faults(alloc, &mut found, &runs, &entries)?;
+    Ok(found)
+}
+
+/// One fault.
+fn only<'a>(alloc: Global, fault: FoundFault<'a>) -> Result<Vec<FoundFault<'a>>, AllocError>
+    ensures { IfOk result (λ found. found.items ≡ fault.entry ∷ []) }
+{
+    let mut found = Vec::new(alloc);
+    found.push(fault)?;
+    Ok(found)
+}
+
+/// Every fault of some bytes as a source, each where it stands: the one of reading them, or those of entries in their order, F23, and
+/// those of joins. There is none exactly where the source has no fault.
+pub fn source_faults(alloc: Global, bytes: &[u8]) -> Result<Vec<FoundFault<'_>>, AllocError>
+    ensures { IfOk result (λ found. found.items ≡ source_faults bytes.now) }
+{
+    match read_source(alloc, bytes) {
+        Ok(source) => faults_of_source(alloc, bytes, &source),
+        Err(Refusal::Fault(fault)) => only(alloc, reading_fault(bytes, fault)),
+        Err(Refusal::Memory) => Err(AllocError),
+    }
+}

@@ -1,0 +1,30 @@
+//! What the faults that are found have to do with the one that `check` reports.
+
+ghost use Rattle.std.specs.Prelude.{◌≡◌, ℕ, List, [], Ok, Err};
+ghost use Rattle.std.specs.List.{AllByRecursion};
+ghost use Rattle.t1_frac.specs.declared.fault.Fault.{Fault};
+ghost use Rattle.t1_text.specs.Lines.{lines};
+ghost use Rattle.t1_parts.specs.Reading.{reads};
+ghost use Rattle.t1_parts.specs.SourceParts.{SourceParts};
+ghost use Rattle.t1_faults.specs.Judging.{checked, source_faults};
+ghost use Rattle.t1_faults.specs.Telling.{IsAnswered, TellsWord, runs_read};
+
+/// Where no fault is found, `check` passes.
+pub fn check_passes_where_none()
+    ensures { (bytes : List ℕ) → source_faults bytes ≡ [] → checked bytes ≡ Ok tt }
+{}
+
+/// Where `check` passes, no fault is found.
+pub fn none_where_check_passes()
+    ensures { (bytes : List ℕ) → checked bytes ≡ Ok tt → source_faults bytes ≡ [] }
+{}
+
+/// The fault that `check` reports is one of those that are found; or it is a glyph's that stands on one of which a fault is found.
+pub fn reported_fault_is_found()
+    ensures { (bytes : List ℕ) (fault : Fault) → checked bytes ≡ Err fault → IsAnswered (runs_read (reads bytes)) (source_faults bytes) fault }
+{}
+
+/// In a source that reads, the word of each fault that is found stands at its line and column.
+pub fn words_stand_there()
+    ensures { (bytes : List ℕ) (s : SourceParts) → reads bytes ≡ Ok s → AllByRecursion (TellsWord (lines bytes)) (source_faults bytes) }
+{}

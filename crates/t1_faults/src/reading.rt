@@ -1,0 +1,67 @@
+//! The fault of reading a source, where it stands.
+
+ghost use Rattle.std.specs.Prelude.{◌≡◌, ◌-◌, ◌≤◌, []};
+ghost use Rattle.std.specs.List.{slice_index_or};
+ghost use Rattle.t1_text.specs.Lines.{lines};
+ghost use Rattle.t1_faults.specs.Reading.{at_front, on_line, reading_fault};
+
+use crate::found::FoundFault;
+use t1_frac::{Code, Fault, Place, SourceText, blank_len};
+use t1_text::{first_line, trimmed};
+
+/// The line of this number, counted from 1; an empty one where there is none.
+fn line_of(bytes: &[u8], number: u64) -> &[u8]
+    ensures { result.now ≡ slice_index_or (lines bytes.now) (number - 1) [] }
+{
+    let mut rest = bytes;
+    for _turn in 0..number.saturating_sub(1) {
+        if rest.is_empty() {
+            return rest;
+        }
+        let (_line, after) = first_line(rest);
+        rest = after;
+    }
+    if rest.is_empty() {
+        return rest;
+    }
+    let (line, _after) = first_line(rest);
+    line
+}
+
+/// A fault on the line of this number: all of the line but the blanks at both ends.
+fn on_line(bytes: &[u8], code: Code, number: u64) -> FoundFault<'_>
+    ensures { result ≡ on_line (lines bytes.now) code number }
+{
+    let line = line_of(bytes, number);
+    FoundFault {
+        code,
+        place: Place::Line(number),
+        line: number,
+        column: blank_len(line) + 1,
+        word: Some(SourceText::borrowed(trimmed(line))),
+    }
+}
+
+/// A fault of the source as a whole, at its front.
+pub(crate) fn at_front<'a>(code: Code, place: Place) -> FoundFault<'a>
+    ensures { result ≡ at_front code place }
+{
+    FoundFault {
+        code,
+        place,
+        line: 1,
+        column: 1,
+        word: None,
+    }
+}
+
+/// A fault of reading some bytes, where it stands.
+pub fn reading_fault(bytes: &[u8], fault: Fault) -> FoundFault<'_>
+    ensures { result ≡ reading_fault (lines bytes.now) fault }
+{
+    let Fault { code, place } = fault;
+    match place {
+        Place::Line(number) => on_line(bytes, code, number),
+        place => at_front(code, place),
+    }
+}
