@@ -112,7 +112,7 @@ one_refusal run name r fault is h = by (subst (λ x. Refuses x (glyph_metrics_am
       absurd (cc)
   by all (Err code) e =
       let refused : put_after [] (glyph_metrics_among run (name ∷ [])) ≡ Err (fault_at (places.Glyph name) code) =
-        one-refused run [] name [] (refusals.Fault (fault_at (places.Glyph name) code)) (ap (reported_at (places.Glyph name)) e) in
+      one-refused run [] name [] (refusals.Fault (fault_at (places.Glyph name) code)) (ap (reported_at (places.Glyph name)) e) in
       let both : ◌≡◌ {A = Result (List GlyphMetrics) Fault} (Err (fault_at (places.Glyph name) code)) (Err fault) = sym refused ∙ ap (put_after []) all in
       let same : fault_at (places.Glyph name) code ≡ fault = cc in
       ap (λ (f : Fault). Some f.code) (sym same) ∙ sym (ap code_of e)

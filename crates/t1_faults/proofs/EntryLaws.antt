@@ -82,7 +82,7 @@ private_entries n ls items e =
     let made : ◌≡◌ {A = Result (List NumberedItem) Fault} (Ok (last b.0)) (Ok items) = b.2 in
     let same : last b.0 ≡ items = cc in
     let all : unnumbered items ≡ unnumbered its ++ unnumbered (map (λ l. (m, Plain l)) xs) =
-      ap unnumbered (sym same) ∙ ap (λ is. unnumbered (last is)) read.1 ∙ map_append (λ i. i.1) its (map (λ l. (m, Plain l)) xs) in
+    ap unnumbered (sym same) ∙ ap (λ is. unnumbered (last is)) read.1 ∙ map_append (λ i. i.1) its (map (λ l. (m, Plain l)) xs) in
     let zero_more : n + 0 ≡ n = omega arith in
     let own = subst (λ k. AreOf (unnumbered its) (entries_from k front (unnumbered its))) zero_more read.2 in
     let more = of_more m (unnumbered its) xs (entries_from n front (unnumbered its)) own in

@@ -98,8 +98,8 @@ lines_stand : (ls : List (List ℕ)) (s : SourceParts) → TakenApart ls s → A
 lines_stand ls s t =
     let n = length t.parts.private - 1 in
     let whole : ls ≡ t.parts.clear ++ (take n t.parts.private ++ (drop n t.parts.private ++ t.parts.tail)) =
-      parts_whole ls t.parts t.cut ∙ ap (λ x. t.parts.clear ++ (x ++ t.parts.tail)) (sym (take-append-drop n t.parts.private))
-      ∙ ap (λ x. t.parts.clear ++ x) (append_assoc (take n t.parts.private) (drop n t.parts.private) t.parts.tail) in
+    parts_whole ls t.parts t.cut ∙ ap (λ x. t.parts.clear ++ (x ++ t.parts.tail)) (sym (take-append-drop n t.parts.private))
+    ∙ ap (λ x. t.parts.clear ++ x) (append_assoc (take n t.parts.private) (drop n t.parts.private) t.parts.tail) in
     let clear : t.parts.clear ≡ s.clear = ap (λ (m : SourceParts). m.clear) t.same in
     let number : length s.clear + 1 ≡ length t.parts.clear + 1 = ap (λ (c : List (List ℕ)). length c + 1) (sym clear) in
     subst (λ r. AllByRecursion (WordsStand ls) (entries_in r s)) (sym t.cut)

@@ -17,6 +17,6 @@ pub all_found : (run own : OwnRuns) (s : SourceParts) (es entries : List Entry) 
 all_found run own s es entries unsure none first second third same are sure empty a b c =
     let file = file_faults (bodies_check s.items) (file_check s) in
     let whole : third ≡ faults_by run s es =
-      c ∙ ap (λ x. x ++ flat_map (join_faults run) es) (b ∙ ap (λ x. x ++ file) (a ∙ ap (λ x. x ++ flat_map (entry_faults unsure run) es) empty ∙ ap (λ u. flat_map (entry_faults u run) es) sure))
-      ∙ append_assoc (flat_map (entry_faults (list_any is_faulty_subr s.items) run) es) file (flat_map (join_faults run) es) in
+    c ∙ ap (λ x. x ++ flat_map (join_faults run) es) (b ∙ ap (λ x. x ++ file) (a ∙ ap (λ x. x ++ flat_map (entry_faults unsure run) es) empty ∙ ap (λ u. flat_map (entry_faults u run) es) sure))
+    ∙ append_assoc (flat_map (entry_faults (list_any is_faulty_subr s.items) run) es) file (flat_map (join_faults run) es) in
     whole ∙ ap (λ r. faults_by r s es) same ∙ ap (faults_by own s) are

@@ -56,7 +56,7 @@ pub entry_on : (n : ℕ) (all : List (List ℕ)) (l : List ℕ) (ls after : List
 entry_on n all l ls after item items place m old new whole is size rest pushed =
     let e : Entry = record { place = place; number = n; line = l; later = ls } in
     let step : entries_from n (l ∷ ls) (item ∷ items) ≡ e ∷ entries_from (n + 1 + m) (drop m ls) items =
-      ap (λ p. entry_at p n l ls ++ entries_from (n + 1 + span p l ls) (drop (span p l ls) ls) items) is ∙ ap (λ k. e ∷ entries_from (n + 1 + k) (drop k ls) items) size in
+    ap (λ p. entry_at p n l ls ++ entries_from (n + 1 + span p l ls) (drop (span p l ls) ls) items) is ∙ ap (λ k. e ∷ entries_from (n + 1 + k) (drop k ls) items) size in
     ap (λ x. x ++ entries_from (n + 1 + m) after items) pushed ∙ append_assoc old (e ∷ []) (entries_from (n + 1 + m) after items) ∙ ap (λ t. old ++ e ∷ entries_from (n + 1 + m) t items) rest
     ∙ ap (λ t. old ++ t) (sym step) ∙ ap (λ a. old ++ entries_from n a (item ∷ items)) (sym whole)
 

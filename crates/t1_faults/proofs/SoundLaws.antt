@@ -187,7 +187,7 @@ items_fine unsure run (Glyph name words closing ∷ items) (e ∷ es) are checke
     let body = body_fine e words read.0 are.1 read.1 in
     let here = fine name (or_first (bytes_eq name name) (list_any (bytes_eq name) (glyph_names items)) (bytes_self name)) in
     let none : run_faults unsure run e ≡ [] =
-      nothing_listed (at_entry e) (certain unsure (run_fault run e.place)) (ap (λ p. certain unsure (run_fault run p)) are.0 ∙ ap (certain unsure) here) in
+    nothing_listed (at_entry e) (certain unsure (run_fault run e.place)) (ap (λ p. certain unsure (run_fault run p)) are.0 ∙ ap (certain unsure) here) in
     none_joined (entry_faults unsure run e) (flat_map (entry_faults unsure run) es) (ap (λ fs. or_others fs (run_faults unsure run e)) body ∙ none)
     (items_fine unsure run items es are.2 (next-ok (words_check (places.Glyph name) words) (bodies_check items) tt checked)
     (λ g h. fine g (or_second (bytes_eq g name) (list_any (bytes_eq g) (glyph_names items)) h)))
@@ -221,7 +221,7 @@ joins_sound run (Glyph name words closing ∷ items) (e ∷ es) are fine none g 
     let listed : join_fault run e.place ≡ None = none_listed (at_entry e) (join_fault run e.place) parts.0 in
     let judged : cond (sound_within run 4 name) (code_of (glyph_metrics_at run name)) None ≡ None = ap (join_fault run) (sym are.0) ∙ listed in
     let here : code_of (glyph_metrics_at run name) ≡ None =
-      sym (ap (λ b. cond b (code_of (glyph_metrics_at run name)) None) (all_sound run fine 4 name)) ∙ judged in
+    sym (ap (λ b. cond b (code_of (glyph_metrics_at run name)) None) (all_sound run fine 4 name)) ∙ judged in
     elim (cases_Bool (bytes_eq g name)) [
       | inl same ↦ subst (λ x. code_of (glyph_metrics_at run x) ≡ None) (sym (bytes_same g name same)) here
       | inr other ↦ joins_sound run items es are.2 fine parts.1 g (rw other at h)

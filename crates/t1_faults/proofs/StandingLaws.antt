@@ -66,10 +66,9 @@ line_stands all above below n c before text after is number column (w ∷ ws) h 
     let front = h.0.0 in
     let back = h.0.1 in
     let regrouped : before ++ (text ++ after) ≡ (before ++ front) ++ (w.1 ++ (back ++ after)) =
-      ap (λ t. before ++ (t ++ after)) h.0.2 ∙ ap (λ t. before ++ t) (append_assoc front (w.1 ++ back) after ∙ ap (λ t. front ++ t) (append_assoc w.1 back after))
-      ∙ sym (append_assoc before front (w.1 ++ (back ++ after))) in
-    let at : w.0 ≡ length (before ++ front) + 1 = omega (arith, h.0.3, column, length-append before front) in
-    (
+    ap (λ t. before ++ (t ++ after)) h.0.2 ∙ ap (λ t. before ++ t) (append_assoc front (w.1 ++ back) after ∙ ap (λ t. front ++ t) (append_assoc w.1 back after))
+    ∙ sym (append_assoc before front (w.1 ++ (back ++ after))) in
+    let at : w.0 ≡ length (before ++ front) + 1 = omega (arith, h.0.3, column, length-append before front) in (
       (above, below, before ++ front, back ++ after, is ∙ ap (λ l. above ++ l ∷ below) regrouped, number, at),
       line_stands all above below n c before text after is number column ws h.1,
     )
@@ -138,8 +137,8 @@ entries_stand all above others n (l ∷ ls) (item ∷ items) is number = by (λ 
       elim (cases_lt (length ls) m) [
         | inr within ↦
             let more : all ≡ (above ++ l ∷ take m ls) ++ (drop m ls ++ others) =
-              is ∙ ap (λ t. above ++ l ∷ (t ++ others)) (sym (take-append-drop m ls)) ∙ ap (λ t. above ++ l ∷ t) (append_assoc (take m ls) (drop m ls) others)
-              ∙ sym (append_assoc above (l ∷ take m ls) (drop m ls ++ others)) in
+            is ∙ ap (λ t. above ++ l ∷ (t ++ others)) (sym (take-append-drop m ls)) ∙ ap (λ t. above ++ l ∷ t) (append_assoc (take m ls) (drop m ls) others)
+            ∙ sym (append_assoc above (l ∷ take m ls) (drop m ls ++ others)) in
             let count : n + 1 + m ≡ length (above ++ l ∷ take m ls) + 1 = omega (arith, number, length-append above (l ∷ take m ls), length-take-le m ls within) in
             below (above ++ l ∷ take m ls) (n + 1 + m) (drop m ls) more count
         | inl past ↦ subst (λ t. AllByRecursion (WordsStand all) (entries_from (n + 1 + m) t items)) (sym (drop_all m ls (omega (arith, past)))) (none_left (n + 1 + m) items)

@@ -157,10 +157,9 @@ read_on earlier n zero (l ∷ ls) all e =
     let t = item_taken earlier l ls x (reported_ok (places.Line n) (item_at earlier l ls) x b.1) in
     let r = read_on (earlier ++ (n, x.0) ∷ []) (n + 1) x.1 ls all b.2 in
     let zero_more : n ≡ n + 0 = omega arith in
-    let es = subst (λ k. AreOf (unnumbered r.0) (entries_from (n + 1 + k) (drop k ls) (unnumbered r.0))) (sym t.0) r.2 in
-    (
+    let es = subst (λ k. AreOf (unnumbered r.0) (entries_from (n + 1 + k) (drop k ls) (unnumbered r.0))) (sym t.0) r.2 in (
       (n, x.0) ∷ r.0,
       r.1 ∙ append_assoc earlier ((n, x.0) ∷ []) r.0,
       subst (λ k. AreOf (x.0 ∷ unnumbered r.0) (entries_from k (l ∷ ls) (x.0 ∷ unnumbered r.0))) zero_more
-      (one_more n l ls x.0 (unnumbered r.0) (entries_from (n + 1 + span (place_in x.0) l ls) (drop (span (place_in x.0) l ls) ls) (unnumbered r.0)) t.1 es),
+          (one_more n l ls x.0 (unnumbered r.0) (entries_from (n + 1 + span (place_in x.0) l ls) (drop (span (place_in x.0) l ls) ls) (unnumbered r.0)) t.1 es),
     )

@@ -150,7 +150,7 @@ run_told run (Glyph name words closing ∷ items) (x ∷ es) p code are checked 
           let body = body_fine x words read.0 are.1 read.1 in
           let own : run_fault run x.place ≡ Some code = ap (run_fault run) are.0 ∙ ap (λ g. fault_of (run g)) (sym equal) ∙ ap fault_of fails in
           let listed : entry_faults false run x ≡ at_entry x code ∷ [] =
-            ap (λ fs. or_others fs (run_faults false run x)) body ∙ ap (λ f. option_to_list (option_map (at_entry x) (certain false f))) own in
+          ap (λ fs. or_others fs (run_faults false run x)) body ∙ ap (λ f. option_to_list (option_map (at_entry x) (certain false f))) own in
           told_left code (places.Glyph p) (entry_faults false run x) (flat_map (entry_faults false run) es)
           (subst (IsTold code (places.Glyph p)) (sym listed) (inl (refl, are.0 ∙ ap (λ n. places.Glyph n) (sym equal))))
       | inr other ↦
@@ -174,7 +174,7 @@ join_told run (Glyph name words closing ∷ items) (x ∷ es) g code are there s
       | inl same ↦
           let equal = bytes_same g name same in
           let judged : cond (sound_within run 4 g) (code_of (glyph_metrics_at run g)) None ≡ Some code =
-            ap (λ b. cond b (code_of (glyph_metrics_at run g)) None) sound ∙ ap code_of fails in
+          ap (λ b. cond b (code_of (glyph_metrics_at run g)) None) sound ∙ ap code_of fails in
           let own : join_fault run x.place ≡ Some code = ap (join_fault run) are.0 ∙ ap (λ n. join_fault run (places.Glyph n)) (sym equal) ∙ judged in
           let listed : join_faults run x ≡ at_entry x code ∷ [] = ap (λ f. option_to_list (option_map (at_entry x) f)) own in
           told_left code (places.Glyph g) (join_faults run x) (flat_map (join_faults run) es)
@@ -247,7 +247,7 @@ first_of run (name ∷ names) fault e = by (λ h. first_of run names fault h) (g
       later below s (glyph_metrics_among run names) refl (one-reported run [] name names s (ap (reported_at (places.Glyph name)) h) ∙ ap (put_after []) e)
   by below (Err code) h =
       let refused : put_after [] (glyph_metrics_among run (name ∷ names)) ≡ Err (fault_at (places.Glyph name) code) =
-        one-refused run [] name names (refusals.Fault (fault_at (places.Glyph name) code)) (ap (reported_at (places.Glyph name)) h) in
+      one-refused run [] name names (refusals.Fault (fault_at (places.Glyph name) code)) (ap (reported_at (places.Glyph name)) h) in
       let both : ◌≡◌ {A = Result (List GlyphMetrics) Fault} (Err (fault_at (places.Glyph name) code)) (Err fault) = sym refused ∙ ap (put_after []) e in
       let same : fault_at (places.Glyph name) code ≡ fault = cc in
       (name, code, or_first (bytes_eq name name) (list_any (bytes_eq name) names) (bytes_self name), same, h)
