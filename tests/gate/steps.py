@@ -38,6 +38,8 @@ BESIDE = [
     "tests/faults",
     "tests/completions",
     "tests/disassemble",
+    "tests/notes",
+    "tests/mistakes/run",
     "tests/damaged",
     "tests/files",
     "tests/reference/check",

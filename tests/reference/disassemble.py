@@ -26,6 +26,9 @@ class FontFault(Exception):
         super().__init__(code, place)
         self.told = code + (b" " + place if place else b"")
 
+    def text(self):
+        return self.told
+
 
 @dataclass
 class Parts:

@@ -32,13 +32,13 @@ abbrev pub GivesSource : {X : Type 0} → (X → List ℕ) → Result X FileErro
 GivesSource view (Ok text) given = given ≡ Ok (view text)
 GivesSource view (Err error) given = LacksSource error given
 
--- word: a call over a file answers as one over its source does, and tells no fault of a font
+-- profile: a call over a file answers as one over its source does, and tells no fault of a font
 abbrev pub AnswersAs : {T : Type 0} → (Result T ServeError → Type 0) → Result T FileError → Type 0
 AnswersAs does (Ok done) = does (Ok done)
 AnswersAs does (Err (Served error)) = does (Err error)
 AnswersAs does (Err (Font fault)) = ⊥
 
--- word: a call tells this fault of a font, or want of memory
+-- profile: a call tells this fault of a font, or want of memory
 abbrev pub TellsFontFault : {T : Type 0} → FontFault → Result T FileError → Type 0
 TellsFontFault fault (Ok done) = ⊥
 TellsFontFault fault (Err (Font told)) = told ≡ fault
