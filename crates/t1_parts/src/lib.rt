@@ -41,6 +41,6 @@ pub use len_iv::{check_lead, lead_of, plain_line, says_lead};
 pub use operator::operator_of;
 pub use parts::{Parts, holds, parts_of, tail_of};
 pub use piece::{Piece, piece_of};
-pub use printing::{push_decimal, push_items, push_line, push_lines};
+pub use printing::{push_decimal, push_items, push_line, push_lines, push_words};
 pub use private::private_items;
 pub use sections::{count_between, is_glyphs_line, is_subrs_line, section_at};

@@ -54,9 +54,9 @@ fn push_word(text: &mut Vec<u8>, is_open: bool, word: &[u8]) -> Result<(), Alloc
     Ok(())
 }
 
-/// Adds the lines of a body's words to a text.
+/// Adds the lines of a body's words to a text, as an entry's body is printed.
 #[tactic(auto, using(crate::proofs::GroupLaws::left_number, crate::proofs::GroupLaws::left_other))]
-fn push_words(text: &mut Vec<u8>, bytes: &[u8]) -> Result<(), AllocError>
+pub fn push_words(text: &mut Vec<u8>, bytes: &[u8]) -> Result<(), AllocError>
     ensures { OnOk result (text.new.items ≡ text.old.items ++ joined (map body_line (word_groups (words bytes.now)))) }
 {
     let mut is_open = false;

@@ -2,7 +2,8 @@
 //!
 //! For users: a font as [`Bodies`] or [`StoredBodies`], for which [`Plain`] may stand; a [`Meter`]; [`run`], and a [`Run`]
 //! with its [`Segment`]s of [`Point`]s and its [`Composite`]; [`join`]. For the crates above: [`run_of_body`], which runs
-//! a body that the font needn't have stored, [`Entered`], and the moves of accents, points and segments.
+//! a body that the font needn't have stored, [`Entered`], and the moves of accents, points and segments; [`State`] with
+//! [`Control`], [`Halt`] and [`find_parts`], by which a body is run word by word, to see at which word it fails.
 #![tactic(auto)]
 
 mod bodies;
@@ -30,9 +31,12 @@ mod step;
 pub use bodies::{Bodies, StoredBodies};
 pub use composite::{accent_move, join};
 pub use entered::Entered;
+pub use halt::Halt;
 pub use meter::Meter;
 pub use moving::{moved_point, moved_segment};
 pub use outcome::Run;
 pub use outline::{Composite, Point, Segment};
 pub use plain::Plain;
 pub use runner::{run, run_of_body};
+pub use seac::find_parts;
+pub use state::{Control, State};

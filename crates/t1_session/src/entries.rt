@@ -1,17 +1,13 @@
 //! The entries of a source, and their words in the lines of the printed form.
-ghost use Rattle.std.specs.Prelude.{◌≡◌, ◌∷◌, ◌++◌, if◌then◌else◌, map, option_map, IfOk, OnOk};
+ghost use Rattle.std.specs.Prelude.{◌≡◌, option_map, IfOk};
 ghost use Rattle.std.specs.List.{find};
-ghost use Rattle.t1_frac.specs.Ascii.{space, tab};
 ghost use Rattle.t1_frac.specs.Words.{words};
-ghost use Rattle.t1_text.specs.Lines.{joined};
 ghost use Rattle.t1_parts.specs.Entries.{is_glyph, is_subr};
-ghost use Rattle.t1_parts.specs.Printing.{body_line, word_groups};
 ghost use Rattle.t1_session.specs.Queries.{entry_text, entry_words, glyph_named, subr_number};
 ghost use Rattle.t1_session.specs.Queries.{subr_numbered};
 
 use std::alloc::{AllocError, Global};
-use t1_frac::{is_number_word, next_word};
-use t1_parts::Items;
+use t1_parts::{Items, push_words};
 use t1_source::Item;
 use t1_text::same;
 
@@ -81,38 +77,6 @@ fn entry_words<'i>(item: &'i Item) -> &'i [u8]
         Item::Glyph(_, body, _) => body.as_bytes(),
         _ => b"",
     }
-}
-
-/// Adds a word to a line of words that is open or begins with it.
-fn push_word(text: &mut Vec<u8>, is_open: bool, word: &[u8]) -> Result<(), AllocError>
-    ensures { OnOk result (text.new.items ≡ text.old.items ++ (if is_open then space else tab) ∷
-        word.now) }
-{
-    text.push(if is_open { b' ' } else { b'\t' })?;
-    text.extend_from_slice(word)?;
-    Ok(())
-}
-
-/// Adds the lines of a body's words to a text.
-#[tactic(auto, using(t1_parts::proofs::GroupLaws::left_number, t1_parts::proofs::GroupLaws::left_other))]
-fn push_words(text: &mut Vec<u8>, bytes: &[u8]) -> Result<(), AllocError>
-    ensures { OnOk result (text.new.items ≡ text.old.items ++ joined
-        (map body_line (word_groups (words bytes.now)))) }
-{
-    let mut is_open = false;
-    let mut rest = bytes;
-    while let Some((word, after)) = next_word(rest) {
-        push_word(text, is_open, word)?;
-        is_open = is_number_word(word);
-        if !is_open {
-            text.push(b'\n')?;
-        }
-        rest = after;
-    }
-    if is_open {
-        text.push(b'\n')?;
-    }
-    Ok(())
 }
 
 /// The words of an item, in the lines of the printed form.
