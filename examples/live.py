@@ -6,16 +6,22 @@ usage: live.py [--port N] [--kern FILE] SOURCE
 The page has all glyphs, one of them large with its body in a text field, and a line of text that is set with the kerning. What
 is typed goes to a session of t1edit; what a session refuses is said, with the word at which the fault comes up, and the last
 good outline stays. 'Save' writes SOURCE in its printed form, and the kerning file. What a text editor writes to SOURCE meanwhile
-is brought in. The page is served to this machine alone, until Ctrl-C is typed.
+is brought in. The page is served to this machine alone, until Ctrl-C is typed or the process is told to end.
 """
 
 import argparse
 import contextlib
+import signal
 import sys
 
 from pages.desk import Desk
 from pages.server import Server
 from t1edit import Error
+
+
+def stop(*_):
+    """Ends the server as Ctrl-C does, so that what it made for itself is removed."""
+    raise KeyboardInterrupt
 
 
 def main():
@@ -24,6 +30,7 @@ def main():
     parser.add_argument("--kern")
     parser.add_argument("source")
     given = parser.parse_args()
+    signal.signal(signal.SIGTERM, stop)
     with contextlib.closing(Desk(given.source, given.kern)) as desk, Server(desk, given.port) as server:
         print(f"open {server.address} in a browser; Ctrl-C ends it", flush=True)
         with contextlib.suppress(KeyboardInterrupt):
