@@ -6,6 +6,8 @@
 #[cfg(test)]
 mod afm;
 #[cfg(test)]
+mod chain;
+#[cfg(test)]
 mod code;
 #[cfg(test)]
 mod frac;

@@ -1,0 +1,3 @@
+pub mod FailingLaws
+pub mod FollowingLaws
+pub mod LeadingLaws

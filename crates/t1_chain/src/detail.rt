@@ -1,0 +1,240 @@
+//! What a fault says beside its code.
+
+ghost use Rattle.std.specs.Prelude.{◌≡◌, ◌^◌, ◌≤◌, IfOk, option_map};
+ghost use Rattle.std.specs.Option.{option_copied};
+ghost use Rattle.t1_frac.specs.Limits.{exceeds};
+ghost use Rattle.t1_run.specs.Operands.{takes as takes_of, topmost as topmost_of};
+ghost use Rattle.t1_run.specs.Run.{encoded as encoded_of};
+ghost use Rattle.t1_chain.specs.Details.{arguments_by, both_of, detail_of as detail_of_word};
+ghost use Rattle.t1_chain.specs.Details.{large_above as large_above_arguments, large_in, lacking};
+ghost use Rattle.t1_chain.specs.Details.{missing, number_of, too_large, top_of};
+ghost use Rattle.t1_chain.specs.Details.{unnamed as unnamed_of, wanted as wanted_by};
+
+use crate::failure::Detail;
+use std::alloc::{AllocError, Global};
+use t1_code::{Command, standard_name};
+use t1_frac::{Bytes, Code, Frac};
+use t1_run::Bodies;
+
+/// How many values a command takes from the top of the stack.
+fn takes(command: Command) -> usize
+    ensures { result ≡ takes_of command }
+{
+    match command {
+        Command::Num(_)
+        | Command::ClosePath
+        | Command::Return
+        | Command::EndChar
+        | Command::DotSection
+        | Command::Pop => 0,
+        Command::VMoveTo
+        | Command::HLineTo
+        | Command::VLineTo
+        | Command::CallSubr
+        | Command::HMoveTo => 1,
+        Command::HStem
+        | Command::VStem
+        | Command::RLineTo
+        | Command::Hsbw
+        | Command::RMoveTo
+        | Command::Div
+        | Command::CallOtherSubr
+        | Command::SetCurrentPoint => 2,
+        Command::VHCurveTo | Command::HVCurveTo | Command::Sbw => 4,
+        Command::Seac => 5,
+        Command::RRCurveTo | Command::VStem3 | Command::HStem3 => 6,
+    }
+}
+
+/// The glyph name of a code of StandardEncoding.
+fn encoded(code: i64) -> Option<&'static str>
+    ensures { option_map (λ name. name.now) result ≡ encoded_of code }
+{
+    if code < 0 || code > 255 {
+        return None;
+    }
+    standard_name(code as u8)
+}
+
+/// So many values on the top, the lowest first, or all where there are fewer.
+fn topmost(count: usize, values: &[Frac]) -> &[Frac]
+    ensures { result.now ≡ topmost_of count values.now }
+{
+    values.split_at(values.len().saturating_sub(count)).1
+}
+
+/// Both of two values.
+fn both(values: &[Frac]) -> Option<(Frac, Frac)>
+    ensures { result ≡ both_of values.now }
+{
+    match values {
+        [lower, upper] => Some((*lower, *upper)),
+        _ => None,
+    }
+}
+
+/// The value on the top.
+fn top(values: &[Frac]) -> Option<Frac>
+    ensures { result ≡ top_of values.now }
+{
+    values.last().copied()
+}
+
+/// Whether a value is past 32000 in size.
+fn is_large(value: &Frac) -> bool
+    ensures { result ≡ exceeds 32000 value.now }
+{
+    value.num().unsigned_abs() > 32000 * value.den().unsigned_abs()
+}
+
+/// The first value past 32000 in size.
+fn first_large(values: &[Frac]) -> Option<&Frac>
+    ensures { option_copied result ≡ large_in values.now }
+{
+    values.iter().find(|value| is_large(value))
+}
+
+/// The number of an othersubr past 32000 in size, else the count of its arguments.
+fn large_above(operands: Option<(Frac, Frac)>) -> Option<Frac>
+    ensures { result ≡ large_above_arguments operands }
+{
+    let Some((count, number)) = operands else {
+        return None;
+    };
+    if is_large(&number) {
+        return Some(number);
+    }
+    if is_large(&count) {
+        return Some(count);
+    }
+    None
+}
+
+/// How many arguments an othersubr has, by their count and its number.
+fn arguments(operands: Option<(Frac, Frac)>) -> usize
+    ensures value { result ≡ arguments_by operands }
+    ensures bound { result ≤ 2 ^ 63 }
+{
+    match operands {
+        Some((count, _number)) => count.num().unsigned_abs() as usize,
+        None => 0,
+    }
+}
+
+/// How many values a command wants, of callothersubr with its arguments.
+fn wanted(command: Command, values: &[Frac]) -> usize
+    ensures { result ≡ wanted_by command values.now }
+{
+    match command {
+        Command::CallOtherSubr => 2 + arguments(both(topmost(2, values))),
+        _ => takes(command),
+    }
+}
+
+/// The first operand past 32000 in size: of callothersubr the number comes first, then the count.
+fn large_operand(command: Command, values: &[Frac]) -> Option<Frac>
+    ensures { result ≡ too_large command values.now }
+{
+    match command {
+        Command::Div => None,
+        Command::CallOtherSubr => {
+            let arguments = topmost(wanted(command, values), values);
+            large_above(both(topmost(2, values))).or(first_large(arguments).copied())
+        }
+        _ => first_large(topmost(takes(command), values)).copied(),
+    }
+}
+
+/// A number, where there is one.
+fn number(value: Option<Frac>) -> Detail
+    ensures { result ≡ number_of value }
+{
+    match value {
+        Some(value) => Detail::Number(value),
+        None => Detail::Nothing,
+    }
+}
+
+/// The code of seac's base, or of its accent, that has no name.
+fn unnamed(codes: Option<(Frac, Frac)>) -> Detail
+    ensures { result ≡ unnamed_of codes }
+{
+    match codes {
+        Some((base, accent)) => {
+            if encoded(base.num()).is_none() {
+                return Detail::Number(base);
+            }
+            Detail::Number(accent)
+        }
+        None => Detail::Nothing,
+    }
+}
+
+/// A glyph by its name.
+fn glyph(alloc: Global, name: &str) -> Result<Detail, AllocError>
+    ensures { IfOk result (λ detail. detail ≡ Detail.Glyph name.now) }
+{
+    Ok(Detail::Glyph(Bytes::copied(alloc, name.as_bytes())?))
+}
+
+/// The base, or the accent, that the font lacks.
+fn lacked<B: Bodies>(
+    alloc: Global,
+    bodies: &B,
+    base: Option<&str>,
+    accent: Option<&str>,
+) -> Result<Detail, AllocError>
+    ensures { IfOk result (λ detail.
+        detail ≡ lacking (B.glyphs bodies.now)
+        (option_map (λ name. name.now) base.entry)
+        (option_map (λ name. name.now) accent.entry)) }
+{
+    let Some(base) = base else {
+        return Ok(Detail::Nothing);
+    };
+    let Some(accent) = accent else {
+        return Ok(Detail::Nothing);
+    };
+    if !bodies.has_glyph(base.as_bytes()) {
+        return glyph(alloc, base);
+    }
+    glyph(alloc, accent)
+}
+
+/// The same by the codes of seac.
+fn missing_part<B: Bodies>(
+    alloc: Global,
+    bodies: &B,
+    codes: Option<(Frac, Frac)>,
+) -> Result<Detail, AllocError>
+    ensures { IfOk result (λ detail. detail ≡ missing (B.glyphs bodies.now) codes) }
+{
+    match codes {
+        Some((base, accent)) => {
+            lacked(alloc, bodies, encoded(base.num()), encoded(accent.num()))
+        }
+        None => Ok(Detail::Nothing),
+    }
+}
+
+/// What a fault of a command says beside its code, by the operand stack before the command.
+#[tactic(auto, unfolding(crate::specs::Details::detail_of))]
+pub fn detail_of<B: Bodies>(
+    alloc: Global,
+    bodies: &B,
+    code: Code,
+    command: Command,
+    stack: &[Frac],
+) -> Result<Detail, AllocError>
+    ensures { IfOk result (λ detail.
+        detail ≡ detail_of_word (B.glyphs bodies.now) code command stack.now) }
+{
+    match code {
+        Code::F30 => Ok(Detail::Values(stack.len(), wanted(command, stack))),
+        Code::F32 | Code::F42 => Ok(number(top(stack))),
+        Code::F37 => Ok(number(large_operand(command, stack))),
+        Code::F44 => Ok(unnamed(both(topmost(2, stack)))),
+        Code::F45 => missing_part(alloc, bodies, both(topmost(2, stack))),
+        _ => Ok(Detail::Nothing),
+    }
+}

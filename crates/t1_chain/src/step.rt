@@ -1,0 +1,160 @@
+//! One word of a run.
+
+ghost use Rattle.std.specs.Prelude.{◌≡◌, IfOk, OnOk, Result};
+ghost use Rattle.std.specs.Result.{result_err};
+ghost use Rattle.t1_frac.specs.Outcome.{Gives, reported_at};
+ghost use Rattle.t1_frac.specs.declared.fault.Code.{Code as CodeOf};
+ghost use Rattle.t1_run.specs.Machine.{state_of, Reports};
+ghost use Rattle.t1_run.specs.Run.{font};
+ghost use Rattle.t1_run.specs.Words.{step as step_of};
+ghost use Rattle.t1_run.specs.declared.outline.Composite.{Composite as CompositeOf};
+ghost use Rattle.t1_chain.specs.Details.{detail_of as detail_of_word};
+ghost use Rattle.t1_chain.specs.Failing.{failure_at as failure_at_word};
+ghost use Rattle.t1_chain.specs.Machine.{asked_by, asking, refused_call, refused_control, seen};
+ghost use Rattle.t1_chain.specs.Machine.{Acts, MayEnter};
+
+use crate::detail::detail_of;
+use crate::ending::{Asked, Ending};
+use crate::failure::Failure;
+use std::alloc::{AllocError, Global};
+use t1_code::Command;
+use t1_frac::{Code, Frac, Place, Refusal};
+use t1_run::{Bodies, Composite, Control, Halt, State, find_parts};
+
+/// The step of a command: what it asks for, where it asks for more than the next word.
+fn take_step(state: &mut State, command: Command) -> Result<Option<Control>, Halt>
+    ensures { Reports asking (step_of command (state_of state.old)) result state.new }
+{
+    match command {
+        Command::Num(number) => {
+            state.step_by_number(number)?;
+            Ok(None)
+        }
+        Command::CallSubr | Command::Return | Command::Seac | Command::EndChar => {
+            let control = state.step_asking(command)?;
+            Ok(Some(control))
+        }
+        _ => {
+            state.step_on(command)?;
+            Ok(None)
+        }
+    }
+}
+
+/// The failure at a word of a body, by the operand stack before it.
+fn failure_at<B: Bodies>(
+    alloc: Global,
+    bodies: &B,
+    word: usize,
+    command: Command,
+    stack: &[Frac],
+    code: Code,
+) -> Result<Failure, AllocError>
+    ensures { IfOk result (λ failure.
+        seen failure ≡ failure_at_word word
+        (detail_of_word (B.glyphs bodies.now) code command stack.now) code) }
+{
+    let detail = detail_of(alloc, bodies, code, command, stack)?;
+    Ok(Failure {
+        code,
+        calls: Vec::new(alloc),
+        word,
+        detail,
+    })
+}
+
+/// The fault by which parts aren't found.
+fn parts_fault(parts: Result<Composite, Refusal>) -> Result<Option<Code>, AllocError>
+    ensures { (given : Result CompositeOf CodeOf) →
+        Gives (λ found. found) parts (reported_at Place.Nowhere given) →
+        IfOk result (λ code. code ≡ result_err given) }
+{
+    match parts {
+        Ok(_parts) => Ok(None),
+        Err(Refusal::Fault(fault)) => Ok(Some(fault.code)),
+        Err(Refusal::Memory) => Err(AllocError),
+    }
+}
+
+/// The fault of a call, where so many Subrs more may be active.
+fn call_fault<B: Bodies>(bodies: &B, levels: u8, n: u16) -> Option<Code>
+    ensures { result ≡ refused_call levels (B.subrs bodies.now n) }
+{
+    if bodies.subr(n).is_none() {
+        return Some(Code::F32);
+    }
+    if levels == 0 {
+        return Some(Code::F33);
+    }
+    None
+}
+
+/// The fault of what a word asks for.
+fn control_fault<B: Bodies>(
+    alloc: Global,
+    bodies: &B,
+    levels: u8,
+    control: &Control,
+) -> Result<Option<Code>, AllocError>
+    ensures { IfOk result (λ code.
+        code
+        ≡ refused_control (font (B.subrs bodies.now) (B.glyphs bodies.now)) levels control.now) }
+{
+    match control {
+        Control::Call(n) => Ok(call_fault(bodies, levels, *n)),
+        Control::Compose(accent) => parts_fault(find_parts(alloc, bodies, accent)),
+        Control::Back | Control::End => Ok(None),
+    }
+}
+
+/// What a word asks of the run that has no fault.
+fn asked(word: usize, control: Control) -> Asked
+    ensures { result ≡ asked_by word control }
+{
+    match control {
+        Control::Call(n) => Asked::Subr(n),
+        Control::Back => Asked::Over(Ending::Returned(word)),
+        Control::End | Control::Compose(_) => Asked::Over(Ending::Completed),
+    }
+}
+
+/// Notes the operand stack in the place of another.
+fn note_stack(stack: &mut Vec<Frac>, state: &State) -> Result<(), AllocError>
+    ensures { OnOk result (stack.new.items ≡ (state_of state.now).stack) }
+{
+    stack.clear();
+    stack.extend_from_slice(state.operands.as_slice())
+}
+
+/// What a word of a body asks of the run, where so many Subrs more may be active. The vector is
+/// memory for the operand stack before the word.
+pub fn follow_word<B: Bodies>(
+    alloc: Global,
+    bodies: &B,
+    levels: u8,
+    word: usize,
+    command: Command,
+    stack: &mut Vec<Frac>,
+    state: &mut State,
+) -> Result<Asked, AllocError>
+    ensures acts { IfOk result (λ asked.
+        Acts (font (B.subrs bodies.now) (B.glyphs bodies.now)) levels word command asked
+        (state_of state.old) (state_of state.new)) }
+    ensures entered { IfOk result (λ asked. MayEnter levels (B.subrs bodies.now) asked) }
+{
+    note_stack(stack, state)?;
+    let control = match take_step(state, command) {
+        Ok(None) => return Ok(Asked::Word),
+        Ok(Some(control)) => control,
+        Err(Halt::Memory) => return Err(AllocError),
+        Err(Halt::Fault(code)) => {
+            let failure = failure_at(alloc, bodies, word, command, stack, code)?;
+            return Ok(Asked::Over(Ending::Failed(failure)));
+        }
+    };
+    if let Some(code) = control_fault(alloc, bodies, levels, &control)? {
+        let failure = failure_at(alloc, bodies, word, command, stack, code)?;
+        return Ok(Asked::Over(Ending::Failed(failure)));
+    }
+    Ok(asked(word, control))
+}
