@@ -1,7 +1,8 @@
 -- A source has no fault that is found exactly where check passes.
-use Rattle.std.proofs.Common.{◌≡◌, ◌∙◌, ℕ, Bool, true, false, cond, ◌||◌, List, [], ◌∷◌, ◌++◌, map, Option, None, Some, Result, Ok, Err, refl, sym, ap, subst, inl, inr}
-use Rattle.std.specs.Prelude.{flat_map}
-use Rattle.std.specs.List.{list_any}
+use Rattle.std.proofs.Common.{◌≡◌, ◌∙◌, ℕ, Bool, true, false, cond, ◌||◌, List, [], ◌∷◌, ◌++◌, length, map, Option, None, Some, Result, Ok, Err, refl, sym, ap, subst, inl, inr}
+use Rattle.std.specs.Prelude.{flat_map, is_none, option_map}
+use Rattle.std.specs.List.{list_any, AllByRecursion}
+use Rattle.std.specs.Option.{option_and_then}
 use Rattle.std.specs.Str.{bytes_eq}
 use Rattle.std.proofs.lemmas.Bool.{cases_Bool}
 use Rattle.t1_frac.specs.Outcome.{fault_at, reported_at, Refuses, ◌>>=◌}
@@ -9,6 +10,7 @@ use Rattle.t1_frac.specs.declared.fault.Refusal.{Refusal}
 use Rattle.t1_frac.specs.declared.fault.Code.{Code}
 use Rattle.t1_frac.specs.declared.fault.Fault.{Fault}
 use Rattle.t1_frac.specs.declared.fault.Refusal.TheVariants as refusals
+use Rattle.t1_frac.specs.declared.fault.Place.{Place}
 use Rattle.t1_frac.specs.declared.fault.Place.TheVariants as places
 use Rattle.t1_frac.proofs.OutcomeLaws.{bind_ok}
 use Rattle.t1_text.specs.Lines.{lines}
@@ -16,6 +18,7 @@ use Rattle.t1_parts.specs.declared.item.Item.{Item}
 use Rattle.t1_parts.specs.Parts.{parts_of}
 use Rattle.t1_parts.specs.Reading.{reads}
 use Rattle.t1_parts.specs.SourceParts.{SourceParts}
+use Rattle.t1_code.specs.declared.command.Command.{Command}
 use Rattle.t1_afm.specs.Box.{united}
 use Rattle.t1_run.specs.Run.{Drawing, own}
 use Rattle.t1_run.proofs.Asked.{bytes_same, bytes_self}
@@ -32,13 +35,19 @@ use Rattle.t1_font.proofs.InTurnLaws.{faulty-metrics, names-known}
 use Rattle.t1_font.proofs.LengthLaws.{body_fault_reported}
 use Rattle.t1_font.proofs.Measuring.{all-refused, all-reported, own-none}
 use Rattle.t1_font.proofs.MeasuringTurns.{runs-own}
-use Rattle.t1_faults.specs.declared.found.FoundFault.{FoundFault}
+use Rattle.t1_chain.specs.Failing.{Failure, LeadsTo, failure_in}
+use Rattle.t1_chain.proofs.LeadingLaws.{calls_lead}
+use Rattle.t1_faults.specs.declared.run_fault.RunFault.{RunFault}
 use Rattle.t1_faults.specs.Entries.{Entry}
+use Rattle.t1_faults.specs.Failing.{Failures, failures_in, is_faulty_subr, missing_subr, passes, told}
 use Rattle.t1_faults.specs.Found.{code_of}
+use Rattle.t1_faults.specs.Met.{last_entered, met_after, met_in, met_outside, met_with}
 use Rattle.t1_faults.specs.Reading.{reading_fault}
-use Rattle.t1_faults.specs.Judging.{OwnRuns, certain, checked, entries_in, entry_faults, faults_by, faults_of, faults_read, fault_of, file_faults, is_faulty_subr, join_faults, source_faults}
+use Rattle.t1_faults.specs.Judging.{OwnRuns, checked, entries_in, entry_faults, faults_by, faults_of, faults_read, fault_of, file_faults, join_faults, source_faults}
 use Rattle.t1_faults.proofs.EntryLaws.{read_entries}
-use Rattle.t1_faults.proofs.SoundLaws.{both_none, none_joined, items_fine, items_sound, joins_fine, joins_sound}
+use Rattle.t1_faults.proofs.FailureLaws.{runs_told}
+use Rattle.t1_faults.proofs.MetLaws.{both, glyph_there, last_there, met_some, nothing_met, one_of, subr_there}
+use Rattle.t1_faults.proofs.SoundLaws.{bodies_fine, both_none, entries_fine, none_joined, items_sound, joins_fine, joins_sound}
 use Rattle.t1_faults.proofs.TakenLaws.{AreOf}
 
 or_second : (a b : Bool) → b ≡ true → (a || b) ≡ true
@@ -48,11 +57,6 @@ or_second false b h = h
 or_first : (a b : Bool) → a ≡ true → (a || b) ≡ true
 or_first true b h = refl
 or_first false b h = absurd (cc)
-
-sure_none : (unsure : Bool) (x : Option Code) → unsure ≡ false → certain unsure x ≡ None → x ≡ None
-sure_none true x e h = absurd (cc)
-sure_none false None e h = refl
-sure_none false (Some code) e h = absurd (cc)
 
 pub after_none : (r : Result (List GlyphMetrics) Fault) → put_after [] r ≡ r
 after_none (Ok rest) = refl
@@ -131,25 +135,70 @@ no_file_fault (Err first) file e = refl
 pub absent : (items : List Item) (g : List ℕ) → list_any (bytes_eq g) (glyph_names items) ≡ false → fault_of (own (font_to_run items) g) ≡ None
 absent items g h = ap fault_of (own-none (font_to_run items) g (none-there (glyph_to_run items g) (sym (names-known items g) ∙ h)))
 
-passes : (s : SourceParts) (font : MeasuredFont) → file_check s ≡ Ok tt → measured s.items ≡ Ok font → source_check s ≡ Ok tt
+passes_check : (s : SourceParts) (font : MeasuredFont) → file_check s ≡ Ok tt → measured s.items ≡ Ok font → source_check s ≡ Ok tt
 unfolding measured_source
-passes s font file glyphs = rw (file, glyphs) refl
+passes_check s font file glyphs = rw (file, glyphs) refl
 
-found_none_of : (s : SourceParts) (es : List Entry) → AreOf s.items es → faults_by (own (font_to_run s.items)) s es ≡ [] → source_check s ≡ Ok tt
+same_told : (faulty : ℕ → Bool) (o : Option Failure) (f : Failure) → option_and_then (told faulty) o ≡ Some f → o ≡ Some f
+same_told faulty None f e = absurd (cc)
+same_told faulty (Some x) f e = by (passes faulty (missing_subr x)) e where
+  by : (b : Bool) → cond b None (Some x) ≡ Some f → Some x ≡ Some f
+  by true e' = absurd (cc)
+  by false e' = e'
+
+-- the calls of a failure that is told lead to its word
+pub leads : (items : List Item) (g : List ℕ) (f : Failure) → failures_in items g ≡ Some f → (count : ℕ) × LeadsTo (font_to_run items) count f.calls f.word
+leads items g f e = by (glyph_to_run items g) e where
+  by : (body : Option (List Command)) → option_and_then (told (λ n. list_any (is_faulty_subr n) items)) (option_and_then (failure_in (font_to_run items)) body) ≡ Some f
+      → (count : ℕ) × LeadsTo (font_to_run items) count f.calls f.word
+  by None h = absurd (cc)
+  by (Some body) h = (length body, calls_lead (font_to_run items) body f (same_told (λ n. list_any (is_faulty_subr n) items) (failure_in (font_to_run items) body) f h))
+
+pub outside : (f : Failure) → last_entered f.calls ≡ None → met_outside (Some f) ≡ met_with [] f ∷ []
+outside f last = ap (λ (o : Option ℕ). cond (is_none o) (met_with [] f ∷ []) []) last
+
+-- where nothing was met in any entry, no glyph's run fails
+never_fails : (items : List Item) (es : List Entry) → AreOf items es
+    → AllByRecursion (λ e. met_in (failures_in items) (λ n. met_after [] (failures_in items) n es) e.place ≡ []) es
+    → (g : List ℕ) → list_any (bytes_eq g) (glyph_names items) ≡ true → failures_in items g ≡ None
+never_fails items es are none g there = by (failures_in items g) refl where
+  met : (f : Failure) → failures_in items g ≡ Some f → (o : Option ℕ) → last_entered f.calls ≡ o → ⊥
+  met f e None last =
+      let F = failures_in items in
+      let subrs : ℕ → List RunFault = λ n. met_after [] F n es in
+      let here = one_of (λ x. (x.place ≡ places.Glyph g) × (met_in F subrs x.place ≡ [])) es
+      (both (λ x. x.place ≡ places.Glyph g) (λ x. met_in F subrs x.place ≡ []) es (glyph_there items es g are there) none) in
+      let some : met_with [] f ∷ [] ≡ [] = sym (outside f last) ∙ ap met_outside (sym e) ∙ ap (met_in F subrs) (sym here.1.0) ∙ here.1.1 in
+      absurd (cc)
+  met f e (Some n) last =
+      let F = failures_in items in
+      let subrs : ℕ → List RunFault = λ n. met_after [] F n es in
+      let lead = leads items g f e in
+      let body = last_there (font_to_run items) lead.0 f.calls f.word n lead.1 last in
+      let here = one_of (λ x. (x.place ≡ places.Subr n) × (met_in F subrs x.place ≡ [])) es
+      (both (λ x. x.place ≡ places.Subr n) (λ x. met_in F subrs x.place ≡ []) es (subr_there items es n body.0 are body.1) none) in
+      met_some F n es g f e last (glyph_there items es g are there) (ap (met_in F subrs) (sym here.1.0) ∙ here.1.1)
+
+  by : (o : Option Failure) → failures_in items g ≡ o → failures_in items g ≡ None
+  by None e = e
+  by (Some f) e = absurd (met f e (last_entered f.calls) refl)
+
+found_none_of : (s : SourceParts) (es : List Entry) → AreOf s.items es → faults_by (failures_in s.items) (own (font_to_run s.items)) s es ≡ [] → source_check s ≡ Ok tt
 found_none_of s es are none =
     let run = own (font_to_run s.items) in
-    let unsure = list_any is_faulty_subr s.items in
-    let first = both_none (flat_map (entry_faults unsure run) es) (file_faults (bodies_check s.items) (file_check s) ++ flat_map (join_faults run) es) none in
+    let F = failures_in s.items in
+    let subrs : ℕ → List RunFault = λ n. met_after [] F n es in
+    let first = both_none (flat_map (entry_faults F subrs) es) (file_faults (bodies_check s.items) (file_check s) ++ flat_map (join_faults run) es) none in
     let second = both_none (file_faults (bodies_check s.items) (file_check s)) (flat_map (join_faults run) es) first.1 in
-    let sound = items_sound unsure run s.items es are first.0 in
+    let sound = items_sound F subrs s.items es are first.0 in
     let fine : (g : List ℕ) → fault_of (run g) ≡ None = λ g. elim (cases_Bool (list_any (bytes_eq g) (glyph_names s.items))) [
-      | inl there ↦ sure_none unsure (fault_of (run g)) sound.sure (sound.runs g there)
+      | inl there ↦ runs_told s.items sound.0 g ∙ ap (option_map (λ (f : Failure). f.code)) (never_fails s.items es are sound.1 g there)
       | inr not_there ↦ absent s.items g not_there
     ] in
-    let file = fits (bodies_check s.items) (file_check s) sound.checked second.0 in
+    let file = fits (bodies_check s.items) (file_check s) sound.0 second.0 in
     let ms = among_all run (glyph_names s.items) (joins_sound run s.items es are fine second.1) in
     let box = united (map (λ (m : GlyphMetrics). m.bbox) ms.0) in
-    passes s (record { metrics = ms.0; font_box = box }) file (all-reported s.items run ms.0 box (runs-own s.items sound.checked) ms.1 refl)
+    passes_check s (record { metrics = ms.0; font_box = box }) file (all-reported s.items run ms.0 box (runs-own s.items sound.0) ms.1 refl)
 
 -- where nothing is found, check passes
 pub found_none : (bytes : List ℕ) → source_faults bytes ≡ [] → checked bytes ≡ Ok tt
@@ -184,20 +233,40 @@ run_passes run g h = by (run g) refl where
   by (Some (Ok d)) e = ap fault_of e
   by (Some (Err code)) e = let some : Some code ≡ None = ap code_of (sym (faulty-metrics run g code e)) ∙ h in absurd (cc)
 
-pub none_found_of : (s : SourceParts) (es : List Entry) → AreOf s.items es → source_check s ≡ Ok tt → faults_by (own (font_to_run s.items)) s es ≡ []
+never_told : (o : Option Failure) → option_map (λ (f : Failure). f.code) o ≡ None → o ≡ None
+never_told None e = refl
+never_told (Some f) e = absurd (cc)
+
+nothing_in : (F : Failures) → ((g : List ℕ) → F g ≡ None) → (es : List Entry) (place : Place) → met_in F (λ n. met_after [] F n es) place ≡ []
+nothing_in F none es places.Nowhere = refl
+nothing_in F none es (places.Line n) = refl
+nothing_in F none es (places.Subr n) = nothing_met F none [] n es
+nothing_in F none es (places.Glyph g) = ap met_outside (none g)
+
+pub none_found_of : (s : SourceParts) (es : List Entry) → AreOf s.items es → source_check s ≡ Ok tt → faults_by (failures_in s.items) (own (font_to_run s.items)) s es ≡ []
 unfolding measured_source
 none_found_of s es are passed =
     let run = own (font_to_run s.items) in
-    let unsure = list_any is_faulty_subr s.items in
+    let F = failures_in s.items in
     let font = bind_ok (file_check s >>= λ fine. measured s.items) (λ (m : MeasuredFont). Ok tt) tt passed in
     let file = bind_ok (file_check s) (λ fine. measured s.items) font.0 font.1 in
     let whole : file_check s ≡ Ok tt = file.1 in
     let bodies = bodies_pass s whole in
     let each = all_measured s.items font.0 bodies file.2 in
-    none_joined (flat_map (entry_faults unsure run) es) (file_faults (bodies_check s.items) (file_check s) ++ flat_map (join_faults run) es)
-    (items_fine unsure run s.items es are bodies (λ g h. run_passes run g (each g h)))
+    let fine : (g : List ℕ) → fault_of (run g) ≡ None = λ g. elim (cases_Bool (list_any (bytes_eq g) (glyph_names s.items))) [
+      | inl there ↦ run_passes run g (each g there)
+      | inr not_there ↦ absent s.items g not_there
+    ] in
+    let none : (g : List ℕ) → F g ≡ None = λ g. never_told (F g) (sym (runs_told s.items bodies g) ∙ fine g) in
+    none_joined (flat_map (entry_faults F (λ n. met_after [] F n es)) es) (file_faults (bodies_check s.items) (file_check s) ++ flat_map (join_faults run) es)
+    (entries_fine F (λ n. met_after [] F n es) es (bodies_fine s.items es are bodies) (nothing_in F none es))
     (none_joined (file_faults (bodies_check s.items) (file_check s)) (flat_map (join_faults run) es)
     (no_file_fault (bodies_check s.items) (file_check s) whole) (joins_fine run s.items es are each))
+
+-- in a source that passes, nothing is found
+pub none_where_sound : (bytes : List ℕ) (s : SourceParts) (font : MeasuredFont) → reads bytes ≡ Ok s → measured_source s ≡ Ok font → [] ≡ faults_of (lines bytes) s
+none_where_sound bytes s font e passed =
+    sym (none_found_of s (entries_in (parts_of (lines bytes)) s) (read_entries bytes s e) (ap (λ (r : Result MeasuredFont Fault). r >>= λ m. Ok tt) passed))
 
 -- where check passes, nothing is found
 pub none_found : (bytes : List ℕ) → checked bytes ≡ Ok tt → source_faults bytes ≡ []

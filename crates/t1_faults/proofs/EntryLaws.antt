@@ -1,6 +1,5 @@
 -- The entries of a source that was read are those of its items.
-use Rattle.std.proofs.Common.{◌≡◌, ◌∙◌, ℕ, ◌+◌, ◌-◌, List, [], ◌∷◌, ◌++◌, length, take, drop, map, Result, Ok, Err, refl, sym, ap, subst, arith}
-use Rattle.t1_frac.specs.Outcome.{◌>>=◌}
+use Rattle.std.proofs.Common.{◌≡◌, ◌∙◌, ℕ, ◌+◌, ◌-◌, List, [], ◌∷◌, ◌++◌, length, take, drop, map, Result, Ok, refl, sym, ap, subst, arith}
 use Rattle.t1_frac.specs.declared.fault.Fault.{Fault}
 use Rattle.t1_frac.proofs.OutcomeLaws.{bind_ok}
 use Rattle.t1_text.specs.Lines.{lines}
@@ -8,9 +7,9 @@ use Rattle.t1_parts.specs.declared.item.Item.{Item}
 use Rattle.t1_parts.specs.declared.item.Item.TheVariants.{Plain, Section, Subr, Glyph}
 use Rattle.t1_parts.specs.Counts.{raised, raised_item, subrs_needed, glyphs_needed}
 use Rattle.t1_parts.specs.Entries.{NumberedItem}
-use Rattle.t1_parts.specs.Parts.{Parts, parts_of, tail_of}
+use Rattle.t1_parts.specs.Parts.{parts_of}
 use Rattle.t1_parts.specs.Private.{items_of, private_items}
-use Rattle.t1_parts.specs.Reading.{reads, reads_lines, unnumbered}
+use Rattle.t1_parts.specs.Reading.{reads, unnumbered}
 use Rattle.t1_parts.specs.SourceParts.{SourceParts}
 use Rattle.t1_source.proofs.WellFormedSourceLaws.{taken_apart, TakenApart}
 use Rattle.t1_faults.specs.Entries.{Entry, entries_from, entry_at, place_in, span}

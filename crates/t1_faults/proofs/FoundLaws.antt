@@ -1,7 +1,7 @@
 -- The source has the word of each fault at its line and column.
-use Rattle.std.proofs.Common.{◌≡◌, ◌∙◌, ℕ, Bool, true, false, ◌+◌, ◌-◌, List, [], ◌∷◌, ◌++◌, length, take, drop, map, Option, None, Some, Result, Ok, Err, refl, sym, ap, subst, inl, inr, arith}
-use Rattle.std.specs.Prelude.{nat_lt, flat_map, option_map, IfSome}
-use Rattle.std.specs.List.{list_any, AllByRecursion}
+use Rattle.std.proofs.Common.{◌≡◌, ◌∙◌, ℕ, zero, suc, ◌+◌, ◌-◌, List, [], ◌∷◌, ◌++◌, length, take, drop, map, Option, None, Some, Result, Ok, Err, refl, sym, ap, subst, inl, inr}
+use Rattle.std.specs.Prelude.{nat_lt, flat_map, option_map, slice_get}
+use Rattle.std.specs.List.{AllByRecursion}
 use Rattle.std.specs.Option.{option_to_list}
 use Rattle.std.proofs.lemmas.Bool.{cases_Bool}
 use Rattle.std.proofs.lemmas.List.{append_assoc, take-append-drop}
@@ -11,9 +11,12 @@ use Rattle.t1_code.specs.declared.command.Command.{Command}
 use Rattle.t1_code.specs.Words.{command_of_word}
 use Rattle.t1_faults.specs.declared.found.FoundFault.{FoundFault}
 use Rattle.t1_faults.specs.declared.placed.PlacedWord.{PlacedWord}
+use Rattle.t1_faults.specs.declared.run_fault.RunFault.{RunFault}
 use Rattle.t1_faults.specs.Entries.{Entry, placed_words}
-use Rattle.t1_faults.specs.Found.{at_entry, at_word, body_faults, code_of, length_faults, word_fault, word_faults}
-use Rattle.t1_faults.specs.Judging.{OwnRuns, certain, entry_faults, join_fault, join_faults, or_others, run_fault, run_faults}
+use Rattle.t1_faults.specs.Failing.{Failures, failures_in}
+use Rattle.t1_faults.specs.Found.{at_entry, at_place, body_faults, in_entry, length_faults, word_faults}
+use Rattle.t1_faults.specs.Judging.{OwnRuns, entry_faults, join_fault, join_faults, or_if_none, run_faults}
+use Rattle.t1_faults.specs.Met.{met_after, met_in}
 use Rattle.t1_faults.specs.Telling.{TellsWord}
 use Rattle.std.specs.Prelude.{ok_or}
 use Rattle.std.specs.List.{position}
@@ -31,8 +34,7 @@ use Rattle.t1_run.specs.Run.{own}
 use Rattle.t1_font.specs.Assembly.{file_check}
 use Rattle.t1_font.specs.Bodies.{bodies_check}
 use Rattle.t1_font.specs.ToRun.{font_to_run}
-use Rattle.t1_faults.specs.Entries.{entries_from}
-use Rattle.t1_faults.specs.Judging.{entries_in, faults_of, faults_read, file_faults, is_faulty_subr, source_faults}
+use Rattle.t1_faults.specs.Judging.{entries_in, faults_of, faults_read, file_faults, source_faults}
 use Rattle.t1_faults.proofs.PlacedLaws.{all_append}
 use Rattle.t1_faults.proofs.StandingLaws.{Stands, WordsStand, entries_stand}
 
@@ -57,19 +59,29 @@ one_tells : (all : List (List ℕ)) (e : Entry) (code : Option Code) → AllByRe
 one_tells all e None = tt
 one_tells all e (Some code) = (tt, tt)
 
-others_tell : (all : List (List ℕ)) (xs ys : List FoundFault) → AllByRecursion (TellsWord all) xs → AllByRecursion (TellsWord all) ys → AllByRecursion (TellsWord all) (or_others xs ys)
-others_tell all [] ys h k = k
-others_tell all (x ∷ xs) ys h k = h
+either_tell : (all : List (List ℕ)) (xs ys : List FoundFault) → AllByRecursion (TellsWord all) xs → AllByRecursion (TellsWord all) ys → AllByRecursion (TellsWord all) (or_if_none xs ys)
+either_tell all [] ys h k = k
+either_tell all (x ∷ xs) ys h k = h
 
-pub entries_tell : (all : List (List ℕ)) (unsure : Bool) (run : OwnRuns) (es : List Entry) → AllByRecursion (WordsStand all) es
-    → AllByRecursion (TellsWord all) (flat_map (entry_faults unsure run) es)
-entries_tell all unsure run [] h = tt
-entries_tell all unsure run (e ∷ es) h =
-    all_append (TellsWord all) (entry_faults unsure run e) (flat_map (entry_faults unsure run) es)
-    (others_tell all (body_faults e) (run_faults unsure run e) (body_tells all e h.0) (one_tells all e (certain unsure (run_fault run e.place))))
-    (entries_tell all unsure run es h.1)
+-- the word of a fault that runs met stands there
+place_tells : (all : List (List ℕ)) (e : Entry) (ws : List PlacedWord) → AllByRecursion (Stands all) ws → (f : RunFault) (i : ℕ) → TellsWord all (at_place e (slice_get ws i) f)
+place_tells all e [] h f i = tt
+place_tells all e (w ∷ ws) h f zero = h.0
+place_tells all e (w ∷ ws) h f (suc i) = place_tells all e ws h.1 f i
 
-pub joins_tell : (all : List (List ℕ)) (run : OwnRuns) (es : List Entry) → AllByRecursion (TellsWord all) (flat_map (join_faults run) es)
+runs_tell : (all : List (List ℕ)) (e : Entry) (ws : List PlacedWord) → AllByRecursion (Stands all) ws → (fs : List RunFault) → AllByRecursion (TellsWord all) (map (in_entry e ws) fs)
+runs_tell all e ws h [] = tt
+runs_tell all e ws h (f ∷ fs) = (place_tells all e ws h f f.word, runs_tell all e ws h fs)
+
+entries_tell : (all : List (List ℕ)) (F : Failures) (subrs : ℕ → List RunFault) (es : List Entry) → AllByRecursion (WordsStand all) es
+    → AllByRecursion (TellsWord all) (flat_map (entry_faults F subrs) es)
+entries_tell all F subrs [] h = tt
+entries_tell all F subrs (e ∷ es) h =
+    all_append (TellsWord all) (entry_faults F subrs e) (flat_map (entry_faults F subrs) es)
+    (either_tell all (body_faults e) (run_faults F subrs e) (body_tells all e h.0) (runs_tell all e (placed_words e) h.0 (met_in F subrs e.place)))
+    (entries_tell all F subrs es h.1)
+
+joins_tell : (all : List (List ℕ)) (run : OwnRuns) (es : List Entry) → AllByRecursion (TellsWord all) (flat_map (join_faults run) es)
 joins_tell all run [] = tt
 joins_tell all run (e ∷ es) =
     all_append (TellsWord all) (join_faults run e) (flat_map (join_faults run) es) (one_tells all e (join_fault run e.place)) (joins_tell all run es)
@@ -114,9 +126,10 @@ found_of : (ls : List (List ℕ)) (s : SourceParts) → AllByRecursion (WordsSta
 found_of ls s h =
     let run = own (font_to_run s.items) in
     let es = entries_in (parts_of ls) s in
-    let unsure = list_any is_faulty_subr s.items in
+    let F = failures_in s.items in
+    let subrs : ℕ → List RunFault = λ n. met_after [] F n es in
     let file = file_faults (bodies_check s.items) (file_check s) in
-    all_append (TellsWord ls) (flat_map (entry_faults unsure run) es) (file ++ flat_map (join_faults run) es) (entries_tell ls unsure run es h)
+    all_append (TellsWord ls) (flat_map (entry_faults F subrs) es) (file ++ flat_map (join_faults run) es) (entries_tell ls F subrs es h)
     (all_append (TellsWord ls) file (flat_map (join_faults run) es) (file_tells ls (bodies_check s.items) (file_check s)) (joins_tell ls run es))
 
 -- the source has the word of each fault that is found at its line and column

@@ -1,10 +1,12 @@
+pub mod AmongLaws
 pub mod CheckLaws
 pub mod ColumnLaws
-pub mod DepthLaws
 pub mod EntryLaws
+pub mod FailureLaws
 pub mod FoundLaws
 pub mod JudgingLaws
 pub mod LoopLaws
+pub mod MetLaws
 pub mod PlacedLaws
 pub mod ReadingLaws
 pub mod SoundLaws

@@ -1,42 +1,15 @@
--- Steps of the loops over words, lines and entries.
-use Rattle.std.proofs.Common.{◌≡◌, ◌∙◌, ℕ, Bool, true, false, ◌+◌, List, [], ◌∷◌, ◌++◌, length, take, drop, map, refl, sym, ap, subst, arith}
+-- Steps of the loops over entries.
+use Rattle.std.proofs.Common.{◌≡◌, ◌∙◌, ℕ, ◌+◌, List, [], ◌∷◌, ◌++◌, drop, sym, ap, subst, arith}
 use Rattle.std.specs.Prelude.{Option, Some, None, option_map, IfSome, suc}
 use Rattle.std.specs.Borrow.{Bor}
 use Rattle.t1_frac.specs.declared.fault.Place.{Place}
 use Rattle.t1_text.specs.Lines.{lines}
 use Rattle.t1_parts.specs.declared.body.EntryBody.{EntryBody}
 use Rattle.t1_parts.specs.Pieces.{IsAfter}
-use Rattle.std.specs.List.{before_first}
-use Rattle.std.proofs.lemmas.List.{append_assoc, append-nil}
-use Rattle.t1_text.specs.Delimiters.{is_brace}
-use Rattle.t1_text.specs.Tokens.{uncommented}
-use Rattle.t1_parts.specs.Entries.{has_brace, opened_body}
+use Rattle.std.proofs.lemmas.List.{append_assoc}
+use Rattle.t1_parts.specs.Entries.{opened_body}
 use Rattle.t1_parts.specs.declared.item.Item.{Item}
-use Rattle.t1_faults.specs.declared.placed.PlacedWord.{PlacedWord}
 use Rattle.t1_faults.specs.Entries.{Entry, entries_from, entry_at, more_lines, place_in, span}
-use Rattle.t1_faults.specs.Placed.{columns_from, on_line, placed_body, placed_line}
-
-pub words_on : (n from to : ℕ) (rest after : List ℕ) (w : ℕ × List ℕ) (old new : List PlacedWord) → columns_from from rest ≡ w ∷ columns_from to after → new ≡ old ++ on_line n w ∷ []
-    → new ++ placed_line n to after ≡ old ++ placed_line n from rest
-words_on n from to rest after w old new is pushed =
-    ap (λ ws. ws ++ placed_line n to after) pushed ∙ append_assoc old (on_line n w ∷ []) (placed_line n to after) ∙ ap (λ ws. old ++ map (on_line n) ws) (sym is)
-
-pub words_done : (n from : ℕ) (rest : List ℕ) (found : List PlacedWord) → columns_from from rest ≡ [] → found ++ placed_line n from rest ≡ found
-words_done n from rest found is = ap (λ ws. found ++ map (on_line n) ws) is ∙ append-nil found
-
--- a line without a brace, and the lines after it
-pub line_on : (n from : ℕ) (text : List ℕ) (ls : List (List ℕ)) (old new : List PlacedWord) → has_brace text ≡ false → new ≡ old ++ placed_line n from (uncommented text)
-    → new ++ placed_body (n + 1) 1 ls ≡ old ++ placed_body n from (text ∷ ls)
-line_on n from text ls old new none pushed =
-    ap (λ ws. ws ++ placed_body (n + 1) 1 ls) pushed ∙ append_assoc old (placed_line n from (uncommented text)) (placed_body (n + 1) 1 ls) ∙ ap (λ ws. old ++ ws) (sym (rw none refl))
-
-pub line_last : (n from : ℕ) (text : List ℕ) (ls : List (List ℕ)) → has_brace text ≡ true → placed_line n from (before_first is_brace text) ≡ placed_body n from (text ∷ ls)
-line_last n from text ls brace = sym (rw brace refl)
-
--- items without lines have no entries
-pub no_lines : (n : ℕ) (items : List Item) → entries_from n [] items ≡ []
-no_lines n [] = refl
-no_lines n (item ∷ items) = refl
 
 pub opened_size : (found : Option (EntryBody × Bor (List ℕ))) (o : Option EntryBody) (b : EntryBody) (a : Bor (List ℕ)) → option_map (λ (f : EntryBody × Bor (List ℕ)). f.0) found ≡ o → found ≡ Some (b, a)
     → more_lines o ≡ b.more

@@ -1,9 +1,8 @@
 -- Words where they stand: they are the words of the body, and the source has them there.
-use Rattle.std.proofs.Common.{◌≡◌, ◌∙◌, ℕ, zero, suc, Bool, true, false, cond, ◌==◌, ◌+◌, ◌-◌, ◌<◌, List, [], ◌∷◌, ◌++◌, length, take, drop, map, Some, None, Option, refl, sym, ap, subst, inl, inr, arith}
+use Rattle.std.proofs.Common.{◌≡◌, ◌∙◌, ℕ, Bool, true, false, cond, ◌==◌, ◌+◌, List, [], ◌∷◌, ◌++◌, map, Some, None, Option, refl, ap, inl, inr}
 use Rattle.std.specs.Prelude.{not}
 use Rattle.std.specs.List.{onto_first, position_or_len, before_first, after_first, All, AllByRecursion}
 use Rattle.std.proofs.lemmas.Bool.{cases_Bool}
-use Rattle.std.proofs.lemmas.List.{append_assoc}
 use Rattle.std.proofs.lemmas.List.Elements.{All-from_recursion}
 use Rattle.t1_frac.specs.Words.{is_blank, words, word_goes_on}
 use Rattle.t1_text.specs.Tokens.{onto_place, uncommented}
@@ -14,7 +13,6 @@ use Rattle.t1_parts.specs.declared.body.EntryBody.{EntryBody}
 use Rattle.t1_parts.specs.Entries.{body_of, closes, has_brace, opened_body, with_front}
 use Rattle.t1_faults.specs.Placed.{columns_from, on_line, placed_line, placed_body, opened_words}
 use Rattle.t1_faults.specs.declared.placed.PlacedWord.{PlacedWord}
-use Rattle.t1_faults.proofs.ColumnLaws.{column_first}
 
 -- ---- the words
 

@@ -1,15 +1,12 @@
 -- No fault is found exactly where check finds none.
-use Rattle.std.proofs.Common.{◌≡◌, ◌∙◌, ℕ, zero, suc, Bool, true, false, cond, ◌&&◌, ◌||◌, List, [], ◌∷◌, ◌++◌, length, map, Option, None, Some, Result, Ok, Err, refl, sym, ap, subst, inl, inr}
-use Rattle.std.specs.Prelude.{nat_lt, is_none, filter_map, flat_map, option_map}
-use Rattle.std.specs.List.{list_any}
+use Rattle.std.proofs.Common.{◌≡◌, ◌∙◌, ℕ, zero, suc, Bool, true, false, cond, ◌||◌, List, [], ◌∷◌, ◌++◌, length, map, Option, None, Some, Result, Ok, Err, refl, sym, ap, subst, inl, inr}
+use Rattle.std.specs.Prelude.{nat_lt, flat_map, option_map}
+use Rattle.std.specs.List.{list_any, AllByRecursion}
 use Rattle.std.specs.Option.{option_to_list}
-use Rattle.std.specs.Result.{result_ok}
 use Rattle.std.specs.Str.{bytes_eq}
 use Rattle.std.proofs.lemmas.Bool.{cases_Bool}
-use Rattle.t1_frac.specs.Outcome.{reported_at, ◌>>=◌}
 use Rattle.t1_frac.specs.declared.fault.Code.{Code}
 use Rattle.t1_frac.specs.declared.fault.Code.TheVariants.{F22}
-use Rattle.t1_frac.specs.declared.fault.Fault.{Fault}
 use Rattle.t1_frac.specs.declared.fault.Place.{Place}
 use Rattle.t1_frac.specs.declared.fault.Place.TheVariants as places
 use Rattle.t1_parts.specs.declared.item.Item.{Item}
@@ -25,9 +22,12 @@ use Rattle.t1_font.specs.MeasuredGlyphs.{glyph_metrics_at}
 use Rattle.t1_font.proofs.Measuring.{first-ok, next-ok}
 use Rattle.t1_faults.specs.declared.found.FoundFault.{FoundFault}
 use Rattle.t1_faults.specs.declared.placed.PlacedWord.{PlacedWord}
+use Rattle.t1_faults.specs.declared.run_fault.RunFault.{RunFault}
 use Rattle.t1_faults.specs.Entries.{Entry, placed_words}
-use Rattle.t1_faults.specs.Found.{at_entry, at_word, body_faults, code_of, length_faults, word_fault, word_faults}
-use Rattle.t1_faults.specs.Judging.{OwnRuns, certain, entry_faults, fault_of, is_f32, is_faulty_subr, join_fault, join_faults, or_others, run_fault, run_faults, sound_parts, sound_run, sound_within}
+use Rattle.t1_faults.specs.Failing.{Failures}
+use Rattle.t1_faults.specs.Found.{at_entry, at_word, body_faults, code_of, in_entry, length_faults, met_faults, word_faults}
+use Rattle.t1_faults.specs.Judging.{OwnRuns, entry_faults, fault_of, join_fault, join_faults, or_if_none, run_faults, sound_parts, sound_run, sound_within}
+use Rattle.t1_faults.specs.Met.{met_in}
 use Rattle.t1_faults.proofs.TakenLaws.{AreOf}
 
 -- ---- lists without elements
@@ -46,7 +46,7 @@ none_listed f (Some x) e = absurd (cc)
 nothing_listed : {X Y : Type 0} (f : X → Y) (o : Option X) → o ≡ None → option_to_list (option_map f o) ≡ []
 nothing_listed f o e = ap (λ x. option_to_list (option_map f x)) e
 
-no_others : (xs ys : List FoundFault) → or_others xs ys ≡ [] → (xs ≡ []) × (ys ≡ [])
+no_others : (xs ys : List FoundFault) → or_if_none xs ys ≡ [] → (xs ≡ []) × (ys ≡ [])
 no_others [] ys e = (refl, e)
 no_others (x ∷ xs) ys e = absurd (cc)
 
@@ -121,43 +121,31 @@ words_there place ws e = by (commands ws) refl where
   by (Ok cs) h = (cs, h)
   by (Err code) h = let none : Err (record { code = code; place = place }) ≡ Ok tt = rw h at e in absurd (cc)
 
--- what is true where entries have no fault of their own
-pub record AreSound (unsure : Bool) (run : OwnRuns) (items : List Item) : Type 0 where
-  pub checked : bodies_check items ≡ Ok tt
-  pub sure : list_any is_faulty_subr items ≡ false
-  pub runs : (g : List ℕ) → list_any (bytes_eq g) (glyph_names items) ≡ true → certain unsure (fault_of (run g)) ≡ None
+none_mapped : {X Y : Type 0} (f : X → Y) (xs : List X) → map f xs ≡ [] → xs ≡ []
+none_mapped f [] e = refl
+none_mapped f (x ∷ xs) e = absurd (cc)
 
-pub items_sound : (unsure : Bool) (run : OwnRuns) (items : List Item) (es : List Entry) → AreOf items es → flat_map (entry_faults unsure run) es ≡ [] → AreSound unsure run items
-items_sound unsure run [] [] are none = record { checked = refl; sure = refl; runs = λ g h. absurd (cc) }
-items_sound unsure run [] (e ∷ es) are none = absurd are
-items_sound unsure run (Plain l ∷ items) es are none = let s = items_sound unsure run items es are none in record { checked = s.checked; sure = s.sure; runs = s.runs }
-items_sound unsure run (Section before n after ∷ items) es are none = let s = items_sound unsure run items es are none in record { checked = s.checked; sure = s.sure; runs = s.runs }
-items_sound unsure run (Subr n words closing ∷ items) [] are none = absurd are
-items_sound unsure run (Subr n words closing ∷ items) (e ∷ es) are none =
-    let parts = both_none (entry_faults unsure run e) (flat_map (entry_faults unsure run) es) none in
-    let own = no_others (body_faults e) (run_faults unsure run e) parts.0 in
+-- where entries have no fault of their own, all bodies compile, and runs met nothing
+pub items_sound : (F : Failures) (subrs : ℕ → List RunFault) (items : List Item) (es : List Entry) → AreOf items es → flat_map (entry_faults F subrs) es ≡ []
+    → (bodies_check items ≡ Ok tt) × AllByRecursion (λ e. met_in F subrs e.place ≡ []) es
+items_sound F subrs [] [] are none = (refl, tt)
+items_sound F subrs [] (e ∷ es) are none = absurd are
+items_sound F subrs (Plain l ∷ items) es are none = items_sound F subrs items es are none
+items_sound F subrs (Section before n after ∷ items) es are none = items_sound F subrs items es are none
+items_sound F subrs (Subr n words closing ∷ items) [] are none = absurd are
+items_sound F subrs (Subr n words closing ∷ items) (e ∷ es) are none =
+    let parts = both_none (entry_faults F subrs e) (flat_map (entry_faults F subrs) es) none in
+    let own = no_others (body_faults e) (run_faults F subrs e) parts.0 in
     let read = body_sound e words are.1 own.0 in
-    let s = items_sound unsure run items es are.2 parts.1 in
-    record {
-      checked = rw (words_pass (places.Subr n) words read.0 read.1) s.checked;
-      sure = rw read.1 s.sure;
-      runs = s.runs;
-    }
-items_sound unsure run (Glyph name words closing ∷ items) [] are none = absurd are
-items_sound unsure run (Glyph name words closing ∷ items) (e ∷ es) are none =
-    let parts = both_none (entry_faults unsure run e) (flat_map (entry_faults unsure run) es) none in
-    let own = no_others (body_faults e) (run_faults unsure run e) parts.0 in
+    let s = items_sound F subrs items es are.2 parts.1 in
+    (rw (words_pass (places.Subr n) words read.0 read.1) s.0, (none_mapped (in_entry e (placed_words e)) (met_in F subrs e.place) own.1, s.1))
+items_sound F subrs (Glyph name words closing ∷ items) [] are none = absurd are
+items_sound F subrs (Glyph name words closing ∷ items) (e ∷ es) are none =
+    let parts = both_none (entry_faults F subrs e) (flat_map (entry_faults F subrs) es) none in
+    let own = no_others (body_faults e) (run_faults F subrs e) parts.0 in
     let read = body_sound e words are.1 own.0 in
-    let s = items_sound unsure run items es are.2 parts.1 in
-    let here : certain unsure (fault_of (run name)) ≡ None = ap (λ p. certain unsure (run_fault run p)) (sym are.0) ∙ none_listed (at_entry e) (certain unsure (run_fault run e.place)) own.1 in
-    record {
-      checked = rw (words_pass (places.Glyph name) words read.0 read.1) s.checked;
-      sure = s.sure;
-      runs = λ g h. elim (cases_Bool (bytes_eq g name)) [
-        | inl same ↦ subst (λ x. certain unsure (fault_of (run x)) ≡ None) (sym (bytes_same g name same)) here
-        | inr other ↦ s.runs g (rw other at h)
-      ];
-    }
+    let s = items_sound F subrs items es are.2 parts.1 in
+    (rw (words_pass (places.Glyph name) words read.0 read.1) s.0, (none_mapped (in_entry e (placed_words e)) (met_in F subrs e.place) own.1, s.1))
 
 or_second : (a b : Bool) → b ≡ true → (a || b) ≡ true
 or_second true b h = refl
@@ -167,30 +155,29 @@ or_first : (a b : Bool) → a ≡ true → (a || b) ≡ true
 or_first true b h = refl
 or_first false b h = absurd (cc)
 
--- entries whose bodies compile and whose runs have no fault have none
-pub items_fine : (unsure : Bool) (run : OwnRuns) (items : List Item) (es : List Entry) → AreOf items es → bodies_check items ≡ Ok tt
-    → ((g : List ℕ) → list_any (bytes_eq g) (glyph_names items) ≡ true → fault_of (run g) ≡ None) → flat_map (entry_faults unsure run) es ≡ []
-items_fine unsure run [] [] are checked fine = refl
-items_fine unsure run [] (e ∷ es) are checked fine = absurd are
-items_fine unsure run (Plain l ∷ items) es are checked fine = items_fine unsure run items es are checked fine
-items_fine unsure run (Section before n after ∷ items) es are checked fine = items_fine unsure run items es are checked fine
-items_fine unsure run (Subr n words closing ∷ items) [] are checked fine = absurd are
-items_fine unsure run (Subr n words closing ∷ items) (e ∷ es) are checked fine =
+-- where all bodies compile, none has a fault
+pub bodies_fine : (items : List Item) (es : List Entry) → AreOf items es → bodies_check items ≡ Ok tt → AllByRecursion (λ e. body_faults e ≡ []) es
+bodies_fine [] [] are checked = tt
+bodies_fine [] (e ∷ es) are checked = absurd are
+bodies_fine (Plain l ∷ items) es are checked = bodies_fine items es are checked
+bodies_fine (Section before n after ∷ items) es are checked = bodies_fine items es are checked
+bodies_fine (Subr n words closing ∷ items) [] are checked = absurd are
+bodies_fine (Subr n words closing ∷ items) (e ∷ es) are checked =
     let read = words_there (places.Subr n) words (first-ok (words_check (places.Subr n) words) (bodies_check items) tt checked) in
-    let body = body_fine e words read.0 are.1 read.1 in
-    let none : run_faults unsure run e ≡ [] = nothing_listed (at_entry e) (certain unsure (run_fault run e.place)) (ap (λ p. certain unsure (run_fault run p)) are.0) in
-    none_joined (entry_faults unsure run e) (flat_map (entry_faults unsure run) es) (ap (λ fs. or_others fs (run_faults unsure run e)) body ∙ none)
-    (items_fine unsure run items es are.2 (next-ok (words_check (places.Subr n) words) (bodies_check items) tt checked) fine)
-items_fine unsure run (Glyph name words closing ∷ items) [] are checked fine = absurd are
-items_fine unsure run (Glyph name words closing ∷ items) (e ∷ es) are checked fine =
+    (body_fine e words read.0 are.1 read.1, bodies_fine items es are.2 (next-ok (words_check (places.Subr n) words) (bodies_check items) tt checked))
+bodies_fine (Glyph name words closing ∷ items) [] are checked = absurd are
+bodies_fine (Glyph name words closing ∷ items) (e ∷ es) are checked =
     let read = words_there (places.Glyph name) words (first-ok (words_check (places.Glyph name) words) (bodies_check items) tt checked) in
-    let body = body_fine e words read.0 are.1 read.1 in
-    let here = fine name (or_first (bytes_eq name name) (list_any (bytes_eq name) (glyph_names items)) (bytes_self name)) in
-    let none : run_faults unsure run e ≡ [] =
-    nothing_listed (at_entry e) (certain unsure (run_fault run e.place)) (ap (λ p. certain unsure (run_fault run p)) are.0 ∙ ap (certain unsure) here) in
-    none_joined (entry_faults unsure run e) (flat_map (entry_faults unsure run) es) (ap (λ fs. or_others fs (run_faults unsure run e)) body ∙ none)
-    (items_fine unsure run items es are.2 (next-ok (words_check (places.Glyph name) words) (bodies_check items) tt checked)
-    (λ g h. fine g (or_second (bytes_eq g name) (list_any (bytes_eq g) (glyph_names items)) h)))
+    (body_fine e words read.0 are.1 read.1, bodies_fine items es are.2 (next-ok (words_check (places.Glyph name) words) (bodies_check items) tt checked))
+
+-- entries whose bodies have no fault and in which runs met nothing have no fault of their own
+pub entries_fine : (F : Failures) (subrs : ℕ → List RunFault) (es : List Entry) → AllByRecursion (λ e. body_faults e ≡ []) es → ((place : Place) → met_in F subrs place ≡ [])
+    → flat_map (entry_faults F subrs) es ≡ []
+entries_fine F subrs [] bodies none = refl
+entries_fine F subrs (e ∷ es) bodies none =
+    none_joined (entry_faults F subrs e) (flat_map (entry_faults F subrs) es)
+    (ap (λ fs. or_if_none fs (run_faults F subrs e)) bodies.0 ∙ ap (met_faults e) (none e.place))
+    (entries_fine F subrs es bodies.1 none)
 
 -- ---- joins
 

@@ -1,6 +1,6 @@
 -- The source has each word at its line and column.
-use Rattle.std.proofs.Common.{◌≡◌, ◌∙◌, ℕ, zero, suc, Bool, true, false, ◌==◌, ◌+◌, ◌-◌, ◌<◌, ◌≤◌, ◌⊎◌, List, [], ◌∷◌, ◌++◌, length, take, drop, map, Some, None, Option, refl, sym, ap, subst, inl, inr, arith, length-append}
-use Rattle.std.specs.List.{position_or_len, before_first, after_first, All, AllByRecursion}
+use Rattle.std.proofs.Common.{◌≡◌, ◌∙◌, ℕ, true, ◌==◌, ◌+◌, ◌≤◌, List, [], ◌∷◌, ◌++◌, length, take, drop, map, Some, None, Option, refl, sym, ap, subst, inl, inr, arith, length-append}
+use Rattle.std.specs.List.{position_or_len, AllByRecursion}
 use Rattle.std.proofs.lemmas.Bool.{cases_Bool, cases_lt, not-true}
 use Rattle.std.proofs.lemmas.List.{append_assoc, take-append-drop, length-take-le, drop_all}
 use Rattle.t1_frac.specs.Words.{is_blank, word_goes_on}

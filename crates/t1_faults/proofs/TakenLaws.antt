@@ -1,9 +1,9 @@
 -- The entries of a source that was read are those of its items, with their words.
-use Rattle.std.proofs.Common.{◌≡◌, ◌∙◌, ℕ, zero, suc, Bool, true, false, ◌||◌, ◌+◌, ◌-◌, List, [], ◌∷◌, ◌++◌, length, take, drop, map, Some, None, Option, Result, Ok, Err, refl, sym, ap, subst, inl, inr, arith}
-use Rattle.std.specs.Prelude.{ok_or, option_map, codes, max, if◌then◌else◌}
+use Rattle.std.proofs.Common.{◌≡◌, ◌∙◌, ℕ, zero, suc, ◌||◌, ◌+◌, List, [], ◌∷◌, ◌++◌, drop, map, Some, None, Option, Result, Ok, Err, refl, sym, ap, subst, inl, inr, arith}
+use Rattle.std.specs.Prelude.{ok_or, option_map, codes, if◌then◌else◌}
 use Rattle.std.proofs.lemmas.Bool.{cases_Bool}
 use Rattle.std.proofs.lemmas.List.{append_assoc, append-nil}
-use Rattle.t1_frac.specs.Outcome.{reported_at, ◌>>=◌}
+use Rattle.t1_frac.specs.Outcome.{reported_at}
 use Rattle.t1_frac.specs.declared.fault.Code.{Code}
 use Rattle.t1_frac.specs.declared.fault.Code.TheVariants.{F4, F7, F8, F9, F10}
 use Rattle.t1_frac.specs.declared.fault.Place.TheVariants as places
@@ -13,14 +13,12 @@ use Rattle.t1_text.specs.Names.{decimal_of, up_to, name_of_token}
 use Rattle.t1_parts.specs.declared.body.EntryBody.{EntryBody}
 use Rattle.t1_parts.specs.declared.item.Item.{Item}
 use Rattle.t1_parts.specs.declared.item.Item.TheVariants.{Plain, Section, Subr, Glyph}
-use Rattle.t1_parts.specs.Counts.{raised, raised_item, subrs_needed, glyphs_needed}
 use Rattle.t1_parts.specs.Entries.{NumberedItem, Taken, entry_of as made_entry, glyph_entry, has, is_glyph, is_subr, opened_body, opens_glyph, opens_subr, subr_entry}
-use Rattle.t1_parts.specs.Private.{among_glyphs, among_subrs, item_at, items_after, items_of, line_item, private_items}
+use Rattle.t1_parts.specs.Private.{among_glyphs, among_subrs, item_at, items_after, line_item}
 use Rattle.t1_parts.specs.Reading.{unnumbered}
 use Rattle.t1_parts.specs.Sections.{count_between, glyphs_line, is_glyphs_line, is_subrs_line, section_at, subrs_line}
 use Rattle.t1_faults.specs.Entries.{Entry, entries_from, entry_at, more_lines, place_in, placed_words, span}
-use Rattle.t1_faults.specs.Placed.{opened_words}
-use Rattle.t1_faults.proofs.PlacedLaws.{map_append, opened_as}
+use Rattle.t1_faults.proofs.PlacedLaws.{opened_as}
 
 -- ---- an item that was read takes its lines, and its words are those of the body on them
 

@@ -1,6 +1,6 @@
 -- What check reports is told, or stands on what is told.
-use Rattle.std.proofs.Common.{◌≡◌, ◌∙◌, ℕ, zero, suc, Bool, true, false, cond, ◌&&◌, ◌||◌, ◌⊎◌, List, [], ◌∷◌, ◌++◌, length, map, Option, None, Some, Result, Ok, Err, refl, sym, ap, subst, inl, inr}
-use Rattle.std.specs.Prelude.{nat_lt, flat_map, option_map}
+use Rattle.std.proofs.Common.{◌≡◌, ◌∙◌, ℕ, zero, suc, Bool, true, false, cond, ◌||◌, ◌⊎◌, List, [], ◌∷◌, ◌++◌, length, map, Option, None, Some, Result, Ok, Err, refl, sym, ap, subst, inl, inr}
+use Rattle.std.specs.Prelude.{nat_lt, flat_map, option_map, slice_get}
 use Rattle.std.specs.List.{list_any}
 use Rattle.std.specs.Option.{option_to_list}
 use Rattle.std.specs.Str.{bytes_eq}
@@ -33,18 +33,24 @@ use Rattle.t1_font.specs.SourceChecks.{measured_source, source_check}
 use Rattle.t1_font.specs.ToRun.{font_to_run}
 use Rattle.t1_font.proofs.Gathering.{put_after, one-refused, one-reported}
 use Rattle.t1_font.proofs.LengthLaws.{body_fault_reported}
-use Rattle.t1_font.proofs.Measuring.{all-refused, all-reported, next-ok, first-ok}
+use Rattle.t1_font.proofs.Measuring.{all-refused, all-reported}
 use Rattle.t1_font.proofs.MeasuringTurns.{runs-own}
+use Rattle.t1_chain.specs.Failing.{Failure}
 use Rattle.t1_faults.specs.declared.found.FoundFault.{FoundFault}
 use Rattle.t1_faults.specs.declared.placed.PlacedWord.{PlacedWord}
+use Rattle.t1_faults.specs.declared.run_fault.RunFault.{RunFault}
 use Rattle.t1_faults.specs.Entries.{Entry, placed_words}
-use Rattle.t1_faults.specs.Found.{at_entry, at_word, body_faults, code_of, length_faults, word_fault, word_faults}
-use Rattle.t1_faults.specs.Judging.{OwnRuns, certain, checked, entries_in, entry_faults, fault_of, faults_by, faults_of, faults_read, file_faults, is_f32, is_faulty_subr, join_fault, join_faults, or_others, run_fault, run_faults, sound_parts, sound_run, sound_within, source_faults}
+use Rattle.t1_faults.specs.Failing.{Failures, failures_in}
+use Rattle.t1_faults.specs.Found.{at_entry, at_place, body_faults, code_of, in_entry, length_faults, met_faults, word_faults}
+use Rattle.t1_faults.specs.Met.{last_entered, met_after, met_in, met_outside, met_with}
+use Rattle.t1_faults.specs.Judging.{OwnRuns, checked, entries_in, entry_faults, fault_of, faults_by, faults_read, file_faults, join_fault, join_faults, or_if_none, run_faults, sound_parts, sound_run, sound_within, source_faults}
 use Rattle.t1_faults.specs.Reading.{reading_fault}
-use Rattle.t1_faults.specs.Telling.{IsTold, IsAnswered, StandsOn, runs_read}
-use Rattle.t1_faults.proofs.CheckLaws.{absent, bodies_pass, among_all, after_none}
+use Rattle.t1_faults.specs.Telling.{HasChain, IsAnswered, IsMet, IsTold, StandsOn, runs_read}
+use Rattle.t1_faults.proofs.CheckLaws.{absent, leads, outside}
 use Rattle.t1_faults.proofs.EntryLaws.{read_entries}
-use Rattle.t1_faults.proofs.SoundLaws.{body_fine, long_as, words_there}
+use Rattle.t1_faults.proofs.FailureLaws.{runs_told}
+use Rattle.t1_faults.proofs.MetLaws.{Has, HasMet, both, glyph_there, last_there, met_there, subr_there}
+use Rattle.t1_faults.proofs.SoundLaws.{bodies_fine, long_as}
 use Rattle.t1_faults.proofs.TakenLaws.{AreOf}
 
 told_left : (code : Code) (place : Place) (xs ys : List FoundFault) → IsTold code place xs → IsTold code place (xs ++ ys)
@@ -56,7 +62,7 @@ told_right : (code : Code) (place : Place) (xs ys : List FoundFault) → IsTold 
 told_right code place [] ys h = h
 told_right code place (x ∷ xs) ys h = inr (told_right code place xs ys h)
 
-told_first : (code : Code) (place : Place) (xs ys : List FoundFault) → IsTold code place xs → IsTold code place (or_others xs ys)
+told_first : (code : Code) (place : Place) (xs ys : List FoundFault) → IsTold code place xs → IsTold code place (or_if_none xs ys)
 told_first code place [] ys h = absurd h
 told_first code place (x ∷ xs) ys h = h
 
@@ -99,64 +105,122 @@ words_fault place ws (Ok cs) h = inl (rw h refl)
 words_fault place ws (Err code) h = inr (code, h, rw h refl)
 
 -- the first fault of bodies is that of an entry, or of one after it
-entry_told : (unsure : Bool) (run : OwnRuns) (x : Entry) (es : List Entry) (fault : Fault) (place : Place) (words : List (List ℕ)) (next : Result (Unit {0}) Fault)
+entry_told : (F : Failures) (subrs : ℕ → List RunFault) (x : Entry) (es : List Entry) (fault : Fault) (place : Place) (words : List (List ℕ)) (next : Result (Unit {0}) Fault)
     → x.place ≡ place → map (λ w. w.word) (placed_words x) ≡ words → ◌≡◌ {A = Result (Unit {0}) Fault} (words_check place words >>= λ _. next) (Err fault)
     → (words_check place words ≡ Ok tt) ⊎ ((code : Code) × (commands words ≡ Err code) × (words_check place words ≡ Err (fault_at place code)))
-    → (next ≡ Err fault → IsTold fault.code fault.place (flat_map (entry_faults unsure run) es))
-    → IsTold fault.code fault.place (entry_faults unsure run x ++ flat_map (entry_faults unsure run) es)
-entry_told unsure run x es fault place words next stands is e (inl passed) later =
+    → (next ≡ Err fault → IsTold fault.code fault.place (flat_map (entry_faults F subrs) es))
+    → IsTold fault.code fault.place (entry_faults F subrs x ++ flat_map (entry_faults F subrs) es)
+entry_told F subrs x es fault place words next stands is e (inl passed) later =
     let left : next ≡ Err fault = rw passed at e in
-    told_right fault.code fault.place (entry_faults unsure run x) (flat_map (entry_faults unsure run) es) (later left)
-entry_told unsure run x es fault place words next stands is e (inr w) later =
+    told_right fault.code fault.place (entry_faults F subrs x) (flat_map (entry_faults F subrs) es) (later left)
+entry_told F subrs x es fault place words next stands is e (inr w) later =
     let first : ◌≡◌ {A = Result (Unit {0}) Fault} (Err (fault_at place w.0)) (Err fault) = rw w.2 at e in
     let same : fault_at place w.0 ≡ fault = cc in
     let here : IsTold w.0 x.place (body_faults x) = body_told x words w.0 is w.1 in
-    let there = told_left w.0 x.place (entry_faults unsure run x) (flat_map (entry_faults unsure run) es) (told_first w.0 x.place (body_faults x) (run_faults unsure run x) here) in
-    let placed = subst (λ p. IsTold w.0 p (entry_faults unsure run x ++ flat_map (entry_faults unsure run) es)) stands there in
-    subst (λ (f : Fault). IsTold f.code f.place (entry_faults unsure run x ++ flat_map (entry_faults unsure run) es)) same placed
+    let there = told_left w.0 x.place (entry_faults F subrs x) (flat_map (entry_faults F subrs) es) (told_first w.0 x.place (body_faults x) (run_faults F subrs x) here) in
+    let placed = subst (λ p. IsTold w.0 p (entry_faults F subrs x ++ flat_map (entry_faults F subrs) es)) stands there in
+    subst (λ (f : Fault). IsTold f.code f.place (entry_faults F subrs x ++ flat_map (entry_faults F subrs) es)) same placed
 
-bodies_told : (unsure : Bool) (run : OwnRuns) (items : List Item) (es : List Entry) (fault : Fault) → AreOf items es → bodies_check items ≡ Err fault
-    → IsTold fault.code fault.place (flat_map (entry_faults unsure run) es)
-bodies_told unsure run [] es fault are e = absurd (cc)
-bodies_told unsure run (Plain l ∷ items) es fault are e = bodies_told unsure run items es fault are e
-bodies_told unsure run (Section before n after ∷ items) es fault are e = bodies_told unsure run items es fault are e
-bodies_told unsure run (Subr n words closing ∷ items) [] fault are e = absurd are
-bodies_told unsure run (Subr n words closing ∷ items) (x ∷ es) fault are e =
-    entry_told unsure run x es fault (places.Subr n) words (bodies_check items) are.0 are.1 e (words_fault (places.Subr n) words (commands words) refl)
-    (λ later. bodies_told unsure run items es fault are.2 later)
-bodies_told unsure run (Glyph g words closing ∷ items) [] fault are e = absurd are
-bodies_told unsure run (Glyph g words closing ∷ items) (x ∷ es) fault are e =
-    entry_told unsure run x es fault (places.Glyph g) words (bodies_check items) are.0 are.1 e (words_fault (places.Glyph g) words (commands words) refl)
-    (λ later. bodies_told unsure run items es fault are.2 later)
+bodies_told : (F : Failures) (subrs : ℕ → List RunFault) (items : List Item) (es : List Entry) (fault : Fault) → AreOf items es → bodies_check items ≡ Err fault
+    → IsTold fault.code fault.place (flat_map (entry_faults F subrs) es)
+bodies_told F subrs [] es fault are e = absurd (cc)
+bodies_told F subrs (Plain l ∷ items) es fault are e = bodies_told F subrs items es fault are e
+bodies_told F subrs (Section before n after ∷ items) es fault are e = bodies_told F subrs items es fault are e
+bodies_told F subrs (Subr n words closing ∷ items) [] fault are e = absurd are
+bodies_told F subrs (Subr n words closing ∷ items) (x ∷ es) fault are e =
+    entry_told F subrs x es fault (places.Subr n) words (bodies_check items) are.0 are.1 e (words_fault (places.Subr n) words (commands words) refl)
+    (λ later. bodies_told F subrs items es fault are.2 later)
+bodies_told F subrs (Glyph g words closing ∷ items) [] fault are e = absurd are
+bodies_told F subrs (Glyph g words closing ∷ items) (x ∷ es) fault are e =
+    entry_told F subrs x es fault (places.Glyph g) words (bodies_check items) are.0 are.1 e (words_fault (places.Glyph g) words (commands words) refl)
+    (λ later. bodies_told F subrs items es fault are.2 later)
 
 -- ---- a run
 
+-- a fault of the run of this glyph is told at the glyph, or in a Subr
+abbrev IsToldOf : Code → List ℕ → List FoundFault → Type 0
+IsToldOf code p found = IsTold code (places.Glyph p) found ⊎ IsMet code p found
+
+met_left : (code : Code) (p : List ℕ) (xs ys : List FoundFault) → IsMet code p xs → IsMet code p (xs ++ ys)
+met_left code p [] ys h = absurd h
+met_left code p (x ∷ xs) ys (inl h) = inl h
+met_left code p (x ∷ xs) ys (inr h) = inr (met_left code p xs ys h)
+
+met_right : (code : Code) (p : List ℕ) (xs ys : List FoundFault) → IsMet code p ys → IsMet code p (xs ++ ys)
+met_right code p [] ys h = h
+met_right code p (x ∷ xs) ys h = inr (met_right code p xs ys h)
+
+of_left : (code : Code) (p : List ℕ) (xs ys : List FoundFault) → IsToldOf code p xs → IsToldOf code p (xs ++ ys)
+of_left code p xs ys (inl h) = inl (told_left code (places.Glyph p) xs ys h)
+of_left code p xs ys (inr h) = inr (met_left code p xs ys h)
+
+of_right : (code : Code) (p : List ℕ) (xs ys : List FoundFault) → IsToldOf code p ys → IsToldOf code p (xs ++ ys)
+of_right code p xs ys (inl h) = inl (told_right code (places.Glyph p) xs ys h)
+of_right code p xs ys (inr h) = inr (met_right code p xs ys h)
+
+-- what is told of one of the entries is told of all
+of_entries : (code : Code) (p : List ℕ) (f : Entry → List FoundFault) (P : Entry → Type 0) (es : List Entry) → Has P es → ((e : Entry) → P e → IsToldOf code p (f e))
+    → IsToldOf code p (flat_map f es)
+of_entries code p f P [] h told = absurd h
+of_entries code p f P (e ∷ es) (inl here) told = of_left code p (f e) (flat_map f es) (told e here)
+of_entries code p f P (e ∷ es) (inr later) told = of_right code p (f e) (flat_map f es) (of_entries code p f P es later told)
+
+at_code : (e : Entry) (w : Option PlacedWord) (f : RunFault) → (at_place e w f).code ≡ f.code
+at_code e None f = refl
+at_code e (Some w) f = refl
+
+at_own_place : (e : Entry) (w : Option PlacedWord) (f : RunFault) → (at_place e w f).place ≡ e.place
+at_own_place e None f = refl
+at_own_place e (Some w) f = refl
+
+at_chains : (e : Entry) (w : Option PlacedWord) (f : RunFault) → (at_place e w f).chains ≡ f.chains
+at_chains e None f = refl
+at_chains e (Some w) f = refl
+
+met_told : (code : Code) (p : List ℕ) (e : Entry) (ws : List PlacedWord) (fs : List RunFault) → HasMet code p fs → IsMet code p (map (in_entry e ws) fs)
+met_told code p e ws [] h = absurd h
+met_told code p e ws (f ∷ fs) (inl h) =
+    inl (at_code e (slice_get ws f.word) f ∙ h.0, subst (HasChain p) (sym (at_chains e (slice_get ws f.word) f)) h.1)
+met_told code p e ws (f ∷ fs) (inr h) = inr (met_told code p e ws fs h)
+
 -- where no body has a fault, that of a glyph's own run is told
-run_told : (run : OwnRuns) (items : List Item) (es : List Entry) (p : List ℕ) (code : Code) → AreOf items es → bodies_check items ≡ Ok tt → list_any (bytes_eq p) (glyph_names items) ≡ true
-    → run p ≡ Some (Err code) → IsTold code (places.Glyph p) (flat_map (entry_faults false run) es)
-run_told run [] es p code are checked there fails = absurd (cc)
-run_told run (Plain l ∷ items) es p code are checked there fails = run_told run items es p code are checked there fails
-run_told run (Section before n after ∷ items) es p code are checked there fails = run_told run items es p code are checked there fails
-run_told run (Subr n words closing ∷ items) [] p code are checked there fails = absurd are
-run_told run (Subr n words closing ∷ items) (x ∷ es) p code are checked there fails =
-    told_right code (places.Glyph p) (entry_faults false run x) (flat_map (entry_faults false run) es)
-    (run_told run items es p code are.2 (next-ok (words_check (places.Subr n) words) (bodies_check items) tt checked) there fails)
-run_told run (Glyph name words closing ∷ items) [] p code are checked there fails = absurd are
-run_told run (Glyph name words closing ∷ items) (x ∷ es) p code are checked there fails =
-    elim (cases_Bool (bytes_eq p name)) [
-      | inl same ↦
-          let equal = bytes_same p name same in
-          let read = words_there (places.Glyph name) words (first-ok (words_check (places.Glyph name) words) (bodies_check items) tt checked) in
-          let body = body_fine x words read.0 are.1 read.1 in
-          let own : run_fault run x.place ≡ Some code = ap (run_fault run) are.0 ∙ ap (λ g. fault_of (run g)) (sym equal) ∙ ap fault_of fails in
-          let listed : entry_faults false run x ≡ at_entry x code ∷ [] =
-          ap (λ fs. or_others fs (run_faults false run x)) body ∙ ap (λ f. option_to_list (option_map (at_entry x) (certain false f))) own in
-          told_left code (places.Glyph p) (entry_faults false run x) (flat_map (entry_faults false run) es)
-          (subst (IsTold code (places.Glyph p)) (sym listed) (inl (refl, are.0 ∙ ap (λ n. places.Glyph n) (sym equal))))
-      | inr other ↦
-          told_right code (places.Glyph p) (entry_faults false run x) (flat_map (entry_faults false run) es)
-          (run_told run items es p code are.2 (next-ok (words_check (places.Glyph name) words) (bodies_check items) tt checked) (rw other at there) fails)
-    ]
+run_told : (items : List Item) (es : List Entry) (p : List ℕ) (code : Code) → AreOf items es → bodies_check items ≡ Ok tt → list_any (bytes_eq p) (glyph_names items) ≡ true
+    → own (font_to_run items) p ≡ Some (Err code)
+    → IsToldOf code p (flat_map (entry_faults (failures_in items) (λ n. met_after [] (failures_in items) n es)) es)
+run_told items es p code are checked there fails =
+    by (failures_in items p) refl (sym (runs_told items checked p) ∙ ap fault_of fails)
+  where
+    found : (f : Failure) → failures_in items p ≡ Some f → f.code ≡ code → (o : Option ℕ) → last_entered f.calls ≡ o
+        → IsToldOf code p (flat_map (entry_faults (failures_in items) (λ n. met_after [] (failures_in items) n es)) es)
+    found f e same None last =
+        let F = failures_in items in
+        let subrs : ℕ → List RunFault = λ n. met_after [] F n es in
+        of_entries code p (entry_faults F subrs) (λ x. (x.place ≡ places.Glyph p) × (body_faults x ≡ [])) es
+        (both (λ x. x.place ≡ places.Glyph p) (λ x. body_faults x ≡ []) es (glyph_there items es p are there) (bodies_fine items es are checked)) (λ x. λ h.
+        let met : met_in F subrs x.place ≡ met_with [] f ∷ [] = ap (met_in F subrs) h.0 ∙ ap met_outside e ∙ outside f last in
+        let listed : entry_faults F subrs x ≡ in_entry x (placed_words x) (met_with [] f) ∷ [] =
+        ap (λ fs. or_if_none fs (run_faults F subrs x)) h.1 ∙ ap (met_faults x) met in
+        let w = slice_get (placed_words x) f.word in
+        inl (subst (IsTold code (places.Glyph p)) (sym listed) (inl (at_code x w (met_with [] f) ∙ same, at_own_place x w (met_with [] f) ∙ h.0))))
+    found f e same (Some n) last =
+        let F = failures_in items in
+        let subrs : ℕ → List RunFault = λ n. met_after [] F n es in
+        let lead = leads items p f e in
+        let body = last_there (font_to_run items) lead.0 f.calls f.word n lead.1 last in
+        of_entries code p (entry_faults F subrs) (λ x. (x.place ≡ places.Subr n) × (body_faults x ≡ [])) es
+        (both (λ x. x.place ≡ places.Subr n) (λ x. body_faults x ≡ []) es (subr_there items es n body.0 are body.1) (bodies_fine items es are checked)) (λ x. λ h.
+        let listed : entry_faults F subrs x ≡ met_faults x (met_after [] F n es) =
+        ap (λ fs. or_if_none fs (run_faults F subrs x)) h.1 ∙ ap (λ place. met_faults x (met_in F subrs place)) h.0 in
+        let met = met_told f.code p x (placed_words x) (met_after [] F n es) (met_there F n p f e last [] es (glyph_there items es p are there)) in
+        inr (subst (IsMet code p) (sym listed) (subst (λ c. IsMet c p (met_faults x (met_after [] F n es))) same met)))
+
+    by : (o : Option Failure) → failures_in items p ≡ o → option_map (λ (f : Failure). f.code) (failures_in items p) ≡ Some code
+        → IsToldOf code p (flat_map (entry_faults (failures_in items) (λ n. met_after [] (failures_in items) n es)) es)
+    by None e told = let none : None ≡ Some code = sym (ap (option_map (λ (f : Failure). f.code)) e) ∙ told in absurd (cc)
+    by (Some f) e told =
+        let some : Some f.code ≡ Some code = sym (ap (option_map (λ (f : Failure). f.code)) e) ∙ told in
+        let same : f.code ≡ code = cc in
+        found f e same (last_entered f.calls) refl
 
 -- ---- a join
 
@@ -267,15 +331,6 @@ measured_first items fault bodies e = by (glyph_metrics_among (own (font_to_run 
 
 -- ---- a source
 
-sure : (items : List Item) → bodies_check items ≡ Ok tt → list_any is_faulty_subr items ≡ false
-sure [] e = refl
-sure (Plain l ∷ items) e = sure items e
-sure (Section before n after ∷ items) e = sure items e
-sure (Subr n words closing ∷ items) e =
-    let read = words_there (places.Subr n) words (first-ok (words_check (places.Subr n) words) (bodies_check items) tt e) in
-    rw read.1 (sure items (next-ok (words_check (places.Subr n) words) (bodies_check items) tt e))
-sure (Glyph g words closing ∷ items) e = sure items (next-ok (words_check (places.Glyph g) words) (bodies_check items) tt e)
-
 -- what has a run is a glyph of the source
 is_glyph_of : (items : List Item) (p : List ℕ) (code : Code) → own (font_to_run items) p ≡ Some (Err code) → list_any (bytes_eq p) (glyph_names items) ≡ true
 is_glyph_of items p code e =
@@ -285,34 +340,33 @@ is_glyph_of items p code e =
     ]
 
 glyph_answered : (s : SourceParts) (es : List Entry) (fault : Fault) → AreOf s.items es → bodies_check s.items ≡ Ok tt → measured s.items ≡ Err fault
-    → IsAnswered (own (font_to_run s.items)) (faults_by (own (font_to_run s.items)) s es) fault
+    → IsAnswered (own (font_to_run s.items)) (faults_by (failures_in s.items) (own (font_to_run s.items)) s es) fault
 glyph_answered s es fault are bodies e =
     let run = own (font_to_run s.items) in
-    let unsure = list_any is_faulty_subr s.items in
+    let F = failures_in s.items in
+    let mine = flat_map (entry_faults F (λ n. met_after [] F n es)) es in
     let file = file_faults (bodies_check s.items) (file_check s) in
     let joins = flat_map (join_faults run) es in
     let w = measured_first s.items fault bodies e in
     elim (cases_Bool (sound_within run 4 w.0)) [
       | inl sound ↦
           let told = join_told run s.items es w.0 w.1 are w.2 sound w.4 in
-          let all = told_right w.1 (places.Glyph w.0) (flat_map (entry_faults unsure run) es) (file ++ joins) (told_right w.1 (places.Glyph w.0) file joins told) in
-          inl (subst (λ (f : Fault). IsTold f.code f.place (faults_by run s es)) w.3 all)
+          let all = told_right w.1 (places.Glyph w.0) mine (file ++ joins) (told_right w.1 (places.Glyph w.0) file joins told) in
+          inl (subst (λ (f : Fault). IsTold f.code f.place (faults_by F run s es)) w.3 all)
       | inr not_sound ↦
           let u = unsound run 4 w.0 not_sound in
-          let told = run_told run s.items es u.0 u.1 are bodies (is_glyph_of s.items u.0 u.1 u.3) u.3 in
-          let same : unsure ≡ false = sure s.items bodies in
-          let own_told = subst (λ b. IsTold u.1 (places.Glyph u.0) (flat_map (entry_faults b run) es)) (sym same) told in
-          inr (w.0, u.0, u.1, sym (ap (λ (f : Fault). f.place) w.3), u.2, told_left u.1 (places.Glyph u.0) (flat_map (entry_faults unsure run) es) (file ++ joins) own_told)
+          let told = run_told s.items es u.0 u.1 are bodies (is_glyph_of s.items u.0 u.1 u.3) u.3 in
+          inr (w.0, u.0, u.1, sym (ap (λ (f : Fault). f.place) w.3), u.2, of_left u.1 u.0 mine (file ++ joins) told)
     ]
 
 source_answered : (s : SourceParts) (es : List Entry) (fault : Fault) → AreOf s.items es → source_check s ≡ Err fault
-    → IsAnswered (own (font_to_run s.items)) (faults_by (own (font_to_run s.items)) s es) fault
+    → IsAnswered (own (font_to_run s.items)) (faults_by (failures_in s.items) (own (font_to_run s.items)) s es) fault
 unfolding measured_source
 source_answered s es fault are e = bodies (bodies_check s.items) refl where
-  file : (r : Result (Unit {0}) Fault) → bodies_check s.items ≡ Ok tt → file_check s ≡ r → IsAnswered (own (font_to_run s.items)) (faults_by (own (font_to_run s.items)) s es) fault
+  file : (r : Result (Unit {0}) Fault) → bodies_check s.items ≡ Ok tt → file_check s ≡ r → IsAnswered (own (font_to_run s.items)) (faults_by (failures_in s.items) (own (font_to_run s.items)) s es) fault
   file (Ok u) sound h = glyphs (measured s.items) refl
     where
-      glyphs : (m : Result MeasuredFont Fault) → measured s.items ≡ m → IsAnswered (own (font_to_run s.items)) (faults_by (own (font_to_run s.items)) s es) fault
+      glyphs : (m : Result MeasuredFont Fault) → measured s.items ≡ m → IsAnswered (own (font_to_run s.items)) (faults_by (failures_in s.items) (own (font_to_run s.items)) s es) fault
       glyphs (Ok font) k = let none : ◌≡◌ {A = Result (Unit {0}) Fault} (Ok tt) (Err fault) = rw (h, k) at e in absurd (cc)
       glyphs (Err other) k =
           let first : ◌≡◌ {A = Result (Unit {0}) Fault} (Err other) (Err fault) = rw (h, k) at e in
@@ -324,19 +378,21 @@ source_answered s es fault are e = bodies (bodies_check s.items) refl where
       let run = own (font_to_run s.items) in
       let one : IsTold fault.code fault.place (file_faults (Ok tt) (Err fault)) = inl (refl, refl) in
       let told = subst (λ r. IsTold fault.code fault.place (file_faults r (file_check s))) (sym sound) (subst (λ r. IsTold fault.code fault.place (file_faults (Ok tt) r)) (sym (h ∙ ap Err same)) one) in
-      inl (told_right fault.code fault.place (flat_map (entry_faults (list_any is_faulty_subr s.items) run) es) (file_faults (bodies_check s.items) (file_check s) ++ flat_map (join_faults run) es)
+      let F = failures_in s.items in
+      inl (told_right fault.code fault.place (flat_map (entry_faults F (λ n. met_after [] F n es)) es) (file_faults (bodies_check s.items) (file_check s) ++ flat_map (join_faults run) es)
       (told_left fault.code fault.place (file_faults (bodies_check s.items) (file_check s)) (flat_map (join_faults run) es) told))
 
-  bodies : (r : Result (Unit {0}) Fault) → bodies_check s.items ≡ r → IsAnswered (own (font_to_run s.items)) (faults_by (own (font_to_run s.items)) s es) fault
+  bodies : (r : Result (Unit {0}) Fault) → bodies_check s.items ≡ r → IsAnswered (own (font_to_run s.items)) (faults_by (failures_in s.items) (own (font_to_run s.items)) s es) fault
   bodies (Ok u) h = file (file_check s) h refl
   bodies (Err other) h =
       let early = body_fault_reported s other h in
       let first : ◌≡◌ {A = Result (Unit {0}) Fault} (Err other) (Err fault) = rw early at e in
       let same : other ≡ fault = cc in
       let run = own (font_to_run s.items) in
-      let unsure = list_any is_faulty_subr s.items in
-      inl (told_left fault.code fault.place (flat_map (entry_faults unsure run) es) (file_faults (bodies_check s.items) (file_check s) ++ flat_map (join_faults run) es)
-      (bodies_told unsure run s.items es fault are (h ∙ ap Err same)))
+      let F = failures_in s.items in
+      let subrs : ℕ → List RunFault = λ n. met_after [] F n es in
+      inl (told_left fault.code fault.place (flat_map (entry_faults F subrs) es) (file_faults (bodies_check s.items) (file_check s) ++ flat_map (join_faults run) es)
+      (bodies_told F subrs s.items es fault are (h ∙ ap Err same)))
 
 -- what check reports of some bytes is told, or is a glyph's that stands on one of which a fault is told
 pub answered : (bytes : List ℕ) (fault : Fault) → checked bytes ≡ Err fault → IsAnswered (runs_read (reads bytes)) (source_faults bytes) fault

@@ -1,10 +1,13 @@
 -- What is run of a source, and the runs that are kept of it.
-use Rattle.std.proofs.Common.{◌≡◌, ◌∙◌, ℕ, Bool, true, false, ◌||◌, ◌<◌, cond, List, [], ◌∷◌, ◌++◌, filter, length, map, Option, None, Some, is_some, refl, sym, ap, subst, inl, inr}
-use Rattle.std.specs.Prelude.{Result, Ok, Err, IsSome, IfOk}
+use Rattle.std.proofs.Common.{◌≡◌, ◌∙◌, ℕ, Bool, true, false, ◌||◌, cond, List, [], ◌∷◌, filter, map, Option, None, Some, refl, sym, ap, inl, inr}
+use Rattle.std.specs.Prelude.{Result, Ok, Err, IsSome, IfOk, nat_eq}
 use Rattle.std.specs.Borrow.{Bor}
 use Rattle.std.specs.List.{list_any, All}
 use Rattle.std.proofs.lemmas.List.Elements.{All-nil, All-cons}
-use Rattle.std.specs.Option.{option_or, option_map}
+use Rattle.std.proofs.lemmas.List.Folds.{list_any-append}
+use Rattle.std.proofs.Math.Bool.{or-false}
+use Rattle.indexmap.specs.IndexSet.{insert_key}
+use Rattle.std.specs.Option.{option_or}
 use Rattle.std.specs.Str.{bytes_eq}
 use Rattle.std.proofs.lemmas.Bool.{cases_Bool}
 use Rattle.t1_frac.specs.declared.fault.Code.{Code}
@@ -13,7 +16,7 @@ use Rattle.t1_parts.specs.declared.item.Item.TheVariants.{Plain, Section, Subr, 
 use Rattle.t1_parts.specs.Items.{line_says, stands_alone}
 use Rattle.t1_code.specs.declared.command.Command.{Command}
 use Rattle.t1_code.specs.Words.{commands}
-use Rattle.t1_run.specs.Run.{FontBodies, Drawing, font, own}
+use Rattle.t1_run.specs.Run.{Drawing, font, own}
 use Rattle.t1_font.specs.Bodies.{subr_among}
 use Rattle.t1_font.specs.Glyphs.{glyph_names}
 use Rattle.t1_font.specs.Runs.{Kept, kept_of, own_among}
@@ -21,8 +24,10 @@ use Rattle.t1_font.specs.ToRun.{commands_or_none, font_to_run, glyph_to_run}
 use Rattle.t1_run.proofs.Asked.{bytes_self}
 use Rattle.t1_font.proofs.Compiling.{none-there}
 use Rattle.t1_font.proofs.InTurnLaws.{names-known}
+use Rattle.t1_font.proofs.Lookups.{numbers_tell}
 use Rattle.t1_font.proofs.Measuring.{own-none, same-function}
-use Rattle.t1_faults.specs.Judging.{is_faulty_subr}
+use Rattle.t1_faults.specs.Failing.{is_faulty_subr}
+use Rattle.t1_faults.specs.GlyphRuns.{has_number}
 use Rattle.t1_faults.specs.ToRun.{glyph_run_in}
 
 pub run_first : (item : Item) (items : List Item) (g : List ℕ) → glyph_to_run (item ∷ items) g ≡ option_or (glyph_run_in item g) (glyph_to_run items g)
@@ -54,8 +59,24 @@ pub glyphs_alone : (g : List ℕ) (items : List Item) → glyph_to_run (filter s
 glyphs_alone g items = same_alone (λ is. glyph_to_run is g) (λ l is. refl)
     (λ item xs ys e. run_first item xs g ∙ ap (option_or (glyph_run_in item g)) e ∙ sym (run_first item ys g)) items
 
-pub faulty_alone : (items : List Item) → list_any is_faulty_subr (filter stands_alone items) ≡ list_any is_faulty_subr items
-faulty_alone items = same_alone (list_any is_faulty_subr) (λ l is. refl) (λ item xs ys e. ap (λ b. is_faulty_subr item || b) e) items
+pub faulty_alone : (n : ℕ) (items : List Item) → list_any (is_faulty_subr n) (filter stands_alone items) ≡ list_any (is_faulty_subr n) items
+faulty_alone n items = same_alone (list_any (is_faulty_subr n)) (λ l is. refl) (λ item xs ys e. ap (λ b. is_faulty_subr n item || b) e) items
+
+-- a number that is put in is among the numbers
+pub number_inserted : (n k : ℕ) (ks : List ℕ) → has_number (insert_key nat_eq ks k) n ≡ (has_number ks n || nat_eq n k)
+number_inserted n k ks =
+    elim (cases_Bool (list_any (nat_eq k) ks)) [
+      | inl there ↦
+          rw there
+          (elim (cases_Bool (nat_eq n k)) [
+            | inl same ↦ rw (same, numbers_tell.same n k same, there) refl
+            | inr other ↦ rw other (sym (or-false (list_any (nat_eq n) ks)))
+          ])
+      | inr absent ↦
+          rw absent (
+          list_any-append (nat_eq n) ks (k ∷ [])
+          ∙ ap (λ b. list_any (nat_eq n) ks || b) (or-false (nat_eq n k)))
+    ]
 
 -- ---- the runs
 

@@ -1,21 +1,15 @@
 -- Every fault of a source, each where it stands.
-use Rattle.std.specs.Prelude.{ℕ, zero, suc, Bool, true, false, ◌+◌, ◌-◌, ◌&&◌, if◌then◌else◌, is_none, Option, None, Some, Result, Ok, Err, List, [], ◌∷◌, ◌++◌, length, take, flat_map, option_map}
-use Rattle.std.specs.List.{list_any}
+use Rattle.std.specs.Prelude.{ℕ, zero, suc, Bool, true, false, ◌+◌, ◌-◌, ◌&&◌, if◌then◌else◌, Option, None, Some, Result, Ok, Err, List, [], ◌∷◌, ◌++◌, length, take, flat_map, option_map}
 use Rattle.std.specs.Option.{option_to_list}
-use Rattle.std.specs.Result.{result_ok}
 use Rattle.t1_frac.specs.Outcome.{◌>>=◌}
 use Rattle.t1_frac.specs.declared.fault.Code.{Code}
-use Rattle.t1_frac.specs.declared.fault.Code.TheVariants.{F32}
 use Rattle.t1_frac.specs.declared.fault.Fault.{Fault}
 use Rattle.t1_frac.specs.declared.fault.Place.{Place}
 use Rattle.t1_frac.specs.declared.fault.Place.TheVariants as places
 use Rattle.t1_text.specs.Lines.{lines}
-use Rattle.t1_parts.specs.declared.item.Item.{Item}
-use Rattle.t1_parts.specs.declared.item.Item.TheVariants.{Subr}
 use Rattle.t1_parts.specs.Parts.{Parts, parts_of}
 use Rattle.t1_parts.specs.Reading.{reads}
 use Rattle.t1_parts.specs.SourceParts.{SourceParts}
-use Rattle.t1_code.specs.Words.{commands}
 use Rattle.t1_run.specs.declared.outline.Composite.{Composite}
 use Rattle.t1_run.specs.Run.{Drawing, own}
 use Rattle.t1_font.specs.Assembly.{file_check}
@@ -24,9 +18,12 @@ use Rattle.t1_font.specs.MeasuredGlyphs.{glyph_metrics_at}
 use Rattle.t1_font.specs.SourceChecks.{source_check}
 use Rattle.t1_font.specs.ToRun.{font_to_run}
 use Rattle.t1_faults.specs.Entries.{Entry, entries_from}
-use Rattle.t1_faults.specs.Found.{at_entry, body_faults, code_of}
+use Rattle.t1_faults.specs.Failing.{Failures, failures_in}
+use Rattle.t1_faults.specs.Found.{at_entry, body_faults, code_of, met_faults}
+use Rattle.t1_faults.specs.Met.{met_after, met_in}
 use Rattle.t1_faults.specs.Reading.{at_front, reading_fault}
 use Rattle.t1_faults.specs.declared.found.FoundFault.{FoundFault}
+use Rattle.t1_faults.specs.declared.run_fault.RunFault.{RunFault}
 
 -- profile, faults: what runs of glyphs' own bodies draw, or their first faults, by the glyphs' names
 abbrev pub OwnRuns : Type 0
@@ -37,38 +34,18 @@ abbrev pub fault_of : Option (Result Drawing Code) → Option Code
 fault_of None = None
 fault_of (Some run) = code_of run
 
--- profile, faults: the first fault of an entry's own run; a Subr has none
-abbrev pub run_fault : OwnRuns → Place → Option Code
-run_fault run (places.Glyph g) = fault_of (run g)
-run_fault run place = None
+-- profile, faults: the first faults, or the second ones where there is none
+abbrev pub or_if_none : List FoundFault → List FoundFault → List FoundFault
+or_if_none [] second = second
+or_if_none (fault ∷ faults) second = fault ∷ faults
 
--- profile, faults: whether a code is F32, a missing Subr
-abbrev pub is_f32 : Code → Bool
-is_f32 F32 = true
-is_f32 code = false
+-- profile, faults: the faults that runs met in an entry: a glyph's own run in its body, all runs in a Subr, which has these
+abbrev pub run_faults : Failures → (ℕ → List RunFault) → Entry → List FoundFault
+run_faults failures subrs e = met_faults e (met_in failures subrs e.place)
 
--- profile, faults: where a Subr's words have a fault, a missing Subr is no fault of a run: it may be that Subr
-abbrev pub certain : Bool → Option Code → Option Code
-certain unsure None = None
-certain unsure (Some code) = if unsure && is_f32 code then None else Some code
-
--- profile, faults: the first faults, or the others where there is none
-abbrev pub or_others : List FoundFault → List FoundFault → List FoundFault
-or_others [] others = others
-or_others (fault ∷ faults) others = fault ∷ faults
-
--- profile, faults: the first fault of an entry's own run, at the entry
-abbrev pub run_faults : Bool → OwnRuns → Entry → List FoundFault
-run_faults unsure run e = option_to_list (option_map (at_entry e) (certain unsure (run_fault run e.place)))
-
--- profile, faults: an entry's own faults: those of its body's words, else the first one of its own run
-abbrev pub entry_faults : Bool → OwnRuns → Entry → List FoundFault
-entry_faults unsure run e = or_others (body_faults e) (run_faults unsure run e)
-
--- profile, faults: whether an item is a Subr whose words have a fault
-abbrev pub is_faulty_subr : Item → Bool
-is_faulty_subr (Subr n words closing) = is_none (result_ok (commands words))
-is_faulty_subr _ = false
+-- profile, faults: an entry's own faults: those of its body's words, or if there is none those of runs
+abbrev pub entry_faults : Failures → (ℕ → List RunFault) → Entry → List FoundFault
+entry_faults failures subrs e = or_if_none (body_faults e) (run_faults failures subrs e)
 
 -- profile, faults: F23 of a source whose bodies have no fault, at the front of the source
 abbrev pub file_faults : Result (Unit {0}) Fault → Result (Unit {0}) Fault → List FoundFault
@@ -103,9 +80,9 @@ join_faults run e = option_to_list (option_map (at_entry e) (join_fault run e.pl
 
 -- profile, faults: every fault of a source by its entries and the runs of its glyphs: the entries' own faults, F23, and those of
 -- joins
-abbrev pub faults_by : OwnRuns → SourceParts → List Entry → List FoundFault
-faults_by run s entries =
-    flat_map (entry_faults (list_any is_faulty_subr s.items) run) entries
+abbrev pub faults_by : Failures → OwnRuns → SourceParts → List Entry → List FoundFault
+faults_by failures run s entries =
+    flat_map (entry_faults failures (λ n. met_after [] failures n entries)) entries
     ++ (file_faults (bodies_check s.items) (file_check s) ++ flat_map (join_faults run) entries)
 
 -- profile, places: the entries of a source in its lines, of which these are the parts; none where the lines have no parts
@@ -115,7 +92,7 @@ entries_in (Err fault) s = []
 
 -- profile, faults: every fault of a source that was read of these lines
 abbrev pub faults_of : List (List ℕ) → SourceParts → List FoundFault
-faults_of ls s = faults_by (own (font_to_run s.items)) s (entries_in (parts_of ls) s)
+faults_of ls s = faults_by (failures_in s.items) (own (font_to_run s.items)) s (entries_in (parts_of ls) s)
 
 -- profile, faults: every fault of a source that was read of these lines, or the one fault of reading them
 abbrev pub faults_read : List (List ℕ) → Result SourceParts Fault → List FoundFault

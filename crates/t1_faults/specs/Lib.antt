@@ -1,6 +1,11 @@
 pub mod Entries
+pub mod Failing
 pub mod Found
+pub mod GlyphRuns
+pub mod Hints
 pub mod Judging
+pub mod Met
+pub mod Openings
 pub mod Placed
 pub mod Reading
 pub mod Telling

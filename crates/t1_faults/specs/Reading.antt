@@ -7,17 +7,35 @@ use Rattle.t1_frac.specs.declared.fault.Fault.{Fault}
 use Rattle.t1_frac.specs.declared.fault.Place.{Place}
 use Rattle.t1_frac.specs.declared.fault.Place.TheVariants as places
 use Rattle.t1_text.specs.Lines.{trimmed}
+use Rattle.t1_chain.specs.declared.failure.Detail.TheVariants.{Nothing}
+use Rattle.t1_faults.specs.Openings.{detail_on}
 use Rattle.t1_faults.specs.declared.found.FoundFault.{FoundFault}
 
 -- profile, faults: a fault on a line of this number: all of the line but the blanks at both ends
 abbrev pub on_line : List (List ℕ) → Code → ℕ → FoundFault
 on_line ls code number =
     let l = slice_index_or ls (number - 1) [] in
-    record { code = code; place = places.Line number; line = number; column = prefix_len is_blank l + 1; word = Some (trimmed l) }
+    record {
+      code = code;
+      place = places.Line number;
+      line = number;
+      column = prefix_len is_blank l + 1;
+      word = Some (trimmed l);
+      detail = detail_on ls code l;
+      chains = [];
+    }
 
 -- profile, faults: a fault of the source as a whole, at its front
 abbrev pub at_front : Code → Place → FoundFault
-at_front code place = record { code = code; place = place; line = 1; column = 1; word = None }
+at_front code place = record {
+  code = code;
+  place = place;
+  line = 1;
+  column = 1;
+  word = None;
+  detail = Nothing;
+  chains = [];
+}
 
 -- profile, faults: a fault of reading these lines, where it stands
 abbrev pub placed_reading : List (List ℕ) → Code → Place → FoundFault

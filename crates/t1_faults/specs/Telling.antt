@@ -1,16 +1,16 @@
 -- What `check` reports is among the faults that are found, or stands on one of them.
-use Rattle.std.specs.Prelude.{◌≡◌, ℕ, zero, suc, ◌⊎◌, Option, None, Some, Result, Ok, Err, IfSome, List, [], ◌∷◌}
+use Rattle.std.specs.Prelude.{◌≡◌, ℕ, zero, suc, ◌⊎◌, None, Some, Result, Ok, Err, IfSome, List, [], ◌∷◌}
 use Rattle.t1_frac.specs.declared.fault.Code.{Code}
 use Rattle.t1_frac.specs.declared.fault.Fault.{Fault}
 use Rattle.t1_frac.specs.declared.fault.Place.{Place}
 use Rattle.t1_frac.specs.declared.fault.Place.TheVariants as places
-use Rattle.t1_parts.specs.Reading.{reads}
 use Rattle.t1_parts.specs.SourceParts.{SourceParts}
 use Rattle.t1_run.specs.declared.outline.Composite.{Composite}
 use Rattle.t1_run.specs.Run.{Drawing, own}
 use Rattle.t1_font.specs.ToRun.{font_to_run}
 use Rattle.t1_faults.specs.Judging.{OwnRuns}
 use Rattle.t1_faults.specs.Placed.{HasAt}
+use Rattle.t1_faults.specs.declared.chains.Chain.{Chain}
 use Rattle.t1_faults.specs.declared.found.FoundFault.{FoundFault}
 
 -- profile, faults: one of the faults has this code and this place
@@ -25,11 +25,22 @@ StandsOn run (suc depth) g p =
     (g ≡ p)
     ⊎ ((d : Drawing) × (c : Composite) × (run g ≡ Some (Ok d)) × (d.composite ≡ Some c) × (StandsOn run depth c.base p ⊎ StandsOn run depth c.accent p))
 
--- profile, faults: a fault is told; or it is a glyph's that stands on one of which a fault is told
+-- profile, faults: one of these chains is of this glyph
+abbrev pub HasChain : List ℕ → List Chain → Type 0
+HasChain g [] = ⊥
+HasChain g (chain ∷ chains) = (chain.glyph ≡ g) ⊎ HasChain g chains
+
+-- profile, faults: one of the faults has this code, and the run of this glyph met it in a Subr
+abbrev pub IsMet : Code → List ℕ → List FoundFault → Type 0
+IsMet code g [] = ⊥
+IsMet code g (fault ∷ faults) = ((fault.code ≡ code) × HasChain g fault.chains) ⊎ IsMet code g faults
+
+-- profile, faults: a fault is told; or it is a glyph's, and that glyph is or stands on one of which a fault is told, or whose run met
+-- one in a Subr
 abbrev pub IsAnswered : OwnRuns → List FoundFault → Fault → Type 0
 IsAnswered run found fault =
     IsTold fault.code fault.place found
-    ⊎ ((g : List ℕ) × (p : List ℕ) × (code : Code) × (fault.place ≡ places.Glyph g) × StandsOn run 4 g p × IsTold code (places.Glyph p) found)
+    ⊎ ((g : List ℕ) × (p : List ℕ) × (code : Code) × (fault.place ≡ places.Glyph g) × StandsOn run 4 g p × (IsTold code (places.Glyph p) found ⊎ IsMet code p found))
 
 -- profile, faults: the runs of a source that was read; no runs where it wasn't
 abbrev pub runs_read : Result SourceParts Fault → OwnRuns

@@ -1,6 +1,6 @@
 //! The entries of a source where they stand.
 
-ghost use Rattle.std.specs.Prelude.{◌≡◌, ◌<◌, ◌≤◌, ◌+◌, ◌^◌, ◌++◌, ◌∷◌, [], List, length, map, IfOk, IfSome, OnOk};
+ghost use Rattle.std.specs.Prelude.{◌≡◌, ◌<◌, ◌+◌, ◌^◌, ◌++◌, ◌∷◌, List, length, map, IfOk};
 ghost use Rattle.t1_text.specs.Lines.{lines};
 ghost use Rattle.t1_parts.specs.ItemRefs.{item_of};
 ghost use Rattle.t1_parts.specs.declared.item.Item.{Item as ItemOf};
@@ -49,8 +49,8 @@ fn place_of(alloc: Global, item: &ItemRef) -> Result<Option<Place>, AllocError>
     }
 }
 
-/// Adds an item that begins at the front of some bytes, where it is an entry. The number of the line after it, and the bytes
-/// from there on.
+/// Adds an item that begins at the front of some bytes, where it is an entry. The number of the
+/// line after it, and the bytes from there on.
 fn push_entry<'a>(
     alloc: Global,
     entries: &mut Vec<EntryText<'a>>,
@@ -63,7 +63,8 @@ fn push_entry<'a>(
     ensures fits { IfOk result (λ left. left.0 + length (lines left.1.now) < 2 ^ 64) }
     ensures entries { IfOk result (λ left. (items : List ItemOf) →
         map entry_of entries.new.items ++ entries_from left.0 (lines left.1.now) items
-        ≡ map entry_of entries.old.items ++ entries_from number (lines bytes.now) (item_of item.now ∷ items)) }
+        ≡ map entry_of entries.old.items
+        ++ entries_from number (lines bytes.now) (item_of item.now ∷ items)) }
 {
     let (line, later) = first_line(bytes);
     let Some(place) = place_of(alloc, item)? else {
@@ -81,16 +82,18 @@ fn push_entry<'a>(
     }
 }
 
-/// The entries among some items, which begin on the lines of some bytes one after another, the first on the line of this number.
+/// The entries among some items, which begin on the lines of some bytes one after another, the
+/// first on the line of this number.
 #[tactic(auto, using(t1_text::proofs::CutLaws::lines_within))]
-pub fn entries_of<'a>(
+pub(crate) fn entries_of<'a>(
     alloc: Global,
     number: u64,
     bytes: &'a [u8],
     items: &Items,
 ) -> Result<Vec<EntryText<'a>>, AllocError>
     requires { number + length bytes.now < 2 ^ 64 }
-    ensures { IfOk result (λ entries. map entry_of entries.items ≡ entries_from number (lines bytes.now) items.now) }
+    ensures { IfOk result (λ entries.
+        map entry_of entries.items ≡ entries_from number (lines bytes.now) items.now) }
 {
     let mut entries = Vec::new(alloc);
     let mut first = number;

@@ -1,15 +1,20 @@
-//! The faults of a body, each at its word.
+//! The faults of an entry, each at its word.
 
 ghost use Rattle.std.specs.Prelude.{◌≡◌, ◌++◌, ◌∷◌, [], All, IfOk, OnOk, length};
 ghost use Rattle.std.specs.Option.{option_to_list};
 ghost use Rattle.t1_frac.specs.Words.{words};
 ghost use Rattle.t1_code.specs.Words.{command_of_word};
-ghost use Rattle.t1_faults.specs.Entries.{entry_of, placed_words};
-ghost use Rattle.t1_faults.specs.Found.{at_entry, at_word, body_faults, code_of, length_faults, word_fault, word_faults};
+ghost use Rattle.t1_faults.specs.Entries.{entry_of};
+ghost use Rattle.t1_faults.specs.Found.{at_entry, at_word, body_faults, code_of, in_entry};
+ghost use Rattle.t1_faults.specs.Found.{length_faults, met_faults, word_fault, word_faults};
 
+use crate::chains::Chains;
 use crate::entry_text::EntryText;
+use crate::met::copied_detail;
 use crate::placed::PlacedWord;
+use crate::run_fault::RunFault;
 use std::alloc::{AllocError, Global};
+use t1_chain::Detail;
 use t1_code::{Command, compile_onto};
 use t1_frac::{Bytes, Code, Place, Refusal, SourceText, Words, blank_len};
 
@@ -17,7 +22,7 @@ use t1_frac::{Bytes, Code, Place, Refusal, SourceText, Words, blank_len};
 #[derive(Drop)]
 pub struct FoundFault<'a> {
     pub code: Code,
-    /// What `check` says of the place: a line, a Subr, a glyph or nothing.
+    /// The entry in which it stands, or its line, or nothing.
     pub place: Place,
     /// The number of the line, from 1.
     pub line: u64,
@@ -25,6 +30,11 @@ pub struct FoundFault<'a> {
     pub column: usize,
     /// The bytes that stand there, where some of the line are at fault and not an entry as a whole.
     pub word: Option<SourceText<'a>>,
+    /// What the fault says beside its code.
+    pub detail: Detail,
+    /// Of a fault that runs met in a Subr: each glyph that met it, in the order of the source.
+    /// Else none.
+    pub chains: Chains,
 }
 
 /// The most words of a body.
@@ -56,6 +66,8 @@ pub(crate) fn at_entry<'a>(
         line: entry.number,
         column: blank_len(entry.line) + 1,
         word: None,
+        detail: Detail::Nothing,
+        chains: Chains::new(alloc),
     })
 }
 
@@ -74,6 +86,8 @@ fn at_word<'a>(
         line: word.line,
         column: word.column,
         word: Some(word.word.copied(alloc)?),
+        detail: Detail::Nothing,
+        chains: Chains::new(alloc),
     })
 }
 
@@ -99,7 +113,8 @@ fn push_word_fault<'a>(
     word: &PlacedWord<'a>,
 ) -> Result<(), AllocError>
     requires { words word.now.word ≡ word.now.word ∷ [] }
-    ensures { OnOk result (found.new.items ≡ found.old.items ++ option_to_list (word_fault place.now word.now)) }
+    ensures { OnOk result (found.new.items
+        ≡ found.old.items ++ option_to_list (word_fault place.now word.now)) }
 {
     let Some(code) = word_code(commands, word.word.as_slice())? else {
         return Ok(());
@@ -132,7 +147,8 @@ fn push_length_fault<'a>(
     entry: &EntryText<'a>,
     placed: &[PlacedWord<'a>],
 ) -> Result<(), AllocError>
-    ensures { OnOk result (found.new.items ≡ found.old.items ++ length_faults (entry_of entry.now) placed.now) }
+    ensures { OnOk result (found.new.items
+        ≡ found.old.items ++ length_faults (entry_of entry.now) placed.now) }
 {
     if placed.len() <= MAX_WORDS {
         return Ok(());
@@ -141,15 +157,59 @@ fn push_length_fault<'a>(
     Ok(())
 }
 
-/// Adds every fault of an entry's body: F22 at the entry, and F20 and F21 at each word that has one.
-pub fn push_body_faults<'a>(
+/// Adds every fault of an entry's body: F22 at the entry, and F20 and F21 at each word that has
+/// one.
+pub(crate) fn push_body_faults<'a>(
     alloc: Global,
     found: &mut Vec<FoundFault<'a>>,
     entry: &EntryText<'a>,
 ) -> Result<(), AllocError>
-    ensures { OnOk result (found.new.items ≡ found.old.items ++ body_faults (entry_of entry.now)) }
+    ensures { OnOk result (found.new.items
+        ≡ found.old.items ++ body_faults (entry_of entry.now)) }
 {
     let placed = entry.words(alloc)?;
     push_length_fault(alloc, found, entry, &placed)?;
     push_word_faults(alloc, found, &entry.place, &placed)
+}
+
+/// A fault that runs met in an entry of these words: at its word, or at the entry as a whole where
+/// no word is at fault.
+fn in_entry<'a>(
+    alloc: Global,
+    entry: &EntryText,
+    placed: &[PlacedWord<'a>],
+    fault: &RunFault,
+) -> Result<FoundFault<'a>, AllocError>
+    ensures { IfOk result (λ found. found ≡ in_entry (entry_of entry.now) placed.now fault.now) }
+{
+    let found = match placed.get(fault.word) {
+        None => at_entry(alloc, entry, fault.code)?,
+        Some(word) => at_word(alloc, &entry.place, word, fault.code)?,
+    };
+    Ok(FoundFault {
+        code: found.code,
+        place: found.place,
+        line: found.line,
+        column: found.column,
+        word: found.word,
+        detail: copied_detail(alloc, &fault.detail)?,
+        chains: fault.chains.copied(alloc)?,
+    })
+}
+
+/// Adds faults that runs met in an entry.
+pub(crate) fn push_met_faults<'a>(
+    alloc: Global,
+    found: &mut Vec<FoundFault<'a>>,
+    entry: &EntryText<'a>,
+    faults: &[RunFault],
+) -> Result<(), AllocError>
+    ensures { OnOk result (found.new.items
+        ≡ found.old.items ++ met_faults (entry_of entry.now) faults.now) }
+{
+    let placed = entry.words(alloc)?;
+    for fault in faults {
+        found.push(in_entry(alloc, entry, &placed, fault)?)?;
+    }
+    Ok(())
 }

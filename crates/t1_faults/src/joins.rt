@@ -1,10 +1,10 @@
-//! The faults of runs and of joins.
+//! The faults of joins.
 
 ghost use Rattle.std.specs.Prelude.{◌≡◌, IfOk};
 ghost use Rattle.t1_font.specs.MeasuredGlyphs.{glyph_metrics_at};
 ghost use Rattle.t1_font.specs.Runs.{kept_of};
 ghost use Rattle.t1_faults.specs.Found.{code_of};
-ghost use Rattle.t1_faults.specs.Judging.{certain, is_f32, join_fault, run_fault, sound_within};
+ghost use Rattle.t1_faults.specs.Judging.{join_fault, sound_within};
 
 use std::alloc::{AllocError, Global};
 use t1_font::{Runs, glyph_metrics_of};
@@ -13,43 +13,8 @@ use t1_frac::{Code, Place, Refusal};
 /// How deep composites nest.
 const MAX_DEPTH: u8 = 4;
 
-/// The first fault of an entry's own run; a Subr has none.
-pub(crate) fn run_fault(runs: &Runs, place: &Place) -> Option<Code>
-    ensures { result ≡ run_fault (kept_of runs.now) place.now }
-{
-    match place {
-        Place::Glyph(name) => match runs.get(name.as_slice()) {
-            Some(Err(code)) => Some(*code),
-            _ => None,
-        },
-        _ => None,
-    }
-}
-
-/// Whether a code is F32.
-fn is_f32(code: Code) -> bool
-    ensures { result ≡ is_f32 code }
-{
-    matches!(code, Code::F32)
-}
-
-/// The fault of a run, unless it may be that of a Subr whose words have a fault.
-pub(crate) fn certain(unsure: bool, code: Option<Code>) -> Option<Code>
-    ensures { result ≡ certain unsure code }
-{
-    match code {
-        None => None,
-        Some(code) => {
-            if unsure && is_f32(code) {
-                None
-            } else {
-                Some(code)
-            }
-        }
-    }
-}
-
-/// Whether a glyph and all the parts that it stands on, which may nest so deep, have own runs without a fault.
+/// Whether a glyph and all the parts that it stands on, which may nest so deep, have own runs
+/// without a fault.
 fn is_sound(runs: &Runs, depth: u8, name: &[u8]) -> bool
     ensures { result ≡ sound_within (kept_of runs.now) depth name.now }
 {
@@ -81,7 +46,8 @@ fn measured_fault(alloc: Global, runs: &Runs, name: &[u8]) -> Result<Option<Code
     }
 }
 
-/// The fault of an entry's outline, where it stands on no glyph whose own run has a fault; a Subr has none.
+/// The fault of an entry's outline, where it stands on no glyph whose own run has a fault; a Subr
+/// has none.
 pub(crate) fn join_fault(
     alloc: Global,
     runs: &Runs,

@@ -1,74 +1,99 @@
 //! Every fault of a source, each where it stands.
 
-ghost use Rattle.std.specs.Prelude.{◌≡◌, ◌++◌, ◌∷◌, [], flat_map, is_ok, map, IfOk, OnOk};
+ghost use Rattle.std.specs.Prelude.{◌≡◌, ◌++◌, ◌∷◌, [], Ok, flat_map, is_ok, map};
+ghost use Rattle.std.specs.Prelude.{IfOk, OnOk};
 ghost use Rattle.t1_text.specs.Lines.{lines};
 ghost use Rattle.t1_parts.specs.Parts.{parts_of};
+ghost use Rattle.t1_parts.specs.Reading.{reads};
 ghost use Rattle.t1_font.specs.Assembly.{file_check};
 ghost use Rattle.t1_font.specs.Bodies.{bodies_check};
-ghost use Rattle.t1_faults.specs.Reading.{fault_in};
 ghost use Rattle.t1_font.specs.Runs.{kept_of};
 ghost use Rattle.t1_faults.specs.Entries.{entry_of};
-ghost use Rattle.t1_faults.specs.Judging.{entries_in, entry_faults, faults_of, file_faults, join_faults, run_faults, source_faults};
+ghost use Rattle.t1_faults.specs.GlyphRuns.{failures_of, met_at};
+ghost use Rattle.t1_faults.specs.Judging.{entries_in, entry_faults, faults_of, file_faults};
+ghost use Rattle.t1_faults.specs.Judging.{join_faults, run_faults, source_faults};
+ghost use Rattle.t1_faults.specs.Reading.{fault_in};
 
 use crate::entry::entries_of;
 use crate::entry_text::EntryText;
-use crate::found::{FoundFault, at_entry, push_body_faults};
-use crate::joins::{certain, join_fault, run_fault};
+use crate::found::{FoundFault, at_entry, push_body_faults, push_met_faults};
+use crate::glyph_runs::GlyphRuns;
+use crate::joins::join_fault;
+use crate::met::{met_in_subrs, met_outside};
 use crate::reading::{at_front, reading_fault};
-use crate::to_run::{has_faulty_subr, own_runs};
+use crate::run_fault::RunFault;
+use crate::to_run::glyph_runs;
+use indexmap::IndexMap;
 use std::alloc::{AllocError, Global};
-use t1_font::{Runs, checked_bodies, compiled};
-use t1_frac::{Fault, Refusal};
+use t1_font::{Runs, checked_bodies, compiled, measured_glyphs};
+use t1_frac::{Fault, Place, Refusal};
 use t1_parts::parts_of;
 use t1_source::{Source, read_source};
 
-/// Adds the first fault of an entry's own run, at the entry.
-fn push_run_fault<'a>(
-    alloc: Global,
-    found: &mut Vec<FoundFault<'a>>,
-    unsure: bool,
-    runs: &Runs,
-    entry: &EntryText<'a>,
-) -> Result<(), AllocError>
-    ensures { OnOk result (found.new.items ≡ found.old.items ++ run_faults unsure (kept_of runs.now) (entry_of entry.now)) }
+/// The faults that runs met in a Subr.
+fn met_of(met: &IndexMap<u16, Vec<RunFault>>, subr: u16) -> &[RunFault]
+    ensures { result.now ≡ met_at met.now.entries subr }
 {
-    let Some(code) = certain(unsure, run_fault(runs, &entry.place)) else {
-        return Ok(());
-    };
-    found.push(at_entry(alloc, entry, code)?)?;
-    Ok(())
+    match met.get(&subr) {
+        None => &[],
+        Some(faults) => faults.as_slice(),
+    }
 }
 
-/// Adds an entry's own faults: those of its body's words, else the first one of its own run.
+/// Adds the faults that runs met in an entry: a glyph's own run in its body, all runs in a Subr.
+fn push_run_faults<'a>(
+    alloc: Global,
+    found: &mut Vec<FoundFault<'a>>,
+    runs: &GlyphRuns,
+    met: &IndexMap<u16, Vec<RunFault>>,
+    entry: &EntryText<'a>,
+) -> Result<(), AllocError>
+    ensures { OnOk result (found.new.items ≡ found.old.items
+        ++ run_faults (failures_of runs.now) (met_at met.now.entries) (entry_of entry.now)) }
+{
+    match &entry.place {
+        Place::Subr(number) => push_met_faults(alloc, found, entry, met_of(met, *number)),
+        Place::Glyph(name) => {
+            let faults = met_outside(alloc, runs, name.as_slice())?;
+            push_met_faults(alloc, found, entry, &faults)
+        }
+        _ => Ok(()),
+    }
+}
+
+/// Adds an entry's own faults: those of its body's words, or if there is none those of runs.
 fn push_entry_faults<'a>(
     alloc: Global,
     found: &mut Vec<FoundFault<'a>>,
-    unsure: bool,
-    runs: &Runs,
+    runs: &GlyphRuns,
+    met: &IndexMap<u16, Vec<RunFault>>,
     entry: &EntryText<'a>,
 ) -> Result<(), AllocError>
-    ensures { OnOk result (found.new.items ≡ found.old.items ++ entry_faults unsure (kept_of runs.now) (entry_of entry.now)) }
+    ensures { OnOk result (found.new.items ≡ found.old.items
+        ++ entry_faults (failures_of runs.now) (met_at met.now.entries) (entry_of entry.now)) }
 {
     let before = found.len();
     push_body_faults(alloc, found, entry)?;
     if found.len() > before {
         return Ok(());
     }
-    push_run_fault(alloc, found, unsure, runs, entry)
+    push_run_faults(alloc, found, runs, met, entry)
 }
 
 /// Adds the own faults of all entries, in their order.
 fn push_own_faults<'a>(
     alloc: Global,
     found: &mut Vec<FoundFault<'a>>,
-    unsure: bool,
-    runs: &Runs,
+    runs: &GlyphRuns,
+    met: &IndexMap<u16, Vec<RunFault>>,
     entries: &[EntryText<'a>],
 ) -> Result<(), AllocError>
-    ensures { OnOk result (found.new.items ≡ found.old.items ++ flat_map (entry_faults unsure (kept_of runs.now)) (map entry_of entries.now)) }
+    ensures { OnOk result (found.new.items ≡ found.old.items ++ flat_map
+        (entry_faults (failures_of runs.now) (met_at met.now.entries))
+        (map entry_of entries.now)) }
 {
     for entry in entries {
-        push_entry_faults(alloc, found, unsure, runs, entry)?;
+        push_entry_faults(alloc, found, runs, met, entry)?;
     }
     Ok(())
 }
@@ -80,7 +105,8 @@ fn push_join_fault<'a>(
     runs: &Runs,
     entry: &EntryText<'a>,
 ) -> Result<(), AllocError>
-    ensures { OnOk result (found.new.items ≡ found.old.items ++ join_faults (kept_of runs.now) (entry_of entry.now)) }
+    ensures { OnOk result (found.new.items
+        ≡ found.old.items ++ join_faults (kept_of runs.now) (entry_of entry.now)) }
 {
     let Some(code) = join_fault(alloc, runs, &entry.place)? else {
         return Ok(());
@@ -96,7 +122,8 @@ fn push_join_faults<'a>(
     runs: &Runs,
     entries: &[EntryText<'a>],
 ) -> Result<(), AllocError>
-    ensures { OnOk result (found.new.items ≡ found.old.items ++ flat_map (join_faults (kept_of runs.now)) (map entry_of entries.now)) }
+    ensures { OnOk result (found.new.items ≡ found.old.items
+        ++ flat_map (join_faults (kept_of runs.now)) (map entry_of entries.now)) }
 {
     for entry in entries {
         push_join_fault(alloc, found, runs, entry)?;
@@ -126,13 +153,15 @@ fn are_sound(alloc: Global, source: &Source) -> Result<bool, AllocError>
     }
 }
 
-/// Adds the fault of a source whose bodies have none, where a part of its file or a count is too long.
+/// Adds the fault of a source whose bodies have none, where a part of its file or a count is too
+/// long.
 fn push_file_fault<'a>(
     alloc: Global,
     found: &mut Vec<FoundFault<'a>>,
     source: &Source,
 ) -> Result<(), AllocError>
-    ensures { OnOk result (found.new.items ≡ found.old.items ++ file_faults (bodies_check source.now.items) (file_check source.now)) }
+    ensures { OnOk result (found.new.items ≡ found.old.items
+        ++ file_faults (bodies_check source.now.items) (file_check source.now)) }
 {
     if !are_sound(alloc, source)? {
         return Ok(());
@@ -140,7 +169,7 @@ fn push_file_fault<'a>(
     let Some(Fault { code, place }) = file_fault(alloc, source)? else {
         return Ok(());
     };
-    found.push(at_front(code, place))?;
+    found.push(at_front(alloc, code, place))?;
     Ok(())
 }
 
@@ -150,7 +179,8 @@ fn source_entries<'a>(
     bytes: &'a [u8],
     source: &Source,
 ) -> Result<Vec<EntryText<'a>>, AllocError>
-    ensures { IfOk result (λ entries. map entry_of entries.items ≡ entries_in (parts_of (lines bytes.now)) source.now) }
+    ensures { IfOk result (λ entries.
+        map entry_of entries.items ≡ entries_in (parts_of (lines bytes.now)) source.now) }
 {
     match parts_of(bytes) {
         Ok(parts) => {
@@ -170,13 +200,29 @@ fn faults_of_source<'a>(
     ensures { IfOk result (λ found. found.items ≡ faults_of (lines bytes.now) source.now) }
 {
     let entries = source_entries(alloc, bytes, source)?;
-    let runs = own_runs(alloc, source.items())?;
-    let unsure = has_faulty_subr(alloc, source.items())?;
+    let runs = glyph_runs(alloc, source.items())?;
+    let met = met_in_subrs(alloc, &runs, &entries)?;
     let mut found = Vec::new(alloc);
-    push_own_faults(alloc, &mut found, unsure, &runs, &entries)?;
+    push_own_faults(alloc, &mut found, &runs, &met, &entries)?;
     push_file_fault(alloc, &mut found, source)?;
-    push_join_faults(alloc, &mut found, &runs, &entries)?;
+    push_join_faults(alloc, &mut found, &runs.runs, &entries)?;
     Ok(found)
+}
+
+/// The same; a source that `check` passes has none, and nothing is looked for in it.
+fn faults_unless_sound<'a>(
+    alloc: Global,
+    bytes: &'a [u8],
+    source: &Source,
+) -> Result<Vec<FoundFault<'a>>, AllocError>
+    requires { reads bytes.now ≡ Ok source.now }
+    ensures { IfOk result (λ found. found.items ≡ faults_of (lines bytes.now) source.now) }
+{
+    match measured_glyphs(alloc, source) {
+        Ok(_glyphs) => Ok(Vec::new(alloc)),
+        Err(Refusal::Fault(_fault)) => faults_of_source(alloc, bytes, source),
+        Err(Refusal::Memory) => Err(AllocError),
+    }
 }
 
 /// One fault.
@@ -188,14 +234,15 @@ fn only<'a>(alloc: Global, fault: FoundFault<'a>) -> Result<Vec<FoundFault<'a>>,
     Ok(found)
 }
 
-/// Every fault of some bytes as a source, each where it stands: the one of reading them, or those of entries in their order, F23, and
-/// those of joins. There is none exactly where the source has no fault.
+/// Every fault of some bytes as a source, each where it stands: the one of reading them, or those
+/// of entries in their order, F23, and those of joins. There is none exactly where the source has
+/// no fault.
 pub fn source_faults(alloc: Global, bytes: &[u8]) -> Result<Vec<FoundFault<'_>>, AllocError>
     ensures { IfOk result (λ found. found.items ≡ source_faults bytes.now) }
 {
     match read_source(alloc, bytes) {
-        Ok(source) => faults_of_source(alloc, bytes, &source),
-        Err(Refusal::Fault(fault)) => only(alloc, reading_fault(bytes, fault)),
+        Ok(source) => faults_unless_sound(alloc, bytes, &source),
+        Err(Refusal::Fault(fault)) => only(alloc, reading_fault(alloc, bytes, fault)),
         Err(Refusal::Memory) => Err(AllocError),
     }
 }

@@ -19,12 +19,15 @@ pub fn none_where_check_passes()
     ensures { (bytes : List ℕ) → checked bytes ≡ Ok tt → source_faults bytes ≡ [] }
 {}
 
-/// The fault that `check` reports is one of those that are found; or it is a glyph's that stands on one of which a fault is found.
+/// The fault that `check` reports is one of those that are found; or it is a glyph's, and that
+/// glyph is or stands on one of which a fault is found, or whose run met one in a Subr.
 pub fn reported_fault_is_found()
-    ensures { (bytes : List ℕ) (fault : Fault) → checked bytes ≡ Err fault → IsAnswered (runs_read (reads bytes)) (source_faults bytes) fault }
+    ensures { (bytes : List ℕ) (fault : Fault) → checked bytes ≡ Err fault →
+        IsAnswered (runs_read (reads bytes)) (source_faults bytes) fault }
 {}
 
 /// In a source that reads, the word of each fault that is found stands at its line and column.
 pub fn words_stand_there()
-    ensures { (bytes : List ℕ) (s : SourceParts) → reads bytes ≡ Ok s → AllByRecursion (TellsWord (lines bytes)) (source_faults bytes) }
+    ensures { (bytes : List ℕ) (s : SourceParts) → reads bytes ≡ Ok s →
+        AllByRecursion (TellsWord (lines bytes)) (source_faults bytes) }
 {}

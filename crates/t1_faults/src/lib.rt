@@ -1,22 +1,31 @@
 //! Every fault of a source, each where it stands in its bytes.
 //!
-//! [`source_faults`] gives the list, of which each [`FoundFault`] has its code, its place as `check` tells it, its line and its column,
-//! and the word that stands there. [`EntryText`] is an entry where it stands, and [`PlacedWord`] a word of its body.
+//! [`source_faults`] gives the list, of which each [`FoundFault`] has its code, its place, its
+//! line and its column, the word that stands there, what it says beside its code
+//! (`t1_chain::Detail`), and the [`Chains`] of calls through which runs met it in a Subr. [`laws`]
+//! says what the list has to do with what `check` reports. Where a source has no fault, the list
+//! costs what `check` costs.
 #![tactic(auto)]
 
+mod chains;
 mod entry;
 mod entry_text;
+mod failing;
 mod found;
+mod glyph_runs;
+mod hint;
 mod joins;
 mod judging;
 pub mod laws;
+mod met;
+mod opening;
 mod placed;
 mod reading;
+mod run_fault;
 mod to_run;
 
-pub use entry::entries_of;
-pub use entry_text::EntryText;
-pub use found::{FoundFault, push_body_faults};
+pub use chains::{Chain, Chains};
+pub use found::FoundFault;
+pub use hint::hint_of;
 pub use judging::source_faults;
-pub use placed::PlacedWord;
 pub use reading::reading_fault;

@@ -1,6 +1,7 @@
 //! Words of a body where they stand in the source.
 
-ghost use Rattle.std.specs.Prelude.{◌≡◌, ◌==◌, ◌<◌, ◌≤◌, ◌+◌, ◌^◌, ◌++◌, ◌∷◌, [], length, drop, IfSome, MatchOption, OnOk};
+ghost use Rattle.std.specs.Prelude.{◌≡◌, ◌==◌, ◌<◌, ◌≤◌, ◌+◌, ◌^◌, ◌++◌, ◌∷◌, [], length};
+ghost use Rattle.std.specs.Prelude.{IfSome, MatchOption, OnOk};
 ghost use Rattle.std.specs.List.{position_or_len, before_first, after_first};
 ghost use Rattle.t1_frac.specs.Ascii.{open_brace};
 ghost use Rattle.t1_frac.specs.Words.{is_blank};
@@ -31,7 +32,8 @@ fn word_len(text: &[u8]) -> usize
     text.iter().take_while(|byte| !is_blank(**byte)).count()
 }
 
-/// The first word of a text, whose first byte has this column, with the column of the word, and the bytes after the word.
+/// The first word of a text, whose first byte has this column, with the column of the word, and the
+/// bytes after the word.
 #[tactic(auto, using(crate::proofs::ColumnLaws::column_at, crate::proofs::ColumnLaws::no_column_at, t1_frac::proofs::WordLaws::word_shortens))]
 fn next_column(column: usize, text: &[u8]) -> Option<(usize, &[u8], &[u8])>
     requires { column + length text.now < 2 ^ 64 }
@@ -42,7 +44,8 @@ fn next_column(column: usize, text: &[u8]) -> Option<(usize, &[u8], &[u8])>
     ensures value { MatchOption
         result
         (columns_from column text.now ≡ [])
-        (λ found. columns_from column text.now ≡ (found.0, found.1.now) ∷ columns_from (found.0 + length found.1.now) found.2.now) }
+        (λ found. columns_from column text.now
+        ≡ (found.0, found.1.now) ∷ columns_from (found.0 + length found.1.now) found.2.now) }
 {
     let count = blank_len(text);
     let rest = text.split_at(count).1;
@@ -61,7 +64,8 @@ fn push_line_words<'a>(
     text: &'a [u8],
 ) -> Result<(), AllocError>
     requires { column + length text.now < 2 ^ 64 }
-    ensures { OnOk result (placed.new.items ≡ placed.old.items ++ placed_line line column text.now) }
+    ensures { OnOk result (placed.new.items
+        ≡ placed.old.items ++ placed_line line column text.now) }
 {
     let mut from = column;
     let mut rest = text;
@@ -99,8 +103,8 @@ fn before_brace(line: &[u8]) -> &[u8]
     line.split_at(brace_start(line)).0
 }
 
-/// Adds the words of the body that goes from this column of a line to the first brace outside comments. The rest of the line
-/// is given, and the bytes after it.
+/// Adds the words of the body that goes from this column of a line to the first brace outside
+/// comments. The rest of the line is given, and the bytes after it.
 fn push_body_words<'a>(
     placed: &mut Vec<PlacedWord<'a>>,
     number: u64,
@@ -110,7 +114,8 @@ fn push_body_words<'a>(
 ) -> Result<(), AllocError>
     requires lines { number + length (lines later.now) < 2 ^ 64 }
     requires columns { column + length line.now < 2 ^ 64 }
-    ensures { OnOk result (placed.new.items ≡ placed.old.items ++ placed_body number column (line.now ∷ lines later.now)) }
+    ensures { OnOk result (placed.new.items
+        ≡ placed.old.items ++ placed_body number column (line.now ∷ lines later.now)) }
 {
     let mut current = number;
     let mut from = column;
@@ -153,7 +158,8 @@ fn after_opening(line: &[u8], start: usize) -> &[u8]
     }
 }
 
-/// Adds the words of the body that opens on a line of this number. The bytes after the line are given.
+/// Adds the words of the body that opens on a line of this number. The bytes after the line are
+/// given.
 pub(crate) fn push_opened_words<'a>(
     placed: &mut Vec<PlacedWord<'a>>,
     number: u64,
@@ -161,7 +167,8 @@ pub(crate) fn push_opened_words<'a>(
     later: &'a [u8],
 ) -> Result<(), AllocError>
     requires { number + length (lines later.now) < 2 ^ 64 }
-    ensures { OnOk result (placed.new.items ≡ placed.old.items ++ opened_words number line.now (lines later.now)) }
+    ensures { OnOk result (placed.new.items
+        ≡ placed.old.items ++ opened_words number line.now (lines later.now)) }
 {
     let start = opening_start(line);
     push_body_words(placed, number, start + 2, after_opening(line, start), later)

@@ -5,7 +5,11 @@ ghost use Rattle.std.specs.List.{slice_index_or};
 ghost use Rattle.t1_text.specs.Lines.{lines};
 ghost use Rattle.t1_faults.specs.Reading.{at_front, on_line, reading_fault};
 
+use crate::chains::Chains;
 use crate::found::FoundFault;
+use crate::opening::detail_on;
+use std::alloc::Global;
+use t1_chain::Detail;
 use t1_frac::{Code, Fault, Place, SourceText, blank_len};
 use t1_text::{first_line, trimmed};
 
@@ -29,7 +33,7 @@ fn line_of(bytes: &[u8], number: u64) -> &[u8]
 }
 
 /// A fault on the line of this number: all of the line but the blanks at both ends.
-fn on_line(bytes: &[u8], code: Code, number: u64) -> FoundFault<'_>
+fn on_line(alloc: Global, bytes: &[u8], code: Code, number: u64) -> FoundFault<'_>
     ensures { result ≡ on_line (lines bytes.now) code number }
 {
     let line = line_of(bytes, number);
@@ -39,11 +43,13 @@ fn on_line(bytes: &[u8], code: Code, number: u64) -> FoundFault<'_>
         line: number,
         column: blank_len(line) + 1,
         word: Some(SourceText::borrowed(trimmed(line))),
+        detail: detail_on(bytes, code, line),
+        chains: Chains::new(alloc),
     }
 }
 
 /// A fault of the source as a whole, at its front.
-pub(crate) fn at_front<'a>(code: Code, place: Place) -> FoundFault<'a>
+pub(crate) fn at_front<'a>(alloc: Global, code: Code, place: Place) -> FoundFault<'a>
     ensures { result ≡ at_front code place }
 {
     FoundFault {
@@ -52,16 +58,18 @@ pub(crate) fn at_front<'a>(code: Code, place: Place) -> FoundFault<'a>
         line: 1,
         column: 1,
         word: None,
+        detail: Detail::Nothing,
+        chains: Chains::new(alloc),
     }
 }
 
 /// A fault of reading some bytes, where it stands.
-pub fn reading_fault(bytes: &[u8], fault: Fault) -> FoundFault<'_>
+pub fn reading_fault(alloc: Global, bytes: &[u8], fault: Fault) -> FoundFault<'_>
     ensures { result ≡ reading_fault (lines bytes.now) fault }
 {
     let Fault { code, place } = fault;
     match place {
-        Place::Line(number) => on_line(bytes, code, number),
-        place => at_front(code, place),
+        Place::Line(number) => on_line(alloc, bytes, code, number),
+        place => at_front(alloc, code, place),
     }
 }

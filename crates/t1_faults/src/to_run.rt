@@ -1,19 +1,22 @@
 //! The bodies of a source as they are run to find its faults, and their runs.
 
-ghost use Rattle.std.specs.Prelude.{◌≡◌, ◌==◌, ℕ, List, [], None, Some, IfOk, OnOk, if◌then◌else◌};
+ghost use Rattle.std.specs.Prelude.{◌≡◌, ◌==◌, ◌||◌, ℕ, List, [], None, Some, IfOk, OnOk};
+ghost use Rattle.std.specs.Prelude.{nat_eq, if◌then◌else◌};
 ghost use Rattle.std.specs.List.{list_any};
 ghost use Rattle.std.specs.Option.{option_or};
 ghost use Rattle.std.specs.Result.{result_ok};
 ghost use Rattle.std.specs.Str.{bytes_eq};
 ghost use Rattle.t1_code.specs.Words.{commands};
 ghost use Rattle.t1_run.specs.Run.{own};
-ghost use Rattle.t1_font.specs.Bodies.{glyph_kept, subr_among, subr_in, subr_kept};
+ghost use Rattle.t1_font.specs.Bodies.{glyph_kept, plain_bodies, subr_among, subr_in, subr_kept};
 ghost use Rattle.t1_font.specs.Runs.{kept_of};
 ghost use Rattle.t1_font.specs.ToRun.{commands_or_none, font_to_run, glyph_to_run};
-ghost use Rattle.t1_faults.specs.Judging.{is_faulty_subr};
+ghost use Rattle.t1_faults.specs.Failing.{failures_in, is_faulty_subr};
+ghost use Rattle.t1_faults.specs.GlyphRuns.{failures_of, has_number};
 ghost use Rattle.t1_faults.specs.ToRun.{glyph_run_in};
 
-use indexmap::IndexMap;
+use crate::glyph_runs::GlyphRuns;
+use indexmap::{IndexMap, IndexSet};
 use std::alloc::{AllocError, Global};
 use t1_code::{Body, compile};
 use t1_font::{Runs, glyph_names, runs_of};
@@ -49,7 +52,10 @@ fn add_subr(
     number: u16,
     words: &Words,
 ) -> Result<(), AllocError>
-    ensures { OnOk result ((n : ℕ) → subr_kept subrs.new.entries n ≡ option_or (subr_kept subrs.old.entries n) (if n == number then result_ok (commands words.now) else None)) }
+    ensures { OnOk result ((n : ℕ) → subr_kept subrs.new.entries n
+        ≡ option_or
+        (subr_kept subrs.old.entries n)
+        (if n == number then result_ok (commands words.now) else None)) }
 {
     let Some(body) = sound_body(alloc, words)? else {
         return Ok(());
@@ -68,7 +74,10 @@ fn add_glyph(
     name: &[u8],
     words: &Words,
 ) -> Result<(), AllocError>
-    ensures { OnOk result ((g : List ℕ) → glyph_kept glyphs.new.entries g ≡ option_or (glyph_kept glyphs.old.entries g) (if bytes_eq g name.now then Some (commands_or_none (commands words.now)) else None)) }
+    ensures { OnOk result ((g : List ℕ) → glyph_kept glyphs.new.entries g
+        ≡ option_or
+        (glyph_kept glyphs.old.entries g)
+        (if bytes_eq g name.now then Some (commands_or_none (commands words.now)) else None)) }
 {
     let body = body_to_run(alloc, words)?;
     if glyphs.contains_key(name) {
@@ -85,8 +94,10 @@ fn add_item(
     glyphs: &mut IndexMap<Vec<u8>, Body>,
     item: &Item,
 ) -> Result<(), AllocError>
-    ensures subrs { OnOk result ((n : ℕ) → subr_kept subrs.new.entries n ≡ option_or (subr_kept subrs.old.entries n) (subr_in item.now n)) }
-    ensures glyphs { OnOk result ((g : List ℕ) → glyph_kept glyphs.new.entries g ≡ option_or (glyph_kept glyphs.old.entries g) (glyph_run_in item.now g)) }
+    ensures subrs { OnOk result ((n : ℕ) → subr_kept subrs.new.entries n
+        ≡ option_or (subr_kept subrs.old.entries n) (subr_in item.now n)) }
+    ensures glyphs { OnOk result ((g : List ℕ) → glyph_kept glyphs.new.entries g
+        ≡ option_or (glyph_kept glyphs.old.entries g) (glyph_run_in item.now g)) }
 {
     match item {
         Item::Subr(number, words, _) => add_subr(alloc, subrs, *number, words),
@@ -106,8 +117,10 @@ fn add_items(
 ) -> Result<(), AllocError>
     requires subrs { subrs.old.entries ≡ [] }
     requires glyphs { glyphs.old.entries ≡ [] }
-    ensures subrs { OnOk result ((n : ℕ) → subr_kept subrs.new.entries n ≡ subr_among items.now n) }
-    ensures glyphs { OnOk result ((g : List ℕ) → glyph_kept glyphs.new.entries g ≡ glyph_to_run items.now g) }
+    ensures subrs { OnOk result ((n : ℕ) →
+        subr_kept subrs.new.entries n ≡ subr_among items.now n) }
+    ensures glyphs { OnOk result ((g : List ℕ) →
+        glyph_kept glyphs.new.entries g ≡ glyph_to_run items.now g) }
 {
     for item in items.iter().alone() {
         add_item(alloc, subrs, glyphs, item)?;
@@ -115,11 +128,10 @@ fn add_items(
     Ok(())
 }
 
-/// What is run of the entries: the commands of their words; of a glyph whose words have a fault no commands, and of such a Subr
-/// nothing.
+/// What is run of the entries: the commands of their words; of a glyph whose words have a fault no
+/// commands, and of such a Subr nothing.
 fn bodies_to_run(alloc: Global, items: &Items) -> Result<Plain, AllocError>
-    ensures subrs { IfOk result (λ plain. (n : ℕ) → subr_kept plain.subrs.entries n ≡ subr_among items.now n) }
-    ensures glyphs { IfOk result (λ plain. (g : List ℕ) → glyph_kept plain.glyphs.entries g ≡ glyph_to_run items.now g) }
+    ensures { IfOk result (λ plain. plain_bodies plain ≡ font_to_run items.now) }
 {
     let mut subrs = IndexMap::new(alloc);
     let mut glyphs = IndexMap::new(alloc);
@@ -128,34 +140,65 @@ fn bodies_to_run(alloc: Global, items: &Items) -> Result<Plain, AllocError>
 }
 
 /// The runs of the glyphs' own bodies, or their first faults.
-pub(crate) fn own_runs<'a>(alloc: Global, items: &'a Items) -> Result<Runs<'a>, AllocError>
+fn own_runs<'a>(alloc: Global, bodies: &Plain, items: &'a Items) -> Result<Runs<'a>, AllocError>
+    requires { plain_bodies bodies.now ≡ font_to_run items.now }
     ensures { IfOk result (λ runs. kept_of runs ≡ own (font_to_run items.now)) }
 {
-    let bodies = bodies_to_run(alloc, items)?;
     let names = glyph_names(alloc, items)?;
     let mut meter = Meter::new();
-    runs_of(alloc, &bodies, &names, &mut meter)
+    runs_of(alloc, bodies, &names, &mut meter)
 }
 
-/// Whether an item is a Subr whose words have a fault.
-fn is_faulty_subr(alloc: Global, item: &Item) -> Result<bool, AllocError>
-    ensures { IfOk result (λ faulty. faulty ≡ is_faulty_subr item.now) }
+/// Adds a number to others.
+fn add_number(numbers: &mut IndexSet<u64>, number: u64) -> Result<(), AllocError>
+    ensures { OnOk result ((n : ℕ) →
+        has_number numbers.new.keys n ≡ (has_number numbers.old.keys n || nat_eq n number)) }
+{
+    numbers.insert(number)?;
+    Ok(())
+}
+
+/// Adds the number of an item, where it is a Subr whose words have a fault.
+fn add_faulty(alloc: Global, faulty: &mut IndexSet<u64>, item: &Item) -> Result<(), AllocError>
+    ensures { OnOk result ((n : ℕ) →
+        has_number faulty.new.keys n
+        ≡ (has_number faulty.old.keys n || is_faulty_subr n item.now)) }
 {
     match item {
-        Item::Subr(_, words, _) => Ok(sound_body(alloc, words)?.is_none()),
-        _ => Ok(false),
+        Item::Subr(number, words, _) => {
+            if sound_body(alloc, words)?.is_some() {
+                return Ok(());
+            }
+            add_number(faulty, u64::from(*number))
+        }
+        _ => Ok(()),
     }
 }
 
-/// Whether the words of a Subr have a fault.
+/// The numbers of the Subrs whose words have a fault.
 #[tactic(auto, using(crate::proofs::ToRunLaws::faulty_alone))]
-pub(crate) fn has_faulty_subr(alloc: Global, items: &Items) -> Result<bool, AllocError>
-    ensures { IfOk result (λ faulty. faulty ≡ list_any is_faulty_subr items.now) }
+fn faulty_subrs(alloc: Global, items: &Items) -> Result<IndexSet<u64>, AllocError>
+    ensures { IfOk result (λ faulty. (n : ℕ) →
+        has_number faulty.keys n ≡ list_any (is_faulty_subr n) items.now) }
 {
+    let mut faulty = IndexSet::new(alloc);
     for item in items.iter().alone() {
-        if is_faulty_subr(alloc, item)? {
-            return Ok(true);
-        }
+        add_faulty(alloc, &mut faulty, item)?;
     }
-    Ok(false)
+    Ok(faulty)
+}
+
+/// The runs of the glyphs of a source.
+pub(crate) fn glyph_runs<'a>(alloc: Global, items: &'a Items) -> Result<GlyphRuns<'a>, AllocError>
+    ensures runs { IfOk result (λ runs. kept_of runs.runs ≡ own (font_to_run items.now)) }
+    ensures failures { IfOk result (λ runs. failures_of runs ≡ failures_in items.now) }
+{
+    let bodies = bodies_to_run(alloc, items)?;
+    let runs = own_runs(alloc, &bodies, items)?;
+    let faulty = faulty_subrs(alloc, items)?;
+    Ok(GlyphRuns {
+        bodies,
+        runs,
+        faulty,
+    })
 }

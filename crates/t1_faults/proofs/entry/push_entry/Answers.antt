@@ -1,8 +1,8 @@
-use Rattle.std.proofs.Common.{◌≡◌, ◌∙◌, ◌+◌, [], ◌∷◌, ◌++◌, map, drop, Some, refl, sym, ap, arith}
+use Rattle.std.proofs.Common.{◌≡◌, ◌∙◌, ◌+◌, ◌++◌, map, Some, refl, sym, ap, arith}
 use Rattle.t1_text.specs.Lines.{lines}
 use Rattle.t1_parts.specs.Entries.{opened_body}
 use Rattle.t1_parts.specs.ItemRefs.{item_of}
-use Rattle.t1_faults.specs.Entries.{entry_of, entries_from, more_lines, place_in}
+use Rattle.t1_faults.specs.Entries.{entry_of, entries_from, place_in}
 use Rattle.t1_faults.proofs.LoopLaws.{entry_on, opened_none, opened_rest, opened_size}
 use Rattle.t1_faults.proofs.PlacedLaws.{map_append}
 use Rattle.t1_faults.proofs.entry.push_entry.Goals as goal
