@@ -1,5 +1,5 @@
 -- Encryption undone.
-use Rattle.std.proofs.Common.{◌≡◌, ℕ, zero, suc, ◌/◌, List, [], ◌∷◌, ◌++◌, length, replicate, drop, refl, ap, ◌∙◌}
+use Rattle.std.proofs.Common.{◌≡◌, ℕ, zero, suc, ◌+◌, ◌*◌, ◌/◌, ◌%◌, List, [], ◌∷◌, ◌++◌, length, replicate, drop, refl, ap, ◌∙◌, arith}
 use Rattle.std.specs.Prelude.{bit_xor}
 use Rattle.std.specs.Int.Bits.{xor_assoc, xor_self, xor_zero_r}
 use Rattle.t1_code.specs.Cipher.{cipher, next_key, key_after, eexec, encrypted_after, encrypted_charstring}
@@ -28,6 +28,14 @@ cipher_deciphered key (c ∷ cs) = rw (twice c (key / 256)) (ap (λ l. c ∷ l) 
 pub deciphered-append : (key : ℕ) (xs ys : List ℕ) → deciphered key (xs ++ ys) ≡ deciphered key xs ++ deciphered (key_after key xs) ys
 deciphered-append key [] ys = refl
 deciphered-append key (x ∷ xs) ys = ap (λ l. bit_xor x (key / 256) ∷ l) (deciphered-append (next_key key x) xs ys)
+
+-- ---- the next key, of the one that stands there and of the one before it
+
+pub key_from : (key next c : ℕ) → next ≡ (key * 52845 + 22719) % 65536 → (next + c * 52845) % 65536 ≡ next_key key c
+key_from key next c h = omega (arith, h)
+
+pub next_from : (key c : ℕ) → ((key + c) * 39529 + 54290) % 65536 ≡ (next_key key c * 52845 + 22719) % 65536
+next_from key c = omega arith
 
 drop_zeros : (lead : ℕ) (plain : List ℕ) → drop lead (replicate lead 0 ++ plain) ≡ plain
 drop_zeros zero plain = refl

@@ -4,6 +4,7 @@ ghost use Rattle.t1_code.specs.Cipher.{next_key};
 ghost use Rattle.t1_disassemble.specs.Decipher.{deciphered};
 
 use std::alloc::AllocError;
+use std::marker::Model;
 
 /// The key that encryption of a charstring begins with.
 const CHARSTRING_KEY: u16 = 4_330;
@@ -11,20 +12,57 @@ const CHARSTRING_KEY: u16 = 4_330;
 /// The key that eexec encryption begins with.
 const EEXEC_KEY: u16 = 55_665;
 
-/// The plain byte of a cipher byte.
-#[inline(always)]
-fn plain_byte(key: u16, cipher: u8) -> u8
-    ensures { result ≡ bit_xor cipher (key / 256) }
-{
-    cipher ^ (key / 256) as u8
+/// Decrypts bytes one after another, with a key that each cipher byte changes. Contracts see the
+/// key.
+///
+/// What a key adds to the next one is kept beside it. It follows from the key before it, so that
+/// two bytes wait for one product.
+#[derive(Drop)]
+struct Cipher {
+    key: u16,
+    next: u16,
 }
 
-/// The key after a cipher byte.
-#[inline(always)]
-fn key_after(key: u16, cipher: u8) -> u16
-    ensures { result ≡ next_key key cipher }
-{
-    (((u32::from(cipher) + u32::from(key)) * 52_845 + 22_719) % 65_536) as u16
+impl Model for Cipher {
+    ghost use Rattle.std.specs.Prelude.{◌≡◌, ◌+◌, ◌*◌, ◌%◌, ℕ};
+
+    ghost Value = { ℕ };
+
+    ghost view = { λ d. d.key };
+
+    ghost invariant = { λ d. d.next ≡ (d.key * 52845 + 22719) % 65536 };
+}
+
+impl Cipher {
+    /// Begins with this key.
+    fn new(key: u16) -> Cipher
+        ensures { result ≡ key }
+    {
+        Cipher {
+            key,
+            next: ((u32::from(key) * 52_845 + 22_719) % 65_536) as u16,
+        }
+    }
+
+    /// The plain byte of a cipher byte. The key's factor is squared here: the next key adds
+    /// `(key + cipher) * 52_845 * 52_845 + 22_719 * 52_846` to the one after it, of which the low
+    /// 16 bits count.
+    #[inline(always)]
+    #[tactic(auto, using(crate::proofs::Deciphering::key_from, crate::proofs::Deciphering::next_from))]
+    fn byte(&mut self, cipher: u8) -> u8
+        ensures byte { result ≡ bit_xor cipher (self.old / 256) }
+        ensures key { self.new ≡ next_key self.old cipher }
+    {
+        let code = u32::from(cipher);
+        let plain = cipher ^ (self.key / 256) as u8;
+        let key = (u32::from(self.next) + code * 52_845) % 65_536;
+        let next = ((u32::from(self.key) + code) * 39_529 + 54_290) % 65_536;
+        *self = Cipher {
+            key: key as u16,
+            next: next as u16,
+        };
+        plain
+    }
 }
 
 /// Puts the plain bytes in the place of the cipher bytes.
@@ -33,11 +71,9 @@ fn decipher(key: u16, bytes: &mut [u8])
     ensures bytes { bytes.new ≡ deciphered key bytes.old }
     ensures len { length bytes.new ≡ length bytes.old }
 {
-    let mut key = key;
+    let mut state = Cipher::new(key);
     for byte in bytes.iter_mut() {
-        let cipher = *byte;
-        *byte = plain_byte(key, cipher);
-        key = key_after(key, cipher);
+        *byte = state.byte(*byte);
     }
 }
 
