@@ -1,17 +1,12 @@
 -- Hexadecimal digits read back.
-use Rattle.std.proofs.Common.{◌≡◌, ℕ, zero, suc, false, ◌-◌, ◌+◌, ◌*◌, ◌/◌, ◌%◌, ◌≤◌, ◌<◌, List, [], ◌∷◌, ◌++◌, length, None, Some, refl, ap, ◌∙◌, append_assoc, inl, inr, arith}
-use Rattle.std.proofs.lemmas.Bool.{cases_lt, lt-ltb, le-ltb, le-leb, lt-leb, ne_eqb}
-use Rattle.t1_frac.specs.Words.{is_blank}
+use Rattle.std.proofs.Common.{◌≡◌, ℕ, zero, suc, ◌-◌, ◌+◌, ◌*◌, ◌/◌, ◌%◌, ◌<◌, List, [], ◌∷◌, ◌++◌, length, Some, refl, ap, ◌∙◌, append_assoc, inl, inr, arith}
+use Rattle.std.proofs.lemmas.Bool.{cases_lt, lt-ltb, le-ltb, le-leb, lt-leb}
 use Rattle.t1_code.specs.Hexadecimal.{in_lines}
 use Rattle.t1_code.specs.Pfa.{hexadecimal_digit, digits_of_byte, hexadecimal_lines}
 use Rattle.t1_code.proofs.Digits.{lines_are}
 use Rattle.t1_disassemble.specs.Laws.{AreBytes}
-use Rattle.t1_disassemble.specs.Digits.{digit_value, digit_bytes, after_digits}
-
--- bytes that print are no blanks
-not_blank : (c : ℕ) → 33 ≤ c → is_blank c ≡ false
-not_blank c h =
-    rw (ne_eqb c 0 (omega (arith, h)), ne_eqb c 9 (omega (arith, h)), ne_eqb c 10 (omega (arith, h)), ne_eqb c 12 (omega (arith, h)), ne_eqb c 13 (omega (arith, h)), ne_eqb c 32 (omega (arith, h))) refl
+use Rattle.t1_disassemble.specs.Digits.{digit_value, bytes_of_values, digit_bytes, after_digits}
+use Rattle.t1_disassemble.proofs.DigitValues.{blank_passed, digit_first}
 
 low_digit : (v : ℕ) → v < 10 → digit_value (48 + v) ≡ Some v
 unfolding digit_value
@@ -21,31 +16,35 @@ high_digit : (w : ℕ) → w < 6 → digit_value (97 + w) ≡ Some (10 + w)
 unfolding digit_value
 high_digit w h = rw (le-leb 48 (97 + w) (omega arith), lt-leb (97 + w) 57 (omega arith), le-leb 97 (97 + w) (omega arith), le-leb (97 + w) 102 (omega (arith, h))) (ap Some (omega arith))
 
--- a digit is one, and says its value
-digit_again : (v : ℕ) → v < 16 → (digit_value (hexadecimal_digit v) ≡ Some v) × (is_blank (hexadecimal_digit v) ≡ false)
+-- a digit says its value
+digit_again : (v : ℕ) → v < 16 → digit_value (hexadecimal_digit v) ≡ Some v
 digit_again v h = elim (cases_lt v 10) [
-  | inl low ↦ rw (lt-ltb v 10 low) (low_digit v low, not_blank (48 + v) (omega arith))
-  | inr high ↦ rw (le-ltb v 10 high) (high_digit (v - 10) (omega (arith, h, high)) ∙ ap Some (omega (arith, high)), not_blank (97 + (v - 10)) (omega arith))
+  | inl low ↦ rw (lt-ltb v 10 low) (low_digit v low)
+  | inr high ↦ rw (le-ltb v 10 high) (high_digit (v - 10) (omega (arith, h, high)) ∙ ap Some (omega (arith, high)))
 ]
 
-two_again : (h l high low : ℕ) (more : List ℕ) → (digit_value h ≡ Some high) × (is_blank h ≡ false) → (digit_value l ≡ Some low) × (is_blank l ≡ false)
-    → digit_bytes None (h ∷ l ∷ more) ≡ (16 * high + low) ∷ digit_bytes None more
-two_again h l high low more p q = rw (p.1, p.0, q.1, q.0) refl
+two_again : (h l high low : ℕ) (more : List ℕ) → digit_value h ≡ Some high → digit_value l ≡ Some low → digit_bytes (h ∷ l ∷ more) ≡ (16 * high + low) ∷ digit_bytes more
+two_again h l high low more p q = ap bytes_of_values (digit_first h high (l ∷ more) p ∙ ap (λ values. high ∷ values) (digit_first l low more q))
 
-byte_again : (byte : ℕ) (more : List ℕ) → byte < 256 → digit_bytes None (digits_of_byte byte ++ more) ≡ byte ∷ digit_bytes None more
+byte_again : (byte : ℕ) (more : List ℕ) → byte < 256 → digit_bytes (digits_of_byte byte ++ more) ≡ byte ∷ digit_bytes more
 byte_again byte more h =
     two_again (hexadecimal_digit (byte / 16)) (hexadecimal_digit (byte % 16)) (byte / 16) (byte % 16) more (digit_again (byte / 16) (omega (arith, h))) (digit_again (byte % 16) (omega arith))
-    ∙ ap (λ b. b ∷ digit_bytes None more) (omega arith)
+    ∙ ap (λ b. b ∷ digit_bytes more) (omega arith)
 
-lined_again : (room : ℕ) (bytes more : List ℕ) → AreBytes bytes → digit_bytes None (in_lines room bytes ++ more) ≡ bytes ++ digit_bytes None more
+feed_again : (more : List ℕ) → digit_bytes (10 ∷ more) ≡ digit_bytes more
+feed_again more = ap bytes_of_values (blank_passed 10 more refl)
+
+lined_again : (room : ℕ) (bytes more : List ℕ) → AreBytes bytes → digit_bytes (in_lines room bytes ++ more) ≡ bytes ++ digit_bytes more
 lined_again room [] more h = refl
-lined_again zero (byte ∷ bytes) more h = byte_again byte (in_lines 31 bytes ++ more) h.0 ∙ ap (λ l. byte ∷ l) (lined_again 31 bytes more h.1)
+lined_again zero (byte ∷ bytes) more h =
+    feed_again (digits_of_byte byte ++ (in_lines 31 bytes ++ more)) ∙ byte_again byte (in_lines 31 bytes ++ more) h.0 ∙ ap (λ l. byte ∷ l) (lined_again 31 bytes more h.1)
 lined_again (suc room) (byte ∷ bytes) more h = byte_again byte (in_lines room bytes ++ more) h.0 ∙ ap (λ l. byte ∷ l) (lined_again room bytes more h.1)
 
 -- the lines of digits are their bytes
-pub lines_again : (bytes more : List ℕ) → AreBytes bytes → digit_bytes None (hexadecimal_lines bytes ++ more) ≡ bytes ++ digit_bytes None more
+pub lines_again : (bytes more : List ℕ) → AreBytes bytes → digit_bytes (hexadecimal_lines bytes ++ more) ≡ bytes ++ digit_bytes more
 lines_again bytes more h =
-    ap (λ l. digit_bytes None (l ++ more)) (lines_are bytes) ∙ ap (digit_bytes None) (append_assoc (in_lines 32 bytes) (10 ∷ []) more) ∙ lined_again 32 bytes (10 ∷ more) h
+    ap (λ l. digit_bytes (l ++ more)) (lines_are bytes) ∙ ap digit_bytes (append_assoc (in_lines 32 bytes) (10 ∷ []) more) ∙ lined_again 32 bytes (10 ∷ more) h
+    ∙ ap (λ l. bytes ++ l) (feed_again more)
 
 -- ---- what stands after so many digits
 
@@ -54,7 +53,7 @@ two_passed count h l high low more p q = rw (p, q) refl
 
 byte_passed : (count byte : ℕ) (more : List ℕ) → byte < 256 → after_digits (suc (suc count)) (digits_of_byte byte ++ more) ≡ after_digits count more
 byte_passed count byte more h =
-    two_passed count (hexadecimal_digit (byte / 16)) (hexadecimal_digit (byte % 16)) (byte / 16) (byte % 16) more (digit_again (byte / 16) (omega (arith, h))).0 (digit_again (byte % 16) (omega arith)).0
+    two_passed count (hexadecimal_digit (byte / 16)) (hexadecimal_digit (byte % 16)) (byte / 16) (byte % 16) more (digit_again (byte / 16) (omega (arith, h))) (digit_again (byte % 16) (omega arith))
 
 feed_passed : (count : ℕ) (more : List ℕ) → after_digits (suc count) (10 ∷ more) ≡ after_digits (suc count) more
 unfolding digit_value

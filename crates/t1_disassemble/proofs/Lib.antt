@@ -3,6 +3,8 @@ pub mod CutPieces
 pub mod Deciphering
 pub mod DigitFileLaws
 pub mod DigitLaws
+pub mod DigitValues
+pub mod FlatFileLaws
 pub mod FrontLaws
 pub mod Fronts
 pub mod ItemLaws

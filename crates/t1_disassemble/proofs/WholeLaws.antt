@@ -148,16 +148,19 @@ pub eexec_coded : (private : List ℕ) → Coded (eexec private)
 unfolding eexec
 eexec_coded private = record { more = _; is = refl }
 
-spaces_none : (more : List ℕ) → past_spaces (217 ∷ 214 ∷ 111 ∷ 99 ∷ more) ≡ 217 ∷ 214 ∷ 111 ∷ 99 ∷ more
+pub spaces_none : (more : List ℕ) → past_spaces (217 ∷ 214 ∷ 111 ∷ 99 ∷ more) ≡ 217 ∷ 214 ∷ 111 ∷ 99 ∷ more
 spaces_none more = refl
 
 and_false : (b : Bool) → (b && false) ≡ false
 and_false true = refl
 and_false false = refl
 
-binary : (more : List ℕ) → is_hexadecimal (217 ∷ 214 ∷ 111 ∷ 99 ∷ more) ≡ false
+pub binary : (more : List ℕ) → is_hexadecimal (217 ∷ 214 ∷ 111 ∷ 99 ∷ more) ≡ false
 unfolding digit_value
 binary more = and_false (nat_le 4 (length (217 ∷ 214 ∷ 111 ∷ 99 ∷ more)))
+
+pub unchanged : (coded : List ℕ) → is_hexadecimal coded ≡ false → coded_bytes coded ≡ coded
+unchanged coded off = rw off refl
 
 pub coded_again : (private : List ℕ) → (past_spaces (eexec private) ≡ eexec private) × (decrypted_private (coded_bytes (eexec private)) ≡ private)
 coded_again private =
@@ -166,9 +169,6 @@ coded_again private =
       ap past_spaces c.is ∙ spaces_none c.more ∙ sym c.is,
       ap decrypted_private (unchanged (eexec private) off) ∙ deciphered_again private,
     )
-  where
-    unchanged : (coded : List ℕ) → is_hexadecimal coded ≡ false → coded_bytes coded ≡ coded
-    unchanged coded off = rw off refl
 
 -- ---- the source
 

@@ -1,5 +1,5 @@
 -- Hexadecimal digits read as bytes.
-use Rattle.std.specs.Prelude.{ℕ, zero, suc, ◌+◌, ◌-◌, ◌*◌, ◌&&◌, ◌||◌, nat_le, Bool, is_some, if◌then◌else◌, Option, None, Some, unwrap_or, List, [], ◌∷◌, ◌++◌, length, take}
+use Rattle.std.specs.Prelude.{ℕ, zero, suc, ◌+◌, ◌-◌, ◌*◌, ◌&&◌, ◌||◌, nat_le, Bool, is_some, if◌then◌else◌, Option, None, Some, List, [], ◌∷◌, length, take, take_while, filter_map}
 use Rattle.std.specs.Char.{is_ascii_digit}
 use Rattle.std.specs.List.{list_all, prefix_len}
 use Rattle.t1_frac.specs.Words.{is_blank}
@@ -16,18 +16,22 @@ digit_value c =
 abbrev pub is_digit : ℕ → Bool
 is_digit c = is_some (digit_value c)
 
--- profile: a digit after the high digit that waits for it, if one does: the byte that they are, and the digit that waits then
-abbrev pub joined_digit : Option ℕ → ℕ → List ℕ × Option ℕ
-joined_digit None low = ([], Some low)
-joined_digit (Some high) low = ((16 * high + low) ∷ [], None)
+-- Type 1 Font Format, 7.2 (eexec): whether a byte is a digit, or a blank, which may stand anywhere among digits
+abbrev pub is_digit_or_blank : ℕ → Bool
+is_digit_or_blank c = is_blank c || is_digit c
 
--- Type 1 Font Format, 7.2 (eexec): two digits are a byte, the high one first, with blanks anywhere, up to the first other byte
-abbrev pub digit_bytes : Option ℕ → List ℕ → List ℕ
-digit_bytes waits [] = []
-digit_bytes waits (c ∷ rest) =
-    if is_blank c then digit_bytes waits rest
-    else if is_digit c then (joined_digit waits (unwrap_or (digit_value c) 0)).0 ++ digit_bytes (joined_digit waits (unwrap_or (digit_value c) 0)).1 rest
-    else []
+-- Type 1 Font Format, 7.2 (eexec): the values of the digits before the first byte that is neither a digit nor a blank
+abbrev pub digit_values : List ℕ → List ℕ
+digit_values text = filter_map digit_value (take_while is_digit_or_blank text)
+
+-- Type 1 Font Format, 7.2 (eexec): two digits are a byte, the high one first; a digit that is left alone is none
+abbrev pub bytes_of_values : List ℕ → List ℕ
+bytes_of_values (high ∷ low ∷ values) = (16 * high + low) ∷ bytes_of_values values
+bytes_of_values _ = []
+
+-- Type 1 Font Format, 7.2 (eexec): the bytes that are written in digits
+abbrev pub digit_bytes : List ℕ → List ℕ
+digit_bytes text = bytes_of_values (digit_values text)
 
 -- Type 1 Font Format, 7.2 (eexec): what stands after so many digits
 abbrev pub after_digits : ℕ → List ℕ → List ℕ
@@ -41,4 +45,4 @@ is_hexadecimal bytes = nat_le 4 (length bytes) && list_all is_digit (take 4 byte
 
 -- Type 1 Font Format, 7.2 (eexec): how many bytes there are before the first that is neither a digit nor a blank
 abbrev pub digits_len : List ℕ → ℕ
-digits_len text = prefix_len (λ c. is_blank c || is_digit c) text
+digits_len text = prefix_len is_digit_or_blank text

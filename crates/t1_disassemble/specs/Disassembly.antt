@@ -18,7 +18,7 @@ use Rattle.t1_disassemble.specs.Settings.{reading_operator, leading_bytes}
 
 -- Type 1 Font Format, 7.2 (eexec): the encrypted bytes, of their digits where they are in hexadecimal
 abbrev pub coded_bytes : List ℕ → List ℕ
-coded_bytes coded = if is_hexadecimal coded then digit_bytes None coded else coded
+coded_bytes coded = if is_hexadecimal coded then digit_bytes coded else coded
 
 -- profile: what stands after so many encrypted bytes, and after the end of the line where they are digits
 abbrev pub after_coded : List ℕ → ℕ → List ℕ

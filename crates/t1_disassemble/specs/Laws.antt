@@ -10,7 +10,7 @@ use Rattle.t1_frac.specs.declared.fault.Code.{Code}
 use Rattle.t1_text.specs.Lines.{is_line, joined, trimmed}
 use Rattle.t1_text.specs.Names.{is_name}
 use Rattle.t1_text.specs.Tokens.{places_from}
-use Rattle.t1_code.specs.Cipher.{encrypted_words}
+use Rattle.t1_code.specs.Cipher.{eexec, encrypted_words}
 use Rattle.t1_code.specs.Pfb.{marker, end_of_file, entry_text, closing_text}
 use Rattle.t1_parts.specs.declared.item.Item.{Item}
 use Rattle.t1_parts.specs.declared.item.Item.TheVariants.{Plain, Section, Subr, Glyph}
@@ -32,6 +32,10 @@ IsBlock block = length block < 2 ^ 32
 -- Technical Note 5040, 3.3: the last segment says so, or the file ends with it
 abbrev pub IsEnd : List ℕ → Type 0
 IsEnd end = (end ≡ []) ⊎ (end ≡ marker ∷ end_of_file ∷ [])
+
+-- Type 1 Font Format, 7.2 (eexec): the clear text, the encrypted private text in binary, and the trailer, without segments
+abbrev pub raw : List ℕ → List ℕ → List ℕ → List ℕ
+raw clear private trailer = clear ++ (eexec private ++ trailer)
 
 -- profile: numbers that bytes hold
 abbrev pub AreBytes : List ℕ → Type 0

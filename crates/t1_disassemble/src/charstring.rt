@@ -1,10 +1,14 @@
 //! The words of charstrings.
-ghost use Rattle.std.specs.Prelude.{◌≡◌, [], ◌++◌, ◌≤◌, length, OnOk, IfOk, IfSome, MatchResult, Ok, Err, true, false, option_map, nat_eq};
+ghost use Rattle.std.specs.Prelude.{◌≡◌, [], ◌++◌, ◌≤◌, length, OnOk, IfOk, IfSome, MatchResult};
+ghost use Rattle.std.specs.Prelude.{Ok, Err, true, false, option_map, nat_eq};
 ghost use Rattle.std.specs.Fmt.{signed_decimal};
 ghost use Rattle.std.specs.Map.{lookup};
 ghost use Rattle.t1_frac.specs.Numbers.{is_number_word};
 ghost use Rattle.t1_disassemble.specs.Outcome.{Gives, reported_at};
-ghost use Rattle.t1_disassemble.specs.Words.{one_byte_words, two_byte_words, escaped_at, operator_at, positive_at, negative_at, long_at, number_at, printed_words, words_of, words_of_encrypted};
+ghost use Rattle.t1_disassemble.specs.Words.{one_byte_words, two_byte_words, escaped_at};
+ghost use Rattle.t1_disassemble.specs.Words.{operator_at, positive_at, negative_at, long_at};
+ghost use Rattle.t1_disassemble.specs.Words.{number_at, printed_words, words_of};
+ghost use Rattle.t1_disassemble.specs.Words.{words_of_encrypted};
 ghost use Rattle.t1_disassemble.specs.WordsOnto.{put_first, with_word, words_onto};
 ghost use Rattle.t1_disassemble.specs.declared.fault.FontPlace.TheVariants.{Nowhere};
 

@@ -1,10 +1,12 @@
 //! Hexadecimal digits read as bytes.
-ghost use Rattle.std.specs.Prelude.{◌≡◌, ◌<◌, ◌≤◌, ◌++◌, length, None, IfSome, IfOk, OnOk};
+ghost use Rattle.std.specs.Prelude.{◌≡◌, ◌<◌, ◌≤◌, [], ◌∷◌, ◌++◌, length, IfSome, MatchOption};
+ghost use Rattle.std.specs.Prelude.{OnOk};
 ghost use Rattle.std.specs.List.{list_all};
-ghost use Rattle.t1_disassemble.specs.Digits.{digit_value, is_digit, joined_digit, digit_bytes, after_digits, is_hexadecimal, digits_len};
+ghost use Rattle.t1_disassemble.specs.Digits.{digit_value, is_digit, digit_values, digit_bytes};
+ghost use Rattle.t1_disassemble.specs.Digits.{after_digits, is_hexadecimal, digits_len};
 
 use std::alloc::AllocError;
-use t1_frac::is_blank;
+use t1_frac::{is_blank, skip_blanks};
 
 /// The value of a hexadecimal digit.
 #[tactic(auto, unfolding(crate::specs::Digits::digit_value))]
@@ -45,38 +47,46 @@ pub(crate) fn is_hexadecimal(bytes: &[u8]) -> bool
     4 <= bytes.len() && are_digits(bytes.split_at(4).0)
 }
 
-/// Adds the byte that a digit ends, where a high digit waits for it, and answers the digit that
-/// waits then.
-fn push_digit(bytes: &mut Vec<u8>, waits: Option<u8>, low: u8) -> Result<Option<u8>, AllocError>
-    requires high { IfSome waits (λ high. high < 16) }
-    requires low { low < 16 }
-    ensures bytes { OnOk result (bytes.new.items ≡ bytes.old.items ++ (joined_digit waits low).0) }
-    ensures waits { IfOk result (λ now. now ≡ (joined_digit waits low).1) }
-    ensures small { IfOk result (λ now. IfSome now (λ high. high < 16)) }
+/// The value of the first digit, and what stands after it; none where another byte than a blank
+/// comes first.
+#[tactic(auto, using(crate::proofs::DigitValues::values_none, crate::proofs::DigitValues::values_first))]
+fn next_digit(text: &[u8]) -> Option<(u8, &[u8])>
+    ensures value { MatchOption
+        result
+        (digit_values text.now ≡ [])
+        (λ found. digit_values text.now ≡ found.0 ∷ digit_values found.1.now) }
+    ensures small { IfSome result (λ found. found.0 < 16) }
+    ensures shorter { IfSome result (λ found. length found.1.now < length text.now) }
 {
-    let Some(high) = waits else {
-        return Ok(Some(low));
+    let Some((byte, after)) = skip_blanks(text).split_first() else {
+        return None;
     };
-    bytes.push(16 * high + low)?;
-    Ok(None)
+    let value = digit_value(*byte)?;
+    Some((value, after))
+}
+
+/// The byte that the first two digits are, and what stands after them; none where there is none.
+fn next_byte(text: &[u8]) -> Option<(u8, &[u8])>
+    ensures value { MatchOption
+        result
+        (digit_bytes text.now ≡ [])
+        (λ found. digit_bytes text.now ≡ found.0 ∷ digit_bytes found.1.now) }
+    ensures shorter { IfSome result (λ found. length found.1.now < length text.now) }
+{
+    let (high, after) = next_digit(text)?;
+    let (low, rest) = next_digit(after)?;
+    Some((16 * high + low, rest))
 }
 
 /// Adds the bytes that digits are, two for each, with blanks anywhere, up to the first other byte.
 pub(crate) fn push_bytes(bytes: &mut Vec<u8>, text: &[u8]) -> Result<(), AllocError>
-    ensures { OnOk result (bytes.new.items ≡ bytes.old.items ++ digit_bytes None text.now) }
+    ensures { OnOk result (bytes.new.items ≡ bytes.old.items ++ digit_bytes text.now) }
 {
     bytes.reserve(text.len() / 2)?;
-    let mut waits: Option<u8> = None;
     let mut rest = text;
-    while let Some((byte, after)) = rest.split_first() {
+    while let Some((byte, after)) = next_byte(rest) {
+        bytes.push(byte)?;
         rest = after;
-        if is_blank(*byte) {
-            continue;
-        }
-        let Some(low) = digit_value(*byte) else {
-            return Ok(());
-        };
-        waits = push_digit(bytes, waits, low)?;
     }
     Ok(())
 }

@@ -2,7 +2,8 @@
 ghost use Rattle.std.specs.Prelude.{◌≡◌, ◌||◌, Ok, Err, if◌then◌else◌, MatchResult, List, ℕ};
 ghost use Rattle.t1_text.specs.Lines.{lines};
 ghost use Rattle.t1_parts.specs.Sections.{subrs_line, glyphs_line};
-ghost use Rattle.t1_disassemble.specs.Kinds.{without, plain_kind, is_line_of, has_second, single_sections};
+ghost use Rattle.t1_disassemble.specs.Kinds.{without, plain_kind, is_line_of, has_second};
+ghost use Rattle.t1_disassemble.specs.Kinds.{single_sections};
 
 use crate::fault::{FontCode, FontFault, FontPlace};
 use crate::settings::{is_glyphs_line, is_subrs_line, text_place};

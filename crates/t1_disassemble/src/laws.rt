@@ -1,5 +1,6 @@
 //! Laws of what is read back from a font's file.
-ghost use Rattle.std.specs.Prelude.{◌≡◌, ℕ, ◌<◌, ◌≤◌, ◌*◌, ◌^◌, false, None, Ok, List, [], ◌∷◌, ◌++◌, length, map};
+ghost use Rattle.std.specs.Prelude.{◌≡◌, ℕ, ◌<◌, ◌≤◌, ◌*◌, ◌^◌, false, Ok, List, [], ◌∷◌, ◌++◌};
+ghost use Rattle.std.specs.Prelude.{length, map};
 ghost use Rattle.std.specs.List.{flat_map, AllByRecursion};
 ghost use Rattle.t1_frac.specs.Ascii.{line_feed};
 ghost use Rattle.t1_code.specs.declared.command.Command.{Command};
@@ -14,10 +15,12 @@ ghost use Rattle.t1_parts.specs.Parts.{tail_of};
 ghost use Rattle.t1_parts.specs.Printing.{text};
 ghost use Rattle.t1_text.specs.Lines.{begins_with, lines, joined};
 ghost use Rattle.t1_disassemble.specs.CommandWords.{command_word};
-ghost use Rattle.t1_disassemble.specs.Decipher.{deciphered, decrypted_charstring, decrypted_private};
+ghost use Rattle.t1_disassemble.specs.Decipher.{deciphered, decrypted_charstring};
+ghost use Rattle.t1_disassemble.specs.Decipher.{decrypted_private};
 ghost use Rattle.t1_disassemble.specs.Digits.{digit_bytes, after_digits};
 ghost use Rattle.t1_disassemble.specs.Disassembly.{disassembled};
-ghost use Rattle.t1_disassemble.specs.Laws.{whole, plain_item, items_text, IsBlock, IsEnd, AreBytes, IsReadBack};
+ghost use Rattle.t1_disassemble.specs.Laws.{whole, raw, plain_item, items_text, IsBlock, IsEnd};
+ghost use Rattle.t1_disassemble.specs.Laws.{AreBytes, IsReadBack};
 ghost use Rattle.t1_disassemble.specs.SegmentsRead.{font_parts};
 ghost use Rattle.t1_disassemble.specs.Words.{words_of};
 
@@ -68,7 +71,7 @@ pub fn parts_come_back_from_pfb()
 /// too.
 pub fn bytes_come_back_from_digits()
     ensures bytes { (bytes more : List ℕ) → AreBytes bytes
-        → digit_bytes None (hexadecimal_lines bytes ++ more) ≡ bytes ++ digit_bytes None more }
+        → digit_bytes (hexadecimal_lines bytes ++ more) ≡ bytes ++ digit_bytes more }
     ensures after { (bytes more : List ℕ) → AreBytes bytes
         → after_digits (2 * length bytes) (hexadecimal_lines bytes ++ more) ≡ line_feed ∷ more }
 {}
@@ -95,6 +98,21 @@ pub fn source_comes_back_from_pfa()
         → IsReadBack clear operator lead items last → items_text lead operator items ≡ Ok bytes
         → AreBytes (bytes ++ (last ++ line_feed ∷ [])) → begins_with marker (joined clear) ≡ false
         → disassembled (pfa (joined clear) (bytes ++ (last ++ line_feed ∷ [])) trailer)
+        ≡ Ok (text (record {
+          clear = clear;
+          items = map plain_item items ++ Plain last ∷ [];
+          tail = tail_of (lines trailer);
+        })) }
+{}
+
+/// So do its parts without segments, the encrypted one in binary, where the first doesn't begin
+/// with the byte of a segment.
+pub fn source_comes_back_from_raw()
+    ensures { (clear : List (List ℕ)) (operator : List ℕ) (lead : ℕ) (items : List Item)
+        (last bytes trailer : List ℕ)
+        → IsReadBack clear operator lead items last → items_text lead operator items ≡ Ok bytes
+        → begins_with marker (joined clear) ≡ false
+        → disassembled (raw (joined clear) (bytes ++ (last ++ line_feed ∷ [])) trailer)
         ≡ Ok (text (record {
           clear = clear;
           items = map plain_item items ++ Plain last ∷ [];

@@ -1,7 +1,8 @@
 //! Where an entry opens on a line of the private text.
 ghost use Rattle.std.specs.Prelude.{◌≡◌, ◌+◌, ◌^◌, ◌<◌, ℕ, length, option_map, IfSome};
 ghost use Rattle.t1_text.specs.Tokens.{places_from};
-ghost use Rattle.t1_disassemble.specs.Opening.{glyph_opening, subr_opening, opening_here, first_opening};
+ghost use Rattle.t1_disassemble.specs.Opening.{glyph_opening, subr_opening, opening_here};
+ghost use Rattle.t1_disassemble.specs.Opening.{first_opening};
 ghost use Rattle.t1_disassemble.specs.Opened.{opening_of};
 
 use t1_text::{count_of, is_count, is_decimal, next_place, same};

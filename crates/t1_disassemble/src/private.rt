@@ -1,5 +1,6 @@
 //! The private text of a font, read into the lines of a source.
-ghost use Rattle.std.specs.Prelude.{◌≡◌, ◌<◌, ◌≤◌, ◌+◌, ◌^◌, ◌&&◌, is_none, ℕ, suc, ◌++◌, ◌∷◌, [], true, false, length, take, drop, IfOk, OnOk};
+ghost use Rattle.std.specs.Prelude.{◌≡◌, ◌<◌, ◌≤◌, ◌+◌, ◌^◌, ◌&&◌, is_none, ℕ, suc, ◌++◌, ◌∷◌, []};
+ghost use Rattle.std.specs.Prelude.{true, false, length, take, drop, IfOk, OnOk};
 ghost use Rattle.t1_frac.specs.Ascii.{line_feed};
 ghost use Rattle.t1_text.specs.Lines.{after_end};
 ghost use Rattle.t1_text.specs.Tokens.{places_from};
@@ -12,7 +13,8 @@ ghost use Rattle.t1_disassemble.specs.Opening.{first_opening};
 ghost use Rattle.t1_disassemble.specs.Outcome.{Gives, reported_at};
 ghost use Rattle.t1_disassemble.specs.PieceLeft.{piece_of};
 ghost use Rattle.t1_disassemble.specs.Placed.{IsPlaced};
-ghost use Rattle.t1_disassemble.specs.PiecesOnto.{line_onto, entry_left, entry_onto, read_onto, private_onto};
+ghost use Rattle.t1_disassemble.specs.PiecesOnto.{line_onto, entry_left, entry_onto, read_onto};
+ghost use Rattle.t1_disassemble.specs.PiecesOnto.{private_onto};
 ghost use Rattle.t1_disassemble.specs.PrivateText.{plain_text, front_text, head_line};
 ghost use Rattle.t1_disassemble.specs.Words.{words_of_encrypted};
 ghost use Rattle.t1_disassemble.specs.WordsOnto.{words_onto};

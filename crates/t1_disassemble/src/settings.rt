@@ -1,5 +1,6 @@
 //! What the private text says before its first section: the reading operator and lenIV.
-ghost use Rattle.std.specs.Prelude.{◌≡◌, ◌≤◌, ◌<◌, ◌+◌, ◌^◌, None, length, is_some, option_map, filter_map};
+ghost use Rattle.std.specs.Prelude.{◌≡◌, ◌≤◌, ◌<◌, ◌+◌, ◌^◌, None, length, is_some, option_map};
+ghost use Rattle.std.specs.Prelude.{filter_map};
 ghost use Rattle.std.specs.Char.{is_ascii_digit};
 ghost use Rattle.std.specs.List.{last_or, suffix_len};
 ghost use Rattle.t1_text.specs.Lines.{lines};
@@ -7,7 +8,9 @@ ghost use Rattle.t1_text.specs.Tokens.{places_from};
 ghost use Rattle.t1_parts.specs.Operator.{text_place, name_within, operator_on};
 ghost use Rattle.t1_parts.specs.Parts.{ends_in};
 ghost use Rattle.t1_parts.specs.Sections.{subrs_line, glyphs_line};
-ghost use Rattle.t1_disassemble.specs.Settings.{is_section, undigited, ends_in_key, begins_section, opens_section, lead_said, reading_operator, leading_bytes};
+ghost use Rattle.t1_disassemble.specs.Settings.{is_section, undigited, ends_in_key, begins_section};
+ghost use Rattle.t1_disassemble.specs.Settings.{opens_section, lead_said, reading_operator};
+ghost use Rattle.t1_disassemble.specs.Settings.{leading_bytes};
 
 use crate::fault::FontCode;
 use t1_parts::{count_between, holds};

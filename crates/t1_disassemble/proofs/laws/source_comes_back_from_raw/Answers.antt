@@ -1,0 +1,10 @@
+use Rattle.std.proofs.Common.{ap, ◌∙◌, Ok, map}
+use Rattle.t1_text.specs.Lines.{lines}
+use Rattle.t1_parts.specs.Parts.{tail_of}
+use Rattle.t1_disassemble.specs.Laws.{plain_item}
+use Rattle.t1_disassemble.proofs.FlatFileLaws.{raw_again, text_again}
+use Rattle.t1_disassemble.proofs.laws.source_comes_back_from_raw.Goals as goal
+
+pub returns : goal.returns
+returns c clear operator lead items last bytes trailer is made none =
+    raw_again clear operator lead items last bytes trailer is made none ∙ ap Ok (text_again clear (map plain_item items) last (tail_of (lines trailer)))
