@@ -1,5 +1,5 @@
 -- The file of a source is assembled again of what is read back of it.
-use Rattle.std.proofs.Common.{◌≡◌, ℕ, true, ◌^◌, ◌≤◌, ◌<◌, List, [], ◌∷◌, ◌++◌, map, codes, Result, Ok, Err, refl, ap, ◌∙◌}
+use Rattle.std.proofs.Common.{◌≡◌, ℕ, true, false, ◌^◌, ◌≤◌, ◌<◌, List, [], ◌∷◌, ◌++◌, map, codes, Result, Ok, Err, refl, ap, ◌∙◌}
 use Rattle.std.specs.Fmt.{decimal}
 use Rattle.std.specs.List.{list_all}
 use Rattle.t1_frac.specs.declared.fault.Code.{Code}
@@ -7,10 +7,11 @@ use Rattle.t1_frac.specs.declared.fault.Fault.{Fault}
 use Rattle.t1_frac.specs.declared.fault.Place.{Place}
 use Rattle.t1_frac.specs.declared.fault.Place.TheVariants as places
 use Rattle.t1_frac.specs.Outcome.{reported_at, ◌>>=◌}
-use Rattle.t1_text.specs.Lines.{joined}
+use Rattle.t1_text.specs.Lines.{begins_with, joined}
 use Rattle.t1_code.specs.declared.command.Command.{Command}
 use Rattle.t1_code.specs.Charstring.{charstring}
 use Rattle.t1_code.specs.Cipher.{encrypted_charstring}
+use Rattle.t1_code.specs.Pfa.{pfa_of}
 use Rattle.t1_code.specs.Pfb.{entry_text, pfb_of}
 use Rattle.t1_code.specs.Words.{commands}
 use Rattle.t1_parts.specs.declared.item.Item.{Item}
@@ -22,11 +23,11 @@ use Rattle.t1_parts.specs.Reading.{reads}
 use Rattle.t1_parts.specs.SourceParts.{SourceParts}
 use Rattle.t1_source.specs.WellFormed.{IsWellFormed, is_counted}
 use Rattle.t1_source.proofs.SourceAgainLaws.{source_again}
-use Rattle.t1_font.specs.Assembly.{entry_line, item_line, private_text, trailer_text, source_file}
+use Rattle.t1_font.specs.Assembly.{entry_line, item_line, private_text, trailer_text, file_in, source_file, source_pfa}
 use Rattle.t1_disassemble.specs.Laws.{plain_word, plain_item}
 use Rattle.t1_disassemble.proofs.AlikeLaws.{commands_alike}
-use Rattle.t1_round_trip.specs.ReadBack.{plain_source, ReadsAsItself, IsAssembledAgain}
-use Rattle.t1_round_trip.proofs.Bridges.{made_from, pfb_again}
+use Rattle.t1_round_trip.specs.ReadBack.{plain_source, raw_of, source_raw, ReadsAsItself, HasBytes, IsAssembledAgain}
+use Rattle.t1_round_trip.proofs.Bridges.{made_from, pfb_again, pfa_again, raw_again}
 use Rattle.t1_round_trip.proofs.PlainLaws.{Compile, lead_same, operator_same, plain_kept, plain_counted}
 
 -- ---- the same private text
@@ -89,23 +90,36 @@ texts lead operator (Glyph g ws closing ∷ items) bytes h =
 
 -- ---- the same file
 
-pub file_again : (size : ℕ) (source : SourceParts) (file : List ℕ) → 1 ≤ size → size < 2 ^ 32 → ReadsAsItself source → IsWellFormed source → list_all is_counted source.items ≡ true → source_file size source ≡ Ok file
-    → IsAssembledAgain size file
-unfolding source_file
-file_again size source file some short r w counted h =
-    let private = private_text (lead source) (operator source) source.items in
-    let m = made_from (pfb_of size) source file private refl h in
+-- in any form: what is made of the private text, which is that of the plain source too
+again_in : (form : List ℕ → List ℕ → List ℕ → Result (List ℕ) Fault) (source : SourceParts) (file : List ℕ) → IsWellFormed source → list_all is_counted source.items ≡ true → file_in form source ≡ Ok file
+    → (reads (text (plain_source source)) >>= file_in form) ≡ Ok file
+again_in form source file w counted h =
+    let m = made_from form source file (private_text (lead source) (operator source) source.items) refl h in
     let t = texts (lead source) (operator source) source.items m.private m.said in
     let plain = plain_source source in
     let read : reads (text plain) ≡ Ok plain = source_again plain (plain_kept source w t.compile) (plain_counted source counted) in
     let again : private_text (lead plain) (operator plain) plain.items ≡ Ok m.private =
     ap (λ n. private_text n (operator plain) plain.items) (lead_same source.items) ∙ ap (λ o. private_text (lead source) o plain.items) (operator_same source.items) ∙ t.same
     in
-    let made : source_file size plain ≡ Ok file =
-    ap (λ (p : Result (List ℕ) Fault). p >>= λ private. pfb_of size (joined source.clear) private (trailer_text source.tail)) again ∙ m.is
+    let made : file_in form plain ≡ Ok file =
+    ap (λ (p : Result (List ℕ) Fault). p >>= λ private. form (joined source.clear) private (trailer_text source.tail)) again ∙ m.is
     in
-    record {
-      text = text plain;
-      read = pfb_again size source file some short r h;
-      assembled = ap (λ (s : Result SourceParts Fault). s >>= source_file size) read ∙ made;
-    }
+    ap (λ (s : Result SourceParts Fault). s >>= file_in form) read ∙ made
+
+pub file_again : (size : ℕ) (source : SourceParts) (file : List ℕ) → 1 ≤ size → size < 2 ^ 32 → ReadsAsItself source → IsWellFormed source → list_all is_counted source.items ≡ true → source_file size source ≡ Ok file
+    → IsAssembledAgain (source_file size) file
+unfolding source_file
+file_again size source file some short r w counted h =
+    record { text = text (plain_source source); read = pfb_again size source file some short r h; assembled = again_in (pfb_of size) source file w counted h }
+
+pub hexadecimal_again : (source : SourceParts) (file : List ℕ) → ReadsAsItself source → HasBytes source → begins_with 128 (joined source.clear) ≡ false → IsWellFormed source → list_all is_counted source.items ≡ true → source_pfa source ≡ Ok file
+    → IsAssembledAgain source_pfa file
+unfolding source_pfa
+hexadecimal_again source file r bytes mark w counted h =
+    record { text = text (plain_source source); read = pfa_again source file r bytes mark h; assembled = again_in pfa_of source file w counted h }
+
+pub bare_again : (source : SourceParts) (file : List ℕ) → ReadsAsItself source → begins_with 128 (joined source.clear) ≡ false → IsWellFormed source → list_all is_counted source.items ≡ true → source_raw source ≡ Ok file
+    → IsAssembledAgain source_raw file
+unfolding source_raw
+bare_again source file r mark w counted h =
+    record { text = text (plain_source source); read = raw_again source file r mark h; assembled = again_in raw_of source file w counted h }

@@ -25,10 +25,11 @@ use Rattle.t1_parts.specs.Printing.{text}
 use Rattle.t1_parts.specs.SourceParts.{SourceParts}
 use Rattle.t1_font.specs.Assembly.{entry_line, item_line, private_text, trailer_text, source_file, source_pfa}
 use Rattle.t1_disassemble.specs.Disassembly.{disassembled}
-use Rattle.t1_disassemble.specs.Laws.{plain_item, item_text, items_text, AreBytes}
-use Rattle.t1_disassemble.proofs.DigitFileLaws.{digits_again, text_again}
+use Rattle.t1_disassemble.specs.Laws.{plain_item, item_text, items_text, raw, AreBytes}
+use Rattle.t1_disassemble.proofs.DigitFileLaws.{digits_again}
+use Rattle.t1_disassemble.proofs.FlatFileLaws.{raw_again as bare_again, text_again}
 use Rattle.t1_disassemble.proofs.WholeLaws.{file_again}
-use Rattle.t1_round_trip.specs.ReadBack.{plain_source, ReadsAsItself, HasBytes}
+use Rattle.t1_round_trip.specs.ReadBack.{plain_source, raw_of, source_raw, ReadsAsItself, HasBytes}
 
 -- ---- items
 
@@ -137,4 +138,15 @@ pfa_again source file r bytes mark h =
     let is : pfa (joined source.clear) m.private trailer ≡ file = unmade (has_long_part (joined source.clear) m.private trailer) (pfa (joined source.clear) m.private trailer) file m.is in
     ap disassembled (sym is ∙ ap (λ p. pfa (joined source.clear) p trailer) c.whole)
     ∙ digits_again source.clear (operator source) (lead source) r.before r.last c.bytes trailer r.reads c.made (subst AreBytes c.whole (bytes m.private m.said)) mark
+    ∙ ap (λ (t : List ℕ). Ok t) (text_again source.clear (map plain_item r.before) r.last (tail_of (lines trailer)) ∙ text_of source r)
+
+pub raw_again : (source : SourceParts) (file : List ℕ) → ReadsAsItself source → begins_with 128 (joined source.clear) ≡ false → source_raw source ≡ Ok file → disassembled file ≡ Ok (text (plain_source source))
+unfolding source_raw
+raw_again source file r mark h =
+    let trailer = trailer_text source.tail in
+    let m = made_from raw_of source file (private_text (lead source) (operator source) source.items) refl h in
+    let c = cut_private (lead source) (operator source) r.before r.last m.private (ap (private_text (lead source) (operator source)) (sym r.whole) ∙ m.said) in
+    let is : raw (joined source.clear) m.private trailer ≡ file = unmade false (raw (joined source.clear) m.private trailer) file m.is in
+    ap disassembled (sym is ∙ ap (λ p. raw (joined source.clear) p trailer) c.whole)
+    ∙ bare_again source.clear (operator source) (lead source) r.before r.last c.bytes trailer r.reads c.made mark
     ∙ ap (λ (t : List ℕ). Ok t) (text_again source.clear (map plain_item r.before) r.last (tail_of (lines trailer)) ∙ text_of source r)

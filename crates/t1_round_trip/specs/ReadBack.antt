@@ -1,6 +1,7 @@
 -- Sources whose files are read back.
-use Rattle.std.specs.Prelude.{◌≡◌, ℕ, true, List, [], ◌∷◌, ◌++◌, map, Ok}
+use Rattle.std.specs.Prelude.{◌≡◌, ℕ, true, List, [], ◌∷◌, ◌++◌, map, Result, Ok}
 use Rattle.std.specs.List.{list_all}
+use Rattle.t1_frac.specs.declared.fault.Fault.{Fault}
 use Rattle.t1_frac.specs.Outcome.{◌>>=◌}
 use Rattle.t1_text.specs.Lines.{is_line}
 use Rattle.t1_parts.specs.declared.item.Item.{Item}
@@ -10,9 +11,9 @@ use Rattle.t1_parts.specs.Operator.{operator}
 use Rattle.t1_parts.specs.Parts.{tail_of}
 use Rattle.t1_parts.specs.Reading.{reads}
 use Rattle.t1_parts.specs.SourceParts.{SourceParts}
-use Rattle.t1_font.specs.Assembly.{private_text, source_file}
+use Rattle.t1_font.specs.Assembly.{private_text, file_in}
 use Rattle.t1_disassemble.specs.Disassembly.{disassembled}
-use Rattle.t1_disassemble.specs.Laws.{plain_item, AreBytes, IsReadBack}
+use Rattle.t1_disassemble.specs.Laws.{plain_item, raw, AreBytes, IsReadBack}
 
 -- profile: a source as it comes back: each number word in its one plain spelling
 abbrev pub plain_source : SourceParts → SourceParts
@@ -31,8 +32,16 @@ pub record ReadsAsItself (source : SourceParts) : Type 0 where
 abbrev pub HasBytes : SourceParts → Type 0
 HasBytes source = (private : List ℕ) → private_text (lead source) (operator source) source.items ≡ Ok private → AreBytes private
 
--- profile: what is read back of a font's file is a text of which this very file is assembled
-pub record IsAssembledAgain (size : ℕ) (file : List ℕ) : Type 0 where
+-- profile: the file of the three parts without segments, its encrypted part in binary, which the program doesn't write
+abbrev pub raw_of : List ℕ → List ℕ → List ℕ → Result (List ℕ) Fault
+raw_of clear private trailer = Ok (raw clear private trailer)
+
+-- Type 1 Font Format, 7.2 (eexec): the file of a source without segments, or the first fault of its bodies
+unfoldable pub source_raw : SourceParts → Result (List ℕ) Fault
+source_raw source = file_in raw_of source
+
+-- profile: what is read back of a font's file is a text of which this very file is assembled, in the same form
+pub record IsAssembledAgain (assemble : SourceParts → Result (List ℕ) Fault) (file : List ℕ) : Type 0 where
   pub text : List ℕ
   pub read : disassembled file ≡ Ok text
-  pub assembled : (reads text >>= source_file size) ≡ Ok file
+  pub assembled : (reads text >>= assemble) ≡ Ok file
