@@ -1,4 +1,5 @@
 pub mod AlikeLaws
+pub mod BinaryLaws
 pub mod CutPieces
 pub mod Deciphering
 pub mod DigitFileLaws

@@ -180,7 +180,7 @@ pub plain_again : (text : List ℕ) (parts : FontParts) (coded plain operator ma
     → plain_onto text parts coded plain ≡ Ok (made ++ joined (tail_of (lines (tail_after parts coded (4 + (length plain - length rest))))))
 plain_again text parts coded plain operator made rest lead says reads is single = rw (says, reads, is, single) refl
 
-tail_again : (clear coded tail bytes : List ℕ) (count : ℕ) → 0 < length coded → tail_after (record { clear = clear; coded = coded; tail = tail }) bytes count ≡ tail
+pub tail_again : (clear coded tail bytes : List ℕ) (count : ℕ) → 0 < length coded → tail_after (record { clear = clear; coded = coded; tail = tail }) bytes count ≡ tail
 tail_again clear coded tail bytes count some = rw (ne_eqb (length coded) 0 (omega (arith, some))) refl
 
 -- the clear text of a font that is read, in front of what is read behind it

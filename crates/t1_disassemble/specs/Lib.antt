@@ -8,6 +8,7 @@ pub mod Front
 pub mod Kinds
 pub mod Laws
 pub mod Layouts
+pub mod Lent
 pub mod Opened
 pub mod Opening
 pub mod Outcome

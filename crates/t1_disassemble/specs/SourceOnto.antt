@@ -25,3 +25,11 @@ plain_onto text parts coded plain =
 -- word: the same, of the encrypted part alone
 abbrev pub source_onto : List ℕ → FontParts → List ℕ → Result (List ℕ) FontFault
 source_onto text parts coded = plain_onto text parts coded (decrypted_private (coded_bytes coded))
+
+-- word: the same, of an encrypted part in binary whose file has segments
+abbrev pub binary_onto : List ℕ → List ℕ → List ℕ → Result (List ℕ) FontFault
+binary_onto text tail plain =
+    reported_at Nowhere (leading_bytes (lines plain)) >>= λ lead.
+    private_onto (reading_operator (lines plain)) lead text false plain >>= λ private.
+    single_sections (drop (length text) private.0) >>= λ single.
+    Ok (private.0 ++ joined (tail_of (lines tail)))

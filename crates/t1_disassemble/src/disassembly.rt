@@ -1,22 +1,27 @@
 //! The source of a font's file.
-ghost use Rattle.std.specs.Prelude.{◌≡◌, ◌+◌, ◌-◌, ◌<◌, ◌≤◌, ◌^◌, ◌++◌, false, drop, length, IfOk, OnOk};
-ghost use Rattle.t1_text.specs.Lines.{lines, joined};
+ghost use Rattle.std.specs.Prelude.{◌≡◌, ◌+◌, ◌-◌, ◌<◌, ◌≤◌, ◌^◌, [], ◌++◌, true, false, drop};
+ghost use Rattle.std.specs.Prelude.{length, IfOk, OnOk};
+ghost use Rattle.t1_text.specs.Lines.{begins_with, lines, joined};
+ghost use Rattle.t1_code.specs.Pfb.{marker};
 ghost use Rattle.t1_parts.specs.Parts.{tail_of};
 ghost use Rattle.t1_disassemble.specs.CutDigits.{is_early, is_cut, digits_refusal, with_digits};
-ghost use Rattle.t1_disassemble.specs.Decipher.{deciphered};
-ghost use Rattle.t1_disassemble.specs.Disassembly.{coded_bytes, coded_place, after_coded, tail_after, source_of, disassembled};
-ghost use Rattle.t1_disassemble.specs.Front.{after_eexec};
+ghost use Rattle.t1_disassemble.specs.Decipher.{deciphered, decrypted_private};
+ghost use Rattle.t1_disassemble.specs.Digits.{is_hexadecimal};
+ghost use Rattle.t1_disassemble.specs.Disassembly.{coded_bytes, coded_place, after_coded};
+ghost use Rattle.t1_disassemble.specs.Disassembly.{tail_after, source_of, disassembled};
+ghost use Rattle.t1_disassemble.specs.Front.{after_eexec, past_spaces};
+ghost use Rattle.t1_disassemble.specs.Lent.{parts_of};
 ghost use Rattle.t1_disassemble.specs.Outcome.{Gives};
 ghost use Rattle.t1_disassemble.specs.PiecesOnto.{private_onto};
-ghost use Rattle.t1_disassemble.specs.SourceOnto.{plain_onto, source_onto};
+ghost use Rattle.t1_disassemble.specs.SourceOnto.{plain_onto, source_onto, binary_onto};
 
 use crate::cipher::decipher_private;
 use crate::digits::{after_digits, digits_len, is_hexadecimal, push_bytes};
 use crate::fault::{FontCode, FontFault, FontPlace, FontRefusal};
-use crate::front::{after_eexec, past, past_line, past_spaces};
+use crate::front::{after_eexec, is_space, past, past_line, past_spaces};
 use crate::kinds::{check_kind, check_sections};
 use crate::private::{Settings, push_private};
-use crate::segments::{Parts, font_parts};
+use crate::segments::{LentParts, Parts, has_segments, segmented_parts};
 use crate::settings::{leading_bytes, reading_operator};
 use std::alloc::{AllocError, Global};
 use t1_parts::{push_line, push_lines, tail_of};
@@ -79,14 +84,14 @@ fn after_coded(coded: &[u8], count: usize) -> &[u8]
 }
 
 /// The text after the encrypted part: that of a file's segments, else what the private text leaves.
-fn tail_after<'a>(parts: &'a Parts, coded: &'a [u8], count: usize) -> &'a [u8]
+fn tail_after<'a>(parts: &LentParts<'a>, coded: &'a [u8], count: usize) -> &'a [u8]
     requires { count < 2 ^ 63 }
-    ensures { result.now ≡ tail_after parts.now coded.now count }
+    ensures { result.now ≡ tail_after (parts_of parts.now) coded.now count }
 {
     if parts.coded.is_empty() {
         return after_coded(coded, count);
     }
-    parts.tail.as_slice()
+    parts.tail
 }
 
 /// Whether a fault is that of a private text which ends too early.
@@ -153,8 +158,8 @@ fn push_checked<'a>(
 }
 
 /// How many bytes of a file stand before the encrypted ones, without the heads of its segments.
-fn coded_place(parts: &Parts, coded: &[u8]) -> usize
-    ensures value { result ≡ coded_place parts.now coded.now }
+fn coded_place(parts: &LentParts, coded: &[u8]) -> usize
+    ensures value { result ≡ coded_place (parts_of parts.now) coded.now }
     ensures within { result + length coded.now < 2 ^ 64 }
 {
     (parts.clear.len() + parts.coded.len()).saturating_sub(coded.len())
@@ -165,7 +170,7 @@ fn coded_place(parts: &Parts, coded: &[u8]) -> usize
 fn push_plain(
     alloc: Global,
     text: &mut Vec<u8>,
-    parts: &Parts,
+    parts: &LentParts,
     coded: &[u8],
     plain: &[u8],
 ) -> Result<(), FontRefusal>
@@ -173,7 +178,7 @@ fn push_plain(
     ensures { Gives
         (λ _. text.new.items)
         result
-        (plain_onto text.old.items parts.now coded.now plain.now) }
+        (plain_onto text.old.items (parts_of parts.now) coded.now plain.now) }
 {
     let lead = leading_bytes(plain)?;
     let settings = Settings {
@@ -200,16 +205,57 @@ fn past_lead(bytes: &[u8]) -> &[u8]
 fn push_source(
     alloc: Global,
     text: &mut Vec<u8>,
-    parts: &Parts,
+    parts: &LentParts,
     coded: &[u8],
 ) -> Result<(), FontRefusal>
     ensures { Gives
         (λ _. text.new.items)
         result
-        (source_onto text.old.items parts.now coded.now) }
+        (source_onto text.old.items (parts_of parts.now) coded.now) }
 {
     let bytes = plain_bytes(alloc, coded)?;
     push_plain(alloc, text, parts, coded, past_lead(&bytes))
+}
+
+/// Adds the lines of a private text whose file has segments, and those of the tail.
+fn push_segmented(
+    alloc: Global,
+    text: &mut Vec<u8>,
+    plain: &[u8],
+    tail: &[u8],
+) -> Result<(), FontRefusal>
+    ensures { Gives
+        (λ _. text.new.items)
+        result
+        (binary_onto text.old.items tail.now plain.now) }
+{
+    let lead = leading_bytes(plain)?;
+    let settings = Settings {
+        operator: reading_operator(plain),
+        lead,
+    };
+    let front = text.len();
+    push_private(alloc, text, &settings, plain)?;
+    check_sections(past(text, front))?;
+    push_tail(alloc, text, tail)?;
+    Ok(())
+}
+
+/// Adds the lines of an encrypted part in binary whose file has segments, and those of the tail.
+/// The plain bytes take the place of the encrypted ones.
+fn push_binary(
+    alloc: Global,
+    text: &mut Vec<u8>,
+    coded: &mut [u8],
+    tail: &[u8],
+) -> Result<(), FontRefusal>
+    ensures { Gives
+        (λ _. text.new.items)
+        result
+        (binary_onto text.old.items tail.now (decrypted_private coded.old)) }
+{
+    decipher_private(coded);
+    push_segmented(alloc, text, past_lead(coded), tail)
 }
 
 /// The bytes after the eexec line, and those of the encrypted part.
@@ -221,15 +267,113 @@ fn joined_bytes(alloc: Global, after: &[u8], coded: &[u8]) -> Result<Vec<u8>, Al
     Ok(bytes)
 }
 
-/// The source of the parts of a file.
+/// Whether bytes begin at once, with none that may stand between eexec and the encrypted bytes.
+#[tactic(auto, using(crate::proofs::BinaryLaws::word_front))]
+fn begins_at_once(bytes: &[u8]) -> bool
+    ensures { result ≡ true → past_spaces bytes.now ≡ bytes.now }
+{
+    let [first, ..] = bytes else {
+        return false;
+    };
+    !is_space(*first)
+}
+
+/// Whether the encrypted part is that of the segments, all of it, in binary.
+#[tactic(auto, using(crate::proofs::BinaryLaws::spaces_gone))]
+fn is_binary(after: &[u8], coded: &[u8]) -> bool
+    ensures place { result ≡ true → past_spaces (after.now ++ coded.now) ≡ coded.now }
+    ensures binary { result ≡ true → is_hexadecimal coded.now ≡ false }
+{
+    past_spaces(after).is_empty() && begins_at_once(coded) && !is_hexadecimal(coded)
+}
+
+/// Adds the lines of an encrypted part that begins after the eexec line of a file without segments,
+/// and those of the tail.
+fn push_on_line(
+    alloc: Global,
+    text: &mut Vec<u8>,
+    clear: &[u8],
+    after: &[u8],
+    tail: &[u8],
+) -> Result<(), FontRefusal>
+    ensures { Gives
+        (λ _. text.new.items)
+        result
+        (source_onto text.old.items
+        (record { clear = clear.now; coded = []; tail = tail.now })
+        (past_spaces after.now)) }
+{
+    let parts = LentParts {
+        clear,
+        coded: after.split_at(0).0,
+        tail,
+    };
+    push_source(alloc, text, &parts, past_spaces(after))
+}
+
+/// Adds the lines of an encrypted part whose beginning stands after the eexec line, and those of
+/// the tail.
+fn push_joined(
+    alloc: Global,
+    text: &mut Vec<u8>,
+    clear: &[u8],
+    after: &[u8],
+    coded: &[u8],
+    tail: &[u8],
+) -> Result<(), FontRefusal>
+    ensures { Gives
+        (λ _. text.new.items)
+        result
+        (source_onto text.old.items
+        (record { clear = clear.now; coded = coded.now; tail = tail.now })
+        (past_spaces (after.now ++ coded.now))) }
+{
+    let bytes = joined_bytes(alloc, after, coded)?;
+    let parts = LentParts { clear, coded, tail };
+    push_source(alloc, text, &parts, past_spaces(&bytes))
+}
+
+/// Adds the lines of an encrypted part, which begins after the eexec line or with its own segments,
+/// and those of the tail. Of binary segments it takes no copy.
+#[tactic(auto, using(crate::proofs::BinaryLaws::coded_on_line))]
+fn push_coded(
+    alloc: Global,
+    text: &mut Vec<u8>,
+    clear: &[u8],
+    after: &[u8],
+    coded: &mut [u8],
+    tail: &[u8],
+) -> Result<(), FontRefusal>
+    ensures { Gives
+        (λ _. text.new.items)
+        result
+        (source_onto text.old.items
+        (record { clear = clear.now; coded = coded.old; tail = tail.now })
+        (past_spaces (after.now ++ coded.old))) }
+{
+    if coded.is_empty() {
+        return push_on_line(alloc, text, clear, after, tail);
+    }
+    if is_binary(after, coded) {
+        return push_binary(alloc, text, coded, tail);
+    }
+    push_joined(alloc, text, clear, after, coded, tail)
+}
+
+/// The source of the parts of a file. Of the encrypted part nothing is known afterwards.
 #[tactic(auto, using(crate::proofs::Sources::source_same))]
-fn source_of_parts(alloc: Global, parts: &Parts) -> Result<Vec<u8>, FontRefusal>
+fn source_of_parts(
+    alloc: Global,
+    clear: &[u8],
+    coded: &mut [u8],
+    tail: &[u8],
+) -> Result<Vec<u8>, FontRefusal>
     ensures { Gives
         (λ text. text.items)
         result
-        (source_of parts.now (after_eexec parts.now.clear)) }
+        (source_of (record { clear = clear.now; coded = coded.old; tail = tail.now })
+        (after_eexec clear.now)) }
 {
-    let clear = parts.clear.as_slice();
     let Some(after) = after_eexec(clear) else {
         check_kind(clear)?;
         return Err(FontRefusal::from(FontCode::D1));
@@ -238,18 +382,31 @@ fn source_of_parts(alloc: Global, parts: &Parts) -> Result<Vec<u8>, FontRefusal>
     check_kind(front)?;
     let mut text = Vec::new(alloc);
     push_lines_of(&mut text, front)?;
-    let bytes = joined_bytes(alloc, after, parts.coded.as_slice())?;
-    push_source(alloc, &mut text, parts, past_spaces(&bytes))?;
+    push_coded(alloc, &mut text, clear, after, coded, tail)?;
     Ok(text)
 }
 
+/// The source of a file with segments.
+#[tactic(auto, unfolding(crate::specs::Disassembly::disassembled, crate::specs::SegmentsRead::font_parts))]
+fn source_of_segments(alloc: Global, file: &[u8]) -> Result<Vec<u8>, FontRefusal>
+    requires { begins_with marker file.now ≡ true }
+    ensures { Gives (λ text. text.items) result (disassembled file.now) }
+{
+    let Parts { clear, coded, tail } = segmented_parts(alloc, file)?;
+    let mut coded = coded;
+    source_of_parts(alloc, &clear, &mut coded, &tail)
+}
+
 /// The source of a font's file, in the form that `assemble` reads: of a PFB file, whatever its
-/// segments, of a PFA file, or of the bytes of a font without segments. Beside the source it takes
-/// at most three times the memory of the file.
-#[tactic(auto, unfolding(crate::specs::Disassembly::disassembled))]
+/// segments, of a PFA file, or of the bytes of a font without segments. Beside the file and its
+/// source it takes at most once the memory of the file where the encrypted part is in binary.
+#[tactic(auto, unfolding(crate::specs::Disassembly::disassembled, crate::specs::SegmentsRead::font_parts))]
 pub fn disassemble(alloc: Global, file: &[u8]) -> Result<Vec<u8>, FontRefusal>
     ensures { Gives (λ text. text.items) result (disassembled file.now) }
 {
-    let parts = font_parts(alloc, file)?;
-    source_of_parts(alloc, &parts)
+    if has_segments(file) {
+        return source_of_segments(alloc, file);
+    }
+    let mut none = Vec::new(alloc);
+    source_of_parts(alloc, file, &mut none, file.split_at(0).0)
 }

@@ -3,7 +3,8 @@ ghost use Rattle.std.specs.Prelude.{◌≡◌, ◌≤◌, ◌<◌, length, optio
 ghost use Rattle.std.specs.List.{prefix_len};
 ghost use Rattle.t1_text.specs.Lines.{is_line_end};
 ghost use Rattle.t1_parts.specs.Parts.{is_eexec};
-ghost use Rattle.t1_disassemble.specs.Front.{line_len, front_line, past_line, after_eexec_line, after_eexec_words, after_eexec, is_space, past_spaces};
+ghost use Rattle.t1_disassemble.specs.Front.{line_len, front_line, past_line, after_eexec_line};
+ghost use Rattle.t1_disassemble.specs.Front.{after_eexec_words, after_eexec, is_space, past_spaces};
 
 use crate::settings::text_place;
 use memchr::memchr2;
@@ -91,7 +92,7 @@ pub(crate) fn after_eexec(bytes: &[u8]) -> Option<&[u8]>
 }
 
 /// Whether a byte may stand between eexec and the encrypted bytes.
-fn is_space(byte: u8) -> bool
+pub(crate) fn is_space(byte: u8) -> bool
     ensures { result ≡ is_space byte }
 {
     byte == b' ' || byte == b'\t' || byte == b'\r' || byte == b'\n'

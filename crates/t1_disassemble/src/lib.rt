@@ -18,4 +18,3 @@ mod settings;
 pub use charstring::push_encrypted;
 pub use disassembly::disassemble;
 pub use fault::{FontCode, FontFault, FontPlace, FontRefusal};
-pub use segments::{Parts, font_parts};

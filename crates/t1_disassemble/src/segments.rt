@@ -1,8 +1,13 @@
 //! The segments of a file, and the parts of a font that they hold.
-ghost use Rattle.std.specs.Prelude.{◌≡◌, ◌+◌, ◌-◌, ◌≤◌, ◌<◌, length, option_map, IfOk, IfSome, MatchResult, OnOk, Ok, Err, [], ◌++◌};
+ghost use Rattle.std.specs.Prelude.{◌≡◌, ◌+◌, ◌-◌, ◌≤◌, ◌<◌, length, option_map, IfOk, IfSome};
+ghost use Rattle.std.specs.Prelude.{MatchResult, OnOk, Ok, Err, [], ◌++◌};
+ghost use Rattle.t1_text.specs.Lines.{begins_with};
+ghost use Rattle.t1_code.specs.Pfb.{marker};
 ghost use Rattle.t1_disassemble.specs.Outcome.{Gives, fault_at};
 ghost use Rattle.t1_disassemble.specs.declared.fault.FontPlace.TheVariants.{Byte};
-ghost use Rattle.t1_disassemble.specs.SegmentsRead.{segment_after, typed_segment, segment_at, placed_segment, segments_of, no_parts, parts_onto, with_segment, font_parts};
+ghost use Rattle.t1_disassemble.specs.SegmentsRead.{segment_after, typed_segment, segment_at};
+ghost use Rattle.t1_disassemble.specs.SegmentsRead.{placed_segment, segments_of, no_parts};
+ghost use Rattle.t1_disassemble.specs.SegmentsRead.{parts_onto, with_segment};
 ghost use Rattle.t1_disassemble.specs.SegmentsFound.{found_segment, found_maybe};
 
 use crate::fault::{FontCode, FontFault, FontPlace, FontRefusal};
@@ -111,10 +116,10 @@ fn placed_segment(total: usize, rest: &[u8]) -> Result<Option<Found<'_>>, FontFa
 
 /// The clear text of a font, its encrypted part, and the text after it.
 #[derive(Debug, Drop)]
-pub struct Parts {
-    pub clear: Vec<u8>,
-    pub coded: Vec<u8>,
-    pub tail: Vec<u8>,
+pub(crate) struct Parts {
+    pub(crate) clear: Vec<u8>,
+    pub(crate) coded: Vec<u8>,
+    pub(crate) tail: Vec<u8>,
 }
 
 impl Model for Parts {
@@ -122,7 +127,11 @@ impl Model for Parts {
 
     ghost Value = { FontParts };
 
-    ghost view = { λ parts. record { clear = parts.clear.items; coded = parts.coded.items; tail = parts.tail.items } };
+    ghost view = { λ parts. record {
+      clear = parts.clear.items;
+      coded = parts.coded.items;
+      tail = parts.tail.items;
+    } };
 }
 
 impl Parts {
@@ -151,9 +160,24 @@ impl Parts {
     }
 }
 
+/// The parts of a font that stand elsewhere.
+#[derive(Clone, Copy, Debug)]
+pub(crate) struct LentParts<'a> {
+    pub(crate) clear: &'a [u8],
+    pub(crate) coded: &'a [u8],
+    pub(crate) tail: &'a [u8],
+}
+
+/// Whether a file has segments.
+pub(crate) fn has_segments(file: &[u8]) -> bool
+    ensures { result ≡ begins_with marker file.now }
+{
+    file.first() == Some(&MARKER)
+}
+
 /// The parts that the segments of a file hold.
 #[tactic(auto, using(crate::proofs::Segmented::parts_more))]
-fn segmented_parts(alloc: Global, bytes: &[u8]) -> Result<Parts, FontRefusal>
+pub(crate) fn segmented_parts(alloc: Global, bytes: &[u8]) -> Result<Parts, FontRefusal>
     ensures { Gives
         (λ parts. parts)
         result
@@ -168,19 +192,4 @@ fn segmented_parts(alloc: Global, bytes: &[u8]) -> Result<Parts, FontRefusal>
         parts.put(found)?;
         rest = found.after;
     }
-}
-
-/// The parts of a font's file, with segments or without.
-#[tactic(auto, unfolding(crate::specs::SegmentsRead::font_parts))]
-pub fn font_parts(alloc: Global, bytes: &[u8]) -> Result<Parts, FontRefusal>
-    ensures { Gives (λ parts. parts) result (font_parts bytes.now) }
-{
-    if bytes.first() == Some(&MARKER) {
-        return segmented_parts(alloc, bytes);
-    }
-    Ok(Parts {
-        clear: Vec::from_slice(alloc, bytes)?,
-        coded: Vec::new(alloc),
-        tail: Vec::new(alloc),
-    })
 }

@@ -1,0 +1,87 @@
+-- Encrypted parts in binary, in segments of their own.
+use Rattle.std.proofs.Common.{◌≡◌, ℕ, Bool, true, false, ◌&&◌, ◌+◌, ◌-◌, ◌<◌, if◌then◌else◌, List, [], ◌∷◌, ◌++◌, length, drop, Result, Ok, Err, refl, sym, ap, ◌∙◌, append-nil, inl, inr, arith}
+use Rattle.std.proofs.Math.Numerals.{one-add}
+use Rattle.std.proofs.lemmas.Bool.{cases_Bool}
+use Rattle.std.specs.Prelude.{nat_lt}
+use Rattle.t1_frac.specs.Outcome.{◌>>=◌}
+use Rattle.t1_text.specs.Lines.{lines, joined}
+use Rattle.t1_parts.specs.Parts.{tail_of}
+use Rattle.t1_disassemble.specs.declared.fault.FontCode.TheVariants.{D3}
+use Rattle.t1_disassemble.specs.declared.fault.FontFault.{FontFault}
+use Rattle.t1_disassemble.specs.declared.fault.FontPlace.TheVariants.{Nowhere, Byte}
+use Rattle.t1_disassemble.specs.CutDigits.{is_early, is_cut, with_digits}
+use Rattle.t1_disassemble.specs.Decipher.{decrypted_private}
+use Rattle.t1_disassemble.specs.Digits.{is_hexadecimal, digits_len}
+use Rattle.t1_disassemble.specs.Disassembly.{coded_place, tail_after}
+use Rattle.t1_disassemble.specs.Front.{is_space, past_spaces}
+use Rattle.t1_disassemble.specs.Kinds.{single_sections}
+use Rattle.t1_disassemble.specs.Outcome.{fault_at, reported_at}
+use Rattle.t1_disassemble.specs.PiecesOnto.{private_onto}
+use Rattle.t1_disassemble.specs.SegmentsRead.{FontParts}
+use Rattle.t1_disassemble.specs.Settings.{reading_operator, leading_bytes}
+use Rattle.t1_disassemble.specs.SourceOnto.{plain_onto, source_onto, binary_onto}
+use Rattle.t1_disassemble.proofs.WholeLaws.{unchanged, tail_again}
+
+-- ---- where the encrypted bytes begin
+
+space_front : (c : ℕ) (rest : List ℕ) → is_space c ≡ true → past_spaces (c ∷ rest) ≡ past_spaces rest
+space_front c rest h = rw (h, one-add) refl
+
+pub word_front : (c : ℕ) (rest : List ℕ) → is_space c ≡ false → past_spaces (c ∷ rest) ≡ c ∷ rest
+word_front c rest h = rw h refl
+
+pub spaces_gone : (after coded : List ℕ) → length (past_spaces after) ≡ 0 → past_spaces (after ++ coded) ≡ past_spaces coded
+spaces_gone [] coded h = refl
+spaces_gone (c ∷ after) coded h = elim (cases_Bool (is_space c)) [
+  | inl t ↦ space_front c (after ++ coded) t ∙ spaces_gone after coded (ap length (sym (space_front c after t)) ∙ h)
+  | inr f ↦ (let e : length (c ∷ after) ≡ 0 = ap length (sym (word_front c after f)) ∙ h in absurd (omega (arith, e)))
+]
+
+-- ---- no digits among which another byte could stand
+
+and_none : (b : Bool) → (b && false) ≡ false
+and_none true = refl
+and_none false = refl
+
+digits_none : {X : Type 0} (place : ℕ) (coded : List ℕ) (read : Result X FontFault) → is_hexadecimal coded ≡ false → with_digits place coded read ≡ read
+digits_none place coded (Ok x) off = refl
+digits_none place coded (Err fault) off =
+    let cut : is_cut coded ≡ false = ap (λ b. b && nat_lt (digits_len coded) (length coded)) off in
+    ap (λ b. Err (if is_early fault.code && b then fault_at (Byte (place + digits_len coded)) D3 else fault)) cut
+    ∙ ap (λ b. Err (if b then fault_at (Byte (place + digits_len coded)) D3 else fault)) (and_none (is_early fault.code))
+
+-- ---- the source of such a part
+
+same_after : {X Y : Type 0} (read : Result X FontFault) (f g : X → Result Y FontFault) → ((x : X) → f x ≡ g x) → (read >>= f) ≡ (read >>= g)
+same_after (Ok x) f g h = h x
+same_after (Err fault) f g h = refl
+
+-- the lines that were read, with those of a tail
+abbrev with_tail : List ℕ → List ℕ → List ℕ × List ℕ → Result (List ℕ) FontFault
+with_tail text tail private = single_sections (drop (length text) private.0) >>= λ single. Ok (private.0 ++ joined (tail_of (lines tail)))
+
+pub binary_same : (text clear segments tail coded : List ℕ) → is_hexadecimal coded ≡ false → 0 < length segments
+    → source_onto text (record { clear = clear; coded = segments; tail = tail }) coded ≡ binary_onto text tail (decrypted_private coded)
+binary_same text clear segments tail coded off some =
+    let parts : FontParts = record { clear = clear; coded = segments; tail = tail } in
+    let plain = decrypted_private coded in
+    let read = λ (lead : ℕ). private_onto (reading_operator (lines plain)) lead text false plain in
+    let left = λ (private : List ℕ × List ℕ). tail_after parts coded (4 + (length plain - length private.1)) in
+    ap (λ (b : List ℕ). plain_onto text parts coded (decrypted_private b)) (unchanged coded off)
+    ∙ same_after (reported_at Nowhere (leading_bytes (lines plain)))
+    (λ lead. with_digits (coded_place parts coded) coded (read lead) >>= λ private. with_tail text (left private) private)
+    (λ lead. read lead >>= λ private. with_tail text tail private)
+    (λ lead.
+    ap (λ (r : Result (List ℕ × List ℕ) FontFault). r >>= λ private. with_tail text (left private) private) (digits_none (coded_place parts coded) coded (read lead) off)
+    ∙ same_after (read lead) (λ private. with_tail text (left private) private) (λ private. with_tail text tail private)
+    (λ private. ap (λ (t : List ℕ). with_tail text t private) (tail_again clear segments tail coded (4 + (length plain - length private.1)) some)))
+
+pub coded_in_segments : (text clear after coded tail : List ℕ) → past_spaces (after ++ coded) ≡ coded → is_hexadecimal coded ≡ false → 0 < length coded
+    → source_onto text (record { clear = clear; coded = coded; tail = tail }) (past_spaces (after ++ coded)) ≡ binary_onto text tail (decrypted_private coded)
+coded_in_segments text clear after coded tail e off some =
+    ap (source_onto text (record { clear = clear; coded = coded; tail = tail })) e ∙ binary_same text clear coded tail coded off some
+
+pub coded_on_line : (text clear after coded tail : List ℕ) → length coded ≡ 0
+    → source_onto text (record { clear = clear; coded = coded; tail = tail }) (past_spaces (after ++ coded)) ≡ source_onto text (record { clear = clear; coded = []; tail = tail }) (past_spaces after)
+coded_on_line text clear after [] tail none = ap (λ l. source_onto text (record { clear = clear; coded = []; tail = tail }) (past_spaces l)) (append-nil after)
+coded_on_line text clear after (c ∷ coded) tail none = absurd (omega (arith, none))
