@@ -1,5 +1,5 @@
 -- The words of a charstring, one after another.
-use Rattle.std.proofs.Common.{◌≡◌, ℕ, ℤ, suc, Bool, true, ltb, ◌==◌, ◌-◌, ◌<◌, ◌^◌, List, [], ◌∷◌, ◌++◌, length, Result, Ok, Err, Option, None, Some, refl, ap, ◌∙◌, append_assoc, append-nil, inl, inr, arith, pos, negsuc, FitsSigned, w32}
+use Rattle.std.proofs.Common.{◌≡◌, if◌then◌else◌, ℕ, ℤ, suc, Bool, true, ltb, ◌==◌, ◌-◌, ◌<◌, ◌^◌, List, [], ◌∷◌, ◌++◌, length, Result, Ok, Err, Option, None, Some, refl, sym, ap, ◌∙◌, append_assoc, append-nil, inl, inr, arith, pos, negsuc, FitsSigned, w32}
 use Rattle.std.proofs.lemmas.Bool.{cases_Bool}
 use Rattle.std.specs.Fmt.{decimal, signed_decimal}
 use Rattle.std.specs.Map.{lookup}
@@ -126,3 +126,37 @@ push_more text is_open v rest = ap (words_onto text is_open) (words_more v rest)
 pub push_none : (text : List ℕ) (is_open : Bool) → words_onto text is_open (words_of []) ≡ Ok (text ++ printed_words is_open [])
 unfolding words_of
 push_none text is_open = refl
+
+-- ---- words that wait behind a text
+
+word_behind : (text b w : List ℕ) (is_open : Bool) → with_word (text ++ b) is_open w ≡ text ++ with_word b is_open w
+word_behind text b w is_open =
+    let word = (if is_open then 32 else 9) ∷ w in
+    let end = if is_number_word w then [] else 10 ∷ [] in
+    ap (λ l. l ++ end) (append_assoc text b word) ∙ append_assoc text (b ++ word) end
+
+-- a blank and a number are a word that leaves its line open
+pub kept_number : (text blank all w : List ℕ) (is_open : Bool) → blank ≡ text ++ (if is_open then 32 else 9) ∷ [] → all ≡ blank ++ w → is_number_word w ≡ true → all ≡ with_word text is_open w
+kept_number text blank all w is_open p q number =
+    let word = (if is_open then 32 else 9) ∷ w in
+    q ∙ ap (λ l. l ++ w) p ∙ append_assoc text ((if is_open then 32 else 9) ∷ []) w ∙ sym (append-nil (text ++ word))
+    ∙ ap (λ (b : Bool). (text ++ word) ++ (if b then [] else 10 ∷ [])) (sym number)
+
+-- what stands behind a text, with the next word
+abbrev pub behind : List ℕ → List ℕ × Bool × List ℕ → List ℕ × Bool × List ℕ
+behind text x = (text ++ x.0, x.1, x.2)
+
+pub put_behind : (text b : List ℕ) (is_open : Bool) (v : ℕ) (rest : List ℕ) → put_first (text ++ b) is_open v rest ≡ (put_first b is_open v rest >>= λ x. Ok (behind text x))
+put_behind text b is_open v rest = from (word_at v rest) where
+  from : (found : Result (List ℕ × List ℕ) FontCode)
+      → (found >>= λ it. Ok (with_word (text ++ b) is_open it.0, is_number_word it.0, it.1)) ≡ ((found >>= λ it. Ok (with_word b is_open it.0, is_number_word it.0, it.1)) >>= λ x. Ok (behind text x))
+  from (Ok it) = ap (λ (l : List ℕ). Ok (l, is_number_word it.0, it.1)) (word_behind text b it.0 is_open)
+  from (Err code) = refl
+
+pub behind_ok : (text b : List ℕ) (is_open : Bool) (v : ℕ) (rest whole : List ℕ) (x : List ℕ × Bool × List ℕ) → put_first b is_open v rest ≡ Ok x → whole ≡ text ++ b → put_first whole is_open v rest ≡ Ok (text ++ x.0, x.1, x.2)
+behind_ok text b is_open v rest whole x h e =
+    ap (λ t. put_first t is_open v rest) e ∙ put_behind text b is_open v rest ∙ ap (λ (r : Result (List ℕ × Bool × List ℕ) FontCode). r >>= λ y. Ok (behind text y)) h
+
+pub behind_err : (text b : List ℕ) (is_open : Bool) (v : ℕ) (rest whole : List ℕ) (code : FontCode) → put_first b is_open v rest ≡ Err code → whole ≡ text ++ b → put_first whole is_open v rest ≡ Err code
+behind_err text b is_open v rest whole code h e =
+    ap (λ t. put_first t is_open v rest) e ∙ put_behind text b is_open v rest ∙ ap (λ (r : Result (List ℕ × Bool × List ℕ) FontCode). r >>= λ y. Ok (behind text y)) h

@@ -1,5 +1,5 @@
 -- The words of a charstring, printed after a text.
-use Rattle.std.specs.Prelude.{ℕ, Bool, if◌then◌else◌, List, [], ◌∷◌, ◌++◌, Result, Ok, Err}
+use Rattle.std.specs.Prelude.{ℕ, ℤ, pos, negsuc, codes, Bool, if◌then◌else◌, List, [], ◌∷◌, ◌++◌, Result, Ok, Err}
 use Rattle.t1_frac.specs.Ascii.{line_feed, space, tab}
 use Rattle.t1_frac.specs.Numbers.{is_number_word}
 use Rattle.t1_frac.specs.Outcome.{◌>>=◌}
@@ -18,3 +18,8 @@ with_word text is_open w = text ++ (if is_open then space else tab) ∷ w ++ (if
 -- word, printing: the text with its next word, whether the word's line is still open, and the bytes after it, or the fault
 abbrev pub put_first : List ℕ → Bool → ℕ → List ℕ → Result (List ℕ × Bool × List ℕ) FontCode
 put_first text is_open v rest = word_at v rest >>= λ found. Ok (with_word text is_open found.0, is_number_word found.0, found.1)
+
+-- word, printing: the minus of a number below 0
+abbrev pub sign_of : ℤ → List ℕ
+sign_of (pos n) = []
+sign_of (negsuc n) = codes "-"

@@ -1,5 +1,5 @@
 //! The words of charstrings.
-ghost use Rattle.std.specs.Prelude.{◌≡◌, [], ◌++◌, ◌≤◌, length, OnOk, IfOk, IfSome, MatchResult};
+ghost use Rattle.std.specs.Prelude.{◌≡◌, [], ◌+◌, ◌++◌, ◌≤◌, length, OnOk, IfOk, IfSome, MatchResult};
 ghost use Rattle.std.specs.Prelude.{Ok, Err, true, false, option_map, nat_eq};
 ghost use Rattle.std.specs.Fmt.{signed_decimal};
 ghost use Rattle.std.specs.Map.{lookup};
@@ -14,7 +14,7 @@ ghost use Rattle.t1_disassemble.specs.declared.fault.FontPlace.TheVariants.{Nowh
 
 use crate::cipher::decipher_charstring;
 use crate::fault::{FontCode, FontRefusal};
-use itoa::Buffer;
+use crate::word_buffer::WordBuffer;
 use std::alloc::AllocError;
 
 /// The word of a command of one byte.
@@ -22,6 +22,7 @@ use std::alloc::AllocError;
 fn one_byte_word(byte: u8) -> Option<&'static [u8]>
     ensures value { option_map (λ word. word.now) result ≡ lookup (nat_eq byte) one_byte_words }
     ensures operator { IfSome result (λ word. is_number_word word.now ≡ false) }
+    ensures short { IfSome result (λ word. length word.now ≤ 15) }
 {
     match byte {
         1 => Some(b"hstem"),
@@ -49,6 +50,7 @@ fn one_byte_word(byte: u8) -> Option<&'static [u8]>
 fn two_byte_word(byte: u8) -> Option<&'static [u8]>
     ensures value { option_map (λ word. word.now) result ≡ lookup (nat_eq byte) two_byte_words }
     ensures operator { IfSome result (λ word. is_number_word word.now ≡ false) }
+    ensures short { IfSome result (λ word. length word.now ≤ 15) }
 {
     match byte {
         0 => Some(b"dotsection"),
@@ -72,6 +74,7 @@ fn escaped(rest: &[u8]) -> Result<(&'static [u8], &[u8]), FontCode>
         (λ code. escaped_at rest.now ≡ Err code) }
     ensures shorter { IfOk result (λ found. length found.1.now ≤ length rest.now) }
     ensures operator { IfOk result (λ found. is_number_word found.0.now ≡ false) }
+    ensures short { IfOk result (λ found. length found.0.now ≤ 15) }
 {
     let [second, after @ ..] = rest else {
         return Err(FontCode::D7);
@@ -90,6 +93,7 @@ fn operator(first: u8, rest: &[u8]) -> Result<(&'static [u8], &[u8]), FontCode>
         (λ code. operator_at first rest.now ≡ Err code) }
     ensures shorter { IfOk result (λ found. length found.1.now ≤ length rest.now) }
     ensures operator { IfOk result (λ found. is_number_word found.0.now ≡ false) }
+    ensures short { IfOk result (λ found. length found.0.now ≤ 15) }
 {
     if first == 12 {
         return escaped(rest);
@@ -169,37 +173,28 @@ fn number(first: u8, rest: &[u8]) -> Result<(i32, &[u8]), FontCode>
     long(rest)
 }
 
-/// Adds a word that isn't a number, and the end of its line.
-fn push_operator(text: &mut Vec<u8>, is_open: bool, word: &[u8]) -> Result<(), AllocError>
-    requires { is_number_word word.now ≡ false }
-    ensures { OnOk result (text.new.items ≡ with_word text.old.items is_open word.now) }
+/// Puts a word that isn't a number, and the end of its line, after other words.
+#[inline(always)]
+fn keep_operator(buffer: &mut WordBuffer, is_open: bool, word: &[u8])
+    requires operator { is_number_word word.now ≡ false }
+    requires room { length buffer.old + length word.now + 2 ≤ 256 }
+    ensures { buffer.new ≡ with_word buffer.old is_open word.now }
 {
-    text.push(if is_open { b' ' } else { b'\t' })?;
-    text.extend_from_slice(word)?;
-    text.push(b'\n')?;
-    Ok(())
+    buffer.push(if is_open { b' ' } else { b'\t' });
+    buffer.keep(word);
+    buffer.push(b'\n');
 }
 
-/// Adds a number word.
-fn push_digits(text: &mut Vec<u8>, is_open: bool, digits: &[u8]) -> Result<(), AllocError>
-    requires { is_number_word digits.now ≡ true }
-    ensures { OnOk result (text.new.items ≡ with_word text.old.items is_open digits.now) }
-{
-    text.push(if is_open { b' ' } else { b'\t' })?;
-    text.extend_from_slice(digits)?;
-    Ok(())
-}
-
-/// Adds a number.
+/// Puts a number after other words.
+#[inline(always)]
 #[tactic(auto, using(crate::proofs::Reading::number_is_word))]
-fn push_number(text: &mut Vec<u8>, is_open: bool, number: i32) -> Result<(), AllocError>
-    ensures text { OnOk
-        result
-        (text.new.items ≡ with_word text.old.items is_open (signed_decimal number)) }
+fn keep_number(buffer: &mut WordBuffer, is_open: bool, number: i32)
+    requires { length buffer.old + 12 ≤ 256 }
+    ensures text { buffer.new ≡ with_word buffer.old is_open (signed_decimal number) }
     ensures number { is_number_word (signed_decimal number) ≡ true }
 {
-    let mut buffer = Buffer::new();
-    push_digits(text, is_open, buffer.format(number).as_bytes())
+    buffer.push(if is_open { b' ' } else { b'\t' });
+    buffer.push_number(number);
 }
 
 /// Ends a line that is open.
@@ -212,29 +207,53 @@ fn end_line(text: &mut Vec<u8>, is_open: bool) -> Result<(), AllocError>
     Ok(())
 }
 
-/// Adds the word that a charstring begins with, and answers whether its line is still open, and the
-/// bytes after it.
+/// Puts the word that a charstring begins with after other words, and answers whether its line is
+/// still open, and the bytes after it.
+#[inline(always)]
 #[tactic(auto, unfolding(crate::specs::Words::word_at))]
+fn keep_first<'a>(
+    buffer: &mut WordBuffer,
+    is_open: bool,
+    first: u8,
+    rest: &'a [u8],
+) -> Result<(bool, &'a [u8]), FontCode>
+    requires { length buffer.old + 24 ≤ 256 }
+    ensures value { MatchResult
+        result
+        (λ found. put_first buffer.old is_open first rest.now
+        ≡ Ok (buffer.new, found.0, found.1.now))
+        (λ code. put_first buffer.old is_open first rest.now ≡ Err code) }
+    ensures shorter { IfOk result (λ found. length found.1.now ≤ length rest.now) }
+{
+    if first < 32 {
+        let (word, after) = operator(first, rest)?;
+        keep_operator(buffer, is_open, word);
+        return Ok((false, after));
+    }
+    let (number, after) = number(first, rest)?;
+    keep_number(buffer, is_open, number);
+    Ok((true, after))
+}
+
+/// The same, with the words that wait and what stands before them in the text.
+#[inline(always)]
+#[tactic(auto, using(crate::proofs::Reading::behind_ok, crate::proofs::Reading::behind_err))]
 fn push_first<'a>(
     text: &mut Vec<u8>,
+    buffer: &mut WordBuffer,
     is_open: bool,
     first: u8,
     rest: &'a [u8],
 ) -> Result<(bool, &'a [u8]), FontRefusal>
     ensures value { Gives
-        (λ found. (text.new.items, found.0, found.1.now))
+        (λ found. (text.new.items ++ buffer.new, found.0, found.1.now))
         result
-        (reported_at Nowhere (put_first text.old.items is_open first rest.now)) }
+        (reported_at Nowhere
+        (put_first (text.old.items ++ buffer.old) is_open first rest.now)) }
     ensures shorter { IfOk result (λ found. length found.1.now ≤ length rest.now) }
 {
-    if first < 32 {
-        let (word, after) = operator(first, rest)?;
-        push_operator(text, is_open, word)?;
-        return Ok((false, after));
-    }
-    let (number, after) = number(first, rest)?;
-    push_number(text, is_open, number)?;
-    Ok((true, after))
+    buffer.make_room(text)?;
+    Ok(keep_first(buffer, is_open, first, rest)?)
 }
 
 /// Adds the lines of a charstring's words. At a fault and where memory runs out some of them may
@@ -246,13 +265,15 @@ fn push_words(text: &mut Vec<u8>, code: &[u8]) -> Result<(), FontRefusal>
         result
         (reported_at Nowhere (words_onto text.old.items false (words_of code.now))) }
 {
+    let mut buffer = WordBuffer::new();
     let mut is_open = false;
     let mut rest = code;
     while let Some((first, after)) = rest.split_first() {
-        let (opened, left) = push_first(text, is_open, *first, after)?;
+        let (opened, left) = push_first(text, &mut buffer, is_open, *first, after)?;
         is_open = opened;
         rest = left;
     }
+    buffer.send(text)?;
     end_line(text, is_open)?;
     Ok(())
 }

@@ -14,6 +14,7 @@ mod opening;
 mod private;
 mod segments;
 mod settings;
+mod word_buffer;
 
 pub use charstring::push_encrypted;
 pub use disassembly::disassemble;

@@ -1,11 +1,11 @@
-use Rattle.std.proofs.Common.{◌≡◌, length, false}
+use Rattle.std.proofs.Common.{◌≡◌, ◌++◌, length, false}
 use Rattle.t1_disassemble.specs.Words.{words_of}
 use Rattle.t1_disassemble.specs.WordsOnto.{words_onto}
 use Rattle.t1_disassemble.proofs.charstring.push_words.Given as goal
 
--- the text so far, and the words that are left
+-- the text so far with the words that wait, and the words that are left
 abbrev pub invariant-loop-first : goal.invariant-loop-first
-invariant-loop-first l = words_onto l.text.items l.is_open (words_of l.rest) ≡ words_onto l.fn.text.items false (words_of l.fn.code)
+invariant-loop-first l = words_onto (l.text.items ++ l.buffer) l.is_open (words_of l.rest) ≡ words_onto l.fn.text.items false (words_of l.fn.code)
 
 abbrev pub decreases-loop-first : goal.decreases-loop-first
 decreases-loop-first l = length l.rest
