@@ -6,7 +6,7 @@ use Rattle.std.proofs.Math.Numerals.{one-add}
 use Rattle.std.specs.List.{cons_option, filter_map, take_while}
 use Rattle.std.specs.Prelude.{is_some}
 use Rattle.t1_frac.specs.Words.{is_blank, trimmed_front}
-use Rattle.t1_disassemble.specs.Digits.{digit_value, is_digit, is_digit_or_blank, digit_values, bytes_of_values, digit_bytes}
+use Rattle.t1_disassemble.specs.Digits.{digit_value, is_digit, is_digit_or_blank, digit_values}
 
 -- bytes that print are no blanks
 pub not_blank : (c : ℕ) → 33 ≤ c → is_blank c ≡ false

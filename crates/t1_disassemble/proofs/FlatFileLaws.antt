@@ -24,7 +24,7 @@ use Rattle.t1_disassemble.specs.Settings.{reading_operator, leading_bytes}
 use Rattle.t1_disassemble.proofs.Deciphering.{deciphered_cipher, deciphered-append}
 use Rattle.t1_disassemble.proofs.ItemLaws.{private_again}
 use Rattle.t1_disassemble.proofs.PlainWords.{joined-append}
-use Rattle.t1_disassemble.proofs.WholeLaws.{Coded, eexec_coded, items_say, clear_again, before_again, private_of, plain_again, kind_again, single_after, spaces_none, binary, unchanged}
+use Rattle.t1_disassemble.proofs.WholeLaws.{eexec_coded, items_say, clear_again, before_again, private_of, plain_again, kind_again, single_after, spaces_none, binary, unchanged}
 
 -- what stands after the encrypted bytes decrypts to more bytes after the private text
 pub deciphered_more : (private junk : List ℕ) → decrypted_private (eexec private ++ junk) ≡ private ++ deciphered (key_after 55665 (eexec private)) junk

@@ -12,10 +12,10 @@ lines_counted kind l ls = elim (cases_Bool (is_line_of kind l)) [
 ]
 
 -- those so far and those that are left, after one line more
-pub counted_more : (kind : List ℕ → Option Item) (count n all : ℕ) (l : List ℕ) (ls after : List (List ℕ)) → ls ≡ l ∷ after → n ≡ (if is_line_of kind l then 1 else 0)
+pub counted_more : (kind : List ℕ → Option Item) (count n all : ℕ) (l : List ℕ) (ls after : List (List ℕ)) → filter (is_line_of kind) ls ≡ filter (is_line_of kind) (l ∷ after) → n ≡ (if is_line_of kind l then 1 else 0)
     → count + length (filter (is_line_of kind) ls) ≡ all → count + n + length (filter (is_line_of kind) after) ≡ all
 counted_more kind count n all l ls after cut one h =
-    omega (arith, ap (λ (k : List (List ℕ)). length (filter (is_line_of kind) k)) cut, lines_counted kind l after, one, h)
+    omega (arith, ap (λ (k : List (List ℕ)). length k) cut, lines_counted kind l after, one, h)
 
 one_most : (b : Bool) → (if b then 1 else 0) ≤ 1
 one_most true = omega arith

@@ -17,6 +17,7 @@ pub mod PlainWords
 pub mod Reading
 pub mod SegmentLaws
 pub mod Segmented
+pub mod SlashLaws
 pub mod SmallNumbers
 pub mod Sources
 pub mod WholeLaws

@@ -1,6 +1,6 @@
 -- Fonts of kinds that aren't read.
-use Rattle.std.specs.Prelude.{ℕ, Bool, ◌&&◌, ◌||◌, not, nat_lt, is_some, if◌then◌else◌, Option, List, length, filter, codes, Result, Ok, Err}
-use Rattle.t1_frac.specs.Ascii.{tab}
+use Rattle.std.specs.Prelude.{ℕ, ◌==◌, Bool, ◌&&◌, ◌||◌, not, nat_lt, is_some, if◌then◌else◌, Option, List, length, filter, codes, Result, Ok, Err}
+use Rattle.t1_frac.specs.Ascii.{slash, tab}
 use Rattle.t1_frac.specs.Outcome.{◌>>=◌}
 use Rattle.t1_text.specs.Lines.{begins_with, lines}
 use Rattle.t1_parts.specs.declared.item.Item.{Item}
@@ -25,6 +25,10 @@ plain_kind clear = without (codes "/WeightVector") D12 clear >>= without (codes 
 -- profile, printing: whether a line of the source is a section line of this kind; lines that begin with a tab are of entries
 abbrev pub is_line_of : (List ℕ → Option Item) → List ℕ → Bool
 is_line_of kind l = not (begins_with tab l) && is_some (kind l)
+
+-- word, sections: whether a byte is no slash, without which no section line is
+abbrev pub slashless : ℕ → Bool
+slashless c = not (c == slash)
 
 -- profile, sections: whether more than one of these lines is of a kind
 abbrev pub has_second : (List ℕ → Option Item) → List (List ℕ) → Bool

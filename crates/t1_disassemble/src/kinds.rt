@@ -1,13 +1,16 @@
 //! Fonts of kinds that aren't read.
-ghost use Rattle.std.specs.Prelude.{◌≡◌, ◌||◌, Ok, Err, if◌then◌else◌, MatchResult, List, ℕ};
+ghost use Rattle.std.specs.Prelude.{◌≡◌, ◌<◌, ◌≤◌, ◌||◌, Ok, Err, if◌then◌else◌, List, ℕ};
+ghost use Rattle.std.specs.Prelude.{[], ◌∷◌, filter, length, IfSome, MatchOption, MatchResult};
+ghost use Rattle.std.specs.List.{prefix_len};
 ghost use Rattle.t1_text.specs.Lines.{lines};
 ghost use Rattle.t1_parts.specs.Sections.{subrs_line, glyphs_line};
-ghost use Rattle.t1_disassemble.specs.Kinds.{without, plain_kind, is_line_of, has_second};
+ghost use Rattle.t1_disassemble.specs.Kinds.{without, plain_kind, is_line_of, slashless, has_second};
 ghost use Rattle.t1_disassemble.specs.Kinds.{single_sections};
 
 use crate::fault::{FontCode, FontFault, FontPlace};
 use crate::settings::{is_glyphs_line, is_subrs_line, text_place};
-use t1_text::first_line;
+use memchr::memchr;
+use t1_text::{first_line, last_line_start};
 
 /// Bytes that hold a text are refused where it first stands.
 fn check_without(text: &[u8], code: FontCode, bytes: &[u8]) -> Result<(), FontFault>
@@ -58,7 +61,39 @@ fn glyphs_count(line: &[u8]) -> usize
     1
 }
 
-/// Whether a text has two Subrs lines or two CharStrings lines.
+/// How many bytes stand before the first slash.
+fn slash_place(bytes: &[u8]) -> usize
+    ensures within { result ≤ length bytes.now }
+    ensures value { result ≡ prefix_len slashless bytes.now }
+{
+    memchr(b'/', bytes).unwrap_or(bytes.len())
+}
+
+/// The next line with a slash in it, and the bytes after it. Each section line has one.
+#[tactic(auto, using(crate::proofs::SlashLaws::subrs_none, crate::proofs::SlashLaws::glyphs_none))]
+fn next_slashed(bytes: &[u8]) -> Option<(&[u8], &[u8])>
+    ensures subrs { MatchOption
+        result
+        (filter (is_line_of subrs_line) (lines bytes.now) ≡ [])
+        (λ found. filter (is_line_of subrs_line) (lines bytes.now)
+        ≡ filter (is_line_of subrs_line) (found.0.now ∷ lines found.1.now)) }
+    ensures glyphs { MatchOption
+        result
+        (filter (is_line_of glyphs_line) (lines bytes.now) ≡ [])
+        (λ found. filter (is_line_of glyphs_line) (lines bytes.now)
+        ≡ filter (is_line_of glyphs_line) (found.0.now ∷ lines found.1.now)) }
+    ensures shorter { IfSome result (λ found. length found.1.now < length bytes.now) }
+{
+    let place = slash_place(bytes);
+    if place == bytes.len() {
+        return None;
+    }
+    let start = last_line_start(bytes.split_at(place).0);
+    Some(first_line(bytes.split_at(start).1))
+}
+
+/// Whether a text has two Subrs lines or two CharStrings lines. Lines without a slash aren't looked
+/// at, which are most.
 #[tactic(auto, using(crate::proofs::KindLaws::lines_counted))]
 fn has_second(text: &[u8]) -> bool
     ensures { result
@@ -67,8 +102,7 @@ fn has_second(text: &[u8]) -> bool
     let mut subrs = 0;
     let mut glyphs = 0;
     let mut rest = text;
-    while !rest.is_empty() {
-        let (line, after) = first_line(rest);
+    while let Some((line, after)) = next_slashed(rest) {
         subrs += subrs_count(line);
         glyphs += glyphs_count(line);
         rest = after;

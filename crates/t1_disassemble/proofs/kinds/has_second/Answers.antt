@@ -4,14 +4,14 @@ use Rattle.t1_parts.specs.Sections.{subrs_line, glyphs_line}
 use Rattle.t1_disassemble.proofs.KindLaws.{counted_more, few_more}
 use Rattle.t1_disassemble.proofs.kinds.has_second.Goals as goal
 
-pub loop-rest-preserved : goal.loop-rest-preserved
-loop-rest-preserved c =
-    let i = c.loop-rest.invariant in
-    let line = c.first_line.result.0.now in
-    let after = c.first_line.result.1.now in
+pub loop-line-preserved : goal.loop-line-preserved
+loop-line-preserved c =
+    let i = c.loop-line.invariant in
+    let line = c.in-Some.line.now in
+    let after = c.in-Some.after.now in
     record {
-      subrs = counted_more subrs_line c.loop-rest.subrs c.subrs_count-subrs.result _ line (lines c.loop-rest.rest.now) (lines after) c.first_line.ensures.lines c.subrs_count-subrs.ensures i.subrs;
-      glyphs = counted_more glyphs_line c.loop-rest.glyphs c.glyphs_count-glyphs.result _ line (lines c.loop-rest.rest.now) (lines after) c.first_line.ensures.lines c.glyphs_count-glyphs.ensures i.glyphs;
-      few = few_more subrs_line c.loop-rest.subrs c.subrs_count-subrs.result (length c.loop-rest.rest.now) (length after) (length c.args.text.now) line c.subrs_count-subrs.ensures c.first_line.ensures.shorter i.few;
-      fewer = few_more glyphs_line c.loop-rest.glyphs c.glyphs_count-glyphs.result (length c.loop-rest.rest.now) (length after) (length c.args.text.now) line c.glyphs_count-glyphs.ensures c.first_line.ensures.shorter i.fewer;
+      subrs = counted_more subrs_line c.loop-line.subrs c.subrs_count-subrs.result _ line (lines c.loop-line.rest.now) (lines after) c.in-Some.ensures.subrs c.subrs_count-subrs.ensures i.subrs;
+      glyphs = counted_more glyphs_line c.loop-line.glyphs c.glyphs_count-glyphs.result _ line (lines c.loop-line.rest.now) (lines after) c.in-Some.ensures.glyphs c.glyphs_count-glyphs.ensures i.glyphs;
+      few = few_more subrs_line c.loop-line.subrs c.subrs_count-subrs.result (length c.loop-line.rest.now) (length after) (length c.args.text.now) line c.subrs_count-subrs.ensures c.in-Some.ensures.shorter i.few;
+      fewer = few_more glyphs_line c.loop-line.glyphs c.glyphs_count-glyphs.result (length c.loop-line.rest.now) (length after) (length c.args.text.now) line c.glyphs_count-glyphs.ensures c.in-Some.ensures.shorter i.fewer;
     }
