@@ -3,7 +3,7 @@
 
 import re
 
-from source import DECIMAL, is_name, is_number_word, lines, slot, token_places, tokens, words
+from source import DECIMAL, is_name, is_number_word, lines, slot, token_places, tokens
 from faults import Fault
 
 TEXTS = {
@@ -16,10 +16,15 @@ TEXTS = {
     "no-entry": "a line that belongs to no glyph; a glyph begins with /NAME { on one line",
     "after-end": "a glyph after the end of the glyphs, where no program looks for it",
     "values-left": "a command has more values in front of it than it takes",
+    "wide-coordinate": "a command has a value past 16000, which old interpreters may not take",
+    "negative-width": "the width is below 0",
     "open-path": "a path isn't closed before a move or the end of the glyph",
+    "no-such-glyph": "a pair names a glyph that isn't there",
+    "unused-subr": "no glyph's run enters the Subr",
+    "font-box": "FontBBox isn't the box around the glyphs",
 }
 BRACE = re.compile(rb"[{}%]")
-# Commands by how many values they take, of those that leave none on the stack.
+# Commands that leave no value on the stack, by how many they take.
 TAKEN = {
     0: "endchar closepath dotsection",
     1: "hlineto vlineto hmoveto vmoveto",
@@ -31,18 +36,35 @@ TAKEN = {
 TAKES = {word.encode(): count for count, these in TAKEN.items() for word in these.split()}
 DRAWS = set(b"rlineto hlineto vlineto rrcurveto hvcurveto vhcurveto".split())
 LEAVES = set(b"rmoveto hmoveto vmoveto endchar".split())
-BREAKS = set(b"closepath callsubr callothersubr return".split())
+BREAKS = set(b"closepath callsubr callothersubr return { }".split())
 
 
 def notes(text):
-    """All notes, in the order of the text's parts."""
+    """All notes, in the order of their places; at one place those on lines come first."""
     all_lines = list(enumerate(lines(text), 1))
-    return opening(text) + of_lines(all_lines)
+    front, later = glyphs_front(all_lines), cut(all_lines, is_glyphs_line)[2]
+    found = opening(text) + of_lines(all_lines) + bodies(cut(front, is_subrs_line)[2]) + bodies(later)
+    return sorted(found, key=lambda note: note[:2])
+
+
+def pair_notes(text, pairs):
+    """The notes on a kerning file, whose pairs are to be of the source's glyphs."""
+    names = names_of(glyph_section(list(enumerate(lines(text), 1)))[1])
+    found = []
+    for number, line in enumerate(lines(pairs), 1):
+        places = token_places(line)
+        if len(places) >= 3 and tokens(line)[0] == b"KPX":
+            found += [(number, start + 1, "no-such-glyph") for start, end in places[1:3] if line[start:end] not in names]
+    return found
 
 
 def noted_text(name, text):
     """What `t1edit notes` writes of a file of this name."""
-    return "".join(f"{name}:{line}:{column}: note {kind}: {TEXTS[kind]}\n" for line, column, kind in notes(text))
+    return shown(name, notes(text))
+
+
+def shown(name, found):
+    return "".join(f"{name}:{line}:{column}: note {kind}: {TEXTS[kind]}\n" for line, column, kind in found)
 
 
 def opening(text):
@@ -51,21 +73,44 @@ def opening(text):
     return [(1, 1, "byte-order-mark" if text.startswith(b"\xef\xbb\xbf") else "first-line")]
 
 
+def is_glyphs_line(line):
+    return count_in(line, b"/CharStrings", b"dict")
+
+
+def is_subrs_line(line):
+    return count_in(line, b"/Subrs", b"array")
+
+
+def glyphs_front(all_lines):
+    """The lines before the section of the glyphs."""
+    return cut(all_lines, is_glyphs_line)[0]
+
+
+def glyph_section(all_lines):
+    """The line of the glyphs' section, its lines outside glyphs through the one that ends them, and those after that."""
+    _, section, later = cut(all_lines, is_glyphs_line)
+    glyphs, end, rest = cut(outside(later, opens_glyph), lambda line: tokens(line)[:1] == [b"end"])
+    return section, glyphs, rest
+
+
+def names_of(glyphs):
+    opened = [opens_glyph(line) for _, line in glyphs]
+    return {token[1:] for token in opened if token and is_name(token[1:])}
+
+
 def of_lines(all_lines):
-    front, section, later = cut(all_lines, lambda line: count_in(line, b"/CharStrings", b"dict"))
+    section, glyphs, rest = glyph_section(all_lines)
     if section is None:
         return []
-    glyphs, end, rest = cut(outside(later, opens_glyph), lambda line: tokens(line)[:1] == [b"end"])
-    names = {opens_glyph(line)[1:] for _, line in glyphs if opens_glyph(line) and is_name(opens_glyph(line)[1:])}
-    opened = sum(1 for _, line in glyphs if opens_glyph(line))
+    front, names = glyphs_front(all_lines), names_of(glyphs)
     found = [on(line, "encoded-name") for line in array(front) if is_lost(line[1], names)]
     found += subrs(front)
-    found += too_high(section, count_in(section[1], b"/CharStrings", b"dict"), opened)
     if b".notdef" not in names:
         found.append(on(section, "no-notdef"))
+    opened = sum(1 for _, line in glyphs if opens_glyph(line))
+    found += too_high(section, is_glyphs_line(section[1]), opened)
     found += strays(glyphs)
-    found += [on(line, "after-end") for line in rest if opens_glyph(line[1])]
-    return found + bodies(later)
+    return found + [on(line, "after-end") for line in rest if opens_glyph(line[1])]
 
 
 def cut(numbered, test):
@@ -106,21 +151,25 @@ def opens_subr(line):
     return these[1] if len(these) >= 3 and these[0] == b"dup" and these[2] == b"{" else None
 
 
+def subr_number(line):
+    """The number of the Subr that a line opens."""
+    token = opens_subr(line)
+    return int(token) if token and DECIMAL.fullmatch(token) and int(token) <= 32000 else None
+
+
 def first_brace(text):
     found = BRACE.search(text)
     return found[0] if found else b""
 
 
 def outside(numbered, opens):
-    """The lines that don't stand inside an entry."""
+    """The lines that don't stand inside an entry, one that the nearest line with a brace has opened."""
     found, is_open = [], False
     for number, line in numbered:
-        brace = first_brace(line)
-        if is_open and brace != b"{":
-            is_open = brace != b"}"
-            continue
-        found.append((number, line))
-        is_open = bool(opens(line)) and first_brace(line.split(b"{", 1)[1]) in (b"", b"%")
+        if not is_open or first_brace(line) == b"{":
+            found.append((number, line))
+        if first_brace(line) in (b"{", b"}"):
+            is_open = bool(opens(line)) and first_brace(line.split(b"{", 1)[1]) in (b"", b"%")
     return found
 
 
@@ -139,15 +188,14 @@ def is_lost(line, names):
 
 
 def subrs(front):
-    _, section, later = cut(front, lambda line: count_in(line, b"/Subrs", b"array"))
+    _, section, later = cut(front, is_subrs_line)
     if section is None:
         return []
     heads = outside(later, opens_subr)
-    numbers = [int(token) for token in (opens_subr(line) for _, line in heads) if token and DECIMAL.fullmatch(token)]
-    need = max((number + 1 for number in numbers if number <= 32000), default=0)
-    found = too_high(section, count_in(section[1], b"/Subrs", b"array"), need)
-    found += [on(line, "plain-entry") for line in heads if is_plain_entry(line[1])]
-    return found + bodies(later)
+    numbers = [subr_number(line) for _, line in heads]
+    need = max((number + 1 for number in numbers if number is not None), default=0)
+    found = too_high(section, is_subrs_line(section[1]), need)
+    return found + [on(line, "plain-entry") for line in heads if is_plain_entry(line[1])]
 
 
 def is_plain_entry(line):
@@ -169,22 +217,22 @@ def strays(glyphs):
 
 def bodies(numbered):
     """What the words of bodies leave: values in front of a command that takes fewer, and paths that aren't closed."""
-    found, values, is_open = [], 0, False
-    for line in numbered:
-        text = line[1].split(b"%")[0]
-        if b"{" in text or b"}" in text:
-            values, is_open = 0, False
+    placed = [(number, start + 1, line[start:end]) for number, line in numbered for start, end in token_places(line)]
+    words = [word for _, _, word in placed]
+    found, first, path = [], 0, 0
+    for at, (line, column, word) in enumerate(placed):
+        if is_number_word(word):
             continue
-        kinds = set()
-        for word in words(text):
-            if values > TAKES.get(word, values):
-                kinds.add("values-left")
-            if is_open and word in LEAVES:
-                kinds.add("open-path")
-            if is_number_word(word) or word == b"pop":
-                values += 1
-            else:
-                values = max(values - 1, 0) if word == b"div" else 0
-            is_open = word in DRAWS or is_open and word not in LEAVES | BREAKS
-        found += [on(line, kind) for kind in ("values-left", "open-path") if kind in kinds]
+        values = [int(value) for value in words[first:at]]
+        if len(values) > TAKES.get(word, len(values)):
+            found.append((line, column, "values-left"))
+        if word in TAKES and any(abs(value) > 16000 for value in values):
+            found.append((line, column, "wide-coordinate"))
+        if word == b"hsbw" and values and values[-1] < 0:
+            found.append((line, column, "negative-width"))
+        if word in LEAVES and DRAWS & set(words[path:at]):
+            found.append((line, column, "open-path"))
+        first = at + 1
+        if word in LEAVES | BREAKS:
+            path = at + 1
     return found

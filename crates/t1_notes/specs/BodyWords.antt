@@ -1,114 +1,72 @@
 -- What the words of bodies leave: values, and a path.
-use Rattle.std.specs.Prelude.{ℕ, Bool, true, false, not, ◌+◌, ◌-◌, ◌||◌, ◌&&◌, nat_lt, min, if◌then◌else◌, Option, Some, None, List, [], ◌∷◌, ◌++◌, codes}
-use Rattle.std.specs.List.{fold}
+use Rattle.std.specs.Prelude.{ℕ, Bool, false, ◌||◌, ◌&&◌, nat_lt, if◌then◌else◌, Option, Some, None, is_none, List, [], ◌∷◌, ◌++◌, codes, length, map}
+use Rattle.std.specs.List.{before_first, list_any, take_while}
 use Rattle.std.specs.Str.{bytes_eq}
-use Rattle.t1_frac.specs.Numbers.{is_number_word}
-use Rattle.t1_frac.specs.Words.{words}
-use Rattle.t1_parts.specs.Entries.{has_brace}
-use Rattle.t1_text.specs.Tokens.{uncommented}
+use Rattle.std.specs.Str.Parse.{starts_with_minus}
+use Rattle.t1_frac.specs.Numbers.{digits_of_word, is_number_word}
+use Rattle.t1_text.specs.Names.{decimal_of, up_to}
+use Rattle.t1_code.specs.Words.{operator_named}
+use Rattle.t1_code.specs.declared.command.Command.{Command}
+use Rattle.t1_run.specs.Operands.{takes}
+use Rattle.t1_run.specs.Words.{draws}
 use Rattle.t1_notes.specs.declared.line.Line.{Line}
 use Rattle.t1_notes.specs.declared.note.Note.{Note}
-use Rattle.t1_notes.specs.declared.note.NoteKind.TheVariants.{ValuesLeft, OpenPath}
-use Rattle.t1_notes.specs.declared.words.Seen.{Seen}
-use Rattle.t1_notes.specs.NumberedLines.{note_on}
+use Rattle.t1_notes.specs.declared.note.NoteKind.{NoteKind}
+use Rattle.t1_notes.specs.declared.note.NoteKind.TheVariants.{ValuesLeft, WideCoordinate, NegativeWidth, OpenPath}
+use Rattle.t1_notes.specs.CommandWords.{clears, is_hsbw, wants_closed, ends_path, passes}
+use Rattle.t1_notes.specs.PlacedTokens.{PlacedToken, placed_tokens}
+use Rattle.t1_notes.specs.Told.{told}
 
--- Type 1 Font Format, Chapter 6: commands without a value
-abbrev pub takes_none : List ℕ → Bool
-takes_none w = bytes_eq w (codes "endchar") || bytes_eq w (codes "closepath") || bytes_eq w (codes "dotsection")
+-- profile, notes: the number words right before a place, the nearest first, by all tokens before it
+abbrev pub numbers_before : List PlacedToken → List (List ℕ)
+numbers_before before = map (λ t. t.token) (take_while (λ t. is_number_word t.token) before)
 
--- Type 1 Font Format, Chapter 6: commands of one value
-abbrev pub takes_one : List ℕ → Bool
-takes_one w =
-    bytes_eq w (codes "hlineto") || bytes_eq w (codes "vlineto") || bytes_eq w (codes "hmoveto") || bytes_eq w (codes "vmoveto")
+-- profile, notes: a brace, at which a body begins or ends
+abbrev pub is_brace_token : List ℕ → Bool
+is_brace_token t = bytes_eq t (codes "{") || bytes_eq t (codes "}")
 
--- Type 1 Font Format, Chapter 6: commands of two values
-abbrev pub takes_two : List ℕ → Bool
-takes_two w =
-    bytes_eq w (codes "rlineto") || bytes_eq w (codes "rmoveto") || bytes_eq w (codes "hsbw")
-    || bytes_eq w (codes "hstem") || bytes_eq w (codes "vstem") || bytes_eq w (codes "setcurrentpoint")
+-- profile, notes: whether what was drawn before a token doesn't count after it
+abbrev pub ends_path_at : List ℕ → Bool
+ends_path_at t = is_brace_token t || passes ends_path (operator_named t)
 
--- Type 1 Font Format, Chapter 6: commands of four values
-abbrev pub takes_four : List ℕ → Bool
-takes_four w = bytes_eq w (codes "hvcurveto") || bytes_eq w (codes "vhcurveto") || bytes_eq w (codes "sbw")
+-- profile, notes: whether a path is open at a place: of the tokens since the nearest that ends one, one draws
+abbrev pub is_open : List PlacedToken → Bool
+is_open before = list_any (λ t. passes draws (operator_named t.token)) (before_first (λ t. ends_path_at t.token) before)
 
--- Type 1 Font Format, Chapter 6: commands of six values
-abbrev pub takes_six : List ℕ → Bool
-takes_six w = bytes_eq w (codes "rrcurveto") || bytes_eq w (codes "hstem3") || bytes_eq w (codes "vstem3")
+-- profile, notes: whether the size of a number word is past a limit
+abbrev pub is_past : ℕ → List ℕ → Bool
+is_past limit word = is_none (up_to limit (decimal_of (digits_of_word word)))
 
--- Type 1 Font Format, Chapter 6: how many values a command takes that leaves none
-abbrev pub takes : List ℕ → Option ℕ
-takes w =
-    if takes_none w then Some 0
-    else if takes_one w then Some 1
-    else if takes_two w then Some 2
-    else if takes_four w then Some 4
-    else if bytes_eq w (codes "seac") then Some 5
-    else if takes_six w then Some 6
-    else None
+-- profile, notes: whether a number word is below 0
+abbrev pub is_below_zero : List ℕ → Bool
+is_below_zero word = starts_with_minus word && is_past 0 word
 
--- profile, notes: whether a count is higher than what is taken
-abbrev pub exceeds : ℕ → Option ℕ → Bool
-exceeds values None = false
-exceeds values (Some count) = nat_lt count values
+-- profile, notes: whether the nearest of some number words is below 0
+abbrev pub nearest_is_below_zero : List (List ℕ) → Bool
+nearest_is_below_zero [] = false
+nearest_is_below_zero (word ∷ words) = is_below_zero word
 
--- profile, notes: whether a command has more values in front of it than it takes
-abbrev pub is_over : ℕ → List ℕ → Bool
-is_over values w = exceeds values (takes w)
+-- profile, notes: a note, where there is reason for it
+abbrev pub note_where : Bool → Note → List Note
+note_where holds note = if holds then note ∷ [] else []
 
--- profile, notes: how many values are left after a word, as far as this is known from the words; 24 are enough
-abbrev pub values_after : ℕ → List ℕ → ℕ
-values_after values w =
-    if is_number_word w || bytes_eq w (codes "pop") then min (values + 1) 24
-    else if bytes_eq w (codes "div") then values - 1
-    else 0
+-- profile, notes: a note of a kind at a place
+abbrev pub note_at : ℕ → ℕ → NoteKind → Note
+note_at line column kind = record { kind = kind; line = line; column = column }
 
--- Type 1 Font Format, Chapter 6: commands that draw
-abbrev pub draws : List ℕ → Bool
-draws w =
-    bytes_eq w (codes "rlineto") || bytes_eq w (codes "hlineto") || bytes_eq w (codes "vlineto")
-    || bytes_eq w (codes "rrcurveto") || bytes_eq w (codes "hvcurveto") || bytes_eq w (codes "vhcurveto")
+-- profile, notes: the notes on a command, by the number words right before it and whether a path is open there
+abbrev pub command_notes : PlacedToken → List (List ℕ) → Bool → Option Command → List Note
+command_notes t numbers path None = []
+command_notes t numbers path (Some c) =
+    note_where (clears c && nat_lt (takes c) (length numbers)) (note_at t.line t.column ValuesLeft)
+    ++ (note_where (clears c && list_any (is_past 16000) numbers) (note_at t.line t.column WideCoordinate)
+    ++ (note_where (is_hsbw c && nearest_is_below_zero numbers) (note_at t.line t.column NegativeWidth)
+    ++ note_where (wants_closed c && path) (note_at t.line t.column OpenPath)))
 
--- Type 1 Font Format, Chapter 6: commands before which a path must be closed
-abbrev pub leaves : List ℕ → Bool
-leaves w =
-    bytes_eq w (codes "rmoveto") || bytes_eq w (codes "hmoveto") || bytes_eq w (codes "vmoveto") || bytes_eq w (codes "endchar")
+-- profile, notes: the notes on a token, by those before it, the nearest first
+abbrev pub token_notes : List PlacedToken → PlacedToken → List Note
+token_notes before t = command_notes t (numbers_before before) (is_open before) (operator_named t.token)
 
--- profile, notes: commands that close a path, or after which nothing is known of it
-abbrev pub breaks : List ℕ → Bool
-breaks w =
-    bytes_eq w (codes "closepath") || bytes_eq w (codes "callsubr") || bytes_eq w (codes "callothersubr") || bytes_eq w (codes "return")
-
--- profile, notes: whether a path is open after a word
-abbrev pub path_after : Bool → List ℕ → Bool
-path_after is_open w = if draws w then true else is_open && not (leaves w) && not (breaks w)
-
--- profile, notes: what is known after a word
-abbrev pub after_word : Seen → List ℕ → Seen
-after_word seen w =
-    record {
-      values = values_after seen.values w;
-      is_open = path_after seen.is_open w;
-      has_left = seen.has_left || is_over seen.values w;
-      has_open = seen.has_open || (seen.is_open && leaves w);
-    }
-
--- profile, notes: what is known at the beginning of a body
-abbrev pub nothing : Seen
-nothing = record { values = 0; is_open = false; has_left = false; has_open = false }
-
--- profile, notes: what is known, without what an earlier line has left
-abbrev pub unnoted : Seen → Seen
-unnoted seen = record { values = seen.values; is_open = seen.is_open; has_left = false; has_open = false }
-
--- profile, notes: what is known after a line; at a brace a body begins or ends
-abbrev pub after_line : Seen → List ℕ → Seen
-after_line seen l = if has_brace l then nothing else fold after_word (unnoted seen) (words (uncommented l))
-
--- profile, notes: the notes on what a line has left
-abbrev pub seen_notes : Line → Seen → List Note
-seen_notes l seen = (if seen.has_left then note_on ValuesLeft l ∷ [] else []) ++ (if seen.has_open then note_on OpenPath l ∷ [] else [])
-
--- profile, notes: the lines of bodies, after what is known
-abbrev pub body_notes : Seen → List Line → List Note
-body_notes seen [] = []
-body_notes seen (l ∷ ls) = seen_notes l (after_line seen l.text) ++ body_notes (after_line seen l.text) ls
+-- profile, notes: the notes on the tokens of some lines
+abbrev pub body_notes : List Line → List Note
+body_notes ls = told token_notes [] (placed_tokens ls)

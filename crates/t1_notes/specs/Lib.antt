@@ -1,6 +1,13 @@
 pub mod BodyWords
+pub mod CommandWords
+pub mod GlyphNames
 pub mod Heads
+pub mod Kept
 pub mod LineSections
+pub mod Merged
 pub mod Notes
 pub mod NoteTexts
 pub mod NumberedLines
+pub mod PairNotes
+pub mod PlacedTokens
+pub mod Told

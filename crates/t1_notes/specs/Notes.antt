@@ -1,13 +1,13 @@
 -- The notes on a text: what is no fault and is most likely a mistake.
-use Rattle.std.specs.Prelude.{ℕ, Bool, false, true, not, ◌+◌, ◌||◌, ◌&&◌, ◌==◌, nat_le, max, if◌then◌else◌, Option, Some, None, is_none, is_some, List, [], ◌∷◌, ◌++◌, drop, codes, filter_map, count_by}
-use Rattle.std.specs.List.{list_any, starts_with}
+use Rattle.std.specs.Prelude.{ℕ, Bool, false, not, ◌+◌, ◌||◌, ◌&&◌, ◌==◌, nat_le, max, if◌then◌else◌, Option, Some, None, is_none, is_some, List, [], ◌∷◌, ◌++◌, codes, filter_map, count_by}
+use Rattle.std.specs.List.{starts_with}
 use Rattle.std.specs.Str.{bytes_eq}
 use Rattle.t1_frac.specs.Numbers.{decimal_value}
 use Rattle.t1_text.specs.Lines.{lines}
-use Rattle.t1_text.specs.Names.{decimal_of, name_of_token, up_to}
-use Rattle.t1_text.specs.Tokens.{first_is, first_token, is_token, last_is, places_from, tokens}
+use Rattle.t1_text.specs.Names.{decimal_of, up_to}
+use Rattle.t1_text.specs.Tokens.{first_is, first_token, last_is, places_from, tokens}
 use Rattle.t1_parts.specs.Encoding.{slot_of_tokens}
-use Rattle.t1_parts.specs.Entries.{opens_glyph, opens_subr}
+use Rattle.t1_parts.specs.Entries.{opens_subr}
 use Rattle.t1_parts.specs.Sections.{count_between}
 use Rattle.t1_notes.specs.declared.line.Line.{Line}
 use Rattle.t1_notes.specs.declared.note.Note.{Note}
@@ -15,10 +15,13 @@ use Rattle.t1_notes.specs.declared.note.NoteKind.{NoteKind}
 use Rattle.t1_notes.specs.declared.note.NoteKind.TheVariants.{ByteOrderMark, FirstLine, EncodedName, Count, PlainEntry, NoNotdef, NoEntry, AfterEnd}
 use Rattle.t1_notes.specs.declared.sections.Section.{Section}
 use Rattle.t1_notes.specs.declared.sections.Section.TheVariants.{Subrs, Glyphs}
-use Rattle.t1_notes.specs.BodyWords.{body_notes, nothing}
+use Rattle.t1_notes.specs.BodyWords.{body_notes, note_where}
+use Rattle.t1_notes.specs.GlyphNames.{has_glyph}
 use Rattle.t1_notes.specs.Heads.{heads}
 use Rattle.t1_notes.specs.LineSections.{is_section, opens, section_count}
-use Rattle.t1_notes.specs.NumberedLines.{before, from, note_on, numbered}
+use Rattle.t1_notes.specs.Merged.{merged}
+use Rattle.t1_notes.specs.NumberedLines.{before, from, past, note_on, numbered}
+use Rattle.t1_notes.specs.Told.{told}
 
 -- profile, notes: a note of a kind on each line whose text passes a test
 abbrev pub noted : NoteKind → (List ℕ → Bool) → List Line → List Note
@@ -46,33 +49,20 @@ ends_array l = last_is (codes "def") (tokens l)
 
 -- profile, notes: the lines of the encoding array
 abbrev pub array_lines : List Line → List Line
-array_lines ls = before ends_array (drop 1 (from opens_array ls))
-
--- profile, notes: whether a token is the name of this glyph
-abbrev pub is_name_of : List ℕ → Option (List ℕ) → Bool
-is_name_of glyph None = false
-is_name_of glyph (Some t) = is_token glyph (name_of_token t)
-
--- profile, notes: whether a line opens the glyph of this name
-abbrev pub names : List ℕ → List ℕ → Bool
-names glyph l = is_name_of glyph (opens_glyph (tokens l))
-
--- profile, notes: whether one of the lines opens the glyph of this name
-abbrev pub has_glyph : List ℕ → List Line → Bool
-has_glyph glyph heads = list_any (λ l. names glyph l.text) heads
+array_lines ls = before ends_array (past opens_array ls)
 
 -- profile, notes: whether a slot's glyph is neither there nor `.notdef`
-abbrev pub is_lost_slot : List Line → Option (ℕ × List ℕ) → Bool
-is_lost_slot heads None = false
-is_lost_slot heads (Some slot) = not (bytes_eq slot.1 (codes ".notdef")) && not (has_glyph slot.1 heads)
+abbrev pub is_lost_slot : (List ℕ → Bool) → Option (ℕ × List ℕ) → Bool
+is_lost_slot is_there None = false
+is_lost_slot is_there (Some slot) = not (bytes_eq slot.1 (codes ".notdef")) && not (is_there slot.1)
 
 -- profile, notes: whether a line is such a slot
-abbrev pub is_lost : List Line → List ℕ → Bool
-is_lost heads l = is_lost_slot heads (slot_of_tokens (tokens l))
+abbrev pub is_lost : (List ℕ → Bool) → List ℕ → Bool
+is_lost is_there l = is_lost_slot is_there (slot_of_tokens (tokens l))
 
--- profile, notes: the slots of the encoding array that name none of the glyphs
-abbrev pub encoding_notes : List Line → List Line → List Note
-encoding_notes ls heads = noted EncodedName (is_lost heads) (array_lines ls)
+-- profile, notes: the slots of the encoding array whose glyphs aren't there
+abbrev pub encoding_notes : (List ℕ → Bool) → List Line → List Note
+encoding_notes is_there ls = noted EncodedName (is_lost is_there) (array_lines ls)
 
 -- profile, notes: a number plus one
 abbrev pub past_number : Option ℕ → ℕ
@@ -114,11 +104,10 @@ is_plain_entry l = not (opens Subrs l) && (first_is (codes "dup") (tokens l) || 
 abbrev pub plain_notes : List Line → List Note
 plain_notes heads = noted PlainEntry is_plain_entry heads
 
--- profile, notes: the section of the Subrs
+-- profile, notes: the lines from that of the Subrs on
 abbrev pub subrs_from : List Line → List Note
 subrs_from [] = []
-subrs_from (section ∷ later) =
-    count_notes Subrs section (subrs_need (heads Subrs false later)) ++ (plain_notes (heads Subrs false later) ++ body_notes nothing later)
+subrs_from (section ∷ later) = count_notes Subrs section (subrs_need (heads Subrs later)) ++ plain_notes (heads Subrs later)
 
 -- profile, notes: the section of the Subrs, where the lines before the glyphs have one
 abbrev pub subr_notes : List Line → List Note
@@ -128,51 +117,75 @@ subr_notes ls = subrs_from (from (is_section Subrs) ls)
 abbrev pub is_end : List ℕ → Bool
 is_end l = first_is (codes "end") (tokens l)
 
+-- profile, notes: the lines outside glyphs, from that of the section of the glyphs to the one that ends the glyphs
+abbrev pub glyph_heads : List Line → List Line
+glyph_heads ls = before is_end (heads Glyphs (past (is_section Glyphs) ls))
+
 -- profile, notes: whether a line has nothing but blanks and a comment
 abbrev pub is_bare : List ℕ → Bool
 is_bare l = is_none (first_token (tokens l))
 
 -- Type 1 Font Format, Chapter 2: each font has a glyph `.notdef`
-abbrev pub notdef_notes : Line → List Line → List Note
-notdef_notes section heads = if has_glyph (codes ".notdef") heads then [] else note_on NoNotdef section ∷ []
+abbrev pub notdef_notes : (List ℕ → Bool) → Line → List Note
+notdef_notes is_there section = note_where (not (is_there (codes ".notdef"))) (note_on NoNotdef section)
+
+-- profile, notes: whether a line belongs to no glyph, and isn't bare
+abbrev pub is_stray : List ℕ → Bool
+is_stray l = not (opens Glyphs l || is_bare l)
+
+-- profile, notes: whether the nearest of some lines that isn't bare, of which the last comes first, belongs to no glyph
+abbrev pub follows_stray : List Line → Bool
+follows_stray [] = false
+follows_stray (l ∷ before) = if is_bare l.text then follows_stray before else is_stray l.text
+
+-- profile, notes: the note on a line that belongs to no glyph, unless it follows another
+abbrev pub stray_note : Bool → Line → List Note
+stray_note follows l = note_where (is_stray l.text && not follows) (note_on NoEntry l)
 
 -- profile, notes: the lines that belong to no glyph: the first of those that follow one another
-abbrev pub stray_notes : Bool → List Line → List Note
-stray_notes goes_on [] = []
-stray_notes goes_on (l ∷ ls) =
-    if opens Glyphs l.text then stray_notes false ls
-    else if not goes_on && not (is_bare l.text) then note_on NoEntry l ∷ stray_notes true ls
-    else stray_notes goes_on ls
+abbrev pub stray_notes : List Line → List Note
+stray_notes heads = told (λ before l. stray_note (follows_stray before) l) [] heads
+
+-- word, notes: whether a stray line is the nearest one after a line
+abbrev pub stray_after : Bool → List ℕ → Bool
+stray_after follows l = if is_bare l then follows else is_stray l
+
+-- word, notes: the same notes, by whether the nearest line before is stray
+abbrev pub strays_by_line : Bool → List Line → List Note
+strays_by_line follows [] = []
+strays_by_line follows (l ∷ ls) = stray_note follows l ++ strays_by_line (stray_after follows l.text) ls
 
 -- profile, notes: the glyphs after the line that ends the glyphs
 abbrev pub late_notes : List Line → List Note
 late_notes heads = noted AfterEnd (opens Glyphs) heads
 
--- profile, notes: the section of the glyphs, by its lines to the one that ends the glyphs, and
--- those from there on
-abbrev pub glyph_notes : Line → List Line → List Line → List Note
-glyph_notes section heads late =
-    count_notes Glyphs section (glyphs_need heads) ++ (notdef_notes section heads ++ (stray_notes false heads ++ late_notes late))
+-- profile, notes: the section of the glyphs, by its lines to the one that ends the glyphs, and those from there on
+abbrev pub glyph_notes : (List ℕ → Bool) → Line → List Line → List Line → List Note
+glyph_notes is_there section heads late =
+    notdef_notes is_there section ++ (count_notes Glyphs section (glyphs_need heads) ++ (stray_notes heads ++ late_notes late))
 
--- profile, notes: the lines before the glyphs, the line of their section, its lines to the one that
--- ends the glyphs, and those from there on
-abbrev pub ended_notes : List Line → Line → List Line → List Line → List Note
-ended_notes front section heads late = encoding_notes front heads ++ (subr_notes front ++ glyph_notes section heads late)
+-- profile, notes: the lines before the glyphs and the section of the glyphs, by which glyphs are there
+abbrev pub glyph_parts_notes : (List ℕ → Bool) → List Line → Line → List Line → List Line → List Note
+glyph_parts_notes is_there front section heads late = merged (encoding_notes is_there front) (subr_notes front) ++ glyph_notes is_there section heads late
 
--- profile, notes: the lines before the glyphs, the line of their section, and its lines
+-- profile, notes: the same, by the lines of the section that stand inside no glyph
 abbrev pub section_notes : List Line → Line → List Line → List Note
-section_notes front section heads = ended_notes front section (before is_end heads) (from is_end heads)
+section_notes front section heads =
+    glyph_parts_notes (has_glyph (before is_end heads)) front section (before is_end heads) (from is_end heads)
 
--- profile, notes: the lines before the glyphs, and those from the line of their section on, without
--- which a text has no sections
+-- profile, notes: the lines before the glyphs, and those from the line of their section on, without which nothing is noted
 abbrev pub parted_notes : List Line → List Line → List Note
 parted_notes front [] = []
-parted_notes front (section ∷ later) = section_notes front section (heads Glyphs false later) ++ body_notes nothing later
+parted_notes front (section ∷ later) = section_notes front section (heads Glyphs later)
 
--- profile, notes: the lines of a text
+-- profile, notes: the notes on lines
 abbrev pub line_notes : List Line → List Note
 line_notes ls = parted_notes (before (is_section Glyphs) ls) (from (is_section Glyphs) ls)
 
--- profile, notes: the notes on a text, in the order of its parts; those on bodies come last in each section
+-- profile, notes: the notes on the bodies of both sections
+abbrev pub word_notes : List Line → List Note
+word_notes ls = body_notes (past (is_section Subrs) (before (is_section Glyphs) ls)) ++ body_notes (past (is_section Glyphs) ls)
+
+-- profile, notes: the notes on a text, in the order of their places
 unfoldable pub notes_of : List ℕ → List Note
-notes_of text = opening_notes text ++ line_notes (numbered 1 (lines text))
+notes_of text = merged (opening_notes text ++ line_notes (numbered 1 (lines text))) (word_notes (numbered 1 (lines text)))

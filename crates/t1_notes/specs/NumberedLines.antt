@@ -19,6 +19,10 @@ before test ls = before_first (λ l. test l.text) ls
 abbrev pub from : (List ℕ → Bool) → List Line → List Line
 from test ls = drop (position_or_len (λ l. test l.text) ls) ls
 
+-- profile, notes: the lines after the first whose text passes a test
+abbrev pub past : (List ℕ → Bool) → List Line → List Line
+past test ls = drop 1 (from test ls)
+
 -- profile, notes: a note on the first byte of a line that isn't blank
 abbrev pub note_on : NoteKind → Line → Note
 note_on kind l = record { kind = kind; line = l.number; column = prefix_len is_blank l.text + 1 }

@@ -11,7 +11,7 @@ use t1_parts::opens_subr;
 use t1_text::{count_of, decimal_up_to};
 
 /// The number of the Subr that a line opens plus one; 0 where it opens none.
-fn subr_need(line: &[u8]) -> u64
+pub fn subr_need(line: &[u8]) -> u64
     ensures { result ≡ subr_need line.now }
 {
     let Some(token) = opens_subr(line) else {

@@ -2,14 +2,17 @@
 
 ghost use Rattle.std.specs.Prelude.{◌≡◌, ◌++◌, ◌≤◌, length, OnOk};
 ghost use Rattle.std.specs.List.{position_or_len};
-ghost use Rattle.t1_notes.specs.Notes.{opens_array, ends_array, array_lines, names, has_glyph};
-ghost use Rattle.t1_notes.specs.Notes.{is_lost, encoding_notes};
+ghost use Rattle.t1_notes.specs.Notes.{opens_array, ends_array, array_lines, is_lost};
+ghost use Rattle.t1_notes.specs.Notes.{encoding_notes};
+ghost use Rattle.t1_notes.specs.GlyphNames.{has_name};
 
 use crate::line::{Line, past};
+use crate::names::is_among;
 use crate::note::{Note, NoteKind};
+use indexmap::IndexSet;
 use std::alloc::AllocError;
-use t1_parts::{count_between, opens_glyph, slot_of};
-use t1_text::{last_is, name_of_token, same};
+use t1_parts::{count_between, slot_of};
+use t1_text::{last_is, same};
 
 /// Whether a line opens an encoding array.
 fn opens_array(line: &[u8]) -> bool
@@ -55,47 +58,28 @@ fn array_lines<'l, 'a>(lines: &'l [Line<'a>]) -> &'l [Line<'a>]
     later.split_at(end_place(later)).0
 }
 
-/// Whether a line opens the glyph of this name.
-fn names(glyph: &[u8], line: &[u8]) -> bool
-    ensures { result ≡ names glyph.now line.now }
-{
-    let Some(token) = opens_glyph(line) else {
-        return false;
-    };
-    match name_of_token(token) {
-        Some(name) => same(glyph, name),
-        None => false,
-    }
-}
-
-/// Whether one of the lines opens the glyph of this name.
-pub fn has_glyph(glyph: &[u8], heads: &[Line]) -> bool
-    ensures { result ≡ has_glyph glyph.now heads.now }
-{
-    heads.iter().any(|line| names(glyph, line.bytes()))
-}
-
-/// Whether a line is a slot whose glyph is neither there nor `.notdef`.
-fn is_lost(heads: &[Line], line: &[u8]) -> bool
-    ensures { result ≡ is_lost heads.now line.now }
+/// Whether a line is a slot whose glyph is neither among these names nor `.notdef`.
+fn is_lost(names: &IndexSet<&[u8]>, line: &[u8]) -> bool
+    ensures { result ≡ is_lost (has_name names.now.keys) line.now }
 {
     match slot_of(line) {
-        Some((_, glyph)) => !same(glyph, b".notdef") && !has_glyph(glyph, heads),
+        Some((_, glyph)) => !same(glyph, b".notdef") && !is_among(names, glyph),
         None => false,
     }
 }
 
-/// Adds the notes on the slots of the encoding array that name none of the glyphs.
+/// Adds the notes on the slots of the encoding array whose glyphs aren't among these names.
 pub fn push_encoding(
     notes: &mut Vec<Note>,
     lines: &[Line],
-    heads: &[Line],
+    names: &IndexSet<&[u8]>,
 ) -> Result<(), AllocError>
-    ensures { OnOk result (notes.new.items ≡ notes.old.items ++ encoding_notes lines.now heads.now) }
+    ensures { OnOk result (notes.new.items ≡ notes.old.items ++ encoding_notes (has_name
+        names.now.keys) lines.now) }
 {
     let array = array_lines(lines);
     for line in array {
-        if is_lost(heads, line.bytes()) {
+        if is_lost(names, line.bytes()) {
             notes.push(line.note(NoteKind::EncodedName))?;
         }
     }

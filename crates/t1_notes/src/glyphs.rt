@@ -1,15 +1,18 @@
 //! The section of the glyphs.
 
-ghost use Rattle.std.specs.Prelude.{◌≡◌, ◌++◌, ◌≤◌, false, length, OnOk};
+ghost use Rattle.std.specs.Prelude.{◌≡◌, ◌++◌, ◌≤◌, length, OnOk};
 ghost use Rattle.std.specs.List.{position_or_len};
-ghost use Rattle.t1_notes.specs.Notes.{is_end, is_bare, stray_notes, late_notes, notdef_notes};
-ghost use Rattle.t1_notes.specs.Notes.{glyph_notes};
+ghost use Rattle.t1_notes.specs.GlyphNames.{has_name};
+ghost use Rattle.t1_notes.specs.Notes.{is_end, is_bare, is_stray, stray_after, stray_note};
+ghost use Rattle.t1_notes.specs.Notes.{stray_notes, late_notes, notdef_notes, glyph_notes};
 
+use crate::bodies::push_where;
 use crate::counts::{glyphs_need, push_count};
-use crate::encoding::has_glyph;
 use crate::line::Line;
+use crate::names::is_among;
 use crate::note::{Note, NoteKind};
 use crate::sections::{Section, opens};
+use indexmap::IndexSet;
 use std::alloc::AllocError;
 use t1_text::{first_is, next_token};
 
@@ -38,29 +41,53 @@ fn is_bare(line: &[u8]) -> bool
     next_token(line).is_none()
 }
 
-/// Adds the note that no glyph is called `.notdef`.
-fn push_notdef(notes: &mut Vec<Note>, section: &Line, heads: &[Line]) -> Result<(), AllocError>
-    ensures { OnOk result (notes.new.items ≡ notes.old.items ++ notdef_notes section.now heads.now) }
+/// Adds the note that `.notdef` isn't among the names.
+fn push_notdef(
+    notes: &mut Vec<Note>,
+    section: &Line,
+    names: &IndexSet<&[u8]>,
+) -> Result<(), AllocError>
+    ensures { OnOk result (notes.new.items ≡ notes.old.items ++ notdef_notes (has_name
+        names.now.keys) section.now) }
 {
-    if has_glyph(b".notdef", heads) {
-        return Ok(());
+    let note = section.note(NoteKind::NoNotdef);
+    push_where(notes, !is_among(names, b".notdef"), note)
+}
+
+/// Whether a line belongs to no glyph, and isn't bare.
+fn is_stray(line: &[u8]) -> bool
+    ensures { result ≡ is_stray line.now }
+{
+    !(opens(Section::Glyphs, line) || is_bare(line))
+}
+
+/// Whether the nearest line that isn't bare is stray after this one.
+fn stray_after(follows: bool, line: &[u8]) -> bool
+    ensures { result ≡ stray_after follows line.now }
+{
+    if is_bare(line) {
+        follows
+    } else {
+        is_stray(line)
     }
-    notes.push(section.note(NoteKind::NoNotdef))?;
-    Ok(())
+}
+
+/// Adds the note on a line that belongs to no glyph, unless it follows another.
+fn push_stray(notes: &mut Vec<Note>, follows: bool, line: &Line) -> Result<(), AllocError>
+    ensures { OnOk result (notes.new.items ≡ notes.old.items ++ stray_note follows line.now) }
+{
+    let note = line.note(NoteKind::NoEntry);
+    push_where(notes, is_stray(line.bytes()) && !follows, note)
 }
 
 /// Adds the notes on lines that belong to no glyph: on the first of those that follow one another.
 fn push_strays(notes: &mut Vec<Note>, heads: &[Line]) -> Result<(), AllocError>
-    ensures { OnOk result (notes.new.items ≡ notes.old.items ++ stray_notes false heads.now) }
+    ensures { OnOk result (notes.new.items ≡ notes.old.items ++ stray_notes heads.now) }
 {
-    let mut goes_on = false;
+    let mut follows = false;
     for line in heads {
-        if opens(Section::Glyphs, line.bytes()) {
-            goes_on = false;
-        } else if !goes_on && !is_bare(line.bytes()) {
-            notes.push(line.note(NoteKind::NoEntry))?;
-            goes_on = true;
-        }
+        push_stray(notes, follows, line)?;
+        follows = stray_after(follows, line.bytes());
     }
     Ok(())
 }
@@ -77,19 +104,22 @@ fn push_late(notes: &mut Vec<Note>, heads: &[Line]) -> Result<(), AllocError>
     Ok(())
 }
 
-/// Adds the notes on the section of the glyphs, by its line, its lines to the one that ends the
-/// glyphs, and those from there on.
+/// Adds the notes on the section of the glyphs of these names, by its line, its lines to the one
+/// that
+/// ends the glyphs, and those from there on.
 pub fn push_glyphs(
     notes: &mut Vec<Note>,
+    names: &IndexSet<&[u8]>,
     section: &Line,
     heads: &[Line],
     late: &[Line],
 ) -> Result<(), AllocError>
-    ensures { OnOk result (notes.new.items ≡ notes.old.items ++ glyph_notes section.now heads.now
-        late.now) }
+    ensures { OnOk result (notes.new.items ≡ notes.old.items ++ glyph_notes (has_name
+        names.now.keys)
+        section.now heads.now late.now) }
 {
+    push_notdef(notes, section, names)?;
     push_count(notes, Section::Glyphs, section, glyphs_need(heads))?;
-    push_notdef(notes, section, heads)?;
     push_strays(notes, heads)?;
     push_late(notes, late)
 }

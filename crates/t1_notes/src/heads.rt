@@ -1,19 +1,21 @@
 //! The lines of a section that don't stand inside an entry.
 
-ghost use Rattle.std.specs.Prelude.{◌≡◌, ◌==◌, ◌≤◌, false, length, IfOk};
-ghost use Rattle.std.specs.List.{position_or_len};
+ghost use Rattle.std.specs.Prelude.{◌≡◌, ◌++◌, ◌==◌, ◌≤◌, drop, length, IfOk, OnOk};
+ghost use Rattle.std.specs.List.{position_or_len, prefix_len};
 ghost use Rattle.t1_frac.specs.Ascii.{open_brace};
-ghost use Rattle.t1_notes.specs.Heads.{from_delimiter, after_brace, has_open, has_close, goes_on};
+ghost use Rattle.t1_text.specs.Delimiters.{is_safe};
+ghost use Rattle.t1_notes.specs.Heads.{after_brace, has_open, goes_on, head_of, entry_open_after};
 ghost use Rattle.t1_notes.specs.Heads.{heads};
 
 use crate::line::Line;
 use crate::sections::{Section, opens};
 use std::alloc::{AllocError, Global};
+use t1_parts::has_brace;
 use t1_text::first_delimiter;
 
 /// The bytes of a line from its first brace or comment on.
 fn from_delimiter(line: &[u8]) -> &[u8]
-    ensures { result.now ≡ from_delimiter line.now }
+    ensures { result.now ≡ drop (prefix_len is_safe line.now) line.now }
 {
     line.split_at(first_delimiter(line)).1
 }
@@ -23,13 +25,6 @@ fn has_open(line: &[u8]) -> bool
     ensures { result ≡ has_open line.now }
 {
     matches!(from_delimiter(line), [b'{', ..])
-}
-
-/// Whether the first brace of a line outside its comment is `}`.
-fn has_close(line: &[u8]) -> bool
-    ensures { result ≡ has_close line.now }
-{
-    matches!(from_delimiter(line), [b'}', ..])
 }
 
 /// How many bytes stand before the first `{` of a line.
@@ -50,31 +45,53 @@ fn after_brace(line: &[u8]) -> &[u8]
     }
 }
 
-/// Whether a line opens an entry of the section that goes on after it.
+/// Whether a line opens an entry of the section, and has no brace behind the `{`.
 fn goes_on(section: Section, line: &[u8]) -> bool
     ensures { result ≡ goes_on section line.now }
 {
-    let after = after_brace(line);
-    opens(section, line) && !has_open(after) && !has_close(after)
+    opens(section, line) && !has_brace(after_brace(line))
+}
+
+/// Whether an entry is open after a line.
+fn entry_open_after(section: Section, in_entry: bool, line: &[u8]) -> bool
+    ensures { result ≡ entry_open_after section in_entry line.now }
+{
+    if has_brace(line) {
+        goes_on(section, line)
+    } else {
+        in_entry
+    }
+}
+
+/// Adds a line, unless it stands inside an entry that is open.
+fn push_head<'a>(
+    alloc: Global,
+    found: &mut Vec<Line<'a>>,
+    in_entry: bool,
+    line: &Line<'a>,
+) -> Result<(), AllocError>
+    ensures { OnOk result (found.new.items ≡ found.old.items ++ head_of in_entry line.now) }
+{
+    if in_entry && !has_open(line.bytes()) {
+        return Ok(());
+    }
+    found.push(line.copied(alloc)?)?;
+    Ok(())
 }
 
 /// The lines of a section without those inside its entries.
-pub fn heads<'a>(
+pub fn section_heads<'a>(
     alloc: Global,
     section: Section,
     lines: &[Line<'a>],
 ) -> Result<Vec<Line<'a>>, AllocError>
-    ensures { IfOk result (λ found. found.items ≡ heads section false lines.now) }
+    ensures { IfOk result (λ found. found.items ≡ heads section lines.now) }
 {
     let mut found = Vec::new(alloc);
-    let mut is_open = false;
+    let mut in_entry = false;
     for line in lines {
-        if is_open && !has_open(line.bytes()) {
-            is_open = !has_close(line.bytes());
-        } else {
-            is_open = goes_on(section, line.bytes());
-            found.push(line.copied(alloc)?)?;
-        }
+        push_head(alloc, &mut found, in_entry, line)?;
+        in_entry = entry_open_after(section, in_entry, line.bytes());
     }
     Ok(found)
 }

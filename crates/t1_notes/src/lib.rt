@@ -1,26 +1,41 @@
 //! Notes on a readable source: what is no fault and is most likely a mistake, each at its line and
 //! column.
 //!
-//! [`notes_of`] finds them line by line, also in a text that can't be read, since a brace that is
-//! lost is often what made its fault. [`notes_text`] has a line for each [`Note`].
+//! [`notes_of`] finds them by lines and tokens, also in a text that can't be read, since a brace
+//! that
+//! is lost is often what made its fault; [`pair_notes`] finds those on the kerning file of a
+//! source.
+//! [`notes_text`] has a line for each [`Note`].
 //!
-//! All of it is for the program.
+//! These three and the notes are for the program. Lines, sections and lists of notes as one are
+//! for the
+//! crate above, whose notes stand on runs of the glyphs.
 #![tactic(auto)]
 
 mod bodies;
+mod commands;
 mod counts;
 mod encoding;
 mod glyphs;
 mod heads;
+mod kept;
 mod line;
+mod merging;
+mod names;
 mod note;
 mod notes;
 mod opening;
+mod pairs;
 mod printing;
 mod sections;
 mod subrs;
-mod words;
 
+pub use counts::subr_need;
+pub use heads::section_heads;
+pub use line::{Line, numbered_lines, past};
+pub use merging::push_merged;
 pub use note::{Note, NoteKind};
 pub use notes::notes_of;
+pub use pairs::pair_notes;
 pub use printing::notes_text;
+pub use sections::{Section, section_place};

@@ -21,8 +21,18 @@ pub enum NoteKind {
     AfterEnd,
     /// A command has more values in front of it than it takes.
     ValuesLeft,
+    /// A command has a value past ±16,000.
+    WideCoordinate,
+    /// A glyph's width is below 0.
+    NegativeWidth,
     /// A path isn't closed before a move or the end of a glyph.
     OpenPath,
+    /// A pair of a kerning file names no glyph.
+    NoSuchGlyph,
+    /// A Subr that no glyph's run enters.
+    UnusedSubr,
+    /// `/FontBBox` isn't the box around the glyphs.
+    FontBox,
 }
 
 /// A note on a text: the number of its line and its byte in that line, both counted from 1.

@@ -21,7 +21,12 @@ fn kind_name(kind: NoteKind) -> &'static [u8]
         NoteKind::NoEntry => b"no-entry",
         NoteKind::AfterEnd => b"after-end",
         NoteKind::ValuesLeft => b"values-left",
+        NoteKind::WideCoordinate => b"wide-coordinate",
+        NoteKind::NegativeWidth => b"negative-width",
         NoteKind::OpenPath => b"open-path",
+        NoteKind::NoSuchGlyph => b"no-such-glyph",
+        NoteKind::UnusedSubr => b"unused-subr",
+        NoteKind::FontBox => b"font-box",
     }
 }
 
@@ -40,7 +45,13 @@ fn kind_text(kind: NoteKind) -> &'static [u8]
             b"a line that belongs to no glyph; a glyph begins with /NAME { on one line",
         NoteKind::AfterEnd => b"a glyph after the end of the glyphs, where no program looks for it",
         NoteKind::ValuesLeft => b"a command has more values in front of it than it takes",
+        NoteKind::WideCoordinate =>
+            b"a command has a value past 16000, which old interpreters may not take",
+        NoteKind::NegativeWidth => b"the width is below 0",
         NoteKind::OpenPath => b"a path isn't closed before a move or the end of the glyph",
+        NoteKind::NoSuchGlyph => b"a pair names a glyph that isn't there",
+        NoteKind::UnusedSubr => b"no glyph's run enters the Subr",
+        NoteKind::FontBox => b"FontBBox isn't the box around the glyphs",
     }
 }
 

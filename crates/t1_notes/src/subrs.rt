@@ -3,9 +3,8 @@
 ghost use Rattle.std.specs.Prelude.{◌≡◌, ◌++◌, OnOk};
 ghost use Rattle.t1_notes.specs.Notes.{is_plain_entry, plain_notes, subr_notes};
 
-use crate::bodies::push_bodies;
 use crate::counts::{push_count, subrs_need};
-use crate::heads::heads;
+use crate::heads::section_heads;
 use crate::line::Line;
 use crate::note::{Note, NoteKind};
 use crate::sections::{Section, opens, section_place};
@@ -39,8 +38,7 @@ pub fn push_subrs(alloc: Global, notes: &mut Vec<Note>, lines: &[Line]) -> Resul
     let Some((section, later)) = from.split_first() else {
         return Ok(());
     };
-    let heads = heads(alloc, Section::Subrs, later)?;
+    let heads = section_heads(alloc, Section::Subrs, later)?;
     push_count(notes, Section::Subrs, section, subrs_need(&heads))?;
-    push_plain(notes, &heads)?;
-    push_bodies(notes, later)
+    push_plain(notes, &heads)
 }

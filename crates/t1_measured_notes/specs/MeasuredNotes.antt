@@ -1,0 +1,80 @@
+-- The notes that stand on runs of the glyphs.
+use Rattle.std.specs.Prelude.{ℕ, Bool, false, not, ◌-◌, ◌&&◌, nat_eq, nat_lt, List, [], ◌∷◌, codes, Result, Ok, Err}
+use Rattle.std.specs.List.{list_all, list_any}
+use Rattle.std.specs.Str.{bytes_eq}
+use Rattle.t1_frac.specs.Numbers.{is_number_word}
+use Rattle.t1_frac.specs.Outcome.{◌>>=◌}
+use Rattle.t1_frac.specs.declared.fault.Fault.{Fault}
+use Rattle.t1_text.specs.Lines.{lines}
+use Rattle.t1_text.specs.Tokens.{tokens}
+use Rattle.t1_parts.specs.Reading.{reads}
+use Rattle.t1_afm.specs.Afm.{sides}
+use Rattle.t1_afm.specs.declared.bbox.BBox.{BBox}
+use Rattle.t1_font.specs.declared.glyph_metrics.GlyphMetrics.{GlyphMetrics}
+use Rattle.t1_font.specs.MeasuredGlyphs.{MeasuredFont}
+use Rattle.t1_font.specs.SourceChecks.{measured_source}
+use Rattle.t1_notes.specs.declared.line.Line.{Line}
+use Rattle.t1_notes.specs.declared.note.Note.{Note}
+use Rattle.t1_notes.specs.declared.note.NoteKind.TheVariants.{UnusedSubr, FontBox}
+use Rattle.t1_notes.specs.declared.sections.Section.TheVariants.{Subrs, Glyphs}
+use Rattle.t1_notes.specs.Heads.{heads}
+use Rattle.t1_notes.specs.LineSections.{is_section}
+use Rattle.t1_notes.specs.Merged.{merged}
+use Rattle.t1_notes.specs.Notes.{noted, notes_of, subr_need}
+use Rattle.t1_notes.specs.NumberedLines.{before, past, numbered}
+
+-- profile, notes: whether words are these
+abbrev pub same_words : List (List ℕ) → List (List ℕ) → Bool
+same_words (a ∷ b ∷ c ∷ d ∷ []) (e ∷ f ∷ g ∷ h ∷ []) = bytes_eq a e && bytes_eq b f && bytes_eq c g && bytes_eq d h
+same_words _ _ = false
+
+-- Type 1 Font Format, Chapter 5 (FontBBox): the box of a font that doesn't tell its box
+abbrev pub no_box : List (List ℕ)
+no_box = codes "0" ∷ codes "0" ∷ codes "0" ∷ codes "0" ∷ []
+
+-- profile, notes: whether four words are a box of whole numbers, and another one than that of the glyphs
+abbrev pub is_other_box : BBox → List (List ℕ) → Bool
+is_other_box box ws = list_all is_number_word ws && not (same_words ws no_box) && not (same_words ws (sides box))
+
+-- Type 1 Font Format, Chapter 5 (FontBBox): whether a line with the tokens `/FontBBox`, a bracket and four numbers tells
+-- another box than that of the glyphs
+abbrev pub tells_other_box : BBox → List (List ℕ) → Bool
+tells_other_box box (key ∷ bracket ∷ a ∷ b ∷ c ∷ d ∷ more) = bytes_eq key (codes "/FontBBox") && is_other_box box (a ∷ b ∷ c ∷ d ∷ [])
+tells_other_box box _ = false
+
+-- profile, notes: such lines before the glyphs
+abbrev pub box_notes : BBox → List Line → List Note
+box_notes box ls = noted FontBox (λ l. tells_other_box box (tokens l)) ls
+
+-- profile, notes: whether a glyph's own run entered the Subr of this number
+abbrev pub is_entered : List GlyphMetrics → ℕ → Bool
+is_entered glyphs n = list_any (λ g. list_any (nat_eq n) g.entered) glyphs
+
+-- profile, notes: whether a line opens a Subr that none entered; Subrs 0 to 4 are there for flex and hint replacement
+abbrev pub is_unused : (ℕ → Bool) → List ℕ → Bool
+is_unused entered l = nat_lt 5 (subr_need l) && not (entered (subr_need l - 1))
+
+-- profile, notes: such lines among those of the section of the Subrs
+abbrev pub unused_notes : (ℕ → Bool) → List Line → List Note
+unused_notes entered ls = noted UnusedSubr (is_unused entered) (heads Subrs (past (is_section Subrs) ls))
+
+-- profile, notes: the notes on the lines before the glyphs, by what is measured
+abbrev pub font_notes : BBox → (ℕ → Bool) → List Line → List Note
+font_notes box entered ls = merged (box_notes box ls) (unused_notes entered ls)
+
+-- profile, notes: the notes on the lines of a font, where it has no fault
+abbrev pub sound_notes : List Line → Result MeasuredFont Fault → List Note
+sound_notes ls (Ok font) = font_notes font.font_box (is_entered font.metrics) (before (is_section Glyphs) ls)
+sound_notes ls (Err fault) = []
+
+-- profile, notes: the notes on a text that stand on runs of its glyphs
+unfoldable pub measured_notes : List ℕ → List Note
+measured_notes text = sound_notes (numbered 1 (lines text)) (reads text >>= λ source. measured_source source)
+
+-- profile, notes: all notes on a text, in the order of their places
+unfoldable pub all_notes : List ℕ → List Note
+all_notes text = merged (notes_of text) (measured_notes text)
+
+-- word, notes: whether a number is among some
+abbrev pub has_number : List ℕ → ℕ → Bool
+has_number numbers n = list_any (nat_eq n) numbers

@@ -1,0 +1,15 @@
+//! Notes that stand on runs of a font's glyphs: a Subr that no run enters, and a box that isn't
+//! that of the
+//! glyphs.
+//!
+//! [`measured_notes`] finds them in a source without a fault; [`all_notes`] has those of
+//! `t1_notes` too. Both
+//! are for the program.
+#![tactic(auto)]
+
+mod boxes;
+mod entered;
+mod measured;
+mod subrs;
+
+pub use measured::{all_notes, measured_notes};
