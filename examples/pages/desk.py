@@ -32,7 +32,7 @@ class Desk:
 
     A call that edits gives the news for pages: the 'changed' cells, those of composites too, and the names of 'removed'
     glyphs; the 'texts' of bodies that have changed otherwise than by typing; the pairs, where one has. What is 'refused' has
-    its code and place, what it means, and where in the body the word stands at which it comes up. It has changed nothing.
+    its code and place, what it means, and where in the body the word stands that has the fault. It has changed nothing.
     """
 
     def __init__(self, source: str, kern: Optional[str] = None) -> None:
@@ -70,7 +70,7 @@ class Desk:
             try:
                 self._font.glyphs[name].body = text
             except Refused as refused:
-                return refusal(refused, guilty_word(self._font, name, text, refused))
+                return refusal(refused, guilty_word(name, text, refused))
             self._texts[name] = text
             self._steps.append(Step([(("replace", "glyph", name), body)], {name: typed}))
             self._read_again({name})

@@ -2,32 +2,68 @@
 
 from __future__ import annotations
 
-from typing import Optional
+from typing import Any, Callable, NamedTuple, Optional, Tuple
 
 
 class Error(Exception):
     """All that this package raises of its own."""
 
 
+class Detail(NamedTuple):
+    """Where in a body a fault is: the word, its number in its body from 1, and the way of the run that met it."""
+
+    word: Optional[str] = None
+    number: Optional[int] = None
+    chain: Tuple[str, ...] = ()
+
+
 class Refused(Error):
     """A font, a file or a command that is refused. A command that is refused has changed nothing.
 
-    said   the code and the place as the program says them: 'F38 glyph Aacute', 'E4'
-    code   'F38', 'E4', or 'memory'; explain(code) tells more. '' where this package has refused, see NotSent.
-    place  'glyph Aacute', 'subr 7', 'line 5' (from 1), or '' where there is none
-    text   what the code means: 'division by zero'
-    word   the word that is wrong, where it is known, else None
+    said    the code and the place as the program says them: 'F38 glyph Aacute', 'E4'
+    code    'F38', 'E4', or 'memory'; explain(code) tells more. '' where this package has refused, see NotSent.
+    place   'glyph Aacute', 'subr 7', 'line 5' (from 1), or '' where there is none
+    text    what the code means: 'division by zero'
+    word    the word that is wrong, where it is known, else None
+    number  which word of its body that is, from 1, where a body has a fault, else None
+    chain   where a glyph's run failed, the glyph and the Subrs that it had entered: ('glyph A', 'subr 4'), else ()
+
+    Of a fault, word, number and chain are asked of the session when one of them is first read. They are unknown where the session
+    has ended, or has taken or refused another edit since.
     """
+
+    _ask: Optional[Callable[[], Detail]] = None
+    _detail = Detail()
 
     def __init__(self, said: str, text: str = "", word: Optional[str] = None) -> None:
         super().__init__(said, text, word)
         self.said = said
         self.code, _, self.place = said.partition(" ")
         self.text = text
-        self.word = word
+        self._word = word
 
     def __str__(self) -> str:
-        return ": ".join(part for part in (self.said, self.text, self.word) if part)
+        return ": ".join(part for part in (self.said, self.text, self._word) if part)
+
+    def __reduce__(self) -> Tuple[Any, ...]:
+        return (type(self), self.args, {name: it for name, it in vars(self).items() if name != "_ask"})
+
+    @property
+    def word(self) -> Optional[str]:
+        return self._asked().word if self._word is None else self._word
+
+    @property
+    def number(self) -> Optional[int]:
+        return self._asked().number
+
+    @property
+    def chain(self) -> Tuple[str, ...]:
+        return self._asked().chain
+
+    def _asked(self) -> Detail:
+        if self._ask is not None:
+            self._detail, self._ask = self._ask(), None
+        return self._detail
 
 
 class Missing(Refused, KeyError):
@@ -59,6 +95,19 @@ class Stopped(Error):
 
     def __str__(self) -> str:
         return self.text
+
+
+def detail_of(shown: str) -> Detail:
+    """What a session shows of a refusal: after its first line 'word 4 moveto' and 'in glyph V, subr 4', where it has them."""
+    found = Detail()
+    for line in shown.split("\n")[1:-1]:
+        kind, _, rest = line.partition(" ")
+        if kind == "word":
+            number, _, word = rest.partition(" ")
+            found = found._replace(word=word, number=int(number))
+        else:
+            found = found._replace(chain=tuple(rest.split(", ")))
+    return found
 
 
 # The rules of a session that say that something isn't there.

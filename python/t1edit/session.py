@@ -12,7 +12,7 @@ from .answers import Answer, Answers, NoAnswer
 from .files import File, named
 from .pipes import Pipes
 from .program import ending, found, titles, unreadable
-from .refusals import Error, Refused, Stopped, refusal
+from .refusals import Detail, Error, Refused, Stopped, detail_of, refusal
 from .spelling import spelled
 
 Word = Union[str, int]
@@ -52,8 +52,20 @@ class Reply:
         answer = self._session._wait_for(self)
         if answer.line.startswith("refused "):
             said = answer.line[len("refused ") :]
-            raise self._session.refusal(said, guilty_word(said, self._words))
+            refused = self._session.refusal(said, guilty_word(said, self._words))
+            if said.startswith("F"):
+                refused._ask = self._detail
+            raise refused
         return answer.data or b""
+
+    def _detail(self) -> Detail:
+        """Where the fault is for which the command was refused, unless another edit has come since."""
+        if self._session._last_edit is not self:
+            return Detail()
+        try:
+            return detail_of(self._session.show("refusal").decode("latin-1"))
+        except Error:  # (the session has ended, or the program is an older one)
+            return Detail()
 
 
 def guilty_word(said: str, words: Tuple[str, ...]) -> Optional[str]:
@@ -82,6 +94,7 @@ class Session:
         self._program = found(program)
         self._answers = Answers()
         self._waiting: Deque[Reply] = deque()
+        self._last_edit: Optional[Reply] = None
         self._changes = 0
         self._in_batch = False
         self._is_torn = False
@@ -133,7 +146,7 @@ class Session:
 
     def show(self, what: str, *word: Word) -> bytes:
         """The bytes of what is shown of one entry: show('glyph', 'A'), show('subr', 4), show('metrics', 'A'),
-        show('outline', 'A'); or of the encoding: show('encoding')."""
+        show('outline', 'A'); of the encoding: show('encoding'); or of the last edit that was refused: show('refusal')."""
         return self.send("show", what, *word).result()
 
     @contextlib.contextmanager
@@ -161,6 +174,8 @@ class Session:
         data = spelled(texts, body)
         self._judge_open()
         reply = Reply(self, texts)
+        if texts[0] not in WITH_DATA:
+            self._last_edit = reply
         self._is_torn = True
         self._waiting.append(reply)
         self._pipes.push(data)

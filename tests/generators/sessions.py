@@ -20,7 +20,7 @@ ANY = b"""
 replace glyph NAME|replace subr SUBR|add glyph NAME|add subr SUBR|remove glyph NAME|remove subr SUBR|encode CODE NAME
 unencode CODE|kern NAME NAME VALUE|unkern NAME NAME|frobnicate|replace glyph|add glyph A B|print|kern A V|begin now
 set leniv VALUE|set leniv CODE|print pfb LENGTH|print pfb 1 2|print pfa 1|commit|abort|abort A|print sources
-show|show glyph NAME|show subr SUBR|show metrics NAME|show outline NAME|show encoding|show encoding A|show glyph|show subr 3 4|show metric A
+show|show glyph NAME|show subr SUBR|show metrics NAME|show outline NAME|show encoding|show encoding A|show refusal|show refusal A|show glyph|show subr 3 4|show metric A
 """.strip().replace(b"\n", b"|").split(b"|")
 WRONG = b"""
 % } {|}|moveto|2147483648|pop|0 div|32001 hmoveto|93 170 214 65 194 seac|0 0 0 65 32 seac|9 callsubr|
@@ -101,8 +101,8 @@ class Chooser:
         if kind == "print":
             return self.chance.choice(PRINTS)
         if kind == "show":
-            what = self.chance.choice((b"glyph", b"subr", b"metrics", b"outline", b"encoding"))
-            subject = {b"encoding": b"", b"subr": self.of(subrs, SUBRS)}.get(what, self.of(glyphs, NAMES))
+            what = self.chance.choice((b"glyph", b"subr", b"metrics", b"outline", b"encoding", b"refusal", b"refusal"))
+            subject = {b"encoding": b"", b"refusal": b"", b"subr": self.of(subrs, SUBRS)}.get(what, self.of(glyphs, NAMES))
             return b" ".join((b"show", what, subject))
         if kind == "set leniv":
             return b"set leniv %d" % self.chance.choice((0, 1, 4, 4, 64))

@@ -137,8 +137,37 @@ class Saying(Room):
         with Font(DEMO) as font:
             refused = self.refused(Refused, setattr, font.glyphs["A"], "body", "10 600 hsbw 1 0 div hmoveto endchar")
             self.assertEqual((refused.said, refused.code, refused.place), ("F38 glyph Aacute", "F38", "glyph Aacute"))
-            self.assertEqual((refused.text, refused.word), ("division by zero", None))
             self.assertEqual(str(refused), "F38 glyph Aacute: division by zero")
+            self.assertEqual((refused.text, refused.word, refused.number), ("division by zero", "div", 6))
+            self.assertEqual(refused.chain, ("glyph A",))
+
+    def test_where_a_fault_is(self):
+        with Font(DEMO) as font:
+            for subr, glyph, said in (
+                ("50 50 rlineto return", "10 600 hsbw 4 callsubr 5 moveto endchar", ("F20 glyph A", "moveto", 7, ())),
+                ("1 0 div return", "10 600 hsbw 4 callsubr endchar", ("F38 glyph Aacute", "div", 3, ("glyph A", "subr 4"))),
+                ("return", "10 600 hsbw", ("F35 glyph Aacute", None, None, ("glyph A",))),
+            ):
+                with self.subTest(said=said):
+                    refused = self.refused(Refused, self.both, font, subr, glyph)
+                    self.assertEqual((refused.said, refused.word, refused.number, refused.chain), said)
+
+    def both(self, font, subr, glyph):
+        with font.batch():
+            font.subrs[4].body = subr
+            font.glyphs["A"].body = glyph
+
+    def test_what_is_asked_late(self):
+        with Font(DEMO) as font:
+            refused = [self.refused(Refused, setattr, font.glyphs["A"], "body", "moveto") for _ in range(3)]
+            self.assertEqual([it.number for it in refused], [None, None, 1])
+            font.kern[("A", "V")] = 1
+            late = self.refused(Refused, setattr, font.glyphs["A"], "body", "moveto")
+            font.kern[("A", "V")] = 2
+            self.assertEqual((late.word, late.chain), (None, ()))
+            last = self.refused(Refused, setattr, font.glyphs["A"], "body", "moveto")
+            self.assertIsNone(pickle.loads(pickle.dumps(last)).number)
+        self.assertIsNone(last.number)
 
     def test_words_of_rules(self):
         with Font(changed()) as font:

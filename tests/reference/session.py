@@ -6,11 +6,13 @@ from faults import Broken, Fault
 from metrics import afm, names, uses
 from outlines import outline_text
 from pfb import LARGEST, assembly_fault, pfa, pfb
+from refusals import refusal_text
 from runs import Font
 from source import joined, kern_text, lines, printed, trimmed, words
 
 PRINTS = (b"pfb", b"afm", b"source", b"kern", b"uses", b"pfa")
 SHOWS = (b"glyph", b"subr", b"metrics", b"outline")  # (each of one entry)
+SHOWS_ALONE = ((b"show", b"encoding"), (b"show", b"refusal"))
 BATCHES = ((b"begin",), (b"commit",), (b"abort",))
 
 
@@ -48,6 +50,7 @@ class Session:
 
     def __init__(self, source, pairs, runs=True):
         self.source, self.pairs, self.batch, self.runs = source, pairs, None, runs
+        self.refused = None  # what show refusal tells of: a rule's code, or a source with its fault
         self.font = self.judged(source)
 
     def judged(self, source):
@@ -64,7 +67,7 @@ class Session:
             prints = PRINTS if self.runs else (b"pfb", b"source", b"kern")
             return these[1:2] and these[1] in prints and len(these) <= 2 + (these[1] == b"pfb" and self.runs)
         if these[0] == b"show":
-            return self.runs and (these == (b"show", b"encoding") or len(these) == 3 and these[1] in SHOWS)
+            return self.runs and (these in SHOWS_ALONE or len(these) == 3 and these[1] in SHOWS)
         if these in BATCHES or these[:2] == (b"set", b"leniv"):
             return self.runs and (these in BATCHES or len(these) == 3)
         return form_of(these) is not None
@@ -91,20 +94,33 @@ class Session:
             if text is None:
                 raise Broken("E1")
             return b"data %d\n%s\n" % (len(text), text)
-        if these in BATCHES:
-            return self.change_batch(these[0])
         if is_open:
             raise Broken("E7")
+        try:
+            self.change(these, body)
+        except Broken as broken:
+            self.refused = broken.rule
+            raise
+        self.refused = None
+        return b"ok\n"
+
+    def change(self, these, body):
+        if these in BATCHES:
+            self.change_batch(these[0])
+            return
         edit = Edit(these, body)
         if self.batch is not None:
             self.batch = edited(*self.batch, edit)
         else:
             self.take(*edited(self.source, self.pairs, edit))
-        return b"ok\n"
 
     def take(self, source, pairs):
         if source != self.source:
-            self.font = self.judged(source)
+            try:
+                self.font = self.judged(source)
+            except Fault as fault:
+                self.refused = source, fault
+                raise
         self.source, self.pairs = source, pairs
 
     def change_batch(self, verb):
@@ -112,13 +128,12 @@ class Session:
             if self.batch is not None:
                 raise Broken("E11")
             self.batch = self.source, self.pairs
-            return b"ok\n"
+            return
         if self.batch is None:
             raise Broken("E12")
         batch, self.batch = self.batch, None
         if verb == b"commit":
             self.take(*batch)
-        return b"ok\n"
 
     def printed(self, what, more):
         if what == b"pfb":
@@ -136,6 +151,8 @@ class Session:
 
     def shown(self, what, subject=None):
         """What a query shows; None where there is no such glyph or Subr."""
+        if what == b"refusal":
+            return self.refusal()
         if what == b"encoding":
             return joined(b"%d %s" % named for named in names(self.source).items())
         if what == b"metrics":
@@ -148,3 +165,11 @@ class Session:
         else:
             entry = self.source.subrs().get(in_range(subject, 0, 32000))
         return None if entry is None else joined(printed(entry)[1:-1])
+
+    def refusal(self):
+        """What is told of the last refusal, unless an edit, begin, commit or abort was accepted since."""
+        if self.refused is None:
+            return b""
+        if isinstance(self.refused, str):
+            return joined([self.refused.encode()])
+        return refusal_text(*self.refused)

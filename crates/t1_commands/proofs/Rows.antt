@@ -85,6 +85,14 @@ encoding_shown : line_command (codes "show" ∷ codes "encoding" ∷ []) ≡ com
 unfolding line_command whole_show
 encoding_shown = refl
 
+refusal_shown : line_command (codes "show" ∷ codes "refusal" ∷ []) ≡ commands.Show shows.Refusal
+unfolding line_command whole_show
+refusal_shown = refl
+
+refusal_of_a_glyph : line_command (codes "show" ∷ codes "refusal" ∷ codes "A" ∷ []) ≡ commands.Broken E8
+unfolding line_command entry_show
+refusal_of_a_glyph = refl
+
 outline_shown : line_command (codes "show" ∷ codes "outline" ∷ codes "A" ∷ []) ≡ commands.Show (shows.Outline (codes "A"))
 unfolding line_command entry_show
 outline_shown = refl

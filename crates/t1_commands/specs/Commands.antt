@@ -85,9 +85,12 @@ print_by None two = blocks_print two
 abbrev pub print_of : List (List ℕ) → Command
 print_of rest = print_by (one_word rest) (two_words rest)
 
--- profile, session commands: `show encoding`
+-- profile, session commands: `show encoding`, `show refusal`
 unfoldable pub whole_show : List ℕ → Command
-whole_show word = if bytes_eq word (codes "encoding") then commands.Show shows.Encoding else unknown
+whole_show word =
+    if bytes_eq word (codes "encoding") then commands.Show shows.Encoding
+    else if bytes_eq word (codes "refusal") then commands.Show shows.Refusal
+    else unknown
 
 -- profile, session commands: `show glyph NAME`, `show subr N`, `show metrics NAME`, `show outline NAME`
 unfoldable pub entry_show : Option (List ℕ × List ℕ) → Command
@@ -214,6 +217,7 @@ holds_bytes (commands.Edit (LenIv n)) = false
 holds_bytes (commands.Edit edit) = true
 holds_bytes (commands.Show (shows.Subr n)) = false
 holds_bytes (commands.Show shows.Encoding) = false
+holds_bytes (commands.Show shows.Refusal) = false
 holds_bytes (commands.Show show) = true
 holds_bytes command = false
 

@@ -1,5 +1,6 @@
 //! What commands are answered, and how it is written.
-ghost use Rattle.std.specs.Prelude.{◌≡◌, ◌++◌, decimal, length};
+ghost use Rattle.std.specs.Prelude.{◌≡◌, ◌∷◌, ◌++◌, [], decimal, length, OnOk};
+ghost use Rattle.t1_frac.specs.Ascii.{line_feed};
 ghost use Rattle.t1_code.specs.Counted.{Writes};
 ghost use Rattle.t1_code.specs.Parts.{bytes_of};
 ghost use Rattle.t1_commands.specs.Answering.{Answers};
@@ -157,6 +158,35 @@ pub fn put_fault<W: Write>(
     let number = buffer.format(place_number(&fault.place));
     let slices = place_slices(before, code, &fault.place, number, after);
     write_slices(writer, &slices)
+}
+
+/// Adds slices to a text, one after another.
+pub fn push_slices(text: &mut Vec<u8>, slices: &[&[u8]]) -> Result<(), AllocError>
+    ensures { OnOk result (text.new.items ≡ text.old.items ++ bytes_of slices.now) }
+{
+    for slice in slices {
+        text.extend_from_slice(slice)?;
+    }
+    Ok(())
+}
+
+/// Adds a fault by its code and its place, where it has one, to a text, as a line: `F20 subr 7`.
+#[tactic(auto, unfolding(crate::specs::AnswerTexts::fault_text))]
+pub fn push_fault(text: &mut Vec<u8>, fault: &Fault) -> Result<(), AllocError>
+    ensures { OnOk result (text.new.items ≡ text.old.items ++ (fault_text fault.now ++ line_feed ∷ [])) }
+{
+    let code = code_name(fault.code);
+    let mut buffer = Buffer::new();
+    let number = buffer.format(place_number(&fault.place));
+    let slices = place_slices(b"", code, &fault.place, number, b"\n");
+    push_slices(text, &slices)
+}
+
+/// Adds a rule by its code to a text, as a line: `E1`.
+pub fn push_rule(text: &mut Vec<u8>, rule: Rule) -> Result<(), AllocError>
+    ensures { OnOk result (text.new.items ≡ text.old.items ++ (rule_name rule ++ line_feed ∷ [])) }
+{
+    push_slices(text, &[rule_name(rule), b"\n"])
 }
 
 /// What is shown, in slices after its length.

@@ -171,13 +171,15 @@ fn print_of(line: &[u8]) -> Command
     }
 }
 
-/// `show encoding`, by the second word.
+/// `show encoding`, `show refusal`, by the second word.
 #[tactic(auto, unfolding(crate::specs::Commands::whole_show))]
 fn whole_show(word: &[u8]) -> Command
     ensures { result ≡ whole_show word.now }
 {
     if word == b"encoding".as_slice() {
         Command::Show(Show::Encoding)
+    } else if word == b"refusal".as_slice() {
+        Command::Show(Show::Refusal)
     } else {
         UNKNOWN
     }

@@ -15,4 +15,6 @@ pub enum Show {
     Outline(Bytes),
     /// The names of the codes.
     Encoding,
+    /// Where the edit or the commit that was refused last has its fault.
+    Refusal,
 }

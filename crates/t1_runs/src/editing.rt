@@ -3,8 +3,8 @@
 
 ghost use Rattle.std.specs.Prelude.{IfOk};
 ghost use Rattle.t1_commands.specs.declared.command.Command.TheVariants as commands;
-ghost use Rattle.t1_session.specs.Outcomes.{Takes};
-ghost use Rattle.t1_runs.specs.Steps.{command_of};
+ghost use Rattle.t1_session.specs.Outcomes.{TakesOrDrops};
+ghost use Rattle.t1_runs.specs.Steps.{Performs};
 
 use crate::script::{Step, step_of};
 use crate::stop::Stop;
@@ -110,7 +110,7 @@ fn session_of<'a, W: Write>(
 
 /// Takes an edit, or says why it was refused.
 fn taken(session: &mut Session, edit: Edit) -> Result<(), Cause>
-    ensures { Takes session.old.state (commands.Edit edit) result session.new.state }
+    ensures { TakesOrDrops session.old.state (commands.Edit edit) result session.new.state }
 {
     match session.try_apply(edit) {
         Ok(()) => Ok(()),
@@ -125,7 +125,7 @@ fn edited<W: Write>(
     edit: Edit,
     out: &mut W,
 ) -> Result<Result<(), Cause>, Stop>
-    ensures { IfOk result (λ taken. Takes session.old.state (commands.Edit edit) taken session.new.state) }
+    ensures { IfOk result (λ taken. TakesOrDrops session.old.state (commands.Edit edit) taken session.new.state) }
 {
     match session.try_apply(edit) {
         Err((Cause::Memory, edit)) => {
@@ -145,7 +145,7 @@ fn performed<W: Write>(
     step: Step,
     out: &mut W,
 ) -> Result<Result<(), Cause>, Stop>
-    ensures { IfOk result (λ taken. Takes session.old.state (command_of step) taken session.new.state) }
+    ensures { IfOk result (λ taken. Performs step session.old.state taken session.new.state) }
 {
     match step {
         Step::Edit(edit) => edited(alloc, session, edit, out),

@@ -4,9 +4,11 @@ pub mod Delivering
 pub mod FaultLaws
 pub mod Flushing
 pub mod LineLaws
+pub mod MetricsLineLaws
 pub mod QueryLaws
 pub mod ReadableLaws
 pub mod Reporting
+pub mod RefusalLaws
 pub mod RerunLaws
 pub mod Sessions
 pub mod StateLaws

@@ -25,7 +25,9 @@ use Rattle.t1_commands.specs.declared.print.Print.TheVariants as prints
 use Rattle.t1_commands.specs.declared.show.Show.TheVariants as shows
 use Rattle.t1_commands.specs.Answers.{answer_to}
 use Rattle.t1_commands.specs.Blocks.{block_size}
-use Rattle.t1_session.specs.Machine.{abort_in, after_want, begin_in, blocks_answer, commit_in, drafted, edit_in, file_answer, holding, judged, machine, may_want_memory, opened, perform, query_answer, scratch, taken}
+use Rattle.t1_commands.specs.Answers.{Performed}
+use Rattle.t1_session.specs.declared.refused.Refused.{Refused}
+use Rattle.t1_session.specs.Machine.{abort_in, after_want, alone, begin_in, blocks_answer, commit_in, drafted, edit_in, file_answer, judged, machine, may_want_memory, noted, opened, opening_state, outcome, perform, query_answer, scratch, taken}
 use Rattle.t1_session.specs.Readable.{AreMade, IsDraftMade, IsFaultless, IsReadable, KeepsFaultless, KeepsReadable, OpensFaultless, OpensReadable, PrintsWithoutFault, ReadsBack, ShowsWithoutFault, TellsNoFault}
 use Rattle.t1_session.specs.State.{State}
 use Rattle.t1_session.specs.Queries.{encoding_text, glyph_text, subr_text}
@@ -38,29 +40,39 @@ use Rattle.t1_session.proofs.StateLaws.{asked_scratch, blocks_there, outline_scr
 
 -- ---- after an answer, marked or not
 
-module _ (P : State → Type 0) (alone : (s : State) → P s → P (holding s.source s.pairs)) where
+module _ (P : State → Type 0) (without-batch : (s : State) → P s → P (alone s)) (with-refusal : (s : State) (kept : Option Refused) → P s → P (record s { refused = kept })) where
   after-want : (s : State) (command : Command) → P s → P (after_want s command)
   after-want s (commands.Edit edit) h = h
   after-want s (commands.Print print) h = h
   after-want s (commands.Show show) h = h
   after-want s commands.Begin h = h
-  after-want s commands.Commit h = alone s h
+  after-want s commands.Commit h = without-batch s h
   after-want s commands.Abort h = h
   after-want s (commands.Broken rule) h = h
 
-  after-answer : ((s : State) (command : Command) → P s → P (perform s command).next) → (s : State) (command : Command) (mark : Bool) → P s → P (answer_to machine s command mark).next
+  after-note : (s : State) (command : Command) (p : Performed State) → P p.next → P (noted s command p).next
+  after-note s (commands.Edit edit) p h = with-refusal p.next _ h
+  after-note s (commands.Print print) p h = h
+  after-note s (commands.Show show) p h = h
+  after-note s commands.Begin p h = with-refusal p.next _ h
+  after-note s commands.Commit p h = with-refusal p.next _ h
+  after-note s commands.Abort p h = with-refusal p.next _ h
+  after-note s (commands.Broken rule) p h = h
+
+  after-answer : ((s : State) (command : Command) → P s → P (outcome s command).next) → (s : State) (command : Command) (mark : Bool) → P s → P (answer_to machine s command mark).next
+  unfolding perform
   after-answer performed s command mark h =
       elim (cases_Bool (mark && may_want_memory s command)) [
         | inl wants ↦ rw wants (after-want s command h)
-        | inr none ↦ rw none (performed s command h)
+        | inr none ↦ rw none (after-note s command (outcome s command) (performed s command h))
       ]
 
 -- ---- no fault
 
 opened-faultless : (parts : SourceParts) (k : List Pair) (r : Result (Unit {0}) Fault) (s : State) → source_check parts ≡ r
-    → ◌≡◌ {A = Result State Fault} (r >>= λ checked. Ok (holding parts k)) (Ok s) → IsFaultless s
+    → ◌≡◌ {A = Result State Fault} (r >>= λ checked. Ok (opening_state parts k)) (Ok s) → IsFaultless s
 opened-faultless parts k (Ok checked) s e h =
-    let same : holding parts k ≡ s = cc in subst IsFaultless same e
+    let same : opening_state parts k ≡ s = cc in subst IsFaultless same e
 opened-faultless parts k (Err fault) s e h = absurd (cc)
 
 pub opens_faultless : OpensFaultless
@@ -94,8 +106,8 @@ abort-faultless : (b : Option Draft) (s : State) → IsFaultless s → IsFaultle
 abort-faultless None s h = h
 abort-faultless (Some d) s h = h
 
-performed-faultless : (s : State) (command : Command) → IsFaultless s → IsFaultless (perform s command).next
-unfolding perform
+performed-faultless : (s : State) (command : Command) → IsFaultless s → IsFaultless (outcome s command).next
+unfolding outcome
 performed-faultless s (commands.Edit edit) h = edit-faultless s.batch s edit h
 performed-faultless s (commands.Print print) h = h
 performed-faultless s (commands.Show show) h = h
@@ -105,11 +117,11 @@ performed-faultless s commands.Abort h = abort-faultless s.batch s h
 performed-faultless s (commands.Broken rule) h = h
 
 pub keeps_faultless : KeepsFaultless
-keeps_faultless = after-answer IsFaultless (λ s h. h) performed-faultless
+keeps_faultless = after-answer IsFaultless (λ s h. h) (λ s kept h. h) performed-faultless
 
 -- ---- readable
 
-alone-readable : (s : State) → IsReadable s → IsReadable (holding s.source s.pairs)
+alone-readable : (s : State) → IsReadable s → IsReadable (alone s)
 alone-readable s h = record { faultless = h.faultless; made = h.made; draft = tt }
 
 pairs_made : (bytes : List ℕ) (k : List Pair) → pairs bytes ≡ Ok k → are_pairs k ≡ true
@@ -121,8 +133,8 @@ opened-readable parts k s made h =
     let faultless = opens_faultless parts k s h in
     of (source_check parts) refl h
   where
-    of : (r : Result (Unit {0}) Fault) → source_check parts ≡ r → ◌≡◌ {A = Result State Fault} (r >>= λ checked. Ok (holding parts k)) (Ok s) → IsReadable s
-    of (Ok checked) e g = let same : holding parts k ≡ s = cc in subst IsReadable same (record { faultless = e; made = made; draft = tt })
+    of : (r : Result (Unit {0}) Fault) → source_check parts ≡ r → ◌≡◌ {A = Result State Fault} (r >>= λ checked. Ok (opening_state parts k)) (Ok s) → IsReadable s
+    of (Ok checked) e g = let same : opening_state parts k ≡ s = cc in subst IsReadable same (record { faultless = e; made = made; draft = tt })
     of (Err fault) e g = absurd (cc)
 
 loaded-readable : (source kerning : List ℕ) (a : Result SourceParts Fault) (b : Result (List Pair) Fault) (s : State) → reads source ≡ a → pairs kerning ≡ b
@@ -167,8 +179,11 @@ abort-readable : (b : Option Draft) (s : State) → IsReadable s → IsReadable 
 abort-readable None s h = h
 abort-readable (Some d) s h = alone-readable s h
 
-performed-readable : (s : State) (command : Command) → IsReadable s → IsReadable (perform s command).next
-unfolding perform
+noted-readable : (s : State) (kept : Option Refused) → IsReadable s → IsReadable (record s { refused = kept })
+noted-readable s kept h = record { faultless = h.faultless; made = h.made; draft = h.draft }
+
+performed-readable : (s : State) (command : Command) → IsReadable s → IsReadable (outcome s command).next
+unfolding outcome
 performed-readable s (commands.Edit edit) h = edit-readable s.batch s edit h.draft h
 performed-readable s (commands.Print print) h = h
 performed-readable s (commands.Show show) h = h
@@ -178,7 +193,7 @@ performed-readable s commands.Abort h = abort-readable s.batch s h
 performed-readable s (commands.Broken rule) h = h
 
 pub keeps_readable : KeepsReadable
-keeps_readable = after-answer IsReadable alone-readable performed-readable
+keeps_readable = after-answer IsReadable alone-readable noted-readable performed-readable
 
 pub reads_back : ReadsBack
 reads_back s h = (source_again s.source h.made.0 (counts_checked s.source h.faultless), kern_again s.pairs h.made.1)
@@ -224,4 +239,5 @@ shows_without_fault s (shows.Metrics name) h =
 shows_without_fault s (shows.Outline name) h =
     let outline = outline-there s.source name h.faultless in
     found-tells-none _ outline.0 (outline_scratch s name (reads_back s h).0 ∙ outline.1)
+shows_without_fault s shows.Refusal h = tt
 shows_without_fault s shows.Encoding h = tells-none _ (encoding_text s.source, asked_scratch encoding_text s (reads_back s h).0)

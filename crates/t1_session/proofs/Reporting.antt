@@ -16,7 +16,7 @@ use Rattle.t1_commands.specs.declared.show.Show.{Show}
 use Rattle.t1_commands.specs.AnswerTexts.{answer_text}
 use Rattle.t1_commands.specs.Answering.{Reports, SendsText}
 use Rattle.t1_session.specs.Conversation.{IsPerformed}
-use Rattle.t1_session.specs.Machine.{after_want, may_want_memory, perform, printed, shown, stays}
+use Rattle.t1_session.specs.Machine.{after_want, may_want_memory, outcome, perform, printed, shown, stays}
 use Rattle.t1_session.specs.State.{State}
 
 module _ {W : Type 0} (contents : W → Option (List ℕ)) (old new : State) (before after : Tally W) where
@@ -44,17 +44,17 @@ module _ {W E : Type 0} (contents : W → Option (List ℕ)) (s : State) (before
 
 pub print_performed : {W E : Type 0} (contents : W → Option (List ℕ)) (s : State) (before after : Tally W) (print : Print) (r : Result E OutError)
     → Prints contents before after (Ok (answer_text (printed s print))) r → IsPerformed contents s s before after (commands.Print print) r
-unfolding perform
+unfolding perform outcome
 print_performed contents s before after print r h =
     shown_performed contents s before after (commands.Print print) (printed s print) r refl refl refl h
 
 pub query_performed : {W E : Type 0} (contents : W → Option (List ℕ)) (s : State) (before after : Tally W) (show : Show) (r : Result E OutError)
     → Prints contents before after (Ok (answer_text (shown s show))) r → IsPerformed contents s s before after (commands.Show show) r
-unfolding perform
+unfolding perform outcome
 query_performed contents s before after show r h =
     shown_performed contents s before after (commands.Show show) (shown s show) r refl refl refl h
 
 pub broken_performed : {W E : Type 0} (contents : W → Option (List ℕ)) (s : State) (before after : Tally W) (rule : Rule) (r : Result E OutError)
     → Reports {T = Unit {0}} contents before after (Err (causes.Rule rule)) r → IsPerformed contents s s before after (commands.Broken rule) r
-unfolding perform
+unfolding perform outcome
 broken_performed contents s before after rule r h = sent contents s s before after (commands.Broken rule) r (Broken rule) refl refl h

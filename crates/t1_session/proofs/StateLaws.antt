@@ -1,5 +1,5 @@
 -- What the source of a session gives.
-use Rattle.std.proofs.Common.{◌≡◌, ℕ, true, List, Option, None, Result, Ok, Err, refl, ap, sym, ◌∙◌, inl, inr}
+use Rattle.std.proofs.Common.{◌≡◌, ℕ, true, List, map, Option, None, Result, Ok, Err, refl, ap, sym, ◌∙◌, inl, inr}
 use Rattle.std.specs.Prelude.{IfOk, option_map}
 use Rattle.std.proofs.lemmas.Bool.{cases_Bool}
 use Rattle.t1_frac.specs.declared.fault.Fault.{Fault}
@@ -40,11 +40,16 @@ use Rattle.std.specs.declared.vec.Vec.{Vec}
 use Rattle.t1_commands.specs.AnswerTexts.{answer_text, data_of}
 use Rattle.t1_session.specs.Files.{assembled, assembled_pfa}
 use Rattle.t1_session.specs.FromScratch.{asked, blocks_from_scratch, pfa_from_scratch, texts_of, from_scratch, pfb_from_scratch, metrics_from_scratch, metrics_line_from_scratch, outline_from_scratch, uses_from_scratch}
-use Rattle.t1_session.specs.Machine.{file_answer, holding, judged, printed}
+use Rattle.t1_session.specs.Machine.{alone, file_answer, judged, printed}
 use Rattle.t1_session.specs.Outcomes.{AnswersNoFault, Finds, Took, refused_source}
 use Rattle.t1_session.specs.Queries.{metrics_line}
 use Rattle.t1_held.specs.Batch.{Draft}
+use Rattle.t1_cache.specs.declared.records.GlyphRecord.{GlyphRecord}
+use Rattle.t1_cache.specs.Kept.{KeepsAll}
+use Rattle.t1_cache.specs.Renewed.{kept_of, record_of}
+use Rattle.t1_session.specs.RecordedLines.{recorded_line}
 use Rattle.t1_session.specs.State.{State}
+use Rattle.t1_session.proofs.MetricsLineLaws.{line_recorded}
 
 -- ---- by the metrics of its glyphs
 
@@ -56,8 +61,9 @@ check_refused s fault e = ap (λ (r : Result MeasuredFont Fault). r >>= λ metri
 
 -- ---- a source judged
 
-pub holding_alone : (s : SourceParts) (k : List Pair) (batch : Option Draft) → batch ≡ None → ◌≡◌ {A = State} (record { source = s; pairs = k; batch = batch }) (holding s k)
-holding_alone s k batch none = ap (λ (b : Option Draft). record { source = s; pairs = k; batch = b }) none
+-- without a batch a state is alone
+pub stays_alone : (s : State) → s.batch ≡ None → s ≡ alone s
+stays_alone s none = ap (λ (b : Option Draft). record s { batch = b }) none
 
 -- ---- its file
 
@@ -149,7 +155,7 @@ held_checked s h is = right_checked s h.records is.right
 pub refused_takes : (refusal : Refusal) (old : State) (made : SourceParts × List Pair) → Refuses refusal (source_check made.0) → old.batch ≡ None
     → Took {T = Unit {0}} old (judged old made (source_check made.0)) true old (Err (refused_source refusal)) old
 refused_takes refusals.Memory old made h none = (refl, refl)
-refused_takes (refusals.Fault fault) old made h none = rw h (refl, holding_alone old.source old.pairs old.batch none)
+refused_takes (refusals.Fault fault) old made h none = rw h (refl, stays_alone old none)
 
 -- the texts that prints show
 pub afm_shown : {A E : Type 0} (given : Result (Vec ℕ A) E) (s : State) (file : List ℕ) → IfOk given (λ found. found.items ≡ file) → metrics_from_scratch s ≡ Ok file
@@ -258,6 +264,13 @@ module _ (s : State) (checked : source_check s.source ≡ Ok tt) (source : reads
   metrics_line_there name =
       let font = checked-metrics s.source checked in
       (metrics_line name (metrics_of s.source s.pairs font.0), metrics_line_scratch s font.0 font.1 source kerning name)
+
+  -- by right records
+  pub metrics_line_recorded : (entries : List (Vec ℕ Global × GlyphRecord)) (name : List ℕ) → KeepsAll s.source (map kept_of entries)
+      → metrics_line_from_scratch name s ≡ Ok (recorded_line s.source name (record_of entries name))
+  metrics_line_recorded entries name kept =
+      let font = checked-metrics s.source checked in
+      metrics_line_scratch s font.0 font.1 source kerning name ∙ ap (λ (o : Option (List ℕ)). Ok o) (line_recorded s.source s.pairs font.0 entries name kept font.1)
 
   pub uses_there : (file : List ℕ) × (uses_from_scratch s ≡ Ok file)
   uses_there = let font = checked-metrics s.source checked in (usage_table font.0.metrics, uses_scratch s font.0 font.1 source kerning)

@@ -9,6 +9,8 @@ pub mod Machine
 pub mod Outcomes
 pub mod Queries
 pub mod Readable
+pub mod RecordedLines
+pub mod Refusing
 pub mod Reruns
 pub mod RerunsByTest
 pub mod Serving

@@ -1,5 +1,5 @@
 -- The commands of a session.
-use Rattle.std.specs.Prelude.{◌++◌, ℕ, Bool, true, false, not, List, [], Option, Some, None, is_some, Result, Ok, Err}
+use Rattle.std.specs.Prelude.{◌++◌, ℕ, Bool, true, false, not, List, [], Option, Some, None, is_some, option_map, Result, Ok, Err}
 use Rattle.t1_frac.specs.declared.fault.Fault.{Fault}
 use Rattle.t1_frac.specs.Outcome.{◌>>=◌}
 use Rattle.t1_parts.specs.SourceParts.{SourceParts}
@@ -24,11 +24,18 @@ use Rattle.t1_commands.specs.declared.command.Command.TheVariants as commands
 use Rattle.t1_commands.specs.Blocks.{block_size}
 use Rattle.t1_commands.specs.Answers.{Performed, Machine}
 use Rattle.t1_session.specs.FromScratch.{blocks_from_scratch, encoding_from_scratch, glyph_from_scratch, metrics_from_scratch, metrics_line_from_scratch, outline_from_scratch, pfa_from_scratch, pfb_from_scratch, subr_from_scratch, uses_from_scratch}
+use Rattle.t1_session.specs.Refusing.{refused_text}
 use Rattle.t1_session.specs.State.{State}
+use Rattle.t1_session.specs.declared.refused.Refused.{Refused}
+use Rattle.t1_session.specs.declared.refused.Refused.TheVariants as kinds
+
+-- profile: the state without its batch
+abbrev pub alone : State → State
+alone s = record s { batch = None }
 
 -- profile: the state with this source and these pairs, and no batch
-abbrev pub holding : SourceParts → List Pair → State
-holding source pairs = record { source = source; pairs = pairs; batch = None }
+abbrev pub holding : State → SourceParts × List Pair → State
+holding s made = record s { source = made.0; pairs = made.1; batch = None }
 
 -- profile: a command that changes nothing
 abbrev pub stays : State → Answer → Performed State
@@ -39,8 +46,8 @@ stays s answer = record { answer = answer; next = s }
 -- profile, edits: an edited source without a fault becomes the session's, with its pairs; else the session is as before,
 -- and a batch is closed either way
 abbrev pub judged : State → SourceParts × List Pair → Result (Unit {0}) Fault → Performed State
-judged s made (Ok checked) = record { answer = Accepted; next = holding made.0 made.1 }
-judged s made (Err fault) = record { answer = Faulty fault; next = holding s.source s.pairs }
+judged s made (Ok checked) = record { answer = Accepted; next = holding s made }
+judged s made (Err fault) = record { answer = Faulty fault; next = alone s }
 
 -- profile, edits: an edit outside a batch is judged by the edit rules, then by the first fault of the edited source
 abbrev pub taken : State → Result (SourceParts × List Pair) Rule → Performed State
@@ -77,7 +84,7 @@ commit_in (Some d) s = judged s (d.source, d.pairs) (source_check d.source)
 -- profile, batches: the edits of a batch are dropped; E12 where none is open
 abbrev pub abort_in : Option Draft → State → Performed State
 abort_in None s = stays s (Broken E12)
-abort_in (Some d) s = record { answer = Accepted; next = holding s.source s.pairs }
+abort_in (Some d) s = record { answer = Accepted; next = alone s }
 
 -- ---- prints
 
@@ -122,18 +129,47 @@ shown s (shows.Subr number) = query_answer (subr_from_scratch number s)
 shown s (shows.Metrics name) = query_answer (metrics_line_from_scratch name s)
 shown s (shows.Outline name) = query_answer (outline_from_scratch name s)
 shown s shows.Encoding = file_answer (encoding_from_scratch s)
+shown s shows.Refusal = Data (refused_text s.source s.pairs s.refused)
 
 -- ---- all commands
 
+-- profile, session commands: what a command is answered, and the state after it, with what was refused before
+unfoldable pub outcome : State → Command → Performed State
+outcome s (commands.Edit edit) = edit_in s.batch s edit
+outcome s (commands.Print print) = stays s (printed s print)
+outcome s (commands.Show show) = stays s (shown s show)
+outcome s commands.Begin = begin_in s.batch s
+outcome s commands.Commit = commit_in s.batch s
+outcome s commands.Abort = abort_in s.batch s
+outcome s (commands.Broken rule) = stays s (Broken rule)
+
+-- profile, refusals: what is kept of a refusal by its answer: nothing once a command is accepted, the rule, or this where the edited
+-- source has a fault
+abbrev pub kept_by : Option Refused → Option Refused → Answer → Option Refused
+kept_by faulty before Accepted = None
+kept_by faulty before (Broken rule) = Some (kinds.Rule rule)
+kept_by faulty before (Faulty fault) = faulty
+kept_by faulty before answer = before
+
+-- profile, refusals: the state keeps what was refused
+abbrev pub keeping : Option Refused → Performed State → Performed State
+keeping faulty p = record { answer = p.answer; next = record p.next { refused = kept_by faulty p.next.refused p.answer } }
+
+-- profile, refusals: the source of a batch, as it is refused
+abbrev pub refused_batch : Option Draft → Option Refused
+refused_batch batch = option_map (λ draft. kinds.Batch draft.source) batch
+
+-- profile, refusals: an edit, a `begin`, a `commit` and an `abort` change what is kept of a refusal, and no other command does
+abbrev pub noted : State → Command → Performed State → Performed State
+noted s (commands.Edit edit) p = keeping (Some (kinds.Edit edit)) p
+noted s commands.Begin p = keeping None p
+noted s commands.Commit p = keeping (refused_batch s.batch) p
+noted s commands.Abort p = keeping None p
+noted s command p = p
+
 -- profile, session commands: what a command is answered, and the state after it
 unfoldable pub perform : State → Command → Performed State
-perform s (commands.Edit edit) = edit_in s.batch s edit
-perform s (commands.Print print) = stays s (printed s print)
-perform s (commands.Show show) = stays s (shown s show)
-perform s commands.Begin = begin_in s.batch s
-perform s commands.Commit = commit_in s.batch s
-perform s commands.Abort = abort_in s.batch s
-perform s (commands.Broken rule) = stays s (Broken rule)
+perform s command = noted s command (outcome s command)
 
 -- profile, answers: which commands may meet want of memory: edits, prints and queries, a `begin` outside a batch, a `commit` in one
 abbrev pub may_want_memory : State → Command → Bool
@@ -147,7 +183,7 @@ may_want_memory s (commands.Broken rule) = false
 
 -- profile, answers: want of memory leaves the state as it was, but for the batch of a `commit`, which is closed
 abbrev pub after_want : State → Command → State
-after_want s commands.Commit = holding s.source s.pairs
+after_want s commands.Commit = alone s
 after_want s _ = s
 
 -- profile: the machine of a session
@@ -156,9 +192,13 @@ machine = record { perform = perform; may_want_memory = may_want_memory; after_w
 
 -- ---- opening
 
+-- profile: the state of a source and its pairs, no batch, and nothing refused
+abbrev pub opening_state : SourceParts → List Pair → State
+opening_state source pairs = record { source = source; pairs = pairs; batch = None; refused = None }
+
 -- profile: the state that a session of a source and its pairs opens with, or the source's first fault
 abbrev pub opened : SourceParts → List Pair → Result State Fault
-opened source pairs = source_check source >>= λ checked. Ok (holding source pairs)
+opened source pairs = source_check source >>= λ checked. Ok (opening_state source pairs)
 
 -- profile: the state that a session opens with, or the first fault of reading the source, of the pairs, of the source
 unfoldable pub scratch : List ℕ → List ℕ → Result State Fault

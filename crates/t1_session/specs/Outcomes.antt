@@ -1,10 +1,11 @@
 -- What a call that performs a command answers, and what it leaves.
-use Rattle.std.specs.Prelude.{◌≡◌, ℕ, Bool, true, List, Option, option_map, Result, Ok, Err}
+use Rattle.std.specs.Prelude.{◌≡◌, ℕ, Bool, true, List, Option, Some, None, option_map, Result, Ok, Err}
 use Rattle.std.specs.declared.alloc.Global.{Global}
 use Rattle.std.specs.declared.vec.Vec.{Vec}
 use Rattle.t1_frac.specs.declared.fault.Fault.{Fault}
 use Rattle.t1_frac.specs.declared.fault.Refusal.{Refusal}
 use Rattle.t1_frac.specs.declared.fault.Refusal.TheVariants as refusals
+use Rattle.t1_parts.specs.SourceParts.{SourceParts}
 use Rattle.t1_source.specs.declared.edit.Cause.{Cause}
 use Rattle.t1_source.specs.declared.edit.Cause.TheVariants as causes
 use Rattle.t1_code.specs.declared.parts.OutError.{OutError}
@@ -12,30 +13,49 @@ use Rattle.t1_code.specs.declared.parts.OutError.TheVariants as out
 use Rattle.t1_commands.specs.declared.answer.Answer.TheVariants.{Accepted, Broken, Faulty}
 use Rattle.t1_commands.specs.declared.command.Command.{Command}
 use Rattle.t1_commands.specs.Answers.{Performed}
-use Rattle.t1_session.specs.Machine.{perform, may_want_memory, after_want}
-use Rattle.t1_session.specs.State.{State}
+use Rattle.t1_session.specs.declared.refused.Refused.{Refused}
+use Rattle.t1_session.specs.declared.refused.Refused.TheVariants as kinds
+use Rattle.t1_session.specs.Machine.{keeping, outcome, perform, may_want_memory, after_want}
+use Rattle.t1_session.specs.State.{SessionView, State}
 
 -- profile: an edit whose source is refused is refused for the same reason
 abbrev pub refused_source : Refusal → Cause
 refused_source (refusals.Fault fault) = causes.Fault fault
 refused_source refusals.Memory = causes.Memory
 
--- profile: what was to be performed was accepted; or refused, by a rule, which changes nothing, or by a fault; or memory
--- ran out, where it may, and left this state
+-- word: what was to be performed was accepted; or refused, by a rule, which changes nothing, or by a fault; or memory
+-- ran out, where it may, and left this state; what was refused before is kept
 abbrev pub Took : {T : Type 0} → State → Performed State → Bool → State → Result T Cause → State → Type 0
 Took old p may_want want (Ok done) new = (p.answer ≡ Accepted) × (new ≡ p.next)
 Took old p may_want want (Err (causes.Rule rule)) new = (p.answer ≡ Broken rule) × (p.next ≡ old) × (new ≡ old)
 Took old p may_want want (Err (causes.Fault fault)) new = (p.answer ≡ Faulty fault) × (new ≡ p.next)
 Took old p may_want want (Err causes.Memory) new = (may_want ≡ true) × (new ≡ want)
 
+-- word: the same, of a command
+abbrev pub TakesUnnoted : {T : Type 0} → State → Command → Result T Cause → State → Type 0
+TakesUnnoted old c result new = Took old (outcome old c) (may_want_memory old c) (after_want old c) result new
+
+-- profile: what was to be performed was accepted; or refused, by a rule, of which no more than the rule is kept, or by a fault; or
+-- memory ran out, where it may, and left this state
+abbrev pub TookNoted : {T : Type 0} → State → Performed State → Bool → State → Result T Cause → State → Type 0
+TookNoted old p may_want want (Ok done) new = (p.answer ≡ Accepted) × (new ≡ p.next)
+TookNoted old p may_want want (Err (causes.Rule rule)) new =
+    (p.answer ≡ Broken rule) × (new ≡ p.next) × (new ≡ record old { refused = Some (kinds.Rule rule) })
+TookNoted old p may_want want (Err (causes.Fault fault)) new = (p.answer ≡ Faulty fault) × (new ≡ p.next)
+TookNoted old p may_want want (Err causes.Memory) new = (may_want ≡ true) × (new ≡ want)
+
 -- profile: a command was performed
 abbrev pub Takes : {T : Type 0} → State → Command → Result T Cause → State → Type 0
-Takes old c result new = Took old (perform old c) (may_want_memory old c) (after_want old c) result new
+Takes old c result new = TookNoted old (perform old c) (may_want_memory old c) (after_want old c) result new
+
+-- profile: the same, of a call that keeps nothing of an edit whose source has a fault
+abbrev pub TakesOrDrops : {T : Type 0} → State → Command → Result T Cause → State → Type 0
+TakesOrDrops old c result new = TookNoted old (keeping None (outcome old c)) (may_want_memory old c) (after_want old c) result new
 
 -- profile: the same, of a call that hands what it took back with each refusal
 abbrev pub TakesOrReturns : {T E : Type 0} → State → Command → E → Result T (Cause × E) → State → Type 0
-TakesOrReturns {T} old c given (Ok done) new = Takes {T = T} old c (Ok done) new
-TakesOrReturns {T} old c given (Err refused) new = Takes {T = T} old c (Err refused.0) new × (refused.1 ≡ given)
+TakesOrReturns {T} old c given (Ok done) new = TakesOrDrops {T = T} old c (Ok done) new
+TakesOrReturns {T} old c given (Err back) new = TakesOrDrops {T = T} old c (Err back.0) new × (back.1 ≡ given)
 
 -- profile: a print that isn't done answers that a write failed or that memory ran out, and no fault
 abbrev pub AnswersNoFault : {T : Type 0} → Result T OutError → Type 0
@@ -48,3 +68,12 @@ AnswersNoFault (Err out.Memory) = Unit {0}
 abbrev pub Finds : {E : Type 0} → Result (Option (Vec ℕ Global)) E → Result (Option (List ℕ)) Fault → Type 0
 Finds (Ok found) given = given ≡ Ok (option_map (λ text. text.items) found)
 Finds (Err e) given = Unit {0}
+
+-- word: the session with this kept of a refusal
+abbrev pub with_refused : SessionView → Option Refused → SessionView
+with_refused v kept = record v { state = record v.state { refused = kept } }
+
+-- word: what is kept of a batch whose source is refused, where that has a fault
+abbrev pub faulty_batch : Refusal → SourceParts → Option Refused
+faulty_batch (refusals.Fault fault) made = Some (kinds.Batch made)
+faulty_batch refusals.Memory made = None

@@ -1,31 +1,18 @@
 -- The texts that queries show.
 use Rattle.std.specs.Prelude.{ℕ, ℤ, pos, negsuc, nat_le, if◌then◌else◌, List, [], ◌∷◌, ◌++◌, map, flat_map, decimal, Option, Some, None, option_map, option_and_then}
-use Rattle.std.specs.List.{find}
 use Rattle.t1_frac.specs.Ascii.{line_feed, space}
 use Rattle.t1_text.specs.Lines.{joined}
 use Rattle.t1_parts.specs.declared.item.Item.{Item}
-use Rattle.t1_parts.specs.declared.item.Item.TheVariants.{Plain, Section, Subr, Glyph}
-use Rattle.t1_parts.specs.Entries.{is_glyph, is_subr}
 use Rattle.t1_parts.specs.Printing.{body_line, word_groups}
 use Rattle.t1_parts.specs.SourceParts.{SourceParts}
 use Rattle.t1_source.specs.Codes.{name_of_code}
 use Rattle.t1_afm.specs.Afm.{FontMetrics, char_line, char_named, line_text}
 use Rattle.t1_font.specs.Metrics.{all_codes}
-
--- profile, queries: the words of an entry; no other item has any
-abbrev pub entry_words : Item → List (List ℕ)
-entry_words (Plain l) = []
-entry_words (Section before n after) = []
-entry_words (Subr n ws closing) = ws
-entry_words (Glyph g ws closing) = ws
+use Rattle.t1_refusal.specs.Entries.{entry_words, glyph_named, subr_of}
 
 -- profile, queries: the words of an entry, in the lines that the printed source has
 abbrev pub entry_text : Item → List ℕ
 entry_text item = joined (map body_line (word_groups (entry_words item)))
-
--- profile, queries: the first glyph of this name
-abbrev pub glyph_named : List ℕ → List Item → Option Item
-glyph_named name items = find (is_glyph name) items
 
 -- profile, queries: a Subr's number is from 0 to 32000
 abbrev pub subr_number : ℤ → Option ℕ
@@ -34,7 +21,7 @@ subr_number (negsuc n) = None
 
 -- profile, queries: the first Subr of this number
 abbrev pub subr_numbered : ℤ → List Item → Option Item
-subr_numbered number items = option_and_then (λ n. find (is_subr n) items) (subr_number number)
+subr_numbered number items = option_and_then (λ n. subr_of n items) (subr_number number)
 
 -- profile, queries: the words of the glyph of this name
 abbrev pub glyph_text : List ℕ → SourceParts → Option (List ℕ)

@@ -4,13 +4,16 @@ use Rattle.t1_parts.specs.SourceParts.{SourceParts}
 use Rattle.t1_pairs.specs.declared.pairs.Pair.{Pair}
 use Rattle.t1_cache.specs.Renewed.{Kept}
 use Rattle.t1_held.specs.Batch.{Draft, IsDraftOf}
+use Rattle.t1_session.specs.declared.refused.Refused.{Refused}
 use Rattle.t1_session.specs.Users.{UserTable}
 
--- profile: a source, its kerning pairs, and the batch that is open, or none
+-- profile: a source, its kerning pairs, the batch that is open, or none, and what was refused since an edit, a `begin`, a
+-- `commit` or an `abort` was accepted, or nothing
 pub record State : Type 0 where
   pub source : SourceParts
   pub pairs : List Pair
   pub batch : Option Draft
+  pub refused : Option Refused
 
 -- profile: what contracts see of a session: what it holds, what is kept of its glyphs, in source order, who uses each
 -- Subr and each glyph, and the count of runs

@@ -17,6 +17,7 @@ pub mod laws;
 mod measuring;
 mod metrics_line;
 mod performer;
+mod refused;
 mod serving;
 mod session;
 

@@ -1,19 +1,31 @@
 //! The line of a glyph in an AFM file.
-ghost use Rattle.std.specs.Prelude.{◌≡◌, ◌∷◌, [], codes, option_map, IfOk};
+ghost use Rattle.std.specs.Prelude.{◌≡◌, ◌++◌, ℕ, List, option_map, IfOk, OnOk};
 ghost use Rattle.std.specs.Fmt.{signed_decimal};
 ghost use Rattle.t1_code.specs.Parts.{bytes_of};
-ghost use Rattle.t1_afm.specs.Afm.{char_line, char_named, code_number, entries, line_text};
-ghost use Rattle.t1_session.specs.Queries.{metrics_line};
+ghost use Rattle.t1_afm.specs.Afm.{char_line, code_number, line_text, rest_text, width_words};
+ghost use Rattle.t1_cache.specs.Renewed.{record_of};
+ghost use Rattle.t1_session.specs.RecordedLines.{after_width, before_width};
+ghost use Rattle.t1_session.specs.RecordedLines.{recorded_char, recorded_line};
 
 use itoa::Buffer;
 use std::alloc::{AllocError, Global};
-use t1_afm::{CharMetric, Metrics};
+use t1_afm::{BBox, CharMetric, Text};
+use t1_cache::{GlyphRecord, Records};
+use t1_commands::push_slices;
+use t1_source::Source;
 
-/// The first glyph of a name.
-fn char_named<'c, 'a>(chars: &'c [CharMetric<'a>], name: &[u8]) -> Option<&'c CharMetric<'a>>
-    ensures { option_map (λ c. c.now) result ≡ char_named name.now chars.now }
+/// What the AFM file says of a glyph that has a record.
+fn char_metric<'n>(source: &Source, name: &'n [u8], record: &GlyphRecord) -> CharMetric<'n>
+    ensures { result ≡ recorded_char source.now name.now record.now }
 {
-    chars.iter().find(|glyph| glyph.name.as_slice() == name)
+    let width = record.run.width();
+    CharMetric {
+        code: source.code_of(name),
+        wx: width.x.nearest(),
+        wy: width.y.nearest(),
+        name: Text::new(name),
+        bbox: record.bbox.unwrap_or(BBox::EMPTY),
+    }
 }
 
 /// The number that a line has for a code, or for none.
@@ -26,73 +38,40 @@ fn code_number(code: Option<u8>) -> i64
     }
 }
 
-/// Slices, one after another.
-fn joined_slices(alloc: Global, slices: &[&[u8]]) -> Result<Vec<u8>, AllocError>
-    ensures { IfOk result (λ text. text.items ≡ bytes_of slices.now) }
+/// The words of a width, each after a space: along x alone, or along both axes where there is one along y.
+fn width_slices<'w>(glyph: &CharMetric, wx: &'w str, wy: &'w str) -> [&'w [u8]; 4]
+    requires x { wx.now ≡ signed_decimal glyph.now.wx }
+    requires y { wy.now ≡ signed_decimal glyph.now.wy }
+    ensures { (words : List (List ℕ)) →
+        bytes_of result ++ rest_text words ≡ rest_text (width_words glyph.now.wx glyph.now.wy ++ words) }
 {
-    let mut text = Vec::new(alloc);
-    for slice in slices {
-        text.extend_from_slice(slice)?;
+    if glyph.wy == 0 {
+        [b" WX ", wx.as_bytes(), b"", b""]
+    } else {
+        [b" W ", wx.as_bytes(), b" ", wy.as_bytes()]
     }
-    Ok(text)
 }
 
-/// The line with the width along x alone.
-fn line_across(alloc: Global, glyph: &CharMetric) -> Result<Vec<u8>, AllocError>
-    ensures { IfOk
-        result
-        (λ line. line.items ≡ line_text (codes "C" ∷ entries (codes "WX" ∷ signed_decimal glyph.now.wx ∷ []) glyph.now)) }
+/// Adds what stands before the width of a glyph.
+fn push_code(line: &mut Vec<u8>, code: Option<u8>) -> Result<(), AllocError>
+    ensures { OnOk result (line.new.items ≡ line.old.items ++ before_width code) }
 {
-    let mut code = Buffer::new();
-    let mut wx = Buffer::new();
+    let mut number = Buffer::new();
+    let digits = number.format(code_number(code)).as_bytes();
+    push_slices(line, &[b"C ", digits, b" ;"])
+}
+
+/// Adds what stands after the width of a glyph: its name and its box.
+fn push_name_and_box(line: &mut Vec<u8>, glyph: &CharMetric) -> Result<(), AllocError>
+    ensures { OnOk result (line.new.items ≡ line.old.items ++ rest_text (after_width glyph.now)) }
+{
     let mut left = Buffer::new();
     let mut bottom = Buffer::new();
     let mut right = Buffer::new();
     let mut top = Buffer::new();
-    joined_slices(
-        alloc,
+    push_slices(
+        line,
         &[
-            b"C ",
-            code.format(code_number(glyph.code)).as_bytes(),
-            b" ; WX ",
-            wx.format(glyph.wx).as_bytes(),
-            b" ; N ",
-            glyph.name.as_slice(),
-            b" ; B ",
-            left.format(glyph.bbox.left).as_bytes(),
-            b" ",
-            bottom.format(glyph.bbox.bottom).as_bytes(),
-            b" ",
-            right.format(glyph.bbox.right).as_bytes(),
-            b" ",
-            top.format(glyph.bbox.top).as_bytes(),
-            b" ;\n",
-        ],
-    )
-}
-
-/// The line with the width along both axes.
-fn line_along_both(alloc: Global, glyph: &CharMetric) -> Result<Vec<u8>, AllocError>
-    ensures { IfOk
-        result
-        (λ line. line.items ≡ line_text (codes "C" ∷ entries (codes "W" ∷ signed_decimal glyph.now.wx ∷ signed_decimal glyph.now.wy ∷ []) glyph.now)) }
-{
-    let mut code = Buffer::new();
-    let mut wx = Buffer::new();
-    let mut wy = Buffer::new();
-    let mut left = Buffer::new();
-    let mut bottom = Buffer::new();
-    let mut right = Buffer::new();
-    let mut top = Buffer::new();
-    joined_slices(
-        alloc,
-        &[
-            b"C ",
-            code.format(code_number(glyph.code)).as_bytes(),
-            b" ; W ",
-            wx.format(glyph.wx).as_bytes(),
-            b" ",
-            wy.format(glyph.wy).as_bytes(),
             b" ; N ",
             glyph.name.as_slice(),
             b" ; B ",
@@ -112,25 +91,32 @@ fn line_along_both(alloc: Global, glyph: &CharMetric) -> Result<Vec<u8>, AllocEr
 fn char_line(alloc: Global, glyph: &CharMetric) -> Result<Vec<u8>, AllocError>
     ensures { IfOk result (λ line. line.items ≡ line_text (char_line glyph.now)) }
 {
-    if glyph.wy == 0 {
-        line_across(alloc, glyph)
-    } else {
-        line_along_both(alloc, glyph)
-    }
+    let mut wx = Buffer::new();
+    let mut wy = Buffer::new();
+    let width = width_slices(glyph, wx.format(glyph.wx), wy.format(glyph.wy));
+    let mut line = Vec::new(alloc);
+    push_code(&mut line, glyph.code)?;
+    push_slices(&mut line, &width)?;
+    push_name_and_box(&mut line, glyph)?;
+    Ok(line)
 }
 
-/// The line of the glyph of a name, with its end, where there is that glyph.
+/// The line of the glyph of a name, with its end, where it has a record.
 pub fn metrics_line(
     alloc: Global,
-    metrics: &Metrics,
+    source: &Source,
+    records: &Records,
     name: &[u8],
 ) -> Result<Option<Vec<u8>>, AllocError>
-    ensures { IfOk
-        result
-        (λ found. option_map (λ line. line.items) found ≡ metrics_line name.now metrics.now) }
+    ensures { IfOk result (λ found.
+        option_map (λ line. line.items) found
+        ≡ recorded_line source.now name.now (record_of records.now.glyphs.entries name.now)) }
 {
-    match char_named(&metrics.chars, name) {
-        Some(glyph) => Ok(Some(char_line(alloc, glyph)?)),
+    match records.glyphs.get(name) {
+        Some(record) => {
+            let glyph = char_metric(source, name, record);
+            Ok(Some(char_line(alloc, &glyph)?))
+        }
         None => Ok(None),
     }
 }

@@ -56,7 +56,7 @@ impl<'a> Performer<'a> {
             Command::Commit => report(self.session.commit(), out),
             Command::Abort => report(self.session.abort(), out),
             Command::Print(print) => self.session.put_print(print, out),
-            Command::Show(show) => self.session.put_show(&show, out),
+            Command::Show(show) => self.session.put_show(show, out),
             Command::Broken(rule) => report(Err(Cause::Rule(rule)), out),
         }
     }

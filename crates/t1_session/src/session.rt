@@ -1,4 +1,5 @@
 //! A session: a font that is kept current under edits.
+use crate::refused::Refused;
 use std::alloc::Global;
 use std::marker::Model;
 use t1_held::{Batch, Held};
@@ -7,8 +8,9 @@ use t1_run::Meter;
 use t1_source::Source;
 
 /// A font under edits: its source and its pairs, the batch that is open, what is held of its Subrs
-/// and glyphs, and the count of runs. The source has no fault, what is held is that of the source
-/// from scratch, and the batch's source is what its edits made of the session's.
+/// and glyphs, the count of runs, and what was refused last. The source has no fault, what is held
+/// is that of the source from scratch, and the batch's source is what its edits made of the
+/// session's.
 #[derive(Drop)]
 pub struct Session<'a> {
     alloc: Global,
@@ -17,6 +19,7 @@ pub struct Session<'a> {
     held: Held,
     meter: Meter,
     batch: Option<Batch<'a>>,
+    refused: Option<Refused<'a>>,
 }
 
 impl<'a> Model for Session<'a> {
@@ -29,7 +32,7 @@ impl<'a> Model for Session<'a> {
     ghost Value = { SessionView };
 
     ghost view = { λ s. record {
-      state = record { source = s.source; pairs = s.pairs; batch = s.batch };
+      state = record { source = s.source; pairs = s.pairs; batch = s.batch; refused = s.refused };
       kept = map kept_of s.held.records.glyphs.entries;
       users = user_table s.held.records;
       runs = s.meter;
@@ -64,28 +67,31 @@ ghost use Rattle.t1_commands.specs.Blocks.{block_size};
 ghost use Rattle.t1_commands.specs.declared.answer.Answer.TheVariants.{Data};
 ghost use Rattle.t1_commands.specs.AnswerTexts.{answer_text};
 ghost use Rattle.t1_session.specs.Machine.{blocks_answer, file_answer, found_answer, opened};
-ghost use Rattle.t1_session.specs.Machine.{judged, printed, shown};
-ghost use Rattle.t1_session.specs.Outcomes.{AnswersNoFault, Finds, Takes, TakesOrReturns, Took};
-ghost use Rattle.t1_session.specs.Outcomes.{refused_source};
+ghost use Rattle.t1_session.specs.Machine.{judged, printed, refused_batch, shown};
+ghost use Rattle.t1_session.specs.Outcomes.{AnswersNoFault, Finds, Takes, TakesOrReturns};
+ghost use Rattle.t1_session.specs.Outcomes.{TakesUnnoted, Took, refused_source, with_refused};
+ghost use Rattle.t1_session.specs.Refusing.{OnFault, refused_after, refused_text};
 ghost use Rattle.t1_session.specs.Reruns.{edition, AreKept, IsSameButForRuns, Reruns};
 ghost use Rattle.t1_session.specs.Reruns.{RerunsOrReturns, RunsForOutline};
 ghost use Rattle.t1_session.specs.RerunsByTest.{RerunsByTest};
 ghost use Rattle.t1_session.specs.Users.{AreUsers};
 
 use crate::encoding::encoding_text;
-use crate::entries::{entry_text, glyph_named, subr_numbered};
+use crate::entries::{entry_text, subr_numbered};
 use crate::metrics_line::metrics_line;
+use crate::refused::{keep, refused_batch, refused_text};
 use std::alloc::AllocError;
 use std::io::Write;
 use std::mem;
 use t1_code::{Counted, OutError, Pfa, Pfb, WHOLE_PARTS};
 use t1_commands::{Answer, PfaData, PfbData, Print, Show, block_size, put_answer};
-use t1_font::{MeasuredGlyphs, afm_of_source, metrics, usage_text, write_source_afm};
+use t1_font::{MeasuredGlyphs, afm_of_source, usage_text, write_source_afm};
 use t1_frac::{Bytes, Refusal};
 use t1_held::{EditedEntry, Edits, held_metrics, held_of, prepare_edits, settle, write_held_file};
 use t1_outline::glyph_outline;
 use t1_outline::laws::a_source_shows_its_outlines;
 use t1_pairs::laws::text_of_pairs_read;
+use t1_refusal::glyph_named;
 use t1_source::laws::text_of_source_read;
 use t1_source::{Cause, Change, Edit, Rule};
 
@@ -119,6 +125,7 @@ impl<'a> Session<'a> {
             held,
             meter,
             batch: None,
+            refused: None,
         };
         session.users_are_right();
         Ok(session)
@@ -140,8 +147,8 @@ impl<'a> Session<'a> {
     }
 
     /// Takes an edit, or refuses it. Outside a batch the first edit rule that it breaks refuses it,
-    /// else the first fault of the edited source; in a batch the edit rules alone. A refusal drops
-    /// the edit and changes nothing.
+    /// else the first fault of the edited source; in a batch the edit rules alone. A refusal changes
+    /// nothing; what was refused is kept for `show_refusal`, until one of these calls is accepted.
     pub fn apply(&mut self, edit: Edit) -> Result<(), Cause>
         ensures takes { Takes self.old.state (commands.Edit edit) result self.new.state }
         ensures right { KeepsAll self.new.state.source self.new.kept }
@@ -151,10 +158,12 @@ impl<'a> Session<'a> {
         self.reads_back();
         let taken = self.take(&edit);
         self.users_are_right();
+        self.keep(Some(Refused::Edit(edit)), &taken);
         taken
     }
 
-    /// Does what `apply` does, and hands the edit back with a refusal.
+    /// Does what `apply` does, and hands the edit back with a refusal. Of an edit whose source has a
+    /// fault nothing is kept then.
     pub fn try_apply(&mut self, edit: Edit) -> Result<(), (Cause, Edit)>
         ensures takes { TakesOrReturns self.old.state (commands.Edit edit) edit result
             self.new.state }
@@ -166,6 +175,7 @@ impl<'a> Session<'a> {
         self.reads_back();
         let taken = self.take(&edit);
         self.users_are_right();
+        self.keep(None, &taken);
         match taken {
             Ok(()) => Ok(()),
             Err(cause) => Err((cause, edit)),
@@ -173,9 +183,19 @@ impl<'a> Session<'a> {
     }
 
     /// Opens a batch, on a copy of the source and of the pairs; E11 where one is open.
-    #[tactic(auto, unfolding(crate::specs::Machine::perform))]
     pub fn begin(&mut self) -> Result<(), Cause>
         ensures takes { Takes self.old.state commands.Begin result self.new.state }
+        ensures kept { AreKept self.old self.new }
+    {
+        let begun = self.open_batch();
+        self.keep(None, &begun);
+        begun
+    }
+
+    /// Opens a batch; E11 where one is open.
+    #[tactic(auto, unfolding(crate::specs::Machine::outcome))]
+    fn open_batch(&mut self) -> Result<(), Cause>
+        ensures takes { TakesUnnoted self.old.state commands.Begin result self.new.state }
         ensures kept { AreKept self.old self.new }
     {
         if self.batch.is_some() {
@@ -188,7 +208,8 @@ impl<'a> Session<'a> {
 
     /// Closes the batch, and takes its source and its pairs unless the source has a fault; E12
     /// where none is open. Each glyph that some edit of the batch makes stale is run once. A
-    /// refusal, also for want of memory, leaves the session as before the batch.
+    /// refusal, also for want of memory, leaves the session as before the batch; the source of a
+    /// batch with a fault is kept for `show_refusal`.
     pub fn commit(&mut self) -> Result<(), Cause>
         ensures takes { Takes self.old.state commands.Commit result self.new.state }
         ensures right { KeepsAll self.new.state.source self.new.kept }
@@ -196,15 +217,26 @@ impl<'a> Session<'a> {
         ensures runs { Reruns (edition self.old.state commands.Commit) self.old result self.new }
     {
         self.reads_back();
-        let committed = self.close_batch();
+        let (committed, faulty) = self.close_batch();
         self.users_are_right();
+        self.keep(faulty, &committed);
         committed
     }
 
     /// Closes the batch and drops its edits; E12 where none is open. It takes no memory.
-    #[tactic(auto, unfolding(crate::specs::Machine::perform))]
     pub fn abort(&mut self) -> Result<(), Cause>
         ensures takes { Takes self.old.state commands.Abort result self.new.state }
+        ensures kept { AreKept self.old self.new }
+    {
+        let dropped = self.drop_batch();
+        self.keep(None, &dropped);
+        dropped
+    }
+
+    /// Closes the batch and drops its edits; E12 where none is open.
+    #[tactic(auto, unfolding(crate::specs::Machine::outcome))]
+    fn drop_batch(&mut self) -> Result<(), Cause>
+        ensures takes { TakesUnnoted self.old.state commands.Abort result self.new.state }
         ensures kept { AreKept self.old self.new }
     {
         match self.batch.take() {
@@ -213,13 +245,23 @@ impl<'a> Session<'a> {
         }
     }
 
+    /// Keeps what was refused by what is answered, or forgets what was refused before; this is what
+    /// is kept where the source has a fault.
+    fn keep(&mut self, faulty: Option<Refused<'a>>, answered: &Result<(), Cause>)
+        ensures { self.new ≡ with_refused self.old (refused_after faulty.entry
+            self.old.state.refused answered.now) }
+    {
+        keep(&mut self.refused, faulty, answered);
+    }
+
     /// Closes the batch, and takes its source and its pairs unless the source has a fault; E12
-    /// where none is open.
-    #[tactic(auto, unfolding(crate::specs::Machine::perform))]
-    fn close_batch(&mut self) -> Result<(), Cause>
-        ensures takes { Takes self.old.state commands.Commit result self.new.state }
+    /// where none is open. With it what is kept of a batch that has a fault.
+    #[tactic(auto, unfolding(crate::specs::Machine::outcome))]
+    fn close_batch(&mut self) -> (Result<(), Cause>, Option<Refused<'a>>)
+        ensures takes { TakesUnnoted self.old.state commands.Commit result.0 self.new.state }
+        ensures faulty { OnFault result.0 (result.1 ≡ refused_batch self.old.state.batch) }
         ensures right { KeepsAll self.new.state.source self.new.kept }
-        ensures runs { RerunsByTest (edition self.old.state commands.Commit) self.old result
+        ensures runs { RerunsByTest (edition self.old.state commands.Commit) self.old result.0
             self.new }
     {
         match self.batch.take() {
@@ -227,14 +269,14 @@ impl<'a> Session<'a> {
                 let (source, pairs, entries) = batch.into_parts();
                 self.accept(source, pairs, entries)
             }
-            None => Err(Cause::Rule(Rule::E12)),
+            None => (Err(Cause::Rule(Rule::E12)), None),
         }
     }
 
     /// Takes an edit, or refuses it.
-    #[tactic(auto, unfolding(crate::specs::Machine::perform))]
+    #[tactic(auto, unfolding(crate::specs::Machine::outcome))]
     fn take(&mut self, edit: &Edit) -> Result<(), Cause>
-        ensures takes { Takes self.old.state (commands.Edit edit.now) result self.new.state }
+        ensures takes { TakesUnnoted self.old.state (commands.Edit edit.now) result self.new.state }
         ensures right { KeepsAll self.new.state.source self.new.kept }
         ensures runs { RerunsByTest (edition self.old.state (commands.Edit edit.now)) self.old
             result self.new }
@@ -286,22 +328,24 @@ impl<'a> Session<'a> {
     }
 
     /// Takes the source and the pairs of a batch in the place of its own, unless the source has a
-    /// fault. The glyphs that its edits make stale are run, and no others.
+    /// fault; then with what is kept of it. The glyphs that its edits make stale are run, and no
+    /// others.
     fn accept(
         &mut self,
         source: Source<'a>,
         pairs: Pairs,
         entries: Vec<EditedEntry>,
-    ) -> Result<(), Cause>
+    ) -> (Result<(), Cause>, Option<Refused<'a>>)
         requires none { self.old.state.batch ≡ None }
         requires edited { IsEditedBy (map entry_edit entries.items) self.old.state.source source }
         ensures took { Took self.old.state
             (judged self.old.state (source.entry, pairs) (source_check source.entry)) true
-            self.old.state result self.new.state }
+            self.old.state result.0 self.new.state }
+        ensures faulty { OnFault result.0 (result.1 ≡ Some (Refused.Batch source.entry)) }
         ensures right { KeepsAll self.new.state.source self.new.kept }
         ensures runs { RerunsByTest (Some
             (record { keys = keys (map entry_edit entries.items); source = source.entry })) self.old
-            result self.new }
+            result.0 self.new }
     {
         let edits = Edits::Batch {
             source: &self.source,
@@ -312,14 +356,14 @@ impl<'a> Session<'a> {
         let ready = match prepared {
             Ok(ready) => ready,
             Err(refusal) => {
-                drop(source);
-                return Err(cause_of(refusal));
+                let (cause, faulty) = refused_batch(refusal, source);
+                return (Err(cause), faulty);
             }
         };
         let _source = mem::replace(&mut self.source, source);
         self.pairs = pairs;
         settle(&mut self.held, ready);
-        Ok(())
+        (Ok(()), None)
     }
 
     /// The users that are held are those of the source from scratch.
@@ -447,14 +491,12 @@ impl<'a> Session<'a> {
     }
 
     /// The line of a glyph in the AFM file, with its end; none where there is no glyph of this
-    /// name.
+    /// name. It is made of the glyph's record, and no other glyph is looked at.
     pub fn show_metrics(&self, name: &[u8]) -> Result<Option<Vec<u8>>, AllocError>
         ensures { Finds result (metrics_line_from_scratch name.now self.now.state) }
     {
         self.reads_back();
-        let glyphs = self.glyphs()?;
-        let metrics = metrics(self.alloc, &self.source, &self.pairs, &glyphs)?;
-        metrics_line(self.alloc, &metrics, name)
+        metrics_line(self.alloc, &self.source, &self.held.records, name)
     }
 
     /// The outline of a glyph with its parts, a line each: `M x y` where a segment doesn't begin
@@ -481,6 +523,17 @@ impl<'a> Session<'a> {
     {
         self.reads_back();
         encoding_text(self.alloc, &self.source)
+    }
+
+    /// What is told of what was refused last, in lines: the rule; or code and place of the first
+    /// fault, the word that has it, with its number, as `word 4 moveto`, and the way of the run that
+    /// met it, as `in glyph V, subr 4`. Nothing where nothing was refused since an edit, a `begin`, a
+    /// `commit` or an `abort` was accepted. It costs a check of the source that was refused.
+    pub fn show_refusal(&self) -> Result<Vec<u8>, AllocError>
+        ensures { IfOk result (λ text. text.items ≡ refused_text self.now.state.source
+            self.now.state.pairs self.now.state.refused) }
+    {
+        refused_text(self.alloc, &self.source, &self.pairs, &self.refused)
     }
 
     /// Writes the PFB file as the data of an answer. No file is made in memory.
@@ -566,19 +619,20 @@ impl<'a> Session<'a> {
     /// Writes what a query is answered. All that takes memory is there before any of it is written.
     pub(crate) fn put_show<W: Write>(
         &mut self,
-        show: &Show,
+        show: Show,
         out: &mut Counted<W>,
     ) -> Result<(), OutError>
         ensures prints { Prints W.contents out.old out.new
-            (Ok (answer_text (shown self.old.state show.now))) result }
+            (Ok (answer_text (shown self.old.state show))) result }
         ensures same { self.new.state ≡ self.old.state }
     {
         match show {
             Show::Glyph(name) => put_found(self.show_glyph(name.as_slice())?, out),
-            Show::Subr(number) => put_found(self.show_subr(*number)?, out),
+            Show::Subr(number) => put_found(self.show_subr(number)?, out),
             Show::Metrics(name) => put_found(self.show_metrics(name.as_slice())?, out),
             Show::Outline(name) => put_found(self.show_outline(name.as_slice())?, out),
             Show::Encoding => put_data(self.show_encoding()?, out),
+            Show::Refusal => put_data(self.show_refusal()?, out),
         }
     }
 }

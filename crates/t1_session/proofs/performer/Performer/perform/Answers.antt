@@ -1,4 +1,4 @@
-use Rattle.std.proofs.Common.{◌≡◌, Ok, subst, sym, ◌∙◌}
+use Rattle.std.proofs.Common.{Ok, subst, sym, ◌∙◌}
 use Rattle.t1_code.specs.Parts.{Prints}
 use Rattle.t1_commands.specs.AnswerTexts.{answer_text}
 use Rattle.t1_commands.specs.declared.command.Command.TheVariants as commands
@@ -7,7 +7,6 @@ use Rattle.t1_session.specs.Machine.{printed, shown}
 use Rattle.t1_session.specs.State.{State}
 use Rattle.t1_session.proofs.Reporting.{broken_performed, print_performed, query_performed}
 use Rattle.t1_session.proofs.performer.Performer.perform.Goals as goal
-use Rattle.t1_session.proofs.performer.Performer.perform.Goals.{in-Glyph-1, in-Metrics-1, in-Outline-1, in-Subr-1}
 
 pub returns-in-Print : goal.returns-in-Print
 returns-in-Print g c =
@@ -16,10 +15,8 @@ returns-in-Print g c =
 
 pub returns-in-Show : goal.returns-in-Show
 returns-in-Show g c =
-    let kept : c.match-show.self ≡ c.put_show.new.self.state =
-    elim c.match-show.branch [ in-Glyph-1 w ↦ w.self-is | in-Metrics-1 w ↦ w.self-is | in-Outline-1 w ↦ w.self-is | in-Subr-1 w ↦ w.self-is ] in
     rw c.in-Show.is (subst (λ (s : State). IsPerformed g.W.Write.contents c.args.self.now s c.args.out.now c.put_show.new.out (commands.Show c.in-Show.show) c.put_show.result)
-    (sym (kept ∙ (c.put_show.ensures.same ∙ c.self.view_is)))
+    (sym (c.put_show.ensures.same ∙ c.self.view_is))
     (query_performed g.W.Write.contents c.args.self.now c.args.out.now c.put_show.new.out c.in-Show.show c.put_show.result
     (subst (λ (s : State). Prints g.W.Write.contents c.args.out.now c.put_show.new.out (Ok (answer_text (shown s c.in-Show.show))) c.put_show.result) c.self.view_is c.put_show.ensures.prints)))
 

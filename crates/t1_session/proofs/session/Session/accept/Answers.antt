@@ -2,6 +2,7 @@ use Rattle.std.proofs.Common.{ap, map, rules, sym}
 use Rattle.t1_cache.specs.Renewed.{kept_of}
 use Rattle.t1_held.specs.Batch.{entry_edit, keys}
 use Rattle.t1_held.specs.declared.held.ReadyHeld.{ReadyHeld}
+use Rattle.t1_session.proofs.RefusalLaws.{batch_faulty}
 use Rattle.t1_session.proofs.RerunLaws.{edits_spend}
 use Rattle.t1_session.proofs.session.Session.accept.Goals as goal
 
@@ -27,3 +28,6 @@ returns-clause-right c = search rules
 
 pub returns-clause-runs : goal.returns-clause-runs
 returns-clause-runs c = search rules
+
+pub returns-in-Err-clause-faulty : goal.returns-in-Err-clause-faulty
+returns-in-Err-clause-faulty c = batch_faulty c.in-Err.refusal c.args.source _ _ c.refused_batch-cause.ensures.cause c.refused_batch-cause.ensures.kept

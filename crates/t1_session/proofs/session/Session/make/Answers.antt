@@ -36,7 +36,7 @@ returns-in_err-commit-clause-runs c =
 pub returns-in-Err-clause-took : goal.returns-in-Err-clause-took
 returns-in-Err-clause-took c =
     let s = c.self.inside in
-    let state : State = record { source = s.source; pairs = s.pairs; batch = s.batch } in
+    let state : State = record { source = s.source; pairs = s.pairs; batch = s.batch; refused = s.refused } in
     subst (λ (v : SessionView). Took {T = Unit {0}} v.state (judged v.state (changed c.args.change v.state.source v.state.pairs) (source_check (changed c.args.change v.state.source v.state.pairs).0)) true v.state (Err c.cause_of.result) state) c.self.view_is
     (subst (λ (cause : Cause). Took {T = Unit {0}} state (judged state (changed c.args.change s.source s.pairs) (source_check (changed c.args.change s.source s.pairs).0)) true state (Err cause) state) (sym c.cause_of.ensures)
     (refused_takes c.in-Err.refusal state (changed c.args.change s.source s.pairs) c.in-Err.ensures.checked

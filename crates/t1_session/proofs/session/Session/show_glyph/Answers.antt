@@ -1,7 +1,8 @@
 use Rattle.std.proofs.Common.{Ok, ap, sym, ◌∙◌}
 use Rattle.std.specs.Prelude.{option_map}
 use Rattle.t1_session.specs.State.{SessionView}
-use Rattle.t1_session.specs.Queries.{entry_text, glyph_named, glyph_text}
+use Rattle.t1_refusal.specs.Entries.{glyph_named}
+use Rattle.t1_session.specs.Queries.{entry_text, glyph_text}
 use Rattle.t1_session.specs.FromScratch.{glyph_from_scratch}
 use Rattle.t1_session.proofs.StateLaws.{asked_scratch, found_scratch}
 use Rattle.t1_session.proofs.session.Session.show_glyph.Goals as goal

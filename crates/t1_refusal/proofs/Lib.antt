@@ -1,0 +1,3 @@
+pub mod MetLaws
+pub mod TellingLaws
+pub mod WordLaws

@@ -1,0 +1,3 @@
+pub mod Entries
+pub mod Met
+pub mod Telling
