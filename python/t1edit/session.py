@@ -8,6 +8,7 @@ import warnings
 from collections import deque
 from typing import Deque, Dict, Iterator, Optional, Tuple, Union
 
+from . import library
 from .answers import Answer, Answers, NoAnswer
 from .files import File, named
 from .pipes import Pipes
@@ -101,7 +102,9 @@ class Session:
         with named(source) as path, named(kern) as pairs:
             assert path is not None
             options = [] if pairs is None else ["--kern", pairs]
-            self._pipes = Pipes([self._program, "session", *options, path])
+            shared = None if program else library.named()
+            words = [self._program, "session", *options, path]
+            self._pipes: Union[Pipes, library.Calls] = library.Calls(shared, path, pairs) if shared else Pipes(words)
             self._ending = None
             try:
                 self.print("kern")  # (a font that is refused answers nothing)

@@ -14,6 +14,7 @@ TOP = os.path.dirname(os.path.dirname(os.path.dirname(os.path.abspath(__file__))
 CLOSING = re.compile(r"(\d+) passed, (\d+) failed(?:, (\d+) skipped)?(?: \(.*\))?")
 # What is to be seen of a program, the longest first, and what shows times and so runs by itself.
 BESIDE = [
+    "tests/library --count 50",
     "tests/alloc-failures --every 25",
     "tests/interop",
     "tests/random --sessions --count 100",

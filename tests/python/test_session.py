@@ -144,13 +144,13 @@ class Interrupts(Room):
             self.assertRaises(ChildProcessError, os.waitpid, session.pid, os.WNOHANG)
 
     def test_the_terminal_does_not_reach_the_session(self):
-        with Session(DEMO) as session:
+        with Session(DEMO, program=PROGRAM) as session:
             self.assertNotEqual(os.getpgid(session.pid), os.getpgrp())
 
 
 class Ends(Room):
     def test_killed(self):
-        with Font(DEMO) as font:
+        with Font(DEMO, program=PROGRAM) as font:
             font.kern["A", "V"] = 1
             os.kill(font.session.pid, signal.SIGKILL)
             for call in (font.afm, font.pfb, lambda: font.kern.__setitem__(("A", "V"), 2), lambda: font.glyphs.add("B", LONG)):
@@ -159,7 +159,7 @@ class Ends(Room):
             self.assertRaises(ChildProcessError, os.waitpid, font.session.pid, os.WNOHANG)
 
     def test_killed_in_the_midst_of_answers(self):
-        with Session(DEMO) as session:
+        with Session(DEMO, program=PROGRAM) as session:
             afm = session.print("afm")
             replies = [session.send("print", "afm") for _ in range(3000)]
             self.assertEqual(replies[0].result(), afm)

@@ -103,8 +103,7 @@ pub fn measured_notes(alloc: Global, text: &[u8]) -> Result<Vec<Note>, AllocErro
 }
 
 /// All notes on a text, in the order of their places. The text need not be one that can be read;
-/// those that
-/// stand on runs of the glyphs are told of a source without a fault alone.
+/// those that stand on runs of the glyphs are told of a source without a fault alone.
 #[tactic(auto, unfolding(crate::specs::MeasuredNotes::all_notes))]
 pub fn all_notes(alloc: Global, text: &[u8]) -> Result<Vec<Note>, AllocError>
     ensures { IfOk result (λ notes. notes.items ≡ all_notes text.now) }

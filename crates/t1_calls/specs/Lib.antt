@@ -1,0 +1,5 @@
+pub mod FontFaults
+pub mod Framing
+pub mod Judging
+pub mod Shown
+pub mod Talking

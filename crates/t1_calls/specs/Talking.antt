@@ -1,0 +1,47 @@
+-- A session by single calls.
+use Rattle.std.specs.Prelude.{◌≡◌, ℕ, Bool, true, false, List, [], Option, Some, None, Result, Ok, Err}
+use Rattle.t1_frac.specs.Words.{words}
+use Rattle.t1_commands.specs.declared.answer.Answer.{Answer}
+use Rattle.t1_commands.specs.declared.command.Command.{Command}
+use Rattle.t1_commands.specs.AnswerTexts.{answer_text}
+use Rattle.t1_commands.specs.Answers.{answer_to}
+use Rattle.t1_commands.specs.Commands.{input_commands, takes_body}
+use Rattle.t1_session.specs.Conversation.{Performs}
+use Rattle.t1_session.specs.Machine.{after_want, machine, may_want_memory, perform}
+use Rattle.t1_session.specs.State.{State}
+use Rattle.t1_calls.specs.Framing.{framed, is_call}
+use Rattle.t1_calls.specs.declared.talk.Unperformed.{Unperformed}
+use Rattle.t1_calls.specs.declared.talk.Unperformed.TheVariants as unperformed
+
+-- profile: what contracts see of a session by calls: its state, and the text of the answer that is kept
+pub record Spoken : Type 0 where
+  pub state : State
+  pub answer : List ℕ
+
+-- profile: the text of the answer that is kept: none before the first command, nor for a line without words
+abbrev pub kept_text : Option Answer → List ℕ
+kept_text None = []
+kept_text (Some answer) = answer_text answer
+
+-- word: a command was performed and answered; or it met want of memory, and left what that leaves
+abbrev pub IsAnswered : {E : Type 0} → State → State → Command → Result Answer E → Type 0
+IsAnswered old new command (Ok answer) = (answer ≡ (perform old command).answer) × (new ≡ (perform old command).next)
+IsAnswered old new command (Err e) = (may_want_memory old command ≡ true) × (new ≡ after_want old command)
+
+-- word: the answer to one command, marked or not as one that met want of memory
+pub record Step (old new : State) (command : Command) (answer : Answer) : Type 0 where
+  pub mark : Bool
+  pub is : answer ≡ (answer_to machine old command mark).answer
+  pub next : new ≡ (answer_to machine old command mark).next
+
+-- profile, answers: the texts of a call are one command's, or have no words, and as input they bring the session from its
+-- state to the next one with the answer that is kept, whatever commands come after
+abbrev pub Turns : Spoken → Spoken → List ℕ → List ℕ → Type 0
+Turns old new line body = (is_call line body ≡ true) × Performs old.state new.state (input_commands true (framed line body)) new.answer
+
+-- profile, answers: a call that performs a command; texts that aren't one command's, and want of memory for a body, leave
+-- all as it was
+abbrev pub Speaks : {T : Type 0} → Spoken → Spoken → List ℕ → List ℕ → Result T Unperformed → Type 0
+Speaks old new line body (Ok done) = Turns old new line body
+Speaks old new line body (Err unperformed.Misframed) = (is_call line body ≡ false) × (new ≡ old)
+Speaks old new line body (Err unperformed.Memory) = (takes_body (words line) ≡ true) × (new ≡ old)

@@ -1,0 +1,41 @@
+//! Commands performed on a session, each with its answer in memory.
+ghost use Rattle.t1_commands.specs.Commands.{Makes};
+ghost use Rattle.t1_calls.specs.Talking.{IsAnswered, Step};
+
+use crate::prints::{print_answer, show_answer};
+use std::alloc::{AllocError, Global};
+use t1_commands::{Answer, Command, answer_of};
+use t1_session::Session;
+
+/// Performs a command. Where memory runs out the session is as before, but for the batch of a
+/// commit.
+#[tactic(auto, using(crate::proofs::PerformingLaws::taken, crate::proofs::PerformingLaws::print_answered, crate::proofs::PerformingLaws::show_answered))]
+fn perform(alloc: Global, session: &mut Session, command: Command) -> Result<Answer, AllocError>
+    ensures { IsAnswered session.old.state session.new.state command result }
+{
+    match command {
+        Command::Edit(edit) => answer_of(session.apply(edit)),
+        Command::Begin => answer_of(session.begin()),
+        Command::Commit => answer_of(session.commit()),
+        Command::Abort => answer_of(session.abort()),
+        Command::Print(print) => print_answer(alloc, session, print),
+        Command::Show(show) => show_answer(session, &show),
+        Command::Broken(rule) => Ok(Answer::Broken(rule)),
+    }
+}
+
+/// Performs the command that was made, where there was the memory for it, and gives its answer,
+/// also where memory ran out.
+#[tactic(auto, using(crate::proofs::PerformingLaws::answered, crate::proofs::PerformingLaws::unanswered, crate::proofs::PerformingLaws::not_made))]
+pub fn answer_to(alloc: Global, session: &mut Session, made: Result<Command, AllocError>) -> Answer
+    ensures { (wanted : Command) → Makes made wanted →
+        Step session.old.state session.new.state wanted result }
+{
+    match made {
+        Ok(command) => match perform(alloc, session, command) {
+            Ok(answer) => answer,
+            Err(_) => Answer::OutOfMemory,
+        },
+        Err(_) => Answer::OutOfMemory,
+    }
+}

@@ -1,0 +1,140 @@
+"""A session by the library for C, in this process, in the place of the program and its pipes."""
+
+from __future__ import annotations
+
+import ctypes
+import functools
+import os
+import threading
+from typing import List, Optional, Tuple
+
+# The shared object is named by this variable.
+NAMED_BY = "T1EDIT_LIBRARY"
+VERSION = 1
+DONE, REFUSED, MEMORY, UNTOLD, MISUSED = range(5)
+ROOM = 65536
+# The statuses of the program for a font with a fault, and for want of memory.
+FAULT, WANT = 1, 4
+
+
+class Handle(ctypes.Structure):
+    """A session of the library; two null pointers are none."""
+
+    _fields_ = [("at", ctypes.c_void_p), ("source", ctypes.c_void_p)]
+
+
+def named() -> Optional[str]:
+    """The shared object that sessions are to take, or None."""
+    return os.environ.get(NAMED_BY) or None
+
+
+@functools.lru_cache(maxsize=None)
+def loaded(path: str) -> ctypes.CDLL:
+    """The library of a shared object. Raises OSError where it can't be loaded or is of another version."""
+    library = ctypes.CDLL(path)
+    text, room = [ctypes.c_char_p, ctypes.c_size_t], [ctypes.c_char_p, ctypes.c_size_t, ctypes.POINTER(ctypes.c_size_t)]
+    handle = ctypes.POINTER(Handle)
+    for name, kinds in (("version", []), ("open", [*text, *text, handle, *room]), ("answer", [handle, *room])):
+        getattr(library, f"t1edit_{name}").argtypes = kinds
+    library.t1edit_perform.argtypes = [handle, *text, *text, *room]
+    library.t1edit_close.argtypes = [handle]
+    library.t1edit_close.restype = None
+    if library.t1edit_version() != VERSION:
+        raise OSError(f"{path} isn't version {VERSION} of the library")
+    return library
+
+
+def contents(path: str) -> bytes:
+    with open(path, "rb") as file:
+        return file.read()
+
+
+def cut(command: bytes) -> Tuple[bytes, bytes]:
+    """The line of a command as it is written to a session, and its body."""
+    line, _, rest = command.partition(b"\n")
+    return line, rest[: -len(b".\n")] if rest else b""
+
+
+class Calls:
+    """A session of the library, with the calls of Pipes: whole commands are pushed, and their answers moved out.
+
+    One call at a time is made, under a lock, since ctypes lets other threads run meanwhile.
+    """
+
+    has_unwritten = False
+
+    def __init__(self, path: str, source: str, kern: Optional[str]) -> None:
+        self._library = loaded(path)
+        self._lock = threading.Lock()
+        self._handle, self._length = Handle(), ctypes.c_size_t()
+        self._buffer, self._room = ctypes.create_string_buffer(ROOM), ROOM
+        self._owner = os.getpid()
+        self._given: List[bytes] = []
+        self._status, self._said = 0, ""
+        self._open(contents(source), b"" if kern is None else contents(kern))
+
+    @property
+    def pid(self) -> int:
+        """The number of this process, which the session is part of."""
+        return self._owner
+
+    @property
+    def is_ours(self) -> bool:
+        return self._owner == os.getpid()
+
+    def push(self, data: bytes) -> None:
+        """Performs a command."""
+        line, body = cut(data)
+        with self._lock:
+            if self._handle.at:
+                self._given.append(self._performed(line, body))
+
+    def wait(self) -> List[Tuple[int, int]]:
+        return []
+
+    def move(self, ready: List[Tuple[int, int]]) -> Optional[bytes]:
+        """The answers that nobody has taken; None where there is none and the session has ended."""
+        with self._lock:
+            given, self._given = b"".join(self._given), []
+            return given if given or self._handle.at else None
+
+    def close_input(self) -> None:
+        self._close()
+
+    def kill(self) -> None:
+        if self.is_ours:
+            self._close()
+
+    def end(self) -> Tuple[int, str]:
+        self._close()
+        return self._status, self._said
+
+    def _open(self, source: bytes, pairs: bytes) -> None:
+        buffer, length = self._buffer, ctypes.byref(self._length)
+        handle = ctypes.byref(self._handle)
+        status = self._library.t1edit_open(source, len(source), pairs, len(pairs), handle, buffer, self._room, length)
+        if status == REFUSED:
+            self._status, self._said = FAULT, f"t1edit: {self._told().decode('latin-1')}\n"
+        elif status != DONE:
+            self._status, self._said = WANT, "t1edit: out of memory\n"
+
+    def _performed(self, line: bytes, body: bytes) -> bytes:
+        """The answer to a command."""
+        handle, length = ctypes.byref(self._handle), ctypes.byref(self._length)
+        status = self._library.t1edit_perform(handle, line, len(line), body, len(body), self._buffer, self._room, length)
+        while status == UNTOLD or (status == DONE and self._length.value > self._room):
+            if self._length.value > self._room:
+                self._room = self._length.value
+                self._buffer = ctypes.create_string_buffer(self._room)
+            status = self._library.t1edit_answer(handle, self._buffer, self._room, length)
+        if status == MEMORY:
+            return b"refused memory\n"
+        assert status == DONE, status
+        return self._told()
+
+    def _told(self) -> bytes:
+        return ctypes.string_at(self._buffer, min(self._length.value, self._room))
+
+    def _close(self) -> None:
+        with self._lock:
+            self._library.t1edit_close(ctypes.byref(self._handle))
