@@ -4,7 +4,8 @@ ghost use Rattle.t1_frac.specs.Ascii.{line_feed};
 ghost use Rattle.t1_code.specs.Counted.{Writes};
 ghost use Rattle.t1_code.specs.Parts.{bytes_of};
 ghost use Rattle.t1_commands.specs.Answering.{Answers};
-ghost use Rattle.t1_commands.specs.AnswerTexts.{rule_name, code_name, place_number, place_text, fault_text, data_text, answer_text};
+ghost use Rattle.t1_commands.specs.AnswerTexts.{rule_name, code_name, place_number, place_text};
+ghost use Rattle.t1_commands.specs.AnswerTexts.{fault_text, data_text, answer_text};
 
 use itoa::Buffer;
 use std::alloc::AllocError;
@@ -104,7 +105,8 @@ fn code_name(code: Code) -> &'static [u8]
     }
 }
 
-/// Writes slices, one after another, by way of a chunk: one call of the writer takes up to 4,096 bytes of them.
+/// Writes slices, one after another, by way of a chunk: one call of the writer takes up to 4,096
+/// bytes of them.
 fn write_slices<W: Write>(writer: &mut Counted<W>, slices: &[&[u8]]) -> io::Result<()>
     ensures { Writes W.contents writer.old writer.new (bytes_of slices.now) result }
 {
@@ -143,7 +145,8 @@ fn place_slices<'a>(
     }
 }
 
-/// Writes a fault by its code and its place, where it has one, between two texts: `F20 subr 7`. It takes no memory.
+/// Writes a fault by its code and its place, where it has one, between two texts: `F20 subr 7`. It
+/// takes no memory.
 #[tactic(auto, unfolding(crate::specs::AnswerTexts::fault_text))]
 pub fn put_fault<W: Write>(
     writer: &mut Counted<W>,
@@ -151,7 +154,8 @@ pub fn put_fault<W: Write>(
     fault: &Fault,
     after: &[u8],
 ) -> io::Result<()>
-    ensures { Writes W.contents writer.old writer.new (before.now ++ fault_text fault.now ++ after.now) result }
+    ensures { Writes W.contents writer.old writer.new
+        (before.now ++ fault_text fault.now ++ after.now) result }
 {
     let code = code_name(fault.code);
     let mut buffer = Buffer::new();
@@ -173,7 +177,8 @@ pub fn push_slices(text: &mut Vec<u8>, slices: &[&[u8]]) -> Result<(), AllocErro
 /// Adds a fault by its code and its place, where it has one, to a text, as a line: `F20 subr 7`.
 #[tactic(auto, unfolding(crate::specs::AnswerTexts::fault_text))]
 pub fn push_fault(text: &mut Vec<u8>, fault: &Fault) -> Result<(), AllocError>
-    ensures { OnOk result (text.new.items ≡ text.old.items ++ (fault_text fault.now ++ line_feed ∷ [])) }
+    ensures { OnOk result
+        (text.new.items ≡ text.old.items ++ (fault_text fault.now ++ line_feed ∷ [])) }
 {
     let code = code_name(fault.code);
     let mut buffer = Buffer::new();

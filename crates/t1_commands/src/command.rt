@@ -236,7 +236,8 @@ fn encoding(alloc: Global, line: &[u8]) -> Result<Command, AllocError>
 
 /// `unencode CODE`, after the first word.
 fn unencoding(line: &[u8]) -> Command
-    ensures { result ≡ edit_of (λ code. edits.Unencode (number_of code)) (one_word (words line.now)) }
+    ensures { result
+        ≡ edit_of (λ code. edits.Unencode (number_of code)) (one_word (words line.now)) }
 {
     match one_word(line) {
         Some(code) => Command::Edit(Edit::Unencode(number_of(code))),

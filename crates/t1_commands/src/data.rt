@@ -13,7 +13,8 @@ use t1_code::{
 
 /// Passes on the line that says how many bytes follow.
 fn put_head<W: Write>(out: &mut Counted<W>, chunk: &mut Chunk, len: u64) -> io::Result<()>
-    ensures { Puts W.contents (outlet out.old chunk.old) (outlet out.new chunk.new) (data_head len) result }
+    ensures { Puts W.contents (outlet out.old chunk.old) (outlet out.new chunk.new) (data_head len)
+        result }
 {
     let mut buffer = Buffer::new();
     let digits = buffer.format(len);
@@ -28,8 +29,13 @@ fn put_data<F: FileForm, W: Write>(
     out: &mut Counted<W>,
     chunk: &mut Chunk,
 ) -> Result<(), OutError>
-    requires { length_of (F.file form.now parts.now.clear.now (pieces_text parts.now) parts.now.trailer.now) ≡ Ok len }
-    ensures { PassesFile W.contents (outlet out.old chunk.old) (outlet out.new chunk.new) (data_of (F.file form.now parts.now.clear.now (pieces_text parts.now) parts.now.trailer.now)) result }
+    requires { length_of
+        (F.file form.now parts.now.clear.now (pieces_text parts.now) parts.now.trailer.now)
+        ≡ Ok len }
+    ensures { PassesFile W.contents (outlet out.old chunk.old) (outlet out.new chunk.new)
+        (data_of
+        (F.file form.now parts.now.clear.now (pieces_text parts.now) parts.now.trailer.now))
+        result }
 {
     put_head(out, chunk, len)?;
     form.put(parts, out, chunk)?;

@@ -5,7 +5,8 @@ ghost use Rattle.t1_commands.specs.Commands.{number_of};
 
 use t1_frac::number_word;
 
-/// The number of a word; the largest one, which no range has, for a word that is none or doesn't fit.
+/// The number of a word; the largest one, which no range has, for a word that is none or doesn't
+/// fit.
 #[tactic(auto, unfolding(crate::specs::Commands::number_of))]
 pub fn number_of(word: &[u8]) -> i64
     ensures { result ≡ number_of word.now }

@@ -3,7 +3,8 @@ ghost use Rattle.std.specs.Prelude.{◌≡◌, option_map};
 ghost use Rattle.std.specs.List.{find};
 ghost use Rattle.t1_frac.specs.Words.{words};
 ghost use Rattle.t1_parts.specs.Entries.{is_glyph, is_subr};
-ghost use Rattle.t1_refusal.specs.Entries.{entry_words, glyph_named, place_words, subr_of, words_of};
+ghost use Rattle.t1_refusal.specs.Entries.{entry_words, glyph_named, place_words, subr_of};
+ghost use Rattle.t1_refusal.specs.Entries.{words_of};
 
 use t1_frac::Place;
 use t1_parts::Items;

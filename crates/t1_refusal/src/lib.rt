@@ -1,7 +1,8 @@
 //! What is told of a source that is refused.
 //!
-//! [`refusal_text`] gives the text of the first fault of a source, as a session shows it: its code and place, the word that
-//! has it, and the Subrs that the run had entered. [`glyph_named`], [`subr_of`] and [`entry_words`] find the entries of a source.
+//! [`refusal_text`] gives the text of the first fault of a source, as a session shows it: its code
+//! and place, the word that has it, and the Subrs that the run had entered. [`glyph_named`],
+//! [`subr_of`] and [`entry_words`] find the entries of a source.
 //!
 //! All of it is for `t1_session`.
 #![tactic(auto)]

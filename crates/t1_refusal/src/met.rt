@@ -21,7 +21,10 @@ fn failed<B: StoredBodies>(
     bodies: &B,
     name: &[u8],
 ) -> Result<Option<FailedRun>, AllocError>
-    ensures { IfOk result (λ found. option_map seen_of found ≡ failed (font (B.subrs bodies.now) (B.glyphs bodies.now)) name.now) }
+    ensures { IfOk result
+        (λ found.
+        option_map seen_of found
+        ≡ failed (font (B.subrs bodies.now) (B.glyphs bodies.now)) name.now) }
 {
     let Some(body) = bodies.glyph(name) else {
         return Ok(None);
@@ -39,7 +42,9 @@ fn parts_of<B: StoredBodies>(
     bodies: &B,
     name: &[u8],
 ) -> Result<Option<Composite>, AllocError>
-    ensures { IfOk result (λ parts. parts ≡ parts_of (own (font (B.subrs bodies.now) (B.glyphs bodies.now)) name.now)) }
+    ensures { IfOk result
+        (λ parts.
+        parts ≡ parts_of (own (font (B.subrs bodies.now) (B.glyphs bodies.now)) name.now)) }
 {
     let Some(body) = bodies.glyph(name) else {
         return Ok(None);
@@ -55,14 +60,18 @@ fn parts_of<B: StoredBodies>(
     }
 }
 
-/// The first glyph whose own run fails, of a glyph and its parts, the base before the accent, which nest so deep.
+/// The first glyph whose own run fails, of a glyph and its parts, the base before the accent, which
+/// nest so deep.
 pub(crate) fn met_within<B: StoredBodies>(
     alloc: Global,
     bodies: &B,
     depth: u8,
     name: &[u8],
 ) -> Result<Option<FailedRun>, AllocError>
-    ensures { IfOk result (λ met. option_map seen_of met ≡ met_within (font (B.subrs bodies.now) (B.glyphs bodies.now)) depth name.now) }
+    ensures { IfOk result
+        (λ met.
+        option_map seen_of met
+        ≡ met_within (font (B.subrs bodies.now) (B.glyphs bodies.now)) depth name.now) }
 {
     if let Some(met) = failed(alloc, bodies, name)? {
         return Ok(Some(met));

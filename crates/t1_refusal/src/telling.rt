@@ -50,8 +50,8 @@ fn push_faulty_word(
     push_word(text, found)
 }
 
-/// Adds the lines of the run that fails, of the glyph of this name or of a part that it stands on, where its source's bodies have
-/// no fault.
+/// Adds the lines of the run that fails, of the glyph of this name or of a part that it stands on,
+/// where its source's bodies have no fault.
 fn push_run(alloc: Global, text: &mut Vec<u8>, items: &Items, name: &[u8]) -> Result<(), AllocError>
     ensures { OnOk result (text.new.items ≡ text.old.items ++ glyph_lines items.now name.now) }
 {
@@ -81,7 +81,8 @@ fn push_place(
     }
 }
 
-/// Adds the lines of a fault: its code and place, then the word that has it and the way of a run to it.
+/// Adds the lines of a fault: its code and place, then the word that has it and the way of a run to
+/// it.
 fn push_lines(
     alloc: Global,
     text: &mut Vec<u8>,
@@ -97,7 +98,8 @@ fn push_lines(
     push_place(alloc, text, items, &fault.place)
 }
 
-/// What is told of a source: the lines of its first fault; nothing where it has none. It costs a check of the source.
+/// What is told of a source: the lines of its first fault; nothing where it has none. It costs a
+/// check of the source.
 pub fn refusal_text(alloc: Global, source: &Source) -> Result<Vec<u8>, AllocError>
     ensures { IfOk result (λ text. text.items ≡ refusal_text source.now) }
 {

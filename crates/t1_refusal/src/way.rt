@@ -2,7 +2,8 @@
 ghost use Rattle.std.specs.Prelude.{◌≡◌, ◌++◌, flat_map, OnOk};
 ghost use Rattle.t1_frac.specs.Words.{words};
 ghost use Rattle.t1_refusal.specs.Met.{seen_of};
-ghost use Rattle.t1_refusal.specs.Telling.{call_text, entered_words, last_call, met_lines, way_line};
+ghost use Rattle.t1_refusal.specs.Telling.{call_text, entered_words, last_call, met_lines};
+ghost use Rattle.t1_refusal.specs.Telling.{way_line};
 
 use crate::entries::{glyph_named, subr_of, words_of};
 use crate::met::FailedRun;
@@ -11,7 +12,8 @@ use std::alloc::AllocError;
 use t1_chain::Call;
 use t1_parts::{Items, push_decimal};
 
-/// Bytes whose words are those of the body that was entered last: of a Subr, or of the glyph itself.
+/// Bytes whose words are those of the body that was entered last: of a Subr, or of the glyph
+/// itself.
 fn entered_words<'i>(items: &'i Items, glyph: &[u8], calls: &[Call]) -> &'i [u8]
     ensures { words result.now ≡ entered_words items.now glyph.now (last_call calls.now) }
 {
@@ -50,9 +52,11 @@ fn push_way(text: &mut Vec<u8>, glyph: &[u8], calls: &[Call]) -> Result<(), Allo
     Ok(())
 }
 
-/// Adds the line of the word at which a run fails, where a word is at fault, and that of the way to it.
+/// Adds the line of the word at which a run fails, where a word is at fault, and that of the way to
+/// it.
 pub(crate) fn push_met(text: &mut Vec<u8>, items: &Items, met: &FailedRun) -> Result<(), AllocError>
-    ensures { OnOk result (text.new.items ≡ text.old.items ++ met_lines items.now (seen_of met.now)) }
+    ensures { OnOk result
+        (text.new.items ≡ text.old.items ++ met_lines items.now (seen_of met.now)) }
 {
     let glyph = met.glyph.as_slice();
     let calls = met.failure.calls.as_slice();

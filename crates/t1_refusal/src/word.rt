@@ -25,7 +25,8 @@ fn says(commands: &mut Vec<Command>, word: &[u8]) -> Result<bool, AllocError>
 /// The first word of a body that says no number and no command, with its number, from 1.
 #[tactic(auto, using(crate::proofs::WordLaws::first_single))]
 pub(crate) fn faulty_word(alloc: Global, body: &[u8]) -> Result<Option<(usize, &[u8])>, AllocError>
-    ensures { IfOk result (λ found. option_map (λ w. (w.0, w.1.now)) found ≡ faulty_from 1 (words body.now)) }
+    ensures { IfOk result
+        (λ found. option_map (λ w. (w.0, w.1.now)) found ≡ faulty_from 1 (words body.now)) }
 {
     let mut commands = Vec::new(alloc);
     let mut number = 1;
@@ -60,7 +61,9 @@ pub(crate) fn word_at(body: &[u8], at: usize) -> Option<(usize, &[u8])>
 
 /// Adds the line of a word, where there is one.
 pub(crate) fn push_word(text: &mut Vec<u8>, found: Option<(usize, &[u8])>) -> Result<(), AllocError>
-    ensures { OnOk result (text.new.items ≡ text.old.items ++ word_line (option_map (λ w. (w.0, w.1.now)) found.entry)) }
+    ensures { OnOk result
+        (text.new.items
+        ≡ text.old.items ++ word_line (option_map (λ w. (w.0, w.1.now)) found.entry)) }
 {
     let Some((number, word)) = found else {
         return Ok(());

@@ -47,8 +47,8 @@ fn count_step<W: Write>(
     Ok(())
 }
 
-/// Opens a session on a source without pairs, performs the steps of a script, and writes the count of runs after the opening
-/// and after each step.
+/// Opens a session on a source without pairs, performs the steps of a script, and writes the count
+/// of runs after the opening and after each step.
 pub fn count_runs<W: Write>(
     alloc: Global,
     source: &[u8],

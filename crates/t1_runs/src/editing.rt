@@ -1,5 +1,5 @@
-//! A session with pairs, opened and edited by its public calls. Each is tried again where memory ran out, an edit by the one
-//! that came back.
+//! A session with pairs, opened and edited by its public calls. Each is tried again where memory
+//! ran out, an edit by the one that came back.
 
 ghost use Rattle.std.specs.Prelude.{IfOk};
 ghost use Rattle.t1_commands.specs.declared.command.Command.TheVariants as commands;
@@ -81,7 +81,8 @@ fn put_prints<W: Write>(alloc: Global, session: &Session, out: &mut W) -> Result
     put_shows(session, out)
 }
 
-/// The session of the bytes of a source and of a kerning file that are read, or why it isn't opened.
+/// The session of the bytes of a source and of a kerning file that are read, or why it isn't
+/// opened.
 fn opened<'a>(
     alloc: Global,
     source: &'a [u8],
@@ -125,7 +126,8 @@ fn edited<W: Write>(
     edit: Edit,
     out: &mut W,
 ) -> Result<Result<(), Cause>, Stop>
-    ensures { IfOk result (λ taken. TakesOrDrops session.old.state (commands.Edit edit) taken session.new.state) }
+    ensures { IfOk result
+        (λ taken. TakesOrDrops session.old.state (commands.Edit edit) taken session.new.state) }
 {
     match session.try_apply(edit) {
         Err((Cause::Memory, edit)) => {
@@ -177,8 +179,8 @@ fn try_step<W: Write>(
     put_prints(alloc, session, out)
 }
 
-/// Opens a session on a source and its pairs, performs the steps of a script, and writes all prints after the opening and
-/// after each step, after its answer.
+/// Opens a session on a source and its pairs, performs the steps of a script, and writes all prints
+/// after the opening and after each step, after its answer.
 pub fn try_editing<W: Write>(
     alloc: Global,
     source: &[u8],

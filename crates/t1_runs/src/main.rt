@@ -1,11 +1,12 @@
 //! `t1_runs`: a tool of the tests, over the public calls of the crates.
 //!
-//! With a source alone it counts the runs of glyphs in a session: it opens one on the source, performs the steps of the script
-//! on standard input, and writes a line for the opening and one for each step: whether it was accepted or refused, and how many
-//! runs there were by then.
+//! With a source alone it counts the runs of glyphs in a session: it opens one on the source,
+//! performs the steps of the script on standard input, and writes a line for the opening and one
+//! for each step: whether it was accepted or refused, and how many runs there were by then.
 //!
-//! With `read`, `run` or `edit` it makes these calls by themselves, each again where memory ran out: it reads a source, runs one
-//! glyph, or opens a session with pairs and takes the edits of the script, and writes what came of it and all prints.
+//! With `read`, `run` or `edit` it makes these calls by themselves, each again where memory ran
+//! out: it reads a source, runs one glyph, or opens a session with pairs and takes the edits of the
+//! script, and writes what came of it and all prints.
 #![tactic(auto)]
 
 mod counting;

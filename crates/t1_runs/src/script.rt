@@ -1,5 +1,5 @@
-//! The steps of a script, one a line: the commands of a session that edit, where the words of a body stand after the name
-//! or the number of its entry.
+//! The steps of a script, one a line: the commands of a session that edit, where the words of a
+//! body stand after the name or the number of its entry.
 
 use crate::stop::Stop;
 use std::alloc::{AllocError, Global};
@@ -41,7 +41,8 @@ fn words_of(line: &[u8]) -> Words<'_> {
     }
 }
 
-/// The number of a word; the largest one, which no range has, for a word that is none or doesn't fit.
+/// The number of a word; the largest one, which no range has, for a word that is none or doesn't
+/// fit.
 fn number_of(word: &[u8]) -> i64 {
     number_word(word).unwrap_or(i64::MAX)
 }

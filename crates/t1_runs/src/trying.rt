@@ -1,4 +1,5 @@
-//! Public calls by themselves: reading a source, and the run of a glyph. Each is tried again where memory ran out.
+//! Public calls by themselves: reading a source, and the run of a glyph. Each is tried again where
+//! memory ran out.
 
 use crate::stop::Stop;
 use std::alloc::Global;

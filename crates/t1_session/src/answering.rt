@@ -26,7 +26,9 @@ fn try_answer<W: Write>(
     made: Result<Command, AllocError>,
     writer: &mut Counted<W>,
 ) -> Result<(), OutError>
-    ensures performed { (wanted : Command) → Makes made wanted → IsPerformed W.contents session.old session.new writer.old writer.new wanted result }
+    ensures performed { (wanted : Command)
+        → Makes made wanted
+        → IsPerformed W.contents session.old session.new writer.old writer.new wanted result }
     ensures flushed { IfOk result (λ done. writer.new.is_flushed ≡ true) }
 {
     session.perform(made?, writer)?;
@@ -40,7 +42,9 @@ pub fn answer_command<W: Write>(
     made: Result<Command, AllocError>,
     writer: &mut Counted<W>,
 ) -> Result<(), ServeError>
-    ensures { (wanted : Command) → Makes made wanted → AnswersCommand W.contents session.old session.new writer.old writer.new wanted result }
+    ensures { (wanted : Command)
+        → Makes made wanted
+        → AnswersCommand W.contents session.old session.new writer.old writer.new wanted result }
 {
     match try_answer(session, made, writer) {
         Err(OutError::Memory) => send(writer, &Answer::OutOfMemory),

@@ -11,9 +11,9 @@ use t1_code::{Counted, WHOLE_PARTS};
 use t1_font::{write_source_pfa, write_source_pfb};
 use t1_source::read_source;
 
-/// Reads a source and writes its PFB file, a segment a part: the whole file at `Ok`, a beginning of it at `Write`. `Load`
-/// has the first fault of reading, else of the bodies, Subrs first, at the entry, else F23; nothing was written then, nor
-/// where memory ran out. `Read` is never answered.
+/// Reads a source and writes its PFB file, a segment a part: the whole file at `Ok`, a beginning of
+/// it at `Write`. `Load` has the first fault of reading, else of the bodies, Subrs first, at the
+/// entry, else F23; nothing was written then, nor where memory ran out. `Read` is never answered.
 pub fn assemble_source<W: Write>(
     alloc: Global,
     source: &[u8],

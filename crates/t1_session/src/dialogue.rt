@@ -20,7 +20,8 @@ struct Opened {
     body: Vec<u8>,
 }
 
-/// A session in the midst of its input: fed pieces of it, it answers each command as soon as its last line ends.
+/// A session in the midst of its input: fed pieces of it, it answers each command as soon as its
+/// last line ends.
 #[derive(Drop)]
 pub struct Dialogue<'a> {
     session: Performer<'a>,
@@ -60,7 +61,8 @@ impl<'a> Dialogue<'a> {
         piece: &[u8],
         writer: &mut Counted<W>,
     ) -> Result<(), ServeError>
-        ensures { Feeds W.contents (conversation_of self.old) (conversation_of self.new) writer.old writer.new piece.now result }
+        ensures { Feeds W.contents (conversation_of self.old) (conversation_of self.new) writer.old
+            writer.new piece.now result }
     {
         for byte in piece {
             self.push(alloc, *byte, writer)?;
@@ -75,7 +77,8 @@ impl<'a> Dialogue<'a> {
         byte: u8,
         writer: &mut Counted<W>,
     ) -> Result<(), ServeError>
-        ensures { Feeds W.contents (conversation_of self.old) (conversation_of self.new) writer.old writer.new (byte ∷ []) result }
+        ensures { Feeds W.contents (conversation_of self.old) (conversation_of self.new) writer.old
+            writer.new (byte ∷ []) result }
     {
         let is_end = ends_line(self.after_return, byte);
         self.after_return = byte == b'\r';
@@ -95,7 +98,8 @@ impl<'a> Dialogue<'a> {
         alloc: Global,
         writer: &mut Counted<W>,
     ) -> Result<(), ServeError>
-        ensures { EndsLine W.contents (conversation_of self.old) (conversation_of self.new) writer.old writer.new result }
+        ensures { EndsLine W.contents (conversation_of self.old) (conversation_of self.new)
+            writer.old writer.new result }
     {
         match self.opening.take() {
             None => self.end_command_line(alloc, writer),
@@ -103,14 +107,16 @@ impl<'a> Dialogue<'a> {
         }
     }
 
-    /// Ends a line that begins a command, or that has no words. Want of memory is answered as any command is.
+    /// Ends a line that begins a command, or that has no words. Want of memory is answered as any
+    /// command is.
     fn end_command_line<W: Write>(
         &mut self,
         alloc: Global,
         writer: &mut Counted<W>,
     ) -> Result<(), ServeError>
         requires { self.old.opening ≡ None }
-        ensures { EndsCommandLine W.contents (conversation_of self.old) (conversation_of self.new) writer.old writer.new result }
+        ensures { EndsCommandLine W.contents (conversation_of self.old) (conversation_of self.new)
+            writer.old writer.new result }
     {
         let line = mem::replace(&mut self.line, Vec::new(alloc));
         if takes_body(&line) {
@@ -135,7 +141,9 @@ impl<'a> Dialogue<'a> {
         writer: &mut Counted<W>,
     ) -> Result<(), ServeError>
         requires { self.old.opening ≡ None }
-        ensures { EndsLine W.contents (record (conversation_of self.old) { opening = Some (opening_of opening) }) (conversation_of self.new) writer.old writer.new result }
+        ensures { EndsLine W.contents
+            (record (conversation_of self.old) { opening = Some (opening_of opening) })
+            (conversation_of self.new) writer.old writer.new result }
     {
         let Opened { heading, mut body } = opening;
         if ends_body(&self.line) {
@@ -150,8 +158,8 @@ impl<'a> Dialogue<'a> {
         Ok(())
     }
 
-    /// Ends the input. A last line without its end counts where it isn't empty; a body that is open then is a command
-    /// too. Want of memory is answered as any command is.
+    /// Ends the input. A last line without its end counts where it isn't empty; a body that is open
+    /// then is a command too. Want of memory is answered as any command is.
     pub fn finish<W: Write>(
         &mut self,
         alloc: Global,
@@ -193,7 +201,9 @@ impl<'a> Dialogue<'a> {
         writer: &mut Counted<W>,
     ) -> Result<(), ServeError>
         requires { self.old.opening ≡ None }
-        ensures { Ends W.contents (record (conversation_of self.old) { opening = Some (opening_of opening) }) writer.old writer.new result }
+        ensures { Ends W.contents
+            (record (conversation_of self.old) { opening = Some (opening_of opening) })
+            writer.old writer.new result }
     {
         let Opened { heading, body } = opening;
         if ends_body(&self.line) {

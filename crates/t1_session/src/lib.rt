@@ -1,10 +1,11 @@
-//! Whole fonts: a readable source assembled to its PFB file or measured for its AFM file, and a session that edits and
-//! prints one.
+//! Whole fonts: a readable source assembled to its PFB file or measured for its AFM file, and a
+//! session that edits and prints one.
 //!
-//! All of it is for users: [`serve`] answers commands from a reader, a [`Session`] has the same commands as calls, and
-//! [`assemble_source`], [`assemble_blocks`], [`assemble_pfa`] and [`measure_source`] write the files of a source in one
-//! call. They take types of other crates: sources and edits of `t1_source`, pairs of `t1_pairs`, readers and writers as
-//! `Counted` of `t1_code`, and faults of `t1_frac`.
+//! All of it is for users: [`serve`] answers commands from a reader, a [`Session`] has the same
+//! commands as calls, and [`assemble_source`], [`assemble_blocks`], [`assemble_pfa`] and
+//! [`measure_source`] write the files of a source in one call. They take types of other crates:
+//! sources and edits of `t1_source`, pairs of `t1_pairs`, readers and writers as `Counted` of
+//! `t1_code`, and faults of `t1_frac`.
 #![tactic(auto)]
 
 mod answering;

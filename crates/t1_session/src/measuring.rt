@@ -15,9 +15,10 @@ use t1_font::{measured_glyphs, write_source_afm};
 use t1_pairs::{Pairs, read_pairs};
 use t1_source::{Source, read_source};
 
-/// Reads a source and a kerning file, and writes the AFM file of the font: the whole file at `Ok`, a beginning of it at
-/// `Write`. `Load` has the first fault: of reading the source, of the pairs, of the bodies, F23, or of a glyph, in
-/// this order; nothing was written then, nor where memory ran out. `Read` is never answered.
+/// Reads a source and a kerning file, and writes the AFM file of the font: the whole file at `Ok`,
+/// a beginning of it at `Write`. `Load` has the first fault: of reading the source, of the pairs,
+/// of the bodies, F23, or of a glyph, in this order; nothing was written then, nor where memory ran
+/// out. `Read` is never answered.
 #[tactic(auto, unfolding(crate::specs::Files::metrics_file))]
 pub fn measure_source<W: Write>(
     alloc: Global,
@@ -39,7 +40,9 @@ fn write_metrics<W: Write>(
     pairs: &Pairs,
     out: &mut Counted<W>,
 ) -> Result<(), ServeError>
-    ensures { Delivers W.contents out.old out.new (and_then (measured_source source.now) (λ glyphs. Ok (afm (metrics_of source.now pairs.now glyphs)))) result }
+    ensures { Delivers W.contents out.old out.new
+        (and_then (measured_source source.now)
+        (λ glyphs. Ok (afm (metrics_of source.now pairs.now glyphs)))) result }
 {
     let glyphs = measured_glyphs(alloc, source)?;
     Ok(write_source_afm(alloc, source, pairs, &glyphs, out)?)

@@ -38,12 +38,14 @@ fn code_number(code: Option<u8>) -> i64
     }
 }
 
-/// The words of a width, each after a space: along x alone, or along both axes where there is one along y.
+/// The words of a width, each after a space: along x alone, or along both axes where there is one
+/// along y.
 fn width_slices<'w>(glyph: &CharMetric, wx: &'w str, wy: &'w str) -> [&'w [u8]; 4]
     requires x { wx.now ≡ signed_decimal glyph.now.wx }
     requires y { wy.now ≡ signed_decimal glyph.now.wy }
-    ensures { (words : List (List ℕ)) →
-        bytes_of result ++ rest_text words ≡ rest_text (width_words glyph.now.wx glyph.now.wy ++ words) }
+    ensures { (words : List (List ℕ))
+        → bytes_of result ++ rest_text words
+        ≡ rest_text (width_words glyph.now.wx glyph.now.wy ++ words) }
 {
     if glyph.wy == 0 {
         [b" WX ", wx.as_bytes(), b"", b""]

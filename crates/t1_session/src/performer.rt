@@ -2,7 +2,8 @@
 use crate::session::Session;
 use std::marker::Model;
 
-/// A session that commands are performed on. Contracts see its source, its pairs and the batch that is open.
+/// A session that commands are performed on. Contracts see its source, its pairs and the batch that
+/// is open.
 #[derive(Drop)]
 pub struct Performer<'a> {
     session: Session<'a>,
@@ -25,7 +26,8 @@ use t1_code::{Counted, OutError};
 use t1_commands::{Command, answer_of, put_answer};
 use t1_source::Cause;
 
-/// Writes what is answered to a command that was performed, or refused; nothing where memory ran out.
+/// Writes what is answered to a command that was performed, or refused; nothing where memory ran
+/// out.
 fn report<W: Write>(performed: Result<(), Cause>, out: &mut Counted<W>) -> Result<(), OutError>
     ensures { Reports W.contents out.old out.new performed result }
 {
@@ -41,8 +43,8 @@ impl<'a> Performer<'a> {
         Performer { session }
     }
 
-    /// Performs a command, and writes its answer. Where memory runs out nothing is written, and the session is as before, but
-    /// for the batch of a commit.
+    /// Performs a command, and writes its answer. Where memory runs out nothing is written, and the
+    /// session is as before, but for the batch of a commit.
     pub fn perform<W: Write>(
         &mut self,
         command: Command,

@@ -39,7 +39,8 @@ fn edited_lines(
     pairs: &Pairs,
     edit: &Edit,
 ) -> Result<Vec<u8>, AllocError>
-    ensures { IfOk result (λ text. text.items ≡ edited_lines (edited source.now pairs.now edit.now)) }
+    ensures { IfOk result
+        (λ text. text.items ≡ edited_lines (edited source.now pairs.now edit.now)) }
 {
     match source.edited(pairs, edit) {
         Ok((made, _pairs)) => refusal_text(alloc, &made),
@@ -80,7 +81,8 @@ pub fn refused_batch<'a>(refusal: Refusal, made: Source<'a>) -> (Cause, Option<R
     }
 }
 
-/// Keeps a refusal by what a call answers, or forgets the last one; this is kept where the source has a fault.
+/// Keeps a refusal by what a call answers, or forgets the last one; this is kept where the source
+/// has a fault.
 pub fn keep<'a>(
     kept: &mut Option<Refused<'a>>,
     faulty: Option<Refused<'a>>,

@@ -17,8 +17,8 @@ use t1_frac::Refusal;
 use t1_pairs::read_pairs;
 use t1_source::read_source;
 
-/// The session of the bytes of a source and of a kerning file, or the first fault: of reading the source, of the pairs, of
-/// the source.
+/// The session of the bytes of a source and of a kerning file, or the first fault: of reading the
+/// source, of the pairs, of the source.
 #[tactic(auto, unfolding(crate::specs::Machine::scratch))]
 fn loaded<'a>(alloc: Global, source: &'a [u8], pairs: &[u8]) -> Result<Performer<'a>, Refusal>
     ensures { Gives (λ session. session) result (scratch source.now pairs.now) }
@@ -28,8 +28,8 @@ fn loaded<'a>(alloc: Global, source: &'a [u8], pairs: &[u8]) -> Result<Performer
     Ok(Performer::of(Session::open(alloc, source, pairs)?))
 }
 
-/// Runs a session over a source and its pairs: reads commands to the end of the input, and answers each before the
-/// next read.
+/// Runs a session over a source and its pairs: reads commands to the end of the input, and answers
+/// each before the next read.
 pub fn serve<R: Read, W: Write>(
     alloc: Global,
     source: &[u8],
@@ -37,7 +37,8 @@ pub fn serve<R: Read, W: Write>(
     reader: &mut Counted<R>,
     writer: &mut Counted<W>,
 ) -> Result<(), ServeError>
-    ensures { Serves R.remaining W.contents (scratch source.now pairs.now) (streams reader.old writer.old) (streams reader.new writer.new) result }
+    ensures { Serves R.remaining W.contents (scratch source.now pairs.now)
+        (streams reader.old writer.old) (streams reader.new writer.new) result }
 {
     match loaded(alloc, source, pairs) {
         Ok(session) => {
@@ -59,7 +60,8 @@ fn converse<R: Read, W: Write>(
     writer: &mut Counted<W>,
 ) -> Result<(), ServeError>
     requires { conversation_of dialogue.old ≡ fresh dialogue.old.session }
-    ensures { Converses R.remaining W.contents dialogue.old.session (streams reader.old writer.old) (streams reader.new writer.new) result }
+    ensures { Converses R.remaining W.contents dialogue.old.session (streams reader.old writer.old)
+        (streams reader.new writer.new) result }
 {
     let mut buffer = [0; 4096];
     'pieces: loop {

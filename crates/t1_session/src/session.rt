@@ -147,13 +147,15 @@ impl<'a> Session<'a> {
     }
 
     /// Takes an edit, or refuses it. Outside a batch the first edit rule that it breaks refuses it,
-    /// else the first fault of the edited source; in a batch the edit rules alone. A refusal changes
-    /// nothing; what was refused is kept for `show_refusal`, until one of these calls is accepted.
+    /// else the first fault of the edited source; in a batch the edit rules alone. A refusal
+    /// changes nothing; what was refused is kept for `show_refusal`, until one of these calls is
+    /// accepted.
     pub fn apply(&mut self, edit: Edit) -> Result<(), Cause>
         ensures takes { Takes self.old.state (commands.Edit edit) result self.new.state }
         ensures right { KeepsAll self.new.state.source self.new.kept }
         ensures users { AreUsers self.new.state.source self.new.users }
-        ensures runs { Reruns (edition self.old.state (commands.Edit edit)) self.old result self.new }
+        ensures runs { Reruns (edition self.old.state (commands.Edit edit)) self.old result
+            self.new }
     {
         self.reads_back();
         let taken = self.take(&edit);
@@ -162,8 +164,8 @@ impl<'a> Session<'a> {
         taken
     }
 
-    /// Does what `apply` does, and hands the edit back with a refusal. Of an edit whose source has a
-    /// fault nothing is kept then.
+    /// Does what `apply` does, and hands the edit back with a refusal. Of an edit whose source has
+    /// a fault nothing is kept then.
     pub fn try_apply(&mut self, edit: Edit) -> Result<(), (Cause, Edit)>
         ensures takes { TakesOrReturns self.old.state (commands.Edit edit) edit result
             self.new.state }
@@ -293,7 +295,8 @@ impl<'a> Session<'a> {
     fn make(&mut self, edit: &Edit, change: Change<'a>) -> Result<(), Cause>
         requires none { self.old.state.batch ≡ None }
         requires serves { Serves change self.old.state.source self.old.state.pairs }
-        requires made { edited self.old.state.source self.old.state.pairs edit.now ≡ Ok (changed change self.old.state.source self.old.state.pairs) }
+        requires made { edited self.old.state.source self.old.state.pairs edit.now
+            ≡ Ok (changed change self.old.state.source self.old.state.pairs) }
         ensures took { Took self.old.state
             (judged self.old.state (changed change.entry self.old.state.source self.old.state.pairs)
             (source_check (changed change.entry self.old.state.source self.old.state.pairs).0)) true
@@ -394,7 +397,8 @@ impl<'a> Session<'a> {
     /// Writes the PFB file: that of the printed source and pairs from scratch.
     #[tactic(auto, using(crate::proofs::StateLaws::pfb_checked))]
     pub fn print_pfb<W: Write>(&self, out: &mut Counted<W>) -> Result<(), OutError>
-        ensures prints { Prints W.contents out.old out.new (pfb_from_scratch self.now.state) result }
+        ensures prints { Prints W.contents out.old out.new (pfb_from_scratch self.now.state)
+            result }
         ensures no_fault { AnswersNoFault result }
     {
         self.reads_back();
@@ -424,7 +428,8 @@ impl<'a> Session<'a> {
     /// Writes the PFA file: that of the printed source from scratch.
     #[tactic(auto, using(crate::proofs::StateLaws::pfa_scratch))]
     pub fn print_pfa<W: Write>(&self, out: &mut Counted<W>) -> Result<(), OutError>
-        ensures prints { Prints W.contents out.old out.new (pfa_from_scratch self.now.state) result }
+        ensures prints { Prints W.contents out.old out.new (pfa_from_scratch self.now.state)
+            result }
         ensures no_fault { AnswersNoFault result }
     {
         self.reads_back();
@@ -445,7 +450,8 @@ impl<'a> Session<'a> {
     /// Writes the usage table: that of the printed source from scratch.
     #[tactic(auto, using(crate::proofs::StateLaws::uses_scratch))]
     pub fn print_uses<W: Write>(&self, out: &mut Counted<W>) -> Result<(), OutError>
-        ensures prints { Prints W.contents out.old out.new (uses_from_scratch self.now.state) result }
+        ensures prints { Prints W.contents out.old out.new (uses_from_scratch self.now.state)
+            result }
         ensures no_fault { AnswersNoFault result }
     {
         self.reads_back();
@@ -456,7 +462,8 @@ impl<'a> Session<'a> {
 
     /// Writes the source in its printed form.
     pub fn print_source<W: Write>(&self, out: &mut Counted<W>) -> Result<(), OutError>
-        ensures prints { Prints W.contents out.old out.new (Ok (text self.now.state.source)) result }
+        ensures prints { Prints W.contents out.old out.new (Ok (text self.now.state.source))
+            result }
         ensures no_fault { AnswersNoFault result }
     {
         let text = self.source.text()?;
@@ -526,9 +533,10 @@ impl<'a> Session<'a> {
     }
 
     /// What is told of what was refused last, in lines: the rule; or code and place of the first
-    /// fault, the word that has it, with its number, as `word 4 moveto`, and the way of the run that
-    /// met it, as `in glyph V, subr 4`. Nothing where nothing was refused since an edit, a `begin`, a
-    /// `commit` or an `abort` was accepted. It costs a check of the source that was refused.
+    /// fault, the word that has it, with its number, as `word 4 moveto`, and the way of the run
+    /// that met it, as `in glyph V, subr 4`. Nothing where nothing was refused since an edit, a
+    /// `begin`, a `commit` or an `abort` was accepted. It costs a check of the source that was
+    /// refused.
     pub fn show_refusal(&self) -> Result<Vec<u8>, AllocError>
         ensures { IfOk result (λ text. text.items ≡ refused_text self.now.state.source
             self.now.state.pairs self.now.state.refused) }

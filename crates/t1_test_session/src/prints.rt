@@ -44,14 +44,16 @@ fn print(session: &Session, number: usize, out: &mut Counted<Short>) -> Result<(
     }
 }
 
-/// What a writer with so much room has after a print, and whether the print stopped for a failed write.
+/// What a writer with so much room has after a print, and whether the print stopped for a failed
+/// write.
 fn printed(alloc: Global, session: &Session, number: usize, room: usize) -> (Short, bool) {
     let mut out = Counted::new(Short::new(alloc, room));
     let result = print(session, number, &mut out);
     (out.into_inner(), matches!(result, Err(OutError::Write)))
 }
 
-/// Whether a print over a writer with so much room stops for a failed write, with a beginning of its text taken.
+/// Whether a print over a writer with so much room stops for a failed write, with a beginning of
+/// its text taken.
 fn stops(alloc: Global, session: &Session, number: usize, text: &[u8], room: usize) -> bool {
     let (writer, is_cut) = printed(alloc, session, number, room);
     is_cut && writer.taken().len() == room && text.starts_with(writer.taken())

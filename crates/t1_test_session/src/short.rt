@@ -2,7 +2,8 @@
 use std::alloc::Global;
 use std::io::{self, Write};
 
-/// A writer over memory that takes one byte a call, and none once it has no room, and counts how often it is flushed.
+/// A writer over memory that takes one byte a call, and none once it has no room, and counts how
+/// often it is flushed.
 #[derive(Drop)]
 pub struct Short {
     taken: Vec<u8>,

@@ -1,4 +1,5 @@
-//! Sessions over readers and writers that give or take less than is asked, with memory that doesn't run out.
+//! Sessions over readers and writers that give or take less than is asked, with memory that doesn't
+//! run out.
 use crate::short::Short;
 use std::alloc::Global;
 use std::io::{self, Read};
@@ -52,7 +53,8 @@ fn answers_a_byte_a_call(rt: HostRuntime) -> Result<(), Fail> {
     Ok(())
 }
 
-/// Whether a session over a writer with so much room ends by a write, with a beginning of the answers taken.
+/// Whether a session over a writer with so much room ends by a write, with a beginning of the
+/// answers taken.
 fn stops(alloc: Global, answers: &[u8], room: usize) -> Result<bool, Fail> {
     let (writer, cut) = served(alloc, room)?;
     Ok(cut && writer.taken().len() == room && answers.starts_with(writer.taken()))
