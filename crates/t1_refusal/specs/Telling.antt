@@ -94,12 +94,12 @@ unfoldable pub fault_lines : List Item → Fault → List ℕ
 fault_lines items fault =
     fault_text fault ++ (line_feed ∷ (if is_of_word fault.code then word_lines items fault.place else place_lines items fault.place))
 
--- word, refusals: the fault of what is refused
+-- profile, refusals: the fault of what is refused
 abbrev pub fault_of : {T : Type 0} → Result T Fault → Option Fault
 fault_of (Ok sound) = None
 fault_of (Err fault) = Some fault
 
--- word, refusals: the lines of a fault, where there is one
+-- profile, refusals: the lines of a fault, where there is one
 abbrev pub lines_of : List Item → Option Fault → List ℕ
 lines_of items None = []
 lines_of items (Some fault) = fault_lines items fault
