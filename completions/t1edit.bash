@@ -3,7 +3,7 @@ _t1edit() {
     local word=${COMP_WORDS[COMP_CWORD]} before=${COMP_WORDS[COMP_CWORD - 1]} words=""
     COMPREPLY=()
     if [[ $COMP_CWORD -eq 1 ]]; then
-        mapfile -t COMPREPLY < <(compgen -W "assemble disassemble measure check notes session explain help -h --help -V --version" -- "$word")
+        mapfile -t COMPREPLY < <(compgen -W "assemble disassemble measure check faults notes session explain help -h --help -V --version" -- "$word")
         return
     fi
     case "${COMP_WORDS[1]}" in
@@ -36,8 +36,15 @@ _t1edit() {
             [[ $word == -* ]] && words="--kern --font -h --help"
             [[ $word != -* ]] && mapfile -t COMPREPLY < <(compgen -f -- "$word") && return
             ;;
+        faults)
+            case "$before" in
+                --kern) mapfile -t COMPREPLY < <(compgen -f -- "$word"); return ;;
+            esac
+            [[ $word == -* ]] && words="--json --kern --font -h --help"
+            [[ $word != -* ]] && mapfile -t COMPREPLY < <(compgen -f -- "$word") && return
+            ;;
         notes)
-            [[ $word == -* ]] && words="--strict -h --help"
+            [[ $word == -* ]] && words="--strict --font -h --help"
             [[ $word != -* ]] && mapfile -t COMPREPLY < <(compgen -f -- "$word") && return
             ;;
         session)
@@ -52,7 +59,7 @@ _t1edit() {
             [[ $word == -* ]] && words="-h --help"
             ;;
         help)
-            [[ $COMP_CWORD -eq 2 ]] && words="assemble disassemble measure check notes session explain help"
+            [[ $COMP_CWORD -eq 2 ]] && words="assemble disassemble measure check faults notes session explain help"
             ;;
     esac
     mapfile -t COMPREPLY < <(compgen -W "$words" -- "$word")

@@ -6,6 +6,7 @@ complete -c t1edit -n __fish_use_subcommand -a assemble -d 'Writes the PFB or th
 complete -c t1edit -n __fish_use_subcommand -a disassemble -d 'Writes the source of a font\'s PFB, PFA or raw file'
 complete -c t1edit -n __fish_use_subcommand -a measure -d 'Runs every glyph and writes the AFM file of a source'
 complete -c t1edit -n __fish_use_subcommand -a check -d 'Judges sources as measure does, and writes nothing'
+complete -c t1edit -n __fish_use_subcommand -a faults -d 'Writes every fault of sources, each with its line, its column and its word'
 complete -c t1edit -n __fish_use_subcommand -a notes -d 'Writes what is no fault in sources and is most likely a mistake'
 complete -c t1edit -n __fish_use_subcommand -a session -d 'Edits and prints a source by commands from standard input'
 complete -c t1edit -n __fish_use_subcommand -a explain -d 'Says what a code, a rule or an exit status means, and what to do'
@@ -28,7 +29,13 @@ complete -c t1edit -n '__fish_seen_subcommand_from check' -l kern -r -F -d 'A fi
 complete -c t1edit -n '__fish_seen_subcommand_from check' -l font -d 'Takes fonts\' PFB, PFA or raw files as SOURCE, and disassembles each first'
 complete -c t1edit -n '__fish_seen_subcommand_from check' -s h -l help -d 'Print help (see a summary with \'-h\')'
 complete -c t1edit -n '__fish_seen_subcommand_from check' -F
+complete -c t1edit -n '__fish_seen_subcommand_from faults' -l json -d 'Writes each fault as an object of JSON, on a line of its own'
+complete -c t1edit -n '__fish_seen_subcommand_from faults' -l kern -r -F -d 'A file with the kerning pairs, of which the KPX lines count; - for standard input'
+complete -c t1edit -n '__fish_seen_subcommand_from faults' -l font -d 'Takes fonts\' PFB, PFA or raw files as SOURCE, and disassembles each first'
+complete -c t1edit -n '__fish_seen_subcommand_from faults' -s h -l help -d 'Print help (see a summary with \'-h\')'
+complete -c t1edit -n '__fish_seen_subcommand_from faults' -F
 complete -c t1edit -n '__fish_seen_subcommand_from notes' -l strict -d 'Ends with status 1 where there are notes'
+complete -c t1edit -n '__fish_seen_subcommand_from notes' -l font -d 'Takes fonts\' PFB, PFA or raw files as SOURCE, and disassembles each first'
 complete -c t1edit -n '__fish_seen_subcommand_from notes' -s h -l help -d 'Print help (see a summary with \'-h\')'
 complete -c t1edit -n '__fish_seen_subcommand_from notes' -F
 complete -c t1edit -n '__fish_seen_subcommand_from session' -l kern -r -F -d 'A file with the kerning pairs, of which the KPX lines count'
@@ -112,4 +119,4 @@ complete -c t1edit -n '__fish_seen_subcommand_from explain; and test (count (com
 complete -c t1edit -n '__fish_seen_subcommand_from explain; and test (count (commandline -opc)) -eq 2' -k -a F3 -d 'no CharStrings section'
 complete -c t1edit -n '__fish_seen_subcommand_from explain; and test (count (commandline -opc)) -eq 2' -k -a F2 -d 'no line ends in \'mark currentfile closefile\''
 complete -c t1edit -n '__fish_seen_subcommand_from explain; and test (count (commandline -opc)) -eq 2' -k -a F1 -d 'no line ends in \'currentfile eexec\''
-complete -c t1edit -n '__fish_seen_subcommand_from help; and test (count (commandline -opc)) -eq 2' -a 'assemble disassemble measure check notes session explain help'
+complete -c t1edit -n '__fish_seen_subcommand_from help; and test (count (commandline -opc)) -eq 2' -a 'assemble disassemble measure check faults notes session explain help'

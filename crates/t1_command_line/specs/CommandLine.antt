@@ -24,6 +24,10 @@ font = record (new_rule (codes "FONT")) { action = Some Set; required = true }
 abbrev pub kern : Rule
 kern = record (new_rule (codes "kern")) { long = Some (codes "kern"); action = Some Set; value_names = 1 }
 
+-- profile: --json, by which each fault is an object of JSON
+abbrev pub json : Rule
+json = record (new_rule (codes "json")) { long = Some (codes "json"); action = Some SetTrue }
+
 -- profile: --strict, by which notes are faults
 abbrev pub strict : Rule
 strict = record (new_rule (codes "strict")) { long = Some (codes "strict"); action = Some SetTrue }
@@ -76,9 +80,13 @@ measure = taking (codes "measure") (kern ∷ as_font ∷ output ∷ source ∷ [
 abbrev pub check : Shape
 check = taking (codes "check") (kern ∷ as_font ∷ sources ∷ [])
 
--- profile: notes, which takes sources, and whether they must have none
+-- profile: faults, which takes its form, kerning, and sources or fonts
+abbrev pub faults : Shape
+faults = taking (codes "faults") (json ∷ kern ∷ as_font ∷ sources ∷ [])
+
+-- profile: notes, which takes whether there must be none, and sources or fonts
 abbrev pub notes : Shape
-notes = taking (codes "notes") (strict ∷ sources ∷ [])
+notes = taking (codes "notes") (strict ∷ as_font ∷ sources ∷ [])
 
 -- profile: session, which takes kerning, and the source or a font
 abbrev pub session : Shape
@@ -97,7 +105,7 @@ abbrev pub program : App
 program =
     record {
       top = record (new_shape (codes "t1edit")) { is_leaf = false; has_version = true; subcommand_required = true };
-      subs = assemble ∷ disassemble ∷ measure ∷ check ∷ notes ∷ session ∷ explain ∷ [];
+      subs = assemble ∷ disassemble ∷ measure ∷ check ∷ faults ∷ notes ∷ session ∷ explain ∷ [];
     }
 
 -- profile: a command without commands of its own

@@ -47,6 +47,15 @@ list_text (section ∷ sections) = section_text section ++ other_sections_text s
 unfoldable pub whole_text : Topic → List ℕ
 whole_text topic = line_text topic ++ (codes "\n" ++ (topic.lead.now ++ (topic.text.now ++ topic.note.now)))
 
+-- profile: what a topic means in a few words; nothing where there is none
+abbrev pub in_a_few_words : Option Topic → List ℕ
+in_a_few_words None = []
+in_a_few_words (Some topic) = topic.meaning.now
+
+-- profile: what a code means in a few words; nothing where the sections don't have it
+abbrev pub meaning : List Section → List ℕ → List ℕ
+meaning sections code = in_a_few_words (topic_of sections code)
+
 -- profile: the bytes in front of the first space, or all
 abbrev pub before_space : List ℕ → List ℕ
 before_space text = take (position_or_len (λ byte. byte == 32) text) text

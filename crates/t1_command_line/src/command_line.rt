@@ -7,11 +7,12 @@ ghost use Rattle.t1_command_line.specs.CommandLine.{as_font as as_font_rule, fon
 ghost use Rattle.t1_command_line.specs.CommandLine.{kern as kern_rule, output as output_rule};
 ghost use Rattle.t1_command_line.specs.CommandLine.{block as block_rule, pfa as pfa_rule};
 ghost use Rattle.t1_command_line.specs.CommandLine.{code as code_rule, place as place_rule};
-ghost use Rattle.t1_command_line.specs.CommandLine.{strict as strict_rule};
+ghost use Rattle.t1_command_line.specs.CommandLine.{json as json_rule, strict as strict_rule};
 ghost use Rattle.t1_command_line.specs.CommandLine.{assemble as assemble_shape};
 ghost use Rattle.t1_command_line.specs.CommandLine.{disassemble as disassemble_shape};
 ghost use Rattle.t1_command_line.specs.CommandLine.{measure as measure_shape, check as check_shape};
-ghost use Rattle.t1_command_line.specs.CommandLine.{notes as notes_shape, session as session_shape};
+ghost use Rattle.t1_command_line.specs.CommandLine.{faults as faults_shape, notes as notes_shape};
+ghost use Rattle.t1_command_line.specs.CommandLine.{session as session_shape};
 ghost use Rattle.t1_command_line.specs.CommandLine.{explain as explain_shape};
 
 use crate::help::{CODES, SESSION};
@@ -100,6 +101,17 @@ const KERN: &str =
 
 /// The help of a kerning file.
 const KERN_FILE: &str = "A file with the kerning pairs, of which the KPX lines count";
+
+/// The option that asks for JSON.
+fn json<'a>(alloc: Global) -> Arg<'a>
+    ensures rule { rule_of result ≡ json_rule }
+    ensures local { result.global ≡ false }
+{
+    Arg::new(alloc, "json")
+        .long("json")
+        .help("Writes each fault as an object of JSON, on a line of its own")
+        .action(ArgAction::SetTrue)
+}
 
 /// The option that lets notes end the program with a status of their own.
 fn strict<'a>(alloc: Global) -> Arg<'a>
@@ -265,6 +277,22 @@ fn check<'a>(alloc: Global) -> Result<Command<'a>, AllocError>
     .arg(sources(alloc))
 }
 
+fn faults<'a>(alloc: Global) -> Result<Command<'a>, AllocError>
+    ensures { IfOk result (λ command. app_of command ≡ alone faults_shape) }
+{
+    named(
+        alloc,
+        "faults",
+        "Writes every fault of sources, each with its line, its column and its word",
+        "Example: t1edit faults font.t1",
+        CODES,
+    )
+    .arg(json(alloc))?
+    .arg(kern(alloc, KERN))?
+    .arg(as_font(alloc, EACH_AS_FONT))?
+    .arg(sources(alloc))
+}
+
 fn notes<'a>(alloc: Global) -> Result<Command<'a>, AllocError>
     ensures { IfOk result (λ command. app_of command ≡ alone notes_shape) }
 {
@@ -276,6 +304,7 @@ fn notes<'a>(alloc: Global) -> Result<Command<'a>, AllocError>
         CODES,
     )
     .arg(strict(alloc))?
+    .arg(as_font(alloc, EACH_AS_FONT))?
     .arg(sources(alloc))
 }
 
@@ -339,6 +368,7 @@ pub fn command<'a>(alloc: Global) -> Result<Command<'a>, AllocError>
     let program = with_command(program, disassemble(alloc));
     let program = with_command(program, measure(alloc));
     let program = with_command(program, check(alloc));
+    let program = with_command(program, faults(alloc));
     let program = with_command(program, notes(alloc));
     let program = with_command(program, session(alloc));
     with_command(program, explain(alloc))

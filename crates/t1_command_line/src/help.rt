@@ -26,6 +26,7 @@ Commands, a line each:
   show metrics NAME                    the line of a glyph in the AFM file
   show outline NAME                    the lines and curves of a glyph, with those of its parts
   show encoding                        a line for each code that has a name
+  show refusal                         where the edit or batch that was refused last has its fault
   begin, commit, abort                 a batch of edits, which are judged together
 
 A body ends with a line that holds a single dot.

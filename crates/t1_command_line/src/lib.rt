@@ -2,7 +2,7 @@
 //! status means.
 //!
 //! [`command`] is the command line with its helps. [`all_sections`] is the one table of all codes;
-//! [`explanation`] is what it says of one, or its list.
+//! [`explanation`] is what it says of one, or its list, and [`meaning`] what it says in a few words.
 //!
 //! All of it is for the program.
 #![tactic(auto)]
@@ -14,4 +14,4 @@ mod topic;
 
 pub use command_line::command;
 pub use table::all_sections;
-pub use topic::{Section, Topic, explanation};
+pub use topic::{Section, Topic, explanation, meaning};

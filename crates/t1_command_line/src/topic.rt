@@ -6,6 +6,7 @@ ghost use Rattle.t1_command_line.specs.Topics.{has_code, topic_in, topic_of, lin
 ghost use Rattle.t1_command_line.specs.Topics.{section_text, other_sections_text, list_text};
 ghost use Rattle.t1_command_line.specs.Topics.{lines_text, before_space, whole_text as text_of};
 ghost use Rattle.t1_command_line.specs.Topics.{explanation as explanation_of};
+ghost use Rattle.t1_command_line.specs.Topics.{meaning as meaning_of};
 
 use std::alloc::{AllocError, Global};
 
@@ -150,6 +151,16 @@ fn before_space(text: &[u8]) -> &[u8]
     ensures { result.now ≡ before_space text.now }
 {
     text.split_at(word_len(text)).0
+}
+
+/// What a code means in a few words; nothing where the sections don't have it.
+pub fn meaning(sections: &[Section], code: &[u8]) -> &'static str
+    ensures { result.now ≡ meaning_of sections.now code.now }
+{
+    match find_in(sections, code) {
+        Some(topic) => topic.meaning,
+        None => "",
+    }
 }
 
 /// What is said of the code that a text begins with, in letters of either case, or nothing where

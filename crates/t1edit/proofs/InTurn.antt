@@ -1,5 +1,5 @@
 -- Several files, checked in turn.
-use Rattle.std.proofs.Common.{◌≡◌, ◌∙◌, ℕ, max, List, [], ◌∷◌, ◌++◌, refl, sym, subst, Option, Result, arith}
+use Rattle.std.proofs.Common.{◌≡◌, ℕ, max, List, [], ◌∷◌, ◌++◌, refl, subst, Option, Result, arith}
 use Rattle.std.specs.Borrow.{Bor}
 use Rattle.t1_code.specs.Counted.{Tally}
 use Rattle.t1edit.specs.Several.{AreAnswers, AreWritten, ChecksAll, answer_lines, lines_of_answers, status_of_answer, worst_status}

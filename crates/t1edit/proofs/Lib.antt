@@ -1,4 +1,7 @@
+mod FaultJsonLaws
 mod InTurn
 mod Lines
+mod ReportsInTurn
+mod ShownLaws
 mod Sources
-pub mod NotesInTurn
+mod Texts

@@ -1,5 +1,5 @@
 -- Lines on standard error.
-use Rattle.std.proofs.Common.{◌≡◌, ◌∙◌, ◌++◌, ℕ, List, [], ◌∷◌, inl, inr, refl, sym, ap, subst, codes, append_assoc}
+use Rattle.std.proofs.Common.{◌≡◌, ◌∙◌, ◌++◌, ℕ, List, inl, inr, refl, sym, ap, subst, codes, append_assoc}
 use Rattle.std.specs.Prelude.{Option, Result, Ok, Err}
 use Rattle.t1_code.specs.Counted.{Tally, Writes, WritesAll, WritesFront}
 use Rattle.t1_code.proofs.Writing.{WritesAll-append, WritesFront-append, WritesFront-longer}

@@ -2,6 +2,7 @@
 use Rattle.std.specs.Prelude.{◌≡◌, ℕ, List, Option, Some, None, Result, Ok, Err}
 use Rattle.t1_code.specs.Counted.{Tally, WritesAll, WritesFront}
 use Rattle.t1_session.specs.declared.error.ServeError.TheVariants as errors
+use Rattle.t1edit.specs.declared.file_error.FileError.TheVariants as files
 use Rattle.t1edit.specs.declared.status.Misuse.TheVariants as misuses
 use Rattle.t1edit.specs.declared.status.Stop.{Stop}
 use Rattle.t1edit.specs.declared.status.Stop.TheVariants as stops
@@ -11,9 +12,9 @@ use Rattle.t1edit.specs.declared.status.Stop.TheVariants as stops
 -- memory ran out
 abbrev pub Explains : {W T : Type 0} → (W → Option (List ℕ)) → Tally W → Tally W → Option (List ℕ) → Result T Stop → Type 0
 Explains contents old new given (Ok done) = (whole : List ℕ) × (given ≡ Some whole) × WritesAll contents old new whole
-Explains contents old new given (Err (stops.Failed errors.Write)) = (whole : List ℕ) × (given ≡ Some whole) × WritesFront contents old new whole
+Explains contents old new given (Err (stops.Failed (files.Served errors.Write))) = (whole : List ℕ) × (given ≡ Some whole) × WritesFront contents old new whole
 Explains contents old new given (Err (stops.Misused misuses.UnknownCode)) = (given ≡ None) × (new ≡ old)
-Explains contents old new given (Err (stops.Failed errors.Memory)) = new ≡ old
+Explains contents old new given (Err (stops.Failed (files.Served errors.Memory))) = new ≡ old
 Explains contents old new given (Err stops.Rejected) = ⊥
 Explains contents old new given (Err (stops.Told status)) = ⊥
 Explains contents old new given (Err (stops.Misused misuses.InputTwice)) = ⊥
@@ -23,6 +24,6 @@ Explains contents old new given (Err (stops.Misused misuses.BlockLength)) = ⊥
 Explains contents old new given (Err (stops.Misused misuses.OutputOverSource)) = ⊥
 Explains contents old new given (Err (stops.Misused misuses.OutputOverPairs)) = ⊥
 Explains contents old new given (Err (stops.Misused misuses.OutputOverFont)) = ⊥
-Explains contents old new given (Err (stops.Faulty fault)) = ⊥
-Explains contents old new given (Err (stops.Failed (errors.Load fault))) = ⊥
-Explains contents old new given (Err (stops.Failed errors.Read)) = ⊥
+Explains contents old new given (Err (stops.Failed (files.Font fault))) = ⊥
+Explains contents old new given (Err (stops.Failed (files.Served (errors.Load fault)))) = ⊥
+Explains contents old new given (Err (stops.Failed (files.Served errors.Read))) = ⊥

@@ -1,13 +1,11 @@
 -- Why a call over the bytes of a file stops, and how that is told.
-use Rattle.std.specs.Prelude.{ℕ, List, Result, Ok, Err}
+use Rattle.std.specs.Prelude.{ℕ, List, Result, Ok, Err, codes}
+use Rattle.t1_commands.specs.AnswerTexts.{fault_text}
 use Rattle.t1_disassemble.specs.declared.fault.FontRefusal.{FontRefusal}
 use Rattle.t1_disassemble.specs.declared.fault.FontRefusal.TheVariants as refusals
 use Rattle.t1_session.specs.declared.error.ServeError.{ServeError}
-use Rattle.t1_session.specs.declared.error.ServeError.TheVariants.{Memory}
+use Rattle.t1_session.specs.declared.error.ServeError.TheVariants.{Load, Read, Write, Memory}
 use Rattle.t1edit.specs.FontFaults.{font_fault_text}
-use Rattle.t1edit.specs.Status.{error_text, status_of}
-use Rattle.t1edit.specs.declared.status.Stop.{Stop}
-use Rattle.t1edit.specs.declared.status.Stop.TheVariants.{Failed, Faulty}
 use Rattle.t1edit.specs.declared.file_error.FileError.{FileError}
 use Rattle.t1edit.specs.declared.file_error.FileError.TheVariants.{Served, Font}
 
@@ -16,15 +14,24 @@ abbrev pub told_of_font : FontRefusal → FileError
 told_of_font (refusals.Fault fault) = Font fault
 told_of_font refusals.Memory = Served Memory
 
--- word: an error of a file, as why a run stops
-abbrev pub stop_of_file : FileError → Stop
-stop_of_file (Served error) = Failed error
-stop_of_file (Font fault) = Faulty fault
-
 -- word: what a call over a source answers, as one over a file
 abbrev pub served : {T : Type 0} → Result T ServeError → Result T FileError
 served (Ok done) = Ok done
 served (Err error) = Err (Served error)
+
+-- profile: an error in words
+abbrev pub error_text : ServeError → List ℕ
+error_text (Load fault) = fault_text fault
+error_text Read = codes "read failed"
+error_text Write = codes "write failed"
+error_text Memory = codes "out of memory"
+
+-- profile: 1 for a source or pairs that are refused, 3 where reading or writing failed, 4 for want of memory
+abbrev pub status_of : ServeError → ℕ
+status_of (Load fault) = 1
+status_of Read = 3
+status_of Write = 3
+status_of Memory = 4
 
 -- profile: an error of a file in words
 abbrev pub file_error_text : FileError → List ℕ

@@ -1,47 +1,41 @@
 -- The exit statuses of the program, and its lines on standard error.
 use Rattle.std.specs.Prelude.{◌≡◌, ◌⊎◌, ◌++◌, ℕ, List, Option, Result, Ok, Err, codes}
 use Rattle.t1_code.specs.Counted.{Tally, WritesAll, WritesFront}
-use Rattle.t1_commands.specs.AnswerTexts.{fault_text}
 use Rattle.t1_session.specs.declared.error.ServeError.{ServeError}
-use Rattle.t1_session.specs.declared.error.ServeError.TheVariants.{Load, Read, Write, Memory}
-use Rattle.t1_disassemble.specs.declared.fault.FontFault.{FontFault}
+use Rattle.t1_session.specs.declared.error.ServeError.TheVariants.{Write, Memory}
 use Rattle.t1_disassemble.specs.declared.fault.FontRefusal.{FontRefusal}
-use Rattle.t1_disassemble.specs.declared.fault.FontRefusal.TheVariants as refusals
-use Rattle.t1edit.specs.FontFaults.{font_fault_text}
+use Rattle.t1edit.specs.FileErrors.{file_error_text, status_of_file, told_of_font}
+use Rattle.t1edit.specs.declared.file_error.FileError.{FileError}
+use Rattle.t1edit.specs.declared.file_error.FileError.TheVariants.{Served}
 use Rattle.t1edit.specs.declared.status.Misuse.{Misuse}
 use Rattle.t1edit.specs.declared.status.Misuse.TheVariants.{InputTwice, InputOfSession, UnknownCode, NoText, BlockLength, OutputOverSource, OutputOverPairs, OutputOverFont}
 use Rattle.t1edit.specs.declared.status.Stop.{Stop}
-use Rattle.t1edit.specs.declared.status.Stop.TheVariants.{Rejected, Misused, Failed, Faulty, Told}
+use Rattle.t1edit.specs.declared.status.Stop.TheVariants.{Rejected, Misused, Failed, Told}
 use Rattle.t1edit.specs.declared.unopened.Unopened.{Unopened}
 use Rattle.t1edit.specs.declared.unopened.Unopened.TheVariants as unopened
 
+-- word: a call over a source stopped
+abbrev pub stop_of_serving : ServeError → Stop
+stop_of_serving error = Failed (Served error)
+
 -- word: an output that can't be opened is a failed write, or want of memory
 abbrev pub stop_of_unopened : Unopened → Stop
-stop_of_unopened unopened.Refused = Failed Write
-stop_of_unopened (unopened.Memory want) = Failed Memory
+stop_of_unopened unopened.Refused = stop_of_serving Write
+stop_of_unopened (unopened.Memory want) = stop_of_serving Memory
 
 -- profile: the fault of a font's file, or want of memory
 abbrev pub stop_of_font : FontRefusal → Stop
-stop_of_font (refusals.Fault fault) = Faulty fault
-stop_of_font refusals.Memory = Failed Memory
-
--- profile: 1 for a source or pairs that are refused, 3 where reading or writing failed, 4 for want of memory
-abbrev pub status_of : ServeError → ℕ
-status_of (Load fault) = 1
-status_of Read = 3
-status_of Write = 3
-status_of Memory = 4
+stop_of_font refused = Failed (told_of_font refused)
 
 -- profile: 2 for a command line that can't be carried out
 abbrev pub status_of_misuse : ℕ
 status_of_misuse = 2
 
--- profile: the status of a run that stopped: 1 for a font's file that has a fault, the worst of several sources
+-- profile: the status of a run that stopped: that of the error of a file, the worst of several sources
 abbrev pub status_of_stop : Stop → ℕ
 status_of_stop Rejected = status_of_misuse
 status_of_stop (Misused misuse) = status_of_misuse
-status_of_stop (Failed error) = status_of error
-status_of_stop (Faulty fault) = 1
+status_of_stop (Failed error) = status_of_file error
 status_of_stop (Told status) = status
 
 -- profile: 0 where all was done
@@ -49,24 +43,13 @@ abbrev pub status_of_run : {T : Type 0} → Result T Stop → ℕ
 status_of_run (Ok done) = 0
 status_of_run (Err stop) = status_of_stop stop
 
--- profile: an error in words
-abbrev pub error_text : ServeError → List ℕ
-error_text (Load fault) = fault_text fault
-error_text Read = codes "read failed"
-error_text Write = codes "write failed"
-error_text Memory = codes "out of memory"
-
 -- profile: a line that holds a text after what begins it
 abbrev pub line_of : List ℕ → List ℕ → List ℕ
 line_of front text = front ++ text ++ codes "\n"
 
--- profile: the line that reports an error
-abbrev pub error_line : ServeError → List ℕ
-error_line error = line_of (codes "t1edit: ") (error_text error)
-
--- profile: the line that reports the fault of a font's file
-abbrev pub font_fault_line : FontFault → List ℕ
-font_fault_line fault = line_of (codes "t1edit: ") (font_fault_text fault)
+-- profile: the line that reports the error of a file
+abbrev pub error_line : FileError → List ℕ
+error_line error = line_of (codes "t1edit: ") (file_error_text error)
 
 -- profile: the line that reports a misuse
 abbrev pub misuse_line : Misuse → List ℕ
@@ -89,7 +72,6 @@ abbrev pub ReportsStop : {W : Type 0} → (W → Option (List ℕ)) → Tally W 
 ReportsStop contents old new Rejected = new ≡ old
 ReportsStop contents old new (Misused misuse) = IsWritten contents old new (misuse_line misuse)
 ReportsStop contents old new (Failed error) = IsWritten contents old new (error_line error)
-ReportsStop contents old new (Faulty fault) = IsWritten contents old new (font_fault_line fault)
 ReportsStop contents old new (Told status) = new ≡ old
 
 -- profile: a run that did all reports nothing

@@ -9,8 +9,8 @@ use Rattle.t1edit.specs.declared.output.Destination.TheVariants as destinations
 use Rattle.t1edit.specs.declared.output.Ended.{Ended}
 use Rattle.t1edit.specs.declared.output.Ended.TheVariants as endings
 use Rattle.t1edit.specs.declared.output.Output.{Output}
+use Rattle.t1edit.specs.Status.{stop_of_serving}
 use Rattle.t1edit.specs.declared.status.Stop.{Stop}
-use Rattle.t1edit.specs.declared.status.Stop.TheVariants.{Failed}
 use Rattle.t1edit.specs.declared.unopened.Unopened.{Unopened}
 use Rattle.t1edit.specs.declared.unopened.Unopened.TheVariants as unopened
 
@@ -27,7 +27,7 @@ IsToldOf error unopened.Refused = error_kind error ≢ OutOfMemory
 -- word: why a call didn't write all is the answer; where it did, only a failed write is
 abbrev pub HandsOn : {S T : Type 0} → Result S Stop → Result T Stop → Type 0
 HandsOn (Err stop) result = result ≡ Err stop
-HandsOn (Ok done) result = IfErr result (λ stop. stop ≡ Failed errors.Write)
+HandsOn (Ok done) result = IfErr result (λ stop. stop ≡ stop_of_serving errors.Write)
 
 -- word: a draft has taken its place, and nothing else has
 abbrev pub EndsAs : Destination → Ended → Type 0

@@ -20,6 +20,6 @@ pub fn disassemble_to<W: Write>(
     let source = disassemble(alloc, font)?;
     match out.put_all(&source) {
         Ok(()) => Ok(()),
-        Err(_) => Err(Stop::Failed(ServeError::Write)),
+        Err(_) => Err(Stop::from(ServeError::Write)),
     }
 }

@@ -1,6 +1,7 @@
 //! A file beside the one whose place it takes once it is whole.
 ghost use Rattle.std.specs.Prelude.{◌≡◌, IfErr, IfOk, IsOk};
 ghost use Rattle.std.specs.Io.{WritesAtMost};
+ghost use Rattle.t1edit.specs.Status.{stop_of_serving};
 ghost use Rattle.t1edit.specs.Writing.{HandsOn};
 
 mod steps;
@@ -91,7 +92,7 @@ impl Draft {
 
     /// Takes its place, or is why the run stops.
     fn placed(&self, rt: &HostRuntime) -> Result<Stood, Stop>
-        ensures { IfErr result (λ stop. stop ≡ Stop.Failed ServeError.Write) }
+        ensures { IfErr result (λ stop. stop ≡ stop_of_serving ServeError.Write) }
     {
         Ok(self.in_place(rt)?)
     }

@@ -20,13 +20,13 @@ pub fn explain<W: Write>(
     ensures { Explains W.contents out.old out.new (explanation_of sections.now (option_map (λ word. word.now) code.entry)) result }
 {
     let Ok(explained) = explanation(alloc, sections, code) else {
-        return Err(Stop::Failed(ServeError::Memory));
+        return Err(Stop::from(ServeError::Memory));
     };
     let Some(text) = explained else {
         return Err(Stop::Misused(Misuse::UnknownCode));
     };
     match out.put_all(text.as_bytes()) {
         Ok(()) => Ok(()),
-        Err(_) => Err(Stop::Failed(ServeError::Write)),
+        Err(_) => Err(Stop::from(ServeError::Write)),
     }
 }

@@ -35,11 +35,11 @@ impl From<FontRefusal> for FileError {
 }
 
 /// What a call over a source answers, as one over a file.
-pub fn served(answer: Result<(), ServeError>) -> Result<(), FileError>
+pub fn served<T: Drop>(answer: Result<T, ServeError>) -> Result<T, FileError>
     ensures { result ≡ served answer }
 {
     match answer {
-        Ok(()) => Ok(()),
+        Ok(done) => Ok(done),
         Err(error) => Err(FileError::Served(error)),
     }
 }

@@ -6,7 +6,12 @@ mod checking;
 mod disassembling;
 mod draft;
 mod explaining;
+mod fault_hint;
+mod fault_json;
+mod fault_lines;
+mod fault_name;
 mod file_error;
+mod finding;
 mod font_fault;
 mod identity;
 mod input;
@@ -14,10 +19,13 @@ mod kind;
 mod links;
 mod measuring;
 mod noting;
+mod numbered_lines;
 mod output;
 mod overwriting;
+mod reporting;
 mod serving;
 mod several;
+mod shown_bytes;
 mod status;
 mod unopened;
 
@@ -28,12 +36,14 @@ use clap::{ArgMatches, Error};
 use disassembling::disassemble_to;
 use explaining::explain;
 use file_error::FileError;
+use finding::{Faults, Sought, layout_of};
 use input::{is_standard_input, read_input};
 use kind::{Kind, kind_of};
 use measuring::measure_file;
-use noting::note_files;
+use noting::Notes;
 use output::{Ended, Output};
 use overwriting::{refuse_over_font, refuse_over_input};
+use reporting::{Report, report_files};
 use serving::serve_file;
 use several::check_files;
 use status::{Misuse, Stop, run_ending, told};
@@ -184,6 +194,53 @@ fn check(rt: &HostRuntime, matches: &ArgMatches<'_>) -> Result<(), Stop> {
     }
 }
 
+/// Writes what is told of files in turn; the worst status is 1 where something was found and nothing
+/// is wanted.
+fn report<R: Report>(
+    rt: &HostRuntime,
+    report: &R,
+    kind: Kind,
+    is_strict: bool,
+    paths: &[&str],
+) -> u8 {
+    report_files(
+        rt.alloc(),
+        rt,
+        report,
+        kind,
+        is_strict,
+        paths,
+        &mut Counted::new(rt.stdout()),
+        &mut Counted::new(rt.stderr()),
+    )
+}
+
+/// Writes that of a kerning file, where one is named, and every fault of sources.
+fn faults(rt: &HostRuntime, matches: &ArgMatches<'_>) -> Result<(), Stop> {
+    let Some(sources) = matches.get_strs("SOURCE") else {
+        return Ok(());
+    };
+    let kern = matches.get_str("kern");
+    refuse_input_twice(sources, kern)?;
+    let sections = all_sections();
+    let layout = layout_of(matches.get_flag("json"));
+    let of_pairs = Faults {
+        sections: &sections,
+        layout,
+        sought: Sought::Pairs,
+    };
+    let of_sources = Faults {
+        sections: &sections,
+        layout,
+        sought: Sought::Source,
+    };
+    let worst = match kern {
+        Some(path) => report(rt, &of_pairs, Kind::Source, true, &[path]),
+        None => 0,
+    };
+    told(report(rt, &of_sources, asked_kind(matches), true, sources).max(worst))
+}
+
 /// Writes the notes on sources.
 fn notes(rt: &HostRuntime, matches: &ArgMatches<'_>) -> Result<(), Stop> {
     let Some(sources) = matches.get_strs("SOURCE") else {
@@ -191,9 +248,7 @@ fn notes(rt: &HostRuntime, matches: &ArgMatches<'_>) -> Result<(), Stop> {
     };
     refuse_input_twice(sources, None)?;
     let is_strict = matches.get_flag("strict");
-    let mut out = Counted::new(rt.stdout());
-    let mut lines = Counted::new(rt.stderr());
-    told(note_files(rt.alloc(), rt, is_strict, sources, &mut out, &mut lines))
+    told(report(rt, &Notes, asked_kind(matches), is_strict, sources))
 }
 
 /// Serves the commands of standard input on a source.
@@ -219,13 +274,13 @@ fn session(rt: &HostRuntime, matches: &ArgMatches<'_>) -> Result<(), Stop> {
 /// wrong.
 fn shown(rt: &HostRuntime, error: &Error) -> Result<(), Stop> {
     if error.kind() == ErrorKind::OutOfMemory {
-        return Err(Stop::Failed(ServeError::Memory));
+        return Err(Stop::from(ServeError::Memory));
     }
     let printed = error.print(rt);
     if error.use_stderr() {
         Err(Stop::Rejected)
     } else if printed.is_err() {
-        Err(Stop::Failed(ServeError::Write))
+        Err(Stop::from(ServeError::Write))
     } else {
         Ok(())
     }
@@ -248,7 +303,7 @@ fn all_written(_ended: Ended) {}
 /// Runs the command that the words spell.
 fn run(rt: &HostRuntime, words: &[String]) -> Result<(), Stop> {
     let Ok(command) = command(rt.alloc()) else {
-        return Err(Stop::Failed(ServeError::Memory));
+        return Err(Stop::from(ServeError::Memory));
     };
     let matches = match command.try_get_matches_from(words) {
         Ok(matches) => matches,
@@ -259,6 +314,7 @@ fn run(rt: &HostRuntime, words: &[String]) -> Result<(), Stop> {
         Some(("disassemble", matches)) => Ok(all_written(disassemble(rt, matches)?)),
         Some(("measure", matches)) => Ok(all_written(measure(rt, matches)?)),
         Some(("check", matches)) => check(rt, matches),
+        Some(("faults", matches)) => faults(rt, matches),
         Some(("notes", matches)) => notes(rt, matches),
         Some(("session", matches)) => session(rt, matches),
         Some(("explain", matches)) => explain_code(rt, matches),
@@ -284,12 +340,12 @@ fn run_arguments(rt: &HostRuntime) -> Result<(), Stop> {
     let args = match env::args(rt) {
         Ok(args) => args,
         Err(error) if error.kind() == io::ErrorKind::OutOfMemory => {
-            return Err(Stop::Failed(ServeError::Memory));
+            return Err(Stop::from(ServeError::Memory));
         }
         Err(_) => return Err(Stop::Misused(Misuse::NoText)),
     };
     let Ok(mut words) = args.collect::<Vec<String>>(rt.alloc()) else {
-        return Err(Stop::Failed(ServeError::Memory));
+        return Err(Stop::from(ServeError::Memory));
     };
     if ask_for_help_of_help(&words) {
         words.truncate(2);

@@ -1,18 +1,18 @@
 //! How the program ends.
 ghost use Rattle.std.specs.Prelude.{◌≡◌, IfErr};
 ghost use Rattle.t1_code.specs.Counted.{Writes};
-ghost use Rattle.t1edit.specs.Status.{error_line, error_text, font_fault_line, line_of};
-ghost use Rattle.t1edit.specs.Status.{misuse_line};
-ghost use Rattle.t1edit.specs.Status.{status_of, status_of_misuse, status_of_stop, status_of_run};
+ghost use Rattle.t1edit.specs.FileErrors.{error_text, status_of, status_of_file};
+ghost use Rattle.t1edit.specs.Status.{error_line, line_of, misuse_line};
+ghost use Rattle.t1edit.specs.Status.{status_of_misuse, status_of_stop, status_of_run};
 ghost use Rattle.t1edit.specs.Status.{IsWritten, ReportsStop, ReportsRun};
 
-use crate::file_error::FileError;
-use crate::font_fault::{put_font_fault, put_line};
+use crate::file_error::{FileError, put_file_error, status_of_file};
+use crate::font_fault::put_line;
 use crate::unopened::Unopened;
 use std::io::{self, Write};
 use t1_code::Counted;
 use t1_commands::put_fault;
-use t1_disassemble::{FontFault, FontRefusal};
+use t1_disassemble::FontRefusal;
 use t1_session::ServeError;
 
 /// The status of a fault.
@@ -71,9 +71,8 @@ pub enum Stop {
     /// The command line isn't one of the program's, and what is wrong with it was written.
     Rejected,
     Misused(Misuse),
-    Failed(ServeError),
-    /// The file of a font has a fault.
-    Faulty(FontFault),
+    /// A call over the bytes of a file stopped.
+    Failed(FileError),
     /// Of several sources some are refused, and the line of each was written; this is the worst
     /// status.
     Told(u8),
@@ -92,12 +91,12 @@ impl From<Misuse> for Stop {
 
 impl From<ServeError> for Stop {
     ghost use Rattle.std.specs.Prelude.{◌≡◌};
-    ghost use Rattle.t1edit.specs.declared.status.Stop.TheVariants.{Failed};
+    ghost use Rattle.t1edit.specs.Status.{stop_of_serving};
 
-    ghost from_gives = { λ error stop. stop ≡ Failed error };
+    ghost from_gives = { λ error stop. stop ≡ stop_of_serving error };
 
     fn from(error: ServeError) -> Stop {
-        Stop::Failed(error)
+        Stop::Failed(FileError::Served(error))
     }
 }
 
@@ -109,23 +108,20 @@ impl From<Unopened> for Stop {
 
     fn from(unopened: Unopened) -> Stop {
         match unopened {
-            Unopened::Refused => Stop::Failed(ServeError::Write),
-            Unopened::Memory(_) => Stop::Failed(ServeError::Memory),
+            Unopened::Refused => Stop::from(ServeError::Write),
+            Unopened::Memory(_) => Stop::from(ServeError::Memory),
         }
     }
 }
 
 impl From<FileError> for Stop {
     ghost use Rattle.std.specs.Prelude.{◌≡◌};
-    ghost use Rattle.t1edit.specs.FileErrors.{stop_of_file};
+    ghost use Rattle.t1edit.specs.declared.status.Stop.TheVariants.{Failed};
 
-    ghost from_gives = { λ error stop. stop ≡ stop_of_file error };
+    ghost from_gives = { λ error stop. stop ≡ Failed error };
 
     fn from(error: FileError) -> Stop {
-        match error {
-            FileError::Served(error) => Stop::Failed(error),
-            FileError::Font(fault) => Stop::Faulty(fault),
-        }
+        Stop::Failed(error)
     }
 }
 
@@ -136,10 +132,7 @@ impl From<FontRefusal> for Stop {
     ghost from_gives = { λ refused stop. stop ≡ stop_of_font refused };
 
     fn from(refused: FontRefusal) -> Stop {
-        match refused {
-            FontRefusal::Fault(fault) => Stop::Faulty(fault),
-            FontRefusal::Memory => Stop::Failed(ServeError::Memory),
-        }
+        Stop::Failed(FileError::from(refused))
     }
 }
 
@@ -169,23 +162,12 @@ pub fn status_of(error: &ServeError) -> u8
 
 /// The exit status of an error, whose line is written; a write that fails changes no status.
 #[tactic(auto, using(crate::proofs::Lines::is_written))]
-fn ending<W: Write>(error: &ServeError, writer: &mut Counted<W>) -> u8
-    ensures status { result ≡ status_of error.now }
+fn ending<W: Write>(error: &FileError, writer: &mut Counted<W>) -> u8
+    ensures status { result ≡ status_of_file error.now }
     ensures line { IsWritten W.contents writer.old writer.new (error_line error.now) }
 {
-    let _written = report(NAME, error, writer);
-    status_of(error)
-}
-
-/// The exit status of a fault of a font's file, whose line is written; a write that fails changes
-/// no status.
-#[tactic(auto, using(crate::proofs::Lines::is_written))]
-fn faulty<W: Write>(fault: &FontFault, writer: &mut Counted<W>) -> u8
-    ensures status { result ≡ 1 }
-    ensures line { IsWritten W.contents writer.old writer.new (font_fault_line fault.now) }
-{
-    let _written = put_font_fault(NAME, fault, writer);
-    FAULT
+    let _written = put_file_error(NAME, error, writer);
+    status_of_file(error)
 }
 
 /// The exit status of a misuse, whose line is written; a write that fails changes no status.
@@ -207,7 +189,6 @@ fn stopped<W: Write>(stop: &Stop, writer: &mut Counted<W>) -> u8
         Stop::Rejected => USAGE,
         Stop::Misused(misuse) => misused(*misuse, writer),
         Stop::Failed(error) => ending(error, writer),
-        Stop::Faulty(fault) => faulty(fault, writer),
         Stop::Told(status) => *status,
     }
 }

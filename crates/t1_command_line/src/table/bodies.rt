@@ -5,6 +5,10 @@ ghost use Rattle.t1_command_line.specs.Codes.{outline_of, bodies};
 use crate::table::FAULT_EXAMPLE;
 use crate::topic::{Section, Topic};
 
+/// What is said of each fault of a word.
+const OF_A_WORD: &str =
+    "\n't1edit faults SOURCE' shows each such word, with its line and its column.\n";
+
 const SECTION: Section = Section {
     title: "Faults of a body, and of the PFB file",
     topics: &[
@@ -22,7 +26,7 @@ const SECTION: Section = Section {
                 \n\
                 What to do: write the word as the format has it: rmoveto for moveto, 5 for +5, and 11 2 div\n\
                 for 5.5. Words stand between blanks: endchar% is read, endchar/x isn't.\n",
-            note: "",
+            note: OF_A_WORD,
         },
         Topic {
             code: "F21",
@@ -33,7 +37,7 @@ const SECTION: Section = Section {
                 A number of a charstring is from -2147483648 to 2147483647.\n\
                 \n\
                 What to do: mend the number. Most commands take no more than 32000.\n",
-            note: "",
+            note: OF_A_WORD,
         },
         Topic {
             code: "F22",

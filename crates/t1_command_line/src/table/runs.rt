@@ -9,7 +9,7 @@ use crate::topic::{Section, Topic};
 const OF_A_RUN: &str = "\n\
     The glyph that is reported is the one whose run has the fault. Where it is a composite, one that\n\
     ends in seac, it may stand on the faulty glyph: look at its parts too, and at the Subrs that they\n\
-    call.\n";
+    call. 't1edit faults SOURCE' shows the word itself, its line, and the calls on the way to it.\n";
 
 const SECTION: Section = Section {
     title: "Faults of running a glyph",

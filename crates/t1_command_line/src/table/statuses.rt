@@ -21,9 +21,10 @@ const SECTION: Section = Section {
             lead: "",
             text: "Standard error has the first fault, its code and its place, as 't1edit: F38 glyph Aacute',\n\
                 'F22 subr 7', 'F7 line 5', 'D3 byte 812' or 'F1'. Lines are counted from 1. Nothing was written.\n\
-                t1edit notes --strict ends so where there are notes, which stand on standard output.\n\
+                t1edit faults ends so where there are faults, and t1edit notes --strict where there are notes;\n\
+                both write them on standard output.\n\
                 \n\
-                What to do: 't1edit explain CODE' says it.\n",
+                What to do: 't1edit explain CODE' says it, and 't1edit faults SOURCE' shows the place.\n",
             note: "",
         },
         Topic {
@@ -39,7 +40,8 @@ const SECTION: Section = Section {
             code: "3",
             meaning: "reading or writing failed",
             lead: "",
-            text: "Standard error has 't1edit: read failed' or 't1edit: write failed'. What was written to\n\
+            text: "Standard error has 't1edit: read failed' or 't1edit: write failed'; of faults, of notes and of\n\
+                several sources the name of the file stands in place of t1edit. What was written to\n\
                 standard output by then is a beginning of the whole; a file that -o names is as it was, unless\n\
                 it is a device or a pipe.\n\
                 \n\

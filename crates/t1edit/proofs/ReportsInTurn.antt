@@ -1,7 +1,7 @@
--- The notes on several files, in turn.
+-- What is told of several files, in turn.
 use Rattle.std.proofs.Common.{◌≡◌, ℕ, max, List, [], ◌∷◌, refl, subst, arith}
 use Rattle.std.specs.Borrow.{Bor}
-use Rattle.t1edit.specs.Noting.{InOrder}
+use Rattle.t1edit.specs.Reporting.{InOrder}
 
 -- what became of the files so far, for whatever becomes of those that are left
 abbrev pub Left : {S : Type 0} → (List ℕ → S → S → ℕ → Type 0) → List (Bor (List ℕ)) → List (Bor (List ℕ)) → S → S → ℕ → Type 0
