@@ -133,6 +133,36 @@ const SECTION: Section = Section {
             note: "",
         },
         Topic {
+            code: "wide-coordinate",
+            meaning: "a command has a value past 16000",
+            lead: NOTE_EXAMPLE,
+            text: "\t/A {\n\
+                \t10 600 hsbw\n\
+                \t16001 hmoveto\n\
+                \tendchar\n\
+                \t} ND\n\
+                \n\
+                Values up to 32000 are taken here, in either direction; old interpreters may not take one past\n\
+                16000. A value that large is mostly one with a digit too many.\n\
+                \n\
+                What to do: mend the value, or go a long way in several steps.\n",
+            note: "",
+        },
+        Topic {
+            code: "negative-width",
+            meaning: "the width of a glyph is below 0",
+            lead: NOTE_EXAMPLE,
+            text: "\t/A {\n\
+                \t10 -600 hsbw\n\
+                \tendchar\n\
+                \t} ND\n\
+                \n\
+                The second value of hsbw is the width; below 0 the text that follows is set to the left.\n\
+                \n\
+                What to do: take the sign off, or exchange the two values.\n",
+            note: "",
+        },
+        Topic {
             code: "open-path",
             meaning: "a path isn't closed before a move or the end of the glyph",
             lead: NOTE_EXAMPLE,
@@ -147,6 +177,44 @@ const SECTION: Section = Section {
                 looked at, not its run: after a call of a Subr nothing is known of the path.\n\
                 \n\
                 What to do: put 'closepath' in front of the move or of 'endchar'.\n",
+            note: "",
+        },
+        Topic {
+            code: "no-such-glyph",
+            meaning: "a pair of the kerning file names a glyph that isn't there",
+            lead: NOTE_EXAMPLE,
+            text: "\tKPX A nosuch -50\n\
+                \n\
+                The pair stands in the AFM file, and kerns nothing. By t1edit notes --kern FILE.\n\
+                \n\
+                What to do: mend the name, add the glyph, or take the pair out.\n",
+            note: "",
+        },
+        Topic {
+            code: "unused-subr",
+            meaning: "no glyph's run enters the Subr",
+            lead: NOTE_EXAMPLE,
+            text: "\tdup 5 {\n\
+                \treturn\n\
+                \t} NP\n\
+                \n\
+                Subrs 0 to 3 are there for flex and hint replacement, and have no such note. It is told of a\n\
+                source without a fault alone.\n\
+                \n\
+                What to do: take the Subr out, or empty it where others have higher numbers; or look for the\n\
+                call that was lost.\n",
+            note: "",
+        },
+        Topic {
+            code: "font-box",
+            meaning: "FontBBox isn't the box around the glyphs",
+            lead: NOTE_EXAMPLE,
+            text: "\t/FontBBox {0 -200 1000 800} readonly def\n\
+                \n\
+                Programs that go by this box cut off what stands out of it. The AFM file has the right one. Four\n\
+                zeros say nothing, and have no such note. It is told of a source without a fault alone.\n\
+                \n\
+                What to do: write the numbers of the AFM file's FontBBox.\n",
             note: "",
         },
     ],
