@@ -10,6 +10,7 @@ The program does the work; this package only talks to it. Lengths are in charact
 """
 
 from .entries import Glyph, Glyphs, Subr, Subrs
+from .fault_list import Fault, faults
 from .font import Font
 from .metrics import Box, Metrics
 from .once import assemble, check, explain, measure
@@ -23,6 +24,7 @@ __all__ = [
     "Box",
     "Encoding",
     "Error",
+    "Fault",
     "Font",
     "Glyph",
     "Glyphs",
@@ -41,5 +43,6 @@ __all__ = [
     "assemble",
     "check",
     "explain",
+    "faults",
     "measure",
 ]

@@ -1,11 +1,7 @@
 # Independent implementation that computes the tests' expected values; no part of the product.
-"""Every fault of a source, each where it stands: its line, its column, the word, and a hint."""
+"""Every fault of a source, each where it stands: its line, its column, the word, a hint, and the calls on the way to it."""
 
-import difflib
-import os
-import re
-import sys
-from dataclasses import dataclass
+from dataclasses import dataclass, field
 
 from charstrings import COMMANDS, LONGEST_BODY, command
 from faults import Fault
@@ -13,13 +9,15 @@ from runs import DEEPEST, LARGEST_OPERAND, STANDARD, End, Font, Run
 from source import BLANKS, BODY_WORD, Entry, Section, lines, opens_entry, read_private, read_source, trimmed
 
 POSTSCRIPT = {b"moveto": b"rmoveto", b"lineto": b"rlineto", b"curveto": b"rrcurveto"}
-FAULTS = os.path.join(os.path.dirname(os.path.abspath(__file__)), "..", "..", "docs", "FAULTS.md")
+BY_CODE = sorted(COMMANDS, key=lambda name: COMMANDS[name][0])
+MOST_EDITS = 2
 
 
-@dataclass(frozen=True)
+@dataclass
 class Found:
     """A fault: its code, its place as check tells it, its line and column from 1, the bytes that stand there where a word is at
-    fault, a hint, and the glyphs and calls through which it was met."""
+    fault, a hint, and, where it stands in a Subr, the chains of calls through which it was met: of each the glyph's name, and the
+    Subrs in turn. A fault that is nowhere has no place; those of a source as a whole stand at its front."""
 
     code: str
     place: bytes
@@ -27,21 +25,35 @@ class Found:
     column: int
     word: bytes = None
     hint: str = ""
-    chain: tuple = ()
+    chains: list = field(default_factory=list)
 
 
 @dataclass(frozen=True)
 class Placed:
-    """An entry where it stands: the words of its body with the line and column of each, and the brace that ends it."""
+    """An entry where it stands: its first line, the column of its first word there, and each word of its body as its line, its
+    column and itself."""
 
     entry: Entry
     line: int
     column: int
     words: tuple
-    brace: tuple
+
+    def fault(self, code):
+        """A fault of the entry as a whole."""
+        return Found(code, self.entry.place(), self.line, self.column)
+
+    def fault_at(self, index, code, hint=""):
+        """A fault of a word of its body."""
+        line, column, word = self.words[index]
+        return Found(code, self.entry.place(), line, column, word, hint)
 
 
 # Where things stand
+
+def column_of(line):
+    """The column of the first byte that is no blank, or of the line's end."""
+    return 1 + len(line) - len(line.lstrip(BLANKS))
+
 
 def placed_entries(text):
     """The entries of a source that reads, in its order."""
@@ -56,19 +68,19 @@ def placed_entries(text):
         if isinstance(item, Section):
             section = item.kind
         if isinstance(item, Entry):
-            found.append(placed_entry(all_lines, item, number, opens_entry(all_lines[number], section)[1]))
+            words = placed_words(all_lines, number, opens_entry(all_lines[number], section)[1])
+            found.append(Placed(item, number + 1, column_of(all_lines[number]), words))
     return found
 
 
-def placed_entry(all_lines, entry, first, place):
-    words, index, start = [], first, place
+def placed_words(all_lines, index, start):
+    words = []
     while True:
         for match in BODY_WORD.finditer(all_lines[index], start):
             if match[0] == b"%":
                 break
             if match[0] == b"}":
-                column = 1 + len(all_lines[first]) - len(all_lines[first].lstrip(BLANKS))
-                return Placed(entry, first + 1, column, tuple(words), (index + 1, match.start() + 1, b"}"))
+                return tuple(words)
             words.append((index + 1, match.start() + 1, match[0]))
         index, start = index + 1, 0
 
@@ -76,27 +88,24 @@ def placed_entry(all_lines, entry, first, place):
 # Faults of reading
 
 def reading_fault(text, fault):
+    """A fault of reading a source, or a kerning file, on its line or at the front."""
     if not fault.place.startswith(b"line "):
         return Found(fault.code, fault.place, 1, 1)
     number = int(fault.place[5:])
     line = lines(text)[number - 1]
     hint = first_of_key(text, number) if fault.code in ("F9", "F10") else ""
-    return Found(fault.code, fault.place, number, 1 + len(line) - len(line.lstrip(BLANKS)), trimmed(line), hint)
+    return Found(fault.code, fault.place, number, column_of(line), trimmed(line), hint)
 
 
 def first_of_key(text, number):
-    """The line of the first entry of the same number or name."""
+    """Where the entry stands that has the same number or name as the one that begins on a line."""
     all_lines = lines(text)
-    for section in ("Subrs", "CharStrings"):
-        opening = opens_entry(all_lines[number - 1], section)
-        if opening is None:
-            continue
-        key = int(opening[0]) if section == "Subrs" else opening[0]
-        for at, line in enumerate(all_lines[: number - 1]):
-            other = opens_entry(line, section)
-            if other and (int(other[0]) if section == "Subrs" and other[0].isdigit() else other[0]) == key:
-                return "the first one: line %d" % (at + 1)
-    return ""
+    eexec = next(at for at, line in enumerate(all_lines) if trimmed(line).endswith(b"currentfile eexec"))
+    before, numbers = read_private(all_lines[:number], eexec + 1, number - 1)
+    section = [item.kind for item in before if isinstance(item, Section)][-1]
+    token = opens_entry(all_lines[number - 1], section)[0]
+    key = int(token) if section == "Subrs" else token[1:]
+    return next("first on line %d" % (at + 1) for item, at in zip(before, numbers) if isinstance(item, Entry) and item.key == key)
 
 
 # Faults of words
@@ -109,35 +118,46 @@ def word_code(word):
     return None
 
 
+def edits_between(one, other):
+    """How many bytes must be put in, taken out or replaced to make one word of the other."""
+    row = list(range(len(other) + 1))
+    for above, byte in enumerate(one, 1):
+        last, row[0] = row[0], above
+        for at, it in enumerate(other, 1):
+            last, row[at] = row[at], min(row[at] + 1, row[at - 1] + 1, last + (byte != it))
+    return row[-1]
+
+
 def word_hint(word):
-    """The command that was meant, most likely."""
+    """The command that was meant, most likely: that of PostScript's word, else the first by code that the fewest edits make."""
     if word in POSTSCRIPT:
         return POSTSCRIPT[word].decode() + "?"
-    near = difflib.get_close_matches(word.decode("latin-1").lower(), [it.decode() for it in COMMANDS], 1, 0.7)
-    return near[0] + "?" if near else ""
+    if not word.isalpha():
+        return ""
+    near = min(BY_CODE, key=lambda name: edits_between(word, name))
+    return near.decode() + "?" if edits_between(word, near) <= MOST_EDITS else ""
 
 
 def body_faults(placed):
-    place = placed.entry.place()
-    found = [Found("F22", place, placed.line, placed.column)] if len(placed.words) > LONGEST_BODY else []
-    for line, column, word in placed.words:
+    found = [placed.fault("F22")] if len(placed.words) > LONGEST_BODY else []
+    for index, (_, _, word) in enumerate(placed.words):
         code = word_code(word)
         if code:
-            found.append(Found(code, place, line, column, word, word_hint(word) if code == "F20" else ""))
+            found.append(placed.fault_at(index, code, word_hint(word) if code == "F20" else ""))
     return found
 
 
 # Faults of runs
 
 class Way(Run):
-    """A run that knows its way: of each body that is entered and not left the key, and the index of its word."""
+    """A run that knows its way: of each body that is entered and not left its key, and the index of its word."""
 
     def __init__(self, subrs, glyphs, name):
         super().__init__(subrs, glyphs)
         self.way, self.key = [], name
 
     def body(self, commands, depth):
-        step = [self.key, -1]
+        step = [self.key, None]
         self.way.append(step)
         super().body(self.counted(commands, step), depth)
         step[1] = None  # (after its last word)
@@ -155,7 +175,7 @@ class Way(Run):
 
 
 def way_of(subrs, glyphs, name):
-    """The run of a glyph, and its fault, or None."""
+    """The run of a glyph, and the code of its fault, or None."""
     run = Way(subrs, glyphs, name)
     try:
         run.body(glyphs[name], 0)
@@ -166,60 +186,93 @@ def way_of(subrs, glyphs, name):
     return run, "F35"
 
 
-def commands_or_none(placed):
-    """The commands of a body; None where a word has a fault."""
-    return None if body_faults(placed) else [command(word) for _, _, word in placed.words]
-
-
 def number_of(value):
     return str(value.numerator) if value.denominator == 1 else "%d/%d" % (value.numerator, value.denominator)
 
 
-def run_fault(placed, by_key, subrs, glyphs, unsure):
-    """The first fault of a glyph's own run, at its word."""
-    name = placed.entry.key
-    run, code = way_of(subrs, glyphs, name)
-    if code is None or code == "F32" and unsure:
-        return None
-    key, index = run.way[-1]
-    at = by_key[key]
-    where = at.brace if index is None else at.words[index]
-    chain = tuple((b"glyph " + it if isinstance(it, bytes) else b"subr %d" % it).decode("latin-1") for it, _ in run.way)
-    return Found(code, at.entry.place(), *where, hint_of(run, code, where), chain)
-
-
-def hint_of(run, code, where):
-    wants = COMMANDS.get(where[2], (b"", 0))[1]
+def run_hint(run, code, word):
+    """What there is to say of a run's fault beside the word, by the values before it."""
+    stack = run.stack
     if code == "F30":
-        if where[2] == b"callothersubr" and len(run.stack) >= 2:
-            wants = int(run.stack[-2]) + 2
-        return "%d of %d values" % (len(run.stack), wants)
+        wanted = COMMANDS[word][1]
+        if len(stack) >= wanted:  # (of callothersubr, whose arguments are missing)
+            wanted += int(stack[-2])
+        return "%d value%s, %d wanted" % (len(stack), "" if len(stack) == 1 else "s", wanted)
     if code == "F32":
-        return str(run.key)
-    if code == "F37" and where[2] != b"div":
-        return next((number_of(it) for it in run.stack[len(run.stack) - wants :] if abs(it) > LARGEST_OPERAND), "")
-    if code == "F42" and run.stack:
-        return number_of(run.stack[-1])
+        return "no Subr %d" % run.key
+    if code == "F37":
+        return "" if word == b"div" else number_of(too_large(stack, word))
+    if code == "F42":
+        return "othersubr " + number_of(stack[-1])
     if code == "F44":
-        return next((number_of(it) for it in run.stack[-2:] if it not in STANDARD), "")
+        return "code " + number_of(next(it for it in stack[-2:] if it not in STANDARD))
     if code == "F45":
-        names = [STANDARD[int(it)] for it in run.stack[-2:]]
-        return next((it.decode() for it in names if it not in run.glyphs), "")
-    if code == "F41" and run.flex is not None:
-        return "%d of 7 points" % len(run.flex[1])
+        return "no glyph " + next(it for it in (STANDARD[int(it)] for it in stack[-2:]) if it not in run.glyphs).decode()
     return ""
+
+
+def too_large(stack, word):
+    """The first operand past the limit; callothersubr looks at its number and its count before its arguments."""
+    operands = stack[len(stack) - COMMANDS[word][1] :]
+    if word == b"callothersubr":
+        count, number = operands
+        operands = [number, count, *stack[len(stack) - 2 - int(abs(count)) : -2]]
+    return next(it for it in operands if abs(it) > LARGEST_OPERAND)
+
+
+class Bodies:
+    """The bodies of a source: the commands of those without a fault, and which Subrs have one."""
+
+    def __init__(self, entries, of_words):
+        self.subrs, self.glyphs, self.broken = {}, {}, set()
+        for placed in entries:
+            key, is_sound = placed.entry.key, not of_words[placed.entry.key]
+            if placed.entry.is_subr() and not is_sound:
+                self.broken.add(key)
+                continue
+            bodies = self.subrs if placed.entry.is_subr() else self.glyphs
+            bodies[key] = [command(word) for _, _, word in placed.words] if is_sound else []
+
+
+def run_faults(entries, bodies, of_words):
+    """The faults of runs by the key of the entry that each stands in, and the runs without a fault by glyph."""
+    found, runs, in_subrs = {}, {}, {}
+    by_key = {placed.entry.key: placed for placed in entries}
+    for name in (placed.entry.key for placed in entries if not placed.entry.is_subr() and not of_words[placed.entry.key]):
+        run, code = way_of(bodies.subrs, bodies.glyphs, name)
+        if code is None:
+            runs[name] = run
+        elif code != "F32" or run.key not in bodies.broken:
+            key, index = run.way[-1]
+            at = by_key[key]
+            if index is None:
+                found[key] = [at.fault(code)]
+                continue
+            fault = at.fault_at(index, code, run_hint(run, code, at.words[index][2]))
+            if key != name:
+                fault = in_subrs.setdefault((key, index, code), fault)
+                fault.chains.append((name, [number for number, _ in run.way[1:]]))
+            else:
+                found[key] = [fault]
+    for (key, _, _), fault in sorted(in_subrs.items(), key=lambda it: it[0][:2]):
+        found.setdefault(key, []).append(fault)
+    return found, runs
 
 
 # Faults of joins
 
+class Unsound(Exception):
+    """The own run of a glyph or of a part has a fault, which is told there."""
+
+
 class Joins(Font):
-    """Outlines over own runs that are known to have no fault; None where one has."""
+    """Outlines over own runs that are known to have no fault."""
 
     def __init__(self, runs):
         self.runs = runs
 
     def own(self, name):
-        if self.runs[name] is None:
+        if name not in self.runs:
             raise Unsound
         return self.runs[name]
 
@@ -230,20 +283,15 @@ class Joins(Font):
             self.judge(run.composite.base, depth + 1)
             self.judge(run.composite.accent, depth + 1)
 
-
-class Unsound(Exception):
-    """The own run of a glyph or of a part has a fault, which is told there."""
-
-
-def join_code(joins, name):
-    try:
-        joins.judge(name)
-        joins.outline(name)
-    except Unsound:
+    def code(self, name):
+        try:
+            self.judge(name)
+            self.outline(name)
+        except Unsound:
+            return None
+        except Fault as fault:
+            return fault.code
         return None
-    except Fault as fault:
-        return fault.code
-    return None
 
 
 # All of a source
@@ -253,74 +301,21 @@ def is_too_long(source):
     return any(isinstance(item, Section) and item.count > 999999999 for item in source.items)
 
 
-def found_faults(text, at_words=True):
-    """Every fault of a source. A fault of a run stands at its word, or, with at_words False, at its glyph's first line."""
+def found_faults(text):
+    """Every fault of a source, in its order, then that of its files' parts, then those of joins."""
     try:
         source = read_source(text)
     except Fault as fault:
         return [reading_fault(text, fault)]
     entries = placed_entries(text)
-    bodies = {it.entry.key: commands_or_none(it) for it in entries}
-    by_key = {it.entry.key: it for it in entries}
-    subrs = {key: body for key, body in bodies.items() if isinstance(key, int) and body is not None}
-    glyphs = {key: body or [] for key, body in bodies.items() if isinstance(key, bytes)}
-    unsure = any(isinstance(key, int) and body is None for key, body in bodies.items())
-    found, seen, runs = [], set(), {}
-    for it in entries:
-        of_words = body_faults(it)
-        found += of_words
-        if it.entry.is_subr():
-            continue
-        run, code = way_of(subrs, glyphs, it.entry.key)
-        runs[it.entry.key] = run if code is None else None
-        fault = None if of_words else run_fault(it, by_key, subrs, glyphs, unsure)
-        if fault is None:
-            continue
-        if not at_words:
-            found.append(Found(fault.code, it.entry.place(), it.line, it.column))
-        elif (fault.line, fault.column) not in seen:  # (a fault in a Subr stands once)
-            seen.add((fault.line, fault.column))
-            found.append(fault)
-    if at_words:
-        found.sort(key=lambda it: (it.line, it.column))
-    if all(body is not None for body in bodies.values()) and is_too_long(source):
+    of_words = {placed.entry.key: body_faults(placed) for placed in entries}
+    of_runs, runs = run_faults(entries, Bodies(entries, of_words), of_words)
+    found = [fault for placed in entries for fault in of_words[placed.entry.key] or of_runs.get(placed.entry.key, [])]
+    if not any(of_words.values()) and is_too_long(source):
         found.append(Found("F23", b"", 1, 1))
     joins = Joins(runs)
-    for it in entries:
-        if not it.entry.is_subr():
-            code = join_code(joins, it.entry.key)
-            if code:
-                found.append(Found(code, it.entry.place(), it.line, it.column))
+    for placed in entries:
+        code = None if placed.entry.is_subr() else joins.code(placed.entry.key)
+        if code:
+            found.append(placed.fault(code))
     return found
-
-
-# Lines
-
-def titles():
-    with open(FAULTS, encoding="utf-8") as file:
-        return dict(re.findall(r"(?m)^### (F\d+): (.*)$", file.read()))
-
-
-def readable(word):
-    """A word as it is shown: bytes that can't be seen, or are no ASCII, by their values."""
-    return "".join(chr(it) if 33 <= it <= 126 or it == 32 else "<%02X>" % it for it in word)
-
-
-def shown(path, found, title_of):
-    """The line of a fault: FILE:LINE:COLUMN: CODE PLACE: TITLE: WORD (HINT)."""
-    place = " " + found.place.decode("latin-1") if found.place else ""
-    word = ": " + readable(found.word) if found.word is not None else ""
-    hint = " (%s)" % found.hint if found.hint else ""
-    return f"{path}:{found.line}:{found.column}: {found.code}{place}: {title_of[found.code]}{word}{hint}"
-
-
-def main(paths):
-    title_of = titles()
-    for path in paths:
-        with open(path, "rb") as file:
-            for found in found_faults(file.read()):
-                print(shown(path, found, title_of))
-
-
-if __name__ == "__main__":
-    main(sys.argv[1:])
