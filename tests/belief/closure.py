@@ -94,7 +94,7 @@ class Closure:
         crate, rest = parts[1], parts[3:]
         if crate not in self.roots:
             return set()
-        if rest[0] == "declared":
+        if rest[0] in ("declared", "contracts"):
             return self.declared(crate, [part for part in rest[1:] if part != "TheVariants"], name)
         spec = self.specs[crate, rest[0]]
         if name in spec.passed_on:
