@@ -180,17 +180,6 @@ const SECTION: Section = Section {
             note: "",
         },
         Topic {
-            code: "no-such-glyph",
-            meaning: "a pair of the kerning file names a glyph that isn't there",
-            lead: NOTE_EXAMPLE,
-            text: "\tKPX A nosuch -50\n\
-                \n\
-                The pair stands in the AFM file, and kerns nothing. By t1edit notes --kern FILE.\n\
-                \n\
-                What to do: mend the name, add the glyph, or take the pair out.\n",
-            note: "",
-        },
-        Topic {
             code: "unused-subr",
             meaning: "no glyph's run enters the Subr",
             lead: NOTE_EXAMPLE,
@@ -198,7 +187,7 @@ const SECTION: Section = Section {
                 \treturn\n\
                 \t} NP\n\
                 \n\
-                Subrs 0 to 3 are there for flex and hint replacement, and have no such note. It is told of a\n\
+                Subrs 0 to 4 are there for flex and hint replacement, and have no such note. It is told of a\n\
                 source without a fault alone.\n\
                 \n\
                 What to do: take the Subr out, or empty it where others have higher numbers; or look for the\n\
