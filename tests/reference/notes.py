@@ -58,12 +58,8 @@ def pair_notes(text, pairs):
     return found
 
 
-def noted_text(name, text):
-    """What `t1edit notes` writes of a file of this name."""
-    return shown(name, notes(text))
-
-
 def shown(name, found):
+    """What `t1edit notes` writes of a file of this name, with these notes."""
     return "".join(f"{name}:{line}:{column}: note {kind}: {TEXTS[kind]}\n" for line, column, kind in found)
 
 
