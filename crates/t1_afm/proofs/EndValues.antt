@@ -6,7 +6,7 @@ use Rattle.t1_frac.specs.Limits.{IsCoordinate}
 use Rattle.t1_frac.proofs.Rounded.{round_alike}
 use Rattle.t1_afm.specs.declared.span.Span.{Span}
 use Rattle.t1_afm.specs.Points.{cubic_at}
-use Rattle.t1_afm.specs.Spans.{span_of, span_around, span_around_one, ends_of}
+use Rattle.t1_afm.specs.Spans.{span_of, span_around, span_around_one, end_span}
 use Rattle.t1_afm.proofs.Between.{same_span}
 
 zero_times : (x : ℤ) → pos 0 *ℤ x ≡ pos 0
@@ -61,7 +61,7 @@ around_same : (v a : Fraction) → 0 < v.den → 0 < a.den → IsSame v a → sp
 around_same v a some above same = let both = round_alike v a some above same in same_span _ _ _ _ both.0 both.1
 
 -- the span around the values at both ends is that around the ends
-pub ends_are : (a b c d : Fraction) → IsCoordinate a → IsCoordinate b → IsCoordinate c → IsCoordinate d → ends_of a b c d ≡ span_of (a ∷ d ∷ [])
+pub ends_are : (a b c d : Fraction) → IsCoordinate a → IsCoordinate b → IsCoordinate c → IsCoordinate d → end_span a b c d ≡ span_of (a ∷ d ∷ [])
 ends_are a b c d ha hb hc hd =
     let some : 0 < 262144 * ((a.den * b.den) * (c.den * d.den)) = mul-pos {m = 262144} (omega arith) (mul-pos (mul-pos ha.above hb.above) (mul-pos hc.above hd.above)) in
     ap (λ (s : Span). span_around s (span_around_one (cubic_at a b c d 64))) (around_same (cubic_at a b c d 0) a some ha.above (first_same a b c d))

@@ -11,13 +11,13 @@ use Rattle.t1_afm.specs.declared.metrics.KernPair.{KernPair}
 use Rattle.t1_afm.specs.declared.metrics.CompositeMetric.{CompositeMetric}
 use Rattle.t1_afm.specs.declared.part.Value.{Value}
 use Rattle.t1_afm.specs.Afm.{Line, line_text, lines_text, value_line, value_lines, header_lines, heights, sides, scheme, values_before_box, values_after_box, section, char_line, pair_line, composite_line, kerning_lines, composite_lines, FontMetrics, afm}
-use Rattle.t1_afm.specs.Lines.{value_of, values_of}
+use Rattle.t1_afm.specs.Lines.{value_bytes, values_of}
 
 -- values, put as parts
-pub values_are : (vs : List Value) → flat_map (λ v. lines_text (value_line (value_of v))) vs ≡ lines_text (value_lines (values_of vs))
+pub values_are : (vs : List Value) → flat_map (λ v. lines_text (value_line (value_bytes v))) vs ≡ lines_text (value_lines (values_of vs))
 values_are [] = refl
 values_are (v ∷ vs) =
-    ap (λ t. lines_text (value_line (value_of v)) ++ t) (values_are vs) ∙ sym (flat_map-append line_text (value_line (value_of v)) (value_lines (values_of vs)))
+    ap (λ t. lines_text (value_line (value_bytes v)) ++ t) (values_are vs) ∙ sym (flat_map-append line_text (value_line (value_bytes v)) (value_lines (values_of vs)))
 
 last_line : (ls : List Line) (end : Line) → lines_text (ls ++ end ∷ []) ≡ lines_text ls ++ line_text end
 last_line ls end = flat_map-append line_text ls (end ∷ []) ∙ ap (λ t. lines_text ls ++ t) (append-nil (line_text end))

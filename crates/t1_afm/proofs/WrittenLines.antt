@@ -8,14 +8,14 @@ use Rattle.t1_afm.specs.declared.line.Word.{Word}
 use Rattle.t1_afm.specs.declared.line.Word.TheVariants.{Text}
 use Rattle.t1_afm.specs.declared.metrics.CharMetric.{CharMetric}
 use Rattle.t1_afm.specs.Afm.{code_number, entries, line_text, rest_text, sides, width_words}
-use Rattle.t1_afm.specs.Lines.{word_text, words_of}
+use Rattle.t1_afm.specs.Lines.{word_text, line_words}
 
 abbrev pub no_word : Word
 no_word = Text (record { ref_ptr = (0, 0); now = [] })
 
 -- the words that are left begin with a space, a word, and those after it
 pub rest_is : (ws : List Word) (i : ℕ) → i < length ws
-    → rest_text (words_of (drop i ws)) ≡ (32 ∷ []) ++ (word_text (get_or ws i no_word) ++ rest_text (words_of (drop (i + 1) ws)))
+    → rest_text (line_words (drop i ws)) ≡ (32 ∷ []) ++ (word_text (get_or ws i no_word) ++ rest_text (line_words (drop (i + 1) ws)))
 rest_is ws i inside = rw (add-one, drop-cons ws i no_word) refl
 
 -- the text of the parts that are left begins with that of a part

@@ -13,13 +13,13 @@ word_text (Number number) = signed_decimal number
 word_text (Count count) = decimal count
 
 -- word: the words of a line, as bytes
-abbrev pub words_of : List Word → Line
-words_of words = map word_text words
+abbrev pub line_words : List Word → Line
+line_words words = map word_text words
 
 -- word: a key, and the bytes of its value, where there is one
-abbrev pub value_of : Value → List ℕ × Option (List ℕ)
-value_of v = (v.key.now, option_map word_text v.value)
+abbrev pub value_bytes : Value → List ℕ × Option (List ℕ)
+value_bytes v = (v.key.now, option_map word_text v.value)
 
 -- word: the keys and values, one after another
 abbrev pub values_of : List Value → List (List ℕ × Option (List ℕ))
-values_of values = map value_of values
+values_of values = map value_bytes values

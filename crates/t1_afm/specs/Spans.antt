@@ -28,5 +28,5 @@ abbrev pub hull_of : Fraction → Fraction → Fraction → Fraction → Span
 hull_of a b c d = span_around (span_of (a ∷ b ∷ [])) (span_of (c ∷ d ∷ []))
 
 -- word: the span around a cubic's values at both ends
-abbrev pub ends_of : Fraction → Fraction → Fraction → Fraction → Span
-ends_of a b c d = span_around (span_around_one (cubic_at a b c d 0)) (span_around_one (cubic_at a b c d 64))
+abbrev pub end_span : Fraction → Fraction → Fraction → Fraction → Span
+end_span a b c d = span_around (span_around_one (cubic_at a b c d 0)) (span_around_one (cubic_at a b c d 64))

@@ -1,10 +1,14 @@
 //! The AFM file, section by section.
-ghost use Rattle.std.specs.Prelude.{◌≡◌, ◌≢◌, [], ◌∷◌, ◌++◌, Ok, Err, length, flat_map, map, codes, decimal, option_map};
+ghost use Rattle.std.specs.Prelude.{◌≡◌, ◌≢◌, [], ◌∷◌, ◌++◌, Ok, Err, length, flat_map, map, codes};
+ghost use Rattle.std.specs.Prelude.{decimal, option_map};
 ghost use Rattle.std.specs.Fmt.{signed_decimal};
 ghost use Rattle.t1_code.specs.Counted.{Puts, Writes, outlet};
 ghost use Rattle.t1_code.specs.Parts.{Prints};
-ghost use Rattle.t1_afm.specs.Afm.{line_text, lines_text, value_lines, values_before_box as names, values_after_box as others, scheme as scheme_of, header_lines, heights as heights_of, char_named, char_line, section, kerning_lines, composite_lines, afm};
-ghost use Rattle.t1_afm.specs.Lines.{value_of, values_of};
+ghost use Rattle.t1_afm.specs.Afm.{line_text, lines_text, value_lines, values_before_box as names};
+ghost use Rattle.t1_afm.specs.Afm.{values_after_box as others, scheme as scheme_of, header_lines};
+ghost use Rattle.t1_afm.specs.Afm.{heights as heights_of, char_named, char_line, section};
+ghost use Rattle.t1_afm.specs.Afm.{kerning_lines, composite_lines, afm};
+ghost use Rattle.t1_afm.specs.Lines.{value_bytes, values_of};
 
 use crate::bbox::BBox;
 use crate::line::{Word, put_line};
@@ -15,7 +19,7 @@ use t1_code::{Chunk, Counted, OutError};
 
 /// A key with the text of its value.
 fn text<'a>(key: &'a [u8], value: &'a Option<Text<'a>>) -> Value<'a>
-    ensures { value_of result ≡ (key.now, value.now) }
+    ensures { value_bytes result ≡ (key.now, value.now) }
 {
     Value {
         key,
@@ -25,7 +29,7 @@ fn text<'a>(key: &'a [u8], value: &'a Option<Text<'a>>) -> Value<'a>
 
 /// A key with its number.
 fn number(key: &[u8], value: Option<i32>) -> Value<'_>
-    ensures { value_of result ≡ (key.now, option_map signed_decimal value) }
+    ensures { value_bytes result ≡ (key.now, option_map signed_decimal value) }
 {
     Value {
         key,
@@ -82,7 +86,8 @@ fn heights(chars: &[CharMetric]) -> [Value<'static>; 4]
 }
 
 fn put_values<W: Write>(out: &mut Counted<W>, chunk: &mut Chunk, values: &[Value]) -> io::Result<()>
-    ensures { Puts W.contents (outlet out.old chunk.old) (outlet out.new chunk.new) (lines_text (value_lines (values_of values.now))) result }
+    ensures { Puts W.contents (outlet out.old chunk.old) (outlet out.new chunk.new)
+        (lines_text (value_lines (values_of values.now))) result }
 {
     put_parts(out, chunk, values)
 }
@@ -104,7 +109,9 @@ fn put_header<W: Write>(
     chunk: &mut Chunk,
     metrics: &Metrics,
 ) -> io::Result<()>
-    ensures { Puts W.contents (outlet out.old chunk.old) (outlet out.new chunk.new) (lines_text (header_lines metrics.now.header metrics.now.standard metrics.now.font_box)) result }
+    ensures { Puts W.contents (outlet out.old chunk.old) (outlet out.new chunk.new)
+        (lines_text (header_lines metrics.now.header metrics.now.standard metrics.now.font_box))
+        result }
 {
     put_line(out, chunk, b"StartFontMetrics", &[Word::Text(b"4.1")])?;
     put_values(out, chunk, &values_before_box(&metrics.header))?;
@@ -126,7 +133,9 @@ fn put_section<W: Write, P: Part>(
     end: &[u8],
     parts: &[P],
 ) -> io::Result<()>
-    ensures { Puts W.contents (outlet out.old chunk.old) (outlet out.new chunk.new) (line_text (start.now ∷ decimal (length parts.now) ∷ []) ++ (flat_map P.text parts.now ++ line_text (end.now ∷ []))) result }
+    ensures { Puts W.contents (outlet out.old chunk.old) (outlet out.new chunk.new)
+        (line_text (start.now ∷ decimal (length parts.now) ∷ [])
+        ++ (flat_map P.text parts.now ++ line_text (end.now ∷ []))) result }
 {
     put_line(out, chunk, start, &[Word::Count(parts.len())])?;
     put_parts(out, chunk, parts)?;
@@ -139,7 +148,11 @@ fn put_glyphs<W: Write>(
     chunk: &mut Chunk,
     chars: &[CharMetric],
 ) -> io::Result<()>
-    ensures { Puts W.contents (outlet out.old chunk.old) (outlet out.new chunk.new) (lines_text (value_lines (heights_of chars.now) ++ section (codes "StartCharMetrics") (codes "EndCharMetrics") (map char_line chars.now))) result }
+    ensures { Puts W.contents (outlet out.old chunk.old) (outlet out.new chunk.new)
+        (lines_text
+        (value_lines (heights_of chars.now)
+        ++ section (codes "StartCharMetrics") (codes "EndCharMetrics")
+        (map char_line chars.now))) result }
 {
     put_values(out, chunk, &heights(chars))?;
     put_section(out, chunk, b"StartCharMetrics", b"EndCharMetrics", chars)
@@ -151,7 +164,8 @@ fn put_kerning<W: Write>(
     chunk: &mut Chunk,
     pairs: &[KernPair],
 ) -> io::Result<()>
-    ensures { Puts W.contents (outlet out.old chunk.old) (outlet out.new chunk.new) (lines_text (kerning_lines pairs.now)) result }
+    ensures { Puts W.contents (outlet out.old chunk.old) (outlet out.new chunk.new)
+        (lines_text (kerning_lines pairs.now)) result }
 {
     if pairs.is_empty() {
         return Ok(());
@@ -167,7 +181,8 @@ fn put_composites<W: Write>(
     chunk: &mut Chunk,
     composites: &[CompositeMetric],
 ) -> io::Result<()>
-    ensures { Puts W.contents (outlet out.old chunk.old) (outlet out.new chunk.new) (lines_text (composite_lines composites.now)) result }
+    ensures { Puts W.contents (outlet out.old chunk.old) (outlet out.new chunk.new)
+        (lines_text (composite_lines composites.now)) result }
 {
     if composites.is_empty() {
         return Ok(());
@@ -176,7 +191,8 @@ fn put_composites<W: Write>(
 }
 
 fn put_file<W: Write>(out: &mut Counted<W>, chunk: &mut Chunk, metrics: &Metrics) -> io::Result<()>
-    ensures { Puts W.contents (outlet out.old chunk.old) (outlet out.new chunk.new) (afm metrics.now) result }
+    ensures { Puts W.contents (outlet out.old chunk.old) (outlet out.new chunk.new)
+        (afm metrics.now) result }
 {
     put_header(out, chunk, metrics)?;
     put_glyphs(out, chunk, &metrics.chars)?;

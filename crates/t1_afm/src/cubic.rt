@@ -28,7 +28,8 @@ impl Cubic {
     /// The value at k/64.
     fn terms_at(&self, k: u32) -> Ratio
         requires { k ≤ 64 }
-        ensures { fraction_of result ≡ cubic_at self.now.start self.now.first self.now.second self.now.end k }
+        ensures { fraction_of result
+            ≡ cubic_at self.now.start self.now.first self.now.second self.now.end k }
     {
         let j = 64 - k;
         let front = WeightedPair::of(j * j * j, &self.start, 3 * j * j * k, &self.first);
@@ -39,7 +40,8 @@ impl Cubic {
     /// The value at k/64, which is within the range of coordinates.
     fn value_at(&self, k: u32) -> Ratio
         requires { k ≤ 64 }
-        ensures value { fraction_of result ≡ cubic_at self.now.start self.now.first self.now.second self.now.end k }
+        ensures value { fraction_of result
+            ≡ cubic_at self.now.start self.now.first self.now.second self.now.end k }
         ensures range { IsInRange (fraction_of result) }
     {
         self.terms_at(k)
@@ -48,7 +50,9 @@ impl Cubic {
     /// The span around the value at k/64.
     fn span_at(&self, k: u32) -> Span
         requires { k ≤ 64 }
-        ensures { result ≡ span_around_one (cubic_at self.now.start self.now.first self.now.second self.now.end k) }
+        ensures { result
+            ≡ span_around_one
+            (cubic_at self.now.start self.now.first self.now.second self.now.end k) }
     {
         let value = self.value_at(k);
         Span {
@@ -59,7 +63,8 @@ impl Cubic {
 
     /// The span around the 65 values, value by value.
     fn sampled_span(&self) -> Span
-        ensures { result ≡ span_of (cubic_values self.now.start self.now.first self.now.second self.now.end) }
+        ensures { result
+            ≡ span_of (cubic_values self.now.start self.now.first self.now.second self.now.end) }
     {
         let mut span = self.span_at(0);
         for k in 1..65 {
@@ -69,9 +74,11 @@ impl Cubic {
         span
     }
 
-    /// The span around the 65 values. Where the inner points reach no further than the ends, neither do the values between.
+    /// The span around the 65 values. Where the inner points reach no further than the ends,
+    /// neither do the values between.
     fn fraction_span(&self) -> Span
-        ensures { result ≡ span_of (cubic_values self.now.start self.now.first self.now.second self.now.end) }
+        ensures { result
+            ≡ span_of (cubic_values self.now.start self.now.first self.now.second self.now.end) }
     {
         let ends = line_span(&self.start, &self.end);
         let inner = line_span(&self.first, &self.second);
@@ -83,7 +90,8 @@ impl Cubic {
 
     /// The span around the 65 values.
     pub(crate) fn span(&self) -> Span
-        ensures { result ≡ span_of (cubic_values self.now.start self.now.first self.now.second self.now.end) }
+        ensures { result
+            ≡ span_of (cubic_values self.now.start self.now.first self.now.second self.now.end) }
     {
         if self.start.is_whole()
             && self.first.is_whole()

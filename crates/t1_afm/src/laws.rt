@@ -8,7 +8,8 @@ pub fn font_box_of_boxes()
     ensures { FontBoxOfBoxes }
 {}
 
-/// The box of an outline that is joined of two can be had from the boxes of both, of those that draw.
+/// The box of an outline that is joined of two can be had from the boxes of both, of those that
+/// draw.
 #[tactic(auto, using(crate::proofs::Fonts::box_of_both))]
 pub fn box_of_both()
     ensures { BoxOfBoth }

@@ -2,7 +2,7 @@
 ghost use Rattle.std.specs.Prelude.{◌∷◌};
 ghost use Rattle.t1_code.specs.Counted.{Puts, outlet};
 ghost use Rattle.t1_afm.specs.Afm.{line_text, rest_text};
-ghost use Rattle.t1_afm.specs.Lines.{word_text, words_of};
+ghost use Rattle.t1_afm.specs.Lines.{word_text, line_words};
 
 use itoa::Buffer;
 use std::io::{self, Write};
@@ -17,7 +17,8 @@ pub(crate) enum Word<'a> {
 }
 
 fn put_word<W: Write>(out: &mut Counted<W>, chunk: &mut Chunk, word: &Word) -> io::Result<()>
-    ensures { Puts W.contents (outlet out.old chunk.old) (outlet out.new chunk.new) (word_text word.now) result }
+    ensures { Puts W.contents (outlet out.old chunk.old) (outlet out.new chunk.new)
+        (word_text word.now) result }
 {
     let mut buffer = Buffer::new();
     match word {
@@ -29,7 +30,8 @@ fn put_word<W: Write>(out: &mut Counted<W>, chunk: &mut Chunk, word: &Word) -> i
 
 /// Puts the words that follow a line's key, and the line's end.
 fn put_rest<W: Write>(out: &mut Counted<W>, chunk: &mut Chunk, words: &[Word]) -> io::Result<()>
-    ensures { Puts W.contents (outlet out.old chunk.old) (outlet out.new chunk.new) (rest_text (words_of words.now)) result }
+    ensures { Puts W.contents (outlet out.old chunk.old) (outlet out.new chunk.new)
+        (rest_text (line_words words.now)) result }
 {
     for word in words {
         put_plain(out, chunk, b" ")?;
@@ -45,7 +47,8 @@ pub(crate) fn put_line<W: Write>(
     key: &[u8],
     words: &[Word],
 ) -> io::Result<()>
-    ensures { Puts W.contents (outlet out.old chunk.old) (outlet out.new chunk.new) (line_text (key.now ∷ words_of words.now)) result }
+    ensures { Puts W.contents (outlet out.old chunk.old) (outlet out.new chunk.new)
+        (line_text (key.now ∷ line_words words.now)) result }
 {
     put_plain(out, chunk, key)?;
     put_rest(out, chunk, words)

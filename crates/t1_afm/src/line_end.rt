@@ -1,4 +1,5 @@
-//! The end of a line, written from its last byte to its first, in which order the digits of a number are found.
+//! The end of a line, written from its last byte to its first, in which order the digits of a
+//! number are found.
 ghost use Rattle.std.specs.Prelude.{◌≡◌, ◌≤◌, ◌+◌, [], ◌++◌, length, drop};
 ghost use Rattle.std.specs.Fmt.{signed_decimal};
 
@@ -55,7 +56,8 @@ impl LineEnd {
         self.bytes.split_at(self.start).1
     }
 
-    /// Writes a text in front. Where it is inlined the text's length is known, and it is copied in a move or two.
+    /// Writes a text in front. Where it is inlined the text's length is known, and it is copied in
+    /// a move or two.
     #[inline(always)]
     pub(crate) fn text(&mut self, text: &[u8])
         requires { length self.old + length text.now ≤ 128 }

@@ -36,8 +36,8 @@ fn segment_box(segment: &Segment) -> BBox
     }
 }
 
-/// The box around an outline: over both ends of each line and 65 points of each curve, rounded outward; 0 0 0 0 where
-/// it has no segment. Each point is within the limits.
+/// The box around an outline: over both ends of each line and 65 points of each curve, rounded
+/// outward; 0 0 0 0 where it has no segment. Each point is within the limits.
 pub fn bounding_box(segments: &[Segment]) -> BBox
     requires { All IsWithin segments.now }
     ensures { result ≡ outline_box segments.now }
@@ -53,7 +53,8 @@ pub fn bounding_box(segments: &[Segment]) -> BBox
 /// The box around an outline, moved before it is rounded. Each moved point is within the limits.
 pub fn measure(segments: &[Segment], offset: &Point) -> BBox
     requires { IsOk (moved_outline offset.now segments.now) }
-    ensures { IfOk (moved_outline offset.now segments.now) (λ outline. result ≡ outline_box outline) }
+    ensures { IfOk (moved_outline offset.now segments.now)
+        (λ outline. result ≡ outline_box outline) }
 {
     let mut extent: Option<BBox> = None;
     for segment in segments {

@@ -1,10 +1,11 @@
-//! Parts of the file, each of which puts its own text. A line whose form is fixed is put as slices: its values, and the text
-//! between each two of them.
+//! Parts of the file, each of which puts its own text. A line whose form is fixed is put as slices:
+//! its values, and the text between each two of them.
 ghost use Rattle.std.specs.Prelude.{◌≡◌, ℕ, List, [], ◌∷◌, ◌++◌, flat_map, codes};
 ghost use Rattle.std.specs.Fmt.{signed_decimal};
 ghost use Rattle.t1_code.specs.Counted.{Puts, outlet};
-ghost use Rattle.t1_afm.specs.Afm.{line_text, rest_text, lines_text, value_line, char_line, pair_line, composite_line, sides, entries, code_number};
-ghost use Rattle.t1_afm.specs.Lines.{words_of, word_text, value_of};
+ghost use Rattle.t1_afm.specs.Afm.{line_text, rest_text, lines_text, value_line, char_line};
+ghost use Rattle.t1_afm.specs.Afm.{pair_line, composite_line, sides, entries, code_number};
+ghost use Rattle.t1_afm.specs.Lines.{line_words, word_text, value_bytes};
 
 use crate::bbox::BBox;
 use crate::line::{Word, put_line};
@@ -21,7 +22,8 @@ pub(crate) trait Part {
     ghost text: { Self → List ℕ };
 
     fn put<W: Write>(&self, out: &mut Counted<W>, chunk: &mut Chunk) -> io::Result<()>
-        ensures { Puts W.contents (outlet out.old chunk.old) (outlet out.new chunk.new) (text self.now) result };
+        ensures { Puts W.contents (outlet out.old chunk.old) (outlet out.new chunk.new)
+            (text self.now) result };
 }
 
 /// Puts parts, one after another.
@@ -30,7 +32,8 @@ pub(crate) fn put_parts<W: Write, P: Part>(
     chunk: &mut Chunk,
     parts: &[P],
 ) -> io::Result<()>
-    ensures { Puts W.contents (outlet out.old chunk.old) (outlet out.new chunk.new) (flat_map P.text parts.now) result }
+    ensures { Puts W.contents (outlet out.old chunk.old) (outlet out.new chunk.new)
+        (flat_map P.text parts.now) result }
 {
     for part in parts {
         part.put(out, chunk)?;
@@ -46,7 +49,7 @@ pub(crate) struct Value<'a> {
 }
 
 impl Part for Value<'_> {
-    ghost text = { λ v. lines_text (value_line (value_of v)) };
+    ghost text = { λ v. lines_text (value_line (value_bytes v)) };
 
     fn put<W: Write>(&self, out: &mut Counted<W>, chunk: &mut Chunk) -> io::Result<()> {
         match self.value {
@@ -74,7 +77,7 @@ fn side(place: i32) -> Word<'static>
 
 /// The left, bottom, right and top side of a box.
 pub(crate) fn sides(bbox: &BBox) -> [Word<'static>; 4]
-    ensures { words_of result ≡ sides bbox.now }
+    ensures { line_words result ≡ sides bbox.now }
 {
     [
         side(bbox.left),
@@ -95,7 +98,11 @@ fn code_number(code: Option<u8>) -> i64
 
 /// A glyph's line up to its name, with the width along x alone.
 fn width_front(code: i64, wx: i64) -> LineEnd
-    ensures { (rest : List ℕ) → result ++ rest ≡ codes "C " ++ (signed_decimal code ++ (codes " ; WX " ++ (signed_decimal wx ++ (codes " ; N " ++ rest)))) }
+    ensures { (rest : List ℕ)
+        → result ++ rest
+        ≡ codes "C "
+        ++ (signed_decimal code
+        ++ (codes " ; WX " ++ (signed_decimal wx ++ (codes " ; N " ++ rest)))) }
 {
     let mut front = LineEnd::new();
     front.text(b" ; N ");
@@ -128,7 +135,9 @@ impl<'a> CharMetric<'a> {
     #[tactic(auto, using(crate::proofs::WrittenLines::glyph_line))]
     fn put_across<W: Write>(&self, out: &mut Counted<W>, chunk: &mut Chunk) -> io::Result<()>
         ensures { Puts W.contents (outlet out.old chunk.old) (outlet out.new chunk.new)
-            (line_text (codes "C" ∷ entries (codes "WX" ∷ signed_decimal self.now.wx ∷ []) self.now)) result }
+            (line_text
+            (codes "C" ∷ entries (codes "WX" ∷ signed_decimal self.now.wx ∷ []) self.now))
+            result }
     {
         let front = width_front(code_number(self.code), self.wx);
         let end = box_end(&self.bbox);
@@ -141,8 +150,9 @@ impl<'a> CharMetric<'a> {
 
     /// The words after `C`, with the width along both axes.
     fn words_of_both(&self) -> [Word<'a>; 15]
-        ensures { words_of result
-            ≡ entries (codes "W" ∷ signed_decimal self.now.wx ∷ signed_decimal self.now.wy ∷ []) self.now }
+        ensures { line_words result
+            ≡ entries (codes "W" ∷ signed_decimal self.now.wx ∷ signed_decimal self.now.wy ∷ [])
+            self.now }
     {
         let code = Word::Number(code_number(self.code));
         let wx = Word::Number(self.wx);

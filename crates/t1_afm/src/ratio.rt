@@ -1,4 +1,5 @@
-//! A curve's value at k/64 along one axis, exactly: the sum of four coordinates, each times a whole weight, over 64^3.
+//! A curve's value at k/64 along one axis, exactly: the sum of four coordinates, each times a whole
+//! weight, over 64^3.
 
 ghost use Rattle.std.specs.Prelude.{◌≡◌, ◌≤◌, ◌*◌, ◌^◌, ◌*ℤ◌, pos};
 ghost use Rattle.std.specs.Int.RustNames.{unsigned_abs};
@@ -119,7 +120,8 @@ impl WeightedPair {
 
     /// Both sums together, over 64^3.
     pub(crate) fn sum(&self, other: &WeightedPair) -> Ratio
-        ensures { fraction_of result ≡ over_whole 262144 (plus (pair_fraction self.now) (pair_fraction other.now)) }
+        ensures { fraction_of result
+            ≡ over_whole 262144 (plus (pair_fraction self.now) (pair_fraction other.now)) }
     {
         Ratio {
             num: self.sum_num(other),

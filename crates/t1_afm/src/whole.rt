@@ -30,7 +30,8 @@ pub struct WholeCubic {
     ghost end_size: { unsigned_abs end ≤ 2 ^ 20 },
 }
 
-/// A value of a cubic at a sixty-fourth, times 64^3, with the differences that lead to the next values.
+/// A value of a cubic at a sixty-fourth, times 64^3, with the differences that lead to the next
+/// values.
 #[derive(Clone, Copy)]
 struct Sample {
     value: i64,
@@ -40,13 +41,16 @@ struct Sample {
 }
 
 impl Sample {
-    ghost use Rattle.t1_afm.specs.Differences.{linear as linear_of, square as square_of, cube as cube_of};
+    ghost use Rattle.t1_afm.specs.Differences.{linear as linear_of, square as square_of};
+    ghost use Rattle.t1_afm.specs.Differences.{cube as cube_of};
 
     /// The value at 0.
     fn start(cubic: &WholeCubic) -> Sample
         ensures value { result.value ≡ pos 262144 *ℤ cubic.now.start }
-        ensures first { result.first ≡ cube_of cubic.now +ℤ square_of cubic.now +ℤ linear_of cubic.now }
-        ensures second { result.second ≡ pos 6 *ℤ cube_of cubic.now +ℤ pos 2 *ℤ square_of cubic.now }
+        ensures first { result.first
+            ≡ cube_of cubic.now +ℤ square_of cubic.now +ℤ linear_of cubic.now }
+        ensures second { result.second
+            ≡ pos 6 *ℤ cube_of cubic.now +ℤ pos 2 *ℤ square_of cubic.now }
         ensures third { result.third ≡ pos 6 *ℤ cube_of cubic.now }
     {
         let linear = cubic.linear();
@@ -106,7 +110,9 @@ pub struct Sums {
 }
 
 impl WholeCubic {
-    ghost use Rattle.t1_afm.specs.Differences.{linear as linear_of, square as square_of, cube as cube_of, least_sum, greatest_sum, whole_values};
+    ghost use Rattle.t1_afm.specs.Differences.{linear as linear_of, square as square_of};
+    ghost use Rattle.t1_afm.specs.Differences.{cube as cube_of, least_sum, greatest_sum};
+    ghost use Rattle.t1_afm.specs.Differences.{whole_values};
 
     /// The linear coefficient of the values at k/64, times 64^3.
     fn linear(&self) -> i64
@@ -134,13 +140,20 @@ impl WholeCubic {
 
     /// The least and the greatest of the 65 values, value by value.
     fn sampled_sums(&self) -> Sums
-        ensures least { result.least ≡ least_sum self.now.start self.now.first self.now.second self.now.end }
-        ensures greatest { result.greatest ≡ greatest_sum self.now.start self.now.first self.now.second self.now.end }
+        ensures least { result.least
+            ≡ least_sum self.now.start self.now.first self.now.second self.now.end }
+        ensures greatest { result.greatest
+            ≡ greatest_sum self.now.start self.now.first self.now.second self.now.end }
         ensures least_range { IsInRange (over_cube result.least) }
         ensures greatest_range { IsInRange (over_cube result.greatest) }
         ensures least_size { unsigned_abs result.least ≤ 2 ^ 38 }
         ensures greatest_size { unsigned_abs result.greatest ≤ 2 ^ 38 }
-        ensures span { record { low = floor_of (over_cube result.least); high = ceiling_of (over_cube result.greatest) } ≡ span_of (whole_values self.now) }
+        ensures span { record {
+          low = floor_of (over_cube result.least);
+          high = ceiling_of
+              (over_cube result.greatest);
+        }
+            ≡ span_of (whole_values self.now) }
     {
         let mut sample = Sample::start(self);
         let mut least = sample.value;
@@ -153,16 +166,23 @@ impl WholeCubic {
         Sums { least, greatest }
     }
 
-    /// The least and the greatest of the 65 values. Where the four points reach no further than the ends, as in most curves
-    /// of a font, neither do the values between.
+    /// The least and the greatest of the 65 values. Where the four points reach no further than the
+    /// ends, as in most curves of a font, neither do the values between.
     pub fn sums(&self) -> Sums
-        ensures least { result.least ≡ least_sum self.now.start self.now.first self.now.second self.now.end }
-        ensures greatest { result.greatest ≡ greatest_sum self.now.start self.now.first self.now.second self.now.end }
+        ensures least { result.least
+            ≡ least_sum self.now.start self.now.first self.now.second self.now.end }
+        ensures greatest { result.greatest
+            ≡ greatest_sum self.now.start self.now.first self.now.second self.now.end }
         ensures least_range { IsInRange (over_cube result.least) }
         ensures greatest_range { IsInRange (over_cube result.greatest) }
         ensures least_size { unsigned_abs result.least ≤ 2 ^ 38 }
         ensures greatest_size { unsigned_abs result.greatest ≤ 2 ^ 38 }
-        ensures span { record { low = floor_of (over_cube result.least); high = ceiling_of (over_cube result.greatest) } ≡ span_of (whole_values self.now) }
+        ensures span { record {
+          low = floor_of (over_cube result.least);
+          high = ceiling_of
+              (over_cube result.greatest);
+        }
+            ≡ span_of (whole_values self.now) }
     {
         let low = self.start.min(self.end);
         let high = self.start.max(self.end);

@@ -3,7 +3,7 @@ use Rattle.std.specs.Prelude.{◌≡◌, ℕ, List, [], ◌++◌, length, take, 
 use Rattle.t1_frac.specs.declared.fault.Fault.{Fault}
 use Rattle.t1_disassemble.specs.declared.fault.FontFault.{FontFault}
 use Rattle.t1_commands.specs.AnswerTexts.{fault_text}
-use Rattle.t1_session.specs.State.{State}
+use Rattle.t1_session.specs.State.{SessionState}
 use Rattle.t1_calls.specs.FontFaults.{font_fault_text}
 use Rattle.t1_calls.specs.Talking.{Turns}
 use Rattle.t1_c.specs.declared.kept.Kept.{Kept}
@@ -18,13 +18,13 @@ pub record Told (text old new : List ℕ) (told : ℕ) : Type 0 where
   pub count : told ≡ length text
 
 -- profile: a session is open in a state
-abbrev pub IsIn : Option Kept → State → Type 0
+abbrev pub IsIn : Option Kept → SessionState → Type 0
 IsIn None state = ⊥
 IsIn (Some kept) state = kept.talk.state ≡ state
 
 -- profile: a session was opened on what a definition gives
-abbrev pub Opens : Result State Fault → Option Kept → Type 0
-Opens given held = (state : State) × (given ≡ Ok state) × IsIn held state
+abbrev pub Opens : Result SessionState Fault → Option Kept → Type 0
+Opens given held = (state : SessionState) × (given ≡ Ok state) × IsIn held state
 
 -- profile: what was to be made has this fault, and the buffer has its text
 abbrev pub Refuses : {X : Type 0} → Result X Fault → List ℕ → List ℕ → ℕ → Type 0

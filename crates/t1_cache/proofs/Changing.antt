@@ -15,7 +15,7 @@ use Rattle.t1_cache.specs.declared.records.SubrRecord.{SubrRecord}
 use Rattle.t1_cache.specs.Bodies.{glyph_body, record_bodies, subr_body}
 use Rattle.t1_cache.specs.Changed.{ChangedBodiesLaw, RestLaw}
 use Rattle.t1_cache.specs.Renewed.{Kept, kept_of}
-use Rattle.t1_cache.specs.Users.{among, glyph_rest, has, subr_rest, GlyphRest, HasRoom, SubrRest, UserSet}
+use Rattle.t1_cache.specs.Users.{among, glyph_rest, has_name, subr_rest, GlyphRest, HasUserRoom, SubrRest, UserSet}
 use Rattle.t1_font.proofs.Keys.{key-itself, key-same, at-same, same-at}
 use Rattle.t1_font.proofs.Keeping.{map-cond}
 use Rattle.t1_font.proofs.Lookups.{Distinguishes, inserted-at, lookup-but}
@@ -44,15 +44,15 @@ module _ {Q K R : Type 0} (eq : Q → Q → Bool) (t : Distinguishes eq) (name :
       → (q : Q) (u : List ℕ) → among (at eq name users (insert_entry (λ x y. eq (name x) (name y)) es k r) q) u ≡ among (at eq name users es q) u
   users-inserted empty q u = ap (λ s. among s u) (reads-inserted eq t name users es k r q) ∙ by (eq q (name k)) refl where
     by : (b : Bool) → eq q (name k) ≡ b → among (cond b (Some (users r)) (at eq name users es q)) u ≡ among (at eq name users es q) u
-    by true on = ap (λ names. has (λ n. n.items) names u) empty ∙ ap (λ s. among s u) (sym (there-none q on))
+    by true on = ap (λ names. has_name (λ n. n.items) names u) empty ∙ ap (λ s. among s u) (sym (there-none q on))
     by false off = refl
 
   -- room stays
-  pub room-inserted : (q : Q) (count : ℕ) → HasRoom count (at eq name users es q)
-      → HasRoom count (at eq name users (insert_entry (λ x y. eq (name x) (name y)) es k r) q)
-  room-inserted q count had = subst (HasRoom count) (sym (reads-inserted eq t name users es k r q)) (by (eq q (name k)) refl) where
-    by : (b : Bool) → eq q (name k) ≡ b → HasRoom count (cond b (Some (users r)) (at eq name users es q))
-    by true on = let none : count ≡ 0 = subst (HasRoom count) (there-none q on) had in omega (arith, none)
+  pub room-inserted : (q : Q) (count : ℕ) → HasUserRoom count (at eq name users es q)
+      → HasUserRoom count (at eq name users (insert_entry (λ x y. eq (name x) (name y)) es k r) q)
+  room-inserted q count had = subst (HasUserRoom count) (sym (reads-inserted eq t name users es k r q)) (by (eq q (name k)) refl) where
+    by : (b : Bool) → eq q (name k) ≡ b → HasUserRoom count (cond b (Some (users r)) (at eq name users es q))
+    by true on = let none : count ≡ 0 = subst (HasUserRoom count) (there-none q on) had in omega (arith, none)
     by false off = had
 
 -- what is put into the record of a name, where it has one

@@ -22,14 +22,14 @@ use Rattle.t1_font.specs.Bodies.{bodies}
 use Rattle.t1_font.specs.Glyphs.{glyph_names}
 use Rattle.t1_run.specs.Touched.{is_named}
 use Rattle.t1_cache.specs.Edited.{subr_key, IsEditedAt}
-use Rattle.t1_cache.specs.Laws.{IsAmong, EditLaw}
+use Rattle.t1_cache.specs.Laws.{IsKeyAmong, EditLaw}
 use Rattle.t1_cache.proofs.Accepted.{glyph_at, last_glyph, last_subr, new_glyph, new_subr, subr_at, added_glyph-made, added_subr-made, encoded-made, lead-made, removed_glyph-made, removed_subr-made, replaced_glyph-made, replaced_subr-made, unencoded-made, IsIn, IsLeadMade, IsNumbered, IsOut, IsPut, LeadIn, LeadPut}
 use Rattle.t1_cache.proofs.Middles.{edited_middle}
 
 -- ---- entries replaced, put in and taken out
 
-put-edits : (keys : List Key) (s made : SourceParts) (test : Item → Bool) (y : ℕ → Item) → ((x : Item) → test x ≡ true → IsAmong keys x)
-    → ((at : ℕ) → IsAmong keys (y at)) → IsPut test y s made → IsEditedAt keys s made
+put-edits : (keys : List Key) (s made : SourceParts) (test : Item → Bool) (y : ℕ → Item) → ((x : Item) → test x ≡ true → IsKeyAmong keys x)
+    → ((at : ℕ) → IsKeyAmong keys (y at)) → IsPut test y s made → IsEditedAt keys s made
 put-edits keys s made test y was new put =
     let f = position_first test s.items put.at put.there in
     let a = f.found.before in
@@ -38,7 +38,7 @@ put-edits keys s made test y was new put =
     edited_middle keys s made a (x ∷ []) (y put.at ∷ []) b (was x f.found.passes, tt) (new put.at, tt) f.found.whole
     (put.are ∙ ap raised (ap (λ t. slice_set t put.at (y put.at)) f.found.whole ∙ set_there a x b put.at (y put.at) f.place))
 
-out-edits : (keys : List Key) (s made : SourceParts) (test : Item → Bool) → ((x : Item) → test x ≡ true → IsAmong keys x) → IsOut test s made → IsEditedAt keys s made
+out-edits : (keys : List Key) (s made : SourceParts) (test : Item → Bool) → ((x : Item) → test x ≡ true → IsKeyAmong keys x) → IsOut test s made → IsEditedAt keys s made
 out-edits keys s made test was out =
     let f = position_first test s.items out.at out.there in
     let a = f.found.before in
@@ -47,7 +47,7 @@ out-edits keys s made test was out =
     edited_middle keys s made a (x ∷ []) [] b (was x f.found.passes, tt) tt f.found.whole
     (out.are ∙ ap raised (ap (λ t. remove t out.at) f.found.whole ∙ removed_there a x b out.at f.place))
 
-in-edits : (keys : List Key) (s made : SourceParts) (at : ℕ) (y : Item) → IsAmong keys y → made.items ≡ raised (insert s.items at y) → IsEditedAt keys s made
+in-edits : (keys : List Key) (s made : SourceParts) (at : ℕ) (y : Item) → IsKeyAmong keys y → made.items ≡ raised (insert s.items at y) → IsEditedAt keys s made
 in-edits keys s made at y new is =
     edited_middle keys s made (take at s.items) [] (y ∷ []) (drop at s.items) tt (new, tt) (sym (take-append-drop at s.items)) is
 
@@ -60,13 +60,13 @@ same-edits keys s made e = record {
   same (Subr n) other = ap (λ t. (bodies t).subrs n) e
   same (Glyph g) other = ap (λ t. (bodies t).glyphs g) e
 
-glyph-among : (g : List ℕ) (x : Item) → is_glyph g x ≡ true → IsAmong (Glyph g ∷ []) x
+glyph-among : (g : List ℕ) (x : Item) → is_glyph g x ≡ true → IsKeyAmong (Glyph g ∷ []) x
 glyph-among g (items.Plain l) h = cc
 glyph-among g (items.Section b n a) h = cc
 glyph-among g (items.Subr n ws c) h = cc
 glyph-among g (items.Glyph name ws c) h = inl (ap Glyph ((bytes_eq-Decides g name).0 h))
 
-subr-among : (n : ℕ) (x : Item) → is_subr n x ≡ true → IsAmong (Subr n ∷ []) x
+subr-among : (n : ℕ) (x : Item) → is_subr n x ≡ true → IsKeyAmong (Subr n ∷ []) x
 subr-among n (items.Plain l) h = cc
 subr-among n (items.Section b k a) h = cc
 subr-among n (items.Subr m ws c) h = inl (ap Subr (eqb-true n m h))
@@ -91,7 +91,7 @@ subr-edits s made v Made its step = subst (λ keys. IsEditedAt keys s made) (key
 
 -- ---- the edit of lenIV
 
-plain-among : (x : Item) → says_lead x ≡ true → IsAmong [] x
+plain-among : (x : Item) → says_lead x ≡ true → IsKeyAmong [] x
 plain-among (items.Plain l) h = tt
 plain-among (items.Section b n a) h = tt
 plain-among (items.Subr n ws c) h = cc

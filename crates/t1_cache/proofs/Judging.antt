@@ -19,7 +19,7 @@ use Rattle.t1_font.specs.Glyphs.{Glyph as Reported, run_there, placed_parts_of, 
 use Rattle.t1_run.specs.Touched.{is_named, meets_run, meets_parts, touched_within, is_touched}
 use Rattle.t1_run.proofs.Untouched.{untouched_kept}
 use Rattle.t1_cache.specs.Edited.{is_stale}
-use Rattle.t1_cache.specs.Laws.{check, FirstFaultLaw}
+use Rattle.t1_cache.specs.Laws.{fault_check, FirstFaultLaw}
 use Rattle.t1_cache.proofs.Lists.{all-weaken}
 
 -- ---- lists and tests
@@ -43,7 +43,7 @@ all-where P q (x ∷ xs) h = let p = one-cond P x (filter q xs) (q x) h in (p.0,
 -- ---- the first fault among a part of the glyphs
 
 checked-one : (place : Place) (r : Result Reported Code) (rest : Result (List Reported) Fault)
-    → check (reported_at place r >>= (λ g. rest >>= (λ gs. Ok (g ∷ gs)))) ≡ (check (reported_at place r) >>= λ _. check rest)
+    → fault_check (reported_at place r >>= (λ g. rest >>= (λ gs. Ok (g ∷ gs)))) ≡ (fault_check (reported_at place r) >>= λ _. fault_check rest)
 checked-one place (Ok g) (Ok gs) = refl
 checked-one place (Ok g) (Err fault) = refl
 checked-one place (Err code) rest = refl
@@ -54,18 +54,18 @@ IsFine run outline g = (reported : Reported) × (glyph_of g (run g) (outline g) 
 
 among-part : (run : List ℕ → Option (Result Drawing Code)) (outline : List ℕ → Result (List Segment) Code) (p : List ℕ → Bool) (names : List (List ℕ))
     → AllByRecursion (λ g. p g ≡ false → IsFine run outline g) names
-    → check (glyphs_by run outline names) ≡ check (glyphs_by run outline (filter p names))
+    → fault_check (glyphs_by run outline names) ≡ fault_check (glyphs_by run outline (filter p names))
 among-part run outline p [] h = refl
 among-part run outline p (g ∷ names) h = one (p g) h.0 (among-part run outline p names h.1) where
-  one : (t : Bool) → (t ≡ false → IsFine run outline g) → check (glyphs_by run outline names) ≡ check (glyphs_by run outline (filter p names))
-      → check (glyphs_by run outline (g ∷ names)) ≡ check (glyphs_by run outline (cond t (g ∷ filter p names) (filter p names)))
+  one : (t : Bool) → (t ≡ false → IsFine run outline g) → fault_check (glyphs_by run outline names) ≡ fault_check (glyphs_by run outline (filter p names))
+      → fault_check (glyphs_by run outline (g ∷ names)) ≡ fault_check (glyphs_by run outline (cond t (g ∷ filter p names) (filter p names)))
   one true h e =
       checked-one (places.Glyph g) (glyph_of g (run g) (outline g)) (glyphs_by run outline names)
-      ∙ ap (λ r. check (reported_at (places.Glyph g) (glyph_of g (run g) (outline g))) >>= (λ _. r)) e
+      ∙ ap (λ r. fault_check (reported_at (places.Glyph g) (glyph_of g (run g) (outline g))) >>= (λ _. r)) e
       ∙ sym (checked-one (places.Glyph g) (glyph_of g (run g) (outline g)) (glyphs_by run outline (filter p names)))
   one false h e =
       checked-one (places.Glyph g) (glyph_of g (run g) (outline g)) (glyphs_by run outline names)
-      ∙ ap (λ r. check (reported_at (places.Glyph g) r) >>= (λ _. check (glyphs_by run outline names))) (h refl).1
+      ∙ ap (λ r. fault_check (reported_at (places.Glyph g) r) >>= (λ _. fault_check (glyphs_by run outline names))) (h refl).1
       ∙ e
 
 -- of glyphs without a fault each one is fine

@@ -14,9 +14,9 @@ use Rattle.t1_run.specs.Footprint.{Includes, SameAt}
 use Rattle.t1_font.specs.Bodies.{bodies, subr_in, glyph_in, subr_among, glyph_among}
 use Rattle.t1_font.specs.Glyphs.{glyph_names}
 use Rattle.t1_run.specs.Touched.{is_key_of, is_named}
-use Rattle.t1_cache.specs.Laws.{IsAmong, MiddleLaw}
+use Rattle.t1_cache.specs.Laws.{IsKeyAmong, MiddleLaw}
 
-subr-absent : (keys : List Key) (i : Item) (n : ℕ) → IsAmong keys i → (Includes keys (Subr n) → ⊥) → subr_in i n ≡ None
+subr-absent : (keys : List Key) (i : Item) (n : ℕ) → IsKeyAmong keys i → (Includes keys (Subr n) → ⊥) → subr_in i n ≡ None
 subr-absent keys (items.Subr m words closing) n among other =
     elim (cases_Bool (n == m)) [
       | inl same ↦ absurd (other (rw (eqb-true n m same) among))
@@ -26,7 +26,7 @@ subr-absent keys (items.Glyph g words closing) n among other = refl
 subr-absent keys (items.Plain line) n among other = refl
 subr-absent keys (items.Section before k after) n among other = refl
 
-glyph-absent : (keys : List Key) (i : Item) (g : List ℕ) → IsAmong keys i → (Includes keys (Glyph g) → ⊥) → glyph_in i g ≡ None
+glyph-absent : (keys : List Key) (i : Item) (g : List ℕ) → IsKeyAmong keys i → (Includes keys (Glyph g) → ⊥) → glyph_in i g ≡ None
 glyph-absent keys (items.Subr m words closing) g among other = refl
 glyph-absent keys (items.Glyph h words closing) g among other =
     elim (cases_Bool (bytes_eq g h)) [
@@ -91,24 +91,24 @@ others-same keys (items.Section b k a) xs ys e = e
 others-same keys (items.Subr m ws c) xs ys e = e
 others-same keys (items.Glyph h ws c) xs ys e = ap (λ t. cond (not (is_named keys h)) (h ∷ t) t) e
 
-others-past : (keys : List Key) (xs b : List Item) → AllByRecursion (IsAmong keys) xs → others keys (xs ++ b) ≡ others keys b
+others-past : (keys : List Key) (xs b : List Item) → AllByRecursion (IsKeyAmong keys) xs → others keys (xs ++ b) ≡ others keys b
 others-past keys [] b h = refl
 others-past keys (items.Plain l ∷ xs) b h = others-past keys xs b h.1
 others-past keys (items.Section c k a ∷ xs) b h = others-past keys xs b h.1
 others-past keys (items.Subr m ws c ∷ xs) b h = others-past keys xs b h.1
 others-past keys (items.Glyph g ws c ∷ xs) b h = rw (named-here keys g h.0) (others-past keys xs b h.1)
 
-others-middle : (keys : List Key) (a xs b : List Item) → AllByRecursion (IsAmong keys) xs → others keys (a ++ (xs ++ b)) ≡ others keys (a ++ b)
+others-middle : (keys : List Key) (a xs b : List Item) → AllByRecursion (IsKeyAmong keys) xs → others keys (a ++ (xs ++ b)) ≡ others keys (a ++ b)
 others-middle keys [] xs b h = others-past keys xs b h
 others-middle keys (i ∷ a) xs b h = others-same keys i (a ++ (xs ++ b)) (a ++ b) (others-middle keys a xs b h)
 
 -- ---- sources
 
-all-subrs : (keys : List Key) (n : ℕ) (xs : List Item) → (Includes keys (Subr n) → ⊥) → AllByRecursion (IsAmong keys) xs → AllByRecursion (λ i. subr_in i n ≡ None) xs
+all-subrs : (keys : List Key) (n : ℕ) (xs : List Item) → (Includes keys (Subr n) → ⊥) → AllByRecursion (IsKeyAmong keys) xs → AllByRecursion (λ i. subr_in i n ≡ None) xs
 all-subrs keys n [] other h = tt
 all-subrs keys n (x ∷ xs) other h = (subr-absent keys x n h.0 other, all-subrs keys n xs other h.1)
 
-all-glyphs : (keys : List Key) (g : List ℕ) (xs : List Item) → (Includes keys (Glyph g) → ⊥) → AllByRecursion (IsAmong keys) xs → AllByRecursion (λ i. glyph_in i g ≡ None) xs
+all-glyphs : (keys : List Key) (g : List ℕ) (xs : List Item) → (Includes keys (Glyph g) → ⊥) → AllByRecursion (IsKeyAmong keys) xs → AllByRecursion (λ i. glyph_in i g ≡ None) xs
 all-glyphs keys g [] other h = tt
 all-glyphs keys g (x ∷ xs) other h = (glyph-absent keys x g h.0 other, all-glyphs keys g xs other h.1)
 

@@ -16,7 +16,7 @@ use Rattle.t1_parts.specs.declared.item.Item.{Item}
 use Rattle.t1_parts.specs.declared.item.Item.TheVariants as items
 use Rattle.t1_run.specs.declared.outline.Composite.{Composite}
 use Rattle.t1_run.specs.declared.outline.Segment.{Segment}
-use Rattle.t1_run.specs.Composite.{joined, with_parts, drawn, outline_within, outline}
+use Rattle.t1_run.specs.Composite.{joined_outline, with_parts, drawn, outline_within, outline}
 use Rattle.t1_run.specs.Footprint.{Includes, HasParts}
 use Rattle.t1_run.specs.Run.{FontBodies, Key, Glyph, Drawing, own}
 use Rattle.t1_run.proofs.Asked.{parts_there}
@@ -34,8 +34,8 @@ parts-same : (m : FontBodies) (part part' : List ℕ → Result (List Segment) C
     → (c : Option Composite) (d : Drawing) → HasParts m c → with_parts part c d ≡ with_parts part' c d
 parts-same m part part' same None d h = refl
 parts-same m part part' same (Some c) d h =
-    ap (λ r. r >>= (λ base. part c.accent >>= (λ accent. joined d base accent))) (same c.base h.0.0 h.0.1)
-    ∙ ap (λ r. part' c.base >>= (λ base. r >>= (λ accent. joined d base accent))) (same c.accent h.1.0 h.1.1)
+    ap (λ r. r >>= (λ base. part c.accent >>= (λ accent. joined_outline d base accent))) (same c.base h.0.0 h.0.1)
+    ∙ ap (λ r. part' c.base >>= (λ base. r >>= (λ accent. joined_outline d base accent))) (same c.accent h.1.0 h.1.1)
 
 by-run : (m : FontBodies) (part part' : List ℕ → Result (List Segment) Code) → ((p : List ℕ) (b : List Command) → m.glyphs p ≡ Some b → part p ≡ part' p)
     → (r : Option (Result Drawing Code)) → ((d : Drawing) → r ≡ Some (Ok d) → HasParts m d.composite) → drawn part r ≡ drawn part' r

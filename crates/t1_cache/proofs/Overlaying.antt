@@ -1,11 +1,11 @@
 -- A font with some bodies changed is the edited one.
 use Rattle.std.proofs.Common.{◌≡◌, Option, Some, None, refl}
 use Rattle.t1_run.specs.Run.{Subr, Glyph}
-use Rattle.t1_run.specs.Overlay.{changed}
+use Rattle.t1_run.specs.Overlay.{after_change}
 use Rattle.t1_cache.specs.Overlay.{OverlayLaw}
 
 one : {X : Type 0} (was now : Option X) (change : Option (Option X)) → ((body : Option X) → change ≡ Some body → body ≡ now) → (change ≡ None → was ≡ now)
-    → changed change was ≡ now
+    → after_change change was ≡ now
 one was now None set same = same refl
 one was now (Some body) set same = set body refl
 

@@ -8,7 +8,7 @@ use Rattle.std.proofs.Math.Bool.{and-true, or-false}
 use Rattle.std.proofs.lemmas.Bool.{cases_Bool}
 use Rattle.t1_font.proofs.Keeping.{map-cond}
 use Rattle.t1_font.proofs.Lookups.{Distinguishes, again}
-use Rattle.t1_cache.specs.Users.{has, among, HasRoom, UserSet}
+use Rattle.t1_cache.specs.Users.{has_name, among, HasUserRoom, UserSet}
 
 apart : {Q : Type 0} (eq : Q → Q → Bool) → Distinguishes eq → (a b c : Q) → eq a b ≡ true → eq c b ≡ false → eq a c ≡ false
 apart eq t a b c on off =
@@ -78,7 +78,7 @@ reads-stay eq t name read es p was now h same q =
 
 pub left : {Q K R : Type 0} (eq : Q → Q → Bool) → Distinguishes eq → (name : K → Q) (users : R → UserSet) (es : List (K × R)) (p : Q) (was now : R) (user : List ℕ)
     → lookup (λ k. eq p (name k)) es ≡ Some was
-    → ((u : List ℕ) → has (λ k. k.items) (users now).names u ≡ (has (λ k. k.items) (users was).names u && not (bytes_eq u user)))
+    → ((u : List ℕ) → has_name (λ k. k.items) (users now).names u ≡ (has_name (λ k. k.items) (users was).names u && not (bytes_eq u user)))
     → (q : Q) (u : List ℕ)
     → among (at eq name users (set_value (λ k. eq p (name k)) es now) q) u ≡ (among (at eq name users es q) u && not (eq q p && bytes_eq u user))
 left eq t name users es p was now user h out q u =
@@ -96,7 +96,7 @@ left eq t name users es p was now user h out q u =
 
 pub came : {Q K R : Type 0} (eq : Q → Q → Bool) → Distinguishes eq → (name : K → Q) (users : R → UserSet) (es : List (K × R)) (p : Q) (was now : R) (user : List ℕ)
     → lookup (λ k. eq p (name k)) es ≡ Some was
-    → ((u : List ℕ) → has (λ k. k.items) (users now).names u ≡ (has (λ k. k.items) (users was).names u || bytes_eq u user))
+    → ((u : List ℕ) → has_name (λ k. k.items) (users now).names u ≡ (has_name (λ k. k.items) (users was).names u || bytes_eq u user))
     → (q : Q) (u : List ℕ)
     → among (at eq name users (set_value (λ k. eq p (name k)) es now) q) u ≡ (among (at eq name users es q) u || (eq q p && bytes_eq u user))
 came eq t name users es p was now user h put q u =
@@ -114,29 +114,29 @@ came eq t name users es p was now user h put q u =
 
 pub room-put : {Q K R : Type 0} (eq : Q → Q → Bool) → Distinguishes eq → (name : K → Q) (users : R → UserSet) (es : List (K × R)) (p : Q) (was now : R)
     → lookup (λ k. eq p (name k)) es ≡ Some was → (users was).room ≤ (users now).room + 1
-    → (q : Q) (count : ℕ) → HasRoom (cond (eq q p) (count + 1) count) (at eq name users es q)
-    → HasRoom count (at eq name users (set_value (λ k. eq p (name k)) es now) q)
+    → (q : Q) (count : ℕ) → HasUserRoom (cond (eq q p) (count + 1) count) (at eq name users es q)
+    → HasUserRoom count (at eq name users (set_value (λ k. eq p (name k)) es now) q)
 room-put eq t name users es p was now h takes q count had =
-    subst (HasRoom count) (sym (users-put eq t name users es p was now h q))
+    subst (HasUserRoom count) (sym (users-put eq t name users es p was now h q))
     (elim (cases_Bool (eq q p)) [
       | inl on ↦
           let found : at eq name users es q ≡ Some (users was) = ap (at eq name users es) (t.same q p on) ∙ ap (option_map users) h in
-          let had' : HasRoom (count + 1) (Some (users was)) = rw (on, found) at had in
-          subst (λ b. HasRoom count (cond b (Some (users now)) (at eq name users es q))) (sym on) (omega (arith, had', takes))
+          let had' : HasUserRoom (count + 1) (Some (users was)) = rw (on, found) at had in
+          subst (λ b. HasUserRoom count (cond b (Some (users now)) (at eq name users es q))) (sym on) (omega (arith, had', takes))
       | inr off ↦
-          let had' : HasRoom count (at eq name users es q) = rw off at had in
-          subst (λ b. HasRoom count (cond b (Some (users now)) (at eq name users es q))) (sym off) had'
+          let had' : HasUserRoom count (at eq name users es q) = rw off at had in
+          subst (λ b. HasUserRoom count (cond b (Some (users now)) (at eq name users es q))) (sym off) had'
     ])
 
 pub room-stays : {Q K R : Type 0} (eq : Q → Q → Bool) → Distinguishes eq → (name : K → Q) (users : R → UserSet) (es : List (K × R)) (p : Q) (was now : R)
     → lookup (λ k. eq p (name k)) es ≡ Some was → (users was).room ≤ (users now).room
-    → (q : Q) (count : ℕ) → HasRoom count (at eq name users es q) → HasRoom count (at eq name users (set_value (λ k. eq p (name k)) es now) q)
+    → (q : Q) (count : ℕ) → HasUserRoom count (at eq name users es q) → HasUserRoom count (at eq name users (set_value (λ k. eq p (name k)) es now) q)
 room-stays eq t name users es p was now h keeps q count had =
-    subst (HasRoom count) (sym (users-put eq t name users es p was now h q))
+    subst (HasUserRoom count) (sym (users-put eq t name users es p was now h q))
     (elim (cases_Bool (eq q p)) [
       | inl on ↦
           let found : at eq name users es q ≡ Some (users was) = ap (at eq name users es) (t.same q p on) ∙ ap (option_map users) h in
-          let had' : HasRoom count (Some (users was)) = rw found at had in
-          subst (λ b. HasRoom count (cond b (Some (users now)) (at eq name users es q))) (sym on) (omega (arith, had', keeps))
-      | inr off ↦ subst (λ b. HasRoom count (cond b (Some (users now)) (at eq name users es q))) (sym off) had
+          let had' : HasUserRoom count (Some (users was)) = rw found at had in
+          subst (λ b. HasUserRoom count (cond b (Some (users now)) (at eq name users es q))) (sym on) (omega (arith, had', keeps))
+      | inr off ↦ subst (λ b. HasUserRoom count (cond b (Some (users now)) (at eq name users es q))) (sym off) had
     ])

@@ -19,7 +19,7 @@ use Rattle.t1_font.specs.Assembly.{file_check}
 use Rattle.t1_font.specs.SourceChecks.{source_glyphs}
 use Rattle.t1_run.proofs.Untouched.{untouched_kept}
 use Rattle.t1_cache.specs.Edited.{is_stale}
-use Rattle.t1_cache.specs.Kept.{shown, shown_from, KeptNamesLaw}
+use Rattle.t1_cache.specs.Kept.{without_serial, shown_from, KeptNamesLaw}
 use Rattle.t1_cache.specs.Renewed.{Kept}
 use Rattle.t1_cache.specs.Renewal.{IsFromScratch, IsOneOf, IsRenewed, RenewalLaw}
 use Rattle.t1_cache.proofs.Lists.{all-weaken}
@@ -80,7 +80,7 @@ reported-more m g names reported e = by (glyph_of g (own m g) (outline m g)) ref
 
 -- ---- records from scratch
 
-scratch-one : (m : FontBodies) (g : List ℕ) (t : Reported) (k : Kept) → ReportsOne m g t → shown k ≡ shown_from t → IsFromScratch m k
+scratch-one : (m : FontBodies) (g : List ℕ) (t : Reported) (k : Kept) → ReportsOne m g t → without_serial k ≡ shown_from t → IsFromScratch m k
 scratch-one m g t k one e =
     let at : k.name ≡ g = ap (λ s. s.name) e ∙ sym one.name in
     record {
@@ -91,21 +91,21 @@ scratch-one m g t k one e =
       box = ap (λ s. s.box) e;
     }
 
-pub scratch-all : (m : FontBodies) (names : List (List ℕ)) (reported : List Reported) (kept : List Kept) → glyphs m names ≡ Ok reported → map shown kept ≡ map shown_from reported
+pub scratch-all : (m : FontBodies) (names : List (List ℕ)) (reported : List Reported) (kept : List Kept) → glyphs m names ≡ Ok reported → map without_serial kept ≡ map shown_from reported
     → AllByRecursion (IsFromScratch m) kept
 scratch-all m names reported [] e same = tt
 scratch-all m [] reported (k ∷ kept) e same =
     let none : [] ≡ reported = given (Ok []) [] reported refl e in
-    let never : shown k ∷ map shown kept ≡ [] = same ∙ ap (map shown_from) (sym none) in
+    let never : without_serial k ∷ map without_serial kept ≡ [] = same ∙ ap (map shown_from) (sym none) in
     absurd (cc)
 scratch-all m (g ∷ names) reported (k ∷ kept) e same =
     let more = reported-more m g names reported e in
-    let both : shown k ∷ map shown kept ≡ shown_from more.0 ∷ map shown_from more.1.0 = same ∙ ap (map shown_from) more.1.1.1.1 in (
-      scratch-one m g more.0 k more.1.1.0 (heads (shown k) (shown_from more.0) (map shown kept) (map shown_from more.1.0) both),
-      scratch-all m names more.1.0 kept more.1.1.1.0 (tails (shown k) (shown_from more.0) (map shown kept) (map shown_from more.1.0) both),
+    let both : without_serial k ∷ map without_serial kept ≡ shown_from more.0 ∷ map shown_from more.1.0 = same ∙ ap (map shown_from) more.1.1.1.1 in (
+      scratch-one m g more.0 k more.1.1.0 (heads (without_serial k) (shown_from more.0) (map without_serial kept) (map shown_from more.1.0) both),
+      scratch-all m names more.1.0 kept more.1.1.1.0 (tails (without_serial k) (shown_from more.0) (map without_serial kept) (map shown_from more.1.0) both),
     )
 
-shown-one : (m : FontBodies) (g : List ℕ) (t : Reported) (k : Kept) → ReportsOne m g t → k.name ≡ g → IsFromScratch m k → shown k ≡ shown_from t
+shown-one : (m : FontBodies) (g : List ℕ) (t : Reported) (k : Kept) → ReportsOne m g t → k.name ≡ g → IsFromScratch m k → without_serial k ≡ shown_from t
 shown-one m g t k one at is =
     let name : k.name ≡ t.name = at ∙ one.name in
     let drawing : k.run.drawing ≡ t.drawing = given (Ok k.run.drawing) k.run.drawing t.drawing refl (some_is (Ok k.run.drawing) (Ok t.drawing) (sym is.run ∙ ap (own m) at ∙ one.run)) in
@@ -114,7 +114,7 @@ shown-one m g t k one at is =
     (λ j. record { name = name j; drawing = drawing j; keeps_trace = is.trace j; box = box j })
 
 pub shown-all : (m : FontBodies) (names : List (List ℕ)) (reported : List Reported) (records : List Kept) → glyphs m names ≡ Ok reported → map (λ k. k.name) records ≡ names
-    → AllByRecursion (IsFromScratch m) records → map shown records ≡ map shown_from reported
+    → AllByRecursion (IsFromScratch m) records → map without_serial records ≡ map shown_from reported
 shown-all m [] reported [] e order all = ap (map shown_from) (given (Ok []) [] reported refl e)
 shown-all m [] reported (k ∷ records) e order all = absurd (cc)
 shown-all m (g ∷ names) reported [] e order all = absurd (cc)
@@ -122,7 +122,7 @@ shown-all m (g ∷ names) reported (k ∷ records) e order all =
     let more = reported-more m g names reported e in
     let first = shown-one m g more.0 k more.1.1.0 (heads k.name g (map (λ k. k.name) records) names order) all.0 in
     let rest = shown-all m names more.1.0 records more.1.1.1.0 (tails k.name g (map (λ k. k.name) records) names order) all.1 in
-    ap (λ s. s ∷ map shown records) first ∙ ap (λ l. shown_from more.0 ∷ l) rest ∙ ap (map shown_from) (sym more.1.1.1.1)
+    ap (λ s. s ∷ map without_serial records) first ∙ ap (λ l. shown_from more.0 ∷ l) rest ∙ ap (map shown_from) (sym more.1.1.1.1)
 
 -- ---- records that are kept, and those that are renewed
 
@@ -146,7 +146,7 @@ names-reported m (g ∷ names) reported e =
     ∙ ap (λ x. x ∷ map (λ t. t.name) more.1.0) (sym more.1.1.0.name)
     ∙ ap (λ l. g ∷ l) (names-reported m names more.1.0 more.1.1.1.0)
 
-kept-shown : (records : List Kept) → map (λ k. k.name) records ≡ map (λ s. s.name) (map shown records)
+kept-shown : (records : List Kept) → map (λ k. k.name) records ≡ map (λ s. s.name) (map without_serial records)
 kept-shown [] = refl
 kept-shown (k ∷ records) = ap (λ l. k.name ∷ l) (kept-shown records)
 

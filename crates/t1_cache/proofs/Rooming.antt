@@ -16,7 +16,7 @@ use Rattle.t1_cache.specs.declared.records.Named.{Named}
 use Rattle.t1_cache.specs.declared.records.Records.{Records}
 use Rattle.t1_cache.specs.Bodies.{record_bodies}
 use Rattle.t1_cache.specs.Room.{IsRoomier, MayJoin, RoomLaw}
-use Rattle.t1_cache.specs.Users.{has_pair, key_of, HasRoom, Pairs, UserSet, users_at, wanted}
+use Rattle.t1_cache.specs.Users.{has_pair, key_of, HasUserRoom, Pairs, UserSet, users_at, wanted}
 use Rattle.t1_font.proofs.Keys.{key-same}
 use Rattle.t1_font.proofs.Lookups.{Distinguishes, bytes_tell, inserted-at}
 use Rattle.t1_cache.proofs.Putting.{at, users-put}
@@ -105,7 +105,7 @@ room_for_joins m names joins are records same may k = by (users_at records k) re
   at-same (Subr n) = same (Subr n)
   at-same (Glyph g) = same (Glyph g)
 
-  by : (s : Option UserSet) → users_at records k ≡ s → MayJoin (wanted joins k) s → HasRoom (wanted joins k) s
+  by : (s : Option UserSet) → users_at records k ≡ s → MayJoin (wanted joins k) s → HasUserRoom (wanted joins k) s
   by (Some s) e fits = fits
   by None e fits =
       elim (some-wanted joins k) [

@@ -29,8 +29,8 @@ abbrev pub UsesUp : ℕ → Records → Records → Type 0
 UsesUp count old new = (spare old.subrs ≤ spare new.subrs + count) × (spare old.glyphs ≤ spare new.glyphs + count)
 
 -- word: the same records in the same order
-abbrev pub AreUnchanged : Records → Records → Type 0
-AreUnchanged old new = (new.subrs.entries ≡ old.subrs.entries) × (new.glyphs.entries ≡ old.glyphs.entries)
+abbrev pub AreSameRecords : Records → Records → Type 0
+AreSameRecords old new = (new.subrs.entries ≡ old.subrs.entries) × (new.glyphs.entries ≡ old.glyphs.entries)
 
 -- word: records that have the bodies of a font, and then what another font has at the one key where the two may
 -- differ, have the bodies of that font

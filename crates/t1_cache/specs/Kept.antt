@@ -20,8 +20,8 @@ pub record Shown : Type 0 where
   pub box : Option BBox
 
 -- profile: what is kept, its serial aside
-abbrev pub shown : Kept → Shown
-shown k = record { name = k.name; drawing = k.run.drawing; keeps_trace = traces k.name k.run; box = k.box }
+abbrev pub without_serial : Kept → Shown
+without_serial k = record { name = k.name; drawing = k.run.drawing; keeps_trace = traces k.name k.run; box = k.box }
 
 -- profile: the same, of a glyph from scratch, whose trace is kept unless it can't be a part
 abbrev pub shown_from : Reported → Shown
@@ -31,7 +31,7 @@ shown_from g = record { name = g.name; drawing = g.drawing; keeps_trace = true; 
 pub record KeepsAll (s : SourceParts) (records : List Kept) : Type 0 where
   pub glyphs : List Reported
   pub faultless : source_glyphs s ≡ Ok glyphs
-  pub from_scratch : map shown records ≡ map shown_from glyphs
+  pub from_scratch : map without_serial records ≡ map shown_from glyphs
 
 -- word: the run of each record keeps its trace, unless its glyph can't be a part
 abbrev pub keep_traces : Records → Bool

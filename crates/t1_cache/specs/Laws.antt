@@ -22,26 +22,26 @@ use Rattle.t1_font.specs.Glyphs.{Glyph as Reported, glyphs, glyph_names}
 use Rattle.t1_cache.specs.Edited.{IsEditedAt, named, names_after, is_stale, stale}
 
 -- word: whether glyphs have no fault, or their first one
-abbrev pub check : {X : Type 0} → Result X Fault → Result (Unit {0}) Fault
-check r = r >>= λ _. Ok tt
+abbrev pub fault_check : {X : Type 0} → Result X Fault → Result (Unit {0}) Fault
+fault_check r = r >>= λ _. Ok tt
 
 -- word: the first fault of the glyphs of an edited source is that of its stale glyphs
 abbrev pub FirstFaultLaw : Type 0
 FirstFaultLaw =
     (keys : List Key) (old new : SourceParts) (was : List Reported) → IsEditedAt keys old new → glyphs (bodies old.items) (glyph_names old.items) ≡ Ok was
-    → check (glyphs (bodies new.items) (glyph_names new.items)) ≡ check (glyphs (bodies new.items) (stale old keys new))
+    → fault_check (glyphs (bodies new.items) (glyph_names new.items)) ≡ fault_check (glyphs (bodies new.items) (stale old keys new))
 
 -- word: an entry's key is among these
-abbrev pub IsAmong : List Key → Item → Type 0
-IsAmong keys (items.Subr n words closing) = Includes keys (Subr n)
-IsAmong keys (items.Glyph g words closing) = Includes keys (Glyph g)
-IsAmong keys (items.Plain line) = Unit {0}
-IsAmong keys (items.Section before n after) = Unit {0}
+abbrev pub IsKeyAmong : List Key → Item → Type 0
+IsKeyAmong keys (items.Subr n words closing) = Includes keys (Subr n)
+IsKeyAmong keys (items.Glyph g words closing) = Includes keys (Glyph g)
+IsKeyAmong keys (items.Plain line) = Unit {0}
+IsKeyAmong keys (items.Section before n after) = Unit {0}
 
 -- word: entries of these keys in the place of others of these keys, with the counts raised, edit a source at the keys
 abbrev pub MiddleLaw : Type 0
 MiddleLaw =
-    (keys : List Key) (old new : SourceParts) (a xs ys b : List Item) → AllByRecursion (IsAmong keys) xs → AllByRecursion (IsAmong keys) ys
+    (keys : List Key) (old new : SourceParts) (a xs ys b : List Item) → AllByRecursion (IsKeyAmong keys) xs → AllByRecursion (IsKeyAmong keys) ys
     → old.items ≡ a ++ (xs ++ b) → new.items ≡ raised (a ++ (ys ++ b)) → IsEditedAt keys old new
 
 -- word: each of the eleven edits changes a source at the key that it names, and nowhere else

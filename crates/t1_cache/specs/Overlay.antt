@@ -3,7 +3,7 @@ use Rattle.std.specs.Prelude.{◌≡◌, ℕ, List, Option, Some, None, Ok}
 use Rattle.t1_code.specs.declared.command.Command.{Command}
 use Rattle.t1_run.specs.Run.{FontBodies, Key, Subr, Glyph, body_at, font}
 use Rattle.t1_run.specs.Footprint.{Includes}
-use Rattle.t1_run.specs.Overlay.{changed}
+use Rattle.t1_run.specs.Overlay.{after_change}
 use Rattle.t1_run.specs.Touched.{SameBut}
 use Rattle.t1_parts.specs.SourceParts.{SourceParts}
 use Rattle.t1_source.specs.declared.edit.Edit.{Edit}
@@ -15,7 +15,7 @@ use Rattle.t1_cache.specs.Edited.{body_after, named}
 
 -- word: a font with some bodies set and some taken out
 abbrev pub overlaid : (ℕ → Option (Option (List Command))) → (List ℕ → Option (Option (List Command))) → FontBodies → FontBodies
-overlaid subrs glyphs m = font (λ n. changed (subrs n) (m.subrs n)) (λ g. changed (glyphs g) (m.glyphs g))
+overlaid subrs glyphs m = font (λ n. after_change (subrs n) (m.subrs n)) (λ g. after_change (glyphs g) (m.glyphs g))
 
 -- word: what is changed at a key
 abbrev pub change_at : (ℕ → Option (Option (List Command))) → (List ℕ → Option (Option (List Command))) → Key → Option (Option (List Command))

@@ -21,7 +21,7 @@ use Rattle.t1_cache.specs.Edited.{IsEditedAt, is_stale, named}
 use Rattle.t1_cache.specs.Kept.{KeepsAll}
 use Rattle.t1_cache.specs.declared.records.Rerun.{Rerun}
 use Rattle.t1_cache.specs.Renewed.{Kept, with_reruns}
-use Rattle.t1_cache.specs.Users.{has}
+use Rattle.t1_cache.specs.Users.{has_name}
 
 -- word: a record has the own run of its glyph, with its trace unless it can't be a part, and the box of its outline
 pub record IsFromScratch (m : FontBodies) (k : Kept) : Type 0 where
@@ -61,7 +61,7 @@ RerunsLaw =
     → (kept before : List Kept) (reruns : List Rerun) → KeepsAll old kept → map (λ k. k.name) before ≡ glyph_names new.items
     → AllByRecursion (λ k. is_stale old keys k.name ≡ false → IsOneOf kept k) before
     → AllByRecursion (λ r. IsFromScratch (bodies new.items) (kept_by r)) reruns
-    → ((g : List ℕ) → list_any (bytes_eq g) (glyph_names new.items) ≡ true → has (λ r. r.name.items) reruns g ≡ is_stale old keys g)
+    → ((g : List ℕ) → list_any (bytes_eq g) (glyph_names new.items) ≡ true → has_name (λ r. r.name.items) reruns g ≡ is_stale old keys g)
     → KeepsAll new (with_reruns reruns before)
 
 -- word: the records after an edit, before any glyph is run again: a new glyph has some run and box, and is the last one

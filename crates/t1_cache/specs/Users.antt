@@ -18,8 +18,8 @@ use Rattle.t1_cache.specs.declared.records.Named.{Named}
 use Rattle.t1_cache.specs.declared.records.Named.TheVariants as named
 
 -- word: a name is among these
-abbrev pub has : {K : Type 0} → (K → List ℕ) → List K → List ℕ → Bool
-has name ks g = list_any (λ k. bytes_eq g (name k)) ks
+abbrev pub has_name : {K : Type 0} → (K → List ℕ) → List K → List ℕ → Bool
+has_name name ks g = list_any (λ k. bytes_eq g (name k)) ks
 
 -- word: the names that a record lists, and how many more fit in with no allocation
 pub record UserSet : Type 0 where
@@ -46,16 +46,16 @@ users_at r (Glyph g) = glyph_users r.glyphs.entries g
 -- word: a glyph is among these users; none is, where there is no record
 abbrev pub among : Option UserSet → List ℕ → Bool
 among None u = false
-among (Some users) u = has (λ name. name.items) users.names u
+among (Some users) u = has_name (λ name. name.items) users.names u
 
 -- word: the record of a Subr or a glyph lists a glyph as a user
 abbrev pub lists : Records → Key → List ℕ → Bool
 lists r key u = among (users_at r key) u
 
 -- word: so many users more fit in with no allocation; none, where there is no record
-abbrev pub HasRoom : ℕ → Option UserSet → Type 0
-HasRoom count None = count ≡ 0
-HasRoom count (Some users) = count ≤ users.room
+abbrev pub HasUserRoom : ℕ → Option UserSet → Type 0
+HasUserRoom count None = count ≡ 0
+HasUserRoom count (Some users) = count ≤ users.room
 
 -- ---- records without their users
 
@@ -98,7 +98,7 @@ key_of (named.Glyph g) = Glyph g
 -- word: the glyph of a key is among these names
 abbrev pub is_key_among : List (Vec ℕ Global) → Key → Bool
 is_key_among names (Subr n) = false
-is_key_among names (Glyph g) = has (λ name. name.items) names g
+is_key_among names (Glyph g) = has_name (λ name. name.items) names g
 
 -- word: Subrs and glyphs, each with a glyph that leaves or joins its users
 abbrev pub Pairs : Type 0

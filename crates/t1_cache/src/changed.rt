@@ -1,12 +1,14 @@
 //! Records changed at one Subr or one glyph.
-ghost use Rattle.std.specs.Prelude.{◌≡◌, ◌<◌, ◌++◌, [], ◌∷◌, ℕ, List, None, Some, IsOk, OnErr, OnOk, filter, map, not, if◌then◌else◌};
+ghost use Rattle.std.specs.Prelude.{◌≡◌, ◌<◌, ◌++◌, [], ◌∷◌, ℕ, List, None, Some, IsOk, OnErr};
+ghost use Rattle.std.specs.Prelude.{OnOk, filter, map, not, if◌then◌else◌};
 ghost use Rattle.std.specs.Str.{bytes_eq};
 ghost use Rattle.indexmap.specs.IndexMap.{spare};
 ghost use Rattle.t1_run.specs.Run.{Key, Subr, Glyph, body_at};
 ghost use Rattle.t1_cache.specs.Bodies.{record_bodies};
-ghost use Rattle.t1_cache.specs.Changed.{AreUnchanged, PutsBody, SetsBody, SetsUsers, UsesUp};
+ghost use Rattle.t1_cache.specs.Changed.{AreSameRecords, PutsBody, SetsBody, SetsUsers, UsesUp};
 ghost use Rattle.t1_cache.specs.Renewed.{kept, kept_of};
-ghost use Rattle.t1_cache.specs.Users.{has, is_key_among, lists, users_at, users_of, HasRoom};
+ghost use Rattle.t1_cache.specs.Users.{has_name, is_key_among, lists, users_at, users_of};
+ghost use Rattle.t1_cache.specs.Users.{HasUserRoom};
 
 use crate::records::{GlyphRecord, Names, Records, SubrRecord};
 use indexmap::IndexSet;
@@ -15,7 +17,8 @@ use t1_afm::BBox;
 use t1_code::Body;
 use t1_extent::KeptRun;
 
-/// Puts another body into the record of a Subr, where it has one. It takes no memory and can't fail.
+/// Puts another body into the record of a Subr, where it has one. It takes no memory and can't
+/// fail.
 pub fn put_subr(records: &mut Records, number: u16, body: Body)
     ensures bodies { PutsBody (Subr number) body records.old records.new }
     ensures users { (k : Key) → users_at records.new k ≡ users_at records.old k }
@@ -27,7 +30,8 @@ pub fn put_subr(records: &mut Records, number: u16, body: Body)
     }
 }
 
-/// Puts another body into the record of a glyph, where it has one; its run and box stay. It takes no memory and can't fail.
+/// Puts another body into the record of a glyph, where it has one; its run and box stay. It takes
+/// no memory and can't fail.
 pub fn put_glyph(records: &mut Records, name: &[u8], body: Body)
     ensures bodies { PutsBody (Glyph name.now) body records.old records.new }
     ensures users { (k : Key) → users_at records.new k ≡ users_at records.old k }
@@ -39,8 +43,8 @@ pub fn put_glyph(records: &mut Records, name: &[u8], body: Body)
     }
 }
 
-/// Puts in the record of a Subr that has none, without users. Where memory runs out all stays as it was; in room that was
-/// made it doesn't.
+/// Puts in the record of a Subr that has none, without users. Where memory runs out all stays as it
+/// was; in room that was made it doesn't.
 pub fn insert_subr(
     alloc: Global,
     records: &mut Records,
@@ -49,10 +53,15 @@ pub fn insert_subr(
 ) -> Result<(), AllocError>
     requires { body_at (record_bodies records.old) (Subr number) ≡ None }
     ensures bodies { OnOk result (SetsBody (Subr number) (Some body) records.old records.new) }
-    ensures users { OnOk result ((k : Key) (u : List ℕ) → lists records.new k u ≡ lists records.old k u) }
-    ensures room { OnOk result ((k : Key) (count : ℕ) → HasRoom count (users_at records.old k) → HasRoom count (users_at records.new k)) }
-    ensures kept { OnOk result (map kept_of records.new.glyphs.entries ≡ map kept_of records.old.glyphs.entries) }
-    ensures refused { OnErr result (AreUnchanged records.old records.new) }
+    ensures users { OnOk result
+        ((k : Key) (u : List ℕ) → lists records.new k u ≡ lists records.old k u) }
+    ensures room { OnOk result
+        ((k : Key) (count : ℕ)
+        → HasUserRoom count (users_at records.old k)
+        → HasUserRoom count (users_at records.new k)) }
+    ensures kept { OnOk result
+        (map kept_of records.new.glyphs.entries ≡ map kept_of records.old.glyphs.entries) }
+    ensures refused { OnErr result (AreSameRecords records.old records.new) }
     ensures succeeds { 0 < spare records.old.subrs → IsOk result }
 {
     let users = IndexSet::new(alloc);
@@ -60,8 +69,8 @@ pub fn insert_subr(
     Ok(())
 }
 
-/// Puts in the record of a glyph that has none, after the others, without users. Where memory runs out all stays as it was;
-/// in room that was made it doesn't.
+/// Puts in the record of a glyph that has none, after the others, without users. Where memory runs
+/// out all stays as it was; in room that was made it doesn't.
 pub fn insert_glyph(
     alloc: Global,
     records: &mut Records,
@@ -72,10 +81,16 @@ pub fn insert_glyph(
 ) -> Result<(), AllocError>
     requires { body_at (record_bodies records.old) (Glyph name.items) ≡ None }
     ensures bodies { OnOk result (SetsBody (Glyph name.items) (Some body) records.old records.new) }
-    ensures users { OnOk result ((k : Key) (u : List ℕ) → lists records.new k u ≡ lists records.old k u) }
-    ensures room { OnOk result ((k : Key) (count : ℕ) → HasRoom count (users_at records.old k) → HasRoom count (users_at records.new k)) }
-    ensures kept { OnOk result (map kept_of records.new.glyphs.entries ≡ map kept_of records.old.glyphs.entries ++ kept name.items run bbox ∷ []) }
-    ensures refused { OnErr result (AreUnchanged records.old records.new) }
+    ensures users { OnOk result
+        ((k : Key) (u : List ℕ) → lists records.new k u ≡ lists records.old k u) }
+    ensures room { OnOk result
+        ((k : Key) (count : ℕ)
+        → HasUserRoom count (users_at records.old k)
+        → HasUserRoom count (users_at records.new k)) }
+    ensures kept { OnOk result
+        (map kept_of records.new.glyphs.entries
+        ≡ map kept_of records.old.glyphs.entries ++ kept name.items run bbox ∷ []) }
+    ensures refused { OnErr result (AreSameRecords records.old records.new) }
     ensures succeeds { 0 < spare records.old.glyphs → IsOk result }
 {
     let record = GlyphRecord {
@@ -99,13 +114,16 @@ pub fn put_in_subr(records: &mut Records, number: u16, entry: SubrRecord)
     records.subrs.insert(number, entry).unwrap();
 }
 
-/// Puts in a whole record of a glyph after the others, in room that was made; one that was there goes. It takes no memory and
-/// can't fail.
+/// Puts in a whole record of a glyph after the others, in room that was made; one that was there
+/// goes. It takes no memory and can't fail.
 pub fn put_last_glyph(records: &mut Records, name: Vec<u8>, entry: GlyphRecord)
     requires { 0 < spare records.old.glyphs }
     ensures bodies { SetsBody (Glyph name.items) (Some entry.body) records.old records.new }
-    ensures users { SetsUsers (Glyph name.items) (Some (users_of entry.users)) records.old records.new }
-    ensures kept { map kept_of records.new.glyphs.entries ≡ filter (λ k. not (bytes_eq name.items k.name)) (map kept_of records.old.glyphs.entries) ++ kept name.items entry.run entry.bbox ∷ [] }
+    ensures users { SetsUsers (Glyph name.items) (Some (users_of entry.users)) records.old
+        records.new }
+    ensures kept { map kept_of records.new.glyphs.entries
+        ≡ filter (λ k. not (bytes_eq name.items k.name)) (map kept_of records.old.glyphs.entries)
+        ++ kept name.items entry.run entry.bbox ∷ [] }
     ensures room { UsesUp 1 records.old records.new }
 {
     records.glyphs.shift_remove(name.as_slice());
@@ -122,22 +140,30 @@ pub fn remove_subr(records: &mut Records, number: u16)
     records.subrs.swap_remove(&number);
 }
 
-/// Takes out the record of a glyph, with its users; the others stay in their order. It takes no memory and can't fail.
+/// Takes out the record of a glyph, with its users; the others stay in their order. It takes no
+/// memory and can't fail.
 pub fn remove_glyph(records: &mut Records, name: &[u8])
     ensures bodies { SetsBody (Glyph name.now) None records.old records.new }
     ensures users { SetsUsers (Glyph name.now) None records.old records.new }
-    ensures kept { map kept_of records.new.glyphs.entries ≡ filter (λ k. not (bytes_eq name.now k.name)) (map kept_of records.old.glyphs.entries) }
+    ensures kept { map kept_of records.new.glyphs.entries
+        ≡ filter (λ k. not (bytes_eq name.now k.name)) (map kept_of records.old.glyphs.entries) }
     ensures room { UsesUp 0 records.old records.new }
 {
     records.glyphs.shift_remove(name);
 }
 
-/// Takes out the records of the glyphs of these names, with their users, in one pass; the others stay in their order. It takes
-/// no memory and can't fail.
+/// Takes out the records of the glyphs of these names, with their users, in one pass; the others
+/// stay in their order. It takes no memory and can't fail.
 pub fn remove_glyphs(records: &mut Records, names: &Names)
-    ensures bodies { (k : Key) → body_at (record_bodies records.new) k ≡ (if is_key_among names.now.keys k then None else body_at (record_bodies records.old) k) }
-    ensures users { (k : Key) → users_at records.new k ≡ (if is_key_among names.now.keys k then None else users_at records.old k) }
-    ensures kept { map kept_of records.new.glyphs.entries ≡ filter (λ k. not (has (λ name. name.items) names.now.keys k.name)) (map kept_of records.old.glyphs.entries) }
+    ensures bodies { (k : Key)
+        → body_at (record_bodies records.new) k
+        ≡ (if is_key_among names.now.keys k then None else body_at (record_bodies records.old) k) }
+    ensures users { (k : Key)
+        → users_at records.new k
+        ≡ (if is_key_among names.now.keys k then None else users_at records.old k) }
+    ensures kept { map kept_of records.new.glyphs.entries
+        ≡ filter (λ k. not (has_name (λ name. name.items) names.now.keys k.name))
+        (map kept_of records.old.glyphs.entries) }
     ensures room { UsesUp 0 records.old records.new }
 {
     if names.is_empty() {
@@ -145,7 +171,9 @@ pub fn remove_glyphs(records: &mut Records, names: &Names)
     }
     records.glyphs.retain(
         |name: &Vec<u8>, glyph: &mut GlyphRecord| -> bool
-            ensures { (result ≡ not (has (λ key. key.items) names.entry.now.keys name.now.items)) × (glyph.new ≡ glyph.old) }
+            ensures { (result
+                ≡ not (has_name (λ key. key.items) names.entry.now.keys name.now.items))
+                × (glyph.new ≡ glyph.old) }
         { !names.contains(name.as_slice()) },
     );
 }

@@ -1,10 +1,12 @@
-//! What is kept of a font's glyphs under edits: which of them an edit makes stale, and their records renewed.
+//! What is kept of a font's glyphs under edits: which of them an edit makes stale, and their
+//! records renewed.
 //!
-//! [`found`] gives the names of the glyphs that edits make stale, by the users that the records list. [`renew`]
-//! and [`renew_by_name`] put new runs and boxes into records, [`put_subr`] and the functions beside it change
-//! the record of one Subr or glyph, and [`move_users`] takes glyphs out of the users of Subrs and glyphs and puts others in,
-//! in the room that [`make_room`] made, or that [`users_of_subr`] and [`users_of_glyph`] made by the joins that
-//! [`count_joins`] counted. [`laws`] say why this is enough: all else is as it would be from scratch.
+//! [`found`] gives the names of the glyphs that edits make stale, by the users that the records
+//! list. [`renew`] and [`renew_by_name`] put new runs and boxes into records, [`put_subr`] and the
+//! functions beside it change the record of one Subr or glyph, and [`move_users`] takes glyphs out
+//! of the users of Subrs and glyphs and puts others in, in the room that [`make_room`] made, or
+//! that [`users_of_subr`] and [`users_of_glyph`] made by the joins that [`count_joins`] counted.
+//! [`laws`] say why this is enough: all else is as it would be from scratch.
 //!
 //! All of it is for the crates above.
 #![tactic(auto)]

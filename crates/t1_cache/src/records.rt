@@ -19,7 +19,8 @@ pub struct SubrRecord {
     pub users: Names,
 }
 
-/// A glyph: its compiled body, its own run, the box of its outline where it draws, and the composites on it.
+/// A glyph: its compiled body, its own run, the box of its outline where it draws, and the
+/// composites on it.
 #[derive(Drop)]
 pub struct GlyphRecord {
     pub body: Body,

@@ -2,7 +2,8 @@
 ghost use Rattle.std.specs.Prelude.{◌≡◌, ℕ, List, map, option_map};
 ghost use Rattle.t1_cache.specs.Bodies.{glyph_body};
 ghost use Rattle.t1_cache.specs.Laws.{AreDistinct};
-ghost use Rattle.t1_cache.specs.Renewed.{kept_of, names_of, record_of, reruns_by_name, with_run, with_reruns};
+ghost use Rattle.t1_cache.specs.Renewed.{kept_of, names_of, record_of, reruns_by_name, with_run};
+ghost use Rattle.t1_cache.specs.Renewed.{with_reruns};
 ghost use Rattle.t1_cache.specs.Users.{glyph_users};
 
 use crate::records::{GlyphRecord, NewRuns};
@@ -11,17 +12,20 @@ use std::mem;
 use t1_afm::BBox;
 use t1_extent::KeptRun;
 
-/// Puts a new run and box into the record of a glyph, and gives the old run back; `None` where there is no such record. It
-/// takes no memory and can't fail.
+/// Puts a new run and box into the record of a glyph, and gives the old run back; `None` where
+/// there is no such record. It takes no memory and can't fail.
 pub fn renew(
     glyphs: &mut IndexMap<Vec<u8>, GlyphRecord>,
     name: &[u8],
     run: KeptRun,
     bbox: Option<BBox>,
 ) -> Option<KeptRun>
-    ensures records { map kept_of glyphs.new.entries ≡ with_run name.now run bbox (map kept_of glyphs.old.entries) }
-    ensures users { (p : List ℕ) → glyph_users glyphs.new.entries p ≡ glyph_users glyphs.old.entries p }
-    ensures bodies { (p : List ℕ) → glyph_body glyphs.new.entries p ≡ glyph_body glyphs.old.entries p }
+    ensures records { map kept_of glyphs.new.entries
+        ≡ with_run name.now run bbox (map kept_of glyphs.old.entries) }
+    ensures users { (p : List ℕ)
+        → glyph_users glyphs.new.entries p ≡ glyph_users glyphs.old.entries p }
+    ensures bodies { (p : List ℕ)
+        → glyph_body glyphs.new.entries p ≡ glyph_body glyphs.old.entries p }
     ensures once { AreDistinct (names_of glyphs.old.entries) }
     ensures was { result ≡ option_map (λ r. r.run) (record_of glyphs.old.entries name.now) }
 {
@@ -34,12 +38,15 @@ pub fn renew(
     }
 }
 
-/// Puts new runs and boxes into the records of their glyphs; those of a glyph without a record are dropped. It takes no memory
-/// and can't fail.
+/// Puts new runs and boxes into the records of their glyphs; those of a glyph without a record are
+/// dropped. It takes no memory and can't fail.
 pub fn renew_by_name(glyphs: &mut IndexMap<Vec<u8>, GlyphRecord>, runs: NewRuns)
-    ensures records { map kept_of glyphs.new.entries ≡ with_reruns (reruns_by_name runs.entries) (map kept_of glyphs.old.entries) }
-    ensures users { (p : List ℕ) → glyph_users glyphs.new.entries p ≡ glyph_users glyphs.old.entries p }
-    ensures bodies { (p : List ℕ) → glyph_body glyphs.new.entries p ≡ glyph_body glyphs.old.entries p }
+    ensures records { map kept_of glyphs.new.entries
+        ≡ with_reruns (reruns_by_name runs.entries) (map kept_of glyphs.old.entries) }
+    ensures users { (p : List ℕ)
+        → glyph_users glyphs.new.entries p ≡ glyph_users glyphs.old.entries p }
+    ensures bodies { (p : List ℕ)
+        → glyph_body glyphs.new.entries p ≡ glyph_body glyphs.old.entries p }
 {
     let mut left = runs;
     while let Some((name, new)) = left.pop() {

@@ -1,10 +1,12 @@
 //! Room for the users that join Subrs and glyphs.
-ghost use Rattle.std.specs.Prelude.{◌≡◌, ◌<◌, ◌≤◌, ◌^◌, ◌+◌, [], ℕ, List, IfOk, OnOk, map, nat_eq, if◌then◌else◌};
+ghost use Rattle.std.specs.Prelude.{◌≡◌, ◌<◌, ◌≤◌, ◌^◌, ◌+◌, [], ℕ, List, IfOk, OnOk, map, nat_eq};
+ghost use Rattle.std.specs.Prelude.{if◌then◌else◌};
 ghost use Rattle.std.specs.Str.{bytes_eq};
 ghost use Rattle.indexmap.specs.IndexSet.{spare};
 ghost use Rattle.t1_run.specs.Run.{Key, key_eq};
 ghost use Rattle.t1_cache.specs.Room.{count_at, glyph_count, subr_count, IsRoomier, MayJoin};
-ghost use Rattle.t1_cache.specs.Users.{glyph_rest, glyph_users, key_of, lists, rest_of, subr_rest, subr_users, users_at, wanted};
+ghost use Rattle.t1_cache.specs.Users.{glyph_rest, glyph_users, key_of, lists, rest_of, subr_rest};
+ghost use Rattle.t1_cache.specs.Users.{subr_users, users_at, wanted};
 
 use crate::records::{GlyphRecord, Named, Names, Records, SubrRecord};
 use indexmap::{IndexMap, IndexSet};
@@ -21,7 +23,11 @@ pub struct Counts<'a> {
 fn count_subr(counts: &mut IndexMap<u16, usize>, number: u16) -> Result<usize, AllocError>
     requires { subr_count counts.old.entries number < 2 ^ 63 }
     ensures count { IfOk result (λ count. count ≡ subr_count counts.old.entries number + 1) }
-    ensures counts { OnOk result ((n : ℕ) → subr_count counts.new.entries n ≡ (if nat_eq n number then subr_count counts.old.entries n + 1 else subr_count counts.old.entries n)) }
+    ensures counts { OnOk result
+        ((n : ℕ)
+        → subr_count counts.new.entries n
+        ≡ (if nat_eq n number then subr_count counts.old.entries n
+        + 1 else subr_count counts.old.entries n)) }
 {
     let count = counts.get(&number).copied().unwrap_or(0) + 1;
     counts.insert(number, count)?;
@@ -35,7 +41,11 @@ fn count_glyph<'a>(
 ) -> Result<usize, AllocError>
     requires { glyph_count counts.old.entries name.now < 2 ^ 63 }
     ensures count { IfOk result (λ count. count ≡ glyph_count counts.old.entries name.now + 1) }
-    ensures counts { OnOk result ((g : List ℕ) → glyph_count counts.new.entries g ≡ (if bytes_eq g name.now then glyph_count counts.old.entries g + 1 else glyph_count counts.old.entries g)) }
+    ensures counts { OnOk result
+        ((g : List ℕ)
+        → glyph_count counts.new.entries g
+        ≡ (if bytes_eq g name.now then glyph_count counts.old.entries g
+        + 1 else glyph_count counts.old.entries g)) }
 {
     let count = counts.get(name).copied().unwrap_or(0) + 1;
     counts.insert(name, count)?;
@@ -49,7 +59,8 @@ fn reserve_subr(
     count: usize,
 ) -> Result<(), AllocError>
     ensures room { OnOk result (MayJoin count (subr_users subrs.new.entries number)) }
-    ensures sets { (n : ℕ) → IsRoomier (subr_users subrs.old.entries n) (subr_users subrs.new.entries n) }
+    ensures sets { (n : ℕ)
+        → IsRoomier (subr_users subrs.old.entries n) (subr_users subrs.new.entries n) }
     ensures rest { map subr_rest subrs.new.entries ≡ map subr_rest subrs.old.entries }
 {
     match subrs.get_mut(&number) {
@@ -65,7 +76,8 @@ fn reserve_glyph(
     count: usize,
 ) -> Result<(), AllocError>
     ensures room { OnOk result (MayJoin count (glyph_users glyphs.new.entries name.now)) }
-    ensures sets { (p : List ℕ) → IsRoomier (glyph_users glyphs.old.entries p) (glyph_users glyphs.new.entries p) }
+    ensures sets { (p : List ℕ)
+        → IsRoomier (glyph_users glyphs.old.entries p) (glyph_users glyphs.new.entries p) }
     ensures rest { map glyph_rest glyphs.new.entries ≡ map glyph_rest glyphs.old.entries }
 {
     match glyphs.get_mut(name) {
@@ -81,8 +93,14 @@ fn make_room_at<'a>(
     named: &'a Named,
 ) -> Result<(), AllocError>
     requires { (k : Key) → count_at counts.old k < 2 ^ 63 }
-    ensures counts { OnOk result ((k : Key) → count_at counts.new k ≡ (if key_eq k (key_of named.now) then count_at counts.old k + 1 else count_at counts.old k)) }
-    ensures room { OnOk result (MayJoin (count_at counts.old (key_of named.now) + 1) (users_at records.new (key_of named.now))) }
+    ensures counts { OnOk result
+        ((k : Key)
+        → count_at counts.new k
+        ≡ (if key_eq k (key_of named.now) then count_at counts.old k
+        + 1 else count_at counts.old k)) }
+    ensures room { OnOk result
+        (MayJoin (count_at counts.old (key_of named.now) + 1)
+        (users_at records.new (key_of named.now))) }
     ensures sets { (k : Key) → IsRoomier (users_at records.old k) (users_at records.new k) }
     ensures rest { rest_of records.new ≡ rest_of records.old }
 {
@@ -98,8 +116,9 @@ fn make_room_at<'a>(
     }
 }
 
-/// Makes room among the users of each Subr and each glyph that has a record for all glyphs that join it: each pair is a
-/// Subr or a glyph, and the glyph that joins its users. The users stay, also where memory runs out.
+/// Makes room among the users of each Subr and each glyph that has a record for all glyphs that
+/// join it: each pair is a Subr or a glyph, and the glyph that joins its users. The users stay,
+/// also where memory runs out.
 pub fn make_room(
     alloc: Global,
     records: &mut Records,
@@ -123,7 +142,11 @@ pub fn make_room(
 /// Counts one more for a Subr or a glyph.
 fn count_join<'a>(counts: &mut Counts<'a>, named: &'a Named) -> Result<(), AllocError>
     requires { (k : Key) → count_at counts.old k < 2 ^ 63 }
-    ensures { OnOk result ((k : Key) → count_at counts.new k ≡ (if key_eq k (key_of named.now) then count_at counts.old k + 1 else count_at counts.old k)) }
+    ensures { OnOk result
+        ((k : Key)
+        → count_at counts.new k
+        ≡ (if key_eq k (key_of named.now) then count_at counts.old k
+        + 1 else count_at counts.old k)) }
 {
     match named {
         Named::Subr(number) => count_subr(&mut counts.subrs, *number)?,
@@ -132,7 +155,8 @@ fn count_join<'a>(counts: &mut Counts<'a>, named: &'a Named) -> Result<(), Alloc
     Ok(())
 }
 
-/// How many glyphs join each Subr and each glyph: each pair is one of these, and the glyph that joins its users.
+/// How many glyphs join each Subr and each glyph: each pair is one of these, and the glyph that
+/// joins its users.
 pub fn count_joins<'a>(
     alloc: Global,
     joins: &'a [(Named, Vec<u8>)],
@@ -161,7 +185,8 @@ pub fn users_of_subr(alloc: Global, counts: &Counts, number: u16) -> Result<Name
 /// No users, with room for all that join a glyph.
 pub fn users_of_glyph(alloc: Global, counts: &Counts, name: &[u8]) -> Result<Names, AllocError>
     ensures none { IfOk result (λ users. users.keys ≡ []) }
-    ensures room { IfOk result (λ users. glyph_count counts.now.glyphs.entries name.now ≤ spare users) }
+    ensures room { IfOk result
+        (λ users. glyph_count counts.now.glyphs.entries name.now ≤ spare users) }
 {
     let count = counts.glyphs.get(name).copied().unwrap_or(0);
     IndexSet::with_capacity(alloc, count)

@@ -6,7 +6,7 @@ ghost use Rattle.t1_cache.specs.Found.{Closes};
 ghost use Rattle.t1_cache.specs.Laws.{AreDistinct};
 ghost use Rattle.t1_cache.specs.Tables.{is_seed, AreTables};
 ghost use Rattle.t1_run.specs.Touched.{AreStale};
-ghost use Rattle.t1_cache.specs.Users.{among, glyph_users, has, key_of, subr_users};
+ghost use Rattle.t1_cache.specs.Users.{among, glyph_users, has_name, key_of, subr_users};
 
 use crate::records::{GlyphRecord, Named, Names, Records, SubrRecord};
 use indexmap::{IndexMap, IndexSet};
@@ -14,7 +14,11 @@ use std::alloc::{AllocError, Global};
 
 /// Adds those names that aren't there yet, after the others.
 fn add_users<'a>(found: &mut IndexSet<&'a [u8]>, users: &'a Names) -> Result<(), AllocError>
-    ensures names { OnOk result ((g : List ℕ) → has (λ name. name.now) found.new.keys g ≡ (has (λ name. name.now) found.old.keys g || has (λ name. name.items) users.now.keys g)) }
+    ensures names { OnOk result
+        ((g : List ℕ)
+        → has_name (λ name. name.now) found.new.keys g
+        ≡ (has_name (λ name. name.now) found.old.keys g || has_name (λ name. name.items)
+        users.now.keys g)) }
     ensures after { OnOk result ((more : List _) × (found.new.keys ≡ found.old.keys ++ more)) }
 {
     for name in users.as_slice() {
@@ -29,7 +33,11 @@ fn add_users_of<'a>(
     glyphs: &'a IndexMap<Vec<u8>, GlyphRecord>,
     name: &[u8],
 ) -> Result<(), AllocError>
-    ensures names { OnOk result ((g : List ℕ) → has (λ name. name.now) found.new.keys g ≡ (has (λ name. name.now) found.old.keys g || among (glyph_users glyphs.now.entries name.now) g)) }
+    ensures names { OnOk result
+        ((g : List ℕ)
+        → has_name (λ name. name.now) found.new.keys g
+        ≡ (has_name (λ name. name.now) found.old.keys g || among
+        (glyph_users glyphs.now.entries name.now) g)) }
     ensures after { OnOk result ((more : List _) × (found.new.keys ≡ found.old.keys ++ more)) }
 {
     match glyphs.get(name) {
@@ -43,7 +51,10 @@ fn close<'a>(
     found: &mut IndexSet<&'a [u8]>,
     glyphs: &'a IndexMap<Vec<u8>, GlyphRecord>,
 ) -> Result<(), AllocError>
-    ensures closes { OnOk result (Closes (has (λ name. name.now) found.old.keys) (λ p. among (glyph_users glyphs.now.entries p)) (has (λ name. name.now) found.new.keys)) }
+    ensures closes { OnOk result
+        (Closes (has_name (λ name. name.now) found.old.keys)
+        (λ p. among (glyph_users glyphs.now.entries p))
+        (has_name (λ name. name.now) found.new.keys)) }
     ensures once { OnOk result (AreDistinct (map (λ name. name.now) found.new.keys)) }
 {
     let mut at = 0;
@@ -61,7 +72,11 @@ fn add_subr_users<'a>(
     subrs: &'a IndexMap<u16, SubrRecord>,
     number: u16,
 ) -> Result<(), AllocError>
-    ensures { OnOk result ((g : List ℕ) → has (λ name. name.now) found.new.keys g ≡ (has (λ name. name.now) found.old.keys g || among (subr_users subrs.now.entries number) g)) }
+    ensures { OnOk result
+        ((g : List ℕ)
+        → has_name (λ name. name.now) found.new.keys g
+        ≡ (has_name (λ name. name.now) found.old.keys g || among
+        (subr_users subrs.now.entries number) g)) }
 {
     match subrs.get(&number) {
         None => Ok(()),
@@ -75,7 +90,11 @@ fn add_glyph<'a>(
     glyphs: &'a IndexMap<Vec<u8>, GlyphRecord>,
     name: &'a [u8],
 ) -> Result<(), AllocError>
-    ensures { OnOk result ((g : List ℕ) → has (λ name. name.now) found.new.keys g ≡ (has (λ name. name.now) found.old.keys g || (bytes_eq g name.now || among (glyph_users glyphs.now.entries name.now) g))) }
+    ensures { OnOk result
+        ((g : List ℕ)
+        → has_name (λ name. name.now) found.new.keys g
+        ≡ (has_name (λ name. name.now) found.old.keys g ||
+        (bytes_eq g name.now || among (glyph_users glyphs.now.entries name.now) g))) }
 {
     found.insert(name)?;
     add_users_of(found, glyphs, name)?;
@@ -88,7 +107,10 @@ fn add_seeds<'a>(
     records: &'a Records,
     named: &'a Named,
 ) -> Result<(), AllocError>
-    ensures { OnOk result ((g : List ℕ) → has (λ name. name.now) found.new.keys g ≡ (has (λ name. name.now) found.old.keys g || is_seed records.now g named.now)) }
+    ensures { OnOk result
+        ((g : List ℕ)
+        → has_name (λ name. name.now) found.new.keys g
+        ≡ (has_name (λ name. name.now) found.old.keys g || is_seed records.now g named.now)) }
 {
     match named {
         Named::Subr(number) => add_subr_users(found, &records.subrs, *number),
@@ -96,15 +118,20 @@ fn add_seeds<'a>(
     }
 }
 
-/// The names of the glyphs that edits make stale, each once, by the users that the records list: those of the glyphs that
-/// edits name, of the users of the Subrs that they name, and of the composites on any of these.
+/// The names of the glyphs that edits make stale, each once, by the users that the records list:
+/// those of the glyphs that edits name, of the users of the Subrs that they name, and of the
+/// composites on any of these.
 pub fn found<'a>(
     alloc: Global,
     records: &'a Records,
     edits: &'a [Named],
 ) -> Result<IndexSet<&'a [u8]>, AllocError>
     ensures once { IfOk result (λ found. AreDistinct (map (λ name. name.now) found.keys)) }
-    ensures stale { IfOk result (λ found. (m : FontBodies) → AreTables m records.now → AreStale m (map key_of edits.now) (has (λ name. name.now) found.keys)) }
+    ensures stale { IfOk result
+        (λ found.
+        (m : FontBodies)
+        → AreTables m records.now
+        → AreStale m (map key_of edits.now) (has_name (λ name. name.now) found.keys)) }
 {
     let mut found = IndexSet::new(alloc);
     for named in edits {

@@ -1,16 +1,21 @@
 //! The users of Subrs and glyphs, moved in their records.
-ghost use Rattle.std.specs.Prelude.{◌≡◌, ◌<◌, ◌≤◌, ◌+◌, ◌&&◌, ◌||◌, ℕ, List, map, nat_eq, not, if◌then◌else◌};
+ghost use Rattle.std.specs.Prelude.{◌≡◌, ◌<◌, ◌≤◌, ◌+◌, ◌&&◌, ◌||◌, ℕ, List, map, nat_eq, not};
+ghost use Rattle.std.specs.Prelude.{if◌then◌else◌};
 ghost use Rattle.std.specs.Str.{bytes_eq};
 ghost use Rattle.indexmap.specs.IndexSet.{spare};
 ghost use Rattle.t1_run.specs.Run.{Key, key_eq};
-ghost use Rattle.t1_cache.specs.Users.{among, glyph_rest, glyph_users, has, has_pair, key_of, lists, rest_of, subr_rest, subr_users, users_at, wanted, HasRoom};
+ghost use Rattle.t1_cache.specs.Users.{among, glyph_rest, glyph_users, has_name, has_pair, key_of};
+ghost use Rattle.t1_cache.specs.Users.{lists, rest_of, subr_rest, subr_users, users_at, wanted};
+ghost use Rattle.t1_cache.specs.Users.{HasUserRoom};
 
 use crate::records::{GlyphRecord, Named, Names, Records, SubrRecord};
 use indexmap::IndexMap;
 
 /// Takes a name out. It takes no memory and can't fail.
 fn take_out(names: &mut Names, name: &[u8])
-    ensures names { (u : List ℕ) → has (λ k. k.items) names.new.keys u ≡ (has (λ k. k.items) names.old.keys u && not (bytes_eq u name.now)) }
+    ensures names { (u : List ℕ)
+        → has_name (λ k. k.items) names.new.keys u
+        ≡ (has_name (λ k. k.items) names.old.keys u && not (bytes_eq u name.now)) }
     ensures room { spare names.old ≤ spare names.new }
 {
     names.swap_remove(name);
@@ -19,7 +24,9 @@ fn take_out(names: &mut Names, name: &[u8])
 /// Puts a name in, in the room that was made. It takes no memory and can't fail.
 fn put_in(names: &mut Names, name: Vec<u8>)
     requires { 0 < spare names.old }
-    ensures names { (u : List ℕ) → has (λ k. k.items) names.new.keys u ≡ (has (λ k. k.items) names.old.keys u || bytes_eq u name.items) }
+    ensures names { (u : List ℕ)
+        → has_name (λ k. k.items) names.new.keys u
+        ≡ (has_name (λ k. k.items) names.old.keys u || bytes_eq u name.items) }
     ensures room { spare names.old ≤ spare names.new + 1 }
 {
     names.insert(name).unwrap();
@@ -27,8 +34,13 @@ fn put_in(names: &mut Names, name: Vec<u8>)
 
 /// Takes a glyph out of the users of a Subr.
 fn leave_subr(subrs: &mut IndexMap<u16, SubrRecord>, number: u16, name: &[u8])
-    ensures users { (n : ℕ) (u : List ℕ) → among (subr_users subrs.new.entries n) u ≡ (among (subr_users subrs.old.entries n) u && not (nat_eq n number && bytes_eq u name.now)) }
-    ensures room { (n : ℕ) (count : ℕ) → HasRoom count (subr_users subrs.old.entries n) → HasRoom count (subr_users subrs.new.entries n) }
+    ensures users { (n : ℕ) (u : List ℕ)
+        → among (subr_users subrs.new.entries n) u
+        ≡ (among (subr_users subrs.old.entries n) u && not
+        (nat_eq n number && bytes_eq u name.now)) }
+    ensures room { (n : ℕ) (count : ℕ)
+        → HasUserRoom count (subr_users subrs.old.entries n)
+        → HasUserRoom count (subr_users subrs.new.entries n) }
     ensures rest { map subr_rest subrs.new.entries ≡ map subr_rest subrs.old.entries }
 {
     if let Some(record) = subrs.get_mut(&number) {
@@ -38,8 +50,13 @@ fn leave_subr(subrs: &mut IndexMap<u16, SubrRecord>, number: u16, name: &[u8])
 
 /// Takes a glyph out of the users of another.
 fn leave_glyph(glyphs: &mut IndexMap<Vec<u8>, GlyphRecord>, part: &[u8], name: &[u8])
-    ensures users { (p u : List ℕ) → among (glyph_users glyphs.new.entries p) u ≡ (among (glyph_users glyphs.old.entries p) u && not (bytes_eq p part.now && bytes_eq u name.now)) }
-    ensures room { (p : List ℕ) (count : ℕ) → HasRoom count (glyph_users glyphs.old.entries p) → HasRoom count (glyph_users glyphs.new.entries p) }
+    ensures users { (p u : List ℕ)
+        → among (glyph_users glyphs.new.entries p) u
+        ≡ (among (glyph_users glyphs.old.entries p) u && not
+        (bytes_eq p part.now && bytes_eq u name.now)) }
+    ensures room { (p : List ℕ) (count : ℕ)
+        → HasUserRoom count (glyph_users glyphs.old.entries p)
+        → HasUserRoom count (glyph_users glyphs.new.entries p) }
     ensures rest { map glyph_rest glyphs.new.entries ≡ map glyph_rest glyphs.old.entries }
 {
     if let Some(record) = glyphs.get_mut(part) {
@@ -49,9 +66,14 @@ fn leave_glyph(glyphs: &mut IndexMap<Vec<u8>, GlyphRecord>, part: &[u8], name: &
 
 /// Puts a glyph among the users of a Subr, in the room that was made.
 fn join_subr(subrs: &mut IndexMap<u16, SubrRecord>, number: u16, name: Vec<u8>)
-    requires { HasRoom 1 (subr_users subrs.old.entries number) }
-    ensures users { (n : ℕ) (u : List ℕ) → among (subr_users subrs.new.entries n) u ≡ (among (subr_users subrs.old.entries n) u || (nat_eq n number && bytes_eq u name.items)) }
-    ensures room { (n : ℕ) (count : ℕ) → HasRoom (if nat_eq n number then count + 1 else count) (subr_users subrs.old.entries n) → HasRoom count (subr_users subrs.new.entries n) }
+    requires { HasUserRoom 1 (subr_users subrs.old.entries number) }
+    ensures users { (n : ℕ) (u : List ℕ)
+        → among (subr_users subrs.new.entries n) u
+        ≡ (among (subr_users subrs.old.entries n) u || (nat_eq n number && bytes_eq u name.items)) }
+    ensures room { (n : ℕ) (count : ℕ)
+        → HasUserRoom (if nat_eq n number then count + 1 else count)
+        (subr_users subrs.old.entries n)
+        → HasUserRoom count (subr_users subrs.new.entries n) }
     ensures rest { map subr_rest subrs.new.entries ≡ map subr_rest subrs.old.entries }
 {
     if let Some(record) = subrs.get_mut(&number) {
@@ -61,9 +83,15 @@ fn join_subr(subrs: &mut IndexMap<u16, SubrRecord>, number: u16, name: Vec<u8>)
 
 /// Puts a glyph among the users of another, in the room that was made.
 fn join_glyph(glyphs: &mut IndexMap<Vec<u8>, GlyphRecord>, part: &[u8], name: Vec<u8>)
-    requires { HasRoom 1 (glyph_users glyphs.old.entries part.now) }
-    ensures users { (p u : List ℕ) → among (glyph_users glyphs.new.entries p) u ≡ (among (glyph_users glyphs.old.entries p) u || (bytes_eq p part.now && bytes_eq u name.items)) }
-    ensures room { (p : List ℕ) (count : ℕ) → HasRoom (if bytes_eq p part.now then count + 1 else count) (glyph_users glyphs.old.entries p) → HasRoom count (glyph_users glyphs.new.entries p) }
+    requires { HasUserRoom 1 (glyph_users glyphs.old.entries part.now) }
+    ensures users { (p u : List ℕ)
+        → among (glyph_users glyphs.new.entries p) u
+        ≡ (among (glyph_users glyphs.old.entries p) u ||
+        (bytes_eq p part.now && bytes_eq u name.items)) }
+    ensures room { (p : List ℕ) (count : ℕ)
+        → HasUserRoom (if bytes_eq p part.now then count + 1 else count)
+        (glyph_users glyphs.old.entries p)
+        → HasUserRoom count (glyph_users glyphs.new.entries p) }
     ensures rest { map glyph_rest glyphs.new.entries ≡ map glyph_rest glyphs.old.entries }
 {
     if let Some(record) = glyphs.get_mut(part) {
@@ -73,8 +101,12 @@ fn join_glyph(glyphs: &mut IndexMap<Vec<u8>, GlyphRecord>, part: &[u8], name: Ve
 
 /// Takes a glyph out of the users of a Subr or of another glyph.
 fn leave(records: &mut Records, named: Named, name: &[u8])
-    ensures users { (k : Key) (u : List ℕ) → lists records.new k u ≡ (lists records.old k u && not (key_eq k (key_of named) && bytes_eq u name.now)) }
-    ensures room { (k : Key) (count : ℕ) → HasRoom count (users_at records.old k) → HasRoom count (users_at records.new k) }
+    ensures users { (k : Key) (u : List ℕ)
+        → lists records.new k u
+        ≡ (lists records.old k u && not (key_eq k (key_of named) && bytes_eq u name.now)) }
+    ensures room { (k : Key) (count : ℕ)
+        → HasUserRoom count (users_at records.old k)
+        → HasUserRoom count (users_at records.new k) }
     ensures rest { rest_of records.new ≡ rest_of records.old }
 {
     match named {
@@ -85,9 +117,14 @@ fn leave(records: &mut Records, named: Named, name: &[u8])
 
 /// Puts a glyph among the users of a Subr or of another glyph, in the room that was made.
 fn join(records: &mut Records, named: Named, name: Vec<u8>)
-    requires { HasRoom 1 (users_at records.old (key_of named)) }
-    ensures users { (k : Key) (u : List ℕ) → lists records.new k u ≡ (lists records.old k u || (key_eq k (key_of named) && bytes_eq u name.items)) }
-    ensures room { (k : Key) (count : ℕ) → HasRoom (if key_eq k (key_of named) then count + 1 else count) (users_at records.old k) → HasRoom count (users_at records.new k) }
+    requires { HasUserRoom 1 (users_at records.old (key_of named)) }
+    ensures users { (k : Key) (u : List ℕ)
+        → lists records.new k u
+        ≡ (lists records.old k u || (key_eq k (key_of named) && bytes_eq u name.items)) }
+    ensures room { (k : Key) (count : ℕ)
+        → HasUserRoom (if key_eq k (key_of named) then count + 1 else count)
+        (users_at records.old k)
+        → HasUserRoom count (users_at records.new k) }
     ensures rest { rest_of records.new ≡ rest_of records.old }
 {
     match named {
@@ -96,10 +133,14 @@ fn join(records: &mut Records, named: Named, name: Vec<u8>)
     }
 }
 
-/// Takes glyphs out of the users of Subrs and glyphs: each pair is one of these, and the glyph that leaves it.
+/// Takes glyphs out of the users of Subrs and glyphs: each pair is one of these, and the glyph that
+/// leaves it.
 fn leave_all(records: &mut Records, leaves: Vec<(Named, Vec<u8>)>)
-    ensures users { (k : Key) (u : List ℕ) → lists records.new k u ≡ (lists records.old k u && not (has_pair leaves.items k u)) }
-    ensures room { (k : Key) (count : ℕ) → HasRoom count (users_at records.old k) → HasRoom count (users_at records.new k) }
+    ensures users { (k : Key) (u : List ℕ)
+        → lists records.new k u ≡ (lists records.old k u && not (has_pair leaves.items k u)) }
+    ensures room { (k : Key) (count : ℕ)
+        → HasUserRoom count (users_at records.old k)
+        → HasUserRoom count (users_at records.new k) }
     ensures rest { rest_of records.new ≡ rest_of records.old }
 {
     let mut left = leaves;
@@ -110,8 +151,9 @@ fn leave_all(records: &mut Records, leaves: Vec<(Named, Vec<u8>)>)
 
 /// Puts glyphs among the users of Subrs and glyphs, in the room that was made.
 fn join_all(records: &mut Records, joins: Vec<(Named, Vec<u8>)>)
-    requires { (k : Key) → HasRoom (wanted joins.items k) (users_at records.old k) }
-    ensures users { (k : Key) (u : List ℕ) → lists records.new k u ≡ (lists records.old k u || has_pair joins.items k u) }
+    requires { (k : Key) → HasUserRoom (wanted joins.items k) (users_at records.old k) }
+    ensures users { (k : Key) (u : List ℕ)
+        → lists records.new k u ≡ (lists records.old k u || has_pair joins.items k u) }
     ensures rest { rest_of records.new ≡ rest_of records.old }
 {
     let mut left = joins;
@@ -120,15 +162,18 @@ fn join_all(records: &mut Records, joins: Vec<(Named, Vec<u8>)>)
     }
 }
 
-/// Takes glyphs out of the users of Subrs and glyphs, and puts others in, in the room that was made: each pair is a Subr or
-/// a glyph, and the glyph that leaves or joins its users. It takes no memory and can't fail.
+/// Takes glyphs out of the users of Subrs and glyphs, and puts others in, in the room that was
+/// made: each pair is a Subr or a glyph, and the glyph that leaves or joins its users. It takes no
+/// memory and can't fail.
 pub fn move_users(
     records: &mut Records,
     leaves: Vec<(Named, Vec<u8>)>,
     joins: Vec<(Named, Vec<u8>)>,
 )
-    requires { (k : Key) → HasRoom (wanted joins.items k) (users_at records.old k) }
-    ensures users { (k : Key) (u : List ℕ) → lists records.new k u ≡ ((lists records.old k u && not (has_pair leaves.items k u)) || has_pair joins.items k u) }
+    requires { (k : Key) → HasUserRoom (wanted joins.items k) (users_at records.old k) }
+    ensures users { (k : Key) (u : List ℕ)
+        → lists records.new k u
+        ≡ ((lists records.old k u && not (has_pair leaves.items k u)) || has_pair joins.items k u) }
     ensures rest { rest_of records.new ≡ rest_of records.old }
 {
     leave_all(records, leaves);

@@ -1,12 +1,13 @@
 //! What runs use: the Subrs that they enter, and the parts of composites.
-ghost use Rattle.std.specs.Prelude.{◌≡◌, ◌&&◌, ◌||◌, [], ℕ, List, None, Some, IfOk, OnOk, Ok, option_map};
+ghost use Rattle.std.specs.Prelude.{◌≡◌, ◌&&◌, ◌||◌, [], ℕ, List, None, Some, IfOk, OnOk, Ok};
+ghost use Rattle.std.specs.Prelude.{option_map};
 ghost use Rattle.std.specs.Str.{bytes_eq};
 ghost use Rattle.t1_run.specs.Footprint.{asks};
 ghost use Rattle.t1_run.specs.Run.{Key, key_eq};
 ghost use Rattle.t1_run.specs.Touched.{is_user};
-ghost use Rattle.t1_font.specs.Runs.{kept_of};
+ghost use Rattle.t1_font.specs.Runs.{drawing_in};
 ghost use Rattle.t1_cache.specs.Renewed.{recorded_run};
-ghost use Rattle.t1_cache.specs.Users.{has, has_pair, key_of};
+ghost use Rattle.t1_cache.specs.Users.{has_name, has_pair, key_of};
 
 use crate::records::{Named, Records};
 use std::alloc::{AllocError, Global};
@@ -22,7 +23,10 @@ fn push_use(
     named: Named,
     name: &[u8],
 ) -> Result<(), AllocError>
-    ensures { OnOk result ((k : Key) (u : List ℕ) → has_pair pairs.new.items k u ≡ (has_pair pairs.old.items k u || (key_eq k (key_of named) && bytes_eq u name.now))) }
+    ensures { OnOk result
+        ((k : Key) (u : List ℕ)
+        → has_pair pairs.new.items k u
+        ≡ (has_pair pairs.old.items k u || (key_eq k (key_of named) && bytes_eq u name.now))) }
 {
     pairs.push((named, Vec::from_slice(alloc, name)?))?;
     Ok(())
@@ -35,7 +39,10 @@ fn push_entered(
     entered: &[u16],
     name: &[u8],
 ) -> Result<(), AllocError>
-    ensures { OnOk result ((k : Key) (u : List ℕ) → has_pair pairs.new.items k u ≡ (has_pair pairs.old.items k u || (asks None entered.now k && bytes_eq u name.now))) }
+    ensures { OnOk result
+        ((k : Key) (u : List ℕ)
+        → has_pair pairs.new.items k u
+        ≡ (has_pair pairs.old.items k u || (asks None entered.now k && bytes_eq u name.now))) }
 {
     for number in entered {
         push_use(alloc, pairs, Named::Subr(*number), name)?;
@@ -50,7 +57,11 @@ fn push_parts(
     parts: &Composite,
     name: &[u8],
 ) -> Result<(), AllocError>
-    ensures { OnOk result ((k : Key) (u : List ℕ) → has_pair pairs.new.items k u ≡ (has_pair pairs.old.items k u || (asks (Some parts.now) [] k && bytes_eq u name.now))) }
+    ensures { OnOk result
+        ((k : Key) (u : List ℕ)
+        → has_pair pairs.new.items k u
+        ≡ (has_pair pairs.old.items k u ||
+        (asks (Some parts.now) [] k && bytes_eq u name.now))) }
 {
     let base = Bytes::copied(alloc, parts.base.as_slice())?;
     push_use(alloc, pairs, Named::Glyph(base), name)?;
@@ -66,7 +77,12 @@ fn push_uses(
     run: &KeptRun,
     name: &[u8],
 ) -> Result<(), AllocError>
-    ensures { OnOk result ((k : Key) (u : List ℕ) → has_pair pairs.new.items k u ≡ (has_pair pairs.old.items k u || (asks run.now.drawing.composite run.now.drawing.entered k && bytes_eq u name.now))) }
+    ensures { OnOk result
+        ((k : Key) (u : List ℕ)
+        → has_pair pairs.new.items k u
+        ≡ (has_pair pairs.old.items k u ||
+        (asks run.now.drawing.composite run.now.drawing.entered k && bytes_eq u
+        name.now))) }
 {
     push_entered(alloc, pairs, run.entered(), name)?;
     if let Some(parts) = run.composite() {
@@ -75,13 +91,19 @@ fn push_uses(
     Ok(())
 }
 
-/// The users that these glyphs leave: each Subr and each glyph that the run of a glyph's record uses, with the glyph.
+/// The users that these glyphs leave: each Subr and each glyph that the run of a glyph's record
+/// uses, with the glyph.
 pub fn leaves_of(
     alloc: Global,
     records: &Records,
     names: &[&[u8]],
 ) -> Result<Vec<(Named, Vec<u8>)>, AllocError>
-    ensures { IfOk result (λ pairs. (k : Key) (u : List ℕ) → has_pair pairs.items k u ≡ (has (λ name. name.now) names.now u && is_user k (recorded_run records.now u))) }
+    ensures { IfOk result
+        (λ pairs.
+        (k : Key) (u : List ℕ)
+        → has_pair pairs.items k u
+        ≡ (has_name (λ name. name.now) names.now u && is_user k
+        (recorded_run records.now u))) }
 {
     let mut pairs = Vec::new(alloc);
     for name in names {
@@ -95,7 +117,9 @@ pub fn leaves_of(
 
 /// The run of a glyph, where it is kept and has no fault.
 fn run_of<'a>(runs: &'a Runs, name: &[u8]) -> Option<&'a KeptRun>
-    ensures { (k : Key) → is_user k (option_map (λ run. Ok run.now.drawing) result) ≡ is_user k (kept_of runs.now name.now) }
+    ensures { (k : Key)
+        → is_user k (option_map (λ run. Ok run.now.drawing) result)
+        ≡ is_user k (drawing_in runs.now name.now) }
 {
     match runs.get(name) {
         Some(Ok(run)) => Some(run),
@@ -103,14 +127,18 @@ fn run_of<'a>(runs: &'a Runs, name: &[u8]) -> Option<&'a KeptRun>
     }
 }
 
-/// The users that these glyphs join: each Subr and each glyph that the run of a glyph uses, with the glyph. A run with a
-/// fault uses nothing.
+/// The users that these glyphs join: each Subr and each glyph that the run of a glyph uses, with
+/// the glyph. A run with a fault uses nothing.
 pub fn joins_of(
     alloc: Global,
     runs: &Runs,
     names: &[&[u8]],
 ) -> Result<Vec<(Named, Vec<u8>)>, AllocError>
-    ensures { IfOk result (λ pairs. (k : Key) (u : List ℕ) → has_pair pairs.items k u ≡ (has (λ name. name.now) names.now u && is_user k (kept_of runs.now u))) }
+    ensures { IfOk result
+        (λ pairs.
+        (k : Key) (u : List ℕ)
+        → has_pair pairs.items k u
+        ≡ (has_name (λ name. name.now) names.now u && is_user k (drawing_in runs.now u))) }
 {
     let mut pairs = Vec::new(alloc);
     for name in names {

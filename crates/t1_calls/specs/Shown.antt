@@ -6,10 +6,10 @@ use Rattle.t1_parts.specs.Printing.{text}
 use Rattle.t1_commands.specs.declared.print.Print.{Print}
 use Rattle.t1_commands.specs.declared.print.Print.TheVariants as prints
 use Rattle.t1_session.specs.FromScratch.{blocks_from_scratch, metrics_from_scratch, pfa_from_scratch, pfb_from_scratch, uses_from_scratch}
-use Rattle.t1_session.specs.State.{State}
+use Rattle.t1_session.specs.State.{SessionState}
 
 -- word: the text that a print shows, in blocks of this size where it is in blocks
-abbrev pub file_of : State → ℕ → Print → Result (List ℕ) Fault
+abbrev pub file_of : SessionState → ℕ → Print → Result (List ℕ) Fault
 file_of s size prints.Source = Ok (text s.source)
 file_of s size prints.Kern = Ok (kern s.pairs)
 file_of s size prints.Pfb = pfb_from_scratch s

@@ -8,14 +8,14 @@ use Rattle.t1_commands.specs.Answers.{answer_to}
 use Rattle.t1_commands.specs.Commands.{input_commands, takes_body}
 use Rattle.t1_session.specs.Conversation.{Performs}
 use Rattle.t1_session.specs.Machine.{after_want, machine, may_want_memory, perform}
-use Rattle.t1_session.specs.State.{State}
+use Rattle.t1_session.specs.State.{SessionState}
 use Rattle.t1_calls.specs.Framing.{framed, is_call}
 use Rattle.t1_calls.specs.declared.talk.Unperformed.{Unperformed}
 use Rattle.t1_calls.specs.declared.talk.Unperformed.TheVariants as unperformed
 
 -- profile: what contracts see of a session by calls: its state, and the text of the answer that is kept
 pub record Spoken : Type 0 where
-  pub state : State
+  pub state : SessionState
   pub answer : List ℕ
 
 -- profile: the text of the answer that is kept: none before the first command, nor for a line without words
@@ -24,12 +24,12 @@ kept_text None = []
 kept_text (Some answer) = answer_text answer
 
 -- word: a command was performed and answered; or it met want of memory, and left what that leaves
-abbrev pub IsAnswered : {E : Type 0} → State → State → Command → Result Answer E → Type 0
+abbrev pub IsAnswered : {E : Type 0} → SessionState → SessionState → Command → Result Answer E → Type 0
 IsAnswered old new command (Ok answer) = (answer ≡ (perform old command).answer) × (new ≡ (perform old command).next)
 IsAnswered old new command (Err e) = (may_want_memory old command ≡ true) × (new ≡ after_want old command)
 
 -- word: the answer to one command, marked or not as one that met want of memory
-pub record Step (old new : State) (command : Command) (answer : Answer) : Type 0 where
+pub record Step (old new : SessionState) (command : Command) (answer : Answer) : Type 0 where
   pub mark : Bool
   pub is : answer ≡ (answer_to machine old command mark).answer
   pub next : new ≡ (answer_to machine old command mark).next

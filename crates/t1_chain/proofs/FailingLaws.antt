@@ -57,10 +57,10 @@ act-alike m caller caller' fails word next next' calls keeps rest (Compose a s) 
 act-alike m caller caller' fails word next next' calls keeps rest (Fault code) = keeps code
 
 words-alike : (m : FontBodies) (caller : Caller) (caller' : runs.Caller) → ((n : ℕ) (s : State) → AlikeCall (caller n s) (caller' n s))
-    → (word : ℕ) (cs : List Command) (s : State) → Alike (words_from m caller word cs s) (runs.words m caller' cs s)
+    → (word : ℕ) (cs : List Command) (s : State) → Alike (words_from m caller word cs s) (runs.run_words m caller' cs s)
 words-alike m caller caller' calls word [] s = refl
 words-alike m caller caller' calls word (c ∷ cs) s =
-    act-alike m caller caller' (fails_at m word c s) word (words_from m caller (word + 1) cs) (runs.words m caller' cs) calls (λ code. refl)
+    act-alike m caller caller' (fails_at m word c s) word (words_from m caller (word + 1) cs) (runs.run_words m caller' cs) calls (λ code. refl)
     (words-alike m caller caller' calls (word + 1) cs) (step c s)
 
 called-alike : (run : List Command → State → Result Ending Code) (run' : List Command → Runner)
@@ -72,7 +72,7 @@ called-alike run run' h (Some body) n s = h body (entering n s)
 calls-alike : (m : FontBodies) (levels n : ℕ) (s : State) → AlikeCall (call_within m levels n s) (runs.call_within m levels n s)
 calls-alike m zero n s = called-alike too_deep runs.too_deep (λ body. λ t. refl) (m.subrs n) n s
 calls-alike m (suc levels) n s =
-    called-alike (λ body. λ t. Ok (words_from m (call_within m levels) 0 body t)) (runs.words m (runs.call_within m levels))
+    called-alike (λ body. λ t. Ok (words_from m (call_within m levels) 0 body t)) (runs.run_words m (runs.call_within m levels))
     (words-alike m (call_within m levels) (runs.call_within m levels) (calls-alike m levels) 0) (m.subrs n) n s
 
 measured-alike : (count : ℕ) (composite : Option Composite) (s : State) (metric : Option Metric)

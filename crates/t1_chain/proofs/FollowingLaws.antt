@@ -10,7 +10,7 @@ use Rattle.t1_code.specs.declared.command.Command.{Command}
 use Rattle.t1_run.specs.declared.outline.Composite.{Composite}
 use Rattle.t1_run.specs.declared.state.Control.{Control}
 use Rattle.t1_run.specs.declared.state.Control.TheVariants as controls
-use Rattle.t1_run.specs.Machine.{reported}
+use Rattle.t1_run.specs.Machine.{asked_step}
 use Rattle.t1_run.specs.Run.{FontBodies, composite_of, entering}
 use Rattle.t1_run.specs.State.{State}
 use Rattle.t1_run.specs.Step.{Next, Fault}
@@ -63,14 +63,14 @@ parts-refused fails s (Ok c) code h = absurd (cc)
 parts-refused fails s (Err found) code h = let same : found ≡ code = cc in ap (λ x. Failed (fails x)) same
 
 control-refused : (m : FontBodies) (levels word : ℕ) (fails : Code → Failure) (next : Follower) (control : Control) (s : State) (code : Code)
-    → refused_control m levels control ≡ Some code → act m (call_within m levels) fails word next (reported control s) ≡ Failed (fails code)
+    → refused_control m levels control ≡ Some code → act m (call_within m levels) fails word next (asked_step control s) ≡ Failed (fails code)
 control-refused m levels word fails next (controls.Call n) s code h = ap (called_at fails (record { word = word; subr = n }) next) (call-refused m levels n s code h)
 control-refused m levels word fails next controls.Back s code h = absurd (cc)
 control-refused m levels word fails next controls.End s code h = absurd (cc)
 control-refused m levels word fails next (controls.Compose a) s code h = parts-refused fails s (composite_of m.glyphs a) code h
 
 pub acts-refused : (m : FontBodies) (levels word : ℕ) (c : Command) (s s' : State) (stack : List Fraction) (control : Control) (code : Code) (failure : FailureFields)
-    → step c s ≡ reported control s' → refused_control m levels control ≡ Some code → stack ≡ s.stack
+    → step c s ≡ asked_step control s' → refused_control m levels control ≡ Some code → stack ≡ s.stack
     → seen failure ≡ failure_at word (detail_of m.glyphs code c stack) code → Acts m levels word c (Over (stops.Failed failure)) s s'
 acts-refused m levels word c s s' stack control code failure e refused same is = λ next.
     ap (act m (call_within m levels) (fails_at m word c s) word next) e
@@ -83,14 +83,14 @@ parts-found fails s (Err code) h = absurd (cc)
 
 control-asked : (m : FontBodies) (levels word : ℕ) (fails : Code → Failure) (next : Follower) (control : Control) (s : State)
     → refused_control m levels control ≡ None
-    → act m (call_within m levels) fails word next (reported control s) ≡ asked_of (call_within m levels) fails word next (asked_by word control) s
+    → act m (call_within m levels) fails word next (asked_step control s) ≡ asked_of (call_within m levels) fails word next (asked_by word control) s
 control-asked m levels word fails next (controls.Call n) s h = refl
 control-asked m levels word fails next controls.Back s h = refl
 control-asked m levels word fails next controls.End s h = refl
 control-asked m levels word fails next (controls.Compose a) s h = parts-found fails s (composite_of m.glyphs a) h
 
 pub acts-asked : (m : FontBodies) (levels word : ℕ) (c : Command) (s s' : State) (control : Control)
-    → step c s ≡ reported control s' → refused_control m levels control ≡ None → Acts m levels word c (asked_by word control) s s'
+    → step c s ≡ asked_step control s' → refused_control m levels control ≡ None → Acts m levels word c (asked_by word control) s s'
 acts-asked m levels word c s s' control e none = λ next.
     ap (act m (call_within m levels) (fails_at m word c s) word next) e ∙ control-asked m levels word (fails_at m word c s) next control s' none
 

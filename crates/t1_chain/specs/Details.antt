@@ -10,7 +10,7 @@ use Rattle.t1_frac.specs.declared.fault.Code.TheVariants.{F30, F32, F37, F42, F4
 use Rattle.t1_code.specs.declared.command.Command.{Command}
 use Rattle.t1_code.specs.declared.command.Command.TheVariants.{Div, CallOtherSubr}
 use Rattle.t1_run.specs.Operands.{topmost, takes}
-use Rattle.t1_run.specs.Run.{encoded}
+use Rattle.t1_run.specs.Run.{standard_glyph}
 use Rattle.t1_chain.specs.declared.failure.Detail.{Detail}
 use Rattle.t1_chain.specs.declared.failure.Detail.TheVariants.{Nothing, Number, Glyph, Values}
 
@@ -57,7 +57,7 @@ too_large c stack = large_in (topmost (takes c) stack)
 -- Type 1 Font Format, Chapter 6 (seac): the code of the base, or of the accent, that has no name
 abbrev pub unnamed : Option (Fraction × Fraction) → Detail
 unnamed None = Nothing
-unnamed (Some (base, accent)) = Number (if is_none (encoded base.num) then base else accent)
+unnamed (Some (base, accent)) = Number (if is_none (standard_glyph base.num) then base else accent)
 
 -- profile, faults: the base, or the accent, that the font lacks
 abbrev pub lacking : (List ℕ → Option (List Command)) → Option (List ℕ) → Option (List ℕ) → Detail
@@ -67,7 +67,7 @@ lacking glyphs _ _ = Nothing
 -- Type 1 Font Format, Chapter 6 (seac): the same by their codes
 abbrev pub missing : (List ℕ → Option (List Command)) → Option (Fraction × Fraction) → Detail
 missing glyphs None = Nothing
-missing glyphs (Some (base, accent)) = lacking glyphs (encoded base.num) (encoded accent.num)
+missing glyphs (Some (base, accent)) = lacking glyphs (standard_glyph base.num) (standard_glyph accent.num)
 
 -- profile, faults: what a fault of a command says, by the glyphs of the font and the stack before the command
 unfoldable pub detail_of : (List ℕ → Option (List Command)) → Code → Command → List Fraction → Detail

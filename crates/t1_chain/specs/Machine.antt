@@ -6,7 +6,7 @@ use Rattle.t1_frac.specs.declared.fault.Code.TheVariants.{F32, F33}
 use Rattle.t1_code.specs.declared.command.Command.{Command}
 use Rattle.t1_run.specs.declared.state.Control.{Control}
 use Rattle.t1_run.specs.declared.state.Control.TheVariants as controls
-use Rattle.t1_run.specs.Machine.{reported}
+use Rattle.t1_run.specs.Machine.{asked_step}
 use Rattle.t1_run.specs.Run.{FontBodies, composite_of}
 use Rattle.t1_run.specs.State.{State}
 use Rattle.t1_run.specs.Step.{Step, Next}
@@ -37,7 +37,7 @@ ending_or next (Some ending) s = ending_of ending s
 -- word: the step of a word that asks for this, or for the next word
 abbrev pub asking : Option Control → State → Step
 asking None s = Next s
-asking (Some control) s = reported control s
+asking (Some control) s = asked_step control s
 
 -- word: the fault of a call of a Subr with this body, where so many Subrs more may be active
 abbrev pub refused_call : ℕ → Option (List Command) → Option Code

@@ -3,8 +3,7 @@
 ghost use Rattle.std.specs.Prelude.{◌≡◌, ◌^◌, ◌≤◌, IfOk, option_map};
 ghost use Rattle.std.specs.Option.{option_copied};
 ghost use Rattle.t1_frac.specs.Limits.{exceeds};
-ghost use Rattle.t1_run.specs.Operands.{takes as takes_of, topmost as topmost_of};
-ghost use Rattle.t1_run.specs.Run.{encoded as encoded_of};
+ghost use Rattle.t1_run.specs.Operands.{topmost as topmost_of};
 ghost use Rattle.t1_chain.specs.Details.{arguments_by, both_of, detail_of as detail_of_word};
 ghost use Rattle.t1_chain.specs.Details.{large_above as large_above_arguments, large_in, lacking};
 ghost use Rattle.t1_chain.specs.Details.{missing, number_of, too_large, top_of};
@@ -12,49 +11,9 @@ ghost use Rattle.t1_chain.specs.Details.{unnamed as unnamed_of, wanted as wanted
 
 use crate::failure::Detail;
 use std::alloc::{AllocError, Global};
-use t1_code::{Command, standard_name};
+use t1_code::Command;
 use t1_frac::{Bytes, Code, Frac};
-use t1_run::Bodies;
-
-/// How many values a command takes from the top of the stack.
-fn takes(command: Command) -> usize
-    ensures { result ≡ takes_of command }
-{
-    match command {
-        Command::Num(_)
-        | Command::ClosePath
-        | Command::Return
-        | Command::EndChar
-        | Command::DotSection
-        | Command::Pop => 0,
-        Command::VMoveTo
-        | Command::HLineTo
-        | Command::VLineTo
-        | Command::CallSubr
-        | Command::HMoveTo => 1,
-        Command::HStem
-        | Command::VStem
-        | Command::RLineTo
-        | Command::Hsbw
-        | Command::RMoveTo
-        | Command::Div
-        | Command::CallOtherSubr
-        | Command::SetCurrentPoint => 2,
-        Command::VHCurveTo | Command::HVCurveTo | Command::Sbw => 4,
-        Command::Seac => 5,
-        Command::RRCurveTo | Command::VStem3 | Command::HStem3 => 6,
-    }
-}
-
-/// The glyph name of a code of StandardEncoding.
-fn encoded(code: i64) -> Option<&'static str>
-    ensures { option_map (λ name. name.now) result ≡ encoded_of code }
-{
-    if code < 0 || code > 255 {
-        return None;
-    }
-    standard_name(code as u8)
-}
+use t1_run::{Bodies, standard_glyph, takes};
 
 /// So many values on the top, the lowest first, or all where there are fewer.
 fn topmost(count: usize, values: &[Frac]) -> &[Frac]
@@ -161,7 +120,7 @@ fn unnamed(codes: Option<(Frac, Frac)>) -> Detail
 {
     match codes {
         Some((base, accent)) => {
-            if encoded(base.num()).is_none() {
+            if standard_glyph(base.num()).is_none() {
                 return Detail::Number(base);
             }
             Detail::Number(accent)
@@ -211,7 +170,12 @@ fn missing_part<B: Bodies>(
 {
     match codes {
         Some((base, accent)) => {
-            lacked(alloc, bodies, encoded(base.num()), encoded(accent.num()))
+            lacked(
+                alloc,
+                bodies,
+                standard_glyph(base.num()),
+                standard_glyph(accent.num()),
+            )
         }
         None => Ok(Detail::Nothing),
     }

@@ -4,7 +4,7 @@ ghost use Rattle.std.specs.Prelude.{◌≡◌, IfOk, OnOk, Result};
 ghost use Rattle.std.specs.Result.{result_err};
 ghost use Rattle.t1_frac.specs.Outcome.{Gives, reported_at};
 ghost use Rattle.t1_frac.specs.declared.fault.Code.{Code as CodeOf};
-ghost use Rattle.t1_run.specs.Machine.{state_of, Reports};
+ghost use Rattle.t1_run.specs.Machine.{state_of, MakesStep};
 ghost use Rattle.t1_run.specs.Run.{font};
 ghost use Rattle.t1_run.specs.Words.{step as step_of};
 ghost use Rattle.t1_run.specs.declared.outline.Composite.{Composite as CompositeOf};
@@ -23,7 +23,7 @@ use t1_run::{Bodies, Composite, Control, Halt, State, find_parts};
 
 /// The step of a command: what it asks for, where it asks for more than the next word.
 fn take_step(state: &mut State, command: Command) -> Result<Option<Control>, Halt>
-    ensures { Reports asking (step_of command (state_of state.old)) result state.new }
+    ensures { MakesStep asking (step_of command (state_of state.old)) result state.new }
 {
     match command {
         Command::Num(number) => {

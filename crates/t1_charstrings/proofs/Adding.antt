@@ -14,11 +14,11 @@ use Rattle.t1_source.specs.WellFormed.{IsWellFormed, Stand, Stands}
 use Rattle.t1_run.specs.Run.{Key, Subr, Glyph}
 use Rattle.t1_charstrings.specs.declared.entries.Charstrings.{Charstrings}
 use Rattle.t1_charstrings.specs.Changed.{Sets}
-use Rattle.t1_charstrings.specs.Entries.{Kept}
+use Rattle.t1_charstrings.specs.Entries.{KeptCharstring}
 use Rattle.t1_charstrings.specs.Kept.{kept_at}
-use Rattle.t1_charstrings.specs.Lines.{entry_line, kept_line, kept_text}
+use Rattle.t1_charstrings.specs.Lines.{kept_entry_line, kept_line, kept_text}
 use Rattle.t1_font.proofs.Lookups.{bytes_tell, numbers_tell, Distinguishes}
-use Rattle.t1_charstrings.specs.Sums.{has_key, item_at, section_line, section_text, InsertLenLaw, PutLenLaw, RaisedLenLaw, RemoveLenLaw}
+use Rattle.t1_charstrings.specs.Sums.{has_key, item_at, section_line, section_lines_text, InsertLenLaw, PutLenLaw, RaisedLenLaw, RemoveLenLaw}
 
 -- ---- items that don't have the key
 
@@ -29,18 +29,18 @@ turned eq t a b off = by (eq b a) refl where
   by false other = refl
 
 -- the line of an item that doesn't have the key stays
-same-line : (key : Key) (entry : Option Kept) (old new : Charstrings) → Sets key entry old new → (operator : List ℕ) (i : Item) → has_key key i ≡ false
+same-line : (key : Key) (entry : Option KeptCharstring) (old new : Charstrings) → Sets key entry old new → (operator : List ℕ) (i : Item) → has_key key i ≡ false
     → kept_line new operator i ≡ kept_line old operator i
 same-line key entry old new sets operator (items.Plain l) h = refl
 same-line key entry old new sets operator (items.Section before n after) h = refl
 same-line (Subr m) entry old new sets operator (items.Subr n ws closing) h =
-    ap (entry_line operator closing) (sets (Subr n) ∙ ap (λ b. cond b entry (kept_at old (Subr n))) (turned nat_eq numbers_tell m n h))
-same-line (Glyph g) entry old new sets operator (items.Subr n ws closing) h = ap (entry_line operator closing) (sets (Subr n))
-same-line (Subr m) entry old new sets operator (items.Glyph g ws closing) h = ap (entry_line operator closing) (sets (Glyph g))
+    ap (kept_entry_line operator closing) (sets (Subr n) ∙ ap (λ b. cond b entry (kept_at old (Subr n))) (turned nat_eq numbers_tell m n h))
+same-line (Glyph g) entry old new sets operator (items.Subr n ws closing) h = ap (kept_entry_line operator closing) (sets (Subr n))
+same-line (Subr m) entry old new sets operator (items.Glyph g ws closing) h = ap (kept_entry_line operator closing) (sets (Glyph g))
 same-line (Glyph f) entry old new sets operator (items.Glyph g ws closing) h =
-    ap (entry_line operator closing) (sets (Glyph g) ∙ ap (λ b. cond b entry (kept_at old (Glyph g))) (turned bytes_eq bytes_tell f g h))
+    ap (kept_entry_line operator closing) (sets (Glyph g) ∙ ap (λ b. cond b entry (kept_at old (Glyph g))) (turned bytes_eq bytes_tell f g h))
 
-same-lines : (key : Key) (entry : Option Kept) (old new : Charstrings) → Sets key entry old new → (operator : List ℕ) (is : List Item) → list_any (has_key key) is ≡ false
+same-lines : (key : Key) (entry : Option KeptCharstring) (old new : Charstrings) → Sets key entry old new → (operator : List ℕ) (is : List Item) → list_any (has_key key) is ≡ false
     → kept_text new operator is ≡ kept_text old operator is
 same-lines key entry old new sets operator [] h = refl
 same-lines key entry old new sets operator (i ∷ is) h =
@@ -59,7 +59,7 @@ Alone test at [] = Unit {0}
 Alone test zero (i ∷ is) = list_any test is ≡ false
 Alone test (suc at) (i ∷ is) = (test i ≡ false) × Alone test at is
 
-module _ (key : Key) (entry : Option Kept) (old new : Charstrings) (sets : Sets key entry old new) (operator : List ℕ) where
+module _ (key : Key) (entry : Option KeptCharstring) (old new : Charstrings) (sets : Sets key entry old new) (operator : List ℕ) where
   put-len : (is : List Item) (at : ℕ) (item : Item) → at < length is → Alone (has_key key) at is
       → length (kept_text new operator (slice_set is at item)) + length (kept_line old operator (item_at is at))
       ≡ length (kept_text old operator is) + length (kept_line new operator item)
@@ -182,8 +182,8 @@ raised-one subrs glyphs c operator (items.Subr n ws closing) = refl
 raised-one subrs glyphs c operator (items.Glyph g ws closing) = refl
 
 raised-len : (subrs glyphs : ℕ) (c : Charstrings) (operator : List ℕ) (is : List Item)
-    → length (kept_text c operator (map (raised_item subrs glyphs) is)) + length (section_text is)
-    ≡ length (kept_text c operator is) + length (section_text (map (raised_item subrs glyphs) is))
+    → length (kept_text c operator (map (raised_item subrs glyphs) is)) + length (section_lines_text is)
+    ≡ length (kept_text c operator is) + length (section_lines_text (map (raised_item subrs glyphs) is))
 raised-len subrs glyphs c operator [] = refl
 raised-len subrs glyphs c operator (i ∷ is) =
     let j = raised_item subrs glyphs i in
@@ -194,8 +194,8 @@ raised-len subrs glyphs c operator (i ∷ is) =
       raised-len subrs glyphs c operator is,
       text-both c operator j js,
       text-both c operator i is,
-      length-append (section_line i) (section_text is),
-      length-append (section_line j) (section_text js),
+      length-append (section_line i) (section_lines_text is),
+      length-append (section_line j) (section_lines_text js),
     )
 
 pub raised_len : RaisedLenLaw

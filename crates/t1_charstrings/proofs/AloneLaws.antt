@@ -14,11 +14,11 @@ use Rattle.t1_parts.specs.Items.{line_says, stands_alone}
 use Rattle.t1_parts.specs.LenIV.{says_lead}
 use Rattle.t1_font.specs.Bodies.{bodies_check, body_check, glyph_among, glyph_in, subr_among, subr_in}
 use Rattle.t1_charstrings.specs.Raising.{is_raised_counted, raised_check, raised_text}
-use Rattle.t1_charstrings.specs.Sums.{section_line, section_text}
+use Rattle.t1_charstrings.specs.Sums.{section_line, section_lines_text}
 
 -- ---- section lines
 
-pub sections_alone : (items : List Item) → section_text (filter stands_alone items) ≡ section_text items
+pub sections_alone : (items : List Item) → section_lines_text (filter stands_alone items) ≡ section_lines_text items
 unfolding stands_alone
 sections_alone [] = refl
 sections_alone (Plain l ∷ items) = elim (cases_Bool (line_says l)) [

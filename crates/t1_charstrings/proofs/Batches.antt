@@ -17,12 +17,12 @@ use Rattle.t1_charstrings.specs.declared.edited.EditedEntries.{EditedEntries}
 use Rattle.t1_charstrings.specs.declared.settling.ReadyCharstrings.TheVariants as ready
 use Rattle.t1_charstrings.specs.declared.settling.ReadyLines.{ReadyLines}
 use Rattle.t1_charstrings.specs.declared.entries.Charstrings.{Charstrings}
-use Rattle.t1_charstrings.specs.Batch.{is_gone, over, text_by, AreEdits, AreFresh, AreGone, IsBatchOf}
-use Rattle.t1_charstrings.specs.Changed.{AreUnchanged}
-use Rattle.t1_charstrings.specs.Entries.{Kept, encrypted, glyph_kept, subr_kept}
+use Rattle.t1_charstrings.specs.Batch.{is_gone, fresh_over, text_by, AreEdits, AreFresh, AreGone, IsBatchOf}
+use Rattle.t1_charstrings.specs.Changed.{AreSameCharstrings}
+use Rattle.t1_charstrings.specs.Entries.{KeptCharstring, encrypted, glyph_charstring, subr_charstring}
 use Rattle.t1_charstrings.specs.Kept.{AreEncrypted, kept_at}
 use Rattle.t1_font.specs.Lengths.{IsPrivateLen}
-use Rattle.t1_charstrings.specs.Ready.{HasRoom, IsReadyLines, SettlesTo}
+use Rattle.t1_charstrings.specs.Ready.{HasCharstringRoom, IsReadyLines, SettlesTo}
 use Rattle.t1_font.proofs.Keys.{at-key, at-same, included}
 use Rattle.t1_font.proofs.Lookups.{bytes-turned}
 use Rattle.t1_font.proofs.Compiling.{lookup-last}
@@ -42,7 +42,7 @@ module _ (keys : List Key) (s made : SourceParts) (c : Charstrings) (batch : IsB
       apart among = let never : true ≡ false = sym (included keys k among) ∙ off in cc
 
   -- what a batch settles to at a key
-  settled-at : (k : Key) (named gone : Bool) (body : Option (List Command)) (fresh old : Option Kept)
+  settled-at : (k : Key) (named gone : Bool) (body : Option (List Command)) (fresh old : Option KeptCharstring)
       → fresh ≡ cond named (option_map (encrypted (lead made) k) body) None → gone ≡ (named && is_none body)
       → (named ≡ false → old ≡ option_map (encrypted (lead made) k) body)
       → option_or fresh (cond gone None old) ≡ option_map (encrypted (lead made) k) body
@@ -52,7 +52,7 @@ module _ (keys : List Key) (s made : SourceParts) (c : Charstrings) (batch : IsB
   settled-at k false gone body fresh old fresh_is gone_is stays =
       ap (λ f. option_or f (cond gone None old)) fresh_is ∙ ap (λ b. cond b None old) gone_is ∙ stays refl
 
-  pub batch_settled : (entries : EditedEntries) (old new : Charstrings) → AreFresh (lead made) keys made entries.fresh → AreGone keys made entries.gone.items → AreUnchanged c old
+  pub batch_settled : (entries : EditedEntries) (old new : Charstrings) → AreFresh (lead made) keys made entries.fresh → AreGone keys made entries.gone.items → AreSameCharstrings c old
       → SettlesTo (ready.Edited entries) old new → AreEncrypted made new
   batch_settled entries old new fresh gone same settles = record {
     sound = batch.0.sound;
@@ -62,28 +62,28 @@ module _ (keys : List Key) (s made : SourceParts) (c : Charstrings) (batch : IsB
         (fresh k) (gone k) (λ off. kept-same k ∙ old-stays k off);
   } where
     kept-same : (k : Key) → kept_at old k ≡ kept_at c k
-    kept-same = at-key (λ k. kept_at old k ≡ kept_at c k) (λ n. ap (λ es. subr_kept es n) same.0) (λ g. ap (λ es. glyph_kept es g) same.1)
+    kept-same = at-key (λ k. kept_at old k ≡ kept_at c k) (λ n. ap (λ es. subr_charstring es n) same.0) (λ g. ap (λ es. glyph_charstring es g) same.1)
 
   -- fresh charstrings over the old ones are those of the bodies of the edited source
-  over-at : (k : Key) (named : Bool) (body : List Command) (fresh old : Option Kept)
+  over-at : (k : Key) (named : Bool) (body : List Command) (fresh old : Option KeptCharstring)
       → fresh ≡ cond named (Some (encrypted (lead made) k body)) None → (named ≡ false → old ≡ Some (encrypted (lead made) k body))
       → option_or fresh old ≡ Some (encrypted (lead made) k body)
   over-at k true body fresh old fresh_is stays = ap (λ f. option_or f old) fresh_is
   over-at k false body fresh old fresh_is stays = ap (λ f. option_or f old) fresh_is ∙ stays refl
 
-  pub over-serves : (fresh : Charstrings) → AreFresh (lead made) keys made fresh → Serves (lead made) made.items (over fresh c)
+  pub over-serves : (fresh : Charstrings) → AreFresh (lead made) keys made fresh → Serves (lead made) made.items (fresh_over fresh c)
   over-serves fresh are k body there =
       over-at k (list_any (key_eq k) keys) body (kept_at fresh k) (kept_at c k)
       (are k ∙ ap (λ b. cond (list_any (key_eq k) keys) (option_map (encrypted (lead made) k) b) None) there)
       (λ off. old-stays k off ∙ ap (option_map (encrypted (lead made) k)) there)
 
   pub batch_len_is : (fresh : Charstrings) (o : List ℕ) (is : List Item) (len : ℕ) → AreFresh (lead made) keys made fresh → o ≡ operator made → is ≡ made.items
-      → len ≡ min (length (text_by (over fresh c) o is)) (2 ^ 64 - 1) → IsPrivateLen made len
+      → len ≡ min (length (text_by (fresh_over fresh c) o is)) (2 ^ 64 - 1) → IsPrivateLen made len
   batch_len_is fresh o is len are operator_is items_are len_is = (
-    text_by (over fresh c) (operator made) made.items,
-    text_by_is made (over fresh c) batch.0.well batch.0.sound (over-serves fresh are),
-    len_is ∙ ap (λ name. min (length (text_by (over fresh c) name is)) (2 ^ 64 - 1)) operator_is
-        ∙ ap (λ l. min (length (text_by (over fresh c) (operator made) l)) (2 ^ 64 - 1)) items_are,
+    text_by (fresh_over fresh c) (operator made) made.items,
+    text_by_is made (fresh_over fresh c) batch.0.well batch.0.sound (over-serves fresh are),
+    len_is ∙ ap (λ name. min (length (text_by (fresh_over fresh c) name is)) (2 ^ 64 - 1)) operator_is
+        ∙ ap (λ l. min (length (text_by (fresh_over fresh c) (operator made) l)) (2 ^ 64 - 1)) items_are,
   )
 
 -- the fresh charstrings of edits, where lenIV stays
@@ -93,10 +93,10 @@ fresh_by {made = made} {entries = entries} edits front = subst (λ n. AreFresh n
 
 -- what is ready of edits
 pub entries_ready : (s made : SourceParts) (c d : Charstrings) (entries : EditedEntries) (len : ℕ) (lines : ReadyLines) → AreEdits s made c entries → lead made ≡ lead s
-    → AreUnchanged c d → lines ≡ record { charstrings = ready.Edited entries; len = len } → HasRoom lines.charstrings d → IsPrivateLen made len → IsReadyLines made d lines
+    → AreSameCharstrings c d → lines ≡ record { charstrings = ready.Edited entries; len = len } → HasCharstringRoom lines.charstrings d → IsPrivateLen made len → IsReadyLines made d lines
 entries_ready s made c d entries len lines edits front same is room known =
     subst (IsReadyLines made d) (sym is) (record {
-      room = subst (λ (l : ReadyLines). HasRoom l.charstrings d) is room;
+      room = subst (λ (l : ReadyLines). HasCharstringRoom l.charstrings d) is room;
       kept = λ new settles. batch_settled edits.keys s made c (edits.edit, front) entries d new (fresh_by edits front) edits.gone same settles;
       len = known;
     })

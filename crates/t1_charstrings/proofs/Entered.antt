@@ -34,12 +34,12 @@ use Rattle.t1_font.proofs.Compiling.{reported-ok}
 use Rattle.t1_font.proofs.Counted.{counted-source}
 use Rattle.t1_font.proofs.LengthLaws.{long_reported}
 use Rattle.t1_charstrings.specs.declared.entries.Charstrings.{Charstrings}
-use Rattle.t1_charstrings.specs.Batch.{line_by, over, AreFresh, IsBatchOf, IsEditOf}
+use Rattle.t1_charstrings.specs.Batch.{item_line_by, fresh_over, AreFresh, IsBatchOf, IsEditOf}
 use Rattle.t1_charstrings.specs.Changed.{Sets}
-use Rattle.t1_charstrings.specs.Entries.{Kept, encrypted}
+use Rattle.t1_charstrings.specs.Entries.{KeptCharstring, encrypted}
 use Rattle.t1_charstrings.specs.Kept.{AreEncrypted, kept_at}
 use Rattle.t1_font.specs.Lengths.{IsPrivateLen}
-use Rattle.t1_charstrings.specs.Lines.{entry_line, kept_line, kept_text}
+use Rattle.t1_charstrings.specs.Lines.{kept_entry_line, kept_line, kept_text}
 use Rattle.t1_charstrings.specs.Ready.{is_entry, old_len, replaced_len}
 use Rattle.t1_charstrings.specs.Sums.{AreEdited, has_key, item_at}
 use Rattle.t1_charstrings.proofs.Adding.{alone, text-both}
@@ -102,32 +102,32 @@ merged fresh c = record {
   glyphs = hash_map (fresh.glyphs.entries ++ c.glyphs.entries) (hasher_of c.glyphs) (spare c.glyphs);
 }
 
-merged-at : (fresh c : Charstrings) (k : Key) → kept_at (merged fresh c) k ≡ over fresh c k
+merged-at : (fresh c : Charstrings) (k : Key) → kept_at (merged fresh c) k ≡ fresh_over fresh c k
 merged-at fresh c (Subr n) = lookup-both (nat_eq n) fresh.subrs.entries c.subrs.entries
 merged-at fresh c (Glyph g) = lookup-both (λ key. bytes_eq g key.items) fresh.glyphs.entries c.glyphs.entries
 
-pub merged-line : (fresh c : Charstrings) (o : List ℕ) (i : Item) → kept_line (merged fresh c) o i ≡ line_by (over fresh c) o i
+pub merged-line : (fresh c : Charstrings) (o : List ℕ) (i : Item) → kept_line (merged fresh c) o i ≡ item_line_by (fresh_over fresh c) o i
 merged-line fresh c o (items.Plain l) = refl
 merged-line fresh c o (items.Section before count after) = refl
-merged-line fresh c o (items.Subr n ws closing) = ap (entry_line o closing) (merged-at fresh c (Subr n))
-merged-line fresh c o (items.Glyph g ws closing) = ap (entry_line o closing) (merged-at fresh c (Glyph g))
+merged-line fresh c o (items.Subr n ws closing) = ap (kept_entry_line o closing) (merged-at fresh c (Subr n))
+merged-line fresh c o (items.Glyph g ws closing) = ap (kept_entry_line o closing) (merged-at fresh c (Glyph g))
 
 module _ (keys : List Key) (s made : SourceParts) (c fresh : Charstrings) (batch : IsBatchOf keys s made c) (are : AreFresh (lead made) keys made fresh) where
   -- fresh charstrings over the old ones change what is kept at the one key where the sources differ
   pub over-sets : (key : Key) (body : List Command) → IsOther key (Some body) s made → Sets key (Some (encrypted (lead s) key body)) c (merged fresh c)
   over-sets key body other k = merged-at fresh c k ∙ by (key_eq k key) refl where
     stays : (there : Option (List Command)) → body_at (bodies made.items) k ≡ there → kept_at c k ≡ option_map (encrypted (lead made) k) there
-        → over fresh c k ≡ kept_at c k
+        → fresh_over fresh c k ≡ kept_at c k
     stays (Some b) there old = over-serves keys s made c batch fresh are k b there ∙ sym old
     stays None there old =
         ap (λ f. option_or f (kept_at c k))
         (are k ∙ ap (λ r. cond (list_any (key_eq k) keys) (option_map (encrypted (lead made) k) r) None) there ∙ nothing (list_any (key_eq k) keys))
       where
-        nothing : (b : Bool) → ◌≡◌ {A = Option Kept} (cond b None None) None
+        nothing : (b : Bool) → ◌≡◌ {A = Option KeptCharstring} (cond b None None) None
         nothing true = refl
         nothing false = refl
 
-    by : (b : Bool) → key_eq k key ≡ b → over fresh c k ≡ cond b (Some (encrypted (lead s) key body)) (kept_at c k)
+    by : (b : Bool) → key_eq k key ≡ b → fresh_over fresh c k ≡ cond b (Some (encrypted (lead s) key body)) (kept_at c k)
     by true on =
         let is : k ≡ key = key-same k key on in
         over-serves keys s made c batch fresh are k body (ap (body_at (bodies made.items)) is ∙ other.own)

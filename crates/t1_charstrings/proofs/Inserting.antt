@@ -26,7 +26,7 @@ use Rattle.t1_font.specs.Lengths.{IsPrivateLen}
 use Rattle.t1_charstrings.specs.Lines.{kept_line, kept_text}
 use Rattle.t1_charstrings.specs.Raising.{is_raised_counted, raised_check, raised_text}
 use Rattle.t1_charstrings.specs.Ready.{inserted_len, is_entry}
-use Rattle.t1_charstrings.specs.Sums.{AreEdited, has_key, item_at, section_line, section_text}
+use Rattle.t1_charstrings.specs.Sums.{AreEdited, has_key, item_at, section_line, section_lines_text}
 use Rattle.t1_charstrings.proofs.Adding.{alone, text-both, Alone}
 use Rattle.t1_charstrings.proofs.Entered.{entered, len_small, merged, merged-line, over-sets, IsEntered}
 use Rattle.t1_font.proofs.Checking.{raised-checks}
@@ -102,13 +102,13 @@ no-raised-section subrs glyphs key (items.Plain l) on = refl
 no-raised-section subrs glyphs key (items.Subr n ws closing) on = refl
 no-raised-section subrs glyphs key (items.Glyph g ws closing) on = refl
 
-raised-all : (subrs glyphs : ℕ) (is : List Item) → section_text (map (raised_item subrs glyphs) is) ≡ raised_text subrs glyphs is
+raised-all : (subrs glyphs : ℕ) (is : List Item) → section_lines_text (map (raised_item subrs glyphs) is) ≡ raised_text subrs glyphs is
 raised-all subrs glyphs [] = refl
 raised-all subrs glyphs (i ∷ is) = ap (λ t. section_line (raised_item subrs glyphs i) ++ t) (raised-all subrs glyphs is)
 
 raised-sections : (subrs glyphs : ℕ) (is : List Item) (at : ℕ) (x : Item) → at ≤ length is → section_line (raised_item subrs glyphs x) ≡ []
-    → section_text (map (raised_item subrs glyphs) (insert is at x)) ≡ raised_text subrs glyphs is
-raised-sections subrs glyphs is zero x within none = ap (λ l. l ++ section_text (map (raised_item subrs glyphs) is)) none ∙ raised-all subrs glyphs is
+    → section_lines_text (map (raised_item subrs glyphs) (insert is at x)) ≡ raised_text subrs glyphs is
+raised-sections subrs glyphs is zero x within none = ap (λ l. l ++ section_lines_text (map (raised_item subrs glyphs) is)) none ∙ raised-all subrs glyphs is
 raised-sections subrs glyphs [] (suc at) x within none = absurd (omega (arith, within))
 raised-sections subrs glyphs (i ∷ is) (suc at) x within none =
     ap (λ t. section_line (raised_item subrs glyphs i) ++ t) (raised-sections subrs glyphs is at x (omega (arith, within)) none)
@@ -132,13 +132,13 @@ counted-inserted subrs glyphs (i ∷ is) (suc at) x within on =
     ap (λ b. is_counted (raised_item subrs glyphs i) && b) (counted-inserted subrs glyphs is at x (omega (arith, within)) on)
 
 -- the section lines aren't longer than the text
-sections-within : (c : Charstrings) (o : List ℕ) (is : List Item) → length (section_text is) ≤ length (kept_text c o is)
+sections-within : (c : Charstrings) (o : List ℕ) (is : List Item) → length (section_lines_text is) ≤ length (kept_text c o is)
 sections-within c o [] = omega arith
 sections-within c o (i ∷ is) = by i (sections-within c o is) where
-  by : (i : Item) → length (section_text is) ≤ length (kept_text c o is) → length (section_text (i ∷ is)) ≤ length (kept_text c o (i ∷ is))
+  by : (i : Item) → length (section_lines_text is) ≤ length (kept_text c o is) → length (section_lines_text (i ∷ is)) ≤ length (kept_text c o (i ∷ is))
   by (items.Plain l) h = omega (arith, h, text-both c o (items.Plain l) is)
   by (items.Section before n after) h =
-      omega (arith, h, text-both c o (items.Section before n after) is, length-append (section_line (items.Section before n after)) (section_text is))
+      omega (arith, h, text-both c o (items.Section before n after) is, length-append (section_line (items.Section before n after)) (section_lines_text is))
   by (items.Subr n ws closing) h = omega (arith, h, text-both c o (items.Subr n ws closing) is)
   by (items.Glyph g ws closing) h = omega (arith, h, text-both c o (items.Glyph g ws closing) is)
 
@@ -196,13 +196,13 @@ module _ (s : SourceParts) (c : Charstrings) (at : ℕ) (item : Item) (well : Is
       let edited : AreEdited e.key entry s made c new =
       record { well = well; well_made = edit.well; kept = kept; kept_made = other_kept e.key (Some e.body) s made other c new kept sets; sets = sets } in
       let b = length (kept_line new (operator s) item) in
-      let t = length (section_text s.items) in
-      let r = length (section_text made.items) in
+      let t = length (section_lines_text s.items) in
+      let r = length (section_lines_text made.items) in
       let all = len-of s c n (kept_text_is s c well kept) known small in
       let less = sections-within c (operator s) s.items in
       let text = ap (λ (t : List ℕ). length t) (merged-line fresh c (operator s) item) in
       let sections : r ≡ length (raised_text subrs glyphs s.items) =
-      ap (λ is. length (section_text is)) made-items
+      ap (λ is. length (section_lines_text is)) made-items
       ∙ ap (λ (t : List ℕ). length t) (raised-sections subrs glyphs s.items at item within (no-raised-section subrs glyphs e.key item e.has)) in
       let sum : (((n - t) + b) + r) + t ≡ (n + b) + r = omega (arith, all, less) in
       let whole : len ≡ min (((n - t) + b) + r) (2 ^ 64 - 1) = omega (arith, len_is, text, sections, all, less, small) in

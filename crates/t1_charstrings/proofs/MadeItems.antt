@@ -34,7 +34,7 @@ use Rattle.t1_charstrings.specs.declared.made.Made.{Made}
 use Rattle.t1_charstrings.specs.declared.made.Made.TheVariants as made
 use Rattle.t1_charstrings.specs.declared.edited.EditedEntries.{EditedEntries}
 use Rattle.t1_charstrings.specs.Batch.{AreEdits, IsEditOf}
-use Rattle.t1_charstrings.specs.Made.{is_entry_changed, made_after, made_of, may_set_lead, source_of, IsFor, IsPrepared}
+use Rattle.t1_charstrings.specs.Made.{is_entry_changed, made_after, made_of, may_set_lead, source_of, IsFor, IsPreparedByEdits}
 use Rattle.t1_charstrings.proofs.Entered.{left_front, put_front}
 use Rattle.t1_font.proofs.Checking.{raised-checks, check-both}
 use Rattle.t1_charstrings.proofs.Entering.{body_in, first-body, raised-bodies}
@@ -222,7 +222,7 @@ lead-changed (changes.PutPair at pair) s c fits edit entry = refl
 lead-changed (changes.InsertPair at pair) s c fits edit entry = refl
 lead-changed (changes.RemovePair at) s c fits edit entry = refl
 
-pub lead_kept : (m : Made) (len : ℕ) (c : Charstrings) (entries : EditedEntries) → IsPrepared m len → AreEdits (source_of m) (made_of m) c entries → may_set_lead m ≡ false
+pub lead_kept : (m : Made) (len : ℕ) (c : Charstrings) (entries : EditedEntries) → IsPreparedByEdits m len → AreEdits (source_of m) (made_of m) c entries → may_set_lead m ≡ false
     → lead (made_of m) ≡ lead (source_of m)
 lead_kept (made.Edit source change) len c entries prepared edits off =
     lead-changed change.now source.now c prepared.fits edits.edit (not-false (is_entry_changed change.now source.now) off)

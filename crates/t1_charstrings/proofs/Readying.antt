@@ -12,20 +12,20 @@ use Rattle.t1_font.specs.Bodies.{bodies, bodies_check}
 use Rattle.t1_font.proofs.LengthLaws.{body_fault_reported}
 use Rattle.t1_charstrings.specs.declared.entries.Charstrings.{Charstrings}
 use Rattle.t1_charstrings.specs.declared.settling.ReadyCharstrings.TheVariants as ready
-use Rattle.t1_charstrings.specs.Changed.{AreUnchanged}
-use Rattle.t1_charstrings.specs.Entries.{encrypted, glyph_kept, subr_kept}
+use Rattle.t1_charstrings.specs.Changed.{AreSameCharstrings}
+use Rattle.t1_charstrings.specs.Entries.{encrypted, glyph_charstring, subr_charstring}
 use Rattle.t1_charstrings.specs.Kept.{AreEncrypted, kept_at}
 use Rattle.t1_font.specs.Lengths.{IsPrivateLen}
 use Rattle.t1_charstrings.specs.Ready.{IsReadyLines}
 use Rattle.t1_font.proofs.Keys.{at-key}
 
 -- the same entries are the charstrings of the same source
-pub unchanged : (s : SourceParts) (old new : Charstrings) → AreUnchanged old new → AreEncrypted s old → AreEncrypted s new
+pub unchanged : (s : SourceParts) (old new : Charstrings) → AreSameCharstrings old new → AreEncrypted s old → AreEncrypted s new
 unchanged s old new same kept = record {
   sound = kept.sound;
   each = at-key (λ k. kept_at new k ≡ option_map (encrypted (lead s) k) (body_at (bodies s.items) k))
-      (λ n. ap (λ es. subr_kept es n) same.0 ∙ kept.each (Subr n))
-      (λ g. ap (λ es. glyph_kept es g) same.1 ∙ kept.each (Glyph g));
+      (λ n. ap (λ es. subr_charstring es n) same.0 ∙ kept.each (Subr n))
+      (λ g. ap (λ es. glyph_charstring es g) same.1 ∙ kept.each (Glyph g));
 }
 
 -- all were encrypted anew

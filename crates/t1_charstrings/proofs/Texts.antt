@@ -24,14 +24,14 @@ use Rattle.t1_code.specs.Pfb.{entry_text}
 use Rattle.t1_code.specs.Words.{commands}
 use Rattle.t1_run.specs.Run.{Key, Subr, Glyph, body_at}
 use Rattle.t1_run.proofs.Asked.{eq_self}
-use Rattle.t1_font.specs.Assembly.{item_line, private_text, entry_line as font_line}
+use Rattle.t1_font.specs.Assembly.{entry_line as font_line, item_line, private_text}
 use Rattle.t1_font.specs.Bodies.{bodies, bodies_check, body_check, glyph_among, glyph_in, subr_among, subr_in, words_check}
 use Rattle.t1_charstrings.specs.declared.entries.Charstrings.{Charstrings}
-use Rattle.t1_charstrings.specs.Batch.{line_by, text_by}
-use Rattle.t1_charstrings.specs.Entries.{Kept, encrypted, head_of}
+use Rattle.t1_charstrings.specs.Batch.{item_line_by, text_by}
+use Rattle.t1_charstrings.specs.Entries.{KeptCharstring, encrypted, head_of}
 use Rattle.t1_charstrings.specs.Kept.{kept_at}
 use Rattle.t1_charstrings.specs.Laws.{KeptTextLaw}
-use Rattle.t1_charstrings.specs.Lines.{entry_line, kept_line}
+use Rattle.t1_charstrings.specs.Lines.{kept_entry_line, kept_line}
 
 -- ---- each entry is the first of its key
 
@@ -82,20 +82,20 @@ glyph-past g (i ∷ a) b h =
 -- ---- a line, and all lines
 
 -- at the key of each body of these items its charstring is kept
-abbrev pub Serves : ℕ → List Item → (Key → Option Kept) → Type 0
+abbrev pub Serves : ℕ → List Item → (Key → Option KeptCharstring) → Type 0
 Serves front all at = (k : Key) (body : List Command) → body_at (bodies all) k ≡ Some body → at k ≡ Some (encrypted front k body)
 
-line-of : (front : ℕ) (name closing : List ℕ) (place : Place) (key : Key) (r : Result (List Command) Code) (kept : Option Kept)
+line-of : (front : ℕ) (name closing : List ℕ) (place : Place) (key : Key) (r : Result (List Command) Code) (kept : Option KeptCharstring)
     → ((body : List Command) → result_ok r ≡ Some body → kept ≡ Some (encrypted front key body))
     → ◌≡◌ {A = Result (Unit {0}) Fault} (reported_at place r >>= λ _. Ok tt) (Ok tt)
     → ◌≡◌ {A = Result (List ℕ) Fault} (reported_at place r >>= λ body. Ok (entry_text (head_of key) name (encrypted_charstring front (charstring body)) closing))
-    (Ok (entry_line name closing kept))
-line-of front name closing place key (Ok body) kept is h = sym (ap (λ k. Ok (entry_line name closing k)) (is body refl))
+    (Ok (kept_entry_line name closing kept))
+line-of front name closing place key (Ok body) kept is h = sym (ap (λ k. Ok (kept_entry_line name closing k)) (is body refl))
 line-of front name closing place key (Err code) kept is h = absurd (cc)
 
-line-kept : (front : ℕ) (name : List ℕ) (at : Key → Option Kept) (all : List Item) → Serves front all at
+line-kept : (front : ℕ) (name : List ℕ) (at : Key → Option KeptCharstring) (all : List Item) → Serves front all at
     → (earlier : List Item) (i : Item) (is : List Item) → all ≡ earlier ++ i ∷ is → IsFirst earlier i → body_check i ≡ Ok tt
-    → item_line front name i ≡ Ok (line_by at name i)
+    → item_line front name i ≡ Ok (item_line_by at name i)
 unfolding font_line words_check
 line-kept front name at all each earlier (items.Plain l) is whole first sound = refl
 line-kept front name at all each earlier (items.Section before n after) is whole first sound = refl
@@ -118,7 +118,7 @@ pub both_fine : (a b : Result (Unit {0}) Fault) → (a >>= λ _. b) ≡ Ok tt �
 both_fine (Ok tt) b h = (refl, h)
 both_fine (Err fault) b h = absurd (cc)
 
-text-kept : (front : ℕ) (name : List ℕ) (at : Key → Option Kept) (all : List Item) → Serves front all at
+text-kept : (front : ℕ) (name : List ℕ) (at : Key → Option KeptCharstring) (all : List Item) → Serves front all at
     → (earlier is : List Item) → all ≡ earlier ++ is → AreFirst earlier is → bodies_check is ≡ Ok tt
     → private_text front name is ≡ Ok (text_by at name is)
 text-kept front name at all each earlier [] whole first sound = refl
@@ -129,14 +129,14 @@ text-kept front name at all each earlier (i ∷ is) whole first sound =
     rw (line, rest) refl
 
 -- the private text of a source is that of what is kept at the keys of its bodies
-pub text_by_is : (s : SourceParts) (at : Key → Option Kept) → IsWellFormed s → bodies_check s.items ≡ Ok tt → Serves (lead s) s.items at
+pub text_by_is : (s : SourceParts) (at : Key → Option KeptCharstring) → IsWellFormed s → bodies_check s.items ≡ Ok tt → Serves (lead s) s.items at
     → private_text (lead s) (operator s) s.items ≡ Ok (text_by at (operator s) s.items)
 text_by_is s at well sound each =
     let p = well.items in
     text-kept (lead s) (operator s) at s.items each [] s.items refl
     (subst (AreFirst []) (sym p.whole) (first-all [] p.inner p.closefile p.stand)) sound
 
-kept-line : (c : Charstrings) (name : List ℕ) (i : Item) → line_by (kept_at c) name i ≡ kept_line c name i
+kept-line : (c : Charstrings) (name : List ℕ) (i : Item) → item_line_by (kept_at c) name i ≡ kept_line c name i
 kept-line c name (items.Plain l) = refl
 kept-line c name (items.Section before n after) = refl
 kept-line c name (items.Subr n ws closing) = refl

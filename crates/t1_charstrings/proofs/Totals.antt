@@ -16,7 +16,7 @@ use Rattle.t1_run.specs.Run.{Key, Subr, Glyph}
 use Rattle.t1_charstrings.specs.declared.entries.Charstrings.{Charstrings}
 use Rattle.t1_font.specs.Lengths.{IsPrivateLen}
 use Rattle.t1_charstrings.specs.Lines.{kept_text}
-use Rattle.t1_charstrings.specs.Sums.{has_key, item_at, section_line, section_text, InsertSumLaw, PutSumLaw, RemoveSumLaw}
+use Rattle.t1_charstrings.specs.Sums.{has_key, item_at, section_line, section_lines_text, InsertSumLaw, PutSumLaw, RemoveSumLaw}
 use Rattle.t1_charstrings.proofs.Adding.{inserted_len, put_len, raised_len, remove_len}
 use Rattle.t1_font.proofs.Lookups.{bytes_tell, numbers_tell}
 use Rattle.t1_charstrings.proofs.Texts.{kept_text_is}
@@ -86,8 +86,8 @@ named found = unwrap_or (option_and_then operator_on (option_and_then plain_line
 
 -- ---- section lines
 
-sections-inserted : (is : List Item) (at : ℕ) (x : Item) → at ≤ length is → section_line x ≡ [] → section_text (insert is at x) ≡ section_text is
-sections-inserted is zero x within none = ap (λ l. l ++ section_text is) none
+sections-inserted : (is : List Item) (at : ℕ) (x : Item) → at ≤ length is → section_line x ≡ [] → section_lines_text (insert is at x) ≡ section_lines_text is
+sections-inserted is zero x within none = ap (λ l. l ++ section_lines_text is) none
 sections-inserted [] (suc at) x within none = absurd (omega (arith, within))
 sections-inserted (i ∷ is) (suc at) x within none = ap (λ l. section_line i ++ l) (sections-inserted is at x (omega (arith, within)) none)
 
@@ -143,5 +143,5 @@ insert_sum key entry s made old new edited at item within none also made_is n m 
     let up = raised_len more-items new (operator s) in
     let others = ap (λ (t : List ℕ). length t) (sections-inserted s.items at item within (no-section key item also)) in
     let now = ap (λ is. length (kept_text new (operator s) is)) items_are in
-    let sections = ap (λ is. length (section_text is)) items_are in
+    let sections = ap (λ is. length (section_lines_text is)) items_are in
     len-is made new (operator s) m (kept_text_is made new edited.well_made edited.kept_made) name (omega (arith, was, more, up, others, now, sections, sum))

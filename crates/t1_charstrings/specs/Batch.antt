@@ -15,24 +15,24 @@ use Rattle.t1_charstrings.specs.declared.edited.EditedEntries.{EditedEntries}
 use Rattle.t1_charstrings.specs.declared.edited.Gone.{Gone}
 use Rattle.t1_charstrings.specs.declared.edited.Gone.TheVariants as gone
 use Rattle.t1_charstrings.specs.declared.entries.Charstrings.{Charstrings}
-use Rattle.t1_charstrings.specs.Entries.{Kept, encrypted}
+use Rattle.t1_charstrings.specs.Entries.{KeptCharstring, encrypted}
 use Rattle.t1_charstrings.specs.Kept.{AreEncrypted, kept_at}
-use Rattle.t1_charstrings.specs.Lines.{entry_line}
+use Rattle.t1_charstrings.specs.Lines.{kept_entry_line}
 
 -- word: what fresh charstrings keep at a key, or else what the old ones do
-abbrev pub over : Charstrings → Charstrings → Key → Option Kept
-over fresh old k = option_or (kept_at fresh k) (kept_at old k)
+abbrev pub fresh_over : Charstrings → Charstrings → Key → Option KeptCharstring
+fresh_over fresh old k = option_or (kept_at fresh k) (kept_at old k)
 
 -- Type 1 Font Format, Chapter 2: the line of an item of the private part, by what is kept at each key
-abbrev pub line_by : (Key → Option Kept) → List ℕ → Item → List ℕ
-line_by at operator (items.Plain line) = line ++ line_feed ∷ []
-line_by at operator (items.Section before count after) = before ++ decimal count ++ after ++ line_feed ∷ []
-line_by at operator (items.Subr number words closing) = entry_line operator closing (at (Subr number))
-line_by at operator (items.Glyph name words closing) = entry_line operator closing (at (Glyph name))
+abbrev pub item_line_by : (Key → Option KeptCharstring) → List ℕ → Item → List ℕ
+item_line_by at operator (items.Plain line) = line ++ line_feed ∷ []
+item_line_by at operator (items.Section before count after) = before ++ decimal count ++ after ++ line_feed ∷ []
+item_line_by at operator (items.Subr number words closing) = kept_entry_line operator closing (at (Subr number))
+item_line_by at operator (items.Glyph name words closing) = kept_entry_line operator closing (at (Glyph name))
 
 -- word: the lines of the items, one after another
-abbrev pub text_by : (Key → Option Kept) → List ℕ → List Item → List ℕ
-text_by at operator items = flat_map (line_by at operator) items
+abbrev pub text_by : (Key → Option KeptCharstring) → List ℕ → List Item → List ℕ
+text_by at operator items = flat_map (item_line_by at operator) items
 
 -- word: whether the charstring of an item's entry is kept
 abbrev pub has_line : Charstrings → Item → Bool

@@ -11,7 +11,7 @@ use Rattle.t1_code.specs.Cipher.{encrypted_charstring}
 use Rattle.t1_run.specs.Run.{Key, Subr, Glyph}
 
 -- word: what is kept of an entry: `dup N` or `/NAME`, and its encrypted charstring
-pub record Kept : Type 0 where
+pub record KeptCharstring : Type 0 where
   pub head : List ℕ
   pub charstring : List ℕ
 
@@ -21,13 +21,13 @@ head_of (Subr n) = codes "dup " ++ decimal n
 head_of (Glyph g) = slash ∷ g
 
 -- Type 1 Font Format, Chapter 7: a body, encrypted with so many leading bytes
-abbrev pub encrypted : ℕ → Key → List Command → Kept
+abbrev pub encrypted : ℕ → Key → List Command → KeptCharstring
 encrypted lead key body = record { head = head_of key; charstring = encrypted_charstring lead (charstring body) }
 
 -- word: what is kept under a number
-abbrev pub subr_kept : List (ℕ × Kept) → ℕ → Option Kept
-subr_kept entries n = lookup (nat_eq n) entries
+abbrev pub subr_charstring : List (ℕ × KeptCharstring) → ℕ → Option KeptCharstring
+subr_charstring entries n = lookup (nat_eq n) entries
 
 -- word: what is kept under a name
-abbrev pub glyph_kept : List (Vec ℕ Global × Kept) → List ℕ → Option Kept
-glyph_kept entries g = lookup (λ key. bytes_eq g key.items) entries
+abbrev pub glyph_charstring : List (Vec ℕ Global × KeptCharstring) → List ℕ → Option KeptCharstring
+glyph_charstring entries g = lookup (λ key. bytes_eq g key.items) entries

@@ -6,12 +6,12 @@ use Rattle.t1_parts.specs.SourceParts.{SourceParts}
 use Rattle.t1_run.specs.Run.{FontBodies, Key, Subr, Glyph, body_at}
 use Rattle.t1_font.specs.Bodies.{bodies, bodies_check}
 use Rattle.t1_charstrings.specs.declared.entries.Charstrings.{Charstrings}
-use Rattle.t1_charstrings.specs.Entries.{Kept, encrypted, glyph_kept, subr_kept}
+use Rattle.t1_charstrings.specs.Entries.{KeptCharstring, encrypted, glyph_charstring, subr_charstring}
 
 -- word: what is kept at a key
-abbrev pub kept_at : Charstrings → Key → Option Kept
-kept_at c (Subr n) = subr_kept c.subrs.entries n
-kept_at c (Glyph g) = glyph_kept c.glyphs.entries g
+abbrev pub kept_at : Charstrings → Key → Option KeptCharstring
+kept_at c (Subr n) = subr_charstring c.subrs.entries n
+kept_at c (Glyph g) = glyph_charstring c.glyphs.entries g
 
 -- word: each body of the font is kept, encrypted with so many leading bytes, and nothing else
 abbrev pub Encrypt : ℕ → FontBodies → Charstrings → Type 0

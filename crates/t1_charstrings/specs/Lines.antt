@@ -8,26 +8,26 @@ use Rattle.t1_code.specs.Pfb.{entry_text}
 use Rattle.t1_charstrings.specs.declared.entries.Charstrings.{Charstrings}
 use Rattle.t1_charstrings.specs.declared.lines.KeptLine.{KeptLine}
 use Rattle.t1_charstrings.specs.declared.lines.KeptLine.TheVariants as lines
-use Rattle.t1_charstrings.specs.Entries.{Kept, glyph_kept, subr_kept}
+use Rattle.t1_charstrings.specs.Entries.{KeptCharstring, glyph_charstring, subr_charstring}
 
 -- Type 1 Font Format, Chapter 2: the line of an entry, and nothing where its charstring isn't kept
-abbrev pub entry_line : List ℕ → List ℕ → Option Kept → List ℕ
-entry_line operator closing None = []
-entry_line operator closing (Some kept) = entry_text kept.head operator kept.charstring closing
+abbrev pub kept_entry_line : List ℕ → List ℕ → Option KeptCharstring → List ℕ
+kept_entry_line operator closing None = []
+kept_entry_line operator closing (Some kept) = entry_text kept.head operator kept.charstring closing
 
 -- Type 1 Font Format, Chapter 2: the line of an item of the private part
 abbrev pub kept_line : Charstrings → List ℕ → Item → List ℕ
 kept_line c operator (Plain line) = line ++ line_feed ∷ []
 kept_line c operator (Section before count after) = before ++ decimal count ++ after ++ line_feed ∷ []
-kept_line c operator (Subr number words closing) = entry_line operator closing (subr_kept c.subrs.entries number)
-kept_line c operator (Glyph name words closing) = entry_line operator closing (glyph_kept c.glyphs.entries name)
+kept_line c operator (Subr number words closing) = kept_entry_line operator closing (subr_charstring c.subrs.entries number)
+kept_line c operator (Glyph name words closing) = kept_entry_line operator closing (glyph_charstring c.glyphs.entries name)
 
 -- word: the lines of the items, one after another
 abbrev pub kept_text : Charstrings → List ℕ → List Item → List ℕ
 kept_text c operator items = flat_map (kept_line c operator) items
 
 -- word: the bytes of a line that is ready to be written
-abbrev pub line_text : KeptLine → List ℕ
-line_text (lines.Plain bytes) = bytes.now ++ line_feed ∷ []
-line_text (lines.Text bytes) = bytes.items
-line_text (lines.Entry entry operator closing) = entry_text entry.now.head operator.now entry.now.charstring closing.now
+abbrev pub kept_line_text : KeptLine → List ℕ
+kept_line_text (lines.Plain bytes) = bytes.now ++ line_feed ∷ []
+kept_line_text (lines.Text bytes) = bytes.items
+kept_line_text (lines.Entry entry operator closing) = entry_text entry.now.head operator.now entry.now.charstring closing.now

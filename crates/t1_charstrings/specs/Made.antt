@@ -57,9 +57,9 @@ pub record IsFor (change : Change) (s : SourceParts) : Type 0 where
   pub well : IsWellFormed s
 
 -- word, edits: the source is one that edits make
-abbrev pub IsMade : Made → Type 0
-IsMade (made.Edit source change) = IsFor change.now source.now
-IsMade (made.Batch source made) = IsWellFormed made.now
+abbrev pub IsMadeByEdits : Made → Type 0
+IsMadeByEdits (made.Edit source change) = IsFor change.now source.now
+IsMadeByEdits (made.Batch source made) = IsWellFormed made.now
 
 -- word, edits: the change can be made of the source, which has its files, and whose private text is so long
 pub record IsPreparedFor (change : Change) (s : SourceParts) (len : ℕ) : Type 0 where
@@ -68,6 +68,6 @@ pub record IsPreparedFor (change : Change) (s : SourceParts) (len : ℕ) : Type 
   pub known : IsPrivateLen s len
 
 -- word, edits: one edit was prepared for a source of which so much is known; of a batch nothing is asked
-abbrev pub IsPrepared : Made → ℕ → Type 0
-IsPrepared (made.Edit source change) len = IsPreparedFor change.now source.now len
-IsPrepared (made.Batch source made) len = Unit {0}
+abbrev pub IsPreparedByEdits : Made → ℕ → Type 0
+IsPreparedByEdits (made.Edit source change) len = IsPreparedFor change.now source.now len
+IsPreparedByEdits (made.Batch source made) len = Unit {0}

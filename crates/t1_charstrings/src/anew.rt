@@ -3,7 +3,7 @@ ghost use Rattle.std.specs.Prelude.{IfOk};
 ghost use Rattle.t1_frac.specs.Outcome.{Gives};
 ghost use Rattle.t1_source.specs.WellFormed.{IsWellFormed};
 ghost use Rattle.t1_font.specs.Assembly.{file_check};
-ghost use Rattle.t1_charstrings.specs.Made.{made_of, IsMade};
+ghost use Rattle.t1_charstrings.specs.Made.{made_of, IsMadeByEdits};
 ghost use Rattle.t1_charstrings.specs.Ready.{IsReadyLines};
 
 use crate::entries::Charstrings;
@@ -13,10 +13,11 @@ use std::alloc::Global;
 use t1_font::check_parts;
 use t1_frac::Refusal;
 
-/// The charstrings of a source that edits make, all encrypted anew, and the length of its private text; or the first fault of
-/// the source. Nothing of a source is changed or copied. Settled, the charstrings take the place of any that were kept.
+/// The charstrings of a source that edits make, all encrypted anew, and the length of its private
+/// text; or the first fault of the source. Nothing of a source is changed or copied. Settled, the
+/// charstrings take the place of any that were kept.
 pub(crate) fn prepare_anew(alloc: Global, made: &Made) -> Result<ReadyLines, Refusal>
-    requires made { IsMade made.now }
+    requires made { IsMadeByEdits made.now }
     requires well { IsWellFormed (made_of made.now) }
     ensures judged { Gives (λ _. tt) result (file_check (made_of made.now)) }
     ensures ready { (c : Charstrings) → IfOk result (IsReadyLines (made_of made.now) c) }

@@ -19,8 +19,8 @@ use t1_font::{check_counts, check_parts};
 use t1_frac::Fault;
 use t1_source::Source;
 
-/// How long the private text is of a source that a batch made of one with the same lenIV, or the first fault of the source. The
-/// items are gone through once, and their counts once more.
+/// How long the private text is of a source that a batch made of one with the same lenIV, or the
+/// first fault of the source. The items are gone through once, and their counts once more.
 #[tactic(auto, unfolding(t1_font::specs::Assembly::file_check))]
 pub(crate) fn len_of_batch(
     charstrings: &Charstrings,
@@ -30,7 +30,8 @@ pub(crate) fn len_of_batch(
 ) -> Result<usize, Fault>
     requires lead { lead made.now ≡ lead source.now }
     requires edits { AreEdits source.now made.now charstrings.now entries.now }
-    ensures judged { MatchResult result (λ _. file_check made.now ≡ Ok tt) (λ fault. file_check made.now ≡ Err fault) }
+    ensures judged { MatchResult result (λ _. file_check made.now ≡ Ok tt)
+        (λ fault. file_check made.now ≡ Err fault) }
     ensures len { IfOk result (IsPrivateLen made.now) }
 {
     let len = batch_len(charstrings, &entries.fresh, made);

@@ -7,8 +7,9 @@ ghost use Rattle.t1_frac.specs.Outcome.{Gives};
 ghost use Rattle.t1_frac.specs.declared.fault.Place.TheVariants as places;
 ghost use Rattle.t1_code.specs.Words.{commands};
 ghost use Rattle.t1_run.specs.Run.{Key, Subr, Glyph, body_at};
-ghost use Rattle.t1_font.specs.Bodies.{bodies, bodies_check, body_check, glyph_in, subr_in, words_check};
-ghost use Rattle.t1_charstrings.specs.Entries.{encrypted, glyph_kept, subr_kept};
+ghost use Rattle.t1_font.specs.Bodies.{bodies, bodies_check, body_check, glyph_in, subr_in};
+ghost use Rattle.t1_font.specs.Bodies.{words_check};
+ghost use Rattle.t1_charstrings.specs.Entries.{encrypted, glyph_charstring, subr_charstring};
 ghost use Rattle.t1_charstrings.specs.Kept.{kept_at, AreEncrypted};
 
 use crate::entries::{Charstrings, Entry, no_charstrings};
@@ -63,7 +64,12 @@ fn add_subr(
     words: &Words,
 ) -> Result<(), Refusal>
     ensures checked { Gives (λ x. x) result (words_check (places.Subr number) words.now) }
-    ensures kept { OnOk result ((n : ℕ) → subr_kept subrs.new.entries n ≡ option_or (subr_kept subrs.old.entries n) (option_map (encrypted lead (Subr n)) (if n == number then result_ok (commands words.now) else None))) }
+    ensures kept { OnOk result
+        ((n : ℕ)
+        → subr_charstring subrs.new.entries n
+        ≡ option_or (subr_charstring subrs.old.entries n)
+        (option_map (encrypted lead (Subr n))
+        (if n == number then result_ok (commands words.now) else None))) }
 {
     let body = compiled_subr(alloc, number, words)?;
     if subrs.contains_key(&number) {
@@ -84,7 +90,12 @@ fn add_glyph(
     words: &Words,
 ) -> Result<(), Refusal>
     ensures checked { Gives (λ x. x) result (words_check (places.Glyph name.now) words.now) }
-    ensures kept { OnOk result ((g : List ℕ) → glyph_kept glyphs.new.entries g ≡ option_or (glyph_kept glyphs.old.entries g) (option_map (encrypted lead (Glyph g)) (if bytes_eq g name.now then result_ok (commands words.now) else None))) }
+    ensures kept { OnOk result
+        ((g : List ℕ)
+        → glyph_charstring glyphs.new.entries g
+        ≡ option_or (glyph_charstring glyphs.old.entries g)
+        (option_map (encrypted lead (Glyph g))
+        (if bytes_eq g name.now then result_ok (commands words.now) else None))) }
 {
     let body = compiled_glyph(alloc, name, words)?;
     if glyphs.contains_key(name) {
@@ -104,8 +115,16 @@ fn add_item(
     item: &Item,
 ) -> Result<(), Refusal>
     ensures checked { Gives (λ x. x) result (body_check item.now) }
-    ensures subrs { OnOk result ((n : ℕ) → subr_kept subrs.new.entries n ≡ option_or (subr_kept subrs.old.entries n) (option_map (encrypted lead (Subr n)) (subr_in item.now n))) }
-    ensures glyphs { OnOk result ((g : List ℕ) → glyph_kept glyphs.new.entries g ≡ option_or (glyph_kept glyphs.old.entries g) (option_map (encrypted lead (Glyph g)) (glyph_in item.now g))) }
+    ensures subrs { OnOk result
+        ((n : ℕ)
+        → subr_charstring subrs.new.entries n
+        ≡ option_or (subr_charstring subrs.old.entries n)
+        (option_map (encrypted lead (Subr n)) (subr_in item.now n))) }
+    ensures glyphs { OnOk result
+        ((g : List ℕ)
+        → glyph_charstring glyphs.new.entries g
+        ≡ option_or (glyph_charstring glyphs.old.entries g)
+        (option_map (encrypted lead (Glyph g)) (glyph_in item.now g))) }
 {
     match item {
         Item::Subr(number, words, _) => add_subr(alloc, lead, subrs, *number, words),
@@ -115,8 +134,9 @@ fn add_item(
     }
 }
 
-/// Adds the charstrings of the items, encrypted with so many leading bytes, where there are none of their keys; or answers the
-/// first fault of a body, at its entry. Lines that stand together are passed over as a whole.
+/// Adds the charstrings of the items, encrypted with so many leading bytes, where there are none of
+/// their keys; or answers the first fault of a body, at its entry. Lines that stand together are
+/// passed over as a whole.
 pub(crate) fn add_items(
     alloc: Global,
     lead: u8,
@@ -124,7 +144,11 @@ pub(crate) fn add_items(
     items: &ItemsIter,
 ) -> Result<(), Refusal>
     ensures checked { Gives (λ x. x) result (bodies_check items.now) }
-    ensures kept { OnOk result ((k : Key) → kept_at charstrings.new k ≡ option_or (kept_at charstrings.old k) (option_map (encrypted lead k) (body_at (bodies items.now) k))) }
+    ensures kept { OnOk result
+        ((k : Key)
+        → kept_at charstrings.new k
+        ≡ option_or (kept_at charstrings.old k)
+        (option_map (encrypted lead k) (body_at (bodies items.now) k))) }
 {
     for item in items.again().alone() {
         add_item(

@@ -4,8 +4,8 @@ use indexmap::IndexMap;
 use std::alloc::{AllocError, Global};
 use std::marker::Model;
 
-/// What is kept of an entry: the beginning of its line, and its encrypted charstring. Both stand in one block, so that a print
-/// has one far read of them.
+/// What is kept of an entry: the beginning of its line, and its encrypted charstring. Both stand in
+/// one block, so that a print has one far read of them.
 #[derive(Drop)]
 pub struct Entry {
     bytes: Vec<u8>,
@@ -15,11 +15,16 @@ pub struct Entry {
 
 impl Model for Entry {
     ghost use Rattle.std.specs.Prelude.{take, drop, length, ◌≤◌};
-    ghost use Rattle.t1_charstrings.specs.Entries.{Kept};
+    ghost use Rattle.t1_charstrings.specs.Entries.{KeptCharstring};
 
-    ghost Value = { Kept };
+    ghost Value = { KeptCharstring };
 
-    ghost view = { λ entry. record { head = take entry.start entry.bytes.items; charstring = drop entry.start entry.bytes.items } };
+    ghost view = { λ entry.
+        record {
+          head = take entry.start entry.bytes.items;
+          charstring = drop entry.start
+              entry.bytes.items;
+        } };
 
     ghost invariant = { λ entry. entry.start ≤ length entry.bytes.items };
 }
@@ -61,7 +66,8 @@ impl Entry {
     }
 }
 
-/// What is kept of a font's Subrs, by their numbers, and of its glyphs, by their names. The order says nothing.
+/// What is kept of a font's Subrs, by their numbers, and of its glyphs, by their names. The order
+/// says nothing.
 #[derive(Drop)]
 pub struct Charstrings {
     pub subrs: IndexMap<u16, Entry>,

@@ -21,7 +21,8 @@ pub(crate) fn write_parts<F: FileForm, W: Write>(
     trailer: &[u8],
     out: &mut Counted<W>,
 ) -> Result<(), OutError>
-    ensures { Prints W.contents out.old out.new (F.file form.now clear.now (flat_map piece_text pieces.now) trailer.now) result }
+    ensures { Prints W.contents out.old out.new
+        (F.file form.now clear.now (flat_map piece_text pieces.now) trailer.now) result }
 {
     let parts = Parts {
         clear,
@@ -31,9 +32,9 @@ pub(crate) fn write_parts<F: FileForm, W: Write>(
     write_file(form, &parts, out)
 }
 
-/// Writes the file of a source in a form, with the charstrings that are kept: nothing is compiled or encrypted but the whole
-/// by eexec, and no file is made in memory. The whole file at `Ok`, a beginning of it at `Write`; nothing is written at F23,
-/// nor where memory runs out.
+/// Writes the file of a source in a form, with the charstrings that are kept: nothing is compiled
+/// or encrypted but the whole by eexec, and no file is made in memory. The whole file at `Ok`, a
+/// beginning of it at `Write`; nothing is written at F23, nor where memory runs out.
 pub fn write_kept_file<F: FileForm, W: Write>(
     alloc: Global,
     charstrings: &Charstrings,

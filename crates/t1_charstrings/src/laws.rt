@@ -1,6 +1,7 @@
 //! Laws of the charstrings that are kept.
 ghost use Rattle.t1_charstrings.specs.Laws.{KeptTextLaw};
-ghost use Rattle.t1_charstrings.specs.Sums.{InsertLenLaw, InsertSumLaw, PutLenLaw, PutSumLaw, RaisedLenLaw, RemoveLenLaw, RemoveSumLaw};
+ghost use Rattle.t1_charstrings.specs.Sums.{InsertLenLaw, InsertSumLaw, PutLenLaw, PutSumLaw};
+ghost use Rattle.t1_charstrings.specs.Sums.{RaisedLenLaw, RemoveLenLaw, RemoveSumLaw};
 
 /// The private text of a source is that of the charstrings that are kept of it.
 pub fn kept_text()
@@ -27,7 +28,8 @@ pub fn raised_len()
     ensures { RaisedLenLaw }
 {}
 
-/// The length of the private text of a source in which an entry was put in the place of that of its key.
+/// The length of the private text of a source in which an entry was put in the place of that of its
+/// key.
 pub fn put_sum()
     ensures { PutSumLaw }
 {}

@@ -1,5 +1,6 @@
 //! How long the private text is, and whether a part of the PFB file is too long.
-ghost use Rattle.std.specs.Prelude.{◌≡◌, ◌^◌, ◌-◌, ◌∷◌, ◌++◌, [], Some, decimal, min, length, option_copied};
+ghost use Rattle.std.specs.Prelude.{◌≡◌, ◌^◌, ◌-◌, ◌∷◌, ◌++◌, [], Some, decimal, min, length};
+ghost use Rattle.std.specs.Prelude.{option_copied};
 ghost use Rattle.t1_frac.specs.Ascii.{line_feed};
 ghost use Rattle.t1_code.specs.Pfb.{closing_text};
 ghost use Rattle.t1_parts.specs.ItemRefs.{item_of};
@@ -7,8 +8,8 @@ ghost use Rattle.t1_source.specs.WellFormed.{IsWellFormed};
 ghost use Rattle.t1_font.specs.Assembly.{length_check};
 ghost use Rattle.t1_charstrings.specs.Kept.{AreEncrypted};
 ghost use Rattle.t1_font.specs.Lengths.{IsPrivateLen};
-ghost use Rattle.t1_charstrings.specs.Lines.{entry_line, kept_line, kept_text};
-ghost use Rattle.t1_charstrings.specs.Sums.{section_line, section_text};
+ghost use Rattle.t1_charstrings.specs.Lines.{kept_entry_line, kept_line, kept_text};
+ghost use Rattle.t1_charstrings.specs.Sums.{section_line, section_lines_text};
 
 use crate::entries::{Charstrings, Entry};
 use itoa::Buffer;
@@ -30,7 +31,8 @@ fn closing_len(closing: &[u8]) -> usize
 
 /// How long the line of an entry is, up to 2^64 - 1.
 pub fn entry_line_len(operator: &[u8], entry: &Entry, closing: &[u8]) -> usize
-    ensures { result ≡ min (length (entry_line operator.now closing.now (Some entry.now))) (2 ^ 64 - 1) }
+    ensures { result
+        ≡ min (length (kept_entry_line operator.now closing.now (Some entry.now))) (2 ^ 64 - 1) }
 {
     let digits = Buffer::new().format(entry.charstring().len()).len();
     // Three spaces and the line's end.
@@ -44,7 +46,9 @@ pub fn entry_line_len(operator: &[u8], entry: &Entry, closing: &[u8]) -> usize
 
 /// How long the line of an entry is whose charstring may be kept, up to 2^64 - 1; 0 where it isn't.
 fn kept_line_len(operator: &[u8], kept: Option<&Entry>, closing: &[u8]) -> usize
-    ensures { result ≡ min (length (entry_line operator.now closing.now (option_copied kept.entry))) (2 ^ 64 - 1) }
+    ensures { result
+        ≡ min (length (kept_entry_line operator.now closing.now (option_copied kept.entry)))
+        (2 ^ 64 - 1) }
 {
     match kept {
         None => 0,
@@ -54,7 +58,8 @@ fn kept_line_len(operator: &[u8], kept: Option<&Entry>, closing: &[u8]) -> usize
 
 /// How long a section line is, up to 2^64 - 1.
 pub(crate) fn section_line_len(before: &[u8], count: u64, after: &[u8]) -> usize
-    ensures { result ≡ min (length (before.now ++ decimal count ++ after.now ++ line_feed ∷ [])) (2 ^ 64 - 1) }
+    ensures { result
+        ≡ min (length (before.now ++ decimal count ++ after.now ++ line_feed ∷ [])) (2 ^ 64 - 1) }
 {
     let digits = Buffer::new().format(count).len();
     digits
@@ -85,7 +90,8 @@ pub fn line_len(charstrings: &Charstrings, operator: &[u8], item: &Item) -> usiz
 
 /// How long the line of an item is, where it stands, up to 2^64 - 1.
 pub(crate) fn line_ref_len(charstrings: &Charstrings, operator: &[u8], item: &ItemRef) -> usize
-    ensures { result ≡ min (length (kept_line charstrings.now operator.now (item_of item.now))) (2 ^ 64 - 1) }
+    ensures { result
+        ≡ min (length (kept_line charstrings.now operator.now (item_of item.now))) (2 ^ 64 - 1) }
 {
     match item {
         ItemRef::Line(line) => line.len().saturating_add(1),
@@ -95,7 +101,8 @@ pub(crate) fn line_ref_len(charstrings: &Charstrings, operator: &[u8], item: &It
 
 /// How long the lines of the items are, up to 2^64 - 1.
 fn items_len(charstrings: &Charstrings, operator: &[u8], items: &Items) -> usize
-    ensures { result ≡ min (length (kept_text charstrings.now operator.now items.now)) (2 ^ 64 - 1) }
+    ensures { result
+        ≡ min (length (kept_text charstrings.now operator.now items.now)) (2 ^ 64 - 1) }
 {
     let mut total: usize = 0;
     for item in items.iter() {
@@ -125,9 +132,10 @@ fn section_len(item: &Item) -> usize
     }
 }
 
-/// How long the section lines are, up to 2^64 - 1. Lines that stand together are passed over as a whole.
+/// How long the section lines are, up to 2^64 - 1. Lines that stand together are passed over as a
+/// whole.
 pub fn sections_len(items: &Items) -> usize
-    ensures { result ≡ min (length (section_text items.now)) (2 ^ 64 - 1) }
+    ensures { result ≡ min (length (section_lines_text items.now)) (2 ^ 64 - 1) }
 {
     let mut total: usize = 0;
     for item in items.iter().alone() {

@@ -1,14 +1,17 @@
 //! The encrypted charstrings of a font's entries, kept under edits.
 //!
-//! [`charstrings_of`] encrypts the charstrings of a source, or gives the first fault of its bodies. [`write_kept_file`]
-//! writes its files with them: nothing is compiled or encrypted anew. [`private_len`] is the length of the private text, and
-//! [`check_length`] judges by it whether a part of a file is too long; [`laws`] say what an edit makes of it.
+//! [`charstrings_of`] encrypts the charstrings of a source, or gives the first fault of its bodies.
+//! [`write_kept_file`] writes its files with them: nothing is compiled or encrypted anew.
+//! [`private_len`] is the length of the private text, and [`check_length`] judges by it whether a
+//! part of a file is too long; [`laws`] say what an edit makes of it.
 //!
-//! Edits go in two steps. [`put_fresh_subr`] and [`put_fresh_glyph`] fill the fresh charstrings of [`EditedEntries`]: those of
-//! the entries that were replaced or added; beside them stand the entries that are [`Gone`]. With these [`prepare_lines`] makes
-//! ready what changes of the charstrings and of the length of the private text, or gives the first fault of the edited source,
-//! which is known by a prepared change or as the one that a batch [`Made`]; [`settle_lines`] puts it in its place, which can't
-//! fail. Where lenIV was edited all charstrings are encrypted anew; nothing of a source is copied.
+//! Edits go in two steps. [`put_fresh_subr`] and [`put_fresh_glyph`] fill the fresh charstrings of
+//! [`EditedEntries`]: those of the entries that were replaced or added; beside them stand the
+//! entries that are [`Gone`]. With these [`prepare_lines`] makes ready what changes of the
+//! charstrings and of the length of the private text, or gives the first fault of the edited
+//! source, which is known by a prepared change or as the one that a batch [`Made`];
+//! [`settle_lines`] puts it in its place, which can't fail. Where lenIV was edited all charstrings
+//! are encrypted anew; nothing of a source is copied.
 //!
 //! All of it is for the crates above.
 #![tactic(auto)]

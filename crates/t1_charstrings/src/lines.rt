@@ -4,8 +4,8 @@ ghost use Rattle.std.specs.List.{flat_map};
 ghost use Rattle.t1_frac.specs.Ascii.{line_feed};
 ghost use Rattle.t1_code.specs.Parts.{piece_text};
 ghost use Rattle.t1_parts.specs.ItemRefs.{item_of};
-ghost use Rattle.t1_charstrings.specs.Entries.{glyph_kept};
-ghost use Rattle.t1_charstrings.specs.Lines.{entry_line, kept_line, kept_text, line_text};
+ghost use Rattle.t1_charstrings.specs.Entries.{glyph_charstring};
+ghost use Rattle.t1_charstrings.specs.Lines.{kept_entry_line, kept_line, kept_text, kept_line_text};
 
 use crate::entries::{Charstrings, Entry};
 use indexmap::IndexMap;
@@ -36,7 +36,8 @@ fn section_text(
     count: u64,
     after: &[u8],
 ) -> Result<Vec<u8>, AllocError>
-    ensures { IfOk result (λ text. text.items ≡ before.now ++ decimal count ++ after.now ++ line_feed ∷ []) }
+    ensures { IfOk result
+        (λ text. text.items ≡ before.now ++ decimal count ++ after.now ++ line_feed ∷ []) }
 {
     let mut text = Vec::from_slice(alloc, before)?;
     push_decimal(&mut text, count)?;
@@ -52,7 +53,8 @@ fn entry_line<'a>(
     kept: Option<&'a Entry>,
     closing: &'a [u8],
 ) -> KeptLine<'a>
-    ensures { line_text result ≡ entry_line operator.now closing.now (option_copied kept.entry) }
+    ensures { kept_line_text result
+        ≡ kept_entry_line operator.now closing.now (option_copied kept.entry) }
 {
     match kept {
         None => KeptLine::Text(Vec::new(alloc)),
@@ -64,13 +66,14 @@ fn entry_line<'a>(
     }
 }
 
-/// The entry of a glyph, which mostly stands at this place among the others: in the order of the source, unless edits came in.
+/// The entry of a glyph, which mostly stands at this place among the others: in the order of the
+/// source, unless edits came in.
 fn glyph_entry<'a>(
     glyphs: &'a IndexMap<Vec<u8>, Entry>,
     place: usize,
     name: &[u8],
 ) -> Option<&'a Entry>
-    ensures { option_copied result ≡ glyph_kept glyphs.now.entries name.now }
+    ensures { option_copied result ≡ glyph_charstring glyphs.now.entries name.now }
 {
     if let Some((key, entry)) = glyphs.get_index(place) {
         if key.as_slice() == name {
@@ -88,7 +91,8 @@ fn line_of<'a>(
     place: &mut usize,
     item: &'a Item,
 ) -> Result<KeptLine<'a>, AllocError>
-    ensures { IfOk result (λ line. line_text line ≡ kept_line charstrings.now operator.now item.now) }
+    ensures { IfOk result
+        (λ line. kept_line_text line ≡ kept_line charstrings.now operator.now item.now) }
 {
     match item {
         Item::Plain(line) => Ok(KeptLine::Plain(line.as_slice())),
@@ -116,7 +120,9 @@ fn line_of_ref<'a>(
     place: &mut usize,
     item: &ItemRef<'a, '_>,
 ) -> Result<KeptLine<'a>, AllocError>
-    ensures { IfOk result (λ line. line_text line ≡ kept_line charstrings.now operator.now (item_of item.now)) }
+    ensures { IfOk result
+        (λ line.
+        kept_line_text line ≡ kept_line charstrings.now operator.now (item_of item.now)) }
 {
     match item {
         ItemRef::Line(line) => Ok(KeptLine::Plain(line)),
@@ -131,7 +137,10 @@ pub(crate) fn lines_of<'a>(
     operator: &'a [u8],
     items: &'a Items,
 ) -> Result<Vec<KeptLine<'a>>, AllocError>
-    ensures { IfOk result (λ lines. flat_map line_text lines.items ≡ kept_text charstrings.now operator.now items.now) }
+    ensures { IfOk result
+        (λ lines.
+        flat_map kept_line_text lines.items
+        ≡ kept_text charstrings.now operator.now items.now) }
 {
     let mut lines = Vec::with_capacity(alloc, items.len())?;
     let mut place = 0;
@@ -143,7 +152,9 @@ pub(crate) fn lines_of<'a>(
 
 /// Adds the pieces of a line.
 fn push_pieces<'a>(pieces: &mut Vec<Piece<'a>>, line: &'a KeptLine<'a>) -> Result<(), AllocError>
-    ensures { OnOk result (flat_map piece_text pieces.new.items ≡ flat_map piece_text pieces.old.items ++ line_text line.now) }
+    ensures { OnOk result
+        (flat_map piece_text pieces.new.items
+        ≡ flat_map piece_text pieces.old.items ++ kept_line_text line.now) }
 {
     match line {
         KeptLine::Plain(bytes) => {
@@ -170,7 +181,8 @@ pub(crate) fn pieces_of<'a>(
     alloc: Global,
     lines: &'a [KeptLine<'a>],
 ) -> Result<Vec<Piece<'a>>, AllocError>
-    ensures { IfOk result (λ pieces. flat_map piece_text pieces.items ≡ flat_map line_text lines.now) }
+    ensures { IfOk result
+        (λ pieces. flat_map piece_text pieces.items ≡ flat_map kept_line_text lines.now) }
 {
     let mut pieces = Vec::new(alloc);
     for line in lines {

@@ -3,7 +3,8 @@ ghost use Rattle.std.specs.Prelude.{◌≡◌, ◌<◌, [], length};
 ghost use Rattle.t1_parts.specs.Counts.{raised};
 ghost use Rattle.t1_parts.specs.ItemRefs.{item_of};
 ghost use Rattle.t1_source.specs.Changes.{changed};
-ghost use Rattle.t1_charstrings.specs.Made.{is_entry_changed, made_items, made_of, may_set_lead, IsFor, IsMade};
+ghost use Rattle.t1_charstrings.specs.Made.{is_entry_changed, made_items, made_of, may_set_lead};
+ghost use Rattle.t1_charstrings.specs.Made.{IsFor, IsMadeByEdits};
 ghost use Rattle.t1_charstrings.specs.Ready.{is_entry};
 ghost use Rattle.t1_charstrings.specs.Sums.{item_at};
 
@@ -101,9 +102,10 @@ fn items_after<'e, 'a>(source: &'e Source<'a>, change: &'e Change<'a>) -> MadeIt
 }
 
 impl<'e, 'a> Made<'e, 'a> {
-    /// Whether the edits may have set lenIV. Of one edit it is known by the kind of the item that it changes.
+    /// Whether the edits may have set lenIV. Of one edit it is known by the kind of the item that
+    /// it changes.
     pub(crate) fn may_set_lead(&self) -> bool
-        requires { IsMade self.now }
+        requires { IsMadeByEdits self.now }
         ensures { result ≡ may_set_lead self.now }
     {
         match self {
@@ -124,7 +126,7 @@ impl<'e, 'a> Made<'e, 'a> {
 
     /// The items of the private part, before their counts are raised.
     pub(crate) fn items(&self) -> MadeItems<'_, 'a>
-        requires { IsMade self.now }
+        requires { IsMadeByEdits self.now }
         ensures { raised (made_items result) ≡ (made_of self.now).items }
     {
         match self {

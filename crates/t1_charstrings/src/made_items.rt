@@ -22,7 +22,8 @@ use t1_parts::{
 };
 use t1_source::Item;
 
-/// Items in three parts: those before the place of an edit, those that it puts there, and those after it.
+/// Items in three parts: those before the place of an edit, those that it puts there, and those
+/// after it.
 #[derive(Drop)]
 pub(crate) struct MadeItems<'e, 'a> {
     before: ItemsIter<'e, 'a>,
@@ -107,7 +108,8 @@ impl<'e, 'a> MadeItems<'e, 'a> {
         }
     }
 
-    /// The number of bytes that stand in front of a charstring: the first part that says it decides.
+    /// The number of bytes that stand in front of a charstring: the first part that says it
+    /// decides.
     pub(crate) fn lead(&self) -> u8
         ensures { result ≡ lead_among (made_items self.now) }
     {
@@ -142,7 +144,8 @@ impl<'e, 'a> MadeItems<'e, 'a> {
         subrs_needed(self.before.again()).max(put.max(after))
     }
 
-    /// What the items need for their glyphs. An error only where these are more than 2^64 - 1, which no memory holds.
+    /// What the items need for their glyphs. An error only where these are more than 2^64 - 1,
+    /// which no memory holds.
     fn glyphs(&self) -> Result<u64, AllocError>
         ensures { IfOk result (λ glyphs. glyphs ≡ glyphs_needed (made_items self.now)) }
     {
@@ -157,20 +160,24 @@ impl<'e, 'a> MadeItems<'e, 'a> {
         Ok(glyphs)
     }
 
-    /// What the items need for their Subrs and glyphs. An error only where there are more than 2^64 - 1 glyphs.
+    /// What the items need for their Subrs and glyphs. An error only where there are more than 2^64
+    /// - 1 glyphs.
     pub(crate) fn needed(&self) -> Result<Needed, AllocError>
         ensures subrs { IfOk result (λ needed. needed.subrs ≡ subrs_needed (made_items self.now)) }
-        ensures glyphs { IfOk result (λ needed. needed.glyphs ≡ glyphs_needed (made_items self.now)) }
+        ensures glyphs { IfOk result
+            (λ needed. needed.glyphs ≡ glyphs_needed (made_items self.now)) }
     {
         let subrs = self.subrs();
         let glyphs = self.glyphs()?;
         Ok(Needed { subrs, glyphs })
     }
 
-    /// The charstrings of the items, encrypted by their lenIV, or the first fault of a body, at its entry.
+    /// The charstrings of the items, encrypted by their lenIV, or the first fault of a body, at its
+    /// entry.
     pub(crate) fn charstrings(&self, alloc: Global) -> Result<Charstrings, Refusal>
         ensures checked { Gives (λ _. tt) result (bodies_check (made_items self.now)) }
-        ensures kept { IfOk result (Encrypt (lead_among (made_items self.now)) (bodies (made_items self.now))) }
+        ensures kept { IfOk result
+            (Encrypt (lead_among (made_items self.now)) (bodies (made_items self.now))) }
     {
         let lead = self.lead();
         let mut charstrings = no_charstrings(alloc);
@@ -182,7 +189,12 @@ impl<'e, 'a> MadeItems<'e, 'a> {
 
     /// How long the lines of the items are with raised counts, up to 2^64 - 1.
     pub(crate) fn raised_len(&self, charstrings: &Charstrings, needed: &Needed) -> usize
-        ensures { result ≡ min (length (kept_text charstrings.now (operator_among (made_items self.now)) (map (raised_item needed.now.subrs needed.now.glyphs) (made_items self.now)))) (2 ^ 64 - 1) }
+        ensures { result
+            ≡ min
+            (length
+            (kept_text charstrings.now (operator_among (made_items self.now))
+            (map (raised_item needed.now.subrs needed.now.glyphs)
+            (made_items self.now)))) (2 ^ 64 - 1) }
     {
         let operator = self.operator();
         let put = raised_items_len(charstrings, operator, &self.put, needed);

@@ -6,8 +6,9 @@ ghost use Rattle.t1_font.specs.Assembly.{file_check};
 ghost use Rattle.t1_font.specs.Lengths.{IsPrivateLen};
 ghost use Rattle.t1_charstrings.specs.declared.settling.ReadyCharstrings.TheVariants as ready;
 ghost use Rattle.t1_charstrings.specs.Batch.{AreEdits};
-ghost use Rattle.t1_charstrings.specs.Changed.{AreUnchanged};
-ghost use Rattle.t1_charstrings.specs.Made.{is_entry_changed, made_after, made_of, may_set_lead, source_of, IsPrepared, IsPreparedFor};
+ghost use Rattle.t1_charstrings.specs.Changed.{AreSameCharstrings};
+ghost use Rattle.t1_charstrings.specs.Made.{is_entry_changed, made_after, made_of, may_set_lead};
+ghost use Rattle.t1_charstrings.specs.Made.{source_of, IsPreparedByEdits, IsPreparedFor};
 ghost use Rattle.t1_charstrings.specs.Ready.{IsReadyLines};
 
 use crate::anew::prepare_anew;
@@ -22,20 +23,23 @@ use t1_font::check_parts;
 use t1_frac::{Bytes, Fault, Refusal};
 use t1_source::{Change, Source};
 
-/// How long the private text is where the clear part gets other lines: as before. F23 where these are too long.
+/// How long the private text is where the clear part gets other lines: as before. F23 where these
+/// are too long.
 #[tactic(auto, unfolding(t1_font::specs::Assembly::file_check))]
 fn len_clear(private_len: usize, source: &Source, clear: &[Bytes]) -> Result<usize, Fault>
     requires file { file_check source.now ≡ Ok tt }
     requires len { IsPrivateLen source.now private_len }
-    ensures judged { MatchResult result (λ _. file_check (with_clear source.now clear.now) ≡ Ok tt) (λ fault. file_check (with_clear source.now clear.now) ≡ Err fault) }
+    ensures judged { MatchResult result (λ _. file_check (with_clear source.now clear.now) ≡ Ok tt)
+        (λ fault. file_check (with_clear source.now clear.now) ≡ Err fault) }
     ensures len { IfOk result (IsPrivateLen (with_clear source.now clear.now)) }
 {
     check_parts(clear, private_len, source.tail())?;
     Ok(private_len)
 }
 
-/// How long the private text is after a change that sets no lenIV, or the first fault of the edited source. The length goes by
-/// that of the source before the edit, so that it costs no look at the other lines.
+/// How long the private text is after a change that sets no lenIV, or the first fault of the edited
+/// source. The length goes by that of the source before the edit, so that it costs no look at the
+/// other lines.
 fn len_changed(
     charstrings: &Charstrings,
     private_len: usize,
@@ -45,8 +49,10 @@ fn len_changed(
 ) -> Result<usize, Fault>
     requires prepared { IsPreparedFor change.now source.now private_len }
     requires entry { is_entry_changed change.now source.now ≡ true }
-    requires edits { AreEdits source.now (made_after change.now source.now) charstrings.now entries.now }
-    ensures judged { MatchResult result (λ _. file_check (made_after change.now source.now) ≡ Ok tt) (λ fault. file_check (made_after change.now source.now) ≡ Err fault) }
+    requires edits { AreEdits source.now (made_after change.now source.now) charstrings.now
+        entries.now }
+    ensures judged { MatchResult result (λ _. file_check (made_after change.now source.now) ≡ Ok tt)
+        (λ fault. file_check (made_after change.now source.now) ≡ Err fault) }
     ensures len { IfOk result (IsPrivateLen (made_after change.now source.now)) }
 {
     match change {
@@ -64,17 +70,19 @@ fn len_changed(
     }
 }
 
-/// How long the private text is after edits that leave lenIV as it is, or the first fault of the source that they make.
+/// How long the private text is after edits that leave lenIV as it is, or the first fault of the
+/// source that they make.
 fn len_after(
     charstrings: &Charstrings,
     private_len: usize,
     made: &Made,
     entries: &EditedEntries,
 ) -> Result<usize, Fault>
-    requires prepared { IsPrepared made.now private_len }
+    requires prepared { IsPreparedByEdits made.now private_len }
     requires lead { may_set_lead made.now ≡ false }
     requires edits { AreEdits (source_of made.now) (made_of made.now) charstrings.now entries.now }
-    ensures judged { MatchResult result (λ _. file_check (made_of made.now) ≡ Ok tt) (λ fault. file_check (made_of made.now) ≡ Err fault) }
+    ensures judged { MatchResult result (λ _. file_check (made_of made.now) ≡ Ok tt)
+        (λ fault. file_check (made_of made.now) ≡ Err fault) }
     ensures len { IfOk result (IsPrivateLen (made_of made.now)) }
 {
     match made {
@@ -85,10 +93,11 @@ fn len_after(
     }
 }
 
-/// What edits make of the charstrings and of the length of the private text, or the first fault of the source that they make.
-/// Nothing is changed: there may be more room among the charstrings. The length after one edit goes by that of the source
-/// before it, so that it costs no look at the other lines; after a batch the items are gone through once. Where lenIV was
-/// edited all charstrings are encrypted anew.
+/// What edits make of the charstrings and of the length of the private text, or the first fault of
+/// the source that they make. Nothing is changed: there may be more room among the charstrings. The
+/// length after one edit goes by that of the source before it, so that it costs no look at the
+/// other lines; after a batch the items are gone through once. Where lenIV was edited all
+/// charstrings are encrypted anew.
 pub fn prepare_lines(
     alloc: Global,
     charstrings: &mut Charstrings,
@@ -96,12 +105,13 @@ pub fn prepare_lines(
     made: &Made,
     entries: EditedEntries,
 ) -> Result<ReadyLines, Refusal>
-    requires prepared { IsPrepared made.now private_len }
+    requires prepared { IsPreparedByEdits made.now private_len }
     requires edits { AreEdits (source_of made.now) (made_of made.now) charstrings.old entries }
-    ensures same { AreUnchanged charstrings.old charstrings.new }
+    ensures same { AreSameCharstrings charstrings.old charstrings.new }
     ensures judged { Gives (λ _. tt) result (file_check (made_of made.now)) }
     ensures ready { IfOk result (IsReadyLines (made_of made.now) charstrings.new) }
-    ensures edited { IfOk result (λ lines. may_set_lead made.now ≡ false → lines.charstrings ≡ ready.Edited entries) }
+    ensures edited { IfOk result
+        (λ lines. may_set_lead made.now ≡ false → lines.charstrings ≡ ready.Edited entries) }
 {
     if made.may_set_lead() {
         return prepare_anew(alloc, made);

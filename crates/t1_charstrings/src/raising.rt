@@ -1,5 +1,6 @@
 //! The counts of section lines, as they are raised where an entry is put in.
-ghost use Rattle.std.specs.Prelude.{◌≡◌, ◌<◌, ◌^◌, ◌-◌, ◌∷◌, codes, if◌then◌else◌, length, map, max, min};
+ghost use Rattle.std.specs.Prelude.{◌≡◌, ◌<◌, ◌^◌, ◌-◌, ◌∷◌, codes, if◌then◌else◌, length, map};
+ghost use Rattle.std.specs.Prelude.{max, min};
 ghost use Rattle.t1_text.specs.Tokens.{last_is, tokens};
 ghost use Rattle.t1_parts.specs.Counts.{glyphs_needed, raised_item, subrs_needed};
 ghost use Rattle.t1_parts.specs.ItemRefs.{item_of};
@@ -60,7 +61,10 @@ pub(crate) fn needed_with(items: &Items, item: &Item) -> Needed
 
 /// A section's count, raised to what is needed.
 fn raised_count(before: &[u8], count: u64, needed: &Needed) -> u64
-    ensures { result ≡ max count (if last_is (codes "/CharStrings") (tokens before.now) then needed.now.glyphs else needed.now.subrs) }
+    ensures { result
+        ≡ max count
+        (if last_is (codes "/CharStrings") (tokens before.now) then needed.now.glyphs else
+        needed.now.subrs) }
 {
     let needed = if last_is(b"/CharStrings", before) {
         needed.glyphs
@@ -72,7 +76,9 @@ fn raised_count(before: &[u8], count: u64, needed: &Needed) -> u64
 
 /// How long the raised line of a section is, up to 2^64 - 1; 0 for another item.
 fn raised_len(item: &Item, needed: &Needed) -> usize
-    ensures { result ≡ min (length (section_line (raised_item needed.now.subrs needed.now.glyphs item.now))) (2 ^ 64 - 1) }
+    ensures { result
+        ≡ min (length (section_line (raised_item needed.now.subrs needed.now.glyphs item.now)))
+        (2 ^ 64 - 1) }
 {
     match item {
         Item::Section(before, count, after) => {
@@ -83,9 +89,11 @@ fn raised_len(item: &Item, needed: &Needed) -> usize
     }
 }
 
-/// How long the raised section lines are, up to 2^64 - 1. Lines that stand together are passed over as a whole.
+/// How long the raised section lines are, up to 2^64 - 1. Lines that stand together are passed over
+/// as a whole.
 pub(crate) fn raised_sections_len(items: &Items, needed: &Needed) -> usize
-    ensures { result ≡ min (length (raised_text needed.now.subrs needed.now.glyphs items.now)) (2 ^ 64 - 1) }
+    ensures { result
+        ≡ min (length (raised_text needed.now.subrs needed.now.glyphs items.now)) (2 ^ 64 - 1) }
 {
     let mut total: usize = 0;
     for item in items.iter().alone() {
@@ -101,7 +109,11 @@ fn raised_line_len(
     item: &Item,
     needed: &Needed,
 ) -> usize
-    ensures { result ≡ min (length (kept_line charstrings.now operator.now (raised_item needed.now.subrs needed.now.glyphs item.now))) (2 ^ 64 - 1) }
+    ensures { result
+        ≡ min
+        (length
+        (kept_line charstrings.now operator.now
+        (raised_item needed.now.subrs needed.now.glyphs item.now))) (2 ^ 64 - 1) }
 {
     match item {
         Item::Section(_, _, _) => raised_len(item, needed),
@@ -118,7 +130,12 @@ fn raised_line_ref_len(
     item: &ItemRef,
     needed: &Needed,
 ) -> usize
-    ensures { result ≡ min (length (kept_line charstrings.now operator.now (raised_item needed.now.subrs needed.now.glyphs (item_of item.now)))) (2 ^ 64 - 1) }
+    ensures { result
+        ≡ min
+        (length
+        (kept_line charstrings.now operator.now
+        (raised_item needed.now.subrs needed.now.glyphs (item_of item.now))))
+        (2 ^ 64 - 1) }
 {
     match item {
         ItemRef::Line(line) => line.len().saturating_add(1),
@@ -133,7 +150,12 @@ pub(crate) fn raised_items_len(
     items: &ItemsIter,
     needed: &Needed,
 ) -> usize
-    ensures { result ≡ min (length (kept_text charstrings.now operator.now (map (raised_item needed.now.subrs needed.now.glyphs) items.now))) (2 ^ 64 - 1) }
+    ensures { result
+        ≡ min
+        (length
+        (kept_text charstrings.now operator.now
+        (map (raised_item needed.now.subrs needed.now.glyphs) items.now)))
+        (2 ^ 64 - 1) }
 {
     let mut total: usize = 0;
     for item in items.again() {
@@ -154,7 +176,8 @@ fn is_raised_counted(item: &Item, needed: &Needed) -> bool
     }
 }
 
-/// F23 where a raised count has more than nine digits. Lines that stand together are passed over as a whole.
+/// F23 where a raised count has more than nine digits. Lines that stand together are passed over as
+/// a whole.
 #[tactic(auto, using(crate::proofs::AloneLaws::check_alone))]
 pub(crate) fn check_raised(items: &ItemsIter, needed: &Needed) -> Result<(), Fault>
     ensures { result ≡ raised_check needed.now.subrs needed.now.glyphs items.now }

@@ -1,4 +1,5 @@
-//! How long the private text is after an edit of one entry, or the first fault of the edited source.
+//! How long the private text is after an edit of one entry, or the first fault of the edited
+//! source.
 ghost use Rattle.std.specs.Prelude.{◌≡◌, ◌<◌, ◌≤◌, Ok, Err, IfOk, MatchResult, length, true};
 ghost use Rattle.std.specs.List.{insert, remove, slice_set};
 ghost use Rattle.t1_source.specs.Changes.{IsInPlaceOf};
@@ -7,7 +8,8 @@ ghost use Rattle.t1_source.specs.WellFormed.{IsWellFormed};
 ghost use Rattle.t1_font.specs.Assembly.{file_check};
 ghost use Rattle.t1_charstrings.specs.Batch.{AreEdits};
 ghost use Rattle.t1_font.specs.Lengths.{IsPrivateLen};
-ghost use Rattle.t1_charstrings.specs.Ready.{inserted_len, is_entry, new_len, old_len, replaced_len};
+ghost use Rattle.t1_charstrings.specs.Ready.{inserted_len, is_entry, new_len, old_len};
+ghost use Rattle.t1_charstrings.specs.Ready.{replaced_len};
 ghost use Rattle.t1_charstrings.specs.Sums.{item_at};
 
 use crate::batch::batch_line_len;
@@ -51,7 +53,8 @@ fn replaced_len(
         .saturating_add(new_len(charstrings, fresh, source, item))
 }
 
-/// How long the private text is with an entry put in, whose section lines are raised to what is needed, up to 2^64 - 1.
+/// How long the private text is with an entry put in, whose section lines are raised to what is
+/// needed, up to 2^64 - 1.
 fn inserted_len(
     charstrings: &Charstrings,
     private_len: usize,
@@ -60,7 +63,9 @@ fn inserted_len(
     fresh: &Charstrings,
     needed: &Needed,
 ) -> usize
-    ensures { result ≡ inserted_len private_len fresh.now charstrings.now source.now item.now needed.now.subrs needed.now.glyphs }
+    ensures { result
+        ≡ inserted_len private_len fresh.now charstrings.now source.now item.now needed.now.subrs
+        needed.now.glyphs }
 {
     let items = source.items();
     private_len
@@ -69,7 +74,8 @@ fn inserted_len(
         .saturating_add(raised_sections_len(items, needed))
 }
 
-/// How long the private text is where an entry comes in the place of another, or the first fault of the edited source.
+/// How long the private text is where an entry comes in the place of another, or the first fault of
+/// the edited source.
 pub(crate) fn len_put(
     charstrings: &Charstrings,
     private_len: usize,
@@ -84,17 +90,25 @@ pub(crate) fn len_put(
     requires well { IsWellFormed source.now }
     requires file { file_check source.now ≡ Ok tt }
     requires len { IsPrivateLen source.now private_len }
-    requires edits { AreEdits source.now (with_items source.now (slice_set source.now.items at item.now)) charstrings.now entries.now }
-    ensures judged { MatchResult result (λ _. file_check (with_items source.now (slice_set source.now.items at item.now)) ≡ Ok tt) (λ fault. file_check (with_items source.now (slice_set source.now.items at item.now)) ≡ Err fault) }
-    ensures len { IfOk result (IsPrivateLen (with_items source.now (slice_set source.now.items at item.now))) }
+    requires edits { AreEdits source.now
+        (with_items source.now (slice_set source.now.items at item.now)) charstrings.now
+        entries.now }
+    ensures judged { MatchResult result
+        (λ _.
+        file_check (with_items source.now (slice_set source.now.items at item.now)) ≡ Ok tt)
+        (λ fault.
+        file_check (with_items source.now (slice_set source.now.items at item.now))
+        ≡ Err fault) }
+    ensures len { IfOk result
+        (IsPrivateLen (with_items source.now (slice_set source.now.items at item.now))) }
 {
     let len = replaced_len(charstrings, private_len, source, at, item, &entries.fresh);
     check_parts(source.clear(), len, source.tail())?;
     Ok(len)
 }
 
-/// How long the private text is where an entry is put in, or the first fault of the edited source. The items are gone through
-/// for their section lines.
+/// How long the private text is where an entry is put in, or the first fault of the edited source.
+/// The items are gone through for their section lines.
 pub(crate) fn len_inserted(
     charstrings: &Charstrings,
     private_len: usize,
@@ -108,9 +122,16 @@ pub(crate) fn len_inserted(
     requires well { IsWellFormed source.now }
     requires file { file_check source.now ≡ Ok tt }
     requires len { IsPrivateLen source.now private_len }
-    requires edits { AreEdits source.now (with_items source.now (insert source.now.items at item.now)) charstrings.now entries.now }
-    ensures judged { MatchResult result (λ _. file_check (with_items source.now (insert source.now.items at item.now)) ≡ Ok tt) (λ fault. file_check (with_items source.now (insert source.now.items at item.now)) ≡ Err fault) }
-    ensures len { IfOk result (IsPrivateLen (with_items source.now (insert source.now.items at item.now))) }
+    requires edits { AreEdits source.now
+        (with_items source.now (insert source.now.items at item.now)) charstrings.now
+        entries.now }
+    ensures judged { MatchResult result
+        (λ _. file_check (with_items source.now (insert source.now.items at item.now)) ≡ Ok tt)
+        (λ fault.
+        file_check (with_items source.now (insert source.now.items at item.now))
+        ≡ Err fault) }
+    ensures len { IfOk result
+        (IsPrivateLen (with_items source.now (insert source.now.items at item.now))) }
 {
     let needed = needed_with(source.items(), item);
     let len = inserted_len(
@@ -126,7 +147,8 @@ pub(crate) fn len_inserted(
     Ok(len)
 }
 
-/// How long the private text is where an entry is taken out, or the first fault of the edited source.
+/// How long the private text is where an entry is taken out, or the first fault of the edited
+/// source.
 pub(crate) fn len_removed(
     charstrings: &Charstrings,
     private_len: usize,
@@ -139,8 +161,11 @@ pub(crate) fn len_removed(
     requires well { IsWellFormed source.now }
     requires file { file_check source.now ≡ Ok tt }
     requires len { IsPrivateLen source.now private_len }
-    requires edits { AreEdits source.now (with_items source.now (remove source.now.items at)) charstrings.now entries.now }
-    ensures judged { MatchResult result (λ _. file_check (with_items source.now (remove source.now.items at)) ≡ Ok tt) (λ fault. file_check (with_items source.now (remove source.now.items at)) ≡ Err fault) }
+    requires edits { AreEdits source.now (with_items source.now (remove source.now.items at))
+        charstrings.now entries.now }
+    ensures judged { MatchResult result
+        (λ _. file_check (with_items source.now (remove source.now.items at)) ≡ Ok tt)
+        (λ fault. file_check (with_items source.now (remove source.now.items at)) ≡ Err fault) }
     ensures len { IfOk result (IsPrivateLen (with_items source.now (remove source.now.items at))) }
 {
     let len = private_len.saturating_sub(old_len(charstrings, source, at));

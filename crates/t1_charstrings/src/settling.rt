@@ -2,10 +2,10 @@
 ghost use Rattle.std.specs.Prelude.{◌≡◌, IfOk};
 ghost use Rattle.t1_parts.specs.SourceParts.{SourceParts};
 ghost use Rattle.t1_charstrings.specs.declared.settling.ReadyCharstrings.TheVariants as ready;
-ghost use Rattle.t1_charstrings.specs.Changed.{AreUnchanged};
+ghost use Rattle.t1_charstrings.specs.Changed.{AreSameCharstrings};
 ghost use Rattle.t1_charstrings.specs.Kept.{AreEncrypted};
 ghost use Rattle.t1_font.specs.Lengths.{IsPrivateLen};
-ghost use Rattle.t1_charstrings.specs.Ready.{HasRoom, IsReadyLines, SettlesTo};
+ghost use Rattle.t1_charstrings.specs.Ready.{HasCharstringRoom, IsReadyLines, SettlesTo};
 
 use crate::batch::{put_in, take_out};
 use crate::changed::make_room;
@@ -35,9 +35,10 @@ pub(crate) fn ready_entries(
     entries: EditedEntries,
     len: usize,
 ) -> Result<ReadyLines, AllocError>
-    ensures same { AreUnchanged charstrings.old charstrings.new }
-    ensures ready { IfOk result (λ lines. lines ≡ record { charstrings = ready.Edited entries; len = len }) }
-    ensures room { IfOk result (λ lines. HasRoom lines.charstrings charstrings.new) }
+    ensures same { AreSameCharstrings charstrings.old charstrings.new }
+    ensures ready { IfOk result
+        (λ lines. lines ≡ record { charstrings = ready.Edited entries; len = len }) }
+    ensures room { IfOk result (λ lines. HasCharstringRoom lines.charstrings charstrings.new) }
 {
     make_room(
         charstrings,
@@ -52,7 +53,8 @@ pub(crate) fn ready_entries(
 
 /// Puts the charstrings that are ready in their place.
 fn settle_charstrings(charstrings: &mut Charstrings, ready: ReadyCharstrings)
-    ensures { HasRoom ready charstrings.old → SettlesTo ready charstrings.old charstrings.new }
+    ensures { HasCharstringRoom ready charstrings.old
+        → SettlesTo ready charstrings.old charstrings.new }
 {
     match ready {
         ReadyCharstrings::Edited(EditedEntries { fresh, gone }) => {
@@ -63,11 +65,15 @@ fn settle_charstrings(charstrings: &mut Charstrings, ready: ReadyCharstrings)
     }
 }
 
-/// Brings the charstrings and the length of the private text from those of a source to those of the edited one. It takes no
-/// memory and can't fail.
+/// Brings the charstrings and the length of the private text from those of a source to those of the
+/// edited one. It takes no memory and can't fail.
 pub fn settle_lines(charstrings: &mut Charstrings, private_len: &mut usize, ready: ReadyLines)
-    ensures kept { (made : SourceParts) → IsReadyLines made charstrings.old ready → AreEncrypted made charstrings.new }
-    ensures len { (made : SourceParts) → IsReadyLines made charstrings.old ready → IsPrivateLen made private_len.new }
+    ensures kept { (made : SourceParts)
+        → IsReadyLines made charstrings.old ready
+        → AreEncrypted made charstrings.new }
+    ensures len { (made : SourceParts)
+        → IsReadyLines made charstrings.old ready
+        → IsPrivateLen made private_len.new }
 {
     let ReadyLines {
         charstrings: ready,

@@ -3,7 +3,7 @@ use Rattle.std.proofs.Common.{◌≡◌, ℕ, zero, suc, ◌+◌, ◌-◌, ◌<�
 use Rattle.std.proofs.lemmas.Bool.{cases_Bool, eqb-true, eqb-false}
 use Rattle.std.specs.List.{flat_map, onto_first}
 use Rattle.t1_code.specs.Pfb.{segment, segment_head, segments}
-use Rattle.t1_code.specs.Segments.{Segmenting, head_due, opened, past, in_segments, segmenting_after}
+use Rattle.t1_code.specs.Segments.{Segmenting, head_due, segment_opened, past, in_segments, segmenting_after}
 use Rattle.t1_code.specs.Counted.{Outlet, Passes, Stops}
 use Rattle.t1_code.proofs.Blocks.{blocks_from, blocks_in_turn}
 use Rattle.t1_code.proofs.Carrying.{IsChange, Carried, Carried-step, Carried-fails, Carried-breaks}
@@ -12,12 +12,12 @@ use Rattle.t1_code.proofs.Writing.{passing}
 in_segments-append : (s : Segmenting) (xs ys : List ℕ) → in_segments s (xs ++ ys) ≡ in_segments s xs ++ in_segments (segmenting_after s xs) ys
 in_segments-append s [] ys = refl
 in_segments-append s (x ∷ xs) ys =
-    ap (λ l. head_due s ++ x ∷ l) (in_segments-append (past 1 (opened s)) xs ys)
-    ∙ sym (append_assoc (head_due s) (x ∷ in_segments (past 1 (opened s)) xs) (in_segments (segmenting_after (past 1 (opened s)) xs) ys))
+    ap (λ l. head_due s ++ x ∷ l) (in_segments-append (past 1 (segment_opened s)) xs ys)
+    ∙ sym (append_assoc (head_due s) (x ∷ in_segments (past 1 (segment_opened s)) xs) (in_segments (segmenting_after (past 1 (segment_opened s)) xs) ys))
 
 segmenting_after-append : (s : Segmenting) (xs ys : List ℕ) → segmenting_after s (xs ++ ys) ≡ segmenting_after (segmenting_after s xs) ys
 segmenting_after-append s [] ys = refl
-segmenting_after-append s (x ∷ xs) ys = segmenting_after-append (past 1 (opened s)) xs ys
+segmenting_after-append s (x ∷ xs) ys = segmenting_after-append (past 1 (segment_opened s)) xs ys
 
 pub cutting : IsChange in_segments segmenting_after
 cutting = record { join = in_segments-append; twice = segmenting_after-append }
@@ -49,7 +49,7 @@ within s (x ∷ front) h =
 pub some_of : (n : ℕ) → nat_eq n 0 ≡ false → 0 < n
 some_of n h = omega (arith, eqb-false n 0 h)
 
-pub room_opens : (s : Segmenting) → 1 ≤ (opened s).size → 0 < (opened s).room
+pub room_opens : (s : Segmenting) → 1 ≤ (segment_opened s).size → 0 < (segment_opened s).room
 room_opens s = elim (cases_Bool (nat_eq s.room 0)) [
   | inl e ↦ rw e (λ h. omega (arith, h))
   | inr e ↦ rw e (λ h. omega (arith, eqb-false s.room 0 e))
@@ -65,7 +65,7 @@ head_given s kind count head full k n e =
     let none : s.room ≡ 0 = omega (arith, full) in
     e ∙ ap (λ i. segment_head i count) k ∙ ap (segment_head s.kind) n ∙ rw none refl
 
-pub start_given : (s t : Segmenting) → s.room ≤ 0 → t ≡ record { kind = s.kind; size = s.size; room = s.size; left = s.left } → t ≡ opened s
+pub start_given : (s t : Segmenting) → s.room ≤ 0 → t ≡ record { kind = s.kind; size = s.size; room = s.size; left = s.left } → t ≡ segment_opened s
 start_given s t full e =
     let none : s.room ≡ 0 = omega (arith, full) in
     e ∙ rw none refl
@@ -73,17 +73,17 @@ start_given s t full e =
 -- what is left begins with the head that is due
 head_first : (s : Segmenting) (bytes : List ℕ) → 0 < length bytes → (more : List ℕ) × (in_segments s bytes ≡ head_due s ++ more)
 head_first s [] h = absurd (omega arith)
-head_first s (x ∷ xs) h = (x ∷ in_segments (past 1 (opened s)) xs, refl)
+head_first s (x ∷ xs) h = (x ∷ in_segments (past 1 (segment_opened s)) xs, refl)
 
 -- the next bytes, no more than the segment takes that they begin or go on with
-front_is : (s : Segmenting) (front : List ℕ) → 0 < length front → length front ≤ (opened s).room
-    → (in_segments s front ≡ head_due s ++ front) × (segmenting_after s front ≡ past (length front) (opened s))
+front_is : (s : Segmenting) (front : List ℕ) → 0 < length front → length front ≤ (segment_opened s).room
+    → (in_segments s front ≡ head_due s ++ front) × (segmenting_after s front ≡ past (length front) (segment_opened s))
 front_is s [] long short = absurd (omega arith)
 front_is s (x ∷ xs) long short =
-    let e = some_is (opened s).room (omega (arith, short)) in
-    let more = within (opened s) (x ∷ xs) short in
-    let first : in_segments (opened s) (x ∷ xs) ≡ x ∷ in_segments (past 1 (opened s)) xs = rw e refl in
-    let last : segmenting_after (opened s) (x ∷ xs) ≡ segmenting_after (past 1 (opened s)) xs = rw e refl in
+    let e = some_is (segment_opened s).room (omega (arith, short)) in
+    let more = within (segment_opened s) (x ∷ xs) short in
+    let first : in_segments (segment_opened s) (x ∷ xs) ≡ x ∷ in_segments (past 1 (segment_opened s)) xs = rw e refl in
+    let last : segmenting_after (segment_opened s) (x ∷ xs) ≡ segmenting_after (past 1 (segment_opened s)) xs = rw e refl in
     (ap (λ l. head_due s ++ l) (sym first ∙ more.0), sym last ∙ more.1)
 
 module _ {W : Type 0} (contents : W → Option (List ℕ)) (start : Outlet W) (first : Segmenting) (text : List ℕ) where
@@ -94,12 +94,12 @@ module _ {W : Type 0} (contents : W → Option (List ℕ)) (start : Outlet W) (f
       Carried-breaks contents cutting start old new first s text rest p (rw head.1 ((passing contents).longer old new (head_due s) head.0 q))
 
   pub front_fails : (old mid new : Outlet W) (s : Segmenting) (rest front after : List ℕ) → Carried contents cutting start old first s text rest → rest ≡ front ++ after
-      → 0 < length front → length front ≤ (opened s).room → Passes contents old mid (head_due s) → Stops contents mid new front → Stops contents start new (in_segments first text)
+      → 0 < length front → length front ≤ (segment_opened s).room → Passes contents old mid (head_due s) → Stops contents mid new front → Stops contents start new (in_segments first text)
   front_fails old mid new s rest front after p e some short head q =
       Carried-fails contents cutting start old new first s text front after (rw e at p) (rw (front_is s front some short).0 ((passing contents).fails old mid new (head_due s) front head q))
 
   pub front_passes : (old mid new : Outlet W) (s next : Segmenting) (rest front after : List ℕ) → Carried contents cutting start old first s text rest → rest ≡ front ++ after
-      → 0 < length front → length front ≤ (opened s).room → Passes contents old mid (head_due s) → Passes contents mid new front → next ≡ past (length front) (opened s)
+      → 0 < length front → length front ≤ (segment_opened s).room → Passes contents old mid (head_due s) → Passes contents mid new front → next ≡ past (length front) (segment_opened s)
       → Carried contents cutting start new first next text after
   front_passes old mid new s next rest front after p e some short head q is =
       let same = front_is s front some short in

@@ -26,8 +26,8 @@ charstring_length (Plain bytes) = 0
 charstring_length (Entry head operator charstring closing) = length charstring.now
 
 -- word: the bytes of slices, one after another
-abbrev pub bytes_of : List (Bor (List ℕ)) → List ℕ
-bytes_of slices = flat_map (λ slice. slice.now) slices
+abbrev pub slices_bytes : List (Bor (List ℕ)) → List ℕ
+slices_bytes slices = flat_map (λ slice. slice.now) slices
 
 -- word: the private text of the parts: that of its pieces, one after another
 abbrev pub pieces_text : Parts → List ℕ

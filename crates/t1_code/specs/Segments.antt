@@ -14,8 +14,8 @@ abbrev pub head_due : Segmenting → List ℕ
 head_due s = if nat_eq s.room 0 then segment_head s.kind (min s.size s.left) else []
 
 -- word: the same, at the start of a segment where the present one is full
-abbrev pub opened : Segmenting → Segmenting
-opened s = if nat_eq s.room 0 then record { kind = s.kind; size = s.size; room = s.size; left = s.left } else s
+abbrev pub segment_opened : Segmenting → Segmenting
+segment_opened s = if nat_eq s.room 0 then record { kind = s.kind; size = s.size; room = s.size; left = s.left } else s
 
 -- word: the same after so many bytes of the present segment
 abbrev pub past : ℕ → Segmenting → Segmenting
@@ -24,8 +24,8 @@ past count s = record { kind = s.kind; size = s.size; room = s.room - count; lef
 -- Technical Note 5040, 3.3: the bytes, with the heads of the segments that begin among them
 abbrev pub in_segments : Segmenting → List ℕ → List ℕ
 in_segments s [] = []
-in_segments s (byte ∷ bytes) = head_due s ++ byte ∷ in_segments (past 1 (opened s)) bytes
+in_segments s (byte ∷ bytes) = head_due s ++ byte ∷ in_segments (past 1 (segment_opened s)) bytes
 
 -- word: the same after these bytes
 abbrev pub segmenting_after : Segmenting → List ℕ → Segmenting
-segmenting_after s bytes = fold (λ s byte. past 1 (opened s)) s bytes
+segmenting_after s bytes = fold (λ s byte. past 1 (segment_opened s)) s bytes

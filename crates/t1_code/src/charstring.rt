@@ -1,7 +1,8 @@
 //! Charstring code from commands.
 ghost use Rattle.std.specs.Prelude.{◌≡◌, ◌≤◌, ◌<◌, ◌+◌, ◌++◌, take, length, IfOk, OnOk};
 ghost use Rattle.t1_code.specs.Cipher.{encrypted_charstring as encrypted};
-ghost use Rattle.t1_code.specs.Charstring.{two_bytes, number_bytes, command_bytes, operator_bytes, charstring};
+ghost use Rattle.t1_code.specs.Charstring.{two_bytes, number_bytes, command_bytes, operator_bytes};
+ghost use Rattle.t1_code.specs.Charstring.{charstring};
 
 use crate::cipher::{CHARSTRING_KEY, Cipher};
 use crate::command::Command;

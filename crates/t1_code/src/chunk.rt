@@ -2,7 +2,7 @@
 ghost use Rattle.std.specs.Prelude.{◌≡◌, ◌<◌, ◌≤◌, ◌+◌, [], ◌++◌, true, false, length, take, OnOk};
 ghost use Rattle.t1_code.specs.Cipher.{cipher as encrypted, key_after};
 ghost use Rattle.t1_code.specs.Counted.{Puts, Writes, outlet};
-ghost use Rattle.t1_code.specs.Parts.{bytes_of};
+ghost use Rattle.t1_code.specs.Parts.{slices_bytes};
 
 use crate::cipher::Cipher;
 use crate::counted::{Counted, MAX_PUT};
@@ -68,7 +68,7 @@ impl Chunk {
 
     /// Puts slices after the others, one after another, where it takes them all.
     pub(crate) fn keep_all(&mut self, slices: &[&[u8]]) -> bool
-        ensures kept { result ≡ true → self.new ≡ self.old ++ bytes_of slices.now }
+        ensures kept { result ≡ true → self.new ≡ self.old ++ slices_bytes slices.now }
         ensures left { result ≡ false → self.new ≡ self.old }
     {
         if total_len(slices) > self.room() {
@@ -119,7 +119,8 @@ impl Chunk {
 
     /// Sends what waits where no byte more goes in.
     fn make_room<W: Write>(&mut self, out: &mut Counted<W>) -> io::Result<()>
-        ensures text { Puts W.contents (outlet out.old self.old) (outlet out.new self.new) [] result }
+        ensures text { Puts W.contents (outlet out.old self.old) (outlet out.new self.new) []
+            result }
         ensures room { OnOk result (length self.new < 4096) }
     {
         if self.room() > 0 {
@@ -131,7 +132,8 @@ impl Chunk {
 
 /// Passes bytes on as they are, a chunk of them at a time.
 fn put_in_turns<W: Write>(out: &mut Counted<W>, chunk: &mut Chunk, bytes: &[u8]) -> io::Result<()>
-    ensures { Puts W.contents (outlet out.old chunk.old) (outlet out.new chunk.new) bytes.now result }
+    ensures { Puts W.contents (outlet out.old chunk.old) (outlet out.new chunk.new) bytes.now
+        result }
 {
     let mut rest = bytes;
     while !rest.is_empty() {
@@ -146,7 +148,8 @@ fn put_in_turns<W: Write>(out: &mut Counted<W>, chunk: &mut Chunk, bytes: &[u8])
 /// Passes bytes on as they are. Those that the chunk still takes only wait there.
 #[tactic(auto, using(crate::proofs::Writing::kept_passes))]
 pub fn put_plain<W: Write>(out: &mut Counted<W>, chunk: &mut Chunk, bytes: &[u8]) -> io::Result<()>
-    ensures { Puts W.contents (outlet out.old chunk.old) (outlet out.new chunk.new) bytes.now result }
+    ensures { Puts W.contents (outlet out.old chunk.old) (outlet out.new chunk.new) bytes.now
+        result }
 {
     if bytes.len() <= chunk.room() {
         chunk.keep(bytes);
@@ -161,7 +164,8 @@ pub fn put_slices<W: Write>(
     chunk: &mut Chunk,
     slices: &[&[u8]],
 ) -> io::Result<()>
-    ensures { Puts W.contents (outlet out.old chunk.old) (outlet out.new chunk.new) (bytes_of slices.now) result }
+    ensures { Puts W.contents (outlet out.old chunk.old) (outlet out.new chunk.new)
+        (slices_bytes slices.now) result }
 {
     for slice in slices {
         put_plain(out, chunk, slice)?;

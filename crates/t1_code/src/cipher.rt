@@ -8,10 +8,11 @@ use std::marker::Model;
 /// The key that encryption of a charstring begins with.
 pub(crate) const CHARSTRING_KEY: u16 = 4_330;
 
-/// Encrypts bytes one after another, with a key that each cipher byte changes. Contracts see the key.
+/// Encrypts bytes one after another, with a key that each cipher byte changes. Contracts see the
+/// key.
 ///
-/// What a key adds to the next one is known before there is a cipher byte and is kept beside it, so that one product and one
-/// sum lie between two cipher bytes.
+/// What a key adds to the next one is known before there is a cipher byte and is kept beside it, so
+/// that one product and one sum lie between two cipher bytes.
 #[derive(Drop)]
 pub(crate) struct Cipher {
     /// The key, in the low 16 bits.
@@ -60,8 +61,8 @@ impl Cipher {
         cipher as u8
     }
 
-    /// Puts the cipher bytes in the place of the plain ones. The key goes along in a cipher of its own, which needs no
-    /// memory between two bytes.
+    /// Puts the cipher bytes in the place of the plain ones. The key goes along in a cipher of its
+    /// own, which needs no memory between two bytes.
     pub(crate) fn encrypt(&mut self, bytes: &mut [u8])
         ensures bytes { bytes.new ≡ cipher self.old bytes.old }
         ensures key { self.new ≡ key_after self.old bytes.new }

@@ -13,7 +13,8 @@ const MAX_TURNS: u64 = (1 << 63) - 1;
 /// The most bytes that one call of a writer is handed.
 pub const MAX_PUT: usize = 4_096;
 
-/// A reader or writer, with a count of its failed calls and one of its reads, and whether what was written has been flushed.
+/// A reader or writer, with a count of its failed calls and one of its reads, and whether what was
+/// written has been flushed.
 #[derive(Drop)]
 pub struct Counted<T> {
     inner: T,
@@ -27,7 +28,13 @@ impl<T> Model for Counted<T> {
 
     ghost Value = { Tally T };
 
-    ghost view = { λ counted. record { inner = counted.inner; failures = counted.failures; turns = counted.turns; is_flushed = counted.is_flushed } };
+    ghost view = { λ counted.
+        record {
+          inner = counted.inner;
+          failures = counted.failures;
+          turns = counted.turns;
+          is_flushed = counted.is_flushed;
+        } };
 }
 
 impl<T> Counted<T> {
@@ -66,10 +73,12 @@ impl<R: Read> Counted<R> {
     pub fn take(&mut self, buffer: &mut [u8]) -> io::Result<usize>
         requires { 0 < length buffer.old }
         ensures bound { ReadsAtMost result buffer.new }
-        ensures bytes { ReadConsumes (R.remaining self.old.inner) (R.remaining self.new.inner) result buffer.new }
+        ensures bytes { ReadConsumes (R.remaining self.old.inner) (R.remaining self.new.inner)
+            result buffer.new }
         ensures failures { self.new.failures ≡ failures_after result self.old.failures }
         ensures turns { self.new.turns ≡ turns_after self.old.turns }
-        ensures spent { max_turns ≤ self.old.turns → IsErr result × (self.new.inner ≡ self.old.inner) }
+        ensures spent { max_turns ≤ self.old.turns
+            → IsErr result × (self.new.inner ≡ self.old.inner) }
     {
         if self.turns >= MAX_TURNS {
             self.failures = self.failures.saturating_add(1);
@@ -90,7 +99,8 @@ impl<W: Write> Counted<W> {
         requires some { 0 < length bytes.now }
         requires short { length bytes.now ≤ 4096 }
         ensures taken { IfOk result (λ count. (0 < count) × (count ≤ length bytes.now)) }
-        ensures bytes { WriteAppends (W.contents self.old.inner) (W.contents self.new.inner) result bytes.now }
+        ensures bytes { WriteAppends (W.contents self.old.inner) (W.contents self.new.inner) result
+            bytes.now }
         ensures failures { self.new.failures ≡ failures_after result self.old.failures }
         ensures turns { self.new.turns ≡ self.old.turns }
         ensures waits { IfOk result (λ count. self.new.is_flushed ≡ false) }
@@ -126,7 +136,8 @@ impl<W: Write> Counted<W> {
         result
     }
 
-    /// Writes all the bytes, at most 4,096 a call, or a beginning of them before a write that fails.
+    /// Writes all the bytes, at most 4,096 a call, or a beginning of them before a write that
+    /// fails.
     pub fn put_all(&mut self, bytes: &[u8]) -> io::Result<()>
         ensures text { Writes W.contents self.old self.new bytes.now result }
         ensures none { bytes.now ≡ [] → IsOk result × (self.new ≡ self.old) }

@@ -4,7 +4,7 @@ ghost use Rattle.std.specs.List.{flat_map};
 ghost use Rattle.t1_code.specs.Cipher.{cipher as encrypted, eexec, key_after};
 ghost use Rattle.t1_code.specs.Counted.{Puts, outlet};
 ghost use Rattle.t1_code.specs.Eexec.{formed, form_after, EexecState, enciphered, state_after};
-ghost use Rattle.t1_code.specs.Parts.{piece_text, bytes_of};
+ghost use Rattle.t1_code.specs.Parts.{piece_text, slices_bytes};
 
 use crate::chunk::Chunk;
 use crate::cipher::Cipher;
@@ -37,7 +37,8 @@ impl Form {
         chunk: &mut Chunk,
         bytes: &[u8],
     ) -> io::Result<()>
-        ensures text { Puts W.contents (outlet out.old chunk.old) (outlet out.new chunk.new) (formed self.old bytes.now) result }
+        ensures text { Puts W.contents (outlet out.old chunk.old) (outlet out.new chunk.new)
+            (formed self.old bytes.now) result }
         ensures state { OnOk result (self.new ≡ form_after self.old bytes.now) }
     {
         match self {
@@ -47,7 +48,8 @@ impl Form {
     }
 }
 
-/// Encrypts the private text, in turns, by way of a buffer. Contracts see the key that stands there and the form.
+/// Encrypts the private text, in turns, by way of a buffer. Contracts see the key that stands there
+/// and the form.
 #[derive(Drop)]
 pub(crate) struct EexecWriter {
     cipher: Cipher,
@@ -94,7 +96,8 @@ impl EexecWriter {
         chunk: &mut Chunk,
         bytes: &[u8],
     ) -> io::Result<()>
-        ensures text { Puts W.contents (outlet out.old chunk.old) (outlet out.new chunk.new) (enciphered self.old bytes.now) result }
+        ensures text { Puts W.contents (outlet out.old chunk.old) (outlet out.new chunk.new)
+            (enciphered self.old bytes.now) result }
         ensures state { OnOk result (self.new ≡ state_after self.old bytes.now) }
     {
         let mut rest = bytes;
@@ -114,8 +117,9 @@ impl EexecWriter {
         chunk: &mut Chunk,
         slices: &[&[u8]],
     ) -> io::Result<()>
-        ensures text { Puts W.contents (outlet out.old chunk.old) (outlet out.new chunk.new) (enciphered self.old (bytes_of slices.now)) result }
-        ensures state { OnOk result (self.new ≡ state_after self.old (bytes_of slices.now)) }
+        ensures text { Puts W.contents (outlet out.old chunk.old) (outlet out.new chunk.new)
+            (enciphered self.old (slices_bytes slices.now)) result }
+        ensures state { OnOk result (self.new ≡ state_after self.old (slices_bytes slices.now)) }
     {
         for slice in slices {
             self.put(out, chunk, slice)?;
@@ -130,7 +134,8 @@ impl EexecWriter {
         chunk: &mut Chunk,
         waiting: &mut Chunk,
     ) -> io::Result<()>
-        ensures text { Puts W.contents (outlet out.old chunk.old) (outlet out.new chunk.new) (enciphered self.old waiting.old) result }
+        ensures text { Puts W.contents (outlet out.old chunk.old) (outlet out.new chunk.new)
+            (enciphered self.old waiting.old) result }
         ensures state { OnOk result (self.new ≡ state_after self.old waiting.old) }
         ensures empty { OnOk result (waiting.new ≡ []) }
     {
@@ -147,7 +152,8 @@ impl EexecWriter {
         chunk: &mut Chunk,
         pieces: &[Piece],
     ) -> io::Result<()>
-        ensures text { Puts W.contents (outlet out.old chunk.old) (outlet out.new chunk.new) (enciphered self.old (flat_map piece_text pieces.now)) result }
+        ensures text { Puts W.contents (outlet out.old chunk.old) (outlet out.new chunk.new)
+            (enciphered self.old (flat_map piece_text pieces.now)) result }
     {
         let mut waiting = Chunk::new();
         for piece in pieces {
@@ -173,7 +179,8 @@ pub(crate) fn put_private<W: Write>(
     form: Form,
     pieces: &[Piece],
 ) -> io::Result<()>
-    ensures { Puts W.contents (outlet out.old chunk.old) (outlet out.new chunk.new) (formed form (eexec (flat_map piece_text pieces.now))) result }
+    ensures { Puts W.contents (outlet out.old chunk.old) (outlet out.new chunk.new)
+        (formed form (eexec (flat_map piece_text pieces.now))) result }
 {
     let mut writer = EexecWriter::new(form);
     writer.put(out, chunk, &[0; EEXEC_LEAD])?;

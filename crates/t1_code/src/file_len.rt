@@ -32,7 +32,9 @@ fn block_count(len: u64, size: u64) -> u64
 fn segments_len(len: usize, size: usize) -> u64
     requires some { 1 ≤ size }
     requires short { len < 2 ^ 31 }
-    ensures len { (kind : ℕ) (bytes : List ℕ) → length bytes ≡ len → result ≡ length (segments size kind bytes) }
+    ensures len { (kind : ℕ) (bytes : List ℕ)
+        → length bytes ≡ len
+        → result ≡ length (segments size kind bytes) }
     ensures at_most { result ≤ 7 * 2 ^ 31 }
 {
     len as u64 + HEAD_LEN * block_count(len as u64, size as u64)
@@ -41,7 +43,9 @@ fn segments_len(len: usize, size: usize) -> u64
 /// How many bytes the lines of hexadecimal digits of so many bytes have, with their ends.
 fn lines_len(len: usize) -> u64
     requires short { len < 2 ^ 31 }
-    ensures len { (bytes : List ℕ) → length bytes ≡ len → result ≡ length (hexadecimal_lines bytes) }
+    ensures len { (bytes : List ℕ)
+        → length bytes ≡ len
+        → result ≡ length (hexadecimal_lines bytes) }
     ensures at_most { result ≤ 4 * 2 ^ 31 }
 {
     let digits = 2 * len as u64;

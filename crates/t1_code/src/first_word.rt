@@ -7,7 +7,8 @@ ghost use Rattle.t1_code.specs.Words.{first_word};
 
 use t1_frac::is_blank;
 
-/// The bytes past the blank that ends a word here, of which the end of a text has none; nothing where the word goes on.
+/// The bytes past the blank that ends a word here, of which the end of a text has none; nothing
+/// where the word goes on.
 #[inline(always)]
 pub(crate) fn past_end(text: &[u8]) -> Option<&[u8]>
     ensures { MatchOption
@@ -80,8 +81,8 @@ fn is_same<const N: usize>(one: &[u8; N], other: &[u8; N]) -> bool
     same_by_four(one.as_slice(), other.as_slice())
 }
 
-/// The bytes past the first word of a text and the blank that ends it, where it is this word. The word is an array, so that
-/// its length is known where this is compiled.
+/// The bytes past the first word of a text and the blank that ends it, where it is this word. The
+/// word is an array, so that its length is known where this is compiled.
 #[inline(always)]
 pub(crate) fn after_word<'a, const N: usize>(word: &[u8; N], text: &'a [u8]) -> Option<&'a [u8]>
     requires { list_all (λ c. not (is_blank c)) word.now ≡ true }

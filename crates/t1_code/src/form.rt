@@ -23,17 +23,21 @@ pub trait FileForm {
         out: &mut Counted<W>,
         chunk: &mut Chunk,
     ) -> Result<(), OutError>
-        ensures { PassesFile W.contents (outlet out.old chunk.old) (outlet out.new chunk.new) (file self.now parts.now.clear.now (pieces_text parts.now) parts.now.trailer.now) result };
+        ensures { PassesFile W.contents (outlet out.old chunk.old) (outlet out.new chunk.new)
+            (file self.now parts.now.clear.now (pieces_text parts.now) parts.now.trailer.now)
+            result };
 }
 
-/// Writes the file of the parts in a form: the whole file at `Ok`, a beginning of it at `Write`, nothing at F23. No call of
-/// the writer is handed more than 4,096 bytes. It takes no memory.
+/// Writes the file of the parts in a form: the whole file at `Ok`, a beginning of it at `Write`,
+/// nothing at F23. No call of the writer is handed more than 4,096 bytes. It takes no memory.
 pub fn write_file<F: FileForm, W: Write>(
     form: &F,
     parts: &Parts,
     out: &mut Counted<W>,
 ) -> Result<(), OutError>
-    ensures prints { Prints W.contents out.old out.new (F.file form.now parts.now.clear.now (pieces_text parts.now) parts.now.trailer.now) result }
+    ensures prints { Prints W.contents out.old out.new
+        (F.file form.now parts.now.clear.now (pieces_text parts.now) parts.now.trailer.now)
+        result }
     ensures no_memory { result ≢ Err OutError.Memory }
 {
     let mut chunk = Chunk::new();

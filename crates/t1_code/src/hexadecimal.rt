@@ -1,7 +1,8 @@
 //! Bytes in lines of hexadecimal digits.
 ghost use Rattle.std.specs.Prelude.{◌≡◌, ◌<◌, [], ◌∷◌, OnOk};
 ghost use Rattle.t1_code.specs.Counted.{Puts, outlet};
-ghost use Rattle.t1_code.specs.Hexadecimal.{in_lines, line_end_due, next_room, refilled, room_after};
+ghost use Rattle.t1_code.specs.Hexadecimal.{in_lines, line_end_due, next_room, refilled};
+ghost use Rattle.t1_code.specs.Hexadecimal.{room_after};
 ghost use Rattle.t1_code.specs.Pfa.{hexadecimal_digit, digits_of_byte};
 
 use crate::chunk::{Chunk, put_plain};
@@ -46,7 +47,8 @@ impl HexLines {
 
     /// Ends the present line where it is full.
     fn end_full<W: Write>(&mut self, out: &mut Counted<W>, chunk: &mut Chunk) -> io::Result<()>
-        ensures text { Puts W.contents (outlet out.old chunk.old) (outlet out.new chunk.new) (line_end_due self.old.room) result }
+        ensures text { Puts W.contents (outlet out.old chunk.old) (outlet out.new chunk.new)
+            (line_end_due self.old.room) result }
         ensures state { OnOk result (self.new.room ≡ refilled self.old.room) }
     {
         if self.room > 0 {
@@ -64,7 +66,8 @@ impl HexLines {
         chunk: &mut Chunk,
         byte: u8,
     ) -> io::Result<()>
-        ensures text { Puts W.contents (outlet out.old chunk.old) (outlet out.new chunk.new) (in_lines self.old.room (byte ∷ [])) result }
+        ensures text { Puts W.contents (outlet out.old chunk.old) (outlet out.new chunk.new)
+            (in_lines self.old.room (byte ∷ [])) result }
         ensures state { OnOk result (self.new.room ≡ next_room self.old.room) }
     {
         self.end_full(out, chunk)?;
@@ -79,7 +82,8 @@ impl HexLines {
         chunk: &mut Chunk,
         bytes: &[u8],
     ) -> io::Result<()>
-        ensures text { Puts W.contents (outlet out.old chunk.old) (outlet out.new chunk.new) (in_lines self.old.room bytes.now) result }
+        ensures text { Puts W.contents (outlet out.old chunk.old) (outlet out.new chunk.new)
+            (in_lines self.old.room bytes.now) result }
         ensures state { OnOk result (self.new.room ≡ room_after self.old.room bytes.now) }
     {
         for byte in bytes {

@@ -1,8 +1,9 @@
 //! Charstring code, its encryption, and the PFB and PFA files of an assembled font.
 //!
-//! For users: [`compile`], [`assemble`] and [`encrypt`], with [`Body`], [`Command`] and [`standard_name`]; [`Counted`], in
-//! which every reader and writer is lent, and [`OutError`]; [`Parts`] and [`Piece`] with [`write_pfb`], whole or in blocks
-//! ([`WHOLE_PARTS`]), and [`write_pfa`]. The rest is for the crates above: code added to what is there, the chunk before a
+//! For users: [`compile`], [`assemble`] and [`encrypt`], with [`Body`], [`Command`] and
+//! [`standard_name`]; [`Counted`], in which every reader and writer is lent, and [`OutError`];
+//! [`Parts`] and [`Piece`] with [`write_pfb`], whole or in blocks ([`WHOLE_PARTS`]), and
+//! [`write_pfa`]. The rest is for the crates above: code added to what is there, the chunk before a
 //! writer, lengths of files, and both forms of a file as one ([`FileForm`]).
 #![tactic(auto)]
 

@@ -17,7 +17,8 @@ use std::io::{self, Write};
 
 /// Passes the encrypted private text on in lines of hexadecimal digits.
 fn put_digits<W: Write>(out: &mut Counted<W>, chunk: &mut Chunk, pieces: &[Piece]) -> io::Result<()>
-    ensures { Puts W.contents (outlet out.old chunk.old) (outlet out.new chunk.new) (hexadecimal_lines (eexec (flat_map piece_text pieces.now))) result }
+    ensures { Puts W.contents (outlet out.old chunk.old) (outlet out.new chunk.new)
+        (hexadecimal_lines (eexec (flat_map piece_text pieces.now))) result }
 {
     put_private(out, chunk, Form::Hexadecimal(HexLines::new()), pieces)?;
     put_plain(out, chunk, b"\n")
@@ -25,7 +26,8 @@ fn put_digits<W: Write>(out: &mut Counted<W>, chunk: &mut Chunk, pieces: &[Piece
 
 /// Passes on the file.
 fn put_file<W: Write>(out: &mut Counted<W>, chunk: &mut Chunk, parts: &Parts) -> io::Result<()>
-    ensures { Puts W.contents (outlet out.old chunk.old) (outlet out.new chunk.new) (pfa parts.now.clear.now (pieces_text parts.now) parts.now.trailer.now) result }
+    ensures { Puts W.contents (outlet out.old chunk.old) (outlet out.new chunk.new)
+        (pfa parts.now.clear.now (pieces_text parts.now) parts.now.trailer.now) result }
 {
     put_plain(out, chunk, parts.clear)?;
     put_digits(out, chunk, parts.pieces)?;
@@ -53,10 +55,10 @@ impl FileForm for Pfa {
     }
 }
 
-/// Writes the PFA file of the parts: the clear text, the encrypted private text in lines of 64 lower-case hexadecimal
-/// digits, and the trailer. F23 where a part has more than 2^31 - 1 bytes, with nothing written; the private part
-/// counts its four leading bytes too, and each byte once. No call of the writer is handed more than 4,096 bytes. It
-/// takes no memory.
+/// Writes the PFA file of the parts: the clear text, the encrypted private text in lines of 64
+/// lower-case hexadecimal digits, and the trailer. F23 where a part has more than 2^31 - 1 bytes,
+/// with nothing written; the private part counts its four leading bytes too, and each byte once. No
+/// call of the writer is handed more than 4,096 bytes. It takes no memory.
 pub fn write_pfa<W: Write>(parts: &Parts, out: &mut Counted<W>) -> Result<(), OutError>
     ensures prints { Prints W.contents out.old out.new (hexadecimal_file_of parts.now) result }
     ensures no_memory { result ≢ Err OutError.Memory }

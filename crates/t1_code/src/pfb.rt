@@ -27,7 +27,8 @@ const BINARY: u8 = 2;
 /// The type that ends the file.
 const END: u8 = 3;
 
-/// Passes on the file in blocks of this size. The private text with its leading bytes has the length that is given.
+/// Passes on the file in blocks of this size. The private text with its leading bytes has the
+/// length that is given.
 fn put_file<W: Write>(
     out: &mut Counted<W>,
     chunk: &mut Chunk,
@@ -38,7 +39,8 @@ fn put_file<W: Write>(
     requires some { 1 ≤ size }
     requires short { size < 2 ^ 31 }
     requires whole { private_len ≡ length (eexec (pieces_text parts.now)) }
-    ensures { Puts W.contents (outlet out.old chunk.old) (outlet out.new chunk.new) (pfb size parts.now.clear.now (pieces_text parts.now) parts.now.trailer.now) result }
+    ensures { Puts W.contents (outlet out.old chunk.old) (outlet out.new chunk.new)
+        (pfb size parts.now.clear.now (pieces_text parts.now) parts.now.trailer.now) result }
 {
     put_part(out, chunk, ASCII, size, parts.clear)?;
     let segmenter = Segmenter::begin(out, chunk, BINARY, size, private_len)?;
@@ -64,7 +66,8 @@ impl Model for Pfb {
 }
 
 impl Pfb {
-    /// Each part cut into segments of so many bytes, the last with the rest; an empty part is one empty segment.
+    /// Each part cut into segments of so many bytes, the last with the rest; an empty part is one
+    /// empty segment.
     pub fn in_blocks(size: usize) -> Pfb
         requires some { 1 ≤ size }
         requires short { size ≤ 2 ^ 31 - 1 }
@@ -91,9 +94,10 @@ impl FileForm for Pfb {
     }
 }
 
-/// Writes the PFB file of the parts, each cut into segments of so many bytes, the last with the rest; an empty part
-/// is one empty segment. F23 where a part has more than 2^31 - 1 bytes, with nothing written; the private part counts
-/// its four leading bytes too. No call of the writer is handed more than 4,096 bytes. It takes no memory.
+/// Writes the PFB file of the parts, each cut into segments of so many bytes, the last with the
+/// rest; an empty part is one empty segment. F23 where a part has more than 2^31 - 1 bytes, with
+/// nothing written; the private part counts its four leading bytes too. No call of the writer is
+/// handed more than 4,096 bytes. It takes no memory.
 pub fn write_pfb<W: Write>(parts: &Parts, size: usize, out: &mut Counted<W>) -> Result<(), OutError>
     requires some { 1 ≤ size }
     requires short { size ≤ 2 ^ 31 - 1 }

@@ -2,7 +2,7 @@
 ghost use Rattle.std.specs.Prelude.{◌≡◌, ◌^◌, ◌-◌, min, length, decimal, IfErr, IfOk, is_err};
 ghost use Rattle.std.specs.List.{flat_map};
 ghost use Rattle.t1_code.specs.Cipher.{eexec};
-ghost use Rattle.t1_code.specs.Parts.{piece_text, pieces_text, charstring_length, bytes_of};
+ghost use Rattle.t1_code.specs.Parts.{piece_text, pieces_text, charstring_length, slices_bytes};
 ghost use Rattle.t1_code.specs.Pfb.{has_long_part};
 ghost use Rattle.t1_frac.specs.declared.fault.Code.TheVariants.{F23};
 
@@ -29,7 +29,7 @@ pub(crate) fn charstring_len(piece: &Piece) -> usize
 /// The bytes of a piece, in slices. The digits are those of its charstring's length.
 pub(crate) fn slices<'a>(piece: &Piece<'a>, digits: &'a str) -> [&'a [u8]; 10]
     requires { digits.now ≡ decimal (charstring_length piece.now) }
-    ensures { bytes_of result ≡ piece_text piece.now }
+    ensures { slices_bytes result ≡ piece_text piece.now }
 {
     match piece {
         Piece::Plain(bytes) => [bytes, &[], &[], &[], &[], &[], &[], &[], &[], &[]],
@@ -55,7 +55,7 @@ pub(crate) fn slices<'a>(piece: &Piece<'a>, digits: &'a str) -> [&'a [u8]; 10]
 
 /// How long the slices are together, up to 2^64 - 1.
 pub(crate) fn total_len(slices: &[&[u8]]) -> usize
-    ensures { result ≡ min (length (bytes_of slices.now)) (2 ^ 64 - 1) }
+    ensures { result ≡ min (length (slices_bytes slices.now)) (2 ^ 64 - 1) }
 {
     let mut total: usize = 0;
     for slice in slices {
@@ -77,10 +77,12 @@ fn private_len(pieces: &[Piece]) -> usize
     total
 }
 
-/// How long the private part is, its leading bytes included; F23 where a part of the file is too long.
+/// How long the private part is, its leading bytes included; F23 where a part of the file is too
+/// long.
 pub(crate) fn private_part_len(parts: &Parts) -> Result<usize, Code>
     ensures fault { IfErr result (λ code. code ≡ F23) }
-    ensures judged { is_err result ≡ has_long_part parts.now.clear.now (pieces_text parts.now) parts.now.trailer.now }
+    ensures judged { is_err result
+        ≡ has_long_part parts.now.clear.now (pieces_text parts.now) parts.now.trailer.now }
     ensures len { IfOk result (λ len. len ≡ length (eexec (pieces_text parts.now))) }
 {
     let private_len = private_len(parts.pieces).saturating_add(EEXEC_LEAD);

@@ -1,7 +1,8 @@
 //! A part of a PFB file, cut into segments.
 ghost use Rattle.std.specs.Prelude.{◌≡◌, ◌^◌, ◌<◌, ◌≤◌, min, IfOk, OnOk};
 ghost use Rattle.t1_code.specs.Counted.{Puts, outlet};
-ghost use Rattle.t1_code.specs.Segments.{Segmenting, head_due, opened, in_segments, segmenting_after};
+ghost use Rattle.t1_code.specs.Segments.{Segmenting, head_due, segment_opened, in_segments};
+ghost use Rattle.t1_code.specs.Segments.{segmenting_after};
 ghost use Rattle.t1_code.specs.Pfb.{segment_head as head, segments};
 
 use crate::chunk::{Chunk, put_plain};
@@ -52,8 +53,11 @@ impl Segmenter {
     ) -> io::Result<Segmenter>
         requires some { 1 ≤ size }
         requires short { size < 2 ^ 31 }
-        ensures text { Puts W.contents (outlet out.old chunk.old) (outlet out.new chunk.new) (head kind (min size len)) result }
-        ensures state { IfOk result (λ segmenter. segmenter ≡ record { kind = kind; size = size; room = size; left = len }) }
+        ensures text { Puts W.contents (outlet out.old chunk.old) (outlet out.new chunk.new)
+            (head kind (min size len)) result }
+        ensures state { IfOk result
+            (λ segmenter.
+            segmenter ≡ record { kind = kind; size = size; room = size; left = len }) }
     {
         put_plain(out, chunk, &segment_head(kind, size.min(len)))?;
         Ok(Segmenter {
@@ -66,8 +70,9 @@ impl Segmenter {
 
     /// Begins a segment where the present one takes no byte more.
     fn open<W: Write>(&mut self, out: &mut Counted<W>, chunk: &mut Chunk) -> io::Result<()>
-        ensures text { Puts W.contents (outlet out.old chunk.old) (outlet out.new chunk.new) (head_due self.old) result }
-        ensures state { OnOk result (self.new ≡ opened self.old) }
+        ensures text { Puts W.contents (outlet out.old chunk.old) (outlet out.new chunk.new)
+            (head_due self.old) result }
+        ensures state { OnOk result (self.new ≡ segment_opened self.old) }
     {
         if self.room > 0 {
             return Ok(());
@@ -88,7 +93,8 @@ impl Segmenter {
         chunk: &mut Chunk,
         bytes: &[u8],
     ) -> io::Result<()>
-        ensures text { Puts W.contents (outlet out.old chunk.old) (outlet out.new chunk.new) (in_segments self.old bytes.now) result }
+        ensures text { Puts W.contents (outlet out.old chunk.old) (outlet out.new chunk.new)
+            (in_segments self.old bytes.now) result }
         ensures state { OnOk result (self.new ≡ segmenting_after self.old bytes.now) }
     {
         let mut rest = bytes;
@@ -114,7 +120,8 @@ pub(crate) fn put_part<W: Write>(
 ) -> io::Result<()>
     requires some { 1 ≤ size }
     requires short { size < 2 ^ 31 }
-    ensures { Puts W.contents (outlet out.old chunk.old) (outlet out.new chunk.new) (segments size kind bytes.now) result }
+    ensures { Puts W.contents (outlet out.old chunk.old) (outlet out.new chunk.new)
+        (segments size kind bytes.now) result }
 {
     let mut segmenter = Segmenter::begin(out, chunk, kind, size, bytes.len())?;
     segmenter.put(out, chunk, bytes)

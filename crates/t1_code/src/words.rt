@@ -1,9 +1,11 @@
 //! The words of a body, read as commands.
-ghost use Rattle.std.specs.Prelude.{◌≡◌, ◌<◌, ◌≤◌, [], Ok, false, nat_lt, ◌∷◌, ◌++◌, length, take, IfSome, MatchOption, OnOk, OnErr};
+ghost use Rattle.std.specs.Prelude.{◌≡◌, ◌<◌, ◌≤◌, [], Ok, false, nat_lt, ◌∷◌, ◌++◌, length, take};
+ghost use Rattle.std.specs.Prelude.{IfSome, MatchOption, OnOk, OnErr};
 ghost use Rattle.t1_frac.specs.Outcome.{Gives, reported_at};
 ghost use Rattle.t1_frac.specs.Words.{trimmed_front, words};
 ghost use Rattle.t1_frac.specs.declared.fault.Place.TheVariants.{Nowhere};
-ghost use Rattle.t1_code.specs.Words.{number_command, in_32_bits, first_word, after_others, command_of_word, command_then, commands_of_words, commands};
+ghost use Rattle.t1_code.specs.Words.{number_command, in_32_bits, first_word, after_others};
+ghost use Rattle.t1_code.specs.Words.{command_of_word, command_then, commands_of_words, commands};
 ghost use Rattle.t1_code.specs.declared.command.Command.TheVariants as commands_named;
 ghost use Rattle.t1_frac.specs.Numbers.{signed, is_number_word};
 
@@ -43,15 +45,15 @@ fn from_word(text: &[u8]) -> &[u8]
     skip_blanks(text)
 }
 
-/// The number word that a text begins with, whatever its digits, as a command, and the bytes after it; nothing where the text begins
-/// with another word or with none.
+/// The number word that a text begins with, whatever its digits, as a command, and the bytes after
+/// it; nothing where the text begins with another word or with none.
 #[inline(never)]
 fn first_number(text: &[u8]) -> Option<(Result<Command, Code>, &[u8])>
     ensures shorter { IfSome result (λ found. length found.1.now < length text.now) }
-    ensures value { MatchOption
-        result
-        (is_number_word (first_word text.now) ≡ false)
-        (λ found. commands_of_words (words text.now) ≡ command_then found.0 (commands_of_words (words found.1.now))) }
+    ensures value { MatchOption result (is_number_word (first_word text.now) ≡ false)
+        (λ found.
+        commands_of_words (words text.now)
+        ≡ command_then found.0 (commands_of_words (words found.1.now))) }
 {
     let digits = digits_of_word(text);
     let (size, count) = leading_number(digits);
@@ -75,12 +77,16 @@ fn short_number_command(minus: bool, size: u32) -> Command
     Command::Num(if minus { -number } else { number })
 }
 
-/// The number word of up to three digits that a text begins with, as a command, and the bytes after it. Most words are so. Nothing is
-/// said where it answers nothing: the number may be longer, or the last word of the text.
+/// The number word of up to three digits that a text begins with, as a command, and the bytes after
+/// it. Most words are so. Nothing is said where it answers nothing: the number may be longer, or
+/// the last word of the text.
 #[inline(always)]
 fn first_short_number(text: &[u8]) -> Option<(Command, &[u8])>
     ensures shorter { IfSome result (λ found. length found.1.now < length text.now) }
-    ensures value { IfSome result (λ found. commands_of_words (words text.now) ≡ command_then (Ok found.0) (commands_of_words (words found.1.now))) }
+    ensures value { IfSome result
+        (λ found.
+        commands_of_words (words text.now)
+        ≡ command_then (Ok found.0) (commands_of_words (words found.1.now))) }
 {
     let digits = digits_of_word(text);
     let Some((size, count)) = leading_short_number(digits) else {
@@ -97,11 +103,16 @@ fn first_short_number(text: &[u8]) -> Option<(Command, &[u8])>
     Some((command, after))
 }
 
-/// The bytes after the first word of a text, where it is `div`. A font whose coordinates have fractions has one for each of them.
+/// The bytes after the first word of a text, where it is `div`. A font whose coordinates have
+/// fractions has one for each of them.
 #[inline(always)]
 fn after_div(rest: &[u8]) -> Option<&[u8]>
     requires { rest.now ≡ trimmed_front rest.now }
-    ensures { IfSome result (λ after. (commands_of_words (words rest.now) ≡ command_then (Ok commands_named.Div) (commands_of_words (words after.now))) × (length after.now < length rest.now)) }
+    ensures { IfSome result
+        (λ after.
+        (commands_of_words (words rest.now)
+        ≡ command_then (Ok commands_named.Div) (commands_of_words (words after.now)))
+        × (length after.now < length rest.now)) }
 {
     let Some(after) = after_word(b"div", rest) else {
         return None;
@@ -109,11 +120,16 @@ fn after_div(rest: &[u8]) -> Option<&[u8]>
     Some(after)
 }
 
-/// The command that a text begins with, where it is one that most fonts have many of, and the bytes after its word.
+/// The command that a text begins with, where it is one that most fonts have many of, and the bytes
+/// after its word.
 #[inline(always)]
 fn frequent_command(rest: &[u8]) -> Option<(Command, &[u8])>
     requires { rest.now ≡ trimmed_front rest.now }
-    ensures { IfSome result (λ found. (commands_of_words (words rest.now) ≡ command_then (Ok found.0) (commands_of_words (words found.1.now))) × (length found.1.now < length rest.now)) }
+    ensures { IfSome result
+        (λ found.
+        (commands_of_words (words rest.now)
+        ≡ command_then (Ok found.0) (commands_of_words (words found.1.now)))
+        × (length found.1.now < length rest.now)) }
 {
     let Some((command, after)) = frequent(rest) else {
         return None;
@@ -121,16 +137,17 @@ fn frequent_command(rest: &[u8]) -> Option<(Command, &[u8])>
     Some((command, after))
 }
 
-/// What the first word of a text says, and the bytes after the word; nothing where the text has no word. The text begins with
-/// no blank. It stands apart from what tells short numbers, which most words are.
+/// What the first word of a text says, and the bytes after the word; nothing where the text has no
+/// word. The text begins with no blank. It stands apart from what tells short numbers, which most
+/// words are.
 #[inline(never)]
 fn first_command(rest: &[u8]) -> Option<(Result<Command, Code>, &[u8])>
     requires { rest.now ≡ trimmed_front rest.now }
     ensures shorter { IfSome result (λ found. length found.1.now < length rest.now) }
-    ensures value { MatchOption
-        result
-        (words rest.now ≡ [])
-        (λ found. commands_of_words (words rest.now) ≡ command_then found.0 (commands_of_words (words found.1.now))) }
+    ensures value { MatchOption result (words rest.now ≡ [])
+        (λ found.
+        commands_of_words (words rest.now)
+        ≡ command_then found.0 (commands_of_words (words found.1.now))) }
 {
     if let Some((command, after)) = Command::first(rest) {
         return Some((Ok(command), after));
@@ -144,14 +161,15 @@ fn first_command(rest: &[u8]) -> Option<(Result<Command, Code>, &[u8])>
     Some((Err(Code::F20), after))
 }
 
-/// What the first word of a line says, and the bytes after the word; nothing where the line has no word.
+/// What the first word of a line says, and the bytes after the word; nothing where the line has no
+/// word.
 #[inline(always)]
 pub(crate) fn next_command(line: &[u8]) -> Option<(Result<Command, Code>, &[u8])>
     ensures shorter { IfSome result (λ found. length found.1.now < length line.now) }
-    ensures value { MatchOption
-        result
-        (words line.now ≡ [])
-        (λ found. commands_of_words (words line.now) ≡ command_then found.0 (commands_of_words (words found.1.now))) }
+    ensures value { MatchOption result (words line.now ≡ [])
+        (λ found.
+        commands_of_words (words line.now)
+        ≡ command_then found.0 (commands_of_words (words found.1.now))) }
 {
     let rest = from_word(line);
     if let Some((command, after)) = first_short_number(rest) {
@@ -181,7 +199,8 @@ pub(crate) fn is_too_long(text: &[u8]) -> bool
     text.len() > MAX_WORDS && word_count(text) > MAX_WORDS
 }
 
-/// Adds a command. More room is asked for only where none is left, so that the loop over words makes no call for it.
+/// Adds a command. More room is asked for only where none is left, so that the loop over words
+/// makes no call for it.
 #[inline(always)]
 fn add(commands: &mut Vec<Command>, command: Command) -> Result<(), AllocError>
     ensures ok { OnOk result (commands.new.items ≡ commands.old.items ++ command ∷ []) }
@@ -194,9 +213,12 @@ fn add(commands: &mut Vec<Command>, command: Command) -> Result<(), AllocError>
     Ok(())
 }
 
-/// Adds the commands of a text's words. At a fault and where memory runs out some of them may stand there.
+/// Adds the commands of a text's words. At a fault and where memory runs out some of them may stand
+/// there.
 fn read_words(read: &mut Vec<Command>, text: &[u8]) -> Result<(), Refusal>
-    ensures value { Gives (λ _. read.new.items) result (reported_at Nowhere (after_others read.old.items (commands_of_words (words text.now)))) }
+    ensures value { Gives (λ _. read.new.items) result
+        (reported_at Nowhere
+        (after_others read.old.items (commands_of_words (words text.now)))) }
     ensures front { take (length read.old.items) read.new.items ≡ read.old.items }
 {
     let mut rest = from_word(text);
@@ -229,12 +251,13 @@ fn read_words(read: &mut Vec<Command>, text: &[u8]) -> Result<(), Refusal>
     }
 }
 
-/// Adds the commands of a body's words to others: F22 past 65,535 words, then the first word's fault that has one, F20 for an
-/// unknown word and F21 for a number that doesn't fit 32 bits. The others stay; at a fault and where memory runs out some of
-/// the body's may stand after them.
+/// Adds the commands of a body's words to others: F22 past 65,535 words, then the first word's
+/// fault that has one, F20 for an unknown word and F21 for a number that doesn't fit 32 bits. The
+/// others stay; at a fault and where memory runs out some of the body's may stand after them.
 #[tactic(auto, unfolding(crate::specs::Words::commands))]
 pub fn compile_onto(others: &mut Vec<Command>, words: &Words) -> Result<(), Refusal>
-    ensures value { Gives (λ _. others.new.items) result (reported_at Nowhere (after_others others.old.items (commands words.now))) }
+    ensures value { Gives (λ _. others.new.items) result
+        (reported_at Nowhere (after_others others.old.items (commands words.now))) }
     ensures front { take (length others.old.items) others.new.items ≡ others.old.items }
 {
     let text = words.as_bytes();

@@ -18,12 +18,12 @@ abbrev pub kerning : List ℕ × List (List ℕ)
 kerning = (codes "Faults of reading a kerning file", codes "F12" ∷ codes "F13" ∷ [])
 
 -- profile: the faults of a body, and of the PFB file
-abbrev pub bodies : List ℕ × List (List ℕ)
-bodies = (codes "Faults of a body, and of the PFB file", codes "F20" ∷ codes "F21" ∷ codes "F22" ∷ codes "F23" ∷ [])
+abbrev pub body_codes : List ℕ × List (List ℕ)
+body_codes = (codes "Faults of a body, and of the PFB file", codes "F20" ∷ codes "F21" ∷ codes "F22" ∷ codes "F23" ∷ [])
 
 -- profile: the faults of running a glyph
-abbrev pub runs : List ℕ × List (List ℕ)
-runs = (
+abbrev pub run_codes : List ℕ × List (List ℕ)
+run_codes = (
   codes "Faults of running a glyph",
   codes "F30" ∷ codes "F31" ∷ codes "F32" ∷ codes "F33" ∷ codes "F34" ∷ codes "F35" ∷ codes "F36" ∷ codes "F37" ∷ codes "F38" ∷ codes "F39" ∷ codes "F40" ∷ codes "F41" ∷ codes "F42" ∷ codes "F43" ∷ codes "F44" ∷ codes "F45" ∷ codes "F46" ∷ codes "F47" ∷ codes "F48" ∷ [],
 )
@@ -36,8 +36,8 @@ disassembling = (
 )
 
 -- profile: the notes on a source
-abbrev pub notes : List ℕ × List (List ℕ)
-notes = (
+abbrev pub note_codes : List ℕ × List (List ℕ)
+note_codes = (
   codes "Notes on a source, by t1edit notes",
   codes "byte-order-mark" ∷ codes "first-line" ∷ codes "encoded-name" ∷ codes "count" ∷ codes "plain-entry" ∷ codes "no-notdef" ∷ codes "no-entry" ∷ codes "after-end" ∷ codes "values-left" ∷ codes "wide-coordinate" ∷ codes "negative-width" ∷ codes "open-path" ∷ codes "unused-subr" ∷ codes "font-box" ∷ [],
 )
@@ -55,4 +55,4 @@ statuses = (codes "Exit statuses", codes "0" ∷ codes "1" ∷ codes "2" ∷ cod
 
 -- profile: all of them, in the order in which they are listed
 abbrev pub of_program : List (List ℕ × List (List ℕ))
-of_program = reading ∷ kerning ∷ bodies ∷ runs ∷ disassembling ∷ notes ∷ rules ∷ statuses ∷ []
+of_program = reading ∷ kerning ∷ body_codes ∷ run_codes ∷ disassembling ∷ note_codes ∷ rules ∷ statuses ∷ []

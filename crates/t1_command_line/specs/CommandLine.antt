@@ -17,12 +17,12 @@ abbrev pub as_font : Rule
 as_font = record (new_rule (codes "font")) { long = Some (codes "font"); action = Some SetTrue }
 
 -- profile: the font's file, which must be there
-abbrev pub font : Rule
-font = record (new_rule (codes "FONT")) { action = Some Set; required = true }
+abbrev pub font_rule : Rule
+font_rule = record (new_rule (codes "FONT")) { action = Some Set; required = true }
 
 -- profile: --kern FILE
-abbrev pub kern : Rule
-kern = record (new_rule (codes "kern")) { long = Some (codes "kern"); action = Some Set; value_names = 1 }
+abbrev pub kern_rule : Rule
+kern_rule = record (new_rule (codes "kern")) { long = Some (codes "kern"); action = Some Set; value_names = 1 }
 
 -- profile: --json, by which each fault is an object of JSON
 abbrev pub json : Rule
@@ -38,8 +38,8 @@ output =
     record (new_rule (codes "output")) { short = Some 111; long = Some (codes "output"); action = Some Set; value_names = 1 }
 
 -- profile: -l N, --block N, which doesn't go with --pfa
-abbrev pub block : Rule
-block =
+abbrev pub block_rule : Rule
+block_rule =
     record (new_rule (codes "block")) {
       short = Some 108;
       long = Some (codes "block");
@@ -49,8 +49,8 @@ block =
     }
 
 -- profile: -a, --pfa
-abbrev pub pfa : Rule
-pfa = record (new_rule (codes "pfa")) { short = Some 97; long = Some (codes "pfa"); action = Some SetTrue }
+abbrev pub pfa_rule : Rule
+pfa_rule = record (new_rule (codes "pfa")) { short = Some 97; long = Some (codes "pfa"); action = Some SetTrue }
 
 -- profile: what is to be explained
 abbrev pub code : Rule
@@ -66,31 +66,31 @@ taking name rules = record (new_shape name) { rules = rules }
 
 -- profile: assemble, which takes a block length or a form, an output and the source or a font
 abbrev pub assemble : Shape
-assemble = taking (codes "assemble") (block ∷ pfa ∷ as_font ∷ output ∷ source ∷ [])
+assemble = taking (codes "assemble") (block_rule ∷ pfa_rule ∷ as_font ∷ output ∷ source ∷ [])
 
 -- profile: disassemble, which takes an output and the font's file
 abbrev pub disassemble : Shape
-disassemble = taking (codes "disassemble") (output ∷ font ∷ [])
+disassemble = taking (codes "disassemble") (output ∷ font_rule ∷ [])
 
 -- profile: measure, which takes kerning, an output and the source or a font
 abbrev pub measure : Shape
-measure = taking (codes "measure") (kern ∷ as_font ∷ output ∷ source ∷ [])
+measure = taking (codes "measure") (kern_rule ∷ as_font ∷ output ∷ source ∷ [])
 
 -- profile: check, which takes kerning, and sources or fonts
-abbrev pub check : Shape
-check = taking (codes "check") (kern ∷ as_font ∷ sources ∷ [])
+abbrev pub check_shape : Shape
+check_shape = taking (codes "check") (kern_rule ∷ as_font ∷ sources ∷ [])
 
 -- profile: faults, which takes its form, kerning, and sources or fonts
 abbrev pub faults : Shape
-faults = taking (codes "faults") (json ∷ kern ∷ as_font ∷ sources ∷ [])
+faults = taking (codes "faults") (json ∷ kern_rule ∷ as_font ∷ sources ∷ [])
 
 -- profile: notes, which takes whether there must be none, and sources or fonts
-abbrev pub notes : Shape
-notes = taking (codes "notes") (strict ∷ as_font ∷ sources ∷ [])
+abbrev pub notes_shape : Shape
+notes_shape = taking (codes "notes") (strict ∷ as_font ∷ sources ∷ [])
 
 -- profile: session, which takes kerning, and the source or a font
 abbrev pub session : Shape
-session = taking (codes "session") (kern ∷ as_font ∷ source ∷ [])
+session = taking (codes "session") (kern_rule ∷ as_font ∷ source ∷ [])
 
 -- profile: explain, which takes what is to be explained, and a place after it
 abbrev pub explain : Shape
@@ -105,9 +105,9 @@ abbrev pub program : App
 program =
     record {
       top = record (new_shape (codes "t1edit")) { is_leaf = false; has_version = true; subcommand_required = true };
-      subs = assemble ∷ disassemble ∷ measure ∷ check ∷ faults ∷ notes ∷ session ∷ explain ∷ [];
+      subs = assemble ∷ disassemble ∷ measure ∷ check_shape ∷ faults ∷ notes_shape ∷ session ∷ explain ∷ [];
     }
 
 -- profile: a command without commands of its own
-abbrev pub alone : Shape → App
-alone shape = record { top = shape; subs = [] }
+abbrev pub without_commands : Shape → App
+without_commands shape = record { top = shape; subs = [] }

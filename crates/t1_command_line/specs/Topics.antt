@@ -21,31 +21,31 @@ topic_of [] code = None
 topic_of (section ∷ sections) code = option_or (topic_in section.topics.now code) (topic_of sections code)
 
 -- profile: the line of a topic in a list: its code and its meaning in a few words
-unfoldable pub line_text : Topic → List ℕ
-line_text topic = topic.code.now ++ (codes ": " ++ (topic.meaning.now ++ codes "\n"))
+unfoldable pub topic_line : Topic → List ℕ
+topic_line topic = topic.code.now ++ (codes ": " ++ (topic.meaning.now ++ codes "\n"))
 
 -- profile: the lines of topics, indented
-abbrev pub lines_text : List Topic → List ℕ
-lines_text [] = []
-lines_text (topic ∷ topics) = (codes "  " ++ line_text topic) ++ lines_text topics
+abbrev pub topics_lines : List Topic → List ℕ
+topics_lines [] = []
+topics_lines (topic ∷ topics) = (codes "  " ++ topic_line topic) ++ topics_lines topics
 
 -- profile: the lines of a section's topics, below its title
-unfoldable pub section_text : Section → List ℕ
-section_text section = section.title.now ++ (codes ":\n" ++ lines_text section.topics.now)
+unfoldable pub topics_section : Section → List ℕ
+topics_section section = section.title.now ++ (codes ":\n" ++ topics_lines section.topics.now)
 
 -- profile: the lists of sections, each after an empty line
 abbrev pub other_sections_text : List Section → List ℕ
 other_sections_text [] = []
-other_sections_text (section ∷ sections) = (codes "\n" ++ section_text section) ++ other_sections_text sections
+other_sections_text (section ∷ sections) = (codes "\n" ++ topics_section section) ++ other_sections_text sections
 
 -- profile: the list of all sections, with an empty line between each two
 abbrev pub list_text : List Section → List ℕ
 list_text [] = []
-list_text (section ∷ sections) = section_text section ++ other_sections_text sections
+list_text (section ∷ sections) = topics_section section ++ other_sections_text sections
 
 -- profile: all that is said of a topic: its line, an empty line, then lead, text and note
 unfoldable pub whole_text : Topic → List ℕ
-whole_text topic = line_text topic ++ (codes "\n" ++ (topic.lead.now ++ (topic.text.now ++ topic.note.now)))
+whole_text topic = topic_line topic ++ (codes "\n" ++ (topic.lead.now ++ (topic.text.now ++ topic.note.now)))
 
 -- profile: what a topic means in a few words; nothing where there is none
 abbrev pub in_a_few_words : Option Topic → List ℕ

@@ -1,17 +1,17 @@
 //! What the command line looks like.
 ghost use Rattle.std.specs.Prelude.{◌≡◌, ◌∷◌, [], codes, map, true, false, IfOk};
 ghost use Rattle.clap.specs.Words.{App, Shape, app_of, new_app, rule_of, with_subcommand};
-ghost use Rattle.t1_command_line.specs.CommandLine.{alone, program, program_alone};
+ghost use Rattle.t1_command_line.specs.CommandLine.{without_commands, program, program_alone};
 ghost use Rattle.t1_command_line.specs.CommandLine.{source as source_rule, sources as sources_rule};
-ghost use Rattle.t1_command_line.specs.CommandLine.{as_font as as_font_rule, font as font_rule};
-ghost use Rattle.t1_command_line.specs.CommandLine.{kern as kern_rule, output as output_rule};
-ghost use Rattle.t1_command_line.specs.CommandLine.{block as block_rule, pfa as pfa_rule};
+ghost use Rattle.t1_command_line.specs.CommandLine.{as_font as as_font_rule, font_rule};
+ghost use Rattle.t1_command_line.specs.CommandLine.{kern_rule, output as output_rule};
+ghost use Rattle.t1_command_line.specs.CommandLine.{block_rule, pfa_rule};
 ghost use Rattle.t1_command_line.specs.CommandLine.{code as code_rule, place as place_rule};
 ghost use Rattle.t1_command_line.specs.CommandLine.{json as json_rule, strict as strict_rule};
 ghost use Rattle.t1_command_line.specs.CommandLine.{assemble as assemble_shape};
 ghost use Rattle.t1_command_line.specs.CommandLine.{disassemble as disassemble_shape};
-ghost use Rattle.t1_command_line.specs.CommandLine.{measure as measure_shape, check as check_shape};
-ghost use Rattle.t1_command_line.specs.CommandLine.{faults as faults_shape, notes as notes_shape};
+ghost use Rattle.t1_command_line.specs.CommandLine.{measure as measure_shape, check_shape};
+ghost use Rattle.t1_command_line.specs.CommandLine.{faults as faults_shape, notes_shape};
 ghost use Rattle.t1_command_line.specs.CommandLine.{session as session_shape};
 ghost use Rattle.t1_command_line.specs.CommandLine.{explain as explain_shape};
 
@@ -154,7 +154,8 @@ fn block_alone<'a>(alloc: Global) -> Arg<'a>
 /// The option that cuts a PFB file into blocks.
 fn block<'a>(alloc: Global) -> Result<Arg<'a>, AllocError>
     ensures rule { IfOk result (λ arg. rule_of arg ≡ block_rule) }
-    ensures conflicts { IfOk result (λ arg. map (λ id. id.now) arg.conflicts.items ≡ codes "pfa" ∷ []) }
+    ensures conflicts { IfOk result
+        (λ arg. map (λ id. id.now) arg.conflicts.items ≡ codes "pfa" ∷ []) }
     ensures alone { IfOk result (λ arg. (arg.exclusive ≡ false) × (arg.needs.items ≡ [])) }
     ensures local { IfOk result (λ arg. arg.global ≡ false) }
 {
@@ -216,7 +217,7 @@ fn named<'a>(
 }
 
 fn assemble<'a>(alloc: Global) -> Result<Command<'a>, AllocError>
-    ensures { IfOk result (λ command. app_of command ≡ alone assemble_shape) }
+    ensures { IfOk result (λ command. app_of command ≡ without_commands assemble_shape) }
 {
     named(
         alloc,
@@ -233,7 +234,7 @@ fn assemble<'a>(alloc: Global) -> Result<Command<'a>, AllocError>
 }
 
 fn disassemble<'a>(alloc: Global) -> Result<Command<'a>, AllocError>
-    ensures { IfOk result (λ command. app_of command ≡ alone disassemble_shape) }
+    ensures { IfOk result (λ command. app_of command ≡ without_commands disassemble_shape) }
 {
     named(
         alloc,
@@ -247,7 +248,7 @@ fn disassemble<'a>(alloc: Global) -> Result<Command<'a>, AllocError>
 }
 
 fn measure<'a>(alloc: Global) -> Result<Command<'a>, AllocError>
-    ensures { IfOk result (λ command. app_of command ≡ alone measure_shape) }
+    ensures { IfOk result (λ command. app_of command ≡ without_commands measure_shape) }
 {
     named(
         alloc,
@@ -263,7 +264,7 @@ fn measure<'a>(alloc: Global) -> Result<Command<'a>, AllocError>
 }
 
 fn check<'a>(alloc: Global) -> Result<Command<'a>, AllocError>
-    ensures { IfOk result (λ command. app_of command ≡ alone check_shape) }
+    ensures { IfOk result (λ command. app_of command ≡ without_commands check_shape) }
 {
     named(
         alloc,
@@ -278,7 +279,7 @@ fn check<'a>(alloc: Global) -> Result<Command<'a>, AllocError>
 }
 
 fn faults<'a>(alloc: Global) -> Result<Command<'a>, AllocError>
-    ensures { IfOk result (λ command. app_of command ≡ alone faults_shape) }
+    ensures { IfOk result (λ command. app_of command ≡ without_commands faults_shape) }
 {
     named(
         alloc,
@@ -294,7 +295,7 @@ fn faults<'a>(alloc: Global) -> Result<Command<'a>, AllocError>
 }
 
 fn notes<'a>(alloc: Global) -> Result<Command<'a>, AllocError>
-    ensures { IfOk result (λ command. app_of command ≡ alone notes_shape) }
+    ensures { IfOk result (λ command. app_of command ≡ without_commands notes_shape) }
 {
     named(
         alloc,
@@ -309,7 +310,7 @@ fn notes<'a>(alloc: Global) -> Result<Command<'a>, AllocError>
 }
 
 fn session<'a>(alloc: Global) -> Result<Command<'a>, AllocError>
-    ensures { IfOk result (λ command. app_of command ≡ alone session_shape) }
+    ensures { IfOk result (λ command. app_of command ≡ without_commands session_shape) }
 {
     named(
         alloc,
@@ -324,7 +325,7 @@ fn session<'a>(alloc: Global) -> Result<Command<'a>, AllocError>
 }
 
 fn explain<'a>(alloc: Global) -> Result<Command<'a>, AllocError>
-    ensures { IfOk result (λ command. app_of command ≡ alone explain_shape) }
+    ensures { IfOk result (λ command. app_of command ≡ without_commands explain_shape) }
 {
     named(
         alloc,
@@ -343,7 +344,7 @@ fn with_command<'a>(
     command: Result<Command<'a>, AllocError>,
 ) -> Result<Command<'a>, AllocError>
     ensures { (before : App) (shape : Shape) → IfOk program.entry (λ p. app_of p ≡ before) → IfOk
-        command.entry (λ c. app_of c ≡ alone shape)
+        command.entry (λ c. app_of c ≡ without_commands shape)
         → shape.is_plain ≡ true → IfOk result (λ r. app_of r ≡ with_subcommand before shape) }
 {
     program?.subcommand(command?)

@@ -2,7 +2,8 @@
 //! status means.
 //!
 //! [`command`] is the command line with its helps. [`all_sections`] is the one table of all codes;
-//! [`explanation`] is what it says of one, or its list, and [`meaning`] what it says in a few words.
+//! [`explanation`] is what it says of one, or its list, and [`meaning`] what it says in a few
+//! words.
 //!
 //! All of it is for the program.
 #![tactic(auto)]

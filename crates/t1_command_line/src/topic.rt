@@ -2,9 +2,9 @@
 ghost use Rattle.std.specs.Prelude.{◌≡◌, ◌≤◌, ◌==◌, ◌++◌, length, option_map, string_bytes, IfOk};
 ghost use Rattle.std.specs.Prelude.{OnOk};
 ghost use Rattle.std.specs.List.{position_or_len};
-ghost use Rattle.t1_command_line.specs.Topics.{has_code, topic_in, topic_of, line_text};
-ghost use Rattle.t1_command_line.specs.Topics.{section_text, other_sections_text, list_text};
-ghost use Rattle.t1_command_line.specs.Topics.{lines_text, before_space, whole_text as text_of};
+ghost use Rattle.t1_command_line.specs.Topics.{has_code, topic_in, topic_of, topic_line};
+ghost use Rattle.t1_command_line.specs.Topics.{topics_section, other_sections_text, list_text};
+ghost use Rattle.t1_command_line.specs.Topics.{topics_lines, before_space, whole_text as text_of};
 ghost use Rattle.t1_command_line.specs.Topics.{explanation as explanation_of};
 ghost use Rattle.t1_command_line.specs.Topics.{meaning as meaning_of};
 
@@ -67,9 +67,9 @@ fn find_in(sections: &[Section], code: &[u8]) -> Option<&'static Topic>
 }
 
 /// Adds a topic's line: its code and its meaning in a few words.
-#[tactic(auto, unfolding(crate::specs::Topics::line_text))]
+#[tactic(auto, unfolding(crate::specs::Topics::topic_line))]
 fn push_line(text: &mut String, topic: &Topic) -> Result<(), AllocError>
-    ensures { OnOk result (string_bytes text.new ≡ string_bytes text.old ++ line_text topic.now) }
+    ensures { OnOk result (string_bytes text.new ≡ string_bytes text.old ++ topic_line topic.now) }
 {
     text.push_str(topic.code)?;
     text.push_str(": ")?;
@@ -79,7 +79,8 @@ fn push_line(text: &mut String, topic: &Topic) -> Result<(), AllocError>
 
 /// Adds the lines of topics, indented.
 fn push_lines(text: &mut String, topics: &[Topic]) -> Result<(), AllocError>
-    ensures { OnOk result (string_bytes text.new ≡ string_bytes text.old ++ lines_text topics.now) }
+    ensures { OnOk result
+        (string_bytes text.new ≡ string_bytes text.old ++ topics_lines topics.now) }
 {
     for topic in topics {
         text.push_str("  ")?;
@@ -89,9 +90,9 @@ fn push_lines(text: &mut String, topics: &[Topic]) -> Result<(), AllocError>
 }
 
 /// Adds a section's title, and the line of each of its topics.
-#[tactic(auto, unfolding(crate::specs::Topics::section_text))]
+#[tactic(auto, unfolding(crate::specs::Topics::topics_section))]
 fn push_section(text: &mut String, section: &Section) -> Result<(), AllocError>
-    ensures { OnOk result (string_bytes text.new ≡ string_bytes text.old ++ section_text
+    ensures { OnOk result (string_bytes text.new ≡ string_bytes text.old ++ topics_section
         section.now) }
 {
     text.push_str(section.title)?;

@@ -34,8 +34,8 @@ SendsText contents before after text (Err (out.Fault fault)) = ⊥
 SendsText contents before after text (Err out.Memory) = ⊥
 
 -- word, answers: what was performed was answered; nothing was written where memory ran out
-abbrev pub Reports : {W T E : Type 0} → (W → Option (List ℕ)) → Tally W → Tally W → Result T Cause → Result E OutError → Type 0
-Reports contents before after (Ok done) result = SendsText contents before after (answer_text Accepted) result
-Reports contents before after (Err (causes.Rule rule)) result = SendsText contents before after (answer_text (Broken rule)) result
-Reports contents before after (Err (causes.Fault fault)) result = SendsText contents before after (answer_text (Faulty fault)) result
-Reports contents before after (Err causes.Memory) result = (after ≡ before) × (result ≡ Err out.Memory)
+abbrev pub ReportsPerformed : {W T E : Type 0} → (W → Option (List ℕ)) → Tally W → Tally W → Result T Cause → Result E OutError → Type 0
+ReportsPerformed contents before after (Ok done) result = SendsText contents before after (answer_text Accepted) result
+ReportsPerformed contents before after (Err (causes.Rule rule)) result = SendsText contents before after (answer_text (Broken rule)) result
+ReportsPerformed contents before after (Err (causes.Fault fault)) result = SendsText contents before after (answer_text (Faulty fault)) result
+ReportsPerformed contents before after (Err causes.Memory) result = (after ≡ before) × (result ≡ Err out.Memory)

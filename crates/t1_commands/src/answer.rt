@@ -2,7 +2,7 @@
 ghost use Rattle.std.specs.Prelude.{◌≡◌, ◌∷◌, ◌++◌, [], decimal, length, OnOk};
 ghost use Rattle.t1_frac.specs.Ascii.{line_feed};
 ghost use Rattle.t1_code.specs.Counted.{Writes};
-ghost use Rattle.t1_code.specs.Parts.{bytes_of};
+ghost use Rattle.t1_code.specs.Parts.{slices_bytes};
 ghost use Rattle.t1_commands.specs.Answering.{Answers};
 ghost use Rattle.t1_commands.specs.AnswerTexts.{rule_name, code_name, place_number, place_text};
 ghost use Rattle.t1_commands.specs.AnswerTexts.{fault_text, data_text, answer_text};
@@ -108,7 +108,7 @@ fn code_name(code: Code) -> &'static [u8]
 /// Writes slices, one after another, by way of a chunk: one call of the writer takes up to 4,096
 /// bytes of them.
 fn write_slices<W: Write>(writer: &mut Counted<W>, slices: &[&[u8]]) -> io::Result<()>
-    ensures { Writes W.contents writer.old writer.new (bytes_of slices.now) result }
+    ensures { Writes W.contents writer.old writer.new (slices_bytes slices.now) result }
 {
     let mut chunk = Chunk::new();
     put_slices(writer, &mut chunk, slices)?;
@@ -135,7 +135,7 @@ fn place_slices<'a>(
     after: &'a [u8],
 ) -> [&'a [u8]; 5]
     requires { number.now ≡ decimal (place_number place.now) }
-    ensures { bytes_of result ≡ before.now ++ (code.now ++ place_text place.now) ++ after.now }
+    ensures { slices_bytes result ≡ before.now ++ (code.now ++ place_text place.now) ++ after.now }
 {
     match place {
         Place::Nowhere => [before, code, b"", b"", after],
@@ -166,7 +166,7 @@ pub fn put_fault<W: Write>(
 
 /// Adds slices to a text, one after another.
 pub fn push_slices(text: &mut Vec<u8>, slices: &[&[u8]]) -> Result<(), AllocError>
-    ensures { OnOk result (text.new.items ≡ text.old.items ++ bytes_of slices.now) }
+    ensures { OnOk result (text.new.items ≡ text.old.items ++ slices_bytes slices.now) }
 {
     for slice in slices {
         text.extend_from_slice(slice)?;
@@ -197,7 +197,7 @@ pub fn push_rule(text: &mut Vec<u8>, rule: Rule) -> Result<(), AllocError>
 /// What is shown, in slices after its length.
 fn data_slices<'a>(bytes: &'a [u8], digits: &'a str) -> [&'a [u8]; 5]
     requires { digits.now ≡ decimal (length bytes.now) }
-    ensures { bytes_of result ≡ data_text bytes.now }
+    ensures { slices_bytes result ≡ data_text bytes.now }
 {
     [b"data ", digits.as_bytes(), b"\n", bytes, b"\n"]
 }

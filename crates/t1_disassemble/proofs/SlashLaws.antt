@@ -8,7 +8,7 @@ use Rattle.std.specs.Str.{bytes_eq}
 use Rattle.std.specs.Prelude.{filter, is_some, option_map}
 use Rattle.t1_frac.specs.Words.{is_blank}
 use Rattle.t1_text.specs.Lines.{begins_with, is_line, is_line_end, unified, split_lines, lines}
-use Rattle.t1_text.specs.Tokens.{is_bracket, goes_on, onto_place, joins_at, places_from}
+use Rattle.t1_text.specs.Tokens.{is_bracket, token_goes_on, onto_place, joins_at, places_from}
 use Rattle.t1_parts.specs.Sections.{count_between, section_at, subrs_line, glyphs_line}
 use Rattle.t1_disassemble.specs.Kinds.{is_line_of, slashless}
 
@@ -57,7 +57,7 @@ abbrev free : ℕ × List ℕ → Bool
 free t = free_word t.1
 
 joins_free : (i c : ℕ) (rest : List ℕ) (ts : List (ℕ × List ℕ)) → slashless c ≡ true → list_all free ts ≡ true → list_all free (joins_at i c rest ts) ≡ true
-joins_free i c rest ts one h = elim (cases_Bool (goes_on rest)) [
+joins_free i c rest ts one h = elim (cases_Bool (token_goes_on rest)) [
   | inl t ↦ rw t (first ts h)
   | inr f ↦ rw f (and_from (slashless c) (list_all free ts) one h)
 ]

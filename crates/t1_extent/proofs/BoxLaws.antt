@@ -11,7 +11,7 @@ use Rattle.t1_run.specs.declared.outline.Segment.TheVariants.{Line, Curve}
 use Rattle.t1_run.specs.Composite.{moved_outline}
 use Rattle.t1_afm.specs.Box.{drawn_box}
 use Rattle.t1_afm.specs.Points.{points, curve_at, sixty_fourths}
-use Rattle.t1_extent.specs.Extremes.{Extremes, at_point, reaching, extremes, rounded, boxed, shifted, shifted_by, moved_box, IsWhole}
+use Rattle.t1_extent.specs.Extremes.{Extremes, point_extremes, reaching, extremes, rounded, boxed, shifted, shifted_by, moved_box, IsWhole}
 use Rattle.t1_extent.specs.Laws.{Summary, summary, shifted_summary, AreWithin, DrawnBoxLaw, BoxMovesLaw}
 use Rattle.t1_extent.proofs.Exacts.{floor_value, ceiling_value}
 use Rattle.t1_extent.proofs.Flags.{whole_is}
@@ -53,7 +53,7 @@ all_rounded : (by : Point) (ps : List Point) → IsWhole by → IsNumber by → 
     → option_map rounded (option_map (shifted_by by) (extremes ps)) ≡ option_map (moved_box by) (option_map rounded (extremes ps))
 all_rounded by [] w hb hs = refl
 all_rounded by (p ∷ ps) w hb hs =
-    ap Some (rounded_moves by (fold reaching (at_point p) (map at_point ps)) w hb (fold_lowest (at_point p) (map at_point ps) (point_lowest p hs.0) (points_lowest ps hs.1)))
+    ap Some (rounded_moves by (fold reaching (point_extremes p) (map point_extremes ps)) w hb (fold_lowest (point_extremes p) (map point_extremes ps) (point_lowest p hs.0) (points_lowest ps hs.1)))
 
 both_ok : {A : Type 0} (P Q R : A → Type 0) (r : Result A Code) → ((x : A) → P x → Q x → R x) → IfOk r P → IfOk r Q → IfOk r R
 both_ok P Q R (Ok x) f h k = f x h k

@@ -16,7 +16,7 @@ use Rattle.t1_run.specs.declared.outline.Point.{Point}
 use Rattle.t1_run.specs.declared.outline.Segment.{Segment}
 use Rattle.t1_run.specs.declared.outline.Segment.TheVariants.{Line, Curve}
 use Rattle.t1_run.specs.Composite.{moved_point, moved_segment, moved_outline}
-use Rattle.t1_extent.specs.Extremes.{Extremes, is_less, lesser, greater, at_point, reaching, extremes, corners_of, corners, shifted, shifted_by, is_out, move_check}
+use Rattle.t1_extent.specs.Extremes.{Extremes, is_less, lesser, greater, point_extremes, reaching, extremes, corners_of, corners, shifted, shifted_by, is_out, move_check}
 use Rattle.t1_extent.proofs.Canonical.{lowest_above}
 use Rattle.t1_extent.proofs.Order.{IsUnder, under_refl, under_trans, less_true, less_false, lesser_is, greater_is}
 use Rattle.t1_extent.proofs.Folding.{IsNumber, AreLowest, point_lowest, points_lowest, reaching_lowest, fold_lowest}
@@ -117,7 +117,7 @@ past_fold e (f ∷ fs) h hs =
     past_fold (reaching e f) fs (reaching_lowest e f h hs.0) hs.1 ∙ ap (λ t. t || list_any is_past fs) (past_reaching e f h hs.0)
     ∙ or_assoc (is_past e) (is_past f) (list_any is_past fs)
 
-shifted_point : (by p : Point) → IsNumber by → IsNumber p → AreLowest (shifted_by by (at_point p))
+shifted_point : (by p : Point) → IsNumber by → IsNumber p → AreLowest (shifted_by by (point_extremes p))
 shifted_point by p h k =
     let x = shifted_canonical by.x (lowest p.x) h.x (lowest_above p.x k.x) in
     let y = shifted_canonical by.y (lowest p.y) h.y (lowest_above p.y k.y) in
@@ -181,28 +181,28 @@ out_past e h k =
 
 -- the moved point is past the limits
 abbrev out_at : Point → Point → Bool
-out_at by p = is_past (shifted_by by (at_point p))
+out_at by p = is_past (shifted_by by (point_extremes p))
 
 abbrev pub check : Bool → Result (Unit {0}) Code
 check t = if t then Err F40 else Ok tt
 
-shifted_lowest_all : (by : Point) (ps : List Point) → IsNumber by → AllByRecursion IsNumber ps → AllByRecursion AreLowest (map (shifted_by by) (map at_point ps))
+shifted_lowest_all : (by : Point) (ps : List Point) → IsNumber by → AllByRecursion IsNumber ps → AllByRecursion AreLowest (map (shifted_by by) (map point_extremes ps))
 shifted_lowest_all by [] h hs = tt
 shifted_lowest_all by (p ∷ ps) h hs = (shifted_point by p h hs.0, shifted_lowest_all by ps h hs.1)
 
-any_past : (by : Point) (ps : List Point) → list_any is_past (map (shifted_by by) (map at_point ps)) ≡ list_any (out_at by) ps
+any_past : (by : Point) (ps : List Point) → list_any is_past (map (shifted_by by) (map point_extremes ps)) ≡ list_any (out_at by) ps
 any_past by [] = refl
 any_past by (p ∷ ps) = ap (λ t. out_at by p || t) (any_past by ps)
 
 check_any : (by : Point) (ps : List Point) → IsNumber by → AllByRecursion IsNumber ps → move_check by (extremes ps) ≡ check (list_any (out_at by) ps)
 check_any by [] h hs = refl
 check_any by (p ∷ ps) h hs =
-    let first = shifted_by by (at_point p) in
-    let rest = map (shifted_by by) (map at_point ps) in
+    let first = shifted_by by (point_extremes p) in
+    let rest = map (shifted_by by) (map point_extremes ps) in
     let one = shifted_point by p h hs.0 in
     let all = shifted_lowest_all by ps h hs.1 in
     ap check
-    (ap is_out (sym (shifted_fold by (at_point p) (map at_point ps) h (point_lowest p hs.0) (points_lowest ps hs.1)))
+    (ap is_out (sym (shifted_fold by (point_extremes p) (map point_extremes ps) h (point_lowest p hs.0) (points_lowest ps hs.1)))
     ∙ out_past (fold reaching first rest) (fold_lowest first rest one all)
     (fold_ordered first rest one all (record { x = under_refl first.left; y = under_refl first.bottom }))
     ∙ past_fold first rest one all

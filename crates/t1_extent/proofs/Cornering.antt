@@ -4,7 +4,7 @@ use Rattle.std.specs.List.{AllByRecursion}
 use Rattle.t1_run.specs.declared.outline.Segment.{Segment}
 use Rattle.t1_run.specs.declared.outline.Segment.TheVariants.{Line, Curve}
 use Rattle.t1_extent.specs.Ends.{ends_of, ends, inner_of, inner}
-use Rattle.t1_extent.specs.Extremes.{Extremes, at_point, corners_of, corners, extremes, reaching, unite}
+use Rattle.t1_extent.specs.Extremes.{Extremes, point_extremes, corners_of, corners, extremes, reaching, unite_extremes}
 use Rattle.t1_extent.specs.Laws.{AreWithin}
 use Rattle.t1_extent.proofs.Bending.{ends_numbers}
 use Rattle.t1_extent.proofs.Folding.{IsNumber, AreLowest, point_lowest, reaching_assoc, reaching_lowest}
@@ -33,12 +33,12 @@ ends_and_inner (Curve a b c d) h = record {
   one = ends_numbers (Curve a b c d) h;
   other = inner_numbers (Curve a b c d) h;
   both = corner_numbers (Curve a b c d) h;
-  united = ap Some (in_the_middle (at_point a) (at_point b) (at_point c) (at_point d) (point_lowest a h.0) (point_lowest b h.1) (point_lowest c h.2) (point_lowest d h.3));
+  united = ap Some (in_the_middle (point_extremes a) (point_extremes b) (point_extremes c) (point_extremes d) (point_lowest a h.0) (point_lowest b h.1) (point_lowest c h.2) (point_lowest d h.3));
 }
 
 each_union : (ss : List Segment) → AreWithin ss → AllByRecursion (IsUnion ends_of inner_of corners_of) ss
 each_union [] h = tt
 each_union (s ∷ ss) h = (ends_and_inner s (within_numbers s h.0), each_union ss h.1)
 
-pub corners_united : (ss : List Segment) → AreWithin ss → unite (extremes (ends ss)) (extremes (inner ss)) ≡ extremes (corners ss)
+pub corners_united : (ss : List Segment) → AreWithin ss → unite_extremes (extremes (ends ss)) (extremes (inner ss)) ≡ extremes (corners ss)
 corners_united ss h = outlines_united ends_of inner_of corners_of ss (each_union ss h)

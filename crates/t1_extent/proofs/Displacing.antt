@@ -12,7 +12,7 @@ use Rattle.t1_run.specs.declared.outline.Segment.TheVariants.{Line, Curve}
 use Rattle.t1_run.specs.Composite.{moved_point, moved_outline, IsPoint}
 use Rattle.t1_run.proofs.Within.{each-append}
 use Rattle.t1_afm.specs.Points.{points}
-use Rattle.t1_extent.specs.Extremes.{Extremes, at_point, extremes, corners_of, corners, shifted, shifted_by, limit_check, move_check, IsWhole, IsWholeSegment}
+use Rattle.t1_extent.specs.Extremes.{Extremes, point_extremes, extremes, corners_of, corners, shifted, shifted_by, limit_check, move_check, IsWhole, IsWholeSegment}
 use Rattle.t1_extent.specs.Figures.{first_point, apart}
 use Rattle.t1_extent.specs.Laws.{summary, shifted_summary, AreWithin, IsDistance}
 use Rattle.t1_extent.specs.Turns.{in_turn, through, point_through}
@@ -61,7 +61,7 @@ some_twice by s q (Some e) hb hs hq h = ap Some (twice by s q e hb hs hq h)
 
 shifted_on : (by s q : Point) (ps qs rs : List Point) → IsNumber by → IsNumber s → IsNumber q → AllByRecursion IsNumber ps
     → AreShifted (apart s q) ps qs → AreShifted by qs rs → AreShifted (apart s (shifted_place by q)) ps rs
-shifted_on by s q ps qs rs hb hs hq hp e f = f ∙ ap (map (shifted_by by)) e ∙ all_twice by s q (map at_point ps) hb hs hq (points_lowest ps hp)
+shifted_on by s q ps qs rs hb hs hq hp e f = f ∙ ap (map (shifted_by by)) e ∙ all_twice by s q (map point_extremes ps) hb hs hq (points_lowest ps hp)
 
 -- ---- the first point
 
@@ -118,7 +118,7 @@ fine_coordinate m q s o p hm hq hp one one' small e =
     ap is_too_fine same ∙ fine_sum o (minus to s) size
 
 easy_corner : (by s q o p : Point) → IsNumber by → IsNumber q → IsNumber p → IsWhole s → IsWhole o → IsPoint (shifted_place by q)
-    → at_point p ≡ shifted_by (apart s q) (at_point o) → IsEasy by p
+    → point_extremes p ≡ shifted_by (apart s q) (point_extremes o) → IsEasy by p
 easy_corner by s q o p hb hq hp ws wo place e = record {
   x = fine_coordinate by.x q.x s.x o.x p.x hb.x hq.x hp.x ws.x wo.x place.x.fine (ap (λ (e : Extremes). e.left) e);
   y = fine_coordinate by.y q.y s.y o.y p.y hb.y hq.y hp.y ws.y wo.y place.y.fine (ap (λ (e : Extremes). e.bottom) e);
@@ -130,7 +130,7 @@ easy_corners : (by s q : Point) (os ps : List Point) → IsNumber by → IsNumbe
 easy_corners by s q os [] hb hq hp ws wo place e = tt
 easy_corners by s q [] (p ∷ ps) hb hq hp ws wo place e = absurd (cc)
 easy_corners by s q (o ∷ os) (p ∷ ps) hb hq hp ws wo place e =
-    let one : at_point p ≡ shifted_by (apart s q) (at_point o) = cc in
+    let one : point_extremes p ≡ shifted_by (apart s q) (point_extremes o) = cc in
     let rest : AreShifted (apart s q) os ps = cc in
     (easy_corner by s q o p hb hq hp.0 ws wo.0 place one, easy_corners by s q os ps hb hq hp.1 ws wo.1 place rest)
 
@@ -156,8 +156,8 @@ rides_start outline start h first =
     let n = numbers outline h.within in
     record {
       moved = record {
-        points = all_still start (map at_point (points outline)) hs (points_lowest (points outline) (outline_numbers outline n));
-        corners = all_still start (map at_point (corners outline)) hs (points_lowest (corners outline) (corners_numbers outline n));
+        points = all_still start (map point_extremes (points outline)) hs (points_lowest (points outline) (outline_numbers outline n));
+        corners = all_still start (map point_extremes (corners outline)) hs (points_lowest (corners outline) (corners_numbers outline n));
       };
       first = first;
       within = h.within;

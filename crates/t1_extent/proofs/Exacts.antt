@@ -18,7 +18,7 @@ use Rattle.t1_frac.specs.declared.fault.Code.TheVariants.{F40}
 use Rattle.t1_extent.specs.declared.exact.Exact.{Exact}
 use Rattle.t1_run.specs.declared.outline.Point.{Point}
 use Rattle.t1_run.proofs.FoundByUsers.{both-ways}
-use Rattle.t1_extent.specs.Exacts.{raw, value_of}
+use Rattle.t1_extent.specs.Exacts.{raw, exact_value}
 use Rattle.t1_frac.proofs.Exact.{lowest_same}
 use Rattle.t1_frac.proofs.Rounded.{round_alike}
 use Rattle.t1_extent.specs.Extremes.{Extremes, is_less, lesser, greater, reaching, shifted, shift_checked, limit_check, move_check, shifted_by}
@@ -119,7 +119,7 @@ past_terms p q e f =
 -- what the limit leaves of moved terms
 pub shifted_from : (r : Result Exact Code) (a : Exact) (d p : Fraction) → 0 < a.den → 0 < d.den → p ≡ plus (raw a) d
     → MatchResult r (λ e. (raw e ≡ p) × (exceeds (2 ^ 20) p ≡ false)) (λ c. (c ≡ F40) × (exceeds (2 ^ 20) p ≡ true))
-    → MatchResult r (λ e. shift_checked d (value_of a) ≡ Ok (value_of e)) (λ c. shift_checked d (value_of a) ≡ Err c)
+    → MatchResult r (λ e. shift_checked d (exact_value a) ≡ Ok (exact_value e)) (λ c. shift_checked d (exact_value a) ≡ Err c)
 shifted_from (Ok e) a d p ha hd is h = shift_raw (raw a) d ha hd ∙ alike_terms (raw e) p (plus (raw a) d) is h.1 h.0
 shifted_from (Err c) a d p ha hd is h = shift_raw (raw a) d ha hd ∙ past_terms p (plus (raw a) d) is h.1 ∙ ap Err (sym h.0)
 
@@ -144,14 +144,14 @@ pub terms_are : (n m : ℤ) (d u bd : ℕ) → mag n < 2 ^ 127 → n ≡ m → u
 terms_are n m d u bd h e f = rw (read_wide n h, e, f) refl
 
 -- two over one denominator, compared by their numerators
-pub less_read : (a b : Exact) → a.den ≡ b.den → int_lt (read a.num) (read b.num) ≡ is_less (value_of a) (value_of b)
+pub less_read : (a b : Exact) → a.den ≡ b.den → int_lt (read a.num) (read b.num) ≡ is_less (exact_value a) (exact_value b)
 less_read a b same =
     ap (λ x. int_lt x (read b.num)) (read_small a.num a.size) ∙ ap (λ y. int_lt a.num y) (read_small b.num b.size)
     ∙ less_over_one a.num b.num a.den b.den a.above same
 
 -- two over different denominators, compared in 128 bits
 pub less_wide : (a b : Exact) (x y : ℤ) → mag x < 2 ^ 127 → mag y < 2 ^ 127 → x ≡ a.num *ℤ pos b.den → y ≡ b.num *ℤ pos a.den
-    → int_lt (to_z w128 (of_z w128 x)) (to_z w128 (of_z w128 y)) ≡ is_less (value_of a) (value_of b)
+    → int_lt (to_z w128 (of_z w128 x)) (to_z w128 (of_z w128 y)) ≡ is_less (exact_value a) (exact_value b)
 less_wide a b x y h k e f =
     ap (λ z. int_lt z (to_z w128 (of_z w128 y))) (read_wide x h ∙ e) ∙ ap (λ z. int_lt (a.num *ℤ pos b.den) z) (read_wide y k ∙ f)
     ∙ sym (less_value (raw a) (raw b) a.above b.above)
@@ -159,7 +159,7 @@ less_wide a b x y h k e f =
 -- where it is moved, it is the number, moved
 pub shifted_value : (r : Result Exact Code) (a : Exact) (d p : Fraction) → 0 < a.den → 0 < d.den → p ≡ plus (raw a) d
     → MatchResult r (λ e. (raw e ≡ p) × (exceeds (2 ^ 20) p ≡ false)) (λ c. (c ≡ F40) × (exceeds (2 ^ 20) p ≡ true))
-    → IfOk r (λ e. value_of e ≡ shifted d (value_of a))
+    → IfOk r (λ e. exact_value e ≡ shifted d (exact_value a))
 shifted_value (Ok e) a d p ha hd is h = ap lowest (h.0 ∙ is) ∙ sym (shifted_lowest d (raw a) hd ha)
 shifted_value (Err c) a d p ha hd is h = tt
 

@@ -17,24 +17,24 @@ use Rattle.t1_run.proofs.Within.{bind-ok}
 use Rattle.t1_run.specs.declared.outline.Point.{Point}
 use Rattle.t1_run.specs.declared.outline.Segment.{Segment}
 use Rattle.t1_run.specs.declared.outline.Segment.TheVariants.{Line, Curve}
-use Rattle.t1_extent.specs.Extremes.{IsWhole, IsWholeSegment, is_whole, is_whole_segment, is_whole_outline}
+use Rattle.t1_extent.specs.Extremes.{IsWhole, IsWholeSegment, is_whole_point, is_whole_segment, is_whole_outline}
 use Rattle.t1_extent.specs.Laws.{WholeOfBothLaw, WholeStaysLaw}
 
 both_true : (a b : Bool) → (a && b) ≡ true → (a ≡ true) × (b ≡ true)
 both_true true b h = (refl, h)
 both_true false b h = let e : false ≡ true = h in absurd (cc)
 
-pub point_whole : (p : Point) → is_whole p ≡ true → IsWhole p
+pub point_whole : (p : Point) → is_whole_point p ≡ true → IsWhole p
 point_whole p h =
     let t = both_true (p.x.den == 1) (p.y.den == 1) h in
     record { x = grind (arith, nat_tests, t.0); y = grind (arith, nat_tests, t.1) }
 
 segment_whole : (s : Segment) → is_whole_segment s ≡ true → IsWholeSegment s
-segment_whole (Line a b) h = let t = both_true (is_whole a) (is_whole b) h in (point_whole a t.0, point_whole b t.1)
+segment_whole (Line a b) h = let t = both_true (is_whole_point a) (is_whole_point b) h in (point_whole a t.0, point_whole b t.1)
 segment_whole (Curve a b c d) h =
-    let r = both_true (is_whole a && is_whole b && is_whole c) (is_whole d) h in
-    let s = both_true (is_whole a && is_whole b) (is_whole c) r.0 in
-    let t = both_true (is_whole a) (is_whole b) s.0 in
+    let r = both_true (is_whole_point a && is_whole_point b && is_whole_point c) (is_whole_point d) h in
+    let s = both_true (is_whole_point a && is_whole_point b) (is_whole_point c) r.0 in
+    let t = both_true (is_whole_point a) (is_whole_point b) s.0 in
     (point_whole a t.0, point_whole b t.1, point_whole c s.1, point_whole d r.1)
 
 pub each_whole : (ss : List Segment) → is_whole_outline ss ≡ true → AllByRecursion IsWholeSegment ss

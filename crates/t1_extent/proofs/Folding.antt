@@ -9,7 +9,7 @@ use Rattle.t1_frac.proofs.Exact.{lowest_same}
 use Rattle.t1_frac.proofs.Rounded.{round_alike}
 use Rattle.t1_run.specs.declared.outline.Point.{Point}
 use Rattle.t1_afm.specs.Box.{box}
-use Rattle.t1_extent.specs.Extremes.{Extremes, lesser, greater, at_point, reaching, unite, extremes, boxed}
+use Rattle.t1_extent.specs.Extremes.{Extremes, lesser, greater, point_extremes, reaching, unite_extremes, extremes, boxed}
 use Rattle.t1_extent.proofs.Canonical.{lowest_above}
 use Rattle.t1_extent.proofs.Order.{IsCanonical, canonical, either, lesser_is, greater_is, lesser_canonical, greater_canonical, lesser_assoc, greater_assoc, floor_lesser, ceiling_greater}
 use Rattle.t1_afm.proofs.Boxes.{same_box}
@@ -26,10 +26,10 @@ pub record AreLowest (e : Extremes) : Type 0 where
   pub right : IsCanonical e.right
   pub top : IsCanonical e.top
 
-pub point_lowest : (p : Point) → IsNumber p → AreLowest (at_point p)
+pub point_lowest : (p : Point) → IsNumber p → AreLowest (point_extremes p)
 point_lowest p h = record { left = canonical p.x h.x; bottom = canonical p.y h.y; right = canonical p.x h.x; top = canonical p.y h.y }
 
-pub points_lowest : (ps : List Point) → AllByRecursion IsNumber ps → AllByRecursion AreLowest (map at_point ps)
+pub points_lowest : (ps : List Point) → AllByRecursion IsNumber ps → AllByRecursion AreLowest (map point_extremes ps)
 points_lowest [] h = tt
 points_lowest (p ∷ ps) h = (point_lowest p h.0, points_lowest ps h.1)
 
@@ -62,15 +62,15 @@ fold_append d [] f fs hd hs hf ht = fold_reaching d f fs hd hf ht
 fold_append d (e ∷ es) f fs hd hs hf ht = fold_append (reaching d e) es f fs (reaching_lowest d e hd hs.0) hs.1 hf ht
 
 reduce_append : (es fs : List Extremes) → AllByRecursion AreLowest es → AllByRecursion AreLowest fs
-    → reduce reaching (es ++ fs) ≡ unite (reduce reaching es) (reduce reaching fs)
+    → reduce reaching (es ++ fs) ≡ unite_extremes (reduce reaching es) (reduce reaching fs)
 reduce_append [] fs hs ht = refl
 reduce_append (e ∷ es) [] hs ht = ap (reduce reaching) (append-nil (e ∷ es))
 reduce_append (e ∷ es) (f ∷ fs) hs ht = ap Some (fold_append e es f fs hs.0 hs.1 ht.0 ht.1)
 
 -- the extremes of two lists in one
-pub extremes-append : (ps qs : List Point) → AllByRecursion IsNumber ps → AllByRecursion IsNumber qs → extremes (ps ++ qs) ≡ unite (extremes ps) (extremes qs)
+pub extremes-append : (ps qs : List Point) → AllByRecursion IsNumber ps → AllByRecursion IsNumber qs → extremes (ps ++ qs) ≡ unite_extremes (extremes ps) (extremes qs)
 extremes-append ps qs h k =
-    ap (reduce reaching) (map-append at_point ps qs) ∙ reduce_append (map at_point ps) (map at_point qs) (points_lowest ps h) (points_lowest qs k)
+    ap (reduce reaching) (map-append point_extremes ps qs) ∙ reduce_append (map point_extremes ps) (map point_extremes qs) (points_lowest ps h) (points_lowest qs k)
 
 pub fold_lowest : (e : Extremes) (es : List Extremes) → AreLowest e → AllByRecursion AreLowest es → AreLowest (fold reaching e es)
 fold_lowest e [] h hs = h
@@ -78,26 +78,26 @@ fold_lowest e (f ∷ fs) h hs = fold_lowest (reaching e f) fs (reaching_lowest e
 
 -- ---- the box
 
-low_side : (f : Point → Fraction) (side : Extremes → Fraction) → ((e : Extremes) (p : Point) → side (reaching e (at_point p)) ≡ lesser (side e) (lowest (f p)))
+low_side : (f : Point → Fraction) (side : Extremes → Fraction) → ((e : Extremes) (p : Point) → side (reaching e (point_extremes p)) ≡ lesser (side e) (lowest (f p)))
     → (e : Extremes) (ps : List Point) → 0 < (side e).den → AllByRecursion (λ p. 0 < (f p).den) ps
-    → floor_of (side (fold reaching e (map at_point ps))) ≡ fold int_min (floor_of (side e)) (map (λ p. floor_of (f p)) ps)
+    → floor_of (side (fold reaching e (map point_extremes ps))) ≡ fold int_min (floor_of (side e)) (map (λ p. floor_of (f p)) ps)
 low_side f side is e [] h hs = refl
 low_side f side is e (p ∷ ps) h hs =
     let low : 0 < (lowest (f p)).den = lowest_above (f p) hs.0 in
-    let some : 0 < (side (reaching e (at_point p))).den = rw (is e p) (either (λ a. 0 < a.den) (side e) (lowest (f p)) (lesser (side e) (lowest (f p))) (lesser_is (side e) (lowest (f p))).one h low) in
-    low_side f side is (reaching e (at_point p)) ps some hs.1
+    let some : 0 < (side (reaching e (point_extremes p))).den = rw (is e p) (either (λ a. 0 < a.den) (side e) (lowest (f p)) (lesser (side e) (lowest (f p))) (lesser_is (side e) (lowest (f p))).one h low) in
+    low_side f side is (reaching e (point_extremes p)) ps some hs.1
     ∙ ap (λ z. fold int_min z (map (λ q. floor_of (f q)) ps))
     (ap floor_of (is e p) ∙ floor_lesser (side e) (lowest (f p)) h low
     ∙ ap (int_min (floor_of (side e))) (round_alike (lowest (f p)) (f p) low hs.0 (lowest_same (f p))).0)
 
-high_side : (f : Point → Fraction) (side : Extremes → Fraction) → ((e : Extremes) (p : Point) → side (reaching e (at_point p)) ≡ greater (side e) (lowest (f p)))
+high_side : (f : Point → Fraction) (side : Extremes → Fraction) → ((e : Extremes) (p : Point) → side (reaching e (point_extremes p)) ≡ greater (side e) (lowest (f p)))
     → (e : Extremes) (ps : List Point) → 0 < (side e).den → AllByRecursion (λ p. 0 < (f p).den) ps
-    → ceiling_of (side (fold reaching e (map at_point ps))) ≡ fold int_max (ceiling_of (side e)) (map (λ p. ceiling_of (f p)) ps)
+    → ceiling_of (side (fold reaching e (map point_extremes ps))) ≡ fold int_max (ceiling_of (side e)) (map (λ p. ceiling_of (f p)) ps)
 high_side f side is e [] h hs = refl
 high_side f side is e (p ∷ ps) h hs =
     let low : 0 < (lowest (f p)).den = lowest_above (f p) hs.0 in
-    let some : 0 < (side (reaching e (at_point p))).den = rw (is e p) (either (λ a. 0 < a.den) (side e) (lowest (f p)) (greater (side e) (lowest (f p))) (greater_is (side e) (lowest (f p))).one h low) in
-    high_side f side is (reaching e (at_point p)) ps some hs.1
+    let some : 0 < (side (reaching e (point_extremes p))).den = rw (is e p) (either (λ a. 0 < a.den) (side e) (lowest (f p)) (greater (side e) (lowest (f p))) (greater_is (side e) (lowest (f p))).one h low) in
+    high_side f side is (reaching e (point_extremes p)) ps some hs.1
     ∙ ap (λ z. fold int_max z (map (λ q. ceiling_of (f q)) ps))
     (ap ceiling_of (is e p) ∙ ceiling_greater (side e) (lowest (f p)) h low
     ∙ ap (int_max (ceiling_of (side e))) (round_alike (lowest (f p)) (f p) low hs.0 (lowest_same (f p))).1)
@@ -119,7 +119,7 @@ box_rounded (p ∷ ps) h =
     let rx = round_alike (lowest p.x) p.x x h.0.x (lowest_same p.x) in
     let ry = round_alike (lowest p.y) p.y y h.0.y (lowest_same p.y) in
     same_box _ _ _ _ _ _ _ _
-    (low_side (λ q. q.x) (λ e. e.left) (λ e q. refl) (at_point p) ps x (xs_above ps h.1) ∙ ap (λ z. fold int_min z (map (λ (q : Point). floor_of q.x) ps)) rx.0)
-    (low_side (λ q. q.y) (λ e. e.bottom) (λ e q. refl) (at_point p) ps y (ys_above ps h.1) ∙ ap (λ z. fold int_min z (map (λ (q : Point). floor_of q.y) ps)) ry.0)
-    (high_side (λ q. q.x) (λ e. e.right) (λ e q. refl) (at_point p) ps x (xs_above ps h.1) ∙ ap (λ z. fold int_max z (map (λ (q : Point). ceiling_of q.x) ps)) rx.1)
-    (high_side (λ q. q.y) (λ e. e.top) (λ e q. refl) (at_point p) ps y (ys_above ps h.1) ∙ ap (λ z. fold int_max z (map (λ (q : Point). ceiling_of q.y) ps)) ry.1)
+    (low_side (λ q. q.x) (λ e. e.left) (λ e q. refl) (point_extremes p) ps x (xs_above ps h.1) ∙ ap (λ z. fold int_min z (map (λ (q : Point). floor_of q.x) ps)) rx.0)
+    (low_side (λ q. q.y) (λ e. e.bottom) (λ e q. refl) (point_extremes p) ps y (ys_above ps h.1) ∙ ap (λ z. fold int_min z (map (λ (q : Point). floor_of q.y) ps)) ry.0)
+    (high_side (λ q. q.x) (λ e. e.right) (λ e q. refl) (point_extremes p) ps x (xs_above ps h.1) ∙ ap (λ z. fold int_max z (map (λ (q : Point). ceiling_of q.x) ps)) rx.1)
+    (high_side (λ q. q.y) (λ e. e.top) (λ e q. refl) (point_extremes p) ps y (ys_above ps h.1) ∙ ap (λ z. fold int_max z (map (λ (q : Point). ceiling_of q.y) ps)) ry.1)

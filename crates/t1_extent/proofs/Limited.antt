@@ -19,7 +19,7 @@ use Rattle.t1_afm.specs.Bounds.{IsInRange}
 use Rattle.t1_afm.specs.Points.{points, points_of, curve_at, sixty_fourths}
 use Rattle.t1_afm.proofs.Longs.{read}
 use Rattle.t1_afm.proofs.Convex.{coordinate_in_range, cubic_in_range, floor_small, negated_in_range}
-use Rattle.t1_extent.specs.Extremes.{at_point, reaching, extremes, corners, limit_check, move_check}
+use Rattle.t1_extent.specs.Extremes.{point_extremes, reaching, extremes, corners, limit_check, move_check}
 use Rattle.t1_extent.specs.Laws.{Summary, summary, shifted_summary, AreWithin, LimitsLaw, DrawnMovesLaw}
 use Rattle.t1_extent.proofs.Canonical.{lowest_above}
 use Rattle.t1_extent.proofs.Checking.{is_below, is_above, is_past, check, passed, past_fold, out_past, fold_ordered, exceeds_is}
@@ -45,13 +45,13 @@ record IsInside (p : Point) : Type 0 where
   x : IsInRange p.x
   y : IsInRange p.y
 
-point_past : (p : Point) → IsInside p → is_past (at_point p) ≡ false
+point_past : (p : Point) → IsInside p → is_past (point_extremes p) ≡ false
 point_past p h =
     ap (λ t. t || (is_below (lowest p.y) || is_above (lowest p.y))) (sym (exceeds_is (lowest p.x)) ∙ inside p.x h.x) ∙ (sym (exceeds_is (lowest p.y)) ∙ inside p.y h.y)
 
-none_past : (ps : List Point) → AllByRecursion IsInside ps → list_any is_past (map at_point ps) ≡ false
+none_past : (ps : List Point) → AllByRecursion IsInside ps → list_any is_past (map point_extremes ps) ≡ false
 none_past [] h = refl
-none_past (p ∷ ps) h = ap (λ t. t || list_any is_past (map at_point ps)) (point_past p h.0) ∙ none_past ps h.1
+none_past (p ∷ ps) h = ap (λ t. t || list_any is_past (map point_extremes ps)) (point_past p h.0) ∙ none_past ps h.1
 
 inside_numbers : (ps : List Point) → AllByRecursion IsInside ps → AllByRecursion IsNumber ps
 inside_numbers [] h = tt
@@ -61,8 +61,8 @@ points_limited : (ps : List Point) → AllByRecursion IsInside ps → limit_chec
 points_limited [] h = refl
 points_limited (p ∷ ps) h =
     let n = inside_numbers (p ∷ ps) h in
-    let first = at_point p in
-    let rest = map at_point ps in
+    let first = point_extremes p in
+    let rest = map point_extremes ps in
     let one = point_lowest p n.0 in
     let all = points_lowest ps n.1 in
     ap check

@@ -19,7 +19,7 @@ use Rattle.t1_extent.specs.declared.reached.Drawn.{Drawn}
 use Rattle.t1_extent.specs.declared.reached.Drawn.TheVariants.{Whole, Mixed}
 use Rattle.t1_extent.specs.declared.reached.Reached.{Reached}
 use Rattle.t1_extent.specs.Exacts.{extremes_of, AreFine}
-use Rattle.t1_extent.specs.Extremes.{Extremes, corners, extremes, unite, rounded, shifted_by, limit_check, move_check, moved_box, IsWhole, IsWholeSegment, MovesEasily, is_whole_outline}
+use Rattle.t1_extent.specs.Extremes.{Extremes, corners, extremes, unite_extremes, rounded, shifted_by, limit_check, move_check, moved_box, IsWhole, IsWholeSegment, MovesEasily, is_whole_outline}
 use Rattle.t1_extent.specs.Laws.{Summary, summary, shifted_summary, AreWithin, IsDistance}
 use Rattle.t1_extent.specs.Reached.{IsDrawnBy, IsExact, IsNear, IsReach, MovesReach, ReportsAtOnce, grain_of}
 use Rattle.t1_extent.proofs.BoxLaws.{drawn_box_law, box_moves_law}
@@ -59,9 +59,9 @@ both_true : (p q : Bool) → p ≡ true → q ≡ true → (p && q) ≡ true
 both_true p q e f = rw (e, f) refl
 
 pub united_whole : (r s : Reached) (one other drawn united : Option Extent) (a b : List Segment) → r.drawn ≡ Whole one → s.drawn ≡ Whole other → IsReach r a → IsReach s b
-    → option_map extremes_of drawn ≡ unite (option_map extremes_of one) (option_map extremes_of other)
+    → option_map extremes_of drawn ≡ unite_extremes (option_map extremes_of one) (option_map extremes_of other)
     → ((n : ℕ) → IfSome one (AreFine n) → IfSome other (AreFine n) → IfSome drawn (AreFine n))
-    → option_map extremes_of united ≡ unite (option_map extremes_of r.corners) (option_map extremes_of s.corners)
+    → option_map extremes_of united ≡ unite_extremes (option_map extremes_of r.corners) (option_map extremes_of s.corners)
     → ((n : ℕ) → IfSome r.corners (AreFine n) → IfSome s.corners (AreFine n) → IfSome united (AreFine n))
     → IsReach (record { drawn = Whole drawn; corners = united }) (a ++ b)
 united_whole r s one other drawn united a b er es h k ed fd ec fc =
@@ -74,16 +74,16 @@ united_whole r s one other drawn united a b er es h k ed fd ec fc =
       within = both_within a b h.within k.within;
       drawn = (
         whole_of_both a b ∙ both_true (is_whole_outline a) (is_whole_outline b) x.0 y.0,
-        ed ∙ ap (λ e. unite e (option_map extremes_of other)) x.1 ∙ ap (unite (extremes (points a))) y.1 ∙ sym (ap (λ (s : Summary). s.drawn) law),
+        ed ∙ ap (λ e. unite_extremes e (option_map extremes_of other)) x.1 ∙ ap (unite_extremes (extremes (points a))) y.1 ∙ sym (ap (λ (s : Summary). s.drawn) law),
         fd (2 ^ 20) x.2 y.2,
       );
-      corners = ec ∙ ap (λ e. unite e (option_map extremes_of s.corners)) h.corners ∙ ap (unite (extremes (corners a))) k.corners ∙ sym (ap (λ (s : Summary). s.corners) law);
+      corners = ec ∙ ap (λ e. unite_extremes e (option_map extremes_of s.corners)) h.corners ∙ ap (unite_extremes (extremes (corners a))) k.corners ∙ sym (ap (λ (s : Summary). s.corners) law);
       corners_fine = fc 1 fx fy;
     }
 
 pub united_mixed : (r s : Reached) (united : Option Extent) (one other bbox : Option BBox) (a b : List Segment) → IsReach r a → IsReach s b
     → one ≡ drawn_box a → other ≡ drawn_box b → bbox ≡ unite_boxes one other
-    → option_map extremes_of united ≡ unite (option_map extremes_of r.corners) (option_map extremes_of s.corners)
+    → option_map extremes_of united ≡ unite_extremes (option_map extremes_of r.corners) (option_map extremes_of s.corners)
     → ((n : ℕ) → IfSome r.corners (AreFine n) → IfSome s.corners (AreFine n) → IfSome united (AreFine n))
     → IsReach (record { drawn = Mixed bbox; corners = united }) (a ++ b)
 united_mixed r s united one other bbox a b h k ea eb eu ec fc =
@@ -91,7 +91,7 @@ united_mixed r s united one other bbox a b h k ea eb eu ec fc =
     record {
       within = both_within a b h.within k.within;
       drawn = eu ∙ ap (λ e. unite_boxes e other) ea ∙ ap (unite_boxes (drawn_box a)) eb ∙ sym (box_of_both a b);
-      corners = ec ∙ ap (λ e. unite e (option_map extremes_of s.corners)) h.corners ∙ ap (unite (extremes (corners a))) k.corners ∙ sym (ap (λ (s : Summary). s.corners) law);
+      corners = ec ∙ ap (λ e. unite_extremes e (option_map extremes_of s.corners)) h.corners ∙ ap (unite_extremes (extremes (corners a))) k.corners ∙ sym (ap (λ (s : Summary). s.corners) law);
       corners_fine = fc (2 ^ 20) (fine_corners r.drawn r.corners h.corners_fine) (fine_corners s.drawn s.corners k.corners_fine);
     }
 
@@ -283,8 +283,8 @@ appended xs x (Ok ss) = ap Ok (sym (append_assoc xs (x ∷ []) ss))
 -- with one segment more
 pub leads_on : (r s t : Reached) (x : Segment) (one rest whole : Result (List Segment) Code) → Leads r one whole → one ≡ (rest >>= λ ss. Ok (x ∷ ss)) → IsReach s (x ∷ [])
     → ((a b : List Segment) → IsReach r a → IsReach s b → IsReach t (a ++ b)) → Leads t rest whole
-leads_on r s t x one rest whole l is k unite =
-    (l.0 ++ (x ∷ []), unite l.0 (x ∷ []) l.1 k, l.2 ∙ ap (λ u. u >>= λ ss. Ok (l.0 ++ ss)) is ∙ appended l.0 x rest)
+leads_on r s t x one rest whole l is k unite_extremes =
+    (l.0 ++ (x ∷ []), unite_extremes l.0 (x ∷ []) l.1 k, l.2 ∙ ap (λ u. u >>= λ ss. Ok (l.0 ++ ss)) is ∙ appended l.0 x rest)
 
 pub leads_end : (r : Reached) (rest whole : Result (List Segment) Code) → Leads r rest whole → rest ≡ Ok [] → ReportsAtOnce (Ok r) whole
 leads_end r rest whole l is = (l.0, l.2 ∙ ap (λ u. u >>= λ ss. Ok (l.0 ++ ss)) is ∙ ap Ok (append-nil l.0), l.1)

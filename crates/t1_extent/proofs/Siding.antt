@@ -8,7 +8,7 @@ use Rattle.t1_frac.specs.Limits.{IsCoordinate}
 use Rattle.t1_frac.proofs.SameLowest.{same_lowest}
 use borrow.Author.Differences.{product_is, same_in}
 use Rattle.t1_afm.proofs.Longs.{read, read_small}
-use Rattle.t1_extent.specs.Sides.{over}
+use Rattle.t1_extent.specs.Sides.{in_lowest_terms}
 
 -- a number of 39 bits at most, read from 64
 abbrev pub IsReadAs : ℕ → ℤ → ℤ → Type 0
@@ -32,16 +32,16 @@ greatest_read n x a b short e h k =
     read_as n x (int_max a b) short (e ∙ rw (read_small a (omega (arith, short, h)), read_small b (omega (arith, short, k))) refl) (one_of n (int_lt b a) a b h k)
 
 -- a whole coordinate over 64^3
-pub cubed : (p : Fraction) → p.den ≡ 1 → over 262144 (pos 262144 *ℤ p.num) ≡ lowest p
+pub cubed : (p : Fraction) → p.den ≡ 1 → in_lowest_terms 262144 (pos 262144 *ℤ p.num) ≡ lowest p
 cubed p e =
     same_lowest (record { num = pos 262144 *ℤ p.num; den = 262144 }) p (omega arith) (omega (arith, e))
     (rw e (same_in _ _ (omega (arith, product_is (pos 262144 *ℤ p.num) (pos 1), product_is (pos 262144) p.num, product_is p.num (pos 262144)))))
 
 -- its numerator, as it is computed
-pub cubed_read : (p : Fraction) (n x : ℤ) → n ≡ p.num → p.den ≡ 1 → IsCoordinate p → x ≡ pos 262144 *ℤ read n → unsigned_abs x ≤ 2 ^ 38 → over 262144 (read x) ≡ lowest p
+pub cubed_read : (p : Fraction) (n x : ℤ) → n ≡ p.num → p.den ≡ 1 → IsCoordinate p → x ≡ pos 262144 *ℤ read n → unsigned_abs x ≤ 2 ^ 38 → in_lowest_terms 262144 (read x) ≡ lowest p
 cubed_read p n x is e h made size =
     let small : unsigned_abs p.num ≤ 2 ^ 20 * 1 = rw e at h.size in
-    ap (over 262144) (read_small x (omega (arith, size)) ∙ made ∙ ap (λ y. pos 262144 *ℤ y) (ap read is ∙ read_small p.num (omega (arith, small)))) ∙ cubed p e
+    ap (in_lowest_terms 262144) (read_small x (omega (arith, size)) ∙ made ∙ ap (λ y. pos 262144 *ℤ y) (ap read is ∙ read_small p.num (omega (arith, small)))) ∙ cubed p e
 
 pub num_read : (p : Fraction) (x : ℤ) → x ≡ p.num → p.den ≡ 1 → IsCoordinate p → read x ≡ p.num
 num_read p x is e h =

@@ -12,9 +12,9 @@ use Rattle.t1_afm.specs.Differences.{least_sum, greatest_sum}
 use Rattle.t1_afm.specs.Points.{points_of, points}
 use Rattle.t1_extent.specs.declared.whole_sides.WholeSides.{WholeSides}
 use Rattle.t1_extent.specs.Ends.{ends_of, ends}
-use Rattle.t1_extent.specs.Extremes.{Extremes, is_less, lesser, greater, reaching, extremes, unite, corners_of, corners, IsWhole, IsWholeSegment}
+use Rattle.t1_extent.specs.Extremes.{Extremes, is_less, lesser, greater, reaching, extremes, unite_extremes, corners_of, corners, IsWhole, IsWholeSegment}
 use Rattle.t1_extent.specs.Laws.{AreWithin}
-use Rattle.t1_extent.specs.Sides.{over, whole_extremes}
+use Rattle.t1_extent.specs.Sides.{in_lowest_terms, whole_extremes}
 use Rattle.t1_extent.proofs.Bending.{bend_is, ends_in_bend, ends_numbers}
 use Rattle.t1_afm.proofs.EndSums.{min_multiple, max_multiple}
 use Rattle.t1_extent.proofs.Folding.{same_extremes}
@@ -46,11 +46,11 @@ reaching_again e = same_extremes _ _ _ _ _ _ _ _ (lesser_again e.left) (lesser_a
 
 -- ---- one axis
 
-lesser_multiple : (a b : ℤ) → lesser (over 262144 (pos 262144 *ℤ a)) (over 262144 (pos 262144 *ℤ b)) ≡ over 262144 (pos 262144 *ℤ int_min a b)
-lesser_multiple a b = lesser_over 262144 (pos 262144 *ℤ a) (pos 262144 *ℤ b) (omega arith) ∙ ap (over 262144) (min_multiple a b)
+lesser_multiple : (a b : ℤ) → lesser (in_lowest_terms 262144 (pos 262144 *ℤ a)) (in_lowest_terms 262144 (pos 262144 *ℤ b)) ≡ in_lowest_terms 262144 (pos 262144 *ℤ int_min a b)
+lesser_multiple a b = lesser_over 262144 (pos 262144 *ℤ a) (pos 262144 *ℤ b) (omega arith) ∙ ap (in_lowest_terms 262144) (min_multiple a b)
 
-greater_multiple : (a b : ℤ) → greater (over 262144 (pos 262144 *ℤ a)) (over 262144 (pos 262144 *ℤ b)) ≡ over 262144 (pos 262144 *ℤ int_max a b)
-greater_multiple a b = greater_over 262144 (pos 262144 *ℤ a) (pos 262144 *ℤ b) (omega arith) ∙ ap (over 262144) (max_multiple a b)
+greater_multiple : (a b : ℤ) → greater (in_lowest_terms 262144 (pos 262144 *ℤ a)) (in_lowest_terms 262144 (pos 262144 *ℤ b)) ≡ in_lowest_terms 262144 (pos 262144 *ℤ int_max a b)
+greater_multiple a b = greater_over 262144 (pos 262144 *ℤ a) (pos 262144 *ℤ b) (omega arith) ∙ ap (in_lowest_terms 262144) (max_multiple a b)
 
 -- the least and the greatest of four, one after another
 abbrev low_of : Fraction → Fraction → Fraction → Fraction → Fraction
@@ -59,40 +59,40 @@ low_of p q r s = lesser (lesser (lesser p q) r) s
 abbrev high_of : Fraction → Fraction → Fraction → Fraction → Fraction
 high_of p q r s = greater (greater (greater p q) r) s
 
-low_four : (p q r s : Fraction) (a b c d : ℤ) → p ≡ over 262144 (pos 262144 *ℤ a) → q ≡ over 262144 (pos 262144 *ℤ b) → r ≡ over 262144 (pos 262144 *ℤ c) → s ≡ over 262144 (pos 262144 *ℤ d)
-    → low_of p q r s ≡ over 262144 (pos 262144 *ℤ int_min (int_min (int_min a b) c) d)
+low_four : (p q r s : Fraction) (a b c d : ℤ) → p ≡ in_lowest_terms 262144 (pos 262144 *ℤ a) → q ≡ in_lowest_terms 262144 (pos 262144 *ℤ b) → r ≡ in_lowest_terms 262144 (pos 262144 *ℤ c) → s ≡ in_lowest_terms 262144 (pos 262144 *ℤ d)
+    → low_of p q r s ≡ in_lowest_terms 262144 (pos 262144 *ℤ int_min (int_min (int_min a b) c) d)
 low_four p q r s a b c d e f g h =
-    ap (λ x. low_of x q r s) e ∙ ap (λ x. low_of (over 262144 (pos 262144 *ℤ a)) x r s) f ∙ ap (λ x. lesser (lesser x r) s) (lesser_multiple a b)
-    ∙ ap (λ x. lesser (lesser (over 262144 (pos 262144 *ℤ int_min a b)) x) s) g ∙ ap (λ x. lesser x s) (lesser_multiple (int_min a b) c)
-    ∙ ap (lesser (over 262144 (pos 262144 *ℤ int_min (int_min a b) c))) h ∙ lesser_multiple (int_min (int_min a b) c) d
+    ap (λ x. low_of x q r s) e ∙ ap (λ x. low_of (in_lowest_terms 262144 (pos 262144 *ℤ a)) x r s) f ∙ ap (λ x. lesser (lesser x r) s) (lesser_multiple a b)
+    ∙ ap (λ x. lesser (lesser (in_lowest_terms 262144 (pos 262144 *ℤ int_min a b)) x) s) g ∙ ap (λ x. lesser x s) (lesser_multiple (int_min a b) c)
+    ∙ ap (lesser (in_lowest_terms 262144 (pos 262144 *ℤ int_min (int_min a b) c))) h ∙ lesser_multiple (int_min (int_min a b) c) d
 
-high_four : (p q r s : Fraction) (a b c d : ℤ) → p ≡ over 262144 (pos 262144 *ℤ a) → q ≡ over 262144 (pos 262144 *ℤ b) → r ≡ over 262144 (pos 262144 *ℤ c) → s ≡ over 262144 (pos 262144 *ℤ d)
-    → high_of p q r s ≡ over 262144 (pos 262144 *ℤ int_max (int_max (int_max a b) c) d)
+high_four : (p q r s : Fraction) (a b c d : ℤ) → p ≡ in_lowest_terms 262144 (pos 262144 *ℤ a) → q ≡ in_lowest_terms 262144 (pos 262144 *ℤ b) → r ≡ in_lowest_terms 262144 (pos 262144 *ℤ c) → s ≡ in_lowest_terms 262144 (pos 262144 *ℤ d)
+    → high_of p q r s ≡ in_lowest_terms 262144 (pos 262144 *ℤ int_max (int_max (int_max a b) c) d)
 high_four p q r s a b c d e f g h =
-    ap (λ x. high_of x q r s) e ∙ ap (λ x. high_of (over 262144 (pos 262144 *ℤ a)) x r s) f ∙ ap (λ x. greater (greater x r) s) (greater_multiple a b)
-    ∙ ap (λ x. greater (greater (over 262144 (pos 262144 *ℤ int_max a b)) x) s) g ∙ ap (λ x. greater x s) (greater_multiple (int_max a b) c)
-    ∙ ap (greater (over 262144 (pos 262144 *ℤ int_max (int_max a b) c))) h ∙ greater_multiple (int_max (int_max a b) c) d
+    ap (λ x. high_of x q r s) e ∙ ap (λ x. high_of (in_lowest_terms 262144 (pos 262144 *ℤ a)) x r s) f ∙ ap (λ x. greater (greater x r) s) (greater_multiple a b)
+    ∙ ap (λ x. greater (greater (in_lowest_terms 262144 (pos 262144 *ℤ int_max a b)) x) s) g ∙ ap (λ x. greater x s) (greater_multiple (int_max a b) c)
+    ∙ ap (greater (in_lowest_terms 262144 (pos 262144 *ℤ int_max (int_max a b) c))) h ∙ greater_multiple (int_max (int_max a b) c) d
 
 low_hull : (a b c d : Fraction) → a.den ≡ 1 → b.den ≡ 1 → c.den ≡ 1 → d.den ≡ 1
-    → lesser (over 262144 (least_sum a.num b.num c.num d.num)) (low_of (lowest a) (lowest b) (lowest c) (lowest d)) ≡ low_of (lowest a) (lowest b) (lowest c) (lowest d)
+    → lesser (in_lowest_terms 262144 (least_sum a.num b.num c.num d.num)) (low_of (lowest a) (lowest b) (lowest c) (lowest d)) ≡ low_of (lowest a) (lowest b) (lowest c) (lowest d)
 low_hull a b c d ha hb hc hd =
     let four = low_four (lowest a) (lowest b) (lowest c) (lowest d) a.num b.num c.num d.num (sym (cubed a ha)) (sym (cubed b hb)) (sym (cubed c hc)) (sym (cubed d hd)) in
-    ap (lesser (over 262144 (least_sum a.num b.num c.num d.num))) four
+    ap (lesser (in_lowest_terms 262144 (least_sum a.num b.num c.num d.num))) four
     ∙ lesser_over 262144 (least_sum a.num b.num c.num d.num) (pos 262144 *ℤ int_min (int_min (int_min a.num b.num) c.num) d.num) (omega arith)
-    ∙ ap (over 262144) (least_in_hull a.num b.num c.num d.num) ∙ sym four
+    ∙ ap (in_lowest_terms 262144) (least_in_hull a.num b.num c.num d.num) ∙ sym four
 
 high_hull : (a b c d : Fraction) → a.den ≡ 1 → b.den ≡ 1 → c.den ≡ 1 → d.den ≡ 1
-    → greater (over 262144 (greatest_sum a.num b.num c.num d.num)) (high_of (lowest a) (lowest b) (lowest c) (lowest d)) ≡ high_of (lowest a) (lowest b) (lowest c) (lowest d)
+    → greater (in_lowest_terms 262144 (greatest_sum a.num b.num c.num d.num)) (high_of (lowest a) (lowest b) (lowest c) (lowest d)) ≡ high_of (lowest a) (lowest b) (lowest c) (lowest d)
 high_hull a b c d ha hb hc hd =
     let four = high_four (lowest a) (lowest b) (lowest c) (lowest d) a.num b.num c.num d.num (sym (cubed a ha)) (sym (cubed b hb)) (sym (cubed c hc)) (sym (cubed d hd)) in
-    ap (greater (over 262144 (greatest_sum a.num b.num c.num d.num))) four
+    ap (greater (in_lowest_terms 262144 (greatest_sum a.num b.num c.num d.num))) four
     ∙ greater_over 262144 (greatest_sum a.num b.num c.num d.num) (pos 262144 *ℤ int_max (int_max (int_max a.num b.num) c.num) d.num) (omega arith)
-    ∙ ap (over 262144) (greatest_in_hull a.num b.num c.num d.num) ∙ sym four
+    ∙ ap (in_lowest_terms 262144) (greatest_in_hull a.num b.num c.num d.num) ∙ sym four
 
 bend_in_hull : (a b c d : Point) → IsWhole a → IsWhole b → IsWhole c → IsWhole d
-    → unite (extremes (points_of (Curve a b c d))) (extremes (a ∷ b ∷ c ∷ d ∷ [])) ≡ extremes (a ∷ b ∷ c ∷ d ∷ [])
+    → unite_extremes (extremes (points_of (Curve a b c d))) (extremes (a ∷ b ∷ c ∷ d ∷ [])) ≡ extremes (a ∷ b ∷ c ∷ d ∷ [])
 bend_in_hull a b c d ha hb hc hd =
-    ap (λ e. unite e (extremes (a ∷ b ∷ c ∷ d ∷ []))) (sym (bend_is a b c d ha hb hc hd))
+    ap (λ e. unite_extremes e (extremes (a ∷ b ∷ c ∷ d ∷ []))) (sym (bend_is a b c d ha hb hc hd))
     ∙ ap Some (same_extremes _ _ _ _ _ _ _ _
     (low_hull a.x b.x c.x d.x ha.x hb.x hc.x hd.x) (low_hull a.y b.y c.y d.y ha.y hb.y hc.y hd.y)
     (high_hull a.x b.x c.x d.x ha.x hb.x hc.x hd.x) (high_hull a.y b.y c.y d.y ha.y hb.y hc.y hd.y))
@@ -129,15 +129,15 @@ squeezed whole ended reached ss h k c e same is =
     ap Some is ∙ c
     ∙ sym (outlines_united points_of corners_of corners_of ss (each_of (IsUnion points_of corners_of corners_of) ss points_in_corners h k))
     ∙ unite_turned (extremes (points ss)) (extremes (corners ss)) (extremes_lowest (points ss) (outline_numbers ss n)) (extremes_lowest (corners ss) (corners_numbers ss n))
-    ∙ ap (λ x. unite x (extremes (points ss))) (sym c ∙ ap Some (sym same) ∙ e)
+    ∙ ap (λ x. unite_extremes x (extremes (points ss))) (sym c ∙ ap Some (sym same) ∙ e)
     ∙ outlines_united ends_of points_of points_of ss (each_of (IsUnion ends_of points_of points_of) ss ends_in_points h k)
 
 -- the numerators of whole coordinates
 pub same_sides : (left bottom right top : ℤ) (s : WholeSides) → left ≡ pos 262144 *ℤ s.left → bottom ≡ pos 262144 *ℤ s.bottom → right ≡ pos 262144 *ℤ s.right → top ≡ pos 262144 *ℤ s.top
-    → record { left = over 262144 left; bottom = over 262144 bottom; right = over 262144 right; top = over 262144 top } ≡ whole_extremes s
+    → record { left = in_lowest_terms 262144 left; bottom = in_lowest_terms 262144 bottom; right = in_lowest_terms 262144 right; top = in_lowest_terms 262144 top } ≡ whole_extremes s
 same_sides left bottom right top s e f g h =
     same_extremes _ _ _ _ _ _ _ _
-    (ap (over 262144) e ∙ cubed (whole s.left) refl) (ap (over 262144) f ∙ cubed (whole s.bottom) refl) (ap (over 262144) g ∙ cubed (whole s.right) refl) (ap (over 262144) h ∙ cubed (whole s.top) refl)
+    (ap (in_lowest_terms 262144) e ∙ cubed (whole s.left) refl) (ap (in_lowest_terms 262144) f ∙ cubed (whole s.bottom) refl) (ap (in_lowest_terms 262144) g ∙ cubed (whole s.right) refl) (ap (in_lowest_terms 262144) h ∙ cubed (whole s.top) refl)
 
 -- what has no corners draws nothing
 pub no_corners : (ss : List Segment) → extremes (corners ss) ≡ None → extremes (points ss) ≡ None

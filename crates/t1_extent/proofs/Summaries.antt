@@ -16,7 +16,7 @@ use Rattle.t1_run.specs.Run.{Drawing}
 use Rattle.t1_run.proofs.Within.{bind-ok, each-append}
 use Rattle.t1_afm.specs.Points.{points, points_of}
 use Rattle.t1_extent.specs.Extremes.{Extremes, corners_of, corners, extremes, move_check, IsWhole, MovesEasily}
-use Rattle.t1_extent.specs.Laws.{Summary, summary, united, shifted_summary, AreWithin, IsDistance, BoxLaw, BothLaw, MovedLaw, CheckLaw, JoinedLaw}
+use Rattle.t1_extent.specs.Laws.{Summary, summary, united_summary, shifted_summary, AreWithin, IsDistance, BoxLaw, BothLaw, MovedLaw, CheckLaw, JoinedLaw}
 use Rattle.t1_extent.proofs.Folding.{IsNumber, box_rounded, extremes-append}
 use Rattle.t1_extent.proofs.Moving.{AreNumbers, AreMoved, outline_moved, outline_numbers, corners_numbers, extremes_shifted}
 use Rattle.t1_extent.proofs.Checking.{IsEasy, not_fine, passed, outline_passed}
@@ -96,8 +96,8 @@ check_law by outline hb h easy = outline_passed by outline (distance_number by h
 -- ---- composites
 
 united_three : (own base accent' : List Segment) → AreWithin own → AreWithin base → AreWithin accent'
-    → summary (own ++ base ++ accent') ≡ united (united (summary own) (summary base)) (summary accent')
-united_three own base accent' h k m = both_law (own ++ base) accent' (each-append IsWithin own base h k) m ∙ ap (λ s. united s (summary accent')) (both_law own base h k)
+    → summary (own ++ base ++ accent') ≡ united_summary (united_summary (summary own) (summary base)) (summary accent')
+united_three own base accent' h k m = both_law (own ++ base) accent' (each-append IsWithin own base h k) m ∙ ap (λ s. united_summary s (summary accent')) (both_law own base h k)
 
 -- ---- moved points are within the limits
 
@@ -125,17 +125,17 @@ outline_within by (s ∷ ss) hb h =
 
 joined_law' : (d : List Segment) (base accent : List Segment) (by : Point) (r : Result (List Segment) Code) (t : Result (Unit {0}) Code)
     → AreWithin d → AreWithin base → IfOk r AreWithin → IfOk r (λ moved. summary moved ≡ shifted_summary by (summary accent)) → passed r ≡ t
-    → ((r >>= λ accent'. Ok (d ++ base ++ accent')) >>= λ outline. Ok (summary outline)) ≡ (t >>= λ _. Ok (united (united (summary d) (summary base)) (shifted_summary by (summary accent))))
+    → ((r >>= λ accent'. Ok (d ++ base ++ accent')) >>= λ outline. Ok (summary outline)) ≡ (t >>= λ _. Ok (united_summary (united_summary (summary d) (summary base)) (shifted_summary by (summary accent))))
 joined_law' d base accent by (Ok accent') t h k within moved e =
-    ap Ok (united_three d base accent' h k within ∙ ap (λ s. united (united (summary d) (summary base)) s) moved)
-    ∙ ap (λ (u : Result (Unit {0}) Code). u >>= λ _. Ok (united (united (summary d) (summary base)) (shifted_summary by (summary accent)))) e
+    ap Ok (united_three d base accent' h k within ∙ ap (λ s. united_summary (united_summary (summary d) (summary base)) s) moved)
+    ∙ ap (λ (u : Result (Unit {0}) Code). u >>= λ _. Ok (united_summary (united_summary (summary d) (summary base)) (shifted_summary by (summary accent)))) e
 joined_law' d base accent by (Err c) t h k within moved e =
-    ap (λ (u : Result (Unit {0}) Code). u >>= λ _. Ok (united (united (summary d) (summary base)) (shifted_summary by (summary accent)))) e
+    ap (λ (u : Result (Unit {0}) Code). u >>= λ _. Ok (united_summary (united_summary (summary d) (summary base)) (shifted_summary by (summary accent)))) e
 
 joined_at : (c : Composite) (d : Drawing) (base accent : List Segment) (m : Result Point Code) → AreWithin d.segments → AreWithin base → AreWithin accent
     → IfOk m (λ by. IsDistance by × MovesEasily by accent)
     → ((m >>= (λ by. moved_outline by accent >>= (λ accent'. Ok (d.segments ++ base ++ accent')))) >>= λ outline. Ok (summary outline))
-    ≡ (m >>= (λ by. move_check by (summary accent).corners >>= (λ _. Ok (united (united (summary d.segments) (summary base)) (shifted_summary by (summary accent))))))
+    ≡ (m >>= (λ by. move_check by (summary accent).corners >>= (λ _. Ok (united_summary (united_summary (summary d.segments) (summary base)) (shifted_summary by (summary accent))))))
 joined_at c d base accent (Err fault) h k l easy = refl
 joined_at c d base accent (Ok by) h k l easy =
     joined_law' d.segments base accent by (moved_outline by accent) (move_check by (summary accent).corners) h k

@@ -8,7 +8,7 @@ use Rattle.t1_frac.specs.declared.fault.Code.{Code}
 use Rattle.t1_run.specs.declared.outline.Composite.{Composite}
 use Rattle.t1_run.specs.declared.outline.Point.{Point}
 use Rattle.t1_run.specs.declared.outline.Segment.{Segment}
-use Rattle.t1_run.specs.Composite.{accent_move, moved_segment, moved_outline, joined, joined_with}
+use Rattle.t1_run.specs.Composite.{accent_move, moved_segment, moved_outline, joined_outline, joined_with}
 use Rattle.t1_run.specs.Run.{Drawing}
 use Rattle.t1_extent.specs.Turns.{in_turn, through, segment_through}
 
@@ -56,14 +56,14 @@ split_outlines (by ∷ moves) last xs ys h =
 -- ---- composites
 
 joined_is : (c : Composite) (d : Drawing) (base accent : List Segment) (by : Point) → d.composite ≡ Some c → accent_move d.bearing c ≡ Ok by
-    → joined d base accent ≡ (moved_outline by accent >>= λ accent'. Ok (d.segments ++ base ++ accent'))
-unfolding joined
+    → joined_outline d base accent ≡ (moved_outline by accent >>= λ accent'. Ok (d.segments ++ base ++ accent'))
+unfolding joined_outline
 joined_is c d base accent by is move =
     ap (λ k. joined_with k d base accent) is ∙ ap (λ m. m >>= (λ by. moved_outline by accent >>= (λ accent'. Ok (d.segments ++ base ++ accent')))) move
 
 joined_refused : (c : Composite) (d : Drawing) (base accent : List Segment) (code : Code) → d.composite ≡ Some c → accent_move d.bearing c ≡ Err code
-    → joined d base accent ≡ Err code
-unfolding joined
+    → joined_outline d base accent ≡ Err code
+unfolding joined_outline
 joined_refused c d base accent code is move =
     ap (λ k. joined_with k d base accent) is ∙ ap (λ m. m >>= (λ by. moved_outline by accent >>= (λ accent'. Ok (d.segments ++ base ++ accent')))) move
 
@@ -94,16 +94,16 @@ descends_joined d by moves last base accent whole is h =
 
 pub descends : (c : Composite) (d : Drawing) (by : Point) (moves : List Point) (last : Point) (base accent : Result (List Segment) Code)
     → d.composite ≡ Some c → accent_move d.bearing c ≡ Ok by
-    → IsOk ((base >>= (λ b. accent >>= (λ a. joined d b a))) >>= in_turn moves)
-    → Descends d by moves last base accent (base >>= (λ b. accent >>= (λ a. joined d b a)))
+    → IsOk ((base >>= (λ b. accent >>= (λ a. joined_outline d b a))) >>= in_turn moves)
+    → Descends d by moves last base accent (base >>= (λ b. accent >>= (λ a. joined_outline d b a)))
 descends c d by moves last (Err e) accent is move h = absurd (cc)
 descends c d by moves last (Ok b) (Err e) is move h = absurd (cc)
-descends c d by moves last (Ok b) (Ok a) is move h = descends_joined d by moves last b a (joined d b a) (joined_is c d b a by is move) h
+descends c d by moves last (Ok b) (Ok a) is move h = descends_joined d by moves last b a (joined_outline d b a) (joined_is c d b a by is move) h
 
 -- where the accent's move is refused, the composite can't be moved in turn
 pub never_refused : (c : Composite) (d : Drawing) (code : Code) (moves : List Point) (base accent : Result (List Segment) Code)
     → d.composite ≡ Some c → accent_move d.bearing c ≡ Err code
-    → IsOk ((base >>= (λ b. accent >>= (λ a. joined d b a))) >>= in_turn moves) → ⊥
+    → IsOk ((base >>= (λ b. accent >>= (λ a. joined_outline d b a))) >>= in_turn moves) → ⊥
 never_refused c d code moves (Err e) accent is move h = cc
 never_refused c d code moves (Ok b) (Err e) is move h = cc
 never_refused c d code moves (Ok b) (Ok a) is move h =

@@ -31,8 +31,8 @@ pub record Extremes : Type 0 where
   pub top : Fraction
 
 -- word: the extremes of one point
-abbrev pub at_point : Point → Extremes
-at_point p = record { left = lowest p.x; bottom = lowest p.y; right = lowest p.x; top = lowest p.y }
+abbrev pub point_extremes : Point → Extremes
+point_extremes p = record { left = lowest p.x; bottom = lowest p.y; right = lowest p.x; top = lowest p.y }
 
 -- word: the extremes of two together
 abbrev pub reaching : Extremes → Extremes → Extremes
@@ -44,14 +44,14 @@ reaching d e = record {
 }
 
 -- word: the same, where there may be none
-abbrev pub unite : Option Extremes → Option Extremes → Option Extremes
-unite None e = e
-unite (Some d) None = Some d
-unite (Some d) (Some e) = Some (reaching d e)
+abbrev pub unite_extremes : Option Extremes → Option Extremes → Option Extremes
+unite_extremes None e = e
+unite_extremes (Some d) None = Some d
+unite_extremes (Some d) (Some e) = Some (reaching d e)
 
 -- word: the extremes of points, where there are any
 abbrev pub extremes : List Point → Option Extremes
-extremes ps = reduce reaching (map at_point ps)
+extremes ps = reduce reaching (map point_extremes ps)
 
 -- word: both ends of each line and curve, and the two points between those of a curve
 abbrev pub corners_of : Segment → List Point
@@ -126,13 +126,13 @@ IsWholeSegment (Line start end) = IsWhole start × IsWhole end
 IsWholeSegment (Curve start first second end) = IsWhole start × IsWhole first × IsWhole second × IsWhole end
 
 -- word: whether both coordinates of a point are whole
-abbrev pub is_whole : Point → Bool
-is_whole p = (p.x.den == 1) && (p.y.den == 1)
+abbrev pub is_whole_point : Point → Bool
+is_whole_point p = (p.x.den == 1) && (p.y.den == 1)
 
 -- word: whether each coordinate of a segment is
 abbrev pub is_whole_segment : Segment → Bool
-is_whole_segment (Line start end) = is_whole start && is_whole end
-is_whole_segment (Curve start first second end) = is_whole start && is_whole first && is_whole second && is_whole end
+is_whole_segment (Line start end) = is_whole_point start && is_whole_point end
+is_whole_segment (Curve start first second end) = is_whole_point start && is_whole_point first && is_whole_point second && is_whole_point end
 
 -- word: whether each coordinate of an outline is
 abbrev pub is_whole_outline : List Segment → Bool

@@ -11,7 +11,7 @@ use Rattle.t1_run.specs.Composite.{accent_move, moved_outline, joined_by, outlin
 use Rattle.t1_run.specs.Run.{FontBodies, Drawing, own}
 use Rattle.t1_afm.specs.Box.{outline_box, drawn_box}
 use Rattle.t1_afm.specs.Points.{points}
-use Rattle.t1_extent.specs.Extremes.{Extremes, corners, extremes, unite, rounded, boxed, shifted_by, limit_check, move_check, moved_box, IsWhole, MovesEasily, IsWholeSegment, is_whole_outline}
+use Rattle.t1_extent.specs.Extremes.{Extremes, corners, extremes, unite_extremes, rounded, boxed, shifted_by, limit_check, move_check, moved_box, IsWhole, MovesEasily, IsWholeSegment, is_whole_outline}
 
 -- word: the extremes of the points that an outline's box is taken over, and those of all its points
 pub record Summary : Type 0 where
@@ -23,8 +23,8 @@ abbrev pub summary : List Segment → Summary
 summary outline = record { drawn = extremes (points outline); corners = extremes (corners outline) }
 
 -- word: the union of two summaries
-abbrev pub united : Summary → Summary → Summary
-united a b = record { drawn = unite a.drawn b.drawn; corners = unite a.corners b.corners }
+abbrev pub united_summary : Summary → Summary → Summary
+united_summary a b = record { drawn = unite_extremes a.drawn b.drawn; corners = unite_extremes a.corners b.corners }
 
 -- word: a summary, moved
 abbrev pub shifted_summary : Point → Summary → Summary
@@ -55,7 +55,7 @@ LimitsLaw = (outline : List Segment) → AreWithin outline → (limit_check (sum
 
 -- word: the summary of two outlines in one is the union of both
 abbrev pub BothLaw : Type 0
-BothLaw = (a b : List Segment) → AreWithin a → AreWithin b → summary (a ++ b) ≡ united (summary a) (summary b)
+BothLaw = (a b : List Segment) → AreWithin a → AreWithin b → summary (a ++ b) ≡ united_summary (summary a) (summary b)
 
 -- word: where an outline can be moved, the summary of what comes is its summary, moved
 abbrev pub MovedLaw : Type 0
@@ -114,7 +114,7 @@ abbrev pub joined_summary : Composite → Point → Summary → Summary → Summ
 joined_summary c bearing own base accent =
     accent_move bearing c >>= (λ by.
     move_check by accent.corners >>= (λ _.
-    Ok (united (united own base) (shifted_summary by accent))))
+    Ok (united_summary (united_summary own base) (shifted_summary by accent))))
 
 -- word: the accent's move keeps the accent easy
 abbrev pub JoinsEasily : Composite → Drawing → List Segment → Type 0

@@ -56,9 +56,9 @@ abbrev pub IsReachOfSome : Reached → Type 0
 IsReachOfSome reached = (outline : List Segment) × IsReach reached outline
 
 -- word: a call answers how far the outline reaches that a definition gives, or its fault, unless memory ran out
-abbrev pub Reports : Result Reached Refusal → Result (List Segment) Code → Type 0
-Reports (Ok reached) given = (outline : List Segment) × (given ≡ Ok outline) × IsReach reached outline
-Reports (Err refused) given = Refuses refused (reported_at Nowhere given)
+abbrev pub GivesReached : Result Reached Refusal → Result (List Segment) Code → Type 0
+GivesReached (Ok reached) given = (outline : List Segment) × (given ≡ Ok outline) × IsReach reached outline
+GivesReached (Err refused) given = Refuses refused (reported_at Nowhere given)
 
 -- word: the same, of a call that takes no memory
 abbrev pub ReportsAtOnce : Result Reached Code → Result (List Segment) Code → Type 0

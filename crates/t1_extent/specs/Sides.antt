@@ -6,13 +6,13 @@ use Rattle.t1_extent.specs.declared.whole_sides.WholeSides.{WholeSides}
 use Rattle.t1_extent.specs.Extremes.{Extremes}
 
 -- word, fractions: a numerator over a denominator, in lowest terms
-abbrev pub over : ℕ → ℤ → Fraction
-over den num = lowest (record { num = num; den = den })
+abbrev pub in_lowest_terms : ℕ → ℤ → Fraction
+in_lowest_terms den num = lowest (record { num = num; den = den })
 
 -- word: the extremes whose numerators over this denominator these are
 abbrev pub extremes_over : ℕ → Sides → Extremes
-extremes_over den s = record { left = over den s.left; bottom = over den s.bottom; right = over den s.right; top = over den s.top }
+extremes_over den s = record { left = in_lowest_terms den s.left; bottom = in_lowest_terms den s.bottom; right = in_lowest_terms den s.right; top = in_lowest_terms den s.top }
 
 -- word: the extremes of whole coordinates
 abbrev pub whole_extremes : WholeSides → Extremes
-whole_extremes s = record { left = over 1 s.left; bottom = over 1 s.bottom; right = over 1 s.right; top = over 1 s.top }
+whole_extremes s = record { left = in_lowest_terms 1 s.left; bottom = in_lowest_terms 1 s.bottom; right = in_lowest_terms 1 s.right; top = in_lowest_terms 1 s.top }

@@ -28,7 +28,8 @@ fn moved_side(side: i32, by: i64) -> i32
     (i64::from(side) + by) as i32
 }
 
-/// A box in whole numbers, moved by a whole distance: the box of the moved points, though the points have fractions.
+/// A box in whole numbers, moved by a whole distance: the box of the moved points, though the
+/// points have fractions.
 pub fn moved_box(bbox: &BBox, by: &Point) -> BBox
     requires whole { IsWhole by.now }
     requires left { unsigned_abs (bbox.now.left +ℤ by.now.x.num) ≤ 2 ^ 29 }

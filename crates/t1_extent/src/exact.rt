@@ -26,12 +26,15 @@ fn scaled(num: i64, den: u64) -> i128
 
 impl Exact {
     ghost use Rattle.std.specs.Prelude.{ℕ, ◌*◌, ◌⊎◌, true, false, MatchResult, IfOk, Ok, Err};
-    ghost use Rattle.t1_frac.specs.Fraction.{whole as whole_of, plus, minus, negated as negated_of, floor_of, ceiling_of};
+    ghost use Rattle.t1_frac.specs.Fraction.{whole as whole_of, plus, minus, negated as negated_of};
+    ghost use Rattle.t1_frac.specs.Fraction.{floor_of, ceiling_of};
     ghost use Rattle.t1_frac.specs.Limits.{exceeds, IsCoordinate};
     ghost use Rattle.t1_frac.specs.declared.fault.Code.TheVariants.{F40};
-    ghost use Rattle.t1_extent.specs.Extremes.{is_less as is_less_of, lesser as lesser_of, greater as greater_of, shifted as shifted_of, shift_checked};
+    ghost use Rattle.t1_extent.specs.Extremes.{is_less as is_less_of, lesser as lesser_of};
+    ghost use Rattle.t1_extent.specs.Extremes.{greater as greater_of, shifted as shifted_of};
+    ghost use Rattle.t1_extent.specs.Extremes.{shift_checked};
     ghost use Rattle.t1_afm.specs.Bounds.{over_cube as cube_of};
-    ghost use Rattle.t1_extent.specs.Exacts.{raw, value_of};
+    ghost use Rattle.t1_extent.specs.Exacts.{raw, exact_value};
 
     /// A whole number.
     pub fn whole(n: i32) -> Exact
@@ -85,7 +88,7 @@ impl Exact {
 
     /// Whether it is less than another.
     pub fn is_less(&self, other: &Exact) -> bool
-        ensures { result ≡ is_less_of (value_of self.now) (value_of other.now) }
+        ensures { result ≡ is_less_of (exact_value self.now) (exact_value other.now) }
     {
         if self.den == other.den {
             return self.num < other.num;
@@ -95,7 +98,8 @@ impl Exact {
 
     /// The lesser of two.
     pub fn lesser(&self, other: &Exact) -> Exact
-        ensures value { value_of result ≡ lesser_of (value_of self.now) (value_of other.now) }
+        ensures value { exact_value result
+            ≡ lesser_of (exact_value self.now) (exact_value other.now) }
         ensures fine { (n : ℕ) → self.now.den ≤ n → other.now.den ≤ n → result.den ≤ n }
     {
         if other.is_less(self) { *other } else { *self }
@@ -103,7 +107,8 @@ impl Exact {
 
     /// The greater of two.
     pub fn greater(&self, other: &Exact) -> Exact
-        ensures value { value_of result ≡ greater_of (value_of self.now) (value_of other.now) }
+        ensures value { exact_value result
+            ≡ greater_of (exact_value self.now) (exact_value other.now) }
         ensures fine { (n : ℕ) → self.now.den ≤ n → other.now.den ≤ n → result.den ≤ n }
     {
         if self.is_less(other) { *other } else { *self }
@@ -121,7 +126,7 @@ impl Exact {
     /// The greatest whole number that isn't above it.
     #[tactic(auto, using(crate::proofs::Exacts::floor_value))]
     pub fn floor(&self) -> i64
-        ensures { result ≡ floor_of (value_of self.now) }
+        ensures { result ≡ floor_of (exact_value self.now) }
     {
         self.floor_wide() as i64
     }
@@ -138,7 +143,7 @@ impl Exact {
 
     /// The least whole number that isn't below it.
     pub fn ceil(&self) -> i64
-        ensures { result ≡ ceiling_of (value_of self.now) }
+        ensures { result ≡ ceiling_of (exact_value self.now) }
     {
         let negated = self.negated();
         -(negated.floor_wide() as i64)
@@ -148,9 +153,10 @@ impl Exact {
     fn limited(num: i128, den: u64) -> Result<Exact, Code>
         requires above { 0 < den }
         requires fine { den ≤ 2 ^ 40 }
-        ensures { MatchResult
-            result
-            (λ e. (raw e ≡ record { num = num; den = den }) × (exceeds (2 ^ 20) (record { num = num; den = den }) ≡ false))
+        ensures { MatchResult result
+            (λ e.
+            (raw e ≡ record { num = num; den = den })
+            × (exceeds (2 ^ 20) (record { num = num; den = den }) ≡ false))
             (λ c. (c ≡ F40) × (exceeds (2 ^ 20) (record { num = num; den = den }) ≡ true)) }
     {
         if num.unsigned_abs() > u128::from(den) * 1_048_576 {
@@ -177,9 +183,10 @@ impl Exact {
         requires { (self.now.den ≤ 2 ^ 20) ⊎ (by.now.den ≡ 1) }
         ensures outcome { MatchResult
             result
-            (λ e. shift_checked by.now (value_of self.now) ≡ Ok (value_of e))
-            (λ c. shift_checked by.now (value_of self.now) ≡ Err c) }
-        ensures value { IfOk result (λ e. value_of e ≡ shifted_of by.now (value_of self.now)) }
+            (λ e. shift_checked by.now (exact_value self.now) ≡ Ok (exact_value e))
+            (λ c. shift_checked by.now (exact_value self.now) ≡ Err c) }
+        ensures value { IfOk result
+            (λ e. exact_value e ≡ shifted_of by.now (exact_value self.now)) }
         ensures fine { IfOk result (λ e. e.den ≡ self.now.den * by.now.den) }
     {
         let num = self.moved_num(by);
@@ -216,9 +223,10 @@ impl Exact {
         requires by { by.now.den ≤ 2 ^ 20 }
         ensures outcome { MatchResult
             result
-            (λ e. shift_checked (raw by.now) (value_of self.now) ≡ Ok (value_of e))
-            (λ c. shift_checked (raw by.now) (value_of self.now) ≡ Err c) }
-        ensures value { IfOk result (λ e. value_of e ≡ shifted_of (raw by.now) (value_of self.now)) }
+            (λ e. shift_checked (raw by.now) (exact_value self.now) ≡ Ok (exact_value e))
+            (λ c. shift_checked (raw by.now) (exact_value self.now) ≡ Err c) }
+        ensures value { IfOk result
+            (λ e. exact_value e ≡ shifted_of (raw by.now) (exact_value self.now)) }
         ensures fine { IfOk result (λ e. e.den ≡ self.now.den * by.now.den) }
     {
         let num = self.sum_num(by);

@@ -14,7 +14,8 @@ use crate::turns::point_through;
 use t1_frac::Code;
 use t1_run::{Point, Segment};
 
-/// An outline whose coordinates are all whole: where it starts, and how far its drawn points and all its points reach.
+/// An outline whose coordinates are all whole: where it starts, and how far its drawn points and
+/// all its points reach.
 #[derive(Clone, Copy)]
 pub struct Figure {
     start: Point,
@@ -27,12 +28,15 @@ pub struct Figure {
 }
 
 impl Figure {
-    ghost use Rattle.std.specs.Prelude.{◌≡◌, true, false, List, All, IfSome, IsOk, MatchOption, option_map};
+    ghost use Rattle.std.specs.Prelude.{◌≡◌, true, false, List, All, IfSome, IsOk, MatchOption};
+    ghost use Rattle.std.specs.Prelude.{option_map};
     ghost use Rattle.t1_run.specs.declared.outline.Segment.{Segment};
     ghost use Rattle.t1_run.specs.Composite.{IsWithin};
     ghost use Rattle.t1_extent.specs.Ends.{ends as ends_of_all};
-    ghost use Rattle.t1_extent.specs.Extremes.{IsWholeSegment, corners as corners_of_all, extremes, is_whole_outline};
-    ghost use Rattle.t1_extent.specs.Figures.{first_point as first_point_of, IsFigureOf, IsWholeFigure};
+    ghost use Rattle.t1_extent.specs.Extremes.{IsWholeSegment, corners as corners_of_all, extremes};
+    ghost use Rattle.t1_extent.specs.Extremes.{is_whole_outline};
+    ghost use Rattle.t1_extent.specs.Figures.{first_point as first_point_of, IsFigureOf};
+    ghost use Rattle.t1_extent.specs.Figures.{IsWholeFigure};
     ghost use Rattle.t1_extent.specs.Laws.{IsDistance};
     ghost use Rattle.t1_extent.specs.Reached.{IsReach, ReportsAtOnce};
     ghost use Rattle.t1_extent.specs.Sides.{whole_extremes};
@@ -53,12 +57,15 @@ impl Figure {
         }
     }
 
-    /// The figure of an outline whose coordinates are whole, by the extremes of its ends and of all its points, where it draws.
+    /// The figure of an outline whose coordinates are whole, by the extremes of its ends and of all
+    /// its points, where it draws.
     fn with_sides(segments: &[Segment], sides: Option<OutlineSides>) -> Option<Figure>
         requires within { All IsWithin segments.now }
         requires whole { All IsWholeSegment segments.now }
-        requires ends { option_map (λ s. whole_extremes s.ends) sides ≡ extremes (ends_of_all segments.now) }
-        requires corners { option_map (λ s. whole_extremes s.corners) sides ≡ extremes (corners_of_all segments.now) }
+        requires ends { option_map (λ s. whole_extremes s.ends) sides
+            ≡ extremes (ends_of_all segments.now) }
+        requires corners { option_map (λ s. whole_extremes s.corners) sides
+            ≡ extremes (corners_of_all segments.now) }
         ensures { IsFigureOf result segments.now }
     {
         let start = Figure::first_point(segments)?;
@@ -95,7 +102,8 @@ impl Figure {
         }
     }
 
-    /// How far such an outline reaches, moved by the moves in turn and then by the last. Without the last it isn't refused.
+    /// How far such an outline reaches, moved by the moves in turn and then by the last. Without
+    /// the last it isn't refused.
     pub(crate) fn through(
         figure: Option<Figure>,
         moves: &[Point],
@@ -103,7 +111,10 @@ impl Figure {
     ) -> Result<Reached, Code>
         requires moves { All IsDistance moves.now }
         requires last { IsDistance last.now }
-        ensures { (outline : List Segment) → IsWholeFigure figure outline → IsOk (in_turn moves.now outline) → ReportsAtOnce result (through_of moves.now last.now outline) }
+        ensures { (outline : List Segment)
+            → IsWholeFigure figure outline
+            → IsOk (in_turn moves.now outline)
+            → ReportsAtOnce result (through_of moves.now last.now outline) }
     {
         let Some(figure) = figure else {
             return Ok(Reached::nothing());

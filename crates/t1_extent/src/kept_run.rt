@@ -33,8 +33,8 @@ pub enum Shape {
     /// Its figure where it draws; all its coordinates are whole.
     Whole(Option<Figure>),
     Mixed(Mixed),
-    /// The box around what it draws; some of its coordinates have fractions, and neither its segments nor the extremes of
-    /// its points are kept.
+    /// The box around what it draws; some of its coordinates have fractions, and neither its
+    /// segments nor the extremes of its points are kept.
     Boxed(Option<BBox>),
 }
 
@@ -57,12 +57,14 @@ fn mixed_reach(segments: &[Segment]) -> Reached
 }
 
 impl Shape {
-    /// What is kept of what a glyph of this name draws. Only under a name of StandardEncoding can it be a part of a
-    /// composite, and only a part is moved; of any other outline with fractions its box alone is asked for.
+    /// What is kept of what a glyph of this name draws. Only under a name of StandardEncoding can
+    /// it be a part of a composite, and only a part is moved; of any other outline with fractions
+    /// its box alone is asked for.
     fn of(alloc: Global, name: &[u8], segments: &[Segment]) -> Result<Shape, AllocError>
         requires { All IsWithin segments.now }
         ensures shape { IfOk result (λ shape. IsShape shape segments.now) }
-        ensures trace { IfOk result (λ shape. has_trace shape ≡ (is_whole segments.now || is_standard name.now)) }
+        ensures trace { IfOk result
+            (λ shape. has_trace shape ≡ (is_whole segments.now || is_standard name.now)) }
     {
         if let Some(figure) = Figure::if_whole(segments) {
             return Ok(Shape::Whole(figure));
@@ -77,8 +79,9 @@ impl Shape {
     }
 }
 
-/// A run of which memory holds what can be asked of it. Contracts see the whole run; its segments are in memory only where
-/// some of their coordinates have fractions and its glyph may be a part of a composite.
+/// A run of which memory holds what can be asked of it. Contracts see the whole run; its segments
+/// are in memory only where some of their coordinates have fractions and its glyph may be a part of
+/// a composite.
 #[derive(Drop)]
 pub struct KeptRun {
     width: Point,
@@ -116,8 +119,8 @@ impl Model for KeptRun {
 }
 
 impl KeptRun {
-    /// What is kept of the run of a glyph of this name. The room gets the run's outline, for its memory; no contract says so, since
-    /// only memory and time are at stake.
+    /// What is kept of the run of a glyph of this name. The room gets the run's outline, for its
+    /// memory; no contract says so, since only memory and time are at stake.
     pub fn of(
         alloc: Global,
         name: &[u8],
@@ -190,9 +193,11 @@ impl KeptRun {
         self.serial
     }
 
-    /// What the glyph itself draws, without its parts, where some of its coordinates have fractions and its trace is kept.
+    /// What the glyph itself draws, without its parts, where some of its coordinates have fractions
+    /// and its trace is kept.
     pub fn segments(&self) -> Option<&[Segment]>
-        ensures { option_map (λ segments. segments.now) result ≡ segments_kept self.now.is_traced self.now.drawing.segments }
+        ensures { option_map (λ segments. segments.now) result
+            ≡ segments_kept self.now.is_traced self.now.drawing.segments }
     {
         match &self.shape {
             Shape::Whole(_) => None,

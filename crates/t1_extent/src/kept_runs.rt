@@ -8,8 +8,9 @@ ghost use Rattle.t1_extent.specs.Kept.{drawing_lent, IsTraced};
 use crate::kept_run::KeptRun;
 use t1_frac::Code;
 
-/// Runs that are kept by the names of their glyphs. Contracts see a map from a name to what the run draws, or to its first
-/// fault; and that the trace of a run is kept where its glyph may be a part of a composite.
+/// Runs that are kept by the names of their glyphs. Contracts see a map from a name to what the run
+/// draws, or to its first fault; and that the trace of a run is kept where its glyph may be a part
+/// of a composite.
 pub trait KeptRuns {
     ghost drawn: { Self → List ℕ → Option (Result Drawing Code) };
 

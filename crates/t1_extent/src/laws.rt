@@ -1,6 +1,8 @@
 //! Laws of extremes.
 
-ghost use Rattle.t1_extent.specs.Laws.{AccentLaw, BoxLaw, BoxMovesLaw, BothLaw, CheckLaw, DrawnBoxLaw, DrawnMovesLaw, JoinedLaw, LimitsLaw, MovedLaw, RunsLaw, WholeOfBothLaw, WholeStaysLaw, WithinLaw};
+ghost use Rattle.t1_extent.specs.Laws.{AccentLaw, BoxLaw, BoxMovesLaw, BothLaw, CheckLaw};
+ghost use Rattle.t1_extent.specs.Laws.{DrawnBoxLaw, DrawnMovesLaw, JoinedLaw, LimitsLaw, MovedLaw};
+ghost use Rattle.t1_extent.specs.Laws.{RunsLaw, WholeOfBothLaw, WholeStaysLaw, WithinLaw};
 
 /// An outline's box is that of its extremes, rounded outward.
 #[tactic(auto, using(crate::proofs::Summaries::box_law))]
@@ -20,8 +22,8 @@ pub fn summary_moves()
     ensures { MovedLaw }
 {}
 
-/// An outline whose move, or each of whose coordinates, is whole is refused by F40 alone, and just where the extremes of
-/// all its points are.
+/// An outline whose move, or each of whose coordinates, is whole is refused by F40 alone, and just
+/// where the extremes of all its points are.
 #[tactic(auto, using(crate::proofs::Summaries::check_law))]
 pub fn extremes_decide_moves()
     ensures { CheckLaw }
@@ -33,7 +35,8 @@ pub fn composites_by_summaries()
     ensures { JoinedLaw }
 {}
 
-/// A glyph's summary or first fault is had from the summaries of its parts, however deep its composites nest.
+/// A glyph's summary or first fault is had from the summaries of its parts, however deep its
+/// composites nest.
 #[tactic(auto, using(crate::proofs::Nested::within_law))]
 pub fn nested_by_summaries()
     ensures { WithinLaw }
@@ -45,7 +48,8 @@ pub fn drawn_box_of_extremes()
     ensures { DrawnBoxLaw }
 {}
 
-/// Where an outline can be moved by a whole distance, its box moves with it, though its points have fractions.
+/// Where an outline can be moved by a whole distance, its box moves with it, though its points have
+/// fractions.
 #[tactic(auto, using(crate::proofs::BoxLaws::box_moves_law))]
 pub fn boxes_move()
     ensures { BoxMovesLaw }
@@ -57,7 +61,8 @@ pub fn extremes_are_within()
     ensures { LimitsLaw }
 {}
 
-/// Where the move of all points of an outline isn't refused, neither is that of the extremes of the drawn ones.
+/// Where the move of all points of an outline isn't refused, neither is that of the extremes of the
+/// drawn ones.
 #[tactic(auto, using(crate::proofs::Limited::drawn_moves_law))]
 pub fn drawn_extremes_move()
     ensures { DrawnMovesLaw }
@@ -81,7 +86,8 @@ pub fn accent_distance()
     ensures { AccentLaw }
 {}
 
-/// What a glyph's own body draws is within the limits, and so is the distance by which it moves its accent.
+/// What a glyph's own body draws is within the limits, and so is the distance by which it moves its
+/// accent.
 pub fn runs_are_within()
     ensures { RunsLaw }
 {}

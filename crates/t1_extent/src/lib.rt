@@ -1,6 +1,7 @@
 //! The exact extremes of outlines, from which boxes of composites are had without their segments.
 //!
-//! All of it is for the crates above, which keep a run as a [`KeptRun`] and have a glyph's box by [`box_of`].
+//! All of it is for the crates above, which keep a run as a [`KeptRun`] and have a glyph's box by
+//! [`box_of`].
 #![tactic(auto)]
 
 mod boxes;

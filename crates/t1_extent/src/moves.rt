@@ -2,7 +2,7 @@
 
 ghost use Rattle.std.specs.Prelude.{◌≡◌, ◌∷◌, Ok, Err, IfOk, MatchResult};
 ghost use Rattle.t1_run.specs.Composite.{accent_move as move_of};
-ghost use Rattle.t1_extent.specs.Extremes.{is_whole as is_whole_of};
+ghost use Rattle.t1_extent.specs.Extremes.{is_whole_point as is_whole_of};
 ghost use Rattle.t1_extent.specs.Laws.{IsDistance};
 
 use std::alloc::{AllocError, Global};
@@ -18,7 +18,8 @@ pub(crate) struct Move {
 
 /// How far a composite with this side bearing moves its accent.
 pub(crate) fn move_of_accent(bearing: &Point, parts: &Composite) -> Result<Move, Code>
-    ensures moved { MatchResult result (λ m. move_of bearing.now parts.now ≡ Ok m.by) (λ code. move_of bearing.now parts.now ≡ Err code) }
+    ensures moved { MatchResult result (λ m. move_of bearing.now parts.now ≡ Ok m.by)
+        (λ code. move_of bearing.now parts.now ≡ Err code) }
     ensures distance { IfOk result (λ m. IsDistance m.by) }
     ensures whole { IfOk result (λ m. m.is_whole ≡ is_whole_of m.by) }
 {

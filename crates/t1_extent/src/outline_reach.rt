@@ -5,12 +5,13 @@ ghost use Rattle.t1_frac.specs.Outcome.{Gives, reported_at};
 ghost use Rattle.t1_frac.specs.declared.fault.Place.TheVariants.{Nowhere};
 ghost use Rattle.t1_code.specs.Encoding.{is_standard_name};
 ghost use Rattle.t1_run.specs.Composite.{HasStandardParts, outline_within};
-ghost use Rattle.t1_extent.specs.Extremes.{is_whole as is_whole_of};
+ghost use Rattle.t1_extent.specs.Extremes.{is_whole_point as is_whole_of};
 ghost use Rattle.t1_extent.specs.Kept.{drawing_lent, traces};
 ghost use Rattle.t1_extent.specs.Laws.{IsDistance};
 ghost use Rattle.t1_extent.specs.Parts.{found_run, part_within, parts_outline};
-ghost use Rattle.t1_extent.specs.Reached.{Reports, ReportsAtOnce};
-ghost use Rattle.t1_extent.specs.Turns.{in_turn, through, given_in_turn, given_through, given_moved, given_box};
+ghost use Rattle.t1_extent.specs.Reached.{GivesReached, ReportsAtOnce};
+ghost use Rattle.t1_extent.specs.Turns.{in_turn, through, given_in_turn, given_through};
+ghost use Rattle.t1_extent.specs.Turns.{given_moved, given_box};
 
 use crate::figure::Figure;
 use crate::kept_run::{KeptRun, Trace};
@@ -23,7 +24,8 @@ use t1_afm::{BBox, unite as unite_boxes};
 use t1_frac::{Code, Refusal};
 use t1_run::{Composite, Point};
 
-/// What is kept of the run of the glyph of this name, or its first fault; F45 where there is no such glyph.
+/// What is kept of the run of the glyph of this name, or its first fault; F45 where there is no
+/// such glyph.
 fn found<'r, R: KeptRuns>(runs: &'r R, name: &[u8]) -> Result<&'r KeptRun, Code>
     ensures drawn { drawing_lent result ≡ found_run (R.drawn runs.now name.now) }
     ensures traced { IfOk result (λ run. traces name.now run.now ≡ true) }
@@ -48,8 +50,8 @@ fn own_through(run: &KeptRun, moves: &[Point], last: &Point) -> Result<Reached, 
     }
 }
 
-/// How far the outline of a part reaches, in which composites nest so deep, moved by the moves in turn and then by the
-/// last. Without the last it isn't refused. No segments are joined.
+/// How far the outline of a part reaches, in which composites nest so deep, moved by the moves in
+/// turn and then by the last. Without the last it isn't refused. No segments are joined.
 fn moved_reach<R: KeptRuns>(
     alloc: Global,
     runs: &R,
@@ -61,8 +63,10 @@ fn moved_reach<R: KeptRuns>(
     requires moves { All IsDistance moves.now }
     requires last { IsDistance last.now }
     requires part { is_standard_name name.now ≡ true }
-    requires passed { IsOk (given_in_turn moves.now (outline_within (R.drawn runs.now) depth name.now)) }
-    ensures { Reports result (given_through moves.now last.now (outline_within (R.drawn runs.now) depth name.now)) }
+    requires passed { IsOk
+        (given_in_turn moves.now (outline_within (R.drawn runs.now) depth name.now)) }
+    ensures { GivesReached result
+        (given_through moves.now last.now (outline_within (R.drawn runs.now) depth name.now)) }
 {
     let run = found(runs, name)?;
     let Some(parts) = run.composite() else {
@@ -86,7 +90,8 @@ fn moved_reach<R: KeptRuns>(
     Ok(own.united(&base).united(&accent))
 }
 
-/// How far an accent reaches, moved: by what is known of it where its move or its outline is whole, else by its parts.
+/// How far an accent reaches, moved: by what is known of it where its move or its outline is whole,
+/// else by its parts.
 fn accent_reach<R: KeptRuns>(
     alloc: Global,
     runs: &R,
@@ -96,10 +101,12 @@ fn accent_reach<R: KeptRuns>(
     by: &Move,
 ) -> Result<Reached, Refusal>
     requires part { is_standard_name name.now ≡ true }
-    requires accent { Reports (Ok accent.now) (outline_within (R.drawn runs.now) depth name.now) }
+    requires accent { GivesReached (Ok accent.now)
+        (outline_within (R.drawn runs.now) depth name.now) }
     requires distance { IsDistance by.now.by }
     requires whole { by.now.is_whole ≡ is_whole_of by.now.by }
-    ensures { Reports result (given_moved by.now.by (outline_within (R.drawn runs.now) depth name.now)) }
+    ensures { GivesReached result
+        (given_moved by.now.by (outline_within (R.drawn runs.now) depth name.now)) }
 {
     if by.is_whole || accent.is_whole() {
         return Ok(accent.moved(&by.by)?);
@@ -116,7 +123,7 @@ fn reach_at<R: KeptRuns>(
     name: &[u8],
 ) -> Result<Reached, Refusal>
     requires part { is_standard_name name.now ≡ true }
-    ensures { Reports result (outline_within (R.drawn runs.now) depth name.now) }
+    ensures { GivesReached result (outline_within (R.drawn runs.now) depth name.now) }
 {
     let run = found(runs, name)?;
     let Some(parts) = run.composite() else {
@@ -126,8 +133,8 @@ fn reach_at<R: KeptRuns>(
     Ok(run.reached().united(&reached))
 }
 
-/// How far the parts of a composite with this side bearing reach together, the accent moved, in which composites nest so
-/// deep.
+/// How far the parts of a composite with this side bearing reach together, the accent moved, in
+/// which composites nest so deep.
 #[cycle(reach)]
 fn parts_reach<R: KeptRuns>(
     alloc: Global,
@@ -137,7 +144,8 @@ fn parts_reach<R: KeptRuns>(
     parts: &Composite,
 ) -> Result<Reached, Refusal>
     requires { HasStandardParts parts.now }
-    ensures { Reports result (parts_outline (part_within (R.drawn runs.now) depth) bearing.now parts.now) }
+    ensures { GivesReached result
+        (parts_outline (part_within (R.drawn runs.now) depth) bearing.now parts.now) }
 {
     if depth == 0 {
         return Err(Refusal::from(Code::F46));
@@ -150,8 +158,8 @@ fn parts_reach<R: KeptRuns>(
     Ok(base.united(&moved))
 }
 
-/// The box of a glyph's outline, where it draws, or the outline's first fault. Its composites nest four deep at most, and no
-/// segments of its parts are joined.
+/// The box of a glyph's outline, where it draws, or the outline's first fault. Its composites nest
+/// four deep at most, and no segments of its parts are joined.
 pub fn box_of<R: KeptRuns>(alloc: Global, runs: &R, name: &[u8]) -> Result<Option<BBox>, Refusal>
     ensures { Gives
         (λ bbox. bbox)

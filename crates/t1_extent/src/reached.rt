@@ -1,13 +1,16 @@
 //! How far an outline reaches, without its segments.
 
-ghost use Rattle.std.specs.Prelude.{◌≡◌, ℕ, ◌^◌, List, ◌++◌, [], ◌∷◌, Ok, Err, MatchResult, IfOk, IfSome, option_map, true};
+ghost use Rattle.std.specs.Prelude.{◌≡◌, ℕ, ◌^◌, List, ◌++◌, [], ◌∷◌, Ok, Err, MatchResult, IfOk};
+ghost use Rattle.std.specs.Prelude.{IfSome, option_map, true};
 ghost use Rattle.t1_run.specs.declared.outline.Segment.{Segment};
 ghost use Rattle.t1_run.specs.Composite.{IsWithin, moved_outline};
 ghost use Rattle.t1_afm.specs.Box.{drawn_box};
-ghost use Rattle.t1_extent.specs.Extremes.{rounded, limit_check, move_check, shifted_by, moved_box as moved_box_of, IsWhole};
+ghost use Rattle.t1_extent.specs.Extremes.{rounded, limit_check, move_check, shifted_by};
+ghost use Rattle.t1_extent.specs.Extremes.{moved_box as moved_box_of, IsWhole};
 ghost use Rattle.t1_extent.specs.Exacts.{extremes_of, AreFine};
 ghost use Rattle.t1_extent.specs.Laws.{IsDistance};
-ghost use Rattle.t1_extent.specs.Reached.{IsExact, IsNear, IsReach, IsReachOfSome, MovesReach, ReportsAtOnce};
+ghost use Rattle.t1_extent.specs.Reached.{IsExact, IsNear, IsReach, IsReachOfSome, MovesReach};
+ghost use Rattle.t1_extent.specs.Reached.{ReportsAtOnce};
 
 use crate::boxes::moved_box;
 use crate::corners::{corners_extent, unite};
@@ -52,10 +55,15 @@ fn moved_extent(extent: Option<Extent>, by: &Point) -> Result<Option<Extent>, Co
         result
         (λ _. move_check by.now (option_map extremes_of extent) ≡ Ok tt)
         (λ code. move_check by.now (option_map extremes_of extent) ≡ Err code) }
-    ensures value { IfOk result (λ e. option_map extremes_of e ≡ option_map (shifted_by by.now) (option_map extremes_of extent)) }
+    ensures value { IfOk result
+        (λ e.
+        option_map extremes_of e
+        ≡ option_map (shifted_by by.now) (option_map extremes_of extent)) }
     ensures within { IfOk result (λ e. limit_check (option_map extremes_of e) ≡ Ok tt) }
-    ensures fine { IfOk result (λ e. (n : ℕ) → IsWhole by.now → IfSome extent (AreFine n) → IfSome e (AreFine n)) }
-    ensures whole { IfOk result (λ e. IsDistance by.now → IfSome extent (AreFine 1) → IfSome e (AreFine (2 ^ 20))) }
+    ensures fine { IfOk result
+        (λ e. (n : ℕ) → IsWhole by.now → IfSome extent (AreFine n) → IfSome e (AreFine n)) }
+    ensures whole { IfOk result
+        (λ e. IsDistance by.now → IfSome extent (AreFine 1) → IfSome e (AreFine (2 ^ 20))) }
 {
     match extent {
         None => Ok(None),
@@ -125,7 +133,10 @@ impl Reached {
     pub fn united(&self, other: &Reached) -> Reached
         requires one { IsReachOfSome self.now }
         requires other { IsReachOfSome other.now }
-        ensures { (a b : List Segment) → IsReach self.now a → IsReach other.now b → IsReach result (a ++ b) }
+        ensures { (a b : List Segment)
+            → IsReach self.now a
+            → IsReach other.now b
+            → IsReach result (a ++ b) }
     {
         let corners = unite(self.corners, other.corners);
         if let (Drawn::Whole(one), Drawn::Whole(other)) = (self.drawn, other.drawn) {
@@ -136,12 +147,15 @@ impl Reached {
         Reached { drawn, corners }
     }
 
-    /// That of the outline, moved, or F40. The distance is whole, or all coordinates of the outline are.
+    /// That of the outline, moved, or F40. The distance is whole, or all coordinates of the outline
+    /// are.
     pub fn moved(&self, by: &Point) -> Result<Reached, Code>
         requires reach { IsReachOfSome self.now }
         requires distance { IsDistance by.now }
         requires easy { MovesReach by.now self.now }
-        ensures { (outline : List Segment) → IsReach self.now outline → ReportsAtOnce result (moved_outline by.now outline) }
+        ensures { (outline : List Segment)
+            → IsReach self.now outline
+            → ReportsAtOnce result (moved_outline by.now outline) }
     {
         let corners = moved_extent(self.corners, by)?;
         match self.drawn {

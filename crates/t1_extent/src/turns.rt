@@ -3,7 +3,8 @@
 ghost use Rattle.std.specs.Prelude.{◌≡◌, IfOk, IsOk};
 ghost use Rattle.t1_run.specs.Composite.{IsPoint, IsWithin};
 ghost use Rattle.t1_extent.specs.Reached.{ReportsAtOnce};
-ghost use Rattle.t1_extent.specs.Turns.{in_turn, through, point_through as point_through_of, segment_through as segment_through_of};
+ghost use Rattle.t1_extent.specs.Turns.{in_turn, through, point_through as point_through_of};
+ghost use Rattle.t1_extent.specs.Turns.{segment_through as segment_through_of};
 
 use crate::reached::Reached;
 use t1_frac::Code;

@@ -26,14 +26,14 @@ impl WholeSides {
     ghost use Rattle.std.specs.Prelude.{true};
     ghost use Rattle.t1_run.specs.Composite.{IsPoint};
     ghost use Rattle.t1_extent.specs.Exacts.{extremes_of, AreFine};
-    ghost use Rattle.t1_extent.specs.Extremes.{IsWhole, at_point, reaching as reaching_of};
+    ghost use Rattle.t1_extent.specs.Extremes.{IsWhole, point_extremes, reaching as reaching_of};
     ghost use Rattle.t1_extent.specs.Sides.{extremes_over, whole_extremes};
 
     /// The extremes of one point.
     pub(crate) fn of(point: &Point) -> WholeSides
         requires within { IsPoint point.now }
         requires whole { IsWhole point.now }
-        ensures { whole_extremes result ≡ at_point point.now }
+        ensures { whole_extremes result ≡ point_extremes point.now }
     {
         let x = point.x.num();
         let y = point.y.num();
@@ -48,7 +48,8 @@ impl WholeSides {
     /// The extremes of both.
     #[tactic(auto, using(crate::proofs::Sums::lesser_over, crate::proofs::Sums::greater_over))]
     pub(crate) fn reaching(&self, other: &WholeSides) -> WholeSides
-        ensures { whole_extremes result ≡ reaching_of (whole_extremes self.now) (whole_extremes other.now) }
+        ensures { whole_extremes result
+            ≡ reaching_of (whole_extremes self.now) (whole_extremes other.now) }
     {
         WholeSides {
             left: self.left.min(other.left),

@@ -1,7 +1,8 @@
 //! Outlines whose coordinates are all whole, as most fonts have.
 
 ghost use Rattle.std.specs.Prelude.{◌≡◌, ◌<◌, ◌≤◌, ◌+◌, ◌^◌, pos, true};
-ghost use Rattle.t1_extent.specs.Extremes.{IsWhole, IsWholeSegment, is_whole as is_whole_of, is_whole_segment as segment_is_whole};
+ghost use Rattle.t1_extent.specs.Extremes.{IsWhole, IsWholeSegment, is_whole_point as is_whole_of};
+ghost use Rattle.t1_extent.specs.Extremes.{is_whole_segment as segment_is_whole};
 
 use t1_run::{Point, Segment};
 
@@ -24,7 +25,8 @@ fn denominators(point: &Point) -> i64
     point.x.den() + point.y.den()
 }
 
-/// Whether all coordinates of a line or a curve are whole: where its denominators add up to their count. So one comparison tells.
+/// Whether all coordinates of a line or a curve are whole: where its denominators add up to their
+/// count. So one comparison tells.
 #[inline(always)]
 pub(crate) fn is_whole_segment(segment: &Segment) -> bool
     ensures value { result ≡ segment_is_whole segment.now }

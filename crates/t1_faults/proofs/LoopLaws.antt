@@ -5,7 +5,7 @@ use Rattle.std.specs.Borrow.{Bor}
 use Rattle.t1_frac.specs.declared.fault.Place.{Place}
 use Rattle.t1_text.specs.Lines.{lines}
 use Rattle.t1_parts.specs.declared.body.EntryBody.{EntryBody}
-use Rattle.t1_parts.specs.Pieces.{IsAfter}
+use Rattle.t1_parts.specs.Pieces.{AreLinesAfter}
 use Rattle.std.proofs.lemmas.List.{append_assoc}
 use Rattle.t1_parts.specs.Entries.{opened_body}
 use Rattle.t1_parts.specs.declared.item.Item.{Item}
@@ -16,9 +16,9 @@ pub opened_size : (found : Option (EntryBody × Bor (List ℕ))) (o : Option Ent
 opened_size found o b a v is = ap more_lines (sym v ∙ ap (option_map (λ (f : EntryBody × Bor (List ℕ)). f.0)) is)
 
 pub opened_rest : (found : Option (EntryBody × Bor (List ℕ))) (b : EntryBody) (a : Bor (List ℕ)) (bytes l : List ℕ) (ls : List (List ℕ)) → found ≡ Some (b, a)
-    → IfSome found (λ (f : EntryBody × Bor (List ℕ)). IsAfter (f.0.more + 1) bytes f.1.now) → lines bytes ≡ l ∷ ls → lines a.now ≡ drop b.more ls
+    → IfSome found (λ (f : EntryBody × Bor (List ℕ)). AreLinesAfter (f.0.more + 1) bytes f.1.now) → lines bytes ≡ l ∷ ls → lines a.now ≡ drop b.more ls
 opened_rest found b a bytes l ls is h all =
-    let after = subst (λ (x : Option (EntryBody × Bor (List ℕ))). IfSome x (λ (f : EntryBody × Bor (List ℕ)). IsAfter (f.0.more + 1) bytes f.1.now)) is h in
+    let after = subst (λ (x : Option (EntryBody × Bor (List ℕ))). IfSome x (λ (f : EntryBody × Bor (List ℕ)). AreLinesAfter (f.0.more + 1) bytes f.1.now)) is h in
     let size : b.more + 1 ≡ suc b.more = omega arith in
     after.1 ∙ ap (drop (b.more + 1)) all ∙ ap (λ k. drop k (l ∷ ls)) size
 

@@ -13,8 +13,8 @@ use Rattle.t1_text.specs.Names.{decimal_of, up_to, name_of_token}
 use Rattle.t1_parts.specs.declared.body.EntryBody.{EntryBody}
 use Rattle.t1_parts.specs.declared.item.Item.{Item}
 use Rattle.t1_parts.specs.declared.item.Item.TheVariants.{Plain, Section, Subr, Glyph}
-use Rattle.t1_parts.specs.Entries.{NumberedItem, Taken, entry_of as made_entry, glyph_entry, has, is_glyph, is_subr, opened_body, opens_glyph, opens_subr, subr_entry}
-use Rattle.t1_parts.specs.Private.{among_glyphs, among_subrs, item_at, items_after, line_item}
+use Rattle.t1_parts.specs.Entries.{NumberedItem, Taken, entry_of as made_entry, glyph_entry, has_numbered, is_glyph, is_subr, opened_body, opens_glyph, opens_subr, subr_entry}
+use Rattle.t1_parts.specs.Private.{among_glyphs, among_subrs, item_in_front, items_after, line_item}
 use Rattle.t1_parts.specs.Reading.{unnumbered}
 use Rattle.t1_parts.specs.Sections.{count_between, glyphs_line, is_glyphs_line, is_subrs_line, section_at, subrs_line}
 use Rattle.t1_faults.specs.Entries.{Entry, entries_from, entry_at, more_lines, place_in, placed_words, span}
@@ -47,9 +47,9 @@ glyph_taken : (earlier : List NumberedItem) (t l : List ℕ) (ls : List (List �
 unfolding glyph_entry
 glyph_taken earlier t l ls x e =
     let body = opened_body l ls in
-    let named = bind_ok (ok_or (name_of_token t) F8) (λ g. if has (is_glyph g) earlier then Err F10 else ok_or (option_map (made_entry (Glyph g)) body) F7) x e in
+    let named = bind_ok (ok_or (name_of_token t) F8) (λ g. if has_numbered (is_glyph g) earlier then Err F10 else ok_or (option_map (made_entry (Glyph g)) body) F7) x e in
     let g = named.0 in
-    elim (cases_Bool (has (is_glyph g) earlier)) [
+    elim (cases_Bool (has_numbered (is_glyph g) earlier)) [
       | inl old ↦ let none : Err F10 ≡ Ok x = rw old at named.2 in cc
       | inr fresh ↦
           let rest : ok_or (option_map (made_entry (Glyph g)) body) F7 ≡ Ok x = rw fresh at named.2 in
@@ -61,9 +61,9 @@ subr_taken : (earlier : List NumberedItem) (t l : List ℕ) (ls : List (List ℕ
 unfolding subr_entry
 subr_taken earlier t l ls x e =
     let body = opened_body l ls in
-    let numbered = bind_ok (ok_or (up_to 32000 (decimal_of t)) F8) (λ n. if has (is_subr n) earlier then Err F9 else ok_or (option_map (made_entry (Subr n)) body) F7) x e in
+    let numbered = bind_ok (ok_or (up_to 32000 (decimal_of t)) F8) (λ n. if has_numbered (is_subr n) earlier then Err F9 else ok_or (option_map (made_entry (Subr n)) body) F7) x e in
     let n = numbered.0 in
-    elim (cases_Bool (has (is_subr n) earlier)) [
+    elim (cases_Bool (has_numbered (is_subr n) earlier)) [
       | inl old ↦ let none : Err F9 ≡ Ok x = rw old at numbered.2 in cc
       | inr fresh ↦
           let rest : ok_or (option_map (made_entry (Subr n)) body) F7 ≡ Ok x = rw fresh at numbered.2 in
@@ -78,7 +78,7 @@ line_taken earlier l ls None None x e =
     let same : ◌≡◌ {A = Taken} (Plain l, 0) x = cc in
     subst (IsTaken l ls) same (refl, tt)
 line_taken earlier l ls (Some s) None x e =
-    elim (cases_Bool (has is_subrs_line earlier || has is_glyphs_line earlier)) [
+    elim (cases_Bool (has_numbered is_subrs_line earlier || has_numbered is_glyphs_line earlier)) [
       | inl late ↦ let none : Err F4 ≡ Ok x = rw late at e in cc
       | inr first ↦
           let here : ◌≡◌ {A = Result Taken Code} (Ok (section_at l s, 0)) (Ok x) = rw first at e in
@@ -86,7 +86,7 @@ line_taken earlier l ls (Some s) None x e =
           subst (IsTaken l ls) same (refl, tt)
     ]
 line_taken earlier l ls None (Some s) x e =
-    elim (cases_Bool (has is_glyphs_line earlier)) [
+    elim (cases_Bool (has_numbered is_glyphs_line earlier)) [
       | inl late ↦ let none : Err F4 ≡ Ok x = rw late at e in cc
       | inr first ↦
           let here : ◌≡◌ {A = Result Taken Code} (Ok (section_at l s, 0)) (Ok x) = rw first at e in
@@ -107,12 +107,12 @@ among_subrs_taken : (earlier : List NumberedItem) (l : List ℕ) (ls : List (Lis
 among_subrs_taken earlier l ls None x e = line_of_parts earlier l ls x e
 among_subrs_taken earlier l ls (Some t) x e = subr_taken earlier t l ls x e
 
-item_taken : (earlier : List NumberedItem) (l : List ℕ) (ls : List (List ℕ)) (x : Taken) → item_at earlier l ls ≡ Ok x → IsTaken l ls x
-unfolding item_at
+item_taken : (earlier : List NumberedItem) (l : List ℕ) (ls : List (List ℕ)) (x : Taken) → item_in_front earlier l ls ≡ Ok x → IsTaken l ls x
+unfolding item_in_front
 item_taken earlier l ls x e =
-    elim (cases_Bool (has is_glyphs_line earlier)) [
+    elim (cases_Bool (has_numbered is_glyphs_line earlier)) [
       | inl glyphs ↦ among_glyphs_taken earlier l ls (opens_glyph (tokens l)) x (rw glyphs at e)
-      | inr no_glyphs ↦ elim (cases_Bool (has is_subrs_line earlier)) [
+      | inr no_glyphs ↦ elim (cases_Bool (has_numbered is_subrs_line earlier)) [
         | inl subrs ↦ among_subrs_taken earlier l ls (opens_subr (tokens l)) x (rw (no_glyphs, subrs) at e)
         | inr no_subrs ↦ line_of_parts earlier l ls x (rw (no_glyphs, no_subrs) at e)
       ]
@@ -150,9 +150,9 @@ read_on earlier n (suc more) (l ∷ ls) all e =
     let same : n + 1 + more ≡ n + suc more = omega arith in
     (r.0, r.1, subst (λ k. AreOf (unnumbered r.0) (entries_from k (drop more ls) (unnumbered r.0))) same r.2)
 read_on earlier n zero (l ∷ ls) all e =
-    let b = bind_ok (reported_at (places.Line n) (item_at earlier l ls)) (λ (x : Taken). items_after (earlier ++ (n, x.0) ∷ []) (n + 1) x.1 ls) all e in
+    let b = bind_ok (reported_at (places.Line n) (item_in_front earlier l ls)) (λ (x : Taken). items_after (earlier ++ (n, x.0) ∷ []) (n + 1) x.1 ls) all e in
     let x = b.0 in
-    let t = item_taken earlier l ls x (reported_ok (places.Line n) (item_at earlier l ls) x b.1) in
+    let t = item_taken earlier l ls x (reported_ok (places.Line n) (item_in_front earlier l ls) x b.1) in
     let r = read_on (earlier ++ (n, x.0) ∷ []) (n + 1) x.1 ls all b.2 in
     let zero_more : n ≡ n + 0 = omega arith in
     let es = subst (λ k. AreOf (unnumbered r.0) (entries_from (n + 1 + k) (drop k ls) (unnumbered r.0))) (sym t.0) r.2 in (

@@ -19,7 +19,7 @@ use Rattle.t1_code.specs.Words.{commands}
 use Rattle.t1_run.specs.Run.{Drawing, font, own}
 use Rattle.t1_font.specs.Bodies.{subr_among}
 use Rattle.t1_font.specs.Glyphs.{glyph_names}
-use Rattle.t1_font.specs.Runs.{Kept, kept_of, own_among}
+use Rattle.t1_font.specs.Runs.{NamedRun, drawing_in, own_among}
 use Rattle.t1_font.specs.ToRun.{commands_or_none, font_to_run, glyph_to_run}
 use Rattle.t1_run.proofs.Asked.{bytes_self}
 use Rattle.t1_font.proofs.Compiling.{none-there}
@@ -118,9 +118,9 @@ names_there glyphs items names same is =
 pub kept_own : {E : Type 0} (items : List Item) (subrs : ℕ → Option (List Command)) (glyphs : List ℕ → Option (List Command))
     → ((n : ℕ) → subrs n ≡ subr_among items n) → ((g : List ℕ) → glyphs g ≡ glyph_to_run items g)
     → (names : List (Bor (List ℕ))) → map (λ name. name.now) names ≡ glyph_names items
-    → (result : Result (List Kept) E) → IfOk result (λ runs. (g : List ℕ) → kept_of runs g ≡ own_among (font subrs glyphs) (map (λ name. name.now) names) g)
-    → IfOk result (λ runs. kept_of runs ≡ own (font_to_run items))
+    → (result : Result (List NamedRun) E) → IfOk result (λ runs. (g : List ℕ) → drawing_in runs g ≡ own_among (font subrs glyphs) (map (λ name. name.now) names) g)
+    → IfOk result (λ runs. drawing_in runs ≡ own (font_to_run items))
 kept_own items subrs glyphs s g names are (Err e) h = tt
 kept_own items subrs glyphs s g names are (Ok runs) h =
     let same : font subrs glyphs ≡ font_to_run items = same_fonts subrs (subr_among items) glyphs (glyph_to_run items) s g in
-    all_own items (kept_of runs) (λ q. h q ∙ ap (λ m. own_among m (map (λ name. name.now) names) q) same ∙ ap (λ ns. own_among (font_to_run items) ns q) are)
+    all_own items (drawing_in runs) (λ q. h q ∙ ap (λ m. own_among m (map (λ name. name.now) names) q) same ∙ ap (λ ns. own_among (font_to_run items) ns q) are)

@@ -2,7 +2,7 @@
 
 ghost use Rattle.std.specs.Prelude.{◌≡◌, is_some, option_map, IfOk};
 ghost use Rattle.t1_font.specs.Bodies.{plain_bodies};
-ghost use Rattle.t1_font.specs.Runs.{kept_of};
+ghost use Rattle.t1_font.specs.Runs.{drawing_in};
 ghost use Rattle.t1_chain.specs.Machine.{seen};
 ghost use Rattle.t1_faults.specs.Failing.{failure_at, is_missing_subr, missing_subr, natural};
 ghost use Rattle.t1_faults.specs.Failing.{passes, subr_told};
@@ -18,7 +18,7 @@ use t1_run::StoredBodies;
 
 /// Whether the run of a glyph's own body has a fault.
 fn has_failed(runs: &Runs, name: &[u8]) -> bool
-    ensures { result ≡ is_some (fault_of (kept_of runs.now name.now)) }
+    ensures { result ≡ is_some (fault_of (drawing_in runs.now name.now)) }
 {
     match runs.get(name) {
         Some(Err(_code)) => true,

@@ -3,7 +3,7 @@
 ghost use Rattle.std.specs.Prelude.{◌≡◌};
 ghost use Rattle.t1_run.specs.Run.{own};
 ghost use Rattle.t1_font.specs.Bodies.{plain_bodies};
-ghost use Rattle.t1_font.specs.Runs.{kept_of};
+ghost use Rattle.t1_font.specs.Runs.{drawing_in};
 
 use indexmap::IndexSet;
 use t1_font::Runs;
@@ -19,5 +19,5 @@ pub(crate) struct GlyphRuns<'a> {
     pub runs: Runs<'a>,
     /// The numbers of the Subrs whose words have a fault.
     pub faulty: IndexSet<u64>,
-    ghost own: { kept_of runs ≡ own (plain_bodies bodies) },
+    ghost own: { drawing_in runs ≡ own (plain_bodies bodies) },
 }

@@ -2,7 +2,7 @@
 
 ghost use Rattle.std.specs.Prelude.{◌≡◌, IfOk};
 ghost use Rattle.t1_font.specs.MeasuredGlyphs.{glyph_metrics_at};
-ghost use Rattle.t1_font.specs.Runs.{kept_of};
+ghost use Rattle.t1_font.specs.Runs.{drawing_in};
 ghost use Rattle.t1_faults.specs.Found.{code_of};
 ghost use Rattle.t1_faults.specs.Judging.{join_fault, sound_within};
 
@@ -16,7 +16,7 @@ const MAX_DEPTH: u8 = 4;
 /// Whether a glyph and all the parts that it stands on, which may nest so deep, have own runs
 /// without a fault.
 fn is_sound(runs: &Runs, depth: u8, name: &[u8]) -> bool
-    ensures { result ≡ sound_within (kept_of runs.now) depth name.now }
+    ensures { result ≡ sound_within (drawing_in runs.now) depth name.now }
 {
     let run = match runs.get(name) {
         None => return true,
@@ -37,7 +37,8 @@ fn is_sound(runs: &Runs, depth: u8, name: &[u8]) -> bool
 
 /// The first fault of what is measured of a glyph.
 fn measured_fault(alloc: Global, runs: &Runs, name: &[u8]) -> Result<Option<Code>, AllocError>
-    ensures { IfOk result (λ code. code ≡ code_of (glyph_metrics_at (kept_of runs.now) name.now)) }
+    ensures { IfOk result
+        (λ code. code ≡ code_of (glyph_metrics_at (drawing_in runs.now) name.now)) }
 {
     match glyph_metrics_of(alloc, runs, &[name]) {
         Ok(_metrics) => Ok(None),
@@ -53,7 +54,7 @@ pub(crate) fn join_fault(
     runs: &Runs,
     place: &Place,
 ) -> Result<Option<Code>, AllocError>
-    ensures { IfOk result (λ code. code ≡ join_fault (kept_of runs.now) place.now) }
+    ensures { IfOk result (λ code. code ≡ join_fault (drawing_in runs.now) place.now) }
 {
     match place {
         Place::Glyph(name) => {

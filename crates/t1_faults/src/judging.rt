@@ -7,7 +7,7 @@ ghost use Rattle.t1_parts.specs.Parts.{parts_of};
 ghost use Rattle.t1_parts.specs.Reading.{reads};
 ghost use Rattle.t1_font.specs.Assembly.{file_check};
 ghost use Rattle.t1_font.specs.Bodies.{bodies_check};
-ghost use Rattle.t1_font.specs.Runs.{kept_of};
+ghost use Rattle.t1_font.specs.Runs.{drawing_in};
 ghost use Rattle.t1_faults.specs.Entries.{entry_of};
 ghost use Rattle.t1_faults.specs.GlyphRuns.{failures_of, met_at};
 ghost use Rattle.t1_faults.specs.Judging.{entries_in, entry_faults, faults_of, file_faults};
@@ -106,7 +106,7 @@ fn push_join_fault<'a>(
     entry: &EntryText<'a>,
 ) -> Result<(), AllocError>
     ensures { OnOk result (found.new.items
-        ≡ found.old.items ++ join_faults (kept_of runs.now) (entry_of entry.now)) }
+        ≡ found.old.items ++ join_faults (drawing_in runs.now) (entry_of entry.now)) }
 {
     let Some(code) = join_fault(alloc, runs, &entry.place)? else {
         return Ok(());
@@ -123,7 +123,7 @@ fn push_join_faults<'a>(
     entries: &[EntryText<'a>],
 ) -> Result<(), AllocError>
     ensures { OnOk result (found.new.items ≡ found.old.items
-        ++ flat_map (join_faults (kept_of runs.now)) (map entry_of entries.now)) }
+        ++ flat_map (join_faults (drawing_in runs.now)) (map entry_of entries.now)) }
 {
     for entry in entries {
         push_join_fault(alloc, found, runs, entry)?;

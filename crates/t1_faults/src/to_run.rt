@@ -8,8 +8,9 @@ ghost use Rattle.std.specs.Result.{result_ok};
 ghost use Rattle.std.specs.Str.{bytes_eq};
 ghost use Rattle.t1_code.specs.Words.{commands};
 ghost use Rattle.t1_run.specs.Run.{own};
-ghost use Rattle.t1_font.specs.Bodies.{glyph_kept, plain_bodies, subr_among, subr_in, subr_kept};
-ghost use Rattle.t1_font.specs.Runs.{kept_of};
+ghost use Rattle.t1_font.specs.Bodies.{glyph_body_kept, plain_bodies, subr_among, subr_in};
+ghost use Rattle.t1_font.specs.Bodies.{subr_body_kept};
+ghost use Rattle.t1_font.specs.Runs.{drawing_in};
 ghost use Rattle.t1_font.specs.ToRun.{commands_or_none, font_to_run, glyph_to_run};
 ghost use Rattle.t1_faults.specs.Failing.{failures_in, is_faulty_subr};
 ghost use Rattle.t1_faults.specs.GlyphRuns.{failures_of, has_number};
@@ -52,9 +53,9 @@ fn add_subr(
     number: u16,
     words: &Words,
 ) -> Result<(), AllocError>
-    ensures { OnOk result ((n : ℕ) → subr_kept subrs.new.entries n
+    ensures { OnOk result ((n : ℕ) → subr_body_kept subrs.new.entries n
         ≡ option_or
-        (subr_kept subrs.old.entries n)
+        (subr_body_kept subrs.old.entries n)
         (if n == number then result_ok (commands words.now) else None)) }
 {
     let Some(body) = sound_body(alloc, words)? else {
@@ -74,9 +75,9 @@ fn add_glyph(
     name: &[u8],
     words: &Words,
 ) -> Result<(), AllocError>
-    ensures { OnOk result ((g : List ℕ) → glyph_kept glyphs.new.entries g
+    ensures { OnOk result ((g : List ℕ) → glyph_body_kept glyphs.new.entries g
         ≡ option_or
-        (glyph_kept glyphs.old.entries g)
+        (glyph_body_kept glyphs.old.entries g)
         (if bytes_eq g name.now then Some (commands_or_none (commands words.now)) else None)) }
 {
     let body = body_to_run(alloc, words)?;
@@ -94,10 +95,10 @@ fn add_item(
     glyphs: &mut IndexMap<Vec<u8>, Body>,
     item: &Item,
 ) -> Result<(), AllocError>
-    ensures subrs { OnOk result ((n : ℕ) → subr_kept subrs.new.entries n
-        ≡ option_or (subr_kept subrs.old.entries n) (subr_in item.now n)) }
-    ensures glyphs { OnOk result ((g : List ℕ) → glyph_kept glyphs.new.entries g
-        ≡ option_or (glyph_kept glyphs.old.entries g) (glyph_run_in item.now g)) }
+    ensures subrs { OnOk result ((n : ℕ) → subr_body_kept subrs.new.entries n
+        ≡ option_or (subr_body_kept subrs.old.entries n) (subr_in item.now n)) }
+    ensures glyphs { OnOk result ((g : List ℕ) → glyph_body_kept glyphs.new.entries g
+        ≡ option_or (glyph_body_kept glyphs.old.entries g) (glyph_run_in item.now g)) }
 {
     match item {
         Item::Subr(number, words, _) => add_subr(alloc, subrs, *number, words),
@@ -118,9 +119,9 @@ fn add_items(
     requires subrs { subrs.old.entries ≡ [] }
     requires glyphs { glyphs.old.entries ≡ [] }
     ensures subrs { OnOk result ((n : ℕ) →
-        subr_kept subrs.new.entries n ≡ subr_among items.now n) }
+        subr_body_kept subrs.new.entries n ≡ subr_among items.now n) }
     ensures glyphs { OnOk result ((g : List ℕ) →
-        glyph_kept glyphs.new.entries g ≡ glyph_to_run items.now g) }
+        glyph_body_kept glyphs.new.entries g ≡ glyph_to_run items.now g) }
 {
     for item in items.iter().alone() {
         add_item(alloc, subrs, glyphs, item)?;
@@ -142,7 +143,7 @@ fn bodies_to_run(alloc: Global, items: &Items) -> Result<Plain, AllocError>
 /// The runs of the glyphs' own bodies, or their first faults.
 fn own_runs<'a>(alloc: Global, bodies: &Plain, items: &'a Items) -> Result<Runs<'a>, AllocError>
     requires { plain_bodies bodies.now ≡ font_to_run items.now }
-    ensures { IfOk result (λ runs. kept_of runs ≡ own (font_to_run items.now)) }
+    ensures { IfOk result (λ runs. drawing_in runs ≡ own (font_to_run items.now)) }
 {
     let names = glyph_names(alloc, items)?;
     let mut meter = Meter::new();
@@ -190,7 +191,7 @@ fn faulty_subrs(alloc: Global, items: &Items) -> Result<IndexSet<u64>, AllocErro
 
 /// The runs of the glyphs of a source.
 pub(crate) fn glyph_runs<'a>(alloc: Global, items: &'a Items) -> Result<GlyphRuns<'a>, AllocError>
-    ensures runs { IfOk result (λ runs. kept_of runs.runs ≡ own (font_to_run items.now)) }
+    ensures runs { IfOk result (λ runs. drawing_in runs.runs ≡ own (font_to_run items.now)) }
     ensures failures { IfOk result (λ runs. failures_of runs ≡ failures_in items.now) }
 {
     let bodies = bodies_to_run(alloc, items)?;

@@ -25,7 +25,7 @@ use Rattle.t1_font.specs.declared.in_turn.Row.{Row}
 use Rattle.t1_font.specs.declared.in_turn.Row.TheVariants as rows
 use Rattle.t1_font.specs.Bodies.{subr_among}
 use Rattle.t1_font.specs.Glyphs.{glyph_names, name_in}
-use Rattle.t1_font.specs.InTurn.{stays, staying, AreRows, IsRow, RunsAs}
+use Rattle.t1_font.specs.InTurn.{may_be_part, staying, AreRows, IsRow, RunsAs}
 use Rattle.t1_font.specs.ToRun.{commands_or_none, font_to_run, glyph_to_run, SubrsStandFirst}
 use Rattle.t1_font.specs.MeasuredGlyphs.{glyph_metrics_among, glyph_metrics_at, glyph_metrics_by}
 use Rattle.t1_font.proofs.Compiling.{same-maps}
@@ -56,16 +56,16 @@ rows-more run (g ∷ gs) name (other ∷ rows) row are is = (are.0, rows-more ru
 
 -- what stays among some names with one more
 pub runs-more : (run : List ℕ → Option (Result Drawing Code)) (gs : List (List ℕ)) (name g : List ℕ) (old new : Option (Result Drawing Code))
-    → old ≡ staying run gs g → new ≡ cond (bytes_eq g name && stays name (run name)) (run name) old → new ≡ staying run (gs ++ name ∷ []) g
+    → old ≡ staying run gs g → new ≡ cond (bytes_eq g name && may_be_part name (run name)) (run name) old → new ≡ staying run (gs ++ name ∷ []) g
 runs-more run gs name g old new before after =
     elim (cases_Bool (bytes_eq g name)) [
       | inl same ↦
           let is = bytes_same g name same in
-          after ∙ here (bytes_eq g name) (stays name (run name)) (list_any (bytes_eq g) gs) (run name) old same (before ∙ ap (λ x. cond (list_any (bytes_eq g) gs && stays x (run x)) (run x) None) is)
-          ∙ sym (ap (λ b. cond (b && stays g (run g)) (run g) None) (list_any-append (bytes_eq g) gs (name ∷ [])) ∙ ap (λ x. cond ((list_any (bytes_eq g) gs || (bytes_eq g name || false)) && stays x (run x)) (run x) None) is)
+          after ∙ here (bytes_eq g name) (may_be_part name (run name)) (list_any (bytes_eq g) gs) (run name) old same (before ∙ ap (λ x. cond (list_any (bytes_eq g) gs && may_be_part x (run x)) (run x) None) is)
+          ∙ sym (ap (λ b. cond (b && may_be_part g (run g)) (run g) None) (list_any-append (bytes_eq g) gs (name ∷ [])) ∙ ap (λ x. cond ((list_any (bytes_eq g) gs || (bytes_eq g name || false)) && may_be_part x (run x)) (run x) None) is)
       | inr other ↦
-          after ∙ ap (λ b. cond (b && stays name (run name)) (run name) old) other ∙ before
-          ∙ sym (ap (λ b. cond (b && stays g (run g)) (run g) None) (list_any-append (bytes_eq g) gs (name ∷ []) ∙ ap (λ b. list_any (bytes_eq g) gs || (b || false)) other ∙ or-false (list_any (bytes_eq g) gs)))
+          after ∙ ap (λ b. cond (b && may_be_part name (run name)) (run name) old) other ∙ before
+          ∙ sym (ap (λ b. cond (b && may_be_part g (run g)) (run g) None) (list_any-append (bytes_eq g) gs (name ∷ []) ∙ ap (λ b. list_any (bytes_eq g) gs || (b || false)) other ∙ or-false (list_any (bytes_eq g) gs)))
     ]
   where
     here : {X : Type 0} (same stay any : Bool) (x old : Option X) → same ≡ true → old ≡ cond (any && stay) x None → cond (same && stay) x old ≡ cond ((any || (same || false)) && stay) x None

@@ -11,7 +11,7 @@ use Rattle.t1_frac.specs.declared.fault.Code.{Code}
 use Rattle.t1_run.specs.Run.{FontBodies, own}
 use Rattle.t1_run.proofs.Asked.{bytes_same}
 use Rattle.t1_extent.specs.Kept.{TracedRun}
-use Rattle.t1_font.specs.Runs.{Kept, drawing_kept, kept_of, run_kept, own_among, counted, AreTraced, CountsSome, IsAfter, IsTracedAs}
+use Rattle.t1_font.specs.Runs.{NamedRun, drawing_kept, drawing_in, run_kept, own_among, counted, AreTraced, CountsSome, IsNumberedAfter, IsTracedAs}
 
 -- what is found, through a borrow
 pub copied-map : {X Y : Type 0} (view : X → Y) (r : Option (Bor X)) → option_map (λ x. view x.now) r ≡ option_map view (option_copied r)
@@ -59,8 +59,8 @@ lookup-taken {K} {X} name old new n at g = by (lookup (λ k. bytes_eq g (name k)
 -- ---- the runs of some glyphs, one after another
 
 -- what is kept so far, with the runs of the glyphs that are left, is what is kept of all
-abbrev pub RunsInFront : FontBodies → List (List ℕ) → List Kept → List (List ℕ) → Type 0
-RunsInFront m rest runs names = (q : List ℕ) → cond (list_any (bytes_eq q) rest) (own m q) (kept_of runs q) ≡ own_among m names q
+abbrev pub RunsInFront : FontBodies → List (List ℕ) → List NamedRun → List (List ℕ) → Type 0
+RunsInFront m rest runs names = (q : List ℕ) → cond (list_any (bytes_eq q) rest) (own m q) (drawing_in runs q) ≡ own_among m names q
 
 or-cond : {X : Type 0} (a b : Bool) (all one r : X) → (b ≡ true → all ≡ one) → cond a all (cond b one r) ≡ cond (b || a) all r
 or-cond true true all one r h = refl
@@ -68,13 +68,13 @@ or-cond true false all one r h = refl
 or-cond false true all one r h = sym (h refl)
 or-cond false false all one r h = refl
 
-pub one-more : (m : FontBodies) (rest : List (List ℕ)) (old new : List Kept) (names : List (List ℕ)) (name : List ℕ) (kept : Result TracedRun Code)
+pub one-more : (m : FontBodies) (rest : List (List ℕ)) (old new : List NamedRun) (names : List (List ℕ)) (name : List ℕ) (kept : Result TracedRun Code)
     → Some (drawing_kept kept) ≡ own m name → ((q : List ℕ) → run_kept new q ≡ cond (bytes_eq q name) (Some kept) (run_kept old q))
     → RunsInFront m (name ∷ rest) old names → RunsInFront m rest new names
 one-more m rest old new names name kept is put h q =
     ap (λ r. cond (list_any (bytes_eq q) rest) (own m q) (option_map drawing_kept r)) (put q)
     ∙ ap (cond (list_any (bytes_eq q) rest) (own m q)) (map-cond drawing_kept (bytes_eq q name) kept (run_kept old q))
-    ∙ or-cond (list_any (bytes_eq q) rest) (bytes_eq q name) (own m q) (Some (drawing_kept kept)) (kept_of old q)
+    ∙ or-cond (list_any (bytes_eq q) rest) (bytes_eq q name) (own m q) (Some (drawing_kept kept)) (drawing_in old q)
     (λ same. rw (bytes_same q name same) (sym is))
     ∙ h q
 
@@ -89,37 +89,37 @@ traced-cond g true x r h k = h refl
 traced-cond g false x r h k = k
 
 -- a run that is put in keeps its trace, as those do that were there
-pub one-traced : (old new : List Kept) (name : List ℕ) (kept : Result TracedRun Code)
+pub one-traced : (old new : List NamedRun) (name : List ℕ) (kept : Result TracedRun Code)
     → ((q : List ℕ) → run_kept new q ≡ cond (bytes_eq q name) (Some kept) (run_kept old q)) → IsTracedAs name (Some kept) → AreTraced old → AreTraced new
 one-traced old new name kept put h others q =
     subst (IsTracedAs q) (sym (put q))
     (traced-cond q (bytes_eq q name) (Some kept) (run_kept old q) (λ same. subst (λ g. IsTracedAs g (Some kept)) (sym (bytes_same q name same)) h) (others q))
 
 -- those that are left where one was taken out keep theirs
-pub rest-traced : (old new : List Kept) (name : List ℕ) → ((q : List ℕ) → run_kept new q ≡ cond (bytes_eq name q) None (run_kept old q))
+pub rest-traced : (old new : List NamedRun) (name : List ℕ) → ((q : List ℕ) → run_kept new q ≡ cond (bytes_eq name q) None (run_kept old q))
     → AreTraced old → AreTraced new
 rest-traced old new name taken others q =
     subst (IsTracedAs q) (sym (taken q)) (traced-cond q (bytes_eq name q) None (run_kept old q) (λ same. tt) (others q))
 
 -- ---- the numbers of runs
 
-after-cond : (count : ℕ) (b : Bool) (x r : Option (Result TracedRun Code)) → IsAfter count x → IsAfter count r → IsAfter count (cond b x r)
+after-cond : (count : ℕ) (b : Bool) (x r : Option (Result TracedRun Code)) → IsNumberedAfter count x → IsNumberedAfter count r → IsNumberedAfter count (cond b x r)
 after-cond count true x r h k = h
 after-cond count false x r h k = k
 
 -- a run that is put in is later than the count, as those are that were there
-pub one-after : (count : ℕ) (old new : List Kept) (name : List ℕ) (kept : Result TracedRun Code)
+pub one-after : (count : ℕ) (old new : List NamedRun) (name : List ℕ) (kept : Result TracedRun Code)
     → ((q : List ℕ) → run_kept new q ≡ cond (bytes_eq q name) (Some kept) (run_kept old q))
-    → IsAfter count (Some kept) → ((q : List ℕ) → IsAfter count (run_kept old q)) → (q : List ℕ) → IsAfter count (run_kept new q)
+    → IsNumberedAfter count (Some kept) → ((q : List ℕ) → IsNumberedAfter count (run_kept old q)) → (q : List ℕ) → IsNumberedAfter count (run_kept new q)
 one-after count old new name kept put h others q =
-    subst (IsAfter count) (sym (put q)) (after-cond count (bytes_eq q name) (Some kept) (run_kept old q) h (others q))
+    subst (IsNumberedAfter count) (sym (put q)) (after-cond count (bytes_eq q name) (Some kept) (run_kept old q) h (others q))
 
 counted-up : (count n : ℕ) → counted count 1 ≤ counted (counted count n) 1
 counted-up count zero = omega arith
 counted-up count (suc n) = omega (arith, counted-up count n)
 
 -- what is after a later count is after an earlier one
-pub after-earlier : (count n : ℕ) (kept : Result TracedRun Code) → IsAfter (counted count n) (Some kept) → IsAfter count (Some kept)
+pub after-earlier : (count n : ℕ) (kept : Result TracedRun Code) → IsNumberedAfter (counted count n) (Some kept) → IsNumberedAfter count (Some kept)
 after-earlier count n (Err code) h = tt
 after-earlier count n (Ok run) h = omega (arith, counted-up count n, h)
 

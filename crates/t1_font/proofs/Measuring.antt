@@ -28,7 +28,7 @@ use Rattle.t1_afm.proofs.Fonts.{font_box_of_boxes}
 use Rattle.t1_font.specs.declared.glyph_metrics.GlyphMetrics.{GlyphMetrics}
 use Rattle.t1_font.specs.Bodies.{bodies, bodies_check, words_check, glyph_among, SameBodies}
 use Rattle.t1_font.specs.Glyphs.{Glyph as Drawn, glyphs, glyphs_by, glyph_names}
-use Rattle.t1_font.specs.Runs.{Kept, kept_of, own_among}
+use Rattle.t1_font.specs.Runs.{NamedRun, drawing_in, own_among}
 use Rattle.t1_font.specs.MeasuredGlyphs.{glyph_metrics, glyph_metrics_among, measured, MeasuredFont}
 use Rattle.t1_run.proofs.Asked.{bytes_self}
 
@@ -113,8 +113,8 @@ own-none m g e = ap (own_of m) e
 abbrev pub KeepsOwn : (List ℕ → Option (Result Drawing Code)) → List Item → Type 0
 KeepsOwn run items = (g : List ℕ) → run g ≡ own (bodies items) g
 
-pub keeps-own : (m : FontBodies) (items : List Item) (runs : List Kept) → SameBodies m (bodies items)
-    → ((g : List ℕ) → kept_of runs g ≡ own_among m (glyph_names items) g) → KeepsOwn (kept_of runs) items
+pub keeps-own : (m : FontBodies) (items : List Item) (runs : List NamedRun) → SameBodies m (bodies items)
+    → ((g : List ℕ) → drawing_in runs g ≡ own_among m (glyph_names items) g) → KeepsOwn (drawing_in runs) items
 keeps-own m items runs same kept g =
     elim (cases_Bool (list_any (bytes_eq g) (glyph_names items))) [
       | inl there ↦ kept g ∙ ap (λ b. cond b (own m g) None) there ∙ own-same m (bodies items) g same

@@ -17,7 +17,7 @@ use Rattle.t1_run.proofs.Parts.{own_parts}
 use Rattle.t1_font.specs.Bodies.{bodies, bodies_check, glyph_among, words_check}
 use Rattle.t1_font.specs.Glyphs.{glyph_names}
 use Rattle.t1_font.specs.InTurn.{staying, RunsStay}
-use Rattle.t1_font.specs.Runs.{Kept, kept_of}
+use Rattle.t1_font.specs.Runs.{NamedRun, drawing_in}
 use Rattle.t1_font.specs.ToRun.{commands_or_none, font_to_run, glyph_to_run}
 use Rattle.t1_font.proofs.Compiling.{none-there, same-maps}
 use Rattle.t1_font.proofs.InTurnLaws.{names-known}
@@ -50,7 +50,7 @@ glyphs-run (Glyph name words closing ∷ items) g e =
 pub runs-own : (items : List Item) → bodies_check items ≡ Ok tt → KeepsOwn (own (font_to_run items)) items
 runs-own items e g = own-same (font_to_run items) (bodies items) g (same-maps (font_to_run items) (bodies items) (λ n. refl) (λ h. glyphs-run items h e))
 
-pub runs-stay : (items : List Item) (runs : List Kept) → ((g : List ℕ) → kept_of runs g ≡ staying (own (font_to_run items)) (glyph_names items) g)
+pub runs-stay : (items : List Item) (runs : List NamedRun) → ((g : List ℕ) → drawing_in runs g ≡ staying (own (font_to_run items)) (glyph_names items) g)
     → RunsStay (own (font_to_run items)) (glyph_names items) runs
 runs-stay items runs kept = record {
   kept = kept;

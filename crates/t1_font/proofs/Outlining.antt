@@ -9,7 +9,7 @@ use Rattle.t1_frac.specs.Outcome.{reported_at, ◌>>=◌}
 use Rattle.t1_run.specs.declared.outline.Composite.{Composite}
 use Rattle.t1_run.specs.declared.outline.Point.{Point}
 use Rattle.t1_run.specs.declared.outline.Segment.{Segment}
-use Rattle.t1_run.specs.Composite.{accent_move, moved_outline, joined, joined_with, with_parts, drawn, outline, outline_within}
+use Rattle.t1_run.specs.Composite.{accent_move, moved_outline, joined_outline, joined_with, with_parts, drawn, outline, outline_within}
 use Rattle.t1_run.specs.Run.{FontBodies, Drawing, own}
 use Rattle.t1_font.specs.declared.glyph_metrics.PlacedParts.{PlacedParts}
 use Rattle.t1_font.specs.Glyphs.{Glyph, placed_parts_of, glyph_of, glyphs}
@@ -39,15 +39,15 @@ bind-then c d (Ok x) next h = h x
 bind-then c d (Err code) next h = refl
 
 parts-then : (part : List ℕ → Result (List Segment) Code) (c : Option Composite) (d : Drawing)
-    → ((base accent : List Segment) → joined d base accent ≡ joined_with c d base accent) → Then c d (with_parts part c d)
+    → ((base accent : List Segment) → joined_outline d base accent ≡ joined_with c d base accent) → Then c d (with_parts part c d)
 parts-then part None d e = refl
 parts-then part (Some c) d e =
-    bind-then (Some c) d (part c.base) (λ base. part c.accent >>= (λ accent. joined d base accent)) (λ base.
-    bind-then (Some c) d (part c.accent) (λ accent. joined d base accent) (λ accent.
+    bind-then (Some c) d (part c.base) (λ base. part c.accent >>= (λ accent. joined_outline d base accent)) (λ base.
+    bind-then (Some c) d (part c.accent) (λ accent. joined_outline d base accent) (λ accent.
     rw (e base accent) (joined-then c d base accent)))
 
-joined-is : (d : Drawing) (base accent : List Segment) → joined d base accent ≡ joined_with d.composite d base accent
-unfolding joined
+joined-is : (d : Drawing) (base accent : List Segment) → joined_outline d base accent ≡ joined_with d.composite d base accent
+unfolding joined_outline
 joined-is d base accent = refl
 
 -- a glyph's outline, or its fault

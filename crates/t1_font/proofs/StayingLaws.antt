@@ -10,9 +10,9 @@ use Rattle.t1_frac.specs.Outcome.{◌>>=◌}
 use Rattle.t1_code.specs.Encoding.{is_standard_name}
 use Rattle.t1_run.specs.declared.outline.Composite.{Composite}
 use Rattle.t1_run.specs.declared.outline.Segment.{Segment}
-use Rattle.t1_run.specs.Composite.{HasStandardParts, outline_within, drawn, with_parts, joined}
+use Rattle.t1_run.specs.Composite.{HasStandardParts, outline_within, drawn, with_parts, joined_outline}
 use Rattle.t1_run.specs.Run.{Drawing}
-use Rattle.t1_font.specs.InTurn.{stays, staying, is_composite, HaveStandardParts}
+use Rattle.t1_font.specs.InTurn.{may_be_part, staying, is_composite, HaveStandardParts}
 use Rattle.t1_font.specs.Glyphs.{glyph_of}
 use Rattle.t1_font.specs.MeasuredGlyphs.{glyph_metrics, glyph_metrics_at}
 
@@ -30,8 +30,8 @@ module _ (run other : List ℕ → Option (Result Drawing Code)) (parts : HaveSt
             let has = h c refl in
             let base = below c.base (alike c.base has.base) in
             let accent = below c.accent (alike c.accent has.accent) in
-            ap (λ (b : Result (List Segment) Code). b >>= (λ base. outline_within other depth c.accent >>= (λ accent. joined d base accent))) base
-            ∙ ap (λ (a : Result (List Segment) Code). outline_within run depth c.base >>= (λ base. a >>= (λ accent. joined d base accent))) accent
+            ap (λ (b : Result (List Segment) Code). b >>= (λ base. outline_within other depth c.accent >>= (λ accent. joined_outline d base accent))) base
+            ∙ ap (λ (a : Result (List Segment) Code). outline_within run depth c.base >>= (λ base. a >>= (λ accent. joined_outline d base accent))) accent
 
         by : ((n : List ℕ) → other n ≡ run n → outline_within other depth n ≡ outline_within run depth n) → (r : Option (Result Drawing Code))
             → run name ≡ r → drawn (outline_within other depth) r ≡ drawn (outline_within run depth) r
@@ -47,19 +47,19 @@ module _ (run other : List ℕ → Option (Result Drawing Code)) (parts : HaveSt
 
 -- a run that stays is among those that do
 stays-there : (run : List ℕ → Option (Result Drawing Code)) (names : List (List ℕ)) (g : List ℕ) → (list_any (bytes_eq g) names ≡ false → run g ≡ None)
-    → stays g (run g) ≡ true → staying run names g ≡ run g
+    → may_be_part g (run g) ≡ true → staying run names g ≡ run g
 stays-there run names g absent stay =
     elim (cases_Bool (list_any (bytes_eq g) names)) [
-      | inl there ↦ ap (λ b. cond (b && stays g (run g)) (run g) None) there ∙ ap (λ b. cond b (run g) None) stay
-      | inr gone ↦ ap (λ b. cond (b && stays g (run g)) (run g) None) gone ∙ sym (absent gone)
+      | inl there ↦ ap (λ b. cond (b && may_be_part g (run g)) (run g) None) there ∙ ap (λ b. cond b (run g) None) stay
+      | inr gone ↦ ap (λ b. cond (b && may_be_part g (run g)) (run g) None) gone ∙ sym (absent gone)
     ]
 
-standard-stays : (g : List ℕ) (r : Option (Result Drawing Code)) → is_standard_name g ≡ true → stays g r ≡ true
+standard-stays : (g : List ℕ) (r : Option (Result Drawing Code)) → is_standard_name g ≡ true → may_be_part g r ≡ true
 standard-stays g r h = ap (λ b. b || is_composite r) h
 
 -- so a glyph whose run stays has the same metrics by them
 pub staying_metrics : (run : List ℕ → Option (Result Drawing Code)) (names : List (List ℕ)) (name : List ℕ) → HaveStandardParts run
-    → ((g : List ℕ) → list_any (bytes_eq g) names ≡ false → run g ≡ None) → stays name (run name) ≡ true
+    → ((g : List ℕ) → list_any (bytes_eq g) names ≡ false → run g ≡ None) → may_be_part name (run name) ≡ true
     → glyph_metrics_at (staying run names) name ≡ glyph_metrics_at run name
 staying_metrics run names name parts absent stay =
     same-metrics run (staying run names) parts (λ g. λ h. stays-there run names g (absent g) (standard-stays g (run g) h)) name (stays-there run names name (absent name) stay)

@@ -10,7 +10,7 @@ use Rattle.t1_parts.proofs.DemoRows.{demo_items}
 use Rattle.t1_code.specs.Encoding.{standard_name, standard_names}
 use Rattle.t1_code.specs.Words.{commands, command_of_word, operator_named, operator_words, number_of_word}
 use Rattle.t1_frac.specs.Numbers.{is_number_word}
-use Rattle.t1_run.specs.Composite.{outline, joined as joined_outline}
+use Rattle.t1_run.specs.Composite.{outline, joined_outline}
 use Rattle.t1_run.specs.Run.{own, body_stop}
 use Rattle.t1_font.specs.Bodies.{bodies}
 use Rattle.t1_font.specs.Glyphs.{glyphs, glyph_names}

@@ -61,16 +61,16 @@ bodies_check (item ∷ items) = body_check item >>= λ _. bodies_check items
 -- ---- the maps of the code
 
 -- word: the body that is kept for a number
-abbrev pub subr_kept : List (ℕ × List Command) → ℕ → Option (List Command)
-subr_kept entries n = lookup (nat_eq n) entries
+abbrev pub subr_body_kept : List (ℕ × List Command) → ℕ → Option (List Command)
+subr_body_kept entries n = lookup (nat_eq n) entries
 
 -- word: the body that is kept for a name
-abbrev pub glyph_kept : {A : Type 0} → List (Vec ℕ A × List Command) → List ℕ → Option (List Command)
-glyph_kept entries g = lookup (λ key. bytes_eq g key.items) entries
+abbrev pub glyph_body_kept : {A : Type 0} → List (Vec ℕ A × List Command) → List ℕ → Option (List Command)
+glyph_body_kept entries g = lookup (λ key. bytes_eq g key.items) entries
 
 -- word: the bodies that both maps keep
 abbrev pub plain_bodies : Plain → FontBodies
-plain_bodies plain = font (subr_kept plain.subrs.entries) (glyph_kept plain.glyphs.entries)
+plain_bodies plain = font (subr_body_kept plain.subrs.entries) (glyph_body_kept plain.glyphs.entries)
 
 -- word: both fonts have the same body, or both none, at each key
 abbrev pub SameBodies : FontBodies → FontBodies → Type 0

@@ -16,7 +16,7 @@ use Rattle.t1_font.specs.ToRun.{commands_or_none, font_to_run, glyph_to_run, sub
 use Rattle.t1_run.specs.declared.outline.Composite.{Composite}
 use Rattle.t1_run.specs.Composite.{HasStandardParts}
 use Rattle.t1_font.specs.MeasuredGlyphs.{glyph_metrics_at}
-use Rattle.t1_font.specs.Runs.{Kept, kept_of}
+use Rattle.t1_font.specs.Runs.{NamedRun, drawing_in}
 
 -- word: what a run asks for: the Subrs that are compiled so far, and the glyphs of the items
 abbrev pub source_font : SourceBodies → FontBodies
@@ -30,17 +30,17 @@ is_composite (Some (Ok drawing)) = is_some drawing.composite
 is_composite _ = false
 
 -- word: a run stays where its glyph may be a part of a composite, or is one
-abbrev pub stays : List ℕ → Option (Result Drawing Code) → Bool
-stays g run = is_standard_name g || is_composite run
+abbrev pub may_be_part : List ℕ → Option (Result Drawing Code) → Bool
+may_be_part g run = is_standard_name g || is_composite run
 
 -- word: the runs that stay among those of some glyphs
 abbrev pub staying : (List ℕ → Option (Result Drawing Code)) → List (List ℕ) → List ℕ → Option (Result Drawing Code)
-staying run names g = if list_any (bytes_eq g) names && stays g (run g) then run g else None
+staying run names g = if list_any (bytes_eq g) names && may_be_part g (run g) then run g else None
 
 -- word: what is reported of a glyph at its turn: its metrics, its fault, or that it is measured later, by its run, which stays
 abbrev pub IsRow : (List ℕ → Option (Result Drawing Code)) → List ℕ → Row → Type 0
 IsRow run name (rows.Measured glyph) = glyph_metrics_at run name ≡ Ok glyph
-IsRow run name (rows.Waiting waiting) = (waiting.now ≡ name) × (stays name (run name) ≡ true)
+IsRow run name (rows.Waiting waiting) = (waiting.now ≡ name) × (may_be_part name (run name) ≡ true)
 IsRow run name (rows.Faulty faulty code) = (faulty.now ≡ name) × (glyph_metrics_at run name ≡ Err code)
 
 -- word: the same of these glyphs, in their order
@@ -51,9 +51,9 @@ AreRows run [] (row ∷ rows) = ⊥
 AreRows run (name ∷ names) [] = ⊥
 
 -- word: what was made of items: what is reported of each glyph at its turn, and the runs that stay
-pub record AreTurnsOf (items : List Item) (reported : List Row) (kept : List Kept) : Type 0 where
+pub record AreTurnsOf (items : List Item) (reported : List Row) (kept : List NamedRun) : Type 0 where
   pub rows : AreRows (own (font_to_run items)) (glyph_names items) reported
-  pub runs : (g : List ℕ) → kept_of kept g ≡ staying (own (font_to_run items)) (glyph_names items) g
+  pub runs : (g : List ℕ) → drawing_in kept g ≡ staying (own (font_to_run items)) (glyph_names items) g
 
 -- word: the run of an item that is a glyph is its own run in this font; nothing is said of another item
 abbrev pub RunsAs : Item → (List ℕ → Option (Result Drawing Code)) → FontBodies → Type 0
@@ -70,7 +70,7 @@ abbrev pub HaveStandardParts : (List ℕ → Option (Result Drawing Code)) → T
 HaveStandardParts run = (g : List ℕ) (d : Drawing) (c : Composite) → run g ≡ Some (Ok d) → d.composite ≡ Some c → HasStandardParts c
 
 -- word: the runs that stay are there, the parts of composites have names of StandardEncoding, and no other glyph was run
-pub record RunsStay (run : List ℕ → Option (Result Drawing Code)) (names : List (List ℕ)) (runs : List Kept) : Type 0 where
-  pub kept : (g : List ℕ) → kept_of runs g ≡ staying run names g
+pub record RunsStay (run : List ℕ → Option (Result Drawing Code)) (names : List (List ℕ)) (runs : List NamedRun) : Type 0 where
+  pub kept : (g : List ℕ) → drawing_in runs g ≡ staying run names g
   pub parts : HaveStandardParts run
   pub absent : (g : List ℕ) → list_any (bytes_eq g) names ≡ false → run g ≡ None

@@ -28,7 +28,7 @@ glyph_metrics_by name drawing box =
     placed_parts_of drawing.bearing drawing.composite >>= (λ parts.
     Ok (record { name = name; width = drawing.width; entered = drawing.entered; parts = parts; bbox = box }))
 
--- word: what is reported of a glyph, by runs that are kept
+-- profile: what is reported of a glyph, by runs that are kept
 unfoldable pub glyph_metrics_at : (List ℕ → Option (Result Drawing Code)) → List ℕ → Result GlyphMetrics Code
 glyph_metrics_at run name =
     glyph_of name (run name) (outline_within run 4 name) >>= (λ glyph. Ok (glyph_metrics glyph))

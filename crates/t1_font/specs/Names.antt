@@ -5,15 +5,15 @@ use Rattle.std.specs.Borrow.{Bor}
 use Rattle.std.specs.List.{list_any}
 use Rattle.std.specs.Str.{bytes_eq}
 use Rattle.t1_font.specs.declared.glyph_metrics.GlyphMetrics.{GlyphMetrics}
-use Rattle.t1_font.specs.Metrics.{has_glyph}
+use Rattle.t1_font.specs.Metrics.{has_metrics}
 
 -- word: whether a name is among those kept
 abbrev pub is_name_kept : List (Bor (List ℕ)) → List ℕ → Bool
 is_name_kept names g = list_any (λ key. bytes_eq g key.now) names
 
 -- word: the names are those of the glyphs
-abbrev pub HasNames : List (Bor (List ℕ)) → List GlyphMetrics → Type 0
-HasNames names metrics = (g : List ℕ) → is_name_kept names g ≡ has_glyph metrics g
+abbrev pub AreNamesOf : List (Bor (List ℕ)) → List GlyphMetrics → Type 0
+AreNamesOf names metrics = (g : List ℕ) → is_name_kept names g ≡ has_metrics metrics g
 
 -- word: the code that is kept for a name
 abbrev pub code_kept : List (Bor (List ℕ) × ℕ) → List ℕ → Option ℕ

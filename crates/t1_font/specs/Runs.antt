@@ -15,16 +15,16 @@ drawing_kept (Ok run) = Ok run.drawing
 drawing_kept (Err code) = Err code
 
 -- word: a glyph's name, and its run with its number among the runs, or its first fault
-abbrev pub Kept : Type 0
-Kept = List ℕ × Result TracedRun Code
+abbrev pub NamedRun : Type 0
+NamedRun = List ℕ × Result TracedRun Code
 
 -- word: the run of the glyph of this name
-abbrev pub run_kept : List Kept → List ℕ → Option (Result TracedRun Code)
+abbrev pub run_kept : List NamedRun → List ℕ → Option (Result TracedRun Code)
 run_kept runs name = lookup (bytes_eq name) runs
 
 -- word: what is kept of the glyph of this name: what it draws, or its first fault
-abbrev pub kept_of : List Kept → List ℕ → Option (Result Drawing Code)
-kept_of runs name = option_map drawing_kept (run_kept runs name)
+abbrev pub drawing_in : List NamedRun → List ℕ → Option (Result Drawing Code)
+drawing_in runs name = option_map drawing_kept (run_kept runs name)
 
 -- word: the run of the glyph of this name keeps its trace, unless the glyph can't be a part
 abbrev pub IsTracedAs : List ℕ → Option (Result TracedRun Code) → Type 0
@@ -33,7 +33,7 @@ IsTracedAs name (Some (Err code)) = Unit {0}
 IsTracedAs name (Some (Ok run)) = traces name run ≡ true
 
 -- word: so does each run
-abbrev pub AreTraced : List Kept → Type 0
+abbrev pub AreTraced : List NamedRun → Type 0
 AreTraced runs = (g : List ℕ) → IsTracedAs g (run_kept runs g)
 
 -- word: what the own bodies of these glyphs draw, or their first faults
@@ -56,7 +56,7 @@ Counts runs old new (Err (refusals.Fault fault)) = new ≡ counted old runs
 Counts runs old new (Err refusals.Memory) = CountsSome runs old new
 
 -- word: a run's number is after this count, or the last number that there is
-abbrev pub IsAfter : ℕ → Option (Result TracedRun Code) → Type 0
-IsAfter count None = Unit {0}
-IsAfter count (Some (Err code)) = Unit {0}
-IsAfter count (Some (Ok run)) = counted count 1 ≤ run.serial
+abbrev pub IsNumberedAfter : ℕ → Option (Result TracedRun Code) → Type 0
+IsNumberedAfter count None = Unit {0}
+IsNumberedAfter count (Some (Err code)) = Unit {0}
+IsNumberedAfter count (Some (Ok run)) = counted count 1 ≤ run.serial

@@ -43,13 +43,13 @@ AreRangesWithin len ranges = (n : ℕ) → IfSome (lookup (nat_eq n) ranges) (Is
 abbrev pub SubrsStandFirst : List Item → Type 0
 SubrsStandFirst all = (a b : List Item) (g : List ℕ) (words : List (List ℕ)) (closing : List ℕ) → all ≡ a ++ items.Glyph g words closing ∷ b → list_any is_subr_entry b ≡ false
 
--- word: what is run of words: their commands; no commands where the words have a fault, which is reported before any fault
+-- profile: what is run of words: their commands; no commands where the words have a fault, which is reported before any fault
 -- of a run
 abbrev pub commands_or_none : Result (List Command) Code → List Command
 commands_or_none (Ok body) = body
 commands_or_none (Err code) = []
 
--- word: what is run of the first glyph of this name
+-- profile: what is run of the first glyph of this name
 abbrev pub glyph_to_run : List Item → List ℕ → Option (List Command)
 glyph_to_run [] g = None
 glyph_to_run (items.Plain line ∷ rest) g = glyph_to_run rest g
@@ -57,6 +57,6 @@ glyph_to_run (items.Section before count after ∷ rest) g = glyph_to_run rest g
 glyph_to_run (items.Subr number words closing ∷ rest) g = glyph_to_run rest g
 glyph_to_run (items.Glyph name words closing ∷ rest) g = if bytes_eq g name then Some (commands_or_none (commands words)) else glyph_to_run rest g
 
--- word: the font of the items while their glyphs are run
+-- profile: the font of the items while their glyphs are run
 abbrev pub font_to_run : List Item → FontBodies
 font_to_run all = font (subr_among all) (glyph_to_run all)

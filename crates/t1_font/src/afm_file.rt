@@ -13,8 +13,8 @@ use t1_code::{Counted, OutError};
 use t1_pairs::Pairs;
 use t1_source::Source;
 
-/// Writes the AFM file of a source, its pairs and its measured glyphs: the whole file at `Ok`, a beginning of it at
-/// `Write`, nothing where memory runs out. No fault is answered.
+/// Writes the AFM file of a source, its pairs and its measured glyphs: the whole file at `Ok`, a
+/// beginning of it at `Write`, nothing where memory runs out. No fault is answered.
 pub fn write_source_afm<W: Write>(
     alloc: Global,
     source: &Source,
@@ -22,7 +22,8 @@ pub fn write_source_afm<W: Write>(
     glyphs: &MeasuredGlyphs,
     out: &mut Counted<W>,
 ) -> Result<(), OutError>
-    ensures { Prints W.contents out.old out.new (Ok (afm (metrics_of source.now pairs.now glyphs.now))) result }
+    ensures { Prints W.contents out.old out.new
+        (Ok (afm (metrics_of source.now pairs.now glyphs.now))) result }
 {
     let metrics = metrics(alloc, source, pairs, glyphs)?;
     write_afm(&metrics, out)

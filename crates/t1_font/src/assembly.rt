@@ -48,7 +48,8 @@ fn write_parts<F: FileForm, W: Write>(
     trailer: &[u8],
     out: &mut Counted<W>,
 ) -> Result<(), OutError>
-    ensures { Prints W.contents out.old out.new (F.file form.now clear.now private.now trailer.now) result }
+    ensures { Prints W.contents out.old out.new (F.file form.now clear.now private.now trailer.now)
+        result }
 {
     let pieces = [Piece::Plain(private)];
     let parts = Parts {
@@ -59,8 +60,9 @@ fn write_parts<F: FileForm, W: Write>(
     write_file(form, &parts, out)
 }
 
-/// Writes the file of a source in a form: the whole file at `Ok`, a beginning of it at `Write`. A fault is the first of the
-/// bodies, at its entry, else F23; nothing is written then, nor where memory runs out.
+/// Writes the file of a source in a form: the whole file at `Ok`, a beginning of it at `Write`. A
+/// fault is the first of the bodies, at its entry, else F23; nothing is written then, nor where
+/// memory runs out.
 fn write_source<F: FileForm, W: Write>(
     alloc: Global,
     source: &Source,
@@ -75,9 +77,9 @@ fn write_source<F: FileForm, W: Write>(
     write_parts(form, &clear, &private, &trailer, out)
 }
 
-/// Writes the PFB file of a source in segments of so many bytes, [`WHOLE_PARTS`] for one a part: the whole file at `Ok`,
-/// a beginning of it at `Write`. A fault is the first of the bodies, at its entry, else F23; nothing is written then, nor
-/// where memory runs out.
+/// Writes the PFB file of a source in segments of so many bytes, [`WHOLE_PARTS`] for one a part:
+/// the whole file at `Ok`, a beginning of it at `Write`. A fault is the first of the bodies, at its
+/// entry, else F23; nothing is written then, nor where memory runs out.
 #[tactic(auto, unfolding(crate::specs::Assembly::source_file))]
 pub fn write_source_pfb<W: Write>(
     alloc: Global,

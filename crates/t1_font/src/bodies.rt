@@ -6,7 +6,9 @@ ghost use Rattle.std.specs.Str.{bytes_eq};
 ghost use Rattle.t1_frac.specs.Outcome.{Gives, reported_at};
 ghost use Rattle.t1_frac.specs.declared.fault.Place.TheVariants as places;
 ghost use Rattle.t1_code.specs.Words.{commands};
-ghost use Rattle.t1_font.specs.Bodies.{bodies, bodies_check, body_check, words_check, glyph_among, glyph_in, glyph_kept, plain_bodies, subr_among, subr_in, subr_kept, SameBodies};
+ghost use Rattle.t1_font.specs.Bodies.{bodies, bodies_check, body_check, words_check, glyph_among};
+ghost use Rattle.t1_font.specs.Bodies.{glyph_in, glyph_body_kept, plain_bodies, subr_among};
+ghost use Rattle.t1_font.specs.Bodies.{subr_in, subr_body_kept, SameBodies};
 
 use indexmap::IndexMap;
 use std::alloc::Global;
@@ -28,7 +30,8 @@ pub fn compiled_subr(alloc: Global, number: u16, words: &Words) -> Result<Body, 
 
 /// The commands of a glyph's words, or their fault with the glyph's name.
 pub fn compiled_glyph(alloc: Global, name: &[u8], words: &Words) -> Result<Body, Refusal>
-    ensures { Gives (λ body. body) result (reported_at (places.Glyph name.now) (commands words.now)) }
+    ensures { Gives (λ body. body) result
+        (reported_at (places.Glyph name.now) (commands words.now)) }
 {
     match compile(alloc, words) {
         Err(refusal) => Err(refusal.at(Place::Glyph(Bytes::copied(alloc, name)?))),
@@ -45,7 +48,11 @@ fn add_subr(
     words: &Words,
 ) -> Result<(), Refusal>
     ensures checked { Gives (λ x. x) result (words_check (places.Subr number) words.now) }
-    ensures kept { OnOk result ((n : ℕ) → subr_kept subrs.new.entries n ≡ option_or (subr_kept subrs.old.entries n) (if n == number then result_ok (commands words.now) else None)) }
+    ensures kept { OnOk result
+        ((n : ℕ)
+        → subr_body_kept subrs.new.entries n
+        ≡ option_or (subr_body_kept subrs.old.entries n)
+        (if n == number then result_ok (commands words.now) else None)) }
 {
     let body = compiled_subr(alloc, number, words)?;
     if subrs.contains_key(&number) {
@@ -64,7 +71,11 @@ fn add_glyph(
     words: &Words,
 ) -> Result<(), Refusal>
     ensures checked { Gives (λ x. x) result (words_check (places.Glyph name.now) words.now) }
-    ensures kept { OnOk result ((g : List ℕ) → glyph_kept glyphs.new.entries g ≡ option_or (glyph_kept glyphs.old.entries g) (if bytes_eq g name.now then result_ok (commands words.now) else None)) }
+    ensures kept { OnOk result
+        ((g : List ℕ)
+        → glyph_body_kept glyphs.new.entries g
+        ≡ option_or (glyph_body_kept glyphs.old.entries g)
+        (if bytes_eq g name.now then result_ok (commands words.now) else None)) }
 {
     let body = compiled_glyph(alloc, name, words)?;
     if glyphs.contains_key(name) {
@@ -82,8 +93,14 @@ fn add_body(
     item: &Item,
 ) -> Result<(), Refusal>
     ensures checked { Gives (λ x. x) result (body_check item.now) }
-    ensures subrs { OnOk result ((n : ℕ) → subr_kept subrs.new.entries n ≡ option_or (subr_kept subrs.old.entries n) (subr_in item.now n)) }
-    ensures glyphs { OnOk result ((g : List ℕ) → glyph_kept glyphs.new.entries g ≡ option_or (glyph_kept glyphs.old.entries g) (glyph_in item.now g)) }
+    ensures subrs { OnOk result
+        ((n : ℕ)
+        → subr_body_kept subrs.new.entries n
+        ≡ option_or (subr_body_kept subrs.old.entries n) (subr_in item.now n)) }
+    ensures glyphs { OnOk result
+        ((g : List ℕ)
+        → glyph_body_kept glyphs.new.entries g
+        ≡ option_or (glyph_body_kept glyphs.old.entries g) (glyph_in item.now g)) }
 {
     match item {
         Item::Subr(number, words, _) => add_subr(alloc, subrs, *number, words),
@@ -104,8 +121,10 @@ fn add_bodies(
     requires subrs { subrs.old.entries ≡ [] }
     requires glyphs { glyphs.old.entries ≡ [] }
     ensures checked { Gives (λ x. x) result (bodies_check items.now) }
-    ensures subrs { OnOk result ((n : ℕ) → subr_kept subrs.new.entries n ≡ subr_among items.now n) }
-    ensures glyphs { OnOk result ((g : List ℕ) → glyph_kept glyphs.new.entries g ≡ glyph_among items.now g) }
+    ensures subrs { OnOk result
+        ((n : ℕ) → subr_body_kept subrs.new.entries n ≡ subr_among items.now n) }
+    ensures glyphs { OnOk result
+        ((g : List ℕ) → glyph_body_kept glyphs.new.entries g ≡ glyph_among items.now g) }
 {
     for item in items.iter().alone() {
         add_body(alloc, subrs, glyphs, item)?;

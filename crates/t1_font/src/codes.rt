@@ -1,5 +1,6 @@
 //! The codes that an encoding gives to names.
-ghost use Rattle.std.specs.Prelude.{◌≡◌, ℕ, List, None, Some, IfOk, OnOk, if◌then◌else◌, option_map};
+ghost use Rattle.std.specs.Prelude.{◌≡◌, ℕ, List, None, Some, IfOk, OnOk, if◌then◌else◌};
+ghost use Rattle.std.specs.Prelude.{option_map};
 ghost use Rattle.std.specs.Option.{option_or};
 ghost use Rattle.std.specs.Str.{bytes_eq};
 ghost use Rattle.t1_source.specs.Codes.{lowest_code, name_of_code};
@@ -16,7 +17,11 @@ fn add_code<'a>(
     name: &'a [u8],
     code: u8,
 ) -> Result<(), AllocError>
-    ensures { OnOk result ((g : List ℕ) → code_kept codes.new.entries g ≡ option_or (code_kept codes.old.entries g) (if bytes_eq g name.now then Some code else None)) }
+    ensures { OnOk result
+        ((g : List ℕ)
+        → code_kept codes.new.entries g
+        ≡ option_or (code_kept codes.old.entries g)
+        (if bytes_eq g name.now then Some code else None)) }
 {
     if codes.contains_key(name) {
         return Ok(());
@@ -31,7 +36,11 @@ fn add_name<'a>(
     name: Option<&'a [u8]>,
     code: u8,
 ) -> Result<(), AllocError>
-    ensures { OnOk result ((g : List ℕ) → code_kept codes.new.entries g ≡ option_or (code_kept codes.old.entries g) (if is_token g (option_map (λ n. n.now) name.entry) then Some code else None)) }
+    ensures { OnOk result
+        ((g : List ℕ)
+        → code_kept codes.new.entries g
+        ≡ option_or (code_kept codes.old.entries g)
+        (if is_token g (option_map (λ n. n.now) name.entry) then Some code else None)) }
 {
     match name {
         Some(name) => add_code(codes, name, code),
@@ -41,7 +50,10 @@ fn add_name<'a>(
 
 /// The lowest code of each name of the encoding.
 pub fn codes_of<'a>(alloc: Global, source: &'a Source) -> Result<IndexMap<&'a [u8], u8>, AllocError>
-    ensures { IfOk result (λ codes. (g : List ℕ) → code_kept codes.entries g ≡ lowest_code (name_of_code source.now) g) }
+    ensures { IfOk result
+        (λ codes.
+        (g : List ℕ)
+        → code_kept codes.entries g ≡ lowest_code (name_of_code source.now) g) }
 {
     let names = source.names_by_code();
     let mut codes = IndexMap::new(alloc);

@@ -1,6 +1,6 @@
 //! The composites of an AFM file.
 ghost use Rattle.std.specs.Prelude.{◌≡◌, IfOk};
-ghost use Rattle.t1_font.specs.Metrics.{composite_of, composites};
+ghost use Rattle.t1_font.specs.Metrics.{composite_data, composites};
 
 use crate::glyph_metrics::GlyphMetrics;
 use std::alloc::{AllocError, Global};
@@ -8,7 +8,7 @@ use t1_afm::{CompositeMetric, Text};
 
 /// The parts of a composite.
 fn composite_metric<'a>(glyph: &'a GlyphMetrics) -> Option<CompositeMetric<'a>>
-    ensures { result ≡ composite_of glyph.now }
+    ensures { result ≡ composite_data glyph.now }
 {
     let Some(parts) = &glyph.parts else {
         return None;

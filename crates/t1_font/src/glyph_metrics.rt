@@ -4,7 +4,8 @@ ghost use Rattle.t1_frac.specs.Outcome.{Gives, reported_at};
 ghost use Rattle.t1_frac.specs.declared.fault.Place.TheVariants as places;
 ghost use Rattle.t1_afm.specs.Box.{united};
 ghost use Rattle.t1_font.specs.Glyphs.{placed_parts_of, run_there};
-ghost use Rattle.t1_font.specs.MeasuredGlyphs.{glyph_metrics_at, glyph_metrics_among, glyph_metrics_by};
+ghost use Rattle.t1_font.specs.MeasuredGlyphs.{glyph_metrics_at, glyph_metrics_among};
+ghost use Rattle.t1_font.specs.MeasuredGlyphs.{glyph_metrics_by};
 
 use crate::numbers::SubrNumbers;
 use std::alloc::Global;
@@ -36,7 +37,9 @@ pub struct GlyphMetrics<'a> {
 
 /// The parts of a composite, and how far its accent is moved.
 fn placed_parts(alloc: Global, run: &KeptRun) -> Result<Option<PlacedParts>, Refusal>
-    ensures { Gives (λ parts. parts) result (reported_at places.Nowhere (placed_parts_of run.now.drawing.bearing run.now.drawing.composite)) }
+    ensures { Gives (λ parts. parts) result
+        (reported_at places.Nowhere
+        (placed_parts_of run.now.drawing.bearing run.now.drawing.composite)) }
 {
     let Some(parts) = run.composite() else {
         return Ok(None);
@@ -62,7 +65,8 @@ fn run_of<'a, R: KeptRuns>(runs: &'a R, name: &[u8]) -> Result<&'a KeptRun, Code
     }
 }
 
-/// What is measured of a glyph whose run and box are known, or the fault of the move of its accent, at no place.
+/// What is measured of a glyph whose run and box are known, or the fault of the move of its accent,
+/// at no place.
 pub fn metrics_of_run<'a>(
     alloc: Global,
     name: &'a [u8],

@@ -11,7 +11,8 @@ use t1_afm::BBox;
 use t1_parts::Items;
 use t1_source::Item;
 
-/// What is measured of the glyphs of a source, in the order of their entries, and the box around all that draw.
+/// What is measured of the glyphs of a source, in the order of their entries, and the box around
+/// all that draw.
 #[derive(Drop)]
 pub struct MeasuredGlyphs<'a> {
     metrics: Vec<GlyphMetrics<'a>>,
@@ -29,7 +30,12 @@ impl<'a> Model for MeasuredGlyphs<'a> {
 impl<'a> MeasuredGlyphs<'a> {
     /// The metrics of some glyphs, in their order, and the box around those that draw.
     pub fn of(metrics: Vec<GlyphMetrics<'a>>) -> MeasuredGlyphs<'a>
-        ensures { result ≡ record { metrics = metrics.entry.items; font_box = united (map (λ glyph. glyph.bbox) metrics.entry.items) } }
+        ensures { result
+            ≡ record {
+              metrics = metrics.entry.items;
+              font_box = united
+                  (map (λ glyph. glyph.bbox) metrics.entry.items);
+            } }
     {
         let font_box = font_box(&metrics);
         MeasuredGlyphs { metrics, font_box }

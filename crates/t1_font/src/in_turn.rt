@@ -1,7 +1,8 @@
-//! Glyphs that are compiled, run and measured one after another. No body of a glyph is stored, and two kinds of runs alone are
-//! kept: of glyphs with a name of StandardEncoding, of which a composite may be made, and of composites, whose parts may come
-//! later.
-ghost use Rattle.std.specs.Prelude.{◌≡◌, ◌&&◌, List, ℕ, Option, Result, Ok, Some, None, true, IfOk, OnOk, if◌then◌else◌};
+//! Glyphs that are compiled, run and measured one after another. No body of a glyph is stored, and
+//! two kinds of runs alone are kept: of glyphs with a name of StandardEncoding, of which a
+//! composite may be made, and of composites, whose parts may come later.
+ghost use Rattle.std.specs.Prelude.{◌≡◌, ◌&&◌, List, ℕ, Option, Result, Ok, Some, None, true, IfOk};
+ghost use Rattle.std.specs.Prelude.{OnOk, if◌then◌else◌};
 ghost use Rattle.std.specs.Str.{bytes_eq};
 ghost use Rattle.t1_frac.specs.Outcome.{Gives};
 ghost use Rattle.t1_frac.specs.declared.fault.Place.TheVariants as places;
@@ -10,10 +11,10 @@ ghost use Rattle.t1_run.specs.Run.{Drawing, own};
 ghost use Rattle.t1_frac.specs.declared.fault.Code.{Code as CodeOf};
 ghost use Rattle.t1_afm.specs.Box.{drawn_box};
 ghost use Rattle.t1_font.specs.Bodies.{words_check};
-ghost use Rattle.t1_font.specs.InTurn.{source_font, stays, IsRow};
+ghost use Rattle.t1_font.specs.InTurn.{source_font, may_be_part, IsRow};
 ghost use Rattle.t1_font.specs.MeasuredGlyphs.{glyph_metrics_by};
 ghost use Rattle.t1_font.specs.ToRun.{commands_or_none, glyph_to_run};
-ghost use Rattle.t1_font.specs.Runs.{counted, drawing_kept, kept_of, run_kept, IsTracedAs};
+ghost use Rattle.t1_font.specs.Runs.{counted, drawing_kept, drawing_in, run_kept, IsTracedAs};
 
 use crate::glyph_metrics::GlyphMetrics;
 use crate::numbers::SubrNumbers;
@@ -44,7 +45,10 @@ fn plain_metrics<'a>(
     run: &KeptRun,
 ) -> Result<GlyphMetrics<'a>, AllocError>
     requires { run.now.drawing.composite ≡ None }
-    ensures { IfOk result (λ glyph. glyph_metrics_by name.now run.now.drawing (drawn_box run.now.drawing.segments) ≡ Ok glyph) }
+    ensures { IfOk result
+        (λ glyph.
+        glyph_metrics_by name.now run.now.drawing (drawn_box run.now.drawing.segments)
+        ≡ Ok glyph) }
 {
     Ok(GlyphMetrics {
         name: SourceText::borrowed(name),
@@ -57,7 +61,7 @@ fn plain_metrics<'a>(
 
 /// Whether a run stays.
 fn is_staying(standard: &StandardNames, name: &[u8], kept: &Result<KeptRun, Code>) -> bool
-    ensures { result ≡ stays name.now (Some (drawing_kept kept.now)) }
+    ensures { result ≡ may_be_part name.now (Some (drawing_kept kept.now)) }
 {
     if standard.contain(name) {
         return true;
@@ -74,7 +78,9 @@ fn row_by<'a>(
     name: &'a [u8],
     kept: &Result<KeptRun, Code>,
 ) -> Result<Row<'a>, AllocError>
-    ensures { (run : List ℕ → Option (Result Drawing CodeOf)) → run name.now ≡ Some (drawing_kept kept.now) → IfOk result (IsRow run name.now) }
+    ensures { (run : List ℕ → Option (Result Drawing CodeOf))
+        → run name.now ≡ Some (drawing_kept kept.now)
+        → IfOk result (IsRow run name.now) }
 {
     match kept {
         Ok(run) => {
@@ -96,8 +102,14 @@ fn row_of<'a>(
     kept: Result<KeptRun, Code>,
 ) -> Result<Row<'a>, AllocError>
     requires { IsTracedAs name.now (Some kept) }
-    ensures row { (run : List ℕ → Option (Result Drawing CodeOf)) → run name.now ≡ Some (drawing_kept kept) → IfOk result (IsRow run name.now) }
-    ensures kept { OnOk result ((g : List ℕ) → run_kept runs.new g ≡ (if bytes_eq g name.now && stays name.now (Some (drawing_kept kept)) then Some kept else run_kept runs.old g)) }
+    ensures row { (run : List ℕ → Option (Result Drawing CodeOf))
+        → run name.now ≡ Some (drawing_kept kept)
+        → IfOk result (IsRow run name.now) }
+    ensures kept { OnOk result
+        ((g : List ℕ)
+        → run_kept runs.new g
+        ≡ (if bytes_eq g name.now && may_be_part name.now (Some (drawing_kept kept)) then Some
+        kept else run_kept runs.old g)) }
 {
     let row = row_by(alloc, name, &kept)?;
     if is_staying(standard, name, &kept) {
@@ -106,8 +118,8 @@ fn row_of<'a>(
     Ok(row)
 }
 
-/// What one glyph after another uses again: the names of StandardEncoding, memory for the commands of a body and for the segments
-/// of a run, and the count of runs.
+/// What one glyph after another uses again: the names of StandardEncoding, memory for the commands
+/// of a body and for the segments of a run, and the count of runs.
 #[derive(Drop)]
 pub(crate) struct Scratch {
     standard: StandardNames,
@@ -127,7 +139,8 @@ impl Scratch {
     }
 }
 
-/// Puts the commands of a glyph's words in the place of what stood there, or answers their fault with the glyph's name.
+/// Puts the commands of a glyph's words in the place of what stood there, or answers their fault
+/// with the glyph's name.
 #[tactic(auto, unfolding(crate::specs::Bodies::words_check))]
 fn compile_glyph(
     alloc: Global,
@@ -145,7 +158,8 @@ fn compile_glyph(
     }
 }
 
-/// Compiles and runs a glyph: what is reported of it, or the fault of its words. Its run is kept where it stays.
+/// Compiles and runs a glyph: what is reported of it, or the fault of its words. Its run is kept
+/// where it stays.
 pub(crate) fn glyph_turn<'a>(
     alloc: Global,
     source: &SourceBodies,
@@ -154,11 +168,20 @@ pub(crate) fn glyph_turn<'a>(
     runs: &mut Runs<'a>,
     scratch: &mut Scratch,
 ) -> Result<Row<'a>, Refusal>
-    requires { glyph_to_run source.now.items.now name.now ≡ Some (commands_or_none (commands words.now)) }
+    requires { glyph_to_run source.now.items.now name.now
+        ≡ Some (commands_or_none (commands words.now)) }
     ensures counted { OnOk result (scratch.new.meter ≡ counted scratch.old.meter 1) }
     ensures checked { Gives (λ _. tt) result (words_check (places.Glyph name.now) words.now) }
-    ensures row { (run : List ℕ → Option (Result Drawing CodeOf)) → run name.now ≡ own (source_font source.now) name.now → IfOk result (IsRow run name.now) }
-    ensures kept { (run : List ℕ → Option (Result Drawing CodeOf)) → run name.now ≡ own (source_font source.now) name.now → OnOk result ((g : List ℕ) → kept_of runs.new g ≡ (if bytes_eq g name.now && stays name.now (run name.now) then run name.now else kept_of runs.old g)) }
+    ensures row { (run : List ℕ → Option (Result Drawing CodeOf))
+        → run name.now ≡ own (source_font source.now) name.now
+        → IfOk result (IsRow run name.now) }
+    ensures kept { (run : List ℕ → Option (Result Drawing CodeOf))
+        → run name.now ≡ own (source_font source.now) name.now
+        → OnOk result
+        ((g : List ℕ)
+        → drawing_in runs.new g
+        ≡ (if bytes_eq g name.now && may_be_part name.now (run name.now) then run name.now else
+        drawing_in runs.old g)) }
 {
     compile_glyph(alloc, &mut scratch.body, name, words)?;
     let kept = kept_run_of(

@@ -2,7 +2,7 @@
 ghost use Rattle.std.specs.Prelude.{◌≡◌, ◌||◌, ℕ, List, filter_map, IfOk, OnOk};
 ghost use Rattle.std.specs.Str.{bytes_eq};
 ghost use Rattle.t1_font.specs.Metrics.{kern_of, kern_pairs};
-ghost use Rattle.t1_font.specs.Names.{is_name_kept, HasNames};
+ghost use Rattle.t1_font.specs.Names.{is_name_kept, AreNamesOf};
 
 use crate::glyph_metrics::GlyphMetrics;
 use indexmap::IndexSet;
@@ -12,7 +12,10 @@ use t1_pairs::Pair;
 
 /// Adds a name.
 pub(crate) fn add_name<'a>(names: &mut IndexSet<&'a [u8]>, name: &'a [u8]) -> Result<(), AllocError>
-    ensures { OnOk result ((g : List ℕ) → is_name_kept names.new.keys g ≡ (is_name_kept names.old.keys g || bytes_eq g name.now)) }
+    ensures { OnOk result
+        ((g : List ℕ)
+        → is_name_kept names.new.keys g
+        ≡ (is_name_kept names.old.keys g || bytes_eq g name.now)) }
 {
     names.insert(name)?;
     Ok(())
@@ -23,7 +26,7 @@ fn names_of<'a>(
     alloc: Global,
     metrics: &'a [GlyphMetrics],
 ) -> Result<IndexSet<&'a [u8]>, AllocError>
-    ensures { IfOk result (λ names. HasNames names.keys metrics.now) }
+    ensures { IfOk result (λ names. AreNamesOf names.keys metrics.now) }
 {
     let mut names = IndexSet::with_capacity(alloc, metrics.len())?;
     for glyph in metrics {
@@ -54,7 +57,8 @@ fn pairs_among<'a>(
     names: &IndexSet<&[u8]>,
     pairs: &'a [Pair],
 ) -> Result<Vec<KernPair<'a>>, AllocError>
-    ensures { IfOk result (λ found. found.items ≡ filter_map (kern_of (is_name_kept names.now.keys)) pairs.now) }
+    ensures { IfOk result
+        (λ found. found.items ≡ filter_map (kern_of (is_name_kept names.now.keys)) pairs.now) }
 {
     let mut found = Vec::new(alloc);
     for pair in pairs {

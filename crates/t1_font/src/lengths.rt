@@ -1,5 +1,6 @@
 //! How long the parts of a source's PFB file are, and whether one is too long.
-ghost use Rattle.std.specs.Prelude.{◌≡◌, ◌≤◌, ◌<◌, ◌+◌, ◌*◌, ◌^◌, ◌-◌, min, length, true, Ok, IfOk, IsOk};
+ghost use Rattle.std.specs.Prelude.{◌≡◌, ◌≤◌, ◌<◌, ◌+◌, ◌*◌, ◌^◌, ◌-◌, min, length, true, Ok, IfOk};
+ghost use Rattle.std.specs.Prelude.{IsOk};
 ghost use Rattle.std.specs.List.{list_all};
 ghost use Rattle.t1_frac.specs.Outcome.{Gives};
 ghost use Rattle.t1_text.specs.Lines.{joined};
@@ -7,7 +8,8 @@ ghost use Rattle.t1_parts.specs.ItemRefs.{item_of};
 ghost use Rattle.t1_parts.specs.SourceParts.{SourceParts};
 ghost use Rattle.t1_font.specs.Bodies.{bodies as bodies_of, bodies_check, plain_bodies, SameBodies};
 ghost use Rattle.t1_code.specs.Pfb.{whole_file};
-ghost use Rattle.t1_font.specs.Assembly.{counts_check, file_check, length_check, item_line, private_text, source_file};
+ghost use Rattle.t1_font.specs.Assembly.{counts_check, file_check, length_check, item_line};
+ghost use Rattle.t1_font.specs.Assembly.{private_text, source_file};
 ghost use Rattle.t1_source.specs.WellFormed.{is_counted};
 ghost use Rattle.t1_font.specs.Lengths.{IsPrivateLen};
 
@@ -22,8 +24,8 @@ use t1_parts::{ItemRef, Items};
 use t1_run::Plain;
 use t1_source::{Item, Source};
 
-/// More than an entry's line has beside its leading bytes, the operator's name, its head, its charstring and its
-/// closing text: spaces, the length of the data and the line's end.
+/// More than an entry's line has beside its leading bytes, the operator's name, its head, its
+/// charstring and its closing text: spaces, the length of the data and the line's end.
 const ENTRY_MARGIN: usize = 40;
 
 /// How long lines are with their ends, up to 2^64 - 1.
@@ -41,7 +43,9 @@ fn lines_len(lines: &[Bytes]) -> usize
 
 /// The most bytes that an entry's line can have. A word's code has five bytes at most.
 fn max_entry_len(lead: u8, operator: &[u8], head: usize, words: &Words, closing: &[u8]) -> usize
-    ensures { result < 2 ^ 31 → lead + length operator.now + head + 5 * length words.now + length closing.now + 40 ≤ result }
+    ensures { result < 2 ^ 31
+        → lead + length operator.now + head + 5 * length words.now + length closing.now + 40
+        ≤ result }
 {
     words
         .as_bytes()
@@ -56,7 +60,8 @@ fn max_entry_len(lead: u8, operator: &[u8], head: usize, words: &Words, closing:
 
 /// The most bytes that the line of an item can have.
 fn max_line_len(lead: u8, operator: &[u8], item: &Item) -> usize
-    ensures { result < 2 ^ 31 → IfOk (item_line lead operator.now item.now) (λ line. length line ≤ result) }
+    ensures { result < 2 ^ 31
+        → IfOk (item_line lead operator.now item.now) (λ line. length line ≤ result) }
 {
     match item {
         Item::Plain(line) => line.as_slice().len().saturating_add(1),
@@ -81,7 +86,8 @@ fn max_line_len(lead: u8, operator: &[u8], item: &Item) -> usize
 
 /// The most bytes that the line of an item where it stands can have.
 fn max_line_ref_len(lead: u8, operator: &[u8], item: &ItemRef) -> usize
-    ensures { result < 2 ^ 31 → IfOk (item_line lead operator.now (item_of item.now)) (λ line. length line ≤ result) }
+    ensures { result < 2 ^ 31
+        → IfOk (item_line lead operator.now (item_of item.now)) (λ line. length line ≤ result) }
 {
     match item {
         ItemRef::Line(line) => line.len().saturating_add(1),
@@ -91,7 +97,8 @@ fn max_line_ref_len(lead: u8, operator: &[u8], item: &ItemRef) -> usize
 
 /// The most bytes that the private text can have.
 fn max_private_len(lead: u8, operator: &[u8], items: &Items) -> usize
-    ensures { result < 2 ^ 31 → IfOk (private_text lead operator.now items.now) (λ text. length text ≤ result) }
+    ensures { result < 2 ^ 31
+        → IfOk (private_text lead operator.now items.now) (λ text. length text ≤ result) }
 {
     let mut total: usize = 0;
     for item in items.iter() {
@@ -102,7 +109,9 @@ fn max_private_len(lead: u8, operator: &[u8], items: &Items) -> usize
 
 /// Whether the lengths of a source's texts show that no part of its PFB file is too long.
 fn is_short(source: &Source) -> bool
-    ensures { result ≡ true → bodies_check source.now.items ≡ Ok tt → IsOk (source_file whole_file source.now) }
+    ensures { result ≡ true
+        → bodies_check source.now.items ≡ Ok tt
+        → IsOk (source_file whole_file source.now) }
 {
     let clear = lines_len(source.clear());
     let private = max_private_len(source.lead(), source.operator(), source.items());
@@ -110,10 +119,14 @@ fn is_short(source: &Source) -> bool
     clear.max(private.saturating_add(EEXEC_LEAD)).max(trailer) <= MAX_PART
 }
 
-/// F23 where a part of the PFB file is too long, for each source with these clear lines and this tail whose private text is
-/// so long. It takes no memory.
+/// F23 where a part of the PFB file is too long, for each source with these clear lines and this
+/// tail whose private text is so long. It takes no memory.
 pub fn check_parts(clear: &[Bytes], private_len: usize, tail: &[Bytes]) -> Result<(), Fault>
-    ensures { (s : SourceParts) → s.clear ≡ clear.now → s.tail ≡ tail.now → IsPrivateLen s private_len → result ≡ length_check s }
+    ensures { (s : SourceParts)
+        → s.clear ≡ clear.now
+        → s.tail ≡ tail.now
+        → IsPrivateLen s private_len
+        → result ≡ length_check s }
 {
     let clear = lines_len(clear);
     let private = private_len.saturating_add(EEXEC_LEAD);
@@ -124,8 +137,9 @@ pub fn check_parts(clear: &[Bytes], private_len: usize, tail: &[Bytes]) -> Resul
     Ok(())
 }
 
-/// F23 where a part of the PFB file of a source is too long. Its bodies have no fault. Lines are made only where the source is
-/// so long that the lengths of its texts don't answer, and none is kept.
+/// F23 where a part of the PFB file of a source is too long. Its bodies have no fault. Lines are
+/// made only where the source is so long that the lengths of its texts don't answer, and none is
+/// kept.
 #[tactic(auto, using(crate::proofs::LengthLaws::length_checked), unfolding(crate::specs::Assembly::length_check))]
 fn check_length(alloc: Global, source: &Source) -> Result<(), Refusal>
     requires { bodies_check source.now.items ≡ Ok tt }
@@ -175,8 +189,8 @@ pub fn check_counts(items: &Items) -> Result<(), Fault>
     Err(Fault::from(Code::F23))
 }
 
-/// F23 where a part of the PFB file of a source is too long, or the count of a section line has more than nine digits. Its
-/// bodies have no fault.
+/// F23 where a part of the PFB file of a source is too long, or the count of a section line has
+/// more than nine digits. Its bodies have no fault.
 #[tactic(auto, unfolding(crate::specs::Assembly::file_check))]
 pub(crate) fn check_file(alloc: Global, source: &Source) -> Result<(), Refusal>
     requires { bodies_check source.now.items ≡ Ok tt }
@@ -187,13 +201,14 @@ pub(crate) fn check_file(alloc: Global, source: &Source) -> Result<(), Refusal>
     Ok(())
 }
 
-/// The compiled bodies of a source whose PFB file and text have no fault; or their fault: the first of a body, at its
-/// entry, else F23.
+/// The compiled bodies of a source whose PFB file and text have no fault; or their fault: the first
+/// of a body, at its entry, else F23.
 #[tactic(auto, using(crate::proofs::LengthLaws::body_fault_reported))]
 pub fn checked_bodies(alloc: Global, source: &Source) -> Result<Plain, Refusal>
     ensures file { Gives (λ _. tt) result (file_check source.now) }
     ensures no_fault { IfOk result (λ _. bodies_check source.now.items ≡ Ok tt) }
-    ensures bodies { IfOk result (λ plain. SameBodies (plain_bodies plain) (bodies_of source.now.items)) }
+    ensures bodies { IfOk result
+        (λ plain. SameBodies (plain_bodies plain) (bodies_of source.now.items)) }
 {
     let bodies = compiled(alloc, source.items())?;
     check_file(alloc, source)?;

@@ -1,12 +1,16 @@
-//! A whole font: its bodies compiled, its glyphs run once each and measured, its PFB and AFM files written.
+//! A whole font: its bodies compiled, its glyphs run once each and measured, its PFB and AFM files
+//! written.
 //!
-//! [`compiled`] gives the bodies of a private part, or the first fault of one; [`checked_bodies`] also judges the length of
-//! the PFB file, as [`check_parts`] does by the length of the private text, and the counts ([`check_counts`]).
-//! [`measured_glyphs`] compiles, runs and measures the glyphs one after another, and [`metrics`] is what the AFM file of a source
-//! and its pairs says. [`runs_of`] and [`glyph_metrics_of`] run and measure glyphs whose bodies are stored. [`write_source_pfb`]
-//! and [`write_source_afm`] write the files, whose plain parts are [`clear_text`] and [`trailer`].
+//! [`compiled`] gives the bodies of a private part, or the first fault of one; [`checked_bodies`]
+//! also judges the length of the PFB file, as [`check_parts`] does by the length of the private
+//! text, and the counts ([`check_counts`]). [`measured_glyphs`] compiles, runs and measures the
+//! glyphs one after another, and [`metrics`] is what the AFM file of a source and its pairs says.
+//! [`runs_of`] and [`glyph_metrics_of`] run and measure glyphs whose bodies are stored.
+//! [`write_source_pfb`] and [`write_source_afm`] write the files, whose plain parts are
+//! [`clear_text`] and [`trailer`].
 //!
-//! All of it is for the crates above. Users take the same from `t1_session`, whose calls read the source too.
+//! All of it is for the crates above. Users take the same from `t1_session`, whose calls read the
+//! source too.
 #![tactic(auto)]
 
 mod afm_file;

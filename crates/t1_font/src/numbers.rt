@@ -5,8 +5,8 @@ use smallvec::SmallVec;
 use std::alloc::{AllocError, Global};
 use std::marker::Model;
 
-/// Numbers of Subrs that own their memory, of which as many as most glyphs enter take no block. Contracts see the list of the
-/// numbers.
+/// Numbers of Subrs that own their memory, of which as many as most glyphs enter take no block.
+/// Contracts see the list of the numbers.
 #[derive(Drop)]
 pub struct SubrNumbers {
     numbers: SmallVec<u16, 8>,

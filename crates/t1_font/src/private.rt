@@ -23,7 +23,9 @@ fn push_section(
     count: u64,
     after: &[u8],
 ) -> Result<(), AllocError>
-    ensures { OnOk result (text.new.items ≡ text.old.items ++ (before.now ++ decimal count ++ after.now ++ line_feed ∷ [])) }
+    ensures { OnOk result
+        (text.new.items
+        ≡ text.old.items ++ (before.now ++ decimal count ++ after.now ++ line_feed ∷ [])) }
 {
     text.extend_from_slice(before)?;
     text.extend_from_slice(Buffer::new().format(count).as_bytes())?;
@@ -50,7 +52,8 @@ fn push_data(
     charstring: &[u8],
     closing: &[u8],
 ) -> Result<(), AllocError>
-    ensures { OnOk result (text.new.items ≡ entry_text text.old.items operator.now charstring.now closing.now) }
+    ensures { OnOk result
+        (text.new.items ≡ entry_text text.old.items operator.now charstring.now closing.now) }
 {
     text.push(b' ')?;
     text.extend_from_slice(Buffer::new().format(charstring.len()).as_bytes())?;
@@ -72,7 +75,11 @@ fn push_subr(
     charstring: &[u8],
     closing: &[u8],
 ) -> Result<(), AllocError>
-    ensures { OnOk result (text.new.items ≡ text.old.items ++ entry_text (codes "dup " ++ decimal number) operator.now charstring.now closing.now) }
+    ensures { OnOk result
+        (text.new.items
+        ≡ text.old.items
+        ++ entry_text (codes "dup " ++ decimal number) operator.now charstring.now
+        closing.now) }
 {
     text.extend_from_slice(b"dup ")?;
     text.extend_from_slice(Buffer::new().format(number).as_bytes())?;
@@ -88,7 +95,10 @@ fn push_glyph(
     charstring: &[u8],
     closing: &[u8],
 ) -> Result<(), AllocError>
-    ensures { OnOk result (text.new.items ≡ text.old.items ++ entry_text (slash ∷ name.now) operator.now charstring.now closing.now) }
+    ensures { OnOk result
+        (text.new.items
+        ≡ text.old.items
+        ++ entry_text (slash ∷ name.now) operator.now charstring.now closing.now) }
 {
     text.push(b'/')?;
     text.extend_from_slice(name)?;
@@ -97,7 +107,8 @@ fn push_glyph(
 
 /// Puts the encrypted charstring of a Subr in the place of what the buffer holds.
 fn encrypt_subr(code: &mut Vec<u8>, lead: u8, number: u16, words: &Words) -> Result<(), Refusal>
-    ensures { Gives (λ _. code.new.items) result (reported_at (places.Subr number) (encrypted_words lead words.now)) }
+    ensures { Gives (λ _. code.new.items) result
+        (reported_at (places.Subr number) (encrypted_words lead words.now)) }
 {
     match encrypt_words(code, lead, words) {
         Err(refusal) => Err(refusal.at(Place::Subr(number))),
@@ -113,7 +124,8 @@ fn encrypt_glyph(
     name: &[u8],
     words: &Words,
 ) -> Result<(), Refusal>
-    ensures { Gives (λ _. code.new.items) result (reported_at (places.Glyph name.now) (encrypted_words lead words.now)) }
+    ensures { Gives (λ _. code.new.items) result
+        (reported_at (places.Glyph name.now) (encrypted_words lead words.now)) }
 {
     match encrypt_words(code, lead, words) {
         Err(refusal) => Err(refusal.at(Place::Glyph(Bytes::copied(alloc, name)?))),
@@ -121,8 +133,8 @@ fn encrypt_glyph(
     }
 }
 
-/// Adds the line of an item. `code` is a buffer for an entry's charstring, whose length stands before it in the line; what
-/// it holds doesn't matter.
+/// Adds the line of an item. `code` is a buffer for an entry's charstring, whose length stands
+/// before it in the line; what it holds doesn't matter.
 #[tactic(auto, using(crate::proofs::PrivateLaws::entry_fault))]
 fn push_item(
     alloc: Global,
@@ -132,7 +144,8 @@ fn push_item(
     operator: &[u8],
     item: &Item,
 ) -> Result<(), Refusal>
-    ensures { Gives (λ _. text.new.items) result (put_after text.old.items (item_line lead operator.now item.now)) }
+    ensures { Gives (λ _. text.new.items) result
+        (put_after text.old.items (item_line lead operator.now item.now)) }
 {
     match item {
         Item::Plain(line) => Ok(push_line(text, line.as_slice())?),
@@ -160,7 +173,8 @@ fn push_item_ref(
     operator: &[u8],
     item: &ItemRef,
 ) -> Result<(), Refusal>
-    ensures { Gives (λ _. text.new.items) result (put_after text.old.items (item_line lead operator.now (item_of item.now))) }
+    ensures { Gives (λ _. text.new.items) result
+        (put_after text.old.items (item_line lead operator.now (item_of item.now))) }
 {
     match item {
         ItemRef::Line(line) => Ok(push_line(text, line)?),
@@ -185,8 +199,8 @@ pub fn private_text_of(
     Ok(text)
 }
 
-/// How long the private text of the items is, up to 2^64 - 1, or the first fault of a body, at its entry. Each line is made
-/// in the place of the one before it.
+/// How long the private text of the items is, up to 2^64 - 1, or the first fault of a body, at its
+/// entry. Each line is made in the place of the one before it.
 pub(crate) fn private_text_len(
     alloc: Global,
     lead: u8,

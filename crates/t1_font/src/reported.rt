@@ -6,8 +6,9 @@ use crate::in_turn::Row;
 use std::alloc::{AllocError, Global};
 use std::marker::Model;
 
-/// What is reported of glyphs, in their order. As long as all of them are measured, as in most fonts, it is their metrics alone,
-/// which stay where they are. Contracts see the list of what is reported.
+/// What is reported of glyphs, in their order. As long as all of them are measured, as in most
+/// fonts, it is their metrics alone, which stay where they are. Contracts see the list of what is
+/// reported.
 #[derive(Drop)]
 pub(crate) struct Rows<'a> {
     pub(crate) measured: Vec<GlyphMetrics<'a>>,

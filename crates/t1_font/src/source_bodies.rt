@@ -9,14 +9,16 @@ use t1_code::Command;
 use t1_parts::Items;
 use t1_run::Bodies;
 
-/// What the run of a glyph asks of a source: the Subrs, which were compiled, and the names of all glyphs.
+/// What the run of a glyph asks of a source: the Subrs, which were compiled, and the names of all
+/// glyphs.
 #[derive(Drop)]
 pub(crate) struct SourceBodies<'s, 'i> {
     pub(crate) subrs: &'s SubrBodies,
     pub(crate) names: &'s IndexSet<&'i [u8]>,
     /// The items of the source. No code reads them; contracts see the bodies of its glyphs in them.
     pub(crate) items: &'s Items<'i>,
-    ghost known: { (g : List ℕ) → is_name_kept names.now.keys g ≡ is_some (glyph_to_run items.now g) },
+    ghost known: { (g : List ℕ)
+        → is_name_kept names.now.keys g ≡ is_some (glyph_to_run items.now g) },
 }
 
 impl Bodies for SourceBodies<'_, '_> {

@@ -21,7 +21,8 @@ pub(crate) struct BodyRange {
     pub(crate) end: usize,
 }
 
-/// The compiled bodies of Subrs. Contracts see the commands of all of them, and where the body of each number stands among these.
+/// The compiled bodies of Subrs. Contracts see the commands of all of them, and where the body of
+/// each number stands among these.
 #[derive(Drop)]
 pub(crate) struct SubrBodies {
     all: Vec<Command>,
@@ -41,7 +42,9 @@ impl Model for SubrBodies {
 
 /// Adds the commands of a Subr's words to others, or answers their fault with the Subr's number.
 fn compile_subr(others: &mut Vec<Command>, number: u16, words: &Words) -> Result<(), Refusal>
-    ensures value { Gives (λ _. others.new.items) result (reported_at (places.Subr number) (after_others others.old.items (commands words.now))) }
+    ensures value { Gives (λ _. others.new.items) result
+        (reported_at (places.Subr number)
+        (after_others others.old.items (commands words.now))) }
     ensures front { take (length others.old.items) others.new.items ≡ others.old.items }
 {
     match compile_onto(others, words) {
@@ -75,7 +78,11 @@ impl SubrBodies {
     #[tactic(auto, unfolding(crate::specs::Bodies::words_check))]
     pub(crate) fn add(&mut self, number: u16, words: &Words) -> Result<(), Refusal>
         ensures checked { Gives (λ x. x) result (words_check (places.Subr number) words.now) }
-        ensures added { OnOk result ((n : ℕ) → subr_stored self.new n ≡ option_or (subr_stored self.old n) (if n == number then result_ok (commands words.now) else None)) }
+        ensures added { OnOk result
+            ((n : ℕ)
+            → subr_stored self.new n
+            ≡ option_or (subr_stored self.old n)
+            (if n == number then result_ok (commands words.now) else None)) }
     {
         let start = self.all.len();
         compile_subr(&mut self.all, number, words)?;

@@ -1,5 +1,6 @@
 //! The items of a source, one after another: Subrs compiled, glyphs compiled and run.
-ghost use Rattle.std.specs.Prelude.{◌≡◌, ◌++◌, ◌||◌, is_some, ℕ, List, [], None, Option, Result, All, Ok, IfOk, OnOk};
+ghost use Rattle.std.specs.Prelude.{◌≡◌, ◌++◌, ◌||◌, is_some, ℕ, List, [], None, Option, Result};
+ghost use Rattle.std.specs.Prelude.{All, Ok, IfOk, OnOk};
 ghost use Rattle.std.specs.List.{list_any};
 ghost use Rattle.std.specs.Option.{option_or};
 ghost use Rattle.std.specs.Str.{bytes_eq};
@@ -9,13 +10,14 @@ ghost use Rattle.t1_frac.specs.declared.fault.Code.{Code as CodeOf};
 ghost use Rattle.t1_run.specs.Run.{Drawing, font};
 ghost use Rattle.t1_font.specs.Bodies.{bodies_check, body_check, subr_in};
 ghost use Rattle.t1_font.specs.Glyphs.{glyph_names, name_in};
-ghost use Rattle.t1_font.specs.InTurn.{staying, AreRows, AreTurnsOf, IsFirstOfName, IsRow, RunsAs, RunsStay};
+ghost use Rattle.t1_font.specs.InTurn.{staying, AreRows, AreTurnsOf, IsFirstOfName, IsRow, RunsAs};
+ghost use Rattle.t1_font.specs.InTurn.{RunsStay};
 ghost use Rattle.t1_font.specs.MeasuredGlyphs.{glyph_metrics_among, glyph_metrics_at, measured};
 ghost use Rattle.t1_font.specs.Names.{is_name_kept};
 ghost use Rattle.t1_font.specs.SourceChecks.{measured_source};
 ghost use Rattle.t1_font.specs.Assembly.{file_check};
 ghost use Rattle.t1_parts.specs.declared.item.Item.{Item as ItemOf};
-ghost use Rattle.t1_font.specs.Runs.{kept_of};
+ghost use Rattle.t1_font.specs.Runs.{drawing_in};
 ghost use Rattle.t1_font.specs.ToRun.{glyph_to_run, subr_stored, SubrsStandFirst};
 
 use crate::glyph_metrics::{GlyphMetrics, placed_metrics};
@@ -36,7 +38,10 @@ use t1_source::{Item, Source};
 
 /// Adds the name of an item, where it is a glyph.
 fn add_item_name<'a>(names: &mut IndexSet<&'a [u8]>, item: &'a Item) -> Result<(), AllocError>
-    ensures { OnOk result ((g : List ℕ) → is_name_kept names.new.keys g ≡ (is_name_kept names.old.keys g || list_any (bytes_eq g) (name_in item.now))) }
+    ensures { OnOk result
+        ((g : List ℕ)
+        → is_name_kept names.new.keys g
+        ≡ (is_name_kept names.old.keys g || list_any (bytes_eq g) (name_in item.now))) }
 {
     match name_of(item) {
         None => Ok(()),
@@ -47,7 +52,10 @@ fn add_item_name<'a>(names: &mut IndexSet<&'a [u8]>, item: &'a Item) -> Result<(
 /// The names of the glyphs.
 #[tactic(auto, using(crate::proofs::AloneLaws::names_alone))]
 fn names_of<'a>(alloc: Global, items: &'a Items) -> Result<IndexSet<&'a [u8]>, AllocError>
-    ensures { IfOk result (λ names. (g : List ℕ) → is_name_kept names.keys g ≡ list_any (bytes_eq g) (glyph_names items.now)) }
+    ensures { IfOk result
+        (λ names.
+        (g : List ℕ)
+        → is_name_kept names.keys g ≡ list_any (bytes_eq g) (glyph_names items.now)) }
 {
     let mut names = IndexSet::new(alloc);
     for item in items.iter().alone() {
@@ -56,7 +64,8 @@ fn names_of<'a>(alloc: Global, items: &'a Items) -> Result<IndexSet<&'a [u8]>, A
     Ok(names)
 }
 
-/// What is reported of the glyphs of a source, in the order of their entries, and the runs that stay.
+/// What is reported of the glyphs of a source, in the order of their entries, and the runs that
+/// stay.
 #[derive(Drop)]
 struct Reported<'a> {
     rows: Rows<'a>,
@@ -104,12 +113,24 @@ impl Turns {
         item: &'a Item,
         reported: &mut Reported<'a>,
     ) -> Result<(), Refusal>
-        requires known { (g : List ℕ) → is_name_kept names.now.keys g ≡ is_some (glyph_to_run items.now g) }
+        requires known { (g : List ℕ)
+            → is_name_kept names.now.keys g ≡ is_some (glyph_to_run items.now g) }
         requires first { IsFirstOfName items.now item.now }
         ensures checked { Gives (λ x. x) result (body_check item.now) }
-        ensures subrs { OnOk result ((n : ℕ) → subr_stored self.new.subrs n ≡ option_or (subr_stored self.old.subrs n) (subr_in item.now n)) }
-        ensures rows { (run : List ℕ → Option (Result Drawing CodeOf)) (gs : List (List ℕ)) → RunsAs item.now run (font (subr_stored self.old.subrs) (glyph_to_run items.now)) → AreRows run gs reported.old.rows → OnOk result (AreRows run (gs ++ name_in item.now) reported.new.rows) }
-        ensures runs { (run : List ℕ → Option (Result Drawing CodeOf)) (gs : List (List ℕ)) → RunsAs item.now run (font (subr_stored self.old.subrs) (glyph_to_run items.now)) → ((g : List ℕ) → kept_of reported.old.runs g ≡ staying run gs g) → OnOk result ((g : List ℕ) → kept_of reported.new.runs g ≡ staying run (gs ++ name_in item.now) g) }
+        ensures subrs { OnOk result
+            ((n : ℕ)
+            → subr_stored self.new.subrs n
+            ≡ option_or (subr_stored self.old.subrs n) (subr_in item.now n)) }
+        ensures rows { (run : List ℕ → Option (Result Drawing CodeOf)) (gs : List (List ℕ))
+            → RunsAs item.now run (font (subr_stored self.old.subrs) (glyph_to_run items.now))
+            → AreRows run gs reported.old.rows
+            → OnOk result (AreRows run (gs ++ name_in item.now) reported.new.rows) }
+        ensures runs { (run : List ℕ → Option (Result Drawing CodeOf)) (gs : List (List ℕ))
+            → RunsAs item.now run (font (subr_stored self.old.subrs) (glyph_to_run items.now))
+            → ((g : List ℕ) → drawing_in reported.old.runs g ≡ staying run gs g)
+            → OnOk result
+            ((g : List ℕ)
+            → drawing_in reported.new.runs g ≡ staying run (gs ++ name_in item.now) g) }
     {
         match item {
             Item::Subr(number, words, _) => self.subrs.add(*number, words),
@@ -135,7 +156,8 @@ impl Turns {
         }
     }
 
-    /// Takes the items of a source, one after another, or answers the first fault of a body, at its entry.
+    /// Takes the items of a source, one after another, or answers the first fault of a body, at its
+    /// entry.
     fn take_all<'a>(
         &mut self,
         alloc: Global,
@@ -143,7 +165,8 @@ impl Turns {
         names: &IndexSet<&'a [u8]>,
         reported: &mut Reported<'a>,
     ) -> Result<(), Refusal>
-        requires names { (g : List ℕ) → is_name_kept names.now.keys g ≡ list_any (bytes_eq g) (glyph_names items.now) }
+        requires names { (g : List ℕ)
+            → is_name_kept names.now.keys g ≡ list_any (bytes_eq g) (glyph_names items.now) }
         requires firsts { All (IsFirstOfName items.now) items.now }
         requires order { SubrsStandFirst items.now }
         requires subrs { (n : ℕ) → subr_stored self.old.subrs n ≡ None }
@@ -159,15 +182,17 @@ impl Turns {
     }
 }
 
-/// Adds what is reported of the glyphs of a source to nothing, and the runs that stay; or answers the first fault of a body, at its
-/// entry. Subrs are compiled and glyphs are compiled and run in the order of the items, each once.
+/// Adds what is reported of the glyphs of a source to nothing, and the runs that stay; or answers
+/// the first fault of a body, at its entry. Subrs are compiled and glyphs are compiled and run in
+/// the order of the items, each once.
 fn report<'a>(
     alloc: Global,
     items: &'a Items,
     names: &IndexSet<&'a [u8]>,
     reported: &mut Reported<'a>,
 ) -> Result<(), Refusal>
-    requires names { (g : List ℕ) → is_name_kept names.now.keys g ≡ list_any (bytes_eq g) (glyph_names items.now) }
+    requires names { (g : List ℕ)
+        → is_name_kept names.now.keys g ≡ list_any (bytes_eq g) (glyph_names items.now) }
     requires firsts { All (IsFirstOfName items.now) items.now }
     requires order { SubrsStandFirst items.now }
     requires rows { reported.old.rows ≡ [] }
@@ -179,14 +204,15 @@ fn report<'a>(
     turns.take_all(alloc, items, names, reported)
 }
 
-/// What is reported of the glyphs of a source, which have these names, and the runs that stay; or the first fault of a body, at its
-/// entry.
+/// What is reported of the glyphs of a source, which have these names, and the runs that stay; or
+/// the first fault of a body, at its entry.
 fn reported_of<'a>(
     alloc: Global,
     items: &'a Items,
     names: &IndexSet<&'a [u8]>,
 ) -> Result<Reported<'a>, Refusal>
-    requires names { (g : List ℕ) → is_name_kept names.now.keys g ≡ list_any (bytes_eq g) (glyph_names items.now) }
+    requires names { (g : List ℕ)
+        → is_name_kept names.now.keys g ≡ list_any (bytes_eq g) (glyph_names items.now) }
     requires firsts { All (IsFirstOfName items.now) items.now }
     requires order { SubrsStandFirst items.now }
     ensures checked { Gives (λ _. tt) result (bodies_check items.now) }
@@ -211,7 +237,12 @@ fn turns_of<'a>(alloc: Global, items: &'a Items) -> Result<Reported<'a>, Refusal
 /// What is measured of a glyph of which this is reported, or its first fault, at the glyph.
 #[tactic(auto, using(crate::proofs::StayingLaws::staying_metrics))]
 fn metrics_of_row<'a>(alloc: Global, runs: &Runs, row: Row<'a>) -> Result<GlyphMetrics<'a>, Refusal>
-    ensures { (run : List ℕ → Option (Result Drawing CodeOf)) (names : List (List ℕ)) (name : List ℕ) → IsRow run name row.entry → RunsStay run names runs.now → Gives (λ glyph. glyph) result (reported_at (places.Glyph name) (glyph_metrics_at run name)) }
+    ensures { (run : List ℕ → Option (Result Drawing CodeOf)) (names : List (List ℕ))
+        (name : List ℕ)
+        → IsRow run name row.entry
+        → RunsStay run names runs.now
+        → Gives (λ glyph. glyph) result
+        (reported_at (places.Glyph name) (glyph_metrics_at run name)) }
 {
     match row {
         Row::Measured(glyph) => Ok(glyph),
@@ -223,13 +254,17 @@ fn metrics_of_row<'a>(alloc: Global, runs: &Runs, row: Row<'a>) -> Result<GlyphM
     }
 }
 
-/// What is measured of the glyphs of which this is reported, in their order, or the first fault of a glyph.
+/// What is measured of the glyphs of which this is reported, in their order, or the first fault of
+/// a glyph.
 fn metrics_of_rows<'a>(
     alloc: Global,
     runs: &Runs,
     rows: Rows<'a>,
 ) -> Result<Vec<GlyphMetrics<'a>>, Refusal>
-    ensures { (run : List ℕ → Option (Result Drawing CodeOf)) (names : List (List ℕ)) → AreRows run names rows.entry → RunsStay run names runs.now → Gives (λ metrics. metrics.items) result (glyph_metrics_among run names) }
+    ensures { (run : List ℕ → Option (Result Drawing CodeOf)) (names : List (List ℕ))
+        → AreRows run names rows.entry
+        → RunsStay run names runs.now
+        → Gives (λ metrics. metrics.items) result (glyph_metrics_among run names) }
 {
     let Rows { measured, rest } = rows;
     let mut metrics = measured;
@@ -239,8 +274,8 @@ fn metrics_of_rows<'a>(
     Ok(metrics)
 }
 
-/// What is reported of the glyphs of a source whose PFB file and text have no fault; or the first fault: of a body, at its
-/// entry, else F23.
+/// What is reported of the glyphs of a source whose PFB file and text have no fault; or the first
+/// fault: of a body, at its entry, else F23.
 #[tactic(auto, using(crate::proofs::LengthLaws::body_fault_reported))]
 fn checked_turns<'a>(alloc: Global, source: &'a Source) -> Result<Reported<'a>, Refusal>
     requires firsts { All (IsFirstOfName source.now.items) source.now.items }
@@ -254,17 +289,22 @@ fn checked_turns<'a>(alloc: Global, source: &'a Source) -> Result<Reported<'a>, 
     Ok(turns)
 }
 
-/// What is measured of these glyphs, and the box around those that draw, or the first fault of a glyph.
+/// What is measured of these glyphs, and the box around those that draw, or the first fault of a
+/// glyph.
 fn measured_turns<'a>(alloc: Global, turns: Reported<'a>) -> Result<MeasuredGlyphs<'a>, Refusal>
-    ensures { (items : List ItemOf) → bodies_check items ≡ Ok tt → AreTurnsOf items turns.entry.rows turns.entry.runs → Gives (λ glyphs. glyphs) result (measured items) }
+    ensures { (items : List ItemOf)
+        → bodies_check items ≡ Ok tt
+        → AreTurnsOf items turns.entry.rows turns.entry.runs
+        → Gives (λ glyphs. glyphs) result (measured items) }
 {
     let Reported { rows, runs } = turns;
     let metrics = metrics_of_rows(alloc, &runs, rows)?;
     Ok(MeasuredGlyphs::of(metrics))
 }
 
-/// What is measured of the glyphs of a source, in the order of their entries, and the font's box; or the source's first fault: of
-/// a body, at its entry, F23, or of a glyph, at the glyph. Each glyph is compiled and run once, and no body of one is stored.
+/// What is measured of the glyphs of a source, in the order of their entries, and the font's box;
+/// or the source's first fault: of a body, at its entry, F23, or of a glyph, at the glyph. Each
+/// glyph is compiled and run once, and no body of one is stored.
 #[tactic(auto, unfolding(crate::specs::SourceChecks::measured_source))]
 pub fn measured_glyphs<'a>(alloc: Global, source: &'a Source) -> Result<MeasuredGlyphs<'a>, Refusal>
     ensures { Gives (λ glyphs. glyphs) result (measured_source source.now) }

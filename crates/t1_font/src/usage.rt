@@ -44,7 +44,8 @@ fn push_parts(text: &mut Vec<u8>, parts: &Option<PlacedParts>) -> Result<(), All
 
 /// Adds the line of a glyph.
 fn push_line(text: &mut Vec<u8>, glyph: &GlyphMetrics) -> Result<(), AllocError>
-    ensures { OnOk result (text.new.items ≡ text.old.items ++ usage_line glyph.now ++ line_feed ∷ []) }
+    ensures { OnOk result
+        (text.new.items ≡ text.old.items ++ usage_line glyph.now ++ line_feed ∷ []) }
 {
     text.extend_from_slice(b"U ")?;
     text.extend_from_slice(glyph.name.as_slice())?;
@@ -55,7 +56,8 @@ fn push_line(text: &mut Vec<u8>, glyph: &GlyphMetrics) -> Result<(), AllocError>
     Ok(())
 }
 
-/// The usage table: a line for each glyph with the Subrs that its own run entered and, of a composite, its parts.
+/// The usage table: a line for each glyph with the Subrs that its own run entered and, of a
+/// composite, its parts.
 pub fn usage_text(alloc: Global, glyphs: &[GlyphMetrics]) -> Result<Vec<u8>, AllocError>
     ensures { IfOk result (λ text. text.items ≡ usage_table glyphs.now) }
 {

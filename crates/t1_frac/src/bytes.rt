@@ -3,7 +3,8 @@ ghost use Rattle.std.specs.Prelude.{◌≡◌, IfOk};
 use std::alloc::{AllocError, Global};
 use std::marker::Model;
 
-/// A line, a name or another run of bytes that owns its memory. Contracts see the list of the bytes.
+/// A line, a name or another run of bytes that owns its memory. Contracts see the list of the
+/// bytes.
 #[derive(Debug, Drop)]
 pub struct Bytes {
     bytes: Vec<u8>,

@@ -1,5 +1,5 @@
-//! Division by the numbers that fonts divide by most. Each of them is known where this is compiled, so that it takes a product
-//! and shifts: a division takes as long as some twenty additions.
+//! Division by the numbers that fonts divide by most. Each of them is known where this is compiled,
+//! so that it takes a product and shifts: a division takes as long as some twenty additions.
 
 ghost use Rattle.std.specs.Prelude.{◌≡◌, ◌<◌, ◌^◌, ◌/◌, ◌%◌, pos};
 ghost use Rattle.std.specs.Int.{int_div_euclid};

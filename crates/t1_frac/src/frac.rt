@@ -1,9 +1,13 @@
 //! Exact fractions within the limits of a run.
 
-ghost use Rattle.std.specs.Prelude.{◌≡◌, ◌≢◌, ◌+ℤ◌, ◌*ℤ◌, pos, ◌*◌, ◌^◌, ◌≤◌, ◌<◌, ◌==◌, IfOk, MatchResult, Ok, Err, true};
+ghost use Rattle.std.specs.Prelude.{◌≡◌, ◌≢◌, ◌+ℤ◌, ◌*ℤ◌, pos, ◌*◌, ◌^◌, ◌≤◌, ◌<◌, ◌==◌, IfOk};
+ghost use Rattle.std.specs.Prelude.{MatchResult, Ok, Err, true};
 ghost use Rattle.std.specs.Int.RustNames.{unsigned_abs};
-ghost use Rattle.t1_frac.specs.Fraction.{whole as whole_of, gcd as gcd_of, IsLowest, IsSmallPrime, lowest, plus, negated as negated_of, over, compared, floor_of, ceiling_of, nearest_of};
-ghost use Rattle.t1_frac.specs.Limits.{IsCoordinate, coordinate_sum, coordinate_difference, quotient, within};
+ghost use Rattle.t1_frac.specs.Fraction.{whole as whole_of, gcd as gcd_of, IsLowest, IsSmallPrime};
+ghost use Rattle.t1_frac.specs.Fraction.{lowest, plus, negated as negated_of, over, compared};
+ghost use Rattle.t1_frac.specs.Fraction.{floor_of, ceiling_of, nearest_of};
+ghost use Rattle.t1_frac.specs.Limits.{IsCoordinate, coordinate_sum, coordinate_difference};
+ghost use Rattle.t1_frac.specs.Limits.{quotient, within};
 ghost use Rattle.t1_frac.specs.declared.fault.Code.TheVariants.{F40};
 
 use crate::division::{floor_quotient, quotient, signed_quotient};
@@ -12,8 +16,8 @@ use crate::gcd::{gcd, gcd_64};
 use std::cmp::Ordering;
 use std::marker::Model;
 
-/// A fraction in lowest terms, of size at most 2^31 and with a denominator of at most 1,048,576. Equal numbers are
-/// equal values, and a whole number has the denominator 1.
+/// A fraction in lowest terms, of size at most 2^31 and with a denominator of at most 1,048,576.
+/// Equal numbers are equal values, and a whole number has the denominator 1.
 #[derive(Clone, Copy, Debug, PartialEq, Eq)]
 pub struct Frac {
     num: i64,
@@ -29,18 +33,24 @@ impl Model for Frac {
 
     ghost view = { λ f. record { num = f.num; den = f.den } };
 
-    ghost invariant = { λ f. (0 < f.den) × (gcd (unsigned_abs f.num) f.den ≡ 1) × (f.den ≤ 2 ^ 20) × (unsigned_abs f.num ≤ 2 ^ 31 * f.den) };
+    ghost invariant = { λ f.
+        (0 < f.den)
+        × (gcd (unsigned_abs f.num) f.den ≡ 1)
+        × (f.den ≤ 2 ^ 20)
+        × (unsigned_abs f.num ≤ 2 ^ 31 * f.den) };
 
     ghost inverse = { λ v. record { num = v.num; den = v.den } };
 }
 
-/// A short numerator over one of the first primes, in lowest terms: what the prime doesn't divide has nothing in common with it.
-/// The prime is known where this is compiled, so that no division is made.
+/// A short numerator over one of the first primes, in lowest terms: what the prime doesn't divide
+/// has nothing in common with it. The prime is known where this is compiled, so that no division is
+/// made.
 #[inline(always)]
 fn over_prime(num: i64, prime: u64) -> (i64, u64)
     requires num { unsigned_abs num < 2 ^ 63 }
     requires prime { IsSmallPrime prime }
-    ensures lowest { record { num = result.0; den = result.1 } ≡ lowest (record { num = num; den = prime }) }
+    ensures lowest { record { num = result.0; den = result.1 }
+        ≡ lowest (record { num = num; den = prime }) }
     ensures den_above { 0 < result.1 }
     ensures den_below { result.1 ≤ prime }
 {
@@ -56,7 +66,8 @@ fn over_common_divisor(num: i64, den: u64) -> (i64, u64)
     requires num { unsigned_abs num < 2 ^ 63 }
     requires den_above { 0 < den }
     requires den_below { den < 2 ^ 63 }
-    ensures lowest { record { num = result.0; den = result.1 } ≡ lowest (record { num = num; den = den }) }
+    ensures lowest { record { num = result.0; den = result.1 }
+        ≡ lowest (record { num = num; den = den }) }
     ensures den_above { 0 < result.1 }
     ensures den_below { result.1 ≤ den }
 {
@@ -73,7 +84,8 @@ fn in_lowest_terms(num: i64, den: u64) -> (i64, u64)
     requires num { unsigned_abs num < 2 ^ 63 }
     requires den_above { 0 < den }
     requires den_below { den < 2 ^ 63 }
-    ensures lowest { record { num = result.0; den = result.1 } ≡ lowest (record { num = num; den = den }) }
+    ensures lowest { record { num = result.0; den = result.1 }
+        ≡ lowest (record { num = num; den = den }) }
     ensures den_above { 0 < result.1 }
     ensures den_below { result.1 ≤ den }
 {
@@ -91,7 +103,8 @@ fn in_lowest_terms(num: i64, den: u64) -> (i64, u64)
 fn long_in_lowest_terms(num: i128, den: u128) -> (i128, u128)
     requires den_above { 0 < den }
     requires den_below { den ≤ 2 ^ 72 }
-    ensures lowest { record { num = result.0; den = result.1 } ≡ lowest (record { num = num; den = den }) }
+    ensures lowest { record { num = result.0; den = result.1 }
+        ≡ lowest (record { num = num; den = den }) }
     ensures den_above { 0 < result.1 }
     ensures den_below { result.1 ≤ den }
 {
@@ -99,7 +112,8 @@ fn long_in_lowest_terms(num: i128, den: u128) -> (i128, u128)
     (num / divisor as i128, den / divisor)
 }
 
-/// The fault of a short fraction that is too fine: this one where its size is past the limit, else F39.
+/// The fault of a short fraction that is too fine: this one where its size is past the limit, else
+/// F39.
 #[cold]
 #[inline(never)]
 fn fine_fault(fault: Code, limit: u64, num: i64, den: u64) -> Code
@@ -138,9 +152,10 @@ fn limited(fault: Code, limit: u64, num: i128, den: u128) -> Result<Frac, Code>
 #[inline(always)]
 fn check_limits(fault: Code, limit: u64, num: i64, den: u64) -> Result<(), Code>
     requires limit { limit ≤ 2 ^ 31 }
-    ensures within { MatchResult
-        result
-        (λ _. within fault limit (record { num = num; den = den }) ≡ Ok (record { num = num; den = den }))
+    ensures within { MatchResult result
+        (λ _.
+        within fault limit (record { num = num; den = den })
+        ≡ Ok (record { num = num; den = den }))
         (λ code. within fault limit (record { num = num; den = den }) ≡ Err code) }
     ensures fine { IfOk result (λ _. den ≤ 2 ^ 20) }
     ensures small { IfOk result (λ _. unsigned_abs num ≤ limit * den) }
@@ -154,7 +169,8 @@ fn check_limits(fault: Code, limit: u64, num: i64, den: u64) -> Result<(), Code>
     Ok(())
 }
 
-/// The short fraction in lowest terms, or this fault where its size is past the limit, or F39 where it is too fine.
+/// The short fraction in lowest terms, or this fault where its size is past the limit, or F39 where
+/// it is too fine.
 #[inline(always)]
 fn reduced(fault: Code, limit: u64, num: i64, den: u64) -> Result<Frac, Code>
     requires limit { limit ≤ 2 ^ 31 }
@@ -248,7 +264,8 @@ impl Frac {
         self.den == 1
     }
 
-    /// Whether its products with denominators are sure to fit 64 bits, as those of all coordinates do.
+    /// Whether its products with denominators are sure to fit 64 bits, as those of all coordinates
+    /// do.
     fn is_short(&self) -> bool
         ensures { result ≡ true → unsigned_abs self.now.num ≤ 2 ^ 40 }
     {
@@ -290,11 +307,13 @@ impl Frac {
         self.num + other.num
     }
 
-    /// The sum's numerator and denominator over one denominator, not in lowest terms: the numerators are added.
+    /// The sum's numerator and denominator over one denominator, not in lowest terms: the
+    /// numerators are added.
     #[inline(always)]
     fn alike_terms(&self, other: &Frac) -> (i64, u64)
         requires { self.now.den ≡ other.now.den }
-        ensures sum { lowest (record { num = result.0; den = result.1 }) ≡ lowest (plus self.now other.now) }
+        ensures sum { lowest (record { num = result.0; den = result.1 })
+            ≡ lowest (plus self.now other.now) }
         ensures num_below { unsigned_abs result.0 < 2 ^ 63 }
         ensures den_above { 0 < result.1 }
         ensures den_below { result.1 < 2 ^ 63 }
@@ -394,7 +413,8 @@ impl Frac {
         self.add_long(other)
     }
 
-    /// The same, with its answer in registers. It stands apart from `add`, so that whole numbers make no place for it.
+    /// The same, with its answer in registers. It stands apart from `add`, so that whole numbers
+    /// make no place for it.
     #[inline(always)]
     fn add_fraction(self, other: Frac) -> Result<Frac, Code>
         ensures { result ≡ coordinate_sum self other }
@@ -402,8 +422,8 @@ impl Frac {
         Ok(self.fraction_sum(other)?)
     }
 
-    /// The sum of two coordinates. It is F40 past 1,048,576 in size, and then F39 where its denominator is past
-    /// 1,048,576.
+    /// The sum of two coordinates. It is F40 past 1,048,576 in size, and then F39 where its
+    /// denominator is past 1,048,576.
     #[inline(always)]
     pub fn add(&self, other: &Frac) -> Result<Frac, Code>
         ensures sum { result ≡ coordinate_sum self.now other.now }
@@ -437,7 +457,8 @@ impl Frac {
         long_reduced(Code::F37, 1 << 31, num, den)
     }
 
-    /// The quotient. It is F38 by 0, F37 past 2^31 in size, and then F39 where its denominator is past 1,048,576.
+    /// The quotient. It is F38 by 0, F37 past 2^31 in size, and then F39 where its denominator is
+    /// past 1,048,576.
     #[tactic(auto, unfolding(crate::specs::Limits::quotient))]
     #[inline(always)]
     pub fn div(&self, other: &Frac) -> Result<Frac, Code>

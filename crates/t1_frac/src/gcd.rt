@@ -19,7 +19,8 @@ pub(crate) fn gcd(a: u128, b: u128) -> u128
     x
 }
 
-/// Whether it is one of the first primes. Between 0 and a prime no number has a divisor in common with it but 1.
+/// Whether it is one of the first primes. Between 0 and a prime no number has a divisor in common
+/// with it but 1.
 #[inline(always)]
 fn is_small_prime(n: u64) -> bool
     ensures { result ≡ true → IsSmallPrime n }
@@ -27,8 +28,8 @@ fn is_small_prime(n: u64) -> bool
     n == 2 || n == 3 || n == 5 || n == 7
 }
 
-/// The same in 64 bits. Few divisions are made: what has a divisor in common with 1 is not divided, nor what is less than a small
-/// prime, as the denominators of most fractions are.
+/// The same in 64 bits. Few divisions are made: what has a divisor in common with 1 is not divided,
+/// nor what is less than a small prime, as the denominators of most fractions are.
 #[tactic(auto, using(crate::proofs::Exact::gcd_one))]
 #[inline(always)]
 pub(crate) fn gcd_64(a: u64, b: u64) -> u64

@@ -1,8 +1,10 @@
 //! Laws of fractions.
 
-ghost use Rattle.t1_frac.specs.Rounding.{LowestStays, LowestTerms, RoundAlike, RoundingMoves, SameLowest, WholeIsOverOne, FloorAndCeilingMove};
+ghost use Rattle.t1_frac.specs.Rounding.{LowestStays, LowestTerms, RoundAlike, RoundingMoves};
+ghost use Rattle.t1_frac.specs.Rounding.{SameLowest, WholeIsOverOne, FloorAndCeilingMove};
 
-/// Lowest terms are the same number by cross products, and numerator and denominator have no divisor in common.
+/// Lowest terms are the same number by cross products, and numerator and denominator have no
+/// divisor in common.
 pub fn lowest_terms()
     ensures { LowestTerms }
 {}
@@ -31,7 +33,8 @@ pub fn round_alike()
     ensures { RoundAlike }
 {}
 
-/// Floor and ceiling of a fraction move with whole numbers, whatever its size and however fine it is.
+/// Floor and ceiling of a fraction move with whole numbers, whatever its size and however fine it
+/// is.
 pub fn floor_and_ceiling_move()
     ensures { FloorAndCeilingMove }
 {}

@@ -1,9 +1,9 @@
-//! What all layers of the assembler share: exact fractions, number words, bytes and words as contracts see
-//! them, faults and places.
+//! What all layers of the assembler share: exact fractions, number words, bytes and words as
+//! contracts see them, faults and places.
 //!
-//! For users: [`Frac`]; [`Code`], [`Place`], [`Fault`] and [`Refusal`], in which the calls of all crates answer what is
-//! wrong; [`Bytes`], [`SourceText`], [`Words`] and [`OwnedWords`], which calls take and give. The functions on number
-//! words and blanks are for the crates above.
+//! For users: [`Frac`]; [`Code`], [`Place`], [`Fault`] and [`Refusal`], in which the calls of all
+//! crates answer what is wrong; [`Bytes`], [`SourceText`], [`Words`] and [`OwnedWords`], which
+//! calls take and give. The functions on number words and blanks are for the crates above.
 #![tactic(auto)]
 
 mod bytes;

@@ -1,5 +1,6 @@
 //! Number words.
-ghost use Rattle.std.specs.Prelude.{◌≡◌, ◌+◌, ◌-◌, ◌*◌, ◌^◌, ◌≤◌, ◌<◌, ◌⊎◌, true, false, None, length, take, min, IfSome, MatchOption};
+ghost use Rattle.std.specs.Prelude.{◌≡◌, ◌+◌, ◌-◌, ◌*◌, ◌^◌, ◌≤◌, ◌<◌, ◌⊎◌, true, false, None};
+ghost use Rattle.std.specs.Prelude.{length, take, min, IfSome, MatchOption};
 ghost use Rattle.std.specs.List.{list_all, prefix_len};
 ghost use Rattle.std.specs.Char.{is_ascii_digit};
 ghost use Rattle.t1_frac.specs.Numbers.{digits_of_word, decimal_value, is_number_word, number_word};
@@ -83,15 +84,17 @@ fn leading_digits(text: &[u8]) -> (u64, usize)
     (value, count)
 }
 
-/// The number that the digits at the front of a text write, and how many digits there are, where they are up to three and the text
-/// has four bytes or more; else nothing. Most numbers of a font are so, and are told apart without a loop.
+/// The number that the digits at the front of a text write, and how many digits there are, where
+/// they are up to three and the text has four bytes or more; else nothing. Most numbers of a font
+/// are so, and are told apart without a loop.
 #[inline(always)]
 pub fn leading_short_number(text: &[u8]) -> Option<(u32, usize)>
     ensures within { IfSome result (λ found. found.1 ≤ length text.now) }
     ensures count { IfSome result (λ found. found.1 ≡ prefix_len is_ascii_digit text.now) }
     ensures value { IfSome result (λ found. found.0 ≡ decimal_value (take found.1 text.now)) }
     ensures short { IfSome result (λ found. found.0 < 1000) }
-    ensures else_longer { result ≡ None → (length text.now < 4) ⊎ (4 ≤ prefix_len is_ascii_digit text.now) }
+    ensures else_longer { result ≡ None
+        → (length text.now < 4) ⊎ (4 ≤ prefix_len is_ascii_digit text.now) }
 {
     let [first, second, third, fourth, ..] = text else {
         return None;
@@ -114,8 +117,8 @@ pub fn leading_short_number(text: &[u8]) -> Option<(u32, usize)>
     None
 }
 
-/// The number that the digits at the front of a text write, or 2^64 - 1 where it is more, and how many digits there
-/// are.
+/// The number that the digits at the front of a text write, or 2^64 - 1 where it is more, and how
+/// many digits there are.
 #[inline(always)]
 pub fn leading_number(text: &[u8]) -> (u64, usize)
     ensures within { result.1 ≤ length text.now }
@@ -131,10 +134,10 @@ pub fn leading_number(text: &[u8]) -> (u64, usize)
 /// The number that digits write, or 2^64 - 1 where it is more; nothing where a byte is no digit.
 #[tactic(auto, using(crate::proofs::NumberLaws::digits_to_the_end, crate::proofs::NumberLaws::digits_end_early))]
 pub fn magnitude(digits: &[u8]) -> Option<u64>
-    ensures { MatchOption
-        result
-        (list_all is_ascii_digit digits.now ≡ false)
-        (λ value. (list_all is_ascii_digit digits.now ≡ true) × (value ≡ min (decimal_value digits.now) (2 ^ 64 - 1))) }
+    ensures { MatchOption result (list_all is_ascii_digit digits.now ≡ false)
+        (λ value.
+        (list_all is_ascii_digit digits.now ≡ true)
+        × (value ≡ min (decimal_value digits.now) (2 ^ 64 - 1))) }
 {
     let (value, count) = leading_number(digits);
     if count < digits.len() {

@@ -10,8 +10,8 @@ enum Run<'a> {
     Owned(Vec<u8>),
 }
 
-/// A line, a name or another run of bytes, where it stands in the source that it was read from, or in memory of its own.
-/// Contracts see the list of the bytes.
+/// A line, a name or another run of bytes, where it stands in the source that it was read from, or
+/// in memory of its own. Contracts see the list of the bytes.
 #[derive(Debug, Drop)]
 pub struct SourceText<'a> {
     run: Run<'a>,

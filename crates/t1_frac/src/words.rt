@@ -1,4 +1,5 @@
-ghost use Rattle.std.specs.Prelude.{◌≡◌, ◌≤◌, ◌<◌, [], ◌∷◌, ◌++◌, length, IfSome, MatchOption, IfOk, OnOk, OnErr};
+ghost use Rattle.std.specs.Prelude.{◌≡◌, ◌≤◌, ◌<◌, [], ◌∷◌, ◌++◌, length, IfSome, MatchOption};
+ghost use Rattle.std.specs.Prelude.{IfOk, OnOk, OnErr};
 ghost use Rattle.std.specs.List.{prefix_len, position_or_len};
 ghost use Rattle.t1_frac.specs.Words.{is_blank, trimmed_front, words};
 
@@ -6,8 +7,9 @@ use crate::source_text::SourceText;
 use std::alloc::{AllocError, Global};
 use std::marker::Model;
 
-/// The words of an entry's body, kept as one run of bytes with blanks between them: those between its braces, where they stand
-/// in the source that was read, or bytes of their own. Contracts see the list of the words.
+/// The words of an entry's body, kept as one run of bytes with blanks between them: those between
+/// its braces, where they stand in the source that was read, or bytes of their own. Contracts see
+/// the list of the words.
 #[derive(Debug, Drop)]
 pub struct Words<'a> {
     text: SourceText<'a>,
@@ -49,7 +51,8 @@ impl<'a> Words<'a> {
     }
 }
 
-/// Words that are put together line by line, in memory of their own. Contracts see the list of the words.
+/// Words that are put together line by line, in memory of their own. Contracts see the list of the
+/// words.
 #[derive(Drop)]
 pub struct OwnedWords {
     bytes: Vec<u8>,

@@ -12,7 +12,7 @@ use Rattle.t1_charstrings.specs.declared.edited.Gone.{Gone}
 use Rattle.t1_charstrings.specs.declared.entries.Charstrings.{Charstrings}
 use Rattle.t1_charstrings.specs.declared.edited.EditedEntries.{EditedEntries}
 use Rattle.t1_charstrings.specs.Batch.{gone_key, is_gone, AreEdits, AreFresh, AreGone}
-use Rattle.t1_charstrings.specs.Entries.{Kept, encrypted}
+use Rattle.t1_charstrings.specs.Entries.{KeptCharstring, encrypted}
 use Rattle.t1_charstrings.specs.Kept.{kept_at}
 use Rattle.t1_cache.specs.Users.{key_of}
 use Rattle.t1_font.proofs.Keys.{key-same}
@@ -39,7 +39,7 @@ use Rattle.t1_held.specs.Entries.{fresh_in, fresh_one, gone_keys}
 use Rattle.t1_held.specs.declared.edits.Edits.{Edits}
 use Rattle.t1_held.specs.declared.edits.Edits.TheVariants as edits
 use Rattle.t1_charstrings.specs.Made.{made_of as made_in, source_of as source_in}
-use Rattle.t1_held.specs.Edits.{made_by, made_of, source_of, AreChanges, AreRight}
+use Rattle.t1_held.specs.Edits.{made_by, edits_made, edits_source, AreChanges, AreRight}
 use Rattle.t1_held.specs.Ready.{commit_runs}
 use Rattle.t1_held.specs.Held.{IsHeld}
 
@@ -59,7 +59,7 @@ fresh-more front changes i c old new inside is before put k =
 -- ---- they are those of the edited source
 
 module _ (front : ℕ) (made : SourceParts) (k : Key) where
-  abbrev wanted-at : Bool → Option Kept
+  abbrev wanted-at : Bool → Option KeptCharstring
   wanted-at there = cond there (option_map (encrypted front k) (body_at (bodies made.items) k)) None
 
   fresh-none : (changes : List EntryChange) → list_any (key_eq k) (changed_keys changes) ≡ false → fresh_in front changes k ≡ None
@@ -204,14 +204,14 @@ source_alone (changes.PutPair at pair) s k = refl
 source_alone (changes.InsertPair at pair) s k = refl
 source_alone (changes.RemovePair at) s k = refl
 
-pub source_by : (e : Edits) → source_in (made_by e) ≡ source_of e
+pub source_by : (e : Edits) → source_in (made_by e) ≡ edits_source e
 source_by (edits.One source pairs edit change) = refl
 source_by (edits.Batch source made entries) = refl
 
-pub made_is : (e : Edits) → made_in (made_by e) ≡ made_of e
+pub made_is : (e : Edits) → made_in (made_by e) ≡ edits_made e
 made_is (edits.One source pairs edit change) = source_alone change.now source.now pairs.now
 made_is (edits.Batch source made entries) = refl
 
-pub right_held : (e : Edits) (h : Held) → AreRight e h → IsHeld (source_of e) h
+pub right_held : (e : Edits) (h : Held) → AreRight e h → IsHeld (edits_source e) h
 right_held (edits.One source pairs edit change) h right = right.held
 right_held (edits.Batch source made entries) h right = right.0

@@ -11,7 +11,7 @@ use Rattle.t1_run.specs.Run.{Key}
 use Rattle.t1_cache.specs.Users.{key_of}
 use Rattle.t1_rerun.specs.declared.entry_change.EntryChange.{EntryChange}
 use Rattle.t1_held.specs.declared.batch.entries.EditedEntry.{EditedEntry}
-use Rattle.t1_held.specs.Passing.{all_marked, all_removed, after_item, after_items, changes_by, item_put, items_put, none_sought, removed_at, without, Sought}
+use Rattle.t1_held.specs.Passing.{all_marked, all_removed, after_item, after_items, changes_by, item_put, items_put, none_sought, removed_at, without_key, Sought}
 
 abbrev pub Outcome : Type 0
 Outcome = Result (List EntryChange) Fault
@@ -43,12 +43,12 @@ after-more i is m n left k = ap (λ s. after_items is s k) (λ j. λ x. left x j
 -- ---- entries that were removed
 
 pub removed-more : (e : EditedEntry) (es : List EditedEntry) (m n : Sought) (done new : List EntryChange) (change : Option EntryChange)
-    → change ≡ removed_at (m (key_of e.named)) e.named → ((k : Key) → n k ≡ without (key_of e.named) m k) → new ≡ done ++ option_to_list change
+    → change ≡ removed_at (m (key_of e.named)) e.named → ((k : Key) → n k ≡ without_key (key_of e.named) m k) → new ≡ done ++ option_to_list change
     → done ++ all_removed m (e ∷ es) ≡ new ++ all_removed n es
 removed-more e es m n done new change put left gathered =
-    sym (append_assoc done (option_to_list (removed_at (m (key_of e.named)) e.named)) (all_removed (without (key_of e.named) m) es))
-    ∙ ap (λ c. (done ++ option_to_list c) ++ all_removed (without (key_of e.named) m) es) (sym put)
-    ∙ ap (λ l. l ++ all_removed (without (key_of e.named) m) es) (sym gathered)
+    sym (append_assoc done (option_to_list (removed_at (m (key_of e.named)) e.named)) (all_removed (without_key (key_of e.named) m) es))
+    ∙ ap (λ c. (done ++ option_to_list c) ++ all_removed (without_key (key_of e.named) m) es) (sym put)
+    ∙ ap (λ l. l ++ all_removed (without_key (key_of e.named) m) es) (sym gathered)
     ∙ ap (λ s. new ++ all_removed s es) (sym (λ j. λ k. left k j))
 
 -- ---- all of them

@@ -25,16 +25,16 @@ use Rattle.t1_font.specs.Glyphs.{glyph_names}
 use Rattle.t1_font.specs.Runs.{counted, Counts}
 use Rattle.t1_font.specs.SourceChecks.{source_check}
 use Rattle.t1_charstrings.specs.declared.entries.Charstrings.{Charstrings}
-use Rattle.t1_charstrings.specs.Changed.{AreUnchanged}
-use Rattle.t1_charstrings.specs.Entries.{glyph_kept, subr_kept}
+use Rattle.t1_charstrings.specs.Changed.{AreSameCharstrings}
+use Rattle.t1_charstrings.specs.Entries.{glyph_charstring, subr_charstring}
 use Rattle.t1_charstrings.specs.Kept.{AreEncrypted, Encrypt}
 use Rattle.t1_font.specs.Lengths.{IsPrivateLen}
 use Rattle.t1_cache.specs.declared.records.Records.{Records}
-use Rattle.t1_charstrings.specs.Made.{IsPrepared}
+use Rattle.t1_charstrings.specs.Made.{IsPreparedByEdits}
 use Rattle.t1_cache.specs.Edited.{named, IsEditedAt}
 use Rattle.t1_cache.proofs.Distinct.{names_distinct}
 use Rattle.t1_rerun.specs.declared.entry_change.EntryChange.{EntryChange}
-use Rattle.t1_rerun.specs.EntryChanges.{IsChanged, IsMade}
+use Rattle.t1_rerun.specs.EntryChanges.{IsChanged, IsMadeByEdit}
 use Rattle.t1_rerun.specs.Opened.{runs_where}
 use Rattle.t1_rerun.specs.Right.{IsRight}
 use Rattle.t1_rerun.specs.Settled.{changed_keys, AreAsBefore, AreDistinctKeys, HasBody}
@@ -44,7 +44,7 @@ use Rattle.t1_held.specs.declared.held.Held.{Held}
 use Rattle.t1_held.specs.Held.{IsHeld}
 use Rattle.t1_held.specs.declared.edits.Edits.{Edits}
 use Rattle.t1_held.specs.declared.edits.Edits.TheVariants as edits
-use Rattle.t1_held.specs.Edits.{made_by, made_of, AreChanges, AreRight, IsPreparedEdit}
+use Rattle.t1_held.specs.Edits.{made_by, edits_made, AreChanges, AreRight, IsPreparedEdit}
 use Rattle.t1_font.specs.Glyphs.{Glyph as Reported}
 use Rattle.t1_font.specs.MeasuredGlyphs.{MeasuredFont, measured}
 use Rattle.t1_font.specs.SourceChecks.{measured_source}
@@ -70,13 +70,13 @@ counts_checked s e = counted-source s (file_checked s e)
 
 -- ---- what is held stays
 
-pub still_encrypted : (old new : Charstrings) → AreUnchanged old new → (s : SourceParts) → AreEncrypted s old → AreEncrypted s new
+pub still_encrypted : (old new : Charstrings) → AreSameCharstrings old new → (s : SourceParts) → AreEncrypted s old → AreEncrypted s new
 still_encrypted old new same s held = record { sound = held.sound; each = each } where
   each : Encrypt (lead s) (bodies s.items) new
-  each (Subr n) = ap (λ es. subr_kept es n) same.0 ∙ held.each (Subr n)
-  each (Glyph g) = ap (λ es. glyph_kept es g) same.1 ∙ held.each (Glyph g)
+  each (Subr n) = ap (λ es. subr_charstring es n) same.0 ∙ held.each (Subr n)
+  each (Glyph g) = ap (λ es. glyph_charstring es g) same.1 ∙ held.each (Glyph g)
 
-pub still_held : (old new : Held) → AreAsBefore old.records new.records → AreUnchanged old.charstrings new.charstrings → new.private_len ≡ old.private_len
+pub still_held : (old new : Held) → AreAsBefore old.records new.records → AreSameCharstrings old.charstrings new.charstrings → new.private_len ≡ old.private_len
     → (s : SourceParts) → IsHeld s old → IsHeld s new
 still_held old new records charstrings len s held = record {
   right = still-right old.records new.records records s held.right;
@@ -93,7 +93,7 @@ module _ (s : SourceParts) (k : List Pair) (edit : Edit) (change : Change) (h : 
   pub well_made : IsWellFormed made
   well_made = edited_well_formed s k edit made (changed change s k).1 e.well e.made
 
-  pub edit_made : IsMade edit s made
+  pub edit_made : IsMadeByEdit edit s made
   edit_made = record {
     pairs = k;
     made_pairs = (changed change s k).1;
@@ -149,11 +149,11 @@ held_well s h held again = checked_well s (right_checked s h.records held.right)
 
 -- ---- edits that are right
 
-pub right_well : (e : Edits) (h : Held) → AreRight e h → IsWellFormed (made_of e)
+pub right_well : (e : Edits) (h : Held) → AreRight e h → IsWellFormed (edits_made e)
 right_well (edits.One source pairs edit change) h right = well_made source.now pairs.now edit.now change.now h right
 right_well (edits.Batch source made entries) h right = right.1.well
 
-pub prepared_by : (e : Edits) (h : Held) → AreRight e h → IsPrepared (made_by e) h.private_len
+pub prepared_by : (e : Edits) (h : Held) → AreRight e h → IsPreparedByEdits (made_by e) h.private_len
 prepared_by (edits.One source pairs edit change) h right = record {
   fits = record { pairs = pairs.now; serves = right.serves; well = right.well };
   file = file_checked source.now (right_checked source.now h.records right.held.right);

@@ -27,10 +27,10 @@ use Rattle.t1_font.proofs.Keys.{key-itself, key-same}
 use Rattle.t1_cache.proofs.Lists.{all-weaken}
 use Rattle.t1_rerun.specs.declared.entry_change.EntryChange.{EntryChange}
 use Rattle.t1_rerun.specs.Settled.{changed_keys, AreDistinctKeys}
-use Rattle.t1_rerun.specs.Steps.{changed}
+use Rattle.t1_rerun.specs.Steps.{entry_change}
 use Rattle.t1_held.specs.declared.batch.entries.EditedEntry.{EditedEntry}
 use Rattle.t1_held.specs.Batch.{entry_edit, keys}
-use Rattle.t1_held.specs.Passing.{all_marked, after_items, items_put, marked, put_of, with_mark, without, Sought}
+use Rattle.t1_held.specs.Passing.{all_marked, after_items, items_put, marked, put_of, with_mark, without_key, Sought}
 use Rattle.t1_held.proofs.Gathering.{in_front, Outcome}
 
 -- ---- keys
@@ -39,10 +39,10 @@ key-sym : (j k : Key) → key_eq j k ≡ key_eq k j
 key-sym j k =
     both_ways (key_eq j k) (key_eq k j) (λ on. ap (key_eq k) (key-same j k on) ∙ key-itself k) (λ on. ap (key_eq j) (key-same k j on) ∙ key-itself j)
 
-pub without-at : (key k : Key) (m : Sought) → without key m k ≡ cond (key_eq k key) None (m k)
+pub without-at : (key k : Key) (m : Sought) → without_key key m k ≡ cond (key_eq k key) None (m k)
 without-at key k m = ap (λ b. cond b None (m k)) (key-sym key k)
 
-pub gone : (key : Key) (m : Sought) → without key m key ≡ None
+pub gone : (key : Key) (m : Sought) → without_key key m key ≡ None
 gone key m = ap (λ b. cond b None (m key)) (key-itself key)
 
 -- ---- marks
@@ -108,7 +108,7 @@ at-glyph g (items.Section b n a ∷ is) = at-glyph g is
 at-glyph g (items.Subr n words c ∷ is) = at-glyph g is
 at-glyph g (items.Glyph h words c ∷ is) = ap (λ b. bytes_eq g h || b) (at-glyph g is)
 
-after-step : (key : Key) (m : Sought) (k : Key) (has : Bool) → cond has None (without key m k) ≡ cond (key_eq k key || has) None (m k)
+after-step : (key : Key) (m : Sought) (k : Key) (has : Bool) → cond has None (without_key key m k) ≡ cond (key_eq k key || has) None (m k)
 after-step key m k has = ap (cond has None) (without-at key k m) ∙ by (key_eq k key) has where
   by : (b has : Bool) → cond has None (cond b None (m k)) ≡ cond (b || has) None (m k)
   by true true = refl
@@ -120,8 +120,8 @@ pub after-at : (is : List Item) (m : Sought) (k : Key) → after_items is m k �
 after-at [] m k = refl
 after-at (items.Plain l ∷ is) m k = after-at is m k
 after-at (items.Section b n a ∷ is) m k = after-at is m k
-after-at (items.Subr n words c ∷ is) m k = after-at is (without (Subr n) m) k ∙ after-step (Subr n) m k (has_at k is)
-after-at (items.Glyph g words c ∷ is) m k = after-at is (without (Glyph g) m) k ∙ after-step (Glyph g) m k (has_at k is)
+after-at (items.Subr n words c ∷ is) m k = after-at is (without_key (Subr n) m) k ∙ after-step (Subr n) m k (has_at k is)
+after-at (items.Glyph g words c ∷ is) m k = after-at is (without_key (Glyph g) m) k ∙ after-step (Glyph g) m k (has_at k is)
 
 -- ---- a pass without a fault
 
@@ -132,11 +132,11 @@ pub record First (P : Sought → List EntryChange → Type 0) (m : Sought) (d : 
   pub rest : List EntryChange
   pub mark : m (key_of d) ≡ Some moved
   pub compiled : commands words ≡ Ok body
-  pub whole : cs ≡ changed d (Some body) moved ∷ rest
-  pub others : P (without (key_of d) m) rest
+  pub whole : cs ≡ entry_change d (Some body) moved ∷ rest
+  pub others : P (without_key (key_of d) m) rest
 
 abbrev pub Met : (Sought → List EntryChange → Type 0) → Sought → Named → List (List ℕ) → List EntryChange → Type 0
-Met P m d words cs = ((m (key_of d) ≡ None) × P (without (key_of d) m) cs) ⊎ First P m d words cs
+Met P m d words cs = ((m (key_of d) ≡ None) × P (without_key (key_of d) m) cs) ⊎ First P m d words cs
 
 abbrev pub Passes : List Item → Sought → List EntryChange → Type 0
 Passes [] m cs = cs ≡ []
@@ -151,23 +151,23 @@ front-ok front (Ok rest) cs e = let same : front ++ rest ≡ cs = cc in (rest, r
 front-ok front (Err fault) cs e = absurd (cc)
 
 met : (is : List Item) (m : Sought) (d : Named) (place : Place) (words : List (List ℕ)) (cs : List EntryChange)
-    → (put_of (m (key_of d)) d place words >>= λ change. in_front (option_to_list change) (items_put (without (key_of d) m) is)) ≡ Ok cs
+    → (put_of (m (key_of d)) d place words >>= λ change. in_front (option_to_list change) (items_put (without_key (key_of d) m) is)) ≡ Ok cs
     → ((n : Sought) (rest : List EntryChange) → items_put n is ≡ Ok rest → Passes is n rest)
     → Met (Passes is) m d words cs
 met is m d place words cs e passes = by (m (key_of d)) refl e where
   tail : Outcome
-  tail = items_put (without (key_of d) m) is
+  tail = items_put (without_key (key_of d) m) is
 
   put : (moved : Bool) → m (key_of d) ≡ Some moved → (r : Result (List Command) Code) → commands words ≡ r
-      → ((reported_at place r >>= λ body. Ok (Some (changed d (Some body) moved))) >>= λ change. in_front (option_to_list change) tail) ≡ Ok cs
+      → ((reported_at place r >>= λ body. Ok (Some (entry_change d (Some body) moved))) >>= λ change. in_front (option_to_list change) tail) ≡ Ok cs
       → Met (Passes is) m d words cs
   put moved mark (Ok body) compiled e =
-      let f = front-ok (changed d (Some body) moved ∷ []) tail cs e in
-      inr (record { moved = moved; body = body; rest = f.0; mark = mark; compiled = compiled; whole = f.2; others = passes (without (key_of d) m) f.0 f.1 })
+      let f = front-ok (entry_change d (Some body) moved ∷ []) tail cs e in
+      inr (record { moved = moved; body = body; rest = f.0; mark = mark; compiled = compiled; whole = f.2; others = passes (without_key (key_of d) m) f.0 f.1 })
   put moved mark (Err code) compiled e = absurd (cc)
 
   by : (r : Option Bool) → m (key_of d) ≡ r → (put_of r d place words >>= λ change. in_front (option_to_list change) tail) ≡ Ok cs → Met (Passes is) m d words cs
-  by None none e = let f = front-ok [] tail cs e in inl (none, passes (without (key_of d) m) cs (f.1 ∙ ap Ok (sym f.2)))
+  by None none e = let f = front-ok [] tail cs e in inl (none, passes (without_key (key_of d) m) cs (f.1 ∙ ap Ok (sym f.2)))
   by (Some moved) mark e = put moved mark (commands words) refl e
 
 pub passes : (is : List Item) (m : Sought) (cs : List EntryChange) → items_put m is ≡ Ok cs → Passes is m cs
@@ -186,7 +186,7 @@ tally-met : (f : Bool → Bool) (k : Key) (d : Named) (words : List (List ℕ)) 
     → ((n : Sought) (rest : List EntryChange) → P n rest → tally f k rest ≡ (has && mark_is f (n k))) → Met P m d words cs
     → tally f k cs ≡ ((key_eq k (key_of d) || has) && mark_is f (m k))
 tally-met f k d words has P m cs rest (inl h) =
-    rest (without (key_of d) m) cs h.1 ∙ ap (λ r. has && mark_is f r) (without-at (key_of d) k m) ∙ by (key_eq k (key_of d)) refl
+    rest (without_key (key_of d) m) cs h.1 ∙ ap (λ r. has && mark_is f r) (without-at (key_of d) k m) ∙ by (key_eq k (key_of d)) refl
   where
     by : (b : Bool) → key_eq k (key_of d) ≡ b → (has && mark_is f (cond b None (m k))) ≡ ((b || has) && mark_is f (m k))
     by true on = and-false has ∙ sym (ap (mark_is f) (ap m (key-same k (key_of d) on) ∙ h.0))
@@ -194,7 +194,7 @@ tally-met f k d words has P m cs rest (inl h) =
 tally-met f k d words has P m cs rest (inr x) =
     ap (tally f k) x.whole
     ∙ ap (λ b. (f x.moved && key_eq k (key_of d)) || b)
-    (rest (without (key_of d) m) x.rest x.others ∙ ap (λ r. has && mark_is f r) (without-at (key_of d) k m))
+    (rest (without_key (key_of d) m) x.rest x.others ∙ ap (λ r. has && mark_is f r) (without-at (key_of d) k m))
     ∙ by (key_eq k (key_of d)) refl
   where
     alone : (a has : Bool) → ((a && true) || (has && false)) ≡ a
@@ -228,10 +228,10 @@ Apart is m back = (k : Key) → after_items is m k ≡ None → list_any (key_eq
 
 distinct-met : (is : List Item) (m : Sought) (d : Named) (words : List (List ℕ)) (cs back : List EntryChange)
     → ((n : Sought) (rest : List EntryChange) → Passes is n rest → Apart is n back → AreDistinctKeys (changed_keys (rest ++ back)))
-    → Met (Passes is) m d words cs → Apart is (without (key_of d) m) back → AreDistinctKeys (changed_keys (cs ++ back))
-distinct-met is m d words cs back rest (inl h) apart = rest (without (key_of d) m) cs h.1 apart
+    → Met (Passes is) m d words cs → Apart is (without_key (key_of d) m) back → AreDistinctKeys (changed_keys (cs ++ back))
+distinct-met is m d words cs back rest (inl h) apart = rest (without_key (key_of d) m) cs h.1 apart
 distinct-met is m d words cs back rest (inr x) apart =
-    subst (λ l. AreDistinctKeys (changed_keys (l ++ back))) (sym x.whole) (first, rest (without (key_of d) m) x.rest x.others apart)
+    subst (λ l. AreDistinctKeys (changed_keys (l ++ back))) (sym x.whole) (first, rest (without_key (key_of d) m) x.rest x.others apart)
   where
     none : (b : Bool) → ◌≡◌ {A = Option Bool} (cond b None None) None
     none true = refl
@@ -242,10 +242,10 @@ distinct-met is m d words cs back rest (inr x) apart =
         ap (list_any (key_eq (key_of d))) (changed-append x.rest back)
         ∙ list_any-append (key_eq (key_of d)) (changed_keys x.rest) (changed_keys back)
         ∙ or_from (list_any (key_eq (key_of d)) (changed_keys x.rest)) (list_any (key_eq (key_of d)) (changed_keys back))
-        (keys-any (key_of d) x.rest ∙ tallied always (key_of d) is (without (key_of d) m) x.rest x.others
+        (keys-any (key_of d) x.rest ∙ tallied always (key_of d) is (without_key (key_of d) m) x.rest x.others
         ∙ ap (λ r. has_at (key_of d) is && mark_is always r) (gone (key_of d) m) ∙ and-false (has_at (key_of d) is))
         (apart (key_of d)
-        (after-at is (without (key_of d) m) (key_of d) ∙ ap (cond (has_at (key_of d) is) None) (gone (key_of d) m) ∙ none (has_at (key_of d) is)))
+        (after-at is (without_key (key_of d) m) (key_of d) ∙ ap (cond (has_at (key_of d) is) None) (gone (key_of d) m) ∙ none (has_at (key_of d) is)))
 
 pub distinct : (is : List Item) (back : List EntryChange) → AreDistinctKeys (changed_keys back) → (m : Sought) (cs : List EntryChange) → Passes is m cs → Apart is m back
     → AreDistinctKeys (changed_keys (cs ++ back))
@@ -295,7 +295,7 @@ head-glyph g words c is body e =
 module _ (i : Item) (d : Named) (words : List (List ℕ)) (is : List Item)
     (skip : (k : Key) → key_eq k (key_of d) ≡ false → body_at (bodies (i ∷ is)) k ≡ body_at (bodies is) k)
     (head : (body : List Command) → commands words ≡ Ok body → body_at (bodies (i ∷ is)) (key_of d) ≡ Some body) (m : Sought) where
-  lifted : (c : EntryChange) → IsPut is (without (key_of d) m) c → IsPut (i ∷ is) m c
+  lifted : (c : EntryChange) → IsPut is (without_key (key_of d) m) c → IsPut (i ∷ is) m c
   lifted c h = by (key_eq (key_of c.named) (key_of d)) refl (sym (without-at (key_of d) (key_of c.named) m) ∙ h.mark) where
     by : (b : Bool) → key_eq (key_of c.named) (key_of d) ≡ b → cond b None (m (key_of c.named)) ≡ Some c.moved → IsPut (i ∷ is) m c
     by true on e = absurd (cc)
@@ -303,11 +303,11 @@ module _ (i : Item) (d : Named) (words : List (List ℕ)) (is : List Item)
 
   put-met : (cs : List EntryChange) → ((n : Sought) (rest : List EntryChange) → Passes is n rest → AllByRecursion (IsPut is n) rest) → Met (Passes is) m d words cs
       → AllByRecursion (IsPut (i ∷ is) m) cs
-  put-met cs rest (inl h) = all-weaken (IsPut is (without (key_of d) m)) (IsPut (i ∷ is) m) lifted cs (rest (without (key_of d) m) cs h.1)
+  put-met cs rest (inl h) = all-weaken (IsPut is (without_key (key_of d) m)) (IsPut (i ∷ is) m) lifted cs (rest (without_key (key_of d) m) cs h.1)
   put-met cs rest (inr x) =
       subst (AllByRecursion (IsPut (i ∷ is) m)) (sym x.whole) (
         record { mark = x.mark; body = head x.body x.compiled },
-        all-weaken (IsPut is (without (key_of d) m)) (IsPut (i ∷ is) m) lifted x.rest (rest (without (key_of d) m) x.rest x.others),
+        all-weaken (IsPut is (without_key (key_of d) m)) (IsPut (i ∷ is) m) lifted x.rest (rest (without_key (key_of d) m) x.rest x.others),
       )
 
 pub all-put : (is : List Item) (m : Sought) (cs : List EntryChange) → Passes is m cs → AllByRecursion (IsPut is m) cs

@@ -34,10 +34,10 @@ use Rattle.t1_font.proofs.Lookups.{bytes_tell}
 use Rattle.t1_rerun.specs.declared.entry_change.EntryChange.{EntryChange}
 use Rattle.t1_rerun.specs.Right.{has_glyph}
 use Rattle.t1_rerun.specs.Settled.{changed_keys, last_glyph, last_glyphs, AreDistinctKeys}
-use Rattle.t1_rerun.specs.Steps.{changed}
+use Rattle.t1_rerun.specs.Steps.{entry_change}
 use Rattle.t1_held.specs.declared.batch.entries.EditedEntry.{EditedEntry}
 use Rattle.t1_held.specs.Batch.{entry_edit, keys, IsSoundBut}
-use Rattle.t1_held.specs.Passing.{all_removed, items_put, put_of, removed_at, without, Sought}
+use Rattle.t1_held.specs.Passing.{all_removed, items_put, put_of, removed_at, without_key, Sought}
 use Rattle.t1_held.proofs.Gathering.{in_front, Outcome}
 use Rattle.t1_held.proofs.Passing.{always, has_at, is_at, itself, keys-any, mark_is, Met, Passes, tally, without-at, gone}
 
@@ -48,14 +48,14 @@ pub removed-any : (k : Key) (es : List EditedEntry) (m : Sought)
 removed-any k [] m = sym (and-false (is_some (m k)))
 removed-any k (e ∷ es) m =
     by (m (key_of e.named)) refl
-    (removed-any k es (without (key_of e.named) m)
+    (removed-any k es (without_key (key_of e.named) m)
     ∙ ap (λ r. is_some r && list_any (key_eq k) (keys (map entry_edit es))) (without-at (key_of e.named) k m))
   where
     any : Bool
     any = list_any (key_eq k) (keys (map entry_edit es))
 
     left : Bool
-    left = tally always k (all_removed (without (key_of e.named) m) es)
+    left = tally always k (all_removed (without_key (key_of e.named) m) es)
 
     missed : m (key_of e.named) ≡ None → (b : Bool) → key_eq k (key_of e.named) ≡ b → (is_some (cond b None (m k)) && any) ≡ (is_some (m k) && (b || any))
     missed none true on = sym (ap (λ r. is_some r && true) (ap m (key-same k (key_of e.named) on) ∙ none))
@@ -67,22 +67,22 @@ removed-any k (e ∷ es) m =
     found w some false off = refl
 
     by : (r : Option Bool) → m (key_of e.named) ≡ r → left ≡ (is_some (cond (key_eq k (key_of e.named)) None (m k)) && any)
-        → tally always k (option_to_list (removed_at r e.named) ++ all_removed (without (key_of e.named) m) es)
+        → tally always k (option_to_list (removed_at r e.named) ++ all_removed (without_key (key_of e.named) m) es)
         ≡ (is_some (m k) && (key_eq k (key_of e.named) || any))
     by None none rest = rest ∙ missed none (key_eq k (key_of e.named)) refl
     by (Some w) some rest = ap (λ x. key_eq k (key_of e.named) || x) rest ∙ found w some (key_eq k (key_of e.named)) refl
 
 pub removed-distinct : (es : List EditedEntry) (m : Sought) → AreDistinctKeys (changed_keys (all_removed m es))
 removed-distinct [] m = tt
-removed-distinct (e ∷ es) m = by (m (key_of e.named)) (removed-distinct es (without (key_of e.named) m)) where
-  first : list_any (key_eq (key_of e.named)) (changed_keys (all_removed (without (key_of e.named) m) es)) ≡ false
+removed-distinct (e ∷ es) m = by (m (key_of e.named)) (removed-distinct es (without_key (key_of e.named) m)) where
+  first : list_any (key_eq (key_of e.named)) (changed_keys (all_removed (without_key (key_of e.named) m) es)) ≡ false
   first =
-      keys-any (key_of e.named) (all_removed (without (key_of e.named) m) es)
-      ∙ removed-any (key_of e.named) es (without (key_of e.named) m)
+      keys-any (key_of e.named) (all_removed (without_key (key_of e.named) m) es)
+      ∙ removed-any (key_of e.named) es (without_key (key_of e.named) m)
       ∙ ap (λ r. is_some r && list_any (key_eq (key_of e.named)) (keys (map entry_edit es))) (gone (key_of e.named) m)
 
-  by : (r : Option Bool) → AreDistinctKeys (changed_keys (all_removed (without (key_of e.named) m) es))
-      → AreDistinctKeys (changed_keys (option_to_list (removed_at r e.named) ++ all_removed (without (key_of e.named) m) es))
+  by : (r : Option Bool) → AreDistinctKeys (changed_keys (all_removed (without_key (key_of e.named) m) es))
+      → AreDistinctKeys (changed_keys (option_to_list (removed_at r e.named) ++ all_removed (without_key (key_of e.named) m) es))
   by None rest = rest
   by (Some w) rest = (first, rest)
 
@@ -95,13 +95,13 @@ pub each-removed : (es : List EditedEntry) (m : Sought) → AllByRecursion (IsRe
 each-removed [] m = tt
 each-removed (e ∷ es) m =
     by (m (key_of e.named)) refl
-    (all-weaken (IsRemoved (without (key_of e.named) m)) (IsRemoved m) lifted (all_removed (without (key_of e.named) m) es) (each-removed es (without (key_of e.named) m)))
+    (all-weaken (IsRemoved (without_key (key_of e.named) m)) (IsRemoved m) lifted (all_removed (without_key (key_of e.named) m) es) (each-removed es (without_key (key_of e.named) m)))
   where
     still : (b : Bool) (r : Option Bool) → is_some (cond b None r) ≡ true → is_some r ≡ true
     still true r h = absurd (cc)
     still false r h = h
 
-    lifted : (c : EntryChange) → IsRemoved (without (key_of e.named) m) c → IsRemoved m c
+    lifted : (c : EntryChange) → IsRemoved (without_key (key_of e.named) m) c → IsRemoved m c
     lifted c h = record {
       mark =
           still (key_eq (key_of c.named) (key_of e.named)) (m (key_of c.named))
@@ -110,8 +110,8 @@ each-removed (e ∷ es) m =
       moved = h.moved;
     }
 
-    by : (r : Option Bool) → m (key_of e.named) ≡ r → AllByRecursion (IsRemoved m) (all_removed (without (key_of e.named) m) es)
-        → AllByRecursion (IsRemoved m) (option_to_list (removed_at r e.named) ++ all_removed (without (key_of e.named) m) es)
+    by : (r : Option Bool) → m (key_of e.named) ≡ r → AllByRecursion (IsRemoved m) (all_removed (without_key (key_of e.named) m) es)
+        → AllByRecursion (IsRemoved m) (option_to_list (removed_at r e.named) ++ all_removed (without_key (key_of e.named) m) es)
     by None none rest = rest
     by (Some w) some rest = (record { mark = ap is_some some; body = refl; moved = refl }, rest)
 
@@ -158,13 +158,13 @@ is-fine r = r >>= λ body. Ok tt
 
 check-entry : (d : Named) (place : Place) (words : List (List ℕ)) (ks : List Key) (is : List Item) (m : Sought)
     → (Includes ks (key_of d) ⊎ (words_check place words ≡ Ok tt)) → is_some (m (key_of d)) ≡ list_any (key_eq (key_of d)) ks
-    → bodies_check is ≡ unit (items_put (without (key_of d) m) is)
+    → bodies_check is ≡ unit (items_put (without_key (key_of d) m) is)
     → (words_check place words >>= λ checked. bodies_check is)
-    ≡ unit (put_of (m (key_of d)) d place words >>= λ change. in_front (option_to_list change) (items_put (without (key_of d) m) is))
+    ≡ unit (put_of (m (key_of d)) d place words >>= λ change. in_front (option_to_list change) (items_put (without_key (key_of d) m) is))
 unfolding words_check
 check-entry d place words ks is m sound marks rest = by (m (key_of d)) refl where
   tail : Outcome
-  tail = items_put (without (key_of d) m) is
+  tail = items_put (without_key (key_of d) m) is
 
   skipped : m (key_of d) ≡ None → (Includes ks (key_of d) ⊎ (words_check place words ≡ Ok tt)) → words_check place words ≡ Ok tt
   skipped none (inl i) = let never : false ≡ true = sym (ap is_some none) ∙ marks ∙ included ks (key_of d) i in absurd (cc)
@@ -172,8 +172,8 @@ check-entry d place words ks is m sound marks rest = by (m (key_of d)) refl wher
 
   put : (moved : Bool) (r : Result (List Command) Code)
       → (is-fine (reported_at place r) >>= λ checked. bodies_check is)
-      ≡ unit ((reported_at place r >>= λ body. Ok (Some (changed d (Some body) moved))) >>= λ change. in_front (option_to_list change) tail)
-  put moved (Ok body) = rest ∙ unit-front (changed d (Some body) moved ∷ []) tail
+      ≡ unit ((reported_at place r >>= λ body. Ok (Some (entry_change d (Some body) moved))) >>= λ change. in_front (option_to_list change) tail)
+  put moved (Ok body) = rest ∙ unit-front (entry_change d (Some body) moved ∷ []) tail
   put moved (Err code) = refl
 
   by : (r : Option Bool) → m (key_of d) ≡ r
@@ -192,7 +192,7 @@ module _ (ks : List Key) (earlier : List Item) (i : Item) (m : Sought) (marks : 
   seeks-past : Seeks ks (earlier ++ i ∷ []) m
   seeks-past k h = marks k (sooner k h).0
 
-  seeks-after : (key : Key) → ((k : Key) → is_at k i ≡ key_eq k key) → Seeks ks (earlier ++ i ∷ []) (without key m)
+  seeks-after : (key : Key) → ((k : Key) → is_at k i ≡ key_eq k key) → Seeks ks (earlier ++ i ∷ []) (without_key key m)
   seeks-after key at k h =
       let s = sooner k h in
       let off : key_eq k key ≡ false = sym (at k) ∙ (or_parts (is_at k i) false s.1).0 in
@@ -211,12 +211,12 @@ checked ks l (items.Section b n a ∷ is) earlier m stand sound marks =
 checked ks l (items.Subr n words c ∷ is) earlier m stand sound marks =
     check-entry (named.Subr n) (places.Subr n) words ks (is ++ items.Plain l ∷ []) m sound.0
     (marks (Subr n) (ap (λ p. list_any p earlier) (λ j. λ i. same-subr n i j) ∙ stand.0.2))
-    (checked ks l is (earlier ++ items.Subr n words c ∷ []) (without (Subr n) m) stand.1 sound.1
+    (checked ks l is (earlier ++ items.Subr n words c ∷ []) (without_key (Subr n) m) stand.1 sound.1
     (seeks-after ks earlier (items.Subr n words c) m marks (Subr n) (λ k. refl)))
 checked ks l (items.Glyph g words c ∷ is) earlier m stand sound marks =
     check-entry (named.Glyph g) (places.Glyph g) words ks (is ++ items.Plain l ∷ []) m sound.0
     (marks (Glyph g) (ap (λ p. list_any p earlier) (λ j. λ i. same-glyph g i j) ∙ stand.0.1))
-    (checked ks l is (earlier ++ items.Glyph g words c ∷ []) (without (Glyph g) m) stand.1 sound.1
+    (checked ks l is (earlier ++ items.Glyph g words c ∷ []) (without_key (Glyph g) m) stand.1 sound.1
     (seeks-after ks earlier (items.Glyph g words c) m marks (Glyph g) (λ k. refl)))
 
 -- ---- the glyphs that stand last
@@ -236,8 +236,8 @@ module _ (old : SourceParts) (marks : Sought) where
 
   last-subr : (n : ℕ) (words : List (List ℕ)) (names : List (List ℕ)) (P : Sought → List EntryChange → Type 0) → Reported names P
       → (m : Sought) (cs : List EntryChange) → Met P m (named.Subr n) words cs → Agrees names m → filter is-last names ≡ last_glyphs old cs
-  last-subr n words names P rest m cs (inl h) agrees = rest (without (Subr n) m) cs h.1 agrees
-  last-subr n words names P rest m cs (inr x) agrees = rest (without (Subr n) m) x.rest x.others agrees ∙ sym (ap (last_glyphs old) x.whole)
+  last-subr n words names P rest m cs (inl h) agrees = rest (without_key (Subr n) m) cs h.1 agrees
+  last-subr n words names P rest m cs (inr x) agrees = rest (without_key (Subr n) m) x.rest x.others agrees ∙ sym (ap (last_glyphs old) x.whole)
 
   last-met : (g : List ℕ) (words : List (List ℕ)) (names : List (List ℕ)) (P : Sought → List EntryChange → Type 0) → list_any (bytes_eq g) names ≡ false → Reported names P
       → Knows (g ∷ names) → (m : Sought) (cs : List EntryChange) → Met P m (named.Glyph g) words cs → Agrees (g ∷ names) m
@@ -246,7 +246,7 @@ module _ (old : SourceParts) (marks : Sought) where
     here : (bytes_eq g g || list_any (bytes_eq g) names) ≡ true
     here = ap (λ b. b || list_any (bytes_eq g) names) (bytes_tell.itself g)
 
-    still : Agrees names (without (Glyph g) m)
+    still : Agrees names (without_key (Glyph g) m)
     still x there = at (bytes_eq g x) refl where
       at : (b : Bool) → bytes_eq g x ≡ b → cond b None (m (Glyph x)) ≡ marks (Glyph x)
       at true on =
@@ -263,10 +263,10 @@ module _ (old : SourceParts) (marks : Sought) where
         let none : marks (Glyph g) ≡ None = sym (agrees g here) ∙ h.0 in
         ap (λ r. cond (mark_is itself r || not (has_glyph old g)) (g ∷ filter is-last names) (filter is-last names)) none
         ∙ ap (λ b. cond (not b) (g ∷ filter is-last names) (filter is-last names)) (knows g here none)
-        ∙ rest (without (Glyph g) m) cs h.1 still
+        ∙ rest (without_key (Glyph g) m) cs h.1 still
     by (inr x) =
         ap (λ r. cond (mark_is itself r || not (has_glyph old g)) (g ∷ filter is-last names) (filter is-last names)) (sym (agrees g here) ∙ x.mark)
-        ∙ turned (x.moved || not (has_glyph old g)) (filter is-last names) (last_glyphs old x.rest) (rest (without (Glyph g) m) x.rest x.others still)
+        ∙ turned (x.moved || not (has_glyph old g)) (filter is-last names) (last_glyphs old x.rest) (rest (without_key (Glyph g) m) x.rest x.others still)
         ∙ sym (ap (last_glyphs old) x.whole)
 
   pub all-last : (is : List Item) → AreDistinct (glyph_names is) → Knows (glyph_names is) → (m : Sought) (cs : List EntryChange) → Passes is m cs → Agrees (glyph_names is) m

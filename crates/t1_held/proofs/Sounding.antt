@@ -20,7 +20,7 @@ use Rattle.t1_run.specs.Run.{Key, Subr, Glyph}
 use Rattle.t1_run.proofs.Outlines.{in_first, in_second}
 use Rattle.t1_font.specs.Bodies.{bodies_check, body_check}
 use Rattle.t1_cache.specs.Edited.{named, subr_key}
-use Rattle.t1_cache.specs.Laws.{IsAmong}
+use Rattle.t1_cache.specs.Laws.{IsKeyAmong}
 use Rattle.t1_cache.proofs.Accepted.{glyph_at, last_glyph, last_subr, new_glyph, new_subr, subr_at, added_glyph-made, added_subr-made, encoded-made, lead-made, removed_glyph-made, removed_subr-made, replaced_glyph-made, replaced_subr-made, unencoded-made, IsIn, IsLeadMade, IsNumbered, IsOut, IsPut, LeadIn, LeadPut}
 use Rattle.t1_cache.proofs.Edits.{key-of}
 use Rattle.t1_held.specs.Batch.{IsSoundBut}
@@ -31,13 +31,13 @@ use Rattle.t1_held.specs.Batch.{IsSoundBut}
 abbrev pub KeepsSound : List Key → SourceParts → SourceParts → Type 0
 KeepsSound keys s made = (ks : List Key) → AllByRecursion (IsSoundBut ks) s.items → AllByRecursion (IsSoundBut (ks ++ keys)) made.items
 
-among-first : (ks ls : List Key) (i : Item) → IsAmong ks i → IsAmong (ks ++ ls) i
+among-first : (ks ls : List Key) (i : Item) → IsKeyAmong ks i → IsKeyAmong (ks ++ ls) i
 among-first ks ls (items.Plain l) h = tt
 among-first ks ls (items.Section b n a) h = tt
 among-first ks ls (items.Subr n ws c) h = in_first ks ls (Subr n) h
 among-first ks ls (items.Glyph g ws c) h = in_first ks ls (Glyph g) h
 
-among-second : (ks ls : List Key) (i : Item) → IsAmong ls i → IsAmong (ks ++ ls) i
+among-second : (ks ls : List Key) (i : Item) → IsKeyAmong ls i → IsKeyAmong (ks ++ ls) i
 among-second ks ls (items.Plain l) h = tt
 among-second ks ls (items.Section b n a) h = tt
 among-second ks ls (items.Subr n ws c) h = in_second ks ls (Subr n) h
@@ -81,7 +81,7 @@ all-sound ks (i ∷ is) fine = one (body_check i) refl fine (all-sound ks is) wh
   one (Ok u) here fine rest = (inr here, rest fine)
   one (Err e) here fine rest = absurd (cc)
 
-sound_middle : (keys : List Key) (s made : SourceParts) (a xs ys b : List Item) → AllByRecursion (IsAmong keys) ys → s.items ≡ a ++ (xs ++ b)
+sound_middle : (keys : List Key) (s made : SourceParts) (a xs ys b : List Item) → AllByRecursion (IsKeyAmong keys) ys → s.items ≡ a ++ (xs ++ b)
     → made.items ≡ raised (a ++ (ys ++ b)) → KeepsSound keys s made
 sound_middle keys s made a xs ys b new was is ks all =
     let whole = subst (AllByRecursion (IsSoundBut ks)) was all in
@@ -93,12 +93,12 @@ sound_middle keys s made a xs ys b new was is ks all =
     (sound-raised (subrs_needed put) (glyphs_needed put) (ks ++ keys) put
     (all-both (IsSoundBut (ks ++ keys)) a (ys ++ b) (all-then (IsSoundBut ks) (IsSoundBut (ks ++ keys)) more a front)
     (all-both (IsSoundBut (ks ++ keys)) ys b
-    (all-then (IsAmong keys) (IsSoundBut (ks ++ keys)) (λ i h. inl (among-second ks keys i h)) ys new)
+    (all-then (IsKeyAmong keys) (IsSoundBut (ks ++ keys)) (λ i h. inl (among-second ks keys i h)) ys new)
     (all-then (IsSoundBut ks) (IsSoundBut (ks ++ keys)) more b back))))
 
 -- ---- entries replaced, put in and taken out
 
-put-sounds : (keys : List Key) (s made : SourceParts) (test : Item → Bool) (y : ℕ → Item) → ((at : ℕ) → IsAmong keys (y at)) → IsPut test y s made → KeepsSound keys s made
+put-sounds : (keys : List Key) (s made : SourceParts) (test : Item → Bool) (y : ℕ → Item) → ((at : ℕ) → IsKeyAmong keys (y at)) → IsPut test y s made → KeepsSound keys s made
 put-sounds keys s made test y new put =
     let f = position_first test s.items put.at put.there in
     let a = f.found.before in
@@ -116,7 +116,7 @@ out-sounds keys s made test out =
     sound_middle keys s made a (x ∷ []) [] b tt f.found.whole
     (out.are ∙ ap raised (ap (λ t. remove t out.at) f.found.whole ∙ removed_there a x b out.at f.place))
 
-in-sounds : (keys : List Key) (s made : SourceParts) (at : ℕ) (y : Item) → IsAmong keys y → made.items ≡ raised (insert s.items at y) → KeepsSound keys s made
+in-sounds : (keys : List Key) (s made : SourceParts) (at : ℕ) (y : Item) → IsKeyAmong keys y → made.items ≡ raised (insert s.items at y) → KeepsSound keys s made
 in-sounds keys s made at y new is =
     sound_middle keys s made (take at s.items) [] (y ∷ []) (drop at s.items) (new, tt) (sym (take-append-drop at s.items)) is
 

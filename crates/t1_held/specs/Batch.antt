@@ -15,7 +15,7 @@ use Rattle.t1_run.specs.Touched.{is_key_of}
 use Rattle.t1_font.specs.Bodies.{bodies_check, body_check}
 use Rattle.t1_font.specs.Glyphs.{glyph_names}
 use Rattle.t1_cache.specs.Edited.{named, IsEditedAt}
-use Rattle.t1_cache.specs.Laws.{IsAmong}
+use Rattle.t1_cache.specs.Laws.{IsKeyAmong}
 use Rattle.t1_cache.specs.Users.{key_of}
 use Rattle.t1_rerun.specs.declared.entry_change.EntryChange.{EntryChange}
 use Rattle.t1_rerun.specs.Right.{has_glyph, IsInOrder}
@@ -57,7 +57,7 @@ was_added entries g = list_any (λ e. e.added && is_key_of g e.key) entries
 
 -- word, batches: the entry is named, or its body has no fault
 abbrev pub IsSoundBut : List Key → Item → Type 0
-IsSoundBut ks item = IsAmong ks item ⊎ (body_check item ≡ Ok tt)
+IsSoundBut ks item = IsKeyAmong ks item ⊎ (body_check item ≡ Ok tt)
 
 -- word, batches: edits that name these entries, one after another, made one source of the other
 pub record IsEditedBy (entries : List EntryEdit) (old new : SourceParts) : Type 0 where

@@ -25,14 +25,14 @@ use Rattle.t1_held.specs.declared.held.Held.{Held}
 use Rattle.t1_held.specs.Held.{IsHeld}
 
 -- word, edits: the source that is edited
-abbrev pub source_of : Edits → SourceParts
-source_of (edits.One source pairs edit change) = source.now
-source_of (edits.Batch source made entries) = source.now
+abbrev pub edits_source : Edits → SourceParts
+edits_source (edits.One source pairs edit change) = source.now
+edits_source (edits.Batch source made entries) = source.now
 
 -- word, edits: the source that the edits make
-abbrev pub made_of : Edits → SourceParts
-made_of (edits.One source pairs edit change) = (changed change.now source.now pairs.now).0
-made_of (edits.Batch source made entries) = made.now
+abbrev pub edits_made : Edits → SourceParts
+edits_made (edits.One source pairs edit change) = (changed change.now source.now pairs.now).0
+edits_made (edits.Batch source made entries) = made.now
 
 -- word, edits: how it is known
 abbrev pub made_by : Edits → Made

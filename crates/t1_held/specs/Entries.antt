@@ -2,17 +2,17 @@
 use Rattle.std.specs.Prelude.{ℕ, List, [], ◌∷◌, filter, is_none, Option, None, if◌then◌else◌}
 use Rattle.std.specs.Option.{option_map, option_or}
 use Rattle.t1_run.specs.Run.{Key, key_eq}
-use Rattle.t1_charstrings.specs.Entries.{Kept, encrypted}
+use Rattle.t1_charstrings.specs.Entries.{KeptCharstring, encrypted}
 use Rattle.t1_cache.specs.Users.{key_of}
 use Rattle.t1_rerun.specs.declared.entry_change.EntryChange.{EntryChange}
 use Rattle.t1_rerun.specs.Settled.{changed_keys}
 
 -- word: the encrypted charstring of a change, at its key
-abbrev pub fresh_one : ℕ → EntryChange → Key → Option Kept
+abbrev pub fresh_one : ℕ → EntryChange → Key → Option KeptCharstring
 fresh_one lead c k = if key_eq k (key_of c.named) then option_map (encrypted lead k) c.body else None
 
 -- word: the encrypted charstrings of changes, of which a later one wins
-abbrev pub fresh_in : ℕ → List EntryChange → Key → Option Kept
+abbrev pub fresh_in : ℕ → List EntryChange → Key → Option KeptCharstring
 fresh_in lead [] k = None
 fresh_in lead (c ∷ changes) k = option_or (fresh_in lead changes k) (fresh_one lead c k)
 

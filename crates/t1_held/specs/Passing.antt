@@ -17,7 +17,7 @@ use Rattle.t1_cache.specs.declared.records.Named.{Named}
 use Rattle.t1_cache.specs.declared.records.Named.TheVariants as named
 use Rattle.t1_cache.specs.Users.{key_of}
 use Rattle.t1_rerun.specs.declared.entry_change.EntryChange.{EntryChange}
-use Rattle.t1_rerun.specs.Steps.{changed}
+use Rattle.t1_rerun.specs.Steps.{entry_change}
 use Rattle.t1_held.specs.declared.batch.entries.EditedEntry.{EditedEntry}
 use Rattle.t1_held.specs.declared.batch.marks.Marks.{Marks}
 
@@ -58,15 +58,15 @@ abbrev pub none_sought : Sought
 none_sought k = None
 
 -- word: one entry is looked for no more
-abbrev pub without : Key → Sought → Sought
-without key m k = if key_eq key k then None else m k
+abbrev pub without_key : Key → Sought → Sought
+without_key key m k = if key_eq key k then None else m k
 
 -- ---- the pass
 
 -- word: an entry that is looked for, with the commands of its words, or their fault at its place
 abbrev pub put_of : Option Bool → Named → Place → List (List ℕ) → Result (Option EntryChange) Fault
 put_of None named place words = Ok None
-put_of (Some moved) named place words = reported_at place (commands words) >>= λ body. Ok (Some (changed named (Some body) moved))
+put_of (Some moved) named place words = reported_at place (commands words) >>= λ body. Ok (Some (entry_change named (Some body) moved))
 
 -- word: the same, of an item
 abbrev pub item_put : Sought → Item → Result (Option EntryChange) Fault
@@ -77,8 +77,8 @@ item_put m (items.Section before n after) = Ok None
 
 -- word: what is still looked for after an item
 abbrev pub after_item : Item → Sought → Sought
-after_item (items.Subr n words closing) m = without (Subr n) m
-after_item (items.Glyph g words closing) m = without (Glyph g) m
+after_item (items.Subr n words closing) m = without_key (Subr n) m
+after_item (items.Glyph g words closing) m = without_key (Glyph g) m
 after_item (items.Plain line) m = m
 after_item (items.Section before n after) m = m
 
@@ -97,12 +97,12 @@ items_put m (i ∷ is) = item_put m i >>= λ change. items_put (after_item i m) 
 -- word: an entry that is still looked for has no body any more
 abbrev pub removed_at : Option Bool → Named → Option EntryChange
 removed_at None named = None
-removed_at (Some added) named = Some (changed named None false)
+removed_at (Some added) named = Some (entry_change named None false)
 
 -- word: those of the entries that are still looked for, each once
 abbrev pub all_removed : Sought → List EditedEntry → List EntryChange
 all_removed m [] = []
-all_removed m (e ∷ es) = option_to_list (removed_at (m (key_of e.named)) e.named) ++ all_removed (without (key_of e.named) m) es
+all_removed m (e ∷ es) = option_to_list (removed_at (m (key_of e.named)) e.named) ++ all_removed (without_key (key_of e.named) m) es
 
 -- word, batches: what became of entries in a source after edits that name them, or the first fault of one
 abbrev pub changes_by : List EditedEntry → List Item → Result (List EntryChange) Fault

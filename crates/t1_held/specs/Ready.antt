@@ -26,7 +26,7 @@ pub record IsReadyHeld (count : ℕ) (ks : List Key) (s made : SourceParts) (h :
   pub lines : IsReadyLines made h.charstrings ready.lines
 
 -- word: there are such edits and such sources
-pub record MayBeSettled (h : Held) (ready : ReadyHeld) : Type 0 where
+pub record MayBeHeld (h : Held) (ready : ReadyHeld) : Type 0 where
   pub count : ℕ
   pub keys : List Key
   pub source : SourceParts

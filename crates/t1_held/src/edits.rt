@@ -9,7 +9,8 @@ ghost use Rattle.t1_font.specs.Assembly.{file_check};
 ghost use Rattle.t1_cache.specs.Edited.{named};
 ghost use Rattle.t1_held.specs.Batch.{entry_edit, keys, IsEditedBy};
 ghost use Rattle.t1_held.specs.declared.held.Held.{Held};
-ghost use Rattle.t1_held.specs.Edits.{keys_of, made_by, made_of, source_of, AreChanges, AreRight, IsPreparedEdit};
+ghost use Rattle.t1_held.specs.Edits.{keys_of, made_by, edits_made, edits_source, AreChanges};
+ghost use Rattle.t1_held.specs.Edits.{AreRight, IsPreparedEdit};
 ghost use Rattle.t1_held.specs.Held.{IsHeld};
 
 use crate::batch::{EditedEntry, batch_changes};
@@ -21,10 +22,12 @@ use t1_rerun::{EntryChange, change_alone, change_of_edit};
 use t1_source::laws::text_of_source_read;
 use t1_source::{Change, Edit, Source};
 
-/// Edits of a source that keep the edit rules, and how the source is known that they make. A single edit is a batch of one.
+/// Edits of a source that keep the edit rules, and how the source is known that they make. A single
+/// edit is a batch of one.
 #[derive(Drop)]
 pub enum Edits<'e, 'a> {
-    /// One edit of a source and its pairs, and the change that was prepared for it: the edited source isn't there yet.
+    /// One edit of a source and its pairs, and the change that was prepared for it: the edited
+    /// source isn't there yet.
     One {
         source: &'e Source<'a>,
         pairs: &'e Pairs,
@@ -39,9 +42,14 @@ pub enum Edits<'e, 'a> {
     },
 }
 
-/// The entry that one edit names, where it names one, with its body after it; or the fault of the edit's words.
+/// The entry that one edit names, where it names one, with its body after it; or the fault of the
+/// edit's words.
 fn changes_of_edit(alloc: Global, edit: &Edit) -> Result<Vec<EntryChange>, Refusal>
-    ensures { (s : SourceParts) (k : List Pair) (change : Change) (h : Held) → IsPreparedEdit s k edit.now change h → MatchResult result (λ changes. AreChanges s (changed change s k).0 (named edit.now) h changes.items) (λ refusal. Refuses refusal (file_check (changed change s k).0)) }
+    ensures { (s : SourceParts) (k : List Pair) (change : Change) (h : Held)
+        → IsPreparedEdit s k edit.now change h
+        → MatchResult result
+        (λ changes. AreChanges s (changed change s k).0 (named edit.now) h changes.items)
+        (λ refusal. Refuses refusal (file_check (changed change s k).0)) }
 {
     let change = change_of_edit(alloc, edit)?;
     Ok(change_alone(alloc, change)?)
@@ -54,7 +62,13 @@ fn changes_of_batch(
     made: &Source,
     entries: Vec<EditedEntry>,
 ) -> Result<Vec<EntryChange>, Refusal>
-    ensures { (h : Held) → IsHeld source.now h → IsEditedBy (map entry_edit entries.items) source.now made.now → MatchResult result (λ changes. AreChanges source.now made.now (keys (map entry_edit entries.items)) h changes.items) (λ refusal. Refuses refusal (file_check made.now)) }
+    ensures { (h : Held)
+        → IsHeld source.now h
+        → IsEditedBy (map entry_edit entries.items) source.now made.now
+        → MatchResult result
+        (λ changes.
+        AreChanges source.now made.now (keys (map entry_edit entries.items)) h
+        changes.items) (λ refusal. Refuses refusal (file_check made.now)) }
 {
     text_of_source_read(source);
     batch_changes(alloc, made, entries)
@@ -82,7 +96,7 @@ impl<'e, 'a> Edits<'e, 'a> {
 
     /// The source that is edited.
     pub(crate) fn source(&self) -> &'e Source<'a>
-        ensures { result.now ≡ source_of self.now }
+        ensures { result.now ≡ edits_source self.now }
     {
         match self {
             Edits::One {
@@ -99,9 +113,16 @@ impl<'e, 'a> Edits<'e, 'a> {
         }
     }
 
-    /// What the edits change of the entries that they name, each once, or the first fault of one of these.
+    /// What the edits change of the entries that they name, each once, or the first fault of one of
+    /// these.
     pub(crate) fn into_changes(self, alloc: Global) -> Result<Vec<EntryChange>, Refusal>
-        ensures { (h : Held) → AreRight self.entry h → MatchResult result (λ changes. AreChanges (source_of self.entry) (made_of self.entry) (keys_of self.entry) h changes.items) (λ refusal. Refuses refusal (file_check (made_of self.entry))) }
+        ensures { (h : Held)
+            → AreRight self.entry h
+            → MatchResult result
+            (λ changes.
+            AreChanges (edits_source self.entry) (edits_made self.entry)
+            (keys_of self.entry) h changes.items)
+            (λ refusal. Refuses refusal (file_check (edits_made self.entry))) }
     {
         match self {
             Edits::One {

@@ -23,7 +23,9 @@ fn put_fresh(
     fresh: &mut Charstrings,
     change: &EntryChange,
 ) -> Result<(), AllocError>
-    ensures { OnOk result ((k : Key) → kept_at fresh.new k ≡ option_or (fresh_one lead change.now k) (kept_at fresh.old k)) }
+    ensures { OnOk result
+        ((k : Key)
+        → kept_at fresh.new k ≡ option_or (fresh_one lead change.now k) (kept_at fresh.old k)) }
 {
     let Some(body) = &change.body else {
         return Ok(());
@@ -72,14 +74,17 @@ fn gone_entries(alloc: Global, changes: &[EntryChange]) -> Result<Vec<Gone>, All
     Ok(gone)
 }
 
-/// What changes make of the charstrings: only those of the changed entries are encrypted, after so many leading bytes.
+/// What changes make of the charstrings: only those of the changed entries are encrypted, after so
+/// many leading bytes.
 fn edited_entries(
     alloc: Global,
     lead: u8,
     changes: &[EntryChange],
 ) -> Result<EditedEntries, AllocError>
-    ensures fresh { IfOk result (λ entries. (k : Key) → kept_at entries.fresh k ≡ fresh_in lead changes.now k) }
-    ensures gone { IfOk result (λ entries. map gone_key entries.gone.items ≡ gone_keys changes.now) }
+    ensures fresh { IfOk result
+        (λ entries. (k : Key) → kept_at entries.fresh k ≡ fresh_in lead changes.now k) }
+    ensures gone { IfOk result
+        (λ entries. map gone_key entries.gone.items ≡ gone_keys changes.now) }
 {
     Ok(EditedEntries {
         fresh: fresh_charstrings(alloc, lead, changes)?,
@@ -87,14 +92,18 @@ fn edited_entries(
     })
 }
 
-/// What changes make of the charstrings of a source. Where there are none, nothing of the source is asked for.
+/// What changes make of the charstrings of a source. Where there are none, nothing of the source is
+/// asked for.
 pub(crate) fn entries_of(
     alloc: Global,
     source: &Source,
     changes: &[EntryChange],
 ) -> Result<EditedEntries, AllocError>
-    ensures fresh { IfOk result (λ entries. (k : Key) → kept_at entries.fresh k ≡ fresh_in (lead source.now) changes.now k) }
-    ensures gone { IfOk result (λ entries. map gone_key entries.gone.items ≡ gone_keys changes.now) }
+    ensures fresh { IfOk result
+        (λ entries.
+        (k : Key) → kept_at entries.fresh k ≡ fresh_in (lead source.now) changes.now k) }
+    ensures gone { IfOk result
+        (λ entries. map gone_key entries.gone.items ≡ gone_keys changes.now) }
 {
     if changes.is_empty() {
         return Ok(EditedEntries {

@@ -11,8 +11,9 @@ use t1_code::{Counted, FileForm, OutError};
 use t1_source::Source;
 use t1_source::laws::text_of_source_read;
 
-/// Writes the file of a source in a form. Nothing is compiled or encrypted but the whole by eexec, and no file is made in
-/// memory. The whole file at `Ok`, a beginning of it at `Write`, nothing where memory runs out.
+/// Writes the file of a source in a form. Nothing is compiled or encrypted but the whole by eexec,
+/// and no file is made in memory. The whole file at `Ok`, a beginning of it at `Write`, nothing
+/// where memory runs out.
 pub fn write_held_file<F: FileForm, W: Write>(
     alloc: Global,
     held: &Held,

@@ -1,5 +1,5 @@
-//! What a session keeps of its source: the records of its Subrs and glyphs, their encrypted charstrings, and the length of the
-//! private text.
+//! What a session keeps of its source: the records of its Subrs and glyphs, their encrypted
+//! charstrings, and the length of the private text.
 ghost use Rattle.std.specs.Prelude.{◌≡◌, ℕ, List, IfOk, Ok, map};
 ghost use Rattle.std.specs.List.{AllByRecursion};
 ghost use Rattle.t1_frac.specs.Outcome.{Gives};
@@ -11,7 +11,7 @@ ghost use Rattle.t1_cache.specs.Renewed.{kept_of};
 ghost use Rattle.t1_rerun.specs.Opened.{opening_runs};
 ghost use Rattle.t1_rerun.specs.Renewing.{IsRunWhereStale};
 ghost use Rattle.t1_held.specs.Held.{IsHeld};
-ghost use Rattle.t1_held.specs.Ready.{IsReadyHeld, MayBeSettled};
+ghost use Rattle.t1_held.specs.Ready.{IsReadyHeld, MayBeHeld};
 
 use std::alloc::{AllocError, Global};
 use t1_cache::Records;
@@ -38,8 +38,8 @@ pub struct ReadyHeld {
     pub lines: ReadyLines,
 }
 
-/// What is kept of a source, or the source's first fault. Each glyph is run once, and the meter counts it. Nothing is encrypted
-/// of a source with a fault.
+/// What is kept of a source, or the source's first fault. Each glyph is run once, and the meter
+/// counts it. Nothing is encrypted of a source with a fault.
 pub fn held_of(alloc: Global, source: &Source, meter: &mut Meter) -> Result<Held, Refusal>
     ensures checked { Gives (λ _. tt) result (source_check source.now) }
     ensures held { IfOk result (IsHeld source.now) }
@@ -56,12 +56,17 @@ pub fn held_of(alloc: Global, source: &Source, meter: &mut Meter) -> Result<Held
     })
 }
 
-/// Brings what is kept of a source to what is to be kept of the edited one, after one edit or many. It takes no memory and
-/// can't fail.
+/// Brings what is kept of a source to what is to be kept of the edited one, after one edit or many.
+/// It takes no memory and can't fail.
 pub fn settle(held: &mut Held, ready: ReadyHeld)
-    requires { MayBeSettled held.old ready }
-    ensures held { (n : ℕ) (ks : List Key) (s made : SourceParts) → IsReadyHeld n ks s made held.old ready → IsHeld made held.new }
-    ensures renews { (n : ℕ) (ks : List Key) (s made : SourceParts) → IsReadyHeld n ks s made held.old ready → AllByRecursion (IsRunWhereStale n ks s (map kept_of held.old.records.glyphs.entries)) (map kept_of held.new.records.glyphs.entries) }
+    requires { MayBeHeld held.old ready }
+    ensures held { (n : ℕ) (ks : List Key) (s made : SourceParts)
+        → IsReadyHeld n ks s made held.old ready
+        → IsHeld made held.new }
+    ensures renews { (n : ℕ) (ks : List Key) (s made : SourceParts)
+        → IsReadyHeld n ks s made held.old ready
+        → AllByRecursion (IsRunWhereStale n ks s (map kept_of held.old.records.glyphs.entries))
+        (map kept_of held.new.records.glyphs.entries) }
 {
     settle_ready(&mut held.records, ready.records);
     settle_lines(&mut held.charstrings, &mut held.private_len, ready.lines);
@@ -69,7 +74,9 @@ pub fn settle(held: &mut Held, ready: ReadyHeld)
 
 /// The metrics of the glyphs of a source of which this is kept. No glyph is run.
 pub fn held_metrics(alloc: Global, held: &Held) -> Result<MeasuredGlyphs<'_>, AllocError>
-    ensures { (s : SourceParts) → IsHeld s held.now → IfOk result (λ glyphs. measured_source s ≡ Ok glyphs) }
+    ensures { (s : SourceParts)
+        → IsHeld s held.now
+        → IfOk result (λ glyphs. measured_source s ≡ Ok glyphs) }
 {
     match measured_records(alloc, &held.records) {
         Ok(glyphs) => Ok(glyphs),

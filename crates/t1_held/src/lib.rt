@@ -1,10 +1,11 @@
-//! What is held of a font under edits: the records of its Subrs and glyphs, their encrypted charstrings, and the length of
-//! its private text.
+//! What is held of a font under edits: the records of its Subrs and glyphs, their encrypted
+//! charstrings, and the length of its private text.
 //!
-//! [`held_of`] gives what is held of a source, or the source's first fault. [`Edits`], one or a batch, go in two steps:
-//! [`prepare_edits`] judges the source that they make, runs the glyphs that they make stale, and makes all that takes memory;
-//! [`settle`] puts it in place, and can't fail. Between the two the source and its pairs are changed. [`held_metrics`] gives the
-//! metrics of the glyphs; [`write_held_file`] writes a file.
+//! [`held_of`] gives what is held of a source, or the source's first fault. [`Edits`], one or a
+//! batch, go in two steps: [`prepare_edits`] judges the source that they make, runs the glyphs that
+//! they make stale, and makes all that takes memory; [`settle`] puts it in place, and can't fail.
+//! Between the two the source and its pairs are changed. [`held_metrics`] gives the metrics of the
+//! glyphs; [`write_held_file`] writes a file.
 //!
 //! The edits of an open batch gather in a [`Batch`], which is a source of its own until its commit.
 //!

@@ -10,7 +10,7 @@ ghost use Rattle.t1_cache.specs.Edited.{stale};
 ghost use Rattle.t1_cache.specs.Renewed.{kept_of};
 ghost use Rattle.t1_rerun.specs.Changing.{AreChangesOf, IsReadyFor, MayBePrepared};
 ghost use Rattle.t1_rerun.specs.Settled.{changed_keys, AreAsBefore};
-ghost use Rattle.t1_held.specs.Edits.{keys_of, made_of, source_of, AreRight};
+ghost use Rattle.t1_held.specs.Edits.{keys_of, edits_made, edits_source, AreRight};
 ghost use Rattle.t1_held.specs.Held.{IsHeld};
 ghost use Rattle.t1_held.specs.Ready.{commit_runs, IsReadyHeld};
 
@@ -24,8 +24,9 @@ use t1_frac::Refusal;
 use t1_rerun::{EntryChange, Prepared, Ready, prepare_changes};
 use t1_run::Meter;
 
-/// Runs the glyphs that changes of entries make stale, each once, and makes all that the change of the records takes; or answers
-/// the first fault of one of the edited source's glyphs, in their order, which is asked for only then.
+/// Runs the glyphs that changes of entries make stale, each once, and makes all that the change of
+/// the records takes; or answers the first fault of one of the edited source's glyphs, in their
+/// order, which is asked for only then.
 fn prepare_records(
     alloc: Global,
     records: &mut Records,
@@ -34,9 +35,15 @@ fn prepare_records(
     meter: &mut Meter,
 ) -> Result<Ready, Refusal>
     requires { MayBePrepared changes.items records.old (glyph_names (made_in made.now).items) }
-    ensures checked { (old new : SourceParts) → AreChangesOf changes.items old new records.old (glyph_names (made_in made.now).items) → Gives (λ _. tt) result (source_check new) }
-    ensures ready { (old new : SourceParts) → AreChangesOf changes.items old new records.old (glyph_names (made_in made.now).items) → IfOk result (IsReadyFor meter.old changes.items old new records.new) }
-    ensures counted { (old new : SourceParts) → AreChangesOf changes.items old new records.old (glyph_names (made_in made.now).items) → Counts (length (stale old (changed_keys changes.items) new)) meter.old meter.new result }
+    ensures checked { (old new : SourceParts)
+        → AreChangesOf changes.items old new records.old (glyph_names (made_in made.now).items)
+        → Gives (λ _. tt) result (source_check new) }
+    ensures ready { (old new : SourceParts)
+        → AreChangesOf changes.items old new records.old (glyph_names (made_in made.now).items)
+        → IfOk result (IsReadyFor meter.old changes.items old new records.new) }
+    ensures counted { (old new : SourceParts)
+        → AreChangesOf changes.items old new records.old (glyph_names (made_in made.now).items)
+        → Counts (length (stale old (changed_keys changes.items) new)) meter.old meter.new result }
     ensures same { AreAsBefore records.old records.new }
 {
     match made {
@@ -48,9 +55,10 @@ fn prepare_records(
     }
 }
 
-/// Judges the source that edits make by its first fault, and makes all that is to be kept of it. The glyphs that the edits make
-/// stale are run, each once, and no others; only entries that they name are compiled and encrypted, unless lenIV was set. What
-/// was kept stays, also where the source is refused or memory runs out.
+/// Judges the source that edits make by its first fault, and makes all that is to be kept of it.
+/// The glyphs that the edits make stale are run, each once, and no others; only entries that they
+/// name are compiled and encrypted, unless lenIV was set. What was kept stays, also where the
+/// source is refused or memory runs out.
 pub fn prepare_edits(
     alloc: Global,
     held: &mut Held,
@@ -58,11 +66,16 @@ pub fn prepare_edits(
     meter: &mut Meter,
 ) -> Result<ReadyHeld, Refusal>
     requires { AreRight edits held.old }
-    ensures checked { Gives (λ _. tt) result (source_check (made_of edits.entry)) }
-    ensures ready { IfOk result (IsReadyHeld meter.old (keys_of edits.entry) (source_of edits.entry) (made_of edits.entry) held.new) }
+    ensures checked { Gives (λ _. tt) result (source_check (edits_made edits.entry)) }
+    ensures ready { IfOk result
+        (IsReadyHeld meter.old (keys_of edits.entry) (edits_source edits.entry)
+        (edits_made edits.entry) held.new) }
     ensures held { (s : SourceParts) → IsHeld s held.old → IsHeld s held.new }
-    ensures kept { map kept_of held.new.records.glyphs.entries ≡ map kept_of held.old.records.glyphs.entries }
-    ensures counted { Counts (commit_runs (keys_of edits.entry) (source_of edits.entry) (made_of edits.entry)) meter.old meter.new result }
+    ensures kept { map kept_of held.new.records.glyphs.entries
+        ≡ map kept_of held.old.records.glyphs.entries }
+    ensures counted { Counts
+        (commit_runs (keys_of edits.entry) (edits_source edits.entry) (edits_made edits.entry))
+        meter.old meter.new result }
 {
     let made = edits.made();
     let source = edits.source();

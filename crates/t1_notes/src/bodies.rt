@@ -7,12 +7,13 @@ ghost use Rattle.t1_notes.specs.CommandWords.{clears};
 ghost use Rattle.t1_notes.specs.BodyWords.{note_at, note_where, body_notes};
 ghost use Rattle.t1_notes.specs.Kept.{kept_notes, kept_through, notes_by_place};
 
-use crate::commands::{clears, is_hsbw, named, takes, wants_closed};
+use crate::commands::{clears, is_hsbw, named, wants_closed};
 use crate::kept::{Kept, kept_after, nothing_kept};
 use crate::line::Line;
 use crate::note::{Note, NoteKind};
 use std::alloc::AllocError;
 use t1_code::Command;
+use t1_run::takes;
 use t1_text::next_place;
 
 /// A note of a kind at a place.
@@ -36,7 +37,7 @@ pub fn push_where(notes: &mut Vec<Note>, holds: bool, note: Note) -> Result<(), 
 fn has_values_left(kept: Kept, command: Command) -> bool
     ensures { result ≡ (clears command && nat_lt (takes command) kept.numbers) }
 {
-    clears(command) && takes(command) < kept.numbers
+    clears(command) && takes(command) < usize::from(kept.numbers)
 }
 
 /// Adds the notes on a command at a place.

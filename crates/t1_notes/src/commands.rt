@@ -4,7 +4,6 @@ ghost use Rattle.std.specs.Prelude.{◌≡◌};
 ghost use Rattle.std.specs.Map.{lookup};
 ghost use Rattle.std.specs.Str.{bytes_eq};
 ghost use Rattle.t1_code.specs.Words.{operator_named, operator_words};
-ghost use Rattle.t1_run.specs.Operands.{takes as takes_of};
 ghost use Rattle.t1_run.specs.Words.{draws as draws_of};
 ghost use Rattle.t1_notes.specs.CommandWords.{rows_of, passes};
 ghost use Rattle.t1_notes.specs.CommandWords.{clears, is_hsbw, wants_closed, ends_path};
@@ -65,36 +64,6 @@ pub fn named(word: &[u8]) -> Option<Command>
     ensures { result ≡ operator_named word.now }
 {
     find(commands(), word)
-}
-
-/// How many values a command takes.
-pub fn takes(command: Command) -> u8
-    ensures { result ≡ takes_of command }
-{
-    match command {
-        Command::Num(_)
-        | Command::ClosePath
-        | Command::Return
-        | Command::EndChar
-        | Command::DotSection
-        | Command::Pop => 0,
-        Command::VMoveTo
-        | Command::HLineTo
-        | Command::VLineTo
-        | Command::CallSubr
-        | Command::HMoveTo => 1,
-        Command::HStem
-        | Command::VStem
-        | Command::RLineTo
-        | Command::Hsbw
-        | Command::RMoveTo
-        | Command::Div
-        | Command::CallOtherSubr
-        | Command::SetCurrentPoint => 2,
-        Command::VHCurveTo | Command::HVCurveTo | Command::Sbw => 4,
-        Command::Seac => 5,
-        Command::RRCurveTo | Command::VStem3 | Command::HStem3 => 6,
-    }
 }
 
 /// Whether a command leaves no value on the stack.

@@ -13,7 +13,7 @@ use Rattle.t1_frac.proofs.OutcomeLaws.{reported_ok}
 use Rattle.t1_code.specs.declared.command.Command.{Command}
 use Rattle.t1_run.specs.declared.outline.Composite.{Composite}
 use Rattle.t1_run.specs.declared.outline.Segment.{Segment}
-use Rattle.t1_run.specs.Composite.{drawn, with_parts, joined, outline_within}
+use Rattle.t1_run.specs.Composite.{drawn, with_parts, joined_outline, outline_within}
 use Rattle.t1_run.specs.Machine.{GivesOwn}
 use Rattle.t1_run.specs.Run.{FontBodies, Drawing, NumberedRun, body_stop, outcome_of, own, own_of}
 use Rattle.t1_extent.proofs.Walking.{Kept, composed}
@@ -72,7 +72,7 @@ nested_too_deep run (suc depth) name d c h e f = absurd (omega (arith, h))
 
 -- the outline of a composite, by those of its parts
 abbrev by_both : Drawing → Result (List Segment) Code → Result (List Segment) Code → Result (List Segment) Code
-by_both d base accent = base >>= (λ b. accent >>= (λ a. joined d b a))
+by_both d base accent = base >>= (λ b. accent >>= (λ a. joined_outline d b a))
 
 base_ends : (d : Drawing) (base accent : Result (List Segment) Code) (refused : Refusal) → Refuses refused (reported_at Nowhere base)
     → Refuses refused (reported_at Nowhere (by_both d base accent))
@@ -99,7 +99,7 @@ module _ (run : Kept) (depth : ℕ) (name : List ℕ) (d : Drawing) (c : Composi
       subst (λ r. Refuses refused (reported_at Nowhere r)) (sym (by-both ∙ ap (λ r. by_both d r (outline_within run (depth - 1) c.accent)) (reported_ok Nowhere (outline_within run (depth - 1) c.base) base b))) (accent_ends d base (outline_within run (depth - 1) c.accent) refused h)
 
   pub joined_both : (base accent : List Segment) → reported_at Nowhere (outline_within run (depth - 1) c.base) ≡ Ok base → reported_at Nowhere (outline_within run (depth - 1) c.accent) ≡ Ok accent
-      → outline_within run depth name ≡ joined d base accent
+      → outline_within run depth name ≡ joined_outline d base accent
   joined_both base accent b a = by-both ∙ ap (λ r. by_both d r (outline_within run (depth - 1) c.accent)) (reported_ok Nowhere (outline_within run (depth - 1) c.base) base b) ∙ ap (λ r. by_both d (Ok base) r) (reported_ok Nowhere (outline_within run (depth - 1) c.accent) accent a)
 
 -- ---- how many runs

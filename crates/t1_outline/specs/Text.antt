@@ -36,13 +36,13 @@ abbrev pub is_same_point : Point → Point → Bool
 is_same_point p q = is_eq (compared p.x q.x) && is_eq (compared p.y q.y)
 
 -- profile, outlines: a segment that begins here goes on where the last one ended; the first segment goes on from none
-abbrev pub goes_on : Option Point → Point → Bool
-goes_on None start = false
-goes_on (Some ended) start = is_same_point ended start
+abbrev pub segment_goes_on : Option Point → Point → Bool
+segment_goes_on None start = false
+segment_goes_on (Some ended) start = is_same_point ended start
 
 -- profile, outlines: `M x y` where a segment doesn't begin where the last one ended
 abbrev pub move_lines : Option Point → Point → List (List ℕ)
-move_lines ended start = if goes_on ended start then [] else outline_line (codes "M") (start ∷ []) ∷ []
+move_lines ended start = if segment_goes_on ended start then [] else outline_line (codes "M") (start ∷ []) ∷ []
 
 -- profile, outlines: `L x y` for a line to there, `C x y x y x y` for a curve by its two control points to its end
 abbrev pub drawn_line : Segment → List ℕ

@@ -5,7 +5,7 @@ ghost use Rattle.t1_frac.specs.Ascii.{line_feed};
 ghost use Rattle.t1_text.specs.Lines.{joined};
 ghost use Rattle.t1_outline.specs.Text.{coordinate_text, point_text, outline_line};
 ghost use Rattle.t1_outline.specs.Text.{start_of as start, end_of as end};
-ghost use Rattle.t1_outline.specs.Text.{is_same_point, goes_on as goes_on_of};
+ghost use Rattle.t1_outline.specs.Text.{is_same_point, segment_goes_on as goes_on_of};
 ghost use Rattle.t1_outline.specs.Text.{move_lines, drawn_line, segment_lines, outline_text};
 
 use itoa::Buffer;
@@ -50,7 +50,8 @@ fn push_points(text: &mut Vec<u8>, points: &[Point]) -> Result<(), AllocError>
 
 /// Adds a line: its letter, its points, and its end.
 fn push_line(text: &mut Vec<u8>, letter: &[u8], points: &[Point]) -> Result<(), AllocError>
-    ensures { OnOk result (text.new.items ≡ text.old.items ++ joined (outline_line letter.now points.now ∷ [])) }
+    ensures { OnOk result
+        (text.new.items ≡ text.old.items ++ joined (outline_line letter.now points.now ∷ [])) }
 {
     text.extend_from_slice(letter)?;
     push_points(text, points)?;
@@ -107,7 +108,8 @@ fn push_move(text: &mut Vec<u8>, ended: Option<Point>, start: Point) -> Result<(
 
 /// Adds `L X Y` or `C X Y X Y X Y`.
 fn push_drawn(text: &mut Vec<u8>, segment: &Segment) -> Result<(), AllocError>
-    ensures { OnOk result (text.new.items ≡ text.old.items ++ joined (drawn_line segment.now ∷ [])) }
+    ensures { OnOk result
+        (text.new.items ≡ text.old.items ++ joined (drawn_line segment.now ∷ [])) }
 {
     match segment {
         Segment::Line(_, end) => push_line(text, b"L", &[*end]),
@@ -121,7 +123,8 @@ fn push_segment(
     ended: Option<Point>,
     segment: &Segment,
 ) -> Result<(), AllocError>
-    ensures { OnOk result (text.new.items ≡ text.old.items ++ joined (segment_lines ended segment.now)) }
+    ensures { OnOk result
+        (text.new.items ≡ text.old.items ++ joined (segment_lines ended segment.now)) }
 {
     push_move(text, ended, start_of(segment))?;
     push_drawn(text, segment)

@@ -52,7 +52,8 @@ impl Model for Sorted {
     ghost view = { λ s. pairs_of_entries s.values.entries };
 }
 
-ghost use Rattle.std.specs.Prelude.{◌≡◌, ◌∷◌, ◌+◌, ◌<◌, ◌≤◌, [], ◌++◌, IfOk, OnOk, OnErr, length, slice_set, option_to_list, true, None, MatchOption};
+ghost use Rattle.std.specs.Prelude.{◌≡◌, ◌∷◌, ◌+◌, ◌<◌, ◌≤◌, [], ◌++◌, IfOk, OnOk, OnErr, length};
+ghost use Rattle.std.specs.Prelude.{slice_set, option_to_list, true, None, MatchOption};
 ghost use Rattle.std.specs.List.{insert, remove};
 ghost use Rattle.t1_frac.specs.Ascii.{line_feed, space};
 ghost use Rattle.t1_frac.specs.declared.fault.Place.TheVariants as places;
@@ -60,7 +61,9 @@ ghost use Rattle.t1_frac.specs.Outcome.{Gives, reported_at};
 ghost use Rattle.t1_frac.specs.Words.{words};
 ghost use Rattle.t1_text.specs.Lines.{lines};
 ghost use Rattle.t1_text.specs.Tokens.{first_is};
-ghost use Rattle.t1_pairs.specs.Kerning.{small, kerning_value, kpx_of, pair_of, is_left_out, line_pairs, put_pair, pairs_with, pairs, kern, kpx_line, are_pairs};
+ghost use Rattle.t1_pairs.specs.Kerning.{small, kerning_value, kpx_of, pair_of, is_left_out};
+ghost use Rattle.t1_pairs.specs.Kerning.{line_pairs, put_pair, pairs_with, pairs, kern, kpx_line};
+ghost use Rattle.t1_pairs.specs.Kerning.{are_pairs};
 
 impl Sorted {
     /// No pairs.
@@ -139,10 +142,10 @@ fn is_left_out(line: &[u8]) -> bool
 
 /// The names and the number word of a line of four words.
 fn kpx_words(line: &[u8]) -> Option<(&[u8], &[u8], &[u8])>
-    ensures { MatchOption
-        result
-        (kpx_of (words line.now) ≡ None)
-        (λ found. kpx_of (words line.now) ≡ pair_of found.0.now found.1.now (kerning_value found.2.now)) }
+    ensures { MatchOption result (kpx_of (words line.now) ≡ None)
+        (λ found.
+        kpx_of (words line.now)
+        ≡ pair_of found.0.now found.1.now (kerning_value found.2.now)) }
 {
     let Some((_, after)) = next_word(line) else {
         return None;
@@ -219,8 +222,8 @@ fn gathered(alloc: Global, text: &[u8]) -> Result<Sorted, Refusal>
     Ok(found)
 }
 
-/// The pairs of a kerning file, or its first fault, with its line: F12 for a `KPX` line that isn't understood, F13
-/// for a line of a form that is left out.
+/// The pairs of a kerning file, or its first fault, with its line: F12 for a `KPX` line that isn't
+/// understood, F13 for a line of a form that is left out.
 #[tactic(auto, unfolding(crate::specs::Kerning::pairs), using(crate::proofs::PairsWellFormedLaws::lines_good))]
 pub fn read_pairs(alloc: Global, bytes: &[u8]) -> Result<Pairs, Refusal>
     ensures { Gives (λ pairs. pairs) result (pairs bytes.now) }

@@ -6,7 +6,7 @@ use Rattle.t1_parts.specs.SourceParts.{SourceParts}
 use Rattle.t1_text.specs.Lines.{joined}
 use Rattle.t1_parts.specs.Encoding.{clear_check, opening_check, later_check, array_check}
 use Rattle.t1_parts.specs.Entries.{subr_entry, glyph_entry}
-use Rattle.t1_parts.specs.Private.{item_at, line_item, private_items}
+use Rattle.t1_parts.specs.Private.{item_in_front, line_item, private_items}
 use Rattle.t1_parts.specs.Parts.{parts_of, tail_of}
 use Rattle.t1_parts.specs.Reading.{reads, reads_lines, whole_check, standard}
 use Rattle.t1_parts.specs.LenIV.{lead, lead_among}
@@ -118,7 +118,7 @@ abbrev pub demo_form : SourceParts
 demo_form = record { clear = take 12 demo_lines; items = demo_items; tail = codes "cleartomark" ∷ [] }
 
 pub demo_read : reads (joined demo_lines) ≡ Ok demo_form
-unfolding reads reads_lines parts_of clear_check opening_check later_check array_check private_items item_at subr_entry glyph_entry line_item whole_check tail_of
+unfolding reads reads_lines parts_of clear_check opening_check later_check array_check private_items item_in_front subr_entry glyph_entry line_item whole_check tail_of
 demo_read = refl
 
 pub demo_standard : standard demo_form ≡ true

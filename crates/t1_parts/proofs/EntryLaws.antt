@@ -9,8 +9,8 @@ use Rattle.t1_text.specs.Tokens.{tokens, is_regular}
 use Rattle.t1_text.specs.Names.{is_name, is_name_byte, name_of_token}
 use Rattle.std.specs.Char.{is_ascii_digit}
 use Rattle.t1_parts.specs.Sections.{is_subrs_line, is_glyphs_line}
-use Rattle.t1_parts.specs.Entries.{NumberedItem, has, is_subr, is_glyph, is_word, opened_body, body_of, with_front, subr_entry, glyph_entry}
-use Rattle.t1_parts.specs.Private.{item_at}
+use Rattle.t1_parts.specs.Entries.{NumberedItem, has_numbered, is_subr, is_glyph, is_word, opened_body, body_of, with_front, subr_entry, glyph_entry}
+use Rattle.t1_parts.specs.Private.{item_in_front}
 use Rattle.t1_parts.specs.Printing.{word_groups, body_line, last_line}
 use Rattle.t1_text.proofs.TokenLaws.{blank_first, other_first, regular_first}
 use Rattle.t1_text.proofs.NumberLaws.{decimal_spells, spelled}
@@ -122,10 +122,10 @@ regular_before (c ∷ n) rest h k =
 
 -- a Subr that is printed is read as it was, where no earlier one has its number
 pub subr_again : (earlier : List NumberedItem) (n : ℕ) (ws : List (List ℕ)) (closing : List ℕ) (ls : List (List ℕ))
-    → has is_glyphs_line earlier ≡ false → has is_subrs_line earlier ≡ true → has (is_subr n) earlier ≡ false → n ≤ 32000
+    → has_numbered is_glyphs_line earlier ≡ false → has_numbered is_subrs_line earlier ≡ true → has_numbered (is_subr n) earlier ≡ false → n ≤ 32000
     → list_all is_word ws ≡ true → trimmed closing ≡ closing
-    → item_at earlier (codes "dup " ++ (decimal n ++ codes " {")) (map body_line (word_groups ws) ++ last_line closing ∷ ls) ≡ Ok (Subr n ws closing, 1 + length (word_groups ws))
-unfolding item_at subr_entry
+    → item_in_front earlier (codes "dup " ++ (decimal n ++ codes " {")) (map body_line (word_groups ws) ++ last_line closing ∷ ls) ≡ Ok (Subr n ws closing, 1 + length (word_groups ws))
+unfolding item_in_front subr_entry
 subr_again earlier n ws closing ls no_glyphs section fresh small words_h closing_h =
     let s = decimal_spells n (omega arith) in
     let head = subr_head n (omega arith) in
@@ -137,10 +137,10 @@ subr_again earlier n ws closing ls no_glyphs section fresh small words_h closing
 
 -- a glyph that is printed is read as it was, where no earlier one has its name
 pub glyph_again : (earlier : List NumberedItem) (g : List ℕ) (ws : List (List ℕ)) (closing : List ℕ) (ls : List (List ℕ))
-    → has is_glyphs_line earlier ≡ true → has (is_glyph g) earlier ≡ false → is_name g ≡ true
+    → has_numbered is_glyphs_line earlier ≡ true → has_numbered (is_glyph g) earlier ≡ false → is_name g ≡ true
     → list_all is_word ws ≡ true → trimmed closing ≡ closing
-    → item_at earlier (47 ∷ (g ++ codes " {")) (map body_line (word_groups ws) ++ last_line closing ∷ ls) ≡ Ok (Glyph g ws closing, 1 + length (word_groups ws))
-unfolding item_at glyph_entry
+    → item_in_front earlier (47 ∷ (g ++ codes " {")) (map body_line (word_groups ws) ++ last_line closing ∷ ls) ≡ Ok (Glyph g ws closing, 1 + length (word_groups ws))
+unfolding item_in_front glyph_entry
 glyph_again earlier g ws closing ls section fresh named words_h closing_h =
     let head = glyph_head g named in
     let bytes = name_regular g (and_parts _ _ named).1 in

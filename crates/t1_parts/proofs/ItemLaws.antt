@@ -4,7 +4,7 @@ use Rattle.std.proofs.lemmas.List.{length-append}
 use Rattle.std.proofs.Math.Seq.{take-append_seam, drop-append_seam}
 use Rattle.t1_text.specs.Lines.{lines}
 use Rattle.t1_text.proofs.LineLaws.{line_len, after_line, first_line_lem}
-use Rattle.t1_parts.specs.Pieces.{IsAfter}
+use Rattle.t1_parts.specs.Pieces.{AreLinesAfter}
 use Rattle.t1_frac.specs.declared.fault.Fault.{Fault}
 use Rattle.t1_parts.specs.declared.item.Item.TheVariants.{Plain}
 use Rattle.t1_parts.specs.Entries.{NumberedItem, Taken}
@@ -12,7 +12,7 @@ use Rattle.t1_frac.specs.Outcome.{reported_at, Refuses}
 use Rattle.t1_frac.specs.declared.fault.Refusal.{Refusal}
 use Rattle.t1_frac.specs.declared.fault.Refusal.TheVariants.{Memory, Fault as Reported}
 use Rattle.t1_parts.specs.PlainRuns.{read_from}
-use Rattle.t1_parts.specs.Private.{item_at, items_after, items_of, private_items}
+use Rattle.t1_parts.specs.Private.{item_in_front, items_after, items_of, private_items}
 use Rattle.t1_frac.specs.declared.fault.Place.TheVariants.{Line}
 use Rattle.t1_frac.proofs.OutcomeLaws.{bind_ok, reported_ok}
 
@@ -32,7 +32,7 @@ lines_passed earlier n (suc k) (l ∷ ls) =
     lines_passed earlier (n + 1) k ls ∙ ap (λ m. items_after earlier m 0 (drop k ls)) same
 
 -- an item read
-pub read_step : (earlier : List NumberedItem) (n : ℕ) (l : List ℕ) (ls : List (List ℕ)) (x : Taken) → reported_at (Line n) (item_at earlier l ls) ≡ Ok x → x.1 ≤ length ls
+pub read_step : (earlier : List NumberedItem) (n : ℕ) (l : List ℕ) (ls : List (List ℕ)) (x : Taken) → reported_at (Line n) (item_in_front earlier l ls) ≡ Ok x → x.1 ≤ length ls
     → items_from earlier n (l ∷ ls) ≡ items_from (earlier ++ (n, x.0) ∷ []) (n + (1 + x.1)) (drop x.1 ls)
 read_step earlier n l ls x e h =
     let more : List NumberedItem = earlier ++ (n, x.0) ∷ [] in
@@ -41,7 +41,7 @@ read_step earlier n l ls x e h =
 
 -- an item read from the lines of some bytes
 pub item_read : (earlier : List NumberedItem) (n : ℕ) (bytes after : List ℕ) (x : Taken) → 0 < length bytes
-    → ((l : List ℕ) (ls : List (List ℕ)) → lines bytes ≡ l ∷ ls → reported_at (Line n) (item_at earlier l ls) ≡ Ok x) → IsAfter (x.1 + 1) bytes after
+    → ((l : List ℕ) (ls : List (List ℕ)) → lines bytes ≡ l ∷ ls → reported_at (Line n) (item_in_front earlier l ls) ≡ Ok x) → AreLinesAfter (x.1 + 1) bytes after
     → items_from earlier n (lines bytes) ≡ items_from (earlier ++ (n, x.0) ∷ []) (n + (x.1 + 1)) (lines after)
 item_read earlier n bytes after x some read h =
     let l = take (line_len bytes) bytes in
@@ -58,7 +58,7 @@ item_read earlier n bytes after x some read h =
 
 -- the first fault decides
 pub item_fault : (earlier : List NumberedItem) (n : ℕ) (bytes : List ℕ) (f : Fault) → 0 < length bytes
-    → ((l : List ℕ) (ls : List (List ℕ)) → lines bytes ≡ l ∷ ls → reported_at (Line n) (item_at earlier l ls) ≡ Err f) → items_from earlier n (lines bytes) ≡ Err f
+    → ((l : List ℕ) (ls : List (List ℕ)) → lines bytes ≡ l ∷ ls → reported_at (Line n) (item_in_front earlier l ls) ≡ Err f) → items_from earlier n (lines bytes) ≡ Err f
 item_fault earlier n bytes f some read =
     let first = first_line_lem bytes some in
     let fault = read _ _ first in
@@ -86,7 +86,7 @@ last_refused n ls last (Reported f) h = rw (before_last ls last, h) refl
 
 -- what refuses the first item refuses all
 pub item_refused : (earlier : List NumberedItem) (n : ℕ) (bytes : List ℕ) (r : Refusal) → 0 < length bytes
-    → ((l : List ℕ) (ls : List (List ℕ)) → lines bytes ≡ l ∷ ls → Refuses r (reported_at (Line n) (item_at earlier l ls))) → Refuses r (items_from earlier n (lines bytes))
+    → ((l : List ℕ) (ls : List (List ℕ)) → lines bytes ≡ l ∷ ls → Refuses r (reported_at (Line n) (item_in_front earlier l ls))) → Refuses r (items_from earlier n (lines bytes))
 item_refused earlier n bytes Memory some h = tt
 item_refused earlier n bytes (Reported f) some h = item_fault earlier n bytes f some h
 
@@ -96,7 +96,7 @@ KeptByLine P = (items : List NumberedItem) (l : List ℕ) (ls : List (List ℕ))
 
 -- so does an item that is read
 abbrev pub KeptByItem : (List NumberedItem → List (List ℕ) → Type 0) → Type 0
-KeptByItem P = (items : List NumberedItem) (n : ℕ) (l : List ℕ) (ls : List (List ℕ)) (x : Taken) → P items (l ∷ ls) → item_at items l ls ≡ Ok x → P (items ++ (n, x.0) ∷ []) ls
+KeptByItem P = (items : List NumberedItem) (n : ℕ) (l : List ℕ) (ls : List (List ℕ)) (x : Taken) → P items (l ∷ ls) → item_in_front items l ls ≡ Ok x → P (items ++ (n, x.0) ∷ []) ls
 
 read_keeps : (P : List NumberedItem → List (List ℕ) → Type 0) → KeptByLine P → KeptByItem P → (earlier : List NumberedItem) (n k : ℕ) (ls : List (List ℕ)) (items : List NumberedItem) → P earlier ls
     → items_after earlier n k ls ≡ Ok items → P items []
@@ -104,8 +104,8 @@ read_keeps P line item earlier n k [] items h e = let same : earlier ≡ items =
 read_keeps P line item earlier n (suc k) (l ∷ ls) items h e = read_keeps P line item earlier (n + 1) k ls items (line earlier l ls h) e
 read_keeps P line item earlier n zero (l ∷ ls) items h e =
     let made : Taken → List NumberedItem = λ x. earlier ++ (n, x.0) ∷ [] in
-    let r = bind_ok (reported_at (Line n) (item_at earlier l ls)) (λ x. items_after (made x) (n + 1) x.1 ls) items e in
-    read_keeps P line item (made r.0) (n + 1) r.0.1 ls items (item earlier n l ls r.0 h (reported_ok (Line n) (item_at earlier l ls) r.0 r.1)) r.2
+    let r = bind_ok (reported_at (Line n) (item_in_front earlier l ls)) (λ x. items_after (made x) (n + 1) x.1 ls) items e in
+    read_keeps P line item (made r.0) (n + 1) r.0.1 ls items (item earlier n l ls r.0 h (reported_ok (Line n) (item_in_front earlier l ls) r.0 r.1)) r.2
 
 -- what holds of no items and all lines, and is kept, holds of all items
 pub items_keep : (P : List NumberedItem → List (List ℕ) → Type 0) → KeptByLine P → KeptByItem P → (n : ℕ) (ls : List (List ℕ)) (items : List NumberedItem) → P [] ls → items_of n ls ≡ Ok items

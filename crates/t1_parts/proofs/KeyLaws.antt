@@ -15,8 +15,8 @@ use Rattle.std.proofs.Math.Bool.{or-false}
 use Rattle.indexmap.specs.IndexSet.{insert_key as put_in}
 use Rattle.t1_parts.specs.declared.item.Item.{Item}
 use Rattle.t1_parts.specs.declared.item.Item.TheVariants.{Plain, Section, Subr, Glyph}
-use Rattle.t1_parts.specs.Entries.{NumberedItem, glyph_name, has, is_subr, is_glyph}
-use Rattle.t1_parts.specs.Gathered.{HasNumbers, HasNames}
+use Rattle.t1_parts.specs.Entries.{NumberedItem, glyph_name, has_numbered, is_subr, is_glyph}
+use Rattle.t1_parts.specs.Gathered.{HasNumbers, AreGlyphsNames}
 
 -- an equal key is there already
 stays : (b c : Bool) → (b || c) ≡ ((b || c) || b)
@@ -48,8 +48,8 @@ any_insert cmp t k alike [] = or-false (t k)
 any_insert cmp t k alike (x ∷ xs) = any_put t k x xs (insert_key cmp xs k) (cmp k x) (alike x) (any_insert cmp t k alike xs)
 
 -- a further item
-pub has_more : (test : Item → Bool) (items : List NumberedItem) (n : ℕ) (item : Item) → has test (items ++ (n, item) ∷ []) ≡ (has test items || test item)
-has_more test items n item = list_any-append (λ i. test i.1) items ((n, item) ∷ []) ∙ ap (λ b. has test items || b) (or-false (test item))
+pub has_more : (test : Item → Bool) (items : List NumberedItem) (n : ℕ) (item : Item) → has_numbered test (items ++ (n, item) ∷ []) ≡ (has_numbered test items || test item)
+has_more test items n item = list_any-append (λ i. test i.1) items ((n, item) ∷ []) ∙ ap (λ b. has_numbered test items || b) (or-false (test item))
 
 equal_numbers : (a b : ℕ) → is_eq (nat_cmp a b) ≡ (a == b)
 equal_numbers a b = grind arith
@@ -61,7 +61,7 @@ more_numbers ks new items n k ws closing item is keys h m =
     ap (list_any (λ x. is_eq (nat_cmp m x))) keys
     ∙ any_insert nat_cmp (λ x. is_eq (nat_cmp m x)) k (λ x e. ap is_eq (alike_right nat_cmp_total k x m e)) ks
     ∙ ap (λ b. b || is_eq (nat_cmp m k)) (h m)
-    ∙ ap (λ b. has (is_subr m) items || b) (equal_numbers m k ∙ sym (ap (is_subr m) is))
+    ∙ ap (λ b. has_numbered (is_subr m) items || b) (equal_numbers m k ∙ sym (ap (is_subr m) is))
     ∙ sym (has_more (is_subr m) items n item)
 
 -- a name that is put in is among the names
@@ -97,27 +97,27 @@ unnamed_item (Section before count after) g e = refl
 -- the names, with that of a further glyph
 pub more_names : (ks new : List (Bor (List ℕ))) (items : List NumberedItem) (n : ℕ) (k : Bor (List ℕ)) (item : Item)
     → glyph_name item ≡ Some k.now → new ≡ put_in (λ x y. bytes_eq x.now y.now) ks k
-    → HasNames ks items → HasNames new (items ++ (n, item) ∷ [])
+    → AreGlyphsNames ks items → AreGlyphsNames new (items ++ (n, item) ∷ [])
 more_names ks new items n k item named keys h m =
     ap (list_any (λ x. bytes_eq m x.now)) keys
     ∙ name-inserted m k ks
     ∙ ap (λ b. b || bytes_eq m k.now) (h m)
-    ∙ ap (λ b. has (is_glyph m) items || b) (sym (named_glyph item m k.now named))
+    ∙ ap (λ b. has_numbered (is_glyph m) items || b) (sym (named_glyph item m k.now named))
     ∙ sym (has_more (is_glyph m) items n item)
 
 -- an item that is of no kind
-pub same_has : (test : Item → Bool) (items : List NumberedItem) (n : ℕ) (item : Item) → test item ≡ false → has test items ≡ has test (items ++ (n, item) ∷ [])
-same_has test items n item e = sym (has_more test items n item ∙ ap (λ b. has test items || b) e ∙ or-false (has test items))
+pub same_has : (test : Item → Bool) (items : List NumberedItem) (n : ℕ) (item : Item) → test item ≡ false → has_numbered test items ≡ has_numbered test (items ++ (n, item) ∷ [])
+same_has test items n item e = sym (has_more test items n item ∙ ap (λ b. has_numbered test items || b) e ∙ or-false (has_numbered test items))
 
 -- a test of a further item joined to that of the items
-pub or_more : (test : Item → Bool) (items : List NumberedItem) (n : ℕ) (item : Item) (b d : Bool) → b ≡ has test items → d ≡ test item → (b || d) ≡ has test (items ++ (n, item) ∷ [])
-or_more test items n item b d p q = ap (λ x. x || d) p ∙ ap (λ x. has test items || x) q ∙ sym (has_more test items n item)
+pub or_more : (test : Item → Bool) (items : List NumberedItem) (n : ℕ) (item : Item) (b d : Bool) → b ≡ has_numbered test items → d ≡ test item → (b || d) ≡ has_numbered test (items ++ (n, item) ∷ [])
+or_more test items n item b d p q = ap (λ x. x || d) p ∙ ap (λ x. has_numbered test items || x) q ∙ sym (has_more test items n item)
 
 -- the keys, where no key comes with the item
 pub same_numbers : (ks new : List ℕ) (items : List NumberedItem) (n : ℕ) (item : Item) → ((m : ℕ) → is_subr m item ≡ false) → new ≡ ks → HasNumbers ks items → HasNumbers new (items ++ (n, item) ∷ [])
 same_numbers ks new items n item none keys h m =
     ap (list_any (λ x. is_eq (nat_cmp m x))) keys ∙ h m ∙ same_has (is_subr m) items n item (none m)
 
-pub same_names : (ks new : List (Bor (List ℕ))) (items : List NumberedItem) (n : ℕ) (item : Item) → ((g : List ℕ) → is_glyph g item ≡ false) → new ≡ ks → HasNames ks items → HasNames new (items ++ (n, item) ∷ [])
+pub same_names : (ks new : List (Bor (List ℕ))) (items : List NumberedItem) (n : ℕ) (item : Item) → ((g : List ℕ) → is_glyph g item ≡ false) → new ≡ ks → AreGlyphsNames ks items → AreGlyphsNames new (items ++ (n, item) ∷ [])
 same_names ks new items n item none keys h g =
     ap (list_any (λ x. bytes_eq g x.now)) keys ∙ h g ∙ same_has (is_glyph g) items n item (none g)

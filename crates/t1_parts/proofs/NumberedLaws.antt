@@ -10,8 +10,8 @@ use Rattle.t1_parts.specs.declared.item.Item.{Item}
 use Rattle.t1_parts.specs.declared.item.Item.TheVariants.{Plain}
 use Rattle.t1_parts.specs.declared.stretch.Stretch.{Stretch}
 use Rattle.t1_parts.specs.declared.stretch.Stretch.TheVariants.{One, Lines}
-use Rattle.t1_parts.specs.Entries.{NumberedItem, has, is_subr, is_glyph}
-use Rattle.t1_parts.specs.Gathered.{HasNumbers, HasNames}
+use Rattle.t1_parts.specs.Entries.{NumberedItem, has_numbered, is_subr, is_glyph}
+use Rattle.t1_parts.specs.Gathered.{HasNumbers, AreGlyphsNames}
 use Rattle.t1_parts.specs.Items.{items_in, line_items, stretch_items, line_says, lines_say}
 use Rattle.t1_parts.specs.LenIV.{says_lead}
 use Rattle.t1_parts.specs.NumberedStretches.{numbered_lines, numbered_items, numbered_in}
@@ -32,19 +32,19 @@ pub same_pushed : (ns : List ℕ) (ss : List Stretch) (n : ℕ) (s : Stretch) �
 same_pushed ns ss n s h = length-append ns (n ∷ []) ∙ ap (λ k. k + 1) h ∙ sym (length-append ss (s ∷ []))
 
 -- no plain line passes a test that no plain item passes
-pub none_of_lines : (test : Item → Bool) (n : ℕ) (ls : List (List ℕ)) → ((l : List ℕ) → test (Plain l) ≡ false) → has test (numbered_lines n ls) ≡ false
+pub none_of_lines : (test : Item → Bool) (n : ℕ) (ls : List (List ℕ)) → ((l : List ℕ) → test (Plain l) ≡ false) → has_numbered test (numbered_lines n ls) ≡ false
 none_of_lines test n [] off = refl
 none_of_lines test n (l ∷ ls) off = rw (off l) (none_of_lines test (n + 1) ls off)
 
 -- and so no more items pass it with plain lines
-pub same_with_lines : (test : Item → Bool) (items : List NumberedItem) (n : ℕ) (ls : List (List ℕ)) → ((l : List ℕ) → test (Plain l) ≡ false) → has test items ≡ has test (items ++ numbered_lines n ls)
+pub same_with_lines : (test : Item → Bool) (items : List NumberedItem) (n : ℕ) (ls : List (List ℕ)) → ((l : List ℕ) → test (Plain l) ≡ false) → has_numbered test items ≡ has_numbered test (items ++ numbered_lines n ls)
 same_with_lines test items n ls off =
-    sym (list_any-append (λ i. test i.1) items (numbered_lines n ls) ∙ ap (λ b. has test items || b) (none_of_lines test n ls off) ∙ or-false (has test items))
+    sym (list_any-append (λ i. test i.1) items (numbered_lines n ls) ∙ ap (λ b. has_numbered test items || b) (none_of_lines test n ls off) ∙ or-false (has_numbered test items))
 
 pub numbers_with_lines : (ks : List ℕ) (items : List NumberedItem) (n : ℕ) (ls : List (List ℕ)) → HasNumbers ks items → HasNumbers ks (items ++ numbered_lines n ls)
 numbers_with_lines ks items n ls h m = h m ∙ same_with_lines (is_subr m) items n ls (λ l. refl)
 
-pub names_with_lines : (ks : List (Bor (List ℕ))) (items : List NumberedItem) (n : ℕ) (ls : List (List ℕ)) → HasNames ks items → HasNames ks (items ++ numbered_lines n ls)
+pub names_with_lines : (ks : List (Bor (List ℕ))) (items : List NumberedItem) (n : ℕ) (ls : List (List ℕ)) → AreGlyphsNames ks items → AreGlyphsNames ks (items ++ numbered_lines n ls)
 names_with_lines ks items n ls h g = h g ∙ same_with_lines (is_glyph g) items n ls (λ l. refl)
 
 -- ---- without numbers

@@ -10,7 +10,7 @@ use Rattle.t1_text.proofs.LineLaws.{line_len, stays, after_line, first_line_lem}
 use Rattle.t1_text.proofs.CutLaws.{longer_len, ended_len}
 use Rattle.t1_text.proofs.EndLaws.{after_stays}
 use Rattle.t1_parts.specs.Entries.{body_of, opened_body}
-use Rattle.t1_parts.specs.Pieces.{IsAfter}
+use Rattle.t1_parts.specs.Pieces.{AreLinesAfter}
 
 -- the first line from its byte of this number on
 on_line : (k : ℕ) (bytes : List ℕ) → k ≤ line_len bytes
@@ -47,7 +47,7 @@ body_of_opened text first ls (inl e) = ap body_of e
 body_of_opened text first ls (inr e) = ap (λ t. body_of (lines t)) e.0 ∙ sym (ap (λ t. body_of (t ∷ ls)) e.1 ∙ ap (λ t. body_of ([] ∷ t)) e.2)
 
 -- what stands after lines of it
-after_opened : (text first line : List ℕ) (ls : List (List ℕ)) (bytes after : List ℕ) (m : ℕ) → Opens text first ls → lines bytes ≡ line ∷ ls → IsAfter (m + 1) text after → IsAfter (m + 1) bytes after
+after_opened : (text first line : List ℕ) (ls : List (List ℕ)) (bytes after : List ℕ) (m : ℕ) → Opens text first ls → lines bytes ≡ line ∷ ls → AreLinesAfter (m + 1) text after → AreLinesAfter (m + 1) bytes after
 after_opened text first line ls bytes after m (inl e) all h =
     let size = ap length e in
     let same = ap length all in
@@ -90,12 +90,12 @@ opened bytes line text ls at h within past t =
 
 pub opened_after : (bytes line text after : List ℕ) (ls : List (List ℕ)) (at m : ℕ) → lines bytes ≡ line ∷ ls
     → at ≤ length line → drop at line ≡ after_first opens_body line → text ≡ drop at bytes
-    → IsAfter (m + 1) text after → IsAfter (m + 1) bytes after
+    → AreLinesAfter (m + 1) text after → AreLinesAfter (m + 1) bytes after
 opened_after bytes line text after ls at m h within past t k =
     let first = the_first bytes line ls h in
     let size = ap length first.0 ∙ length-take-le (line_len bytes) bytes (prefix_len-le-length stays bytes) in
     after_opened (drop at bytes) _ line (lines (after_line bytes)) bytes after m (opens at bytes (omega (arith, within, size))) (h ∙ ap (λ x. line ∷ x) first.1)
-    (subst (λ x. IsAfter (m + 1) x after) t k)
+    (subst (λ x. AreLinesAfter (m + 1) x after) t k)
 
 -- what is found has what follows from it
 pub found_so : {A E : Type 0} (P Q : A → Type 0) (r : Result (Option A) E) → ((x : A) → P x → Q x) → IfOk r (λ o. IfSome o P) → IfOk r (λ o. IfSome o Q)

@@ -16,7 +16,7 @@ use Rattle.t1_parts.specs.declared.body.EntryBody.{EntryBody}
 use Rattle.t1_parts.specs.Entries.{body_of, closes, has_brace, with_front}
 use Rattle.t1_parts.specs.declared.piece.Piece.{Piece}
 use Rattle.t1_parts.specs.declared.piece.Piece.TheVariants.{Commented, Closed, Open}
-use Rattle.t1_parts.specs.Pieces.{IsAfter}
+use Rattle.t1_parts.specs.Pieces.{AreLinesAfter}
 use Rattle.t1_parts.proofs.BodyLaws.{no_brace, no_comment}
 use Rattle.t1_parts.proofs.PartLaws.{ap_both, cut_dropped, longer}
 
@@ -112,7 +112,7 @@ lines_of : (front : List ℕ) (d : ℕ) (rest : List ℕ) → stays d ≡ true �
 lines_of front d rest h k =
     lines_over [] front (d ∷ rest) refl k ∙ ap (λ ls. whole [] front ++ ls) (line_on (left [] front) d rest (left_line [] front refl) h)
 
-after_lines : (front : List ℕ) (d : ℕ) (rest : List ℕ) → stays d ≡ true → begins_with 10 (d ∷ rest) ≡ false → IsAfter (line_ends front + 1) (front ++ d ∷ rest) (after_line rest)
+after_lines : (front : List ℕ) (d : ℕ) (rest : List ℕ) → stays d ≡ true → begins_with 10 (d ∷ rest) ≡ false → AreLinesAfter (line_ends front + 1) (front ++ d ∷ rest) (after_line rest)
 after_lines front d rest h k =
     let all = lines_of front d rest h k in
     let line = left [] front ++ d ∷ take (line_len rest) rest in
@@ -196,24 +196,24 @@ size_of bytes front d rest e =
 
 pub commented_piece : (bytes front back rest after : List ℕ) (d : ℕ) → front ≡ take (prefix_len is_safe bytes) bytes → back ≡ drop (prefix_len is_safe bytes) bytes → back ≡ d ∷ rest → d ≡ 37
     → after ≡ after_line rest
-    → (body_of (lines bytes) ≡ with_front (words front) (line_ends front + 1) (body_of (lines after))) × IsAfter (line_ends front + 1) bytes after × (length front + 1 + length after ≤ length bytes)
+    → (body_of (lines bytes) ≡ with_front (words front) (line_ends front + 1) (body_of (lines after))) × AreLinesAfter (line_ends front + 1) bytes after × (length front + 1 + length after ≤ length bytes)
 commented_piece bytes front back rest after d f b is_back is a =
     let parts = bytes_of bytes front back f b in
     let all : bytes ≡ front ++ 37 ∷ rest = parts.0 ∙ ap (λ x. front ++ x) (is_back ∙ ap (λ x. x ∷ rest) is) in (
       ap (λ t. body_of (lines t)) all ∙ commented_body front rest parts.1 ∙ ap (λ t. with_front (words front) (line_ends front + 1) (body_of (lines t))) (sym a),
-      subst (λ t. IsAfter (line_ends front + 1) t after) (sym all) (subst (λ t. IsAfter (line_ends front + 1) (front ++ 37 ∷ rest) t) (sym a) (after_lines front 37 rest refl refl)),
+      subst (λ t. AreLinesAfter (line_ends front + 1) t after) (sym all) (subst (λ t. AreLinesAfter (line_ends front + 1) (front ++ 37 ∷ rest) t) (sym a) (after_lines front 37 rest refl refl)),
       subst (λ t. length front + 1 + length t ≤ length bytes) (sym a) (size_of bytes front 37 rest all),
     )
 
 pub closed_piece : (bytes front back rest after line closing : List ℕ) (d : ℕ) → front ≡ take (prefix_len is_safe bytes) bytes → back ≡ drop (prefix_len is_safe bytes) bytes → back ≡ d ∷ rest → d ≡ 125
     → after ≡ after_line rest → line ≡ take (line_len rest) rest → closing ≡ trimmed line
-    → (body_of (lines bytes) ≡ Some (record { words = words front; closing = closing; more = line_ends front })) × IsAfter (line_ends front + 1) bytes after × (length front ≤ length bytes)
+    → (body_of (lines bytes) ≡ Some (record { words = words front; closing = closing; more = line_ends front })) × AreLinesAfter (line_ends front + 1) bytes after × (length front ≤ length bytes)
 closed_piece bytes front back rest after line closing d f b is_back is a l c =
     let parts = bytes_of bytes front back f b in
     let all : bytes ≡ front ++ 125 ∷ rest = parts.0 ∙ ap (λ x. front ++ x) (is_back ∙ ap (λ x. x ∷ rest) is) in
     let size = size_of bytes front 125 rest all in (
       ap (λ t. body_of (lines t)) all ∙ closed_body front rest parts.1 ∙ ap (λ t. Some (record { words = words front; closing = t; more = line_ends front })) (sym (c ∙ ap trimmed l)),
-      subst (λ t. IsAfter (line_ends front + 1) t after) (sym all) (subst (λ t. IsAfter (line_ends front + 1) (front ++ 125 ∷ rest) t) (sym a) (after_lines front 125 rest refl refl)),
+      subst (λ t. AreLinesAfter (line_ends front + 1) t after) (sym all) (subst (λ t. AreLinesAfter (line_ends front + 1) (front ++ 125 ∷ rest) t) (sym a) (after_lines front 125 rest refl refl)),
       omega (arith, size),
     )
 
@@ -250,8 +250,8 @@ body_in Open = None
 
 -- a piece stands so many lines after the front of some bytes
 abbrev pub IsPlaced : ℕ → List ℕ → Piece → Type 0
-IsPlaced m bytes (Commented front after) = IsAfter (m + (line_ends front.now + 1)) bytes after.now × (m + (length front.now + 1) + length after.now ≤ length bytes)
-IsPlaced m bytes (Closed front closing after) = IsAfter (m + (line_ends front.now + 1)) bytes after.now × (m + length front.now ≤ length bytes)
+IsPlaced m bytes (Commented front after) = AreLinesAfter (m + (line_ends front.now + 1)) bytes after.now × (m + (length front.now + 1) + length after.now ≤ length bytes)
+IsPlaced m bytes (Closed front closing after) = AreLinesAfter (m + (line_ends front.now + 1)) bytes after.now × (m + length front.now ≤ length bytes)
 IsPlaced m bytes Open = Unit {0}
 
 -- what is left after a piece

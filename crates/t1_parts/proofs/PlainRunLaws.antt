@@ -6,11 +6,11 @@ use Rattle.t1_frac.specs.declared.fault.Place.TheVariants.{Line}
 use Rattle.t1_frac.specs.Outcome.{reported_at}
 use Rattle.t1_text.specs.Tokens.{tokens}
 use Rattle.t1_parts.specs.declared.item.Item.TheVariants.{Plain}
-use Rattle.t1_parts.specs.Entries.{NumberedItem, has, opens_subr, opens_glyph}
+use Rattle.t1_parts.specs.Entries.{NumberedItem, has_numbered, opens_subr, opens_glyph}
 use Rattle.t1_parts.specs.Items.{line_says, lines_say}
 use Rattle.t1_parts.specs.NumberedStretches.{numbered_lines}
-use Rattle.t1_parts.specs.PlainRuns.{read_from, opens_entry, IsAmong, AreAmong}
-use Rattle.t1_parts.specs.Private.{item_at, line_item}
+use Rattle.t1_parts.specs.PlainRuns.{read_from, may_open_entry, IsPlainAmong, AreAmong}
+use Rattle.t1_parts.specs.Private.{item_in_front, line_item}
 use Rattle.t1_parts.specs.Sections.{subrs_line, glyphs_line, is_subrs_line, is_glyphs_line}
 use Rattle.t1_parts.proofs.ItemLaws.{read_step}
 use Rattle.t1_parts.proofs.KeyLaws.{same_has}
@@ -20,8 +20,8 @@ nothing None h = refl
 nothing (Some x) h = absurd (cc)
 
 -- a line that opens no entry, is no section line and says nothing
-pub is_among : (subrs glyphs : Bool) (l : List ℕ) → opens_entry subrs glyphs l ≡ false → (is_some (subrs_line l) || is_some (glyphs_line l)) ≡ false → line_says l ≡ false → IsAmong subrs glyphs l
-unfolding item_at line_item
+pub is_among : (subrs glyphs : Bool) (l : List ℕ) → may_open_entry subrs glyphs l ≡ false → (is_some (subrs_line l) || is_some (glyphs_line l)) ≡ false → line_says l ≡ false → IsPlainAmong subrs glyphs l
+unfolding item_in_front line_item
 is_among subrs true l opens section says =
     let off = or_parts (is_some (subrs_line l)) (is_some (glyphs_line l)) section in
     (says, λ earlier ls s g. rw (g, nothing (opens_glyph (tokens l)) opens, nothing (subrs_line l) off.0, nothing (glyphs_line l) off.1) refl)
@@ -33,7 +33,7 @@ is_among false false l opens section says =
     (says, λ earlier ls s g. rw (g, s, nothing (subrs_line l) off.0, nothing (glyphs_line l) off.1) refl)
 
 -- an empty line
-pub empty_among : (subrs glyphs : Bool) (l : List ℕ) → length l ≡ 0 → IsAmong subrs glyphs l
+pub empty_among : (subrs glyphs : Bool) (l : List ℕ) → length l ≡ 0 → IsPlainAmong subrs glyphs l
 unfolding line_says
 empty_among subrs true [] e = is_among subrs true [] refl refl refl
 empty_among true false [] e = is_among true false [] refl refl refl
@@ -41,7 +41,7 @@ empty_among false false [] e = is_among false false [] refl refl refl
 empty_among subrs glyphs (c ∷ l) e = absurd (omega (arith, e))
 
 -- one more
-pub among_more : (subrs glyphs : Bool) (ls : List (List ℕ)) (l : List ℕ) → AreAmong subrs glyphs ls → IsAmong subrs glyphs l → AreAmong subrs glyphs (ls ++ l ∷ [])
+pub among_more : (subrs glyphs : Bool) (ls : List (List ℕ)) (l : List ℕ) → AreAmong subrs glyphs ls → IsPlainAmong subrs glyphs l → AreAmong subrs glyphs (ls ++ l ∷ [])
 among_more subrs glyphs [] l h k = (k, tt)
 among_more subrs glyphs (m ∷ ls) l h k = (h.0, among_more subrs glyphs ls l h.1 k)
 
@@ -51,7 +51,7 @@ among_silent subrs glyphs [] h = refl
 among_silent subrs glyphs (l ∷ ls) h = rw h.0.0 (among_silent subrs glyphs ls h.1)
 
 -- they are read as plain items
-pub among_read : (earlier : List NumberedItem) (n : ℕ) (xs ys : List (List ℕ)) → AreAmong (has is_subrs_line earlier) (has is_glyphs_line earlier) xs
+pub among_read : (earlier : List NumberedItem) (n : ℕ) (xs ys : List (List ℕ)) → AreAmong (has_numbered is_subrs_line earlier) (has_numbered is_glyphs_line earlier) xs
     → read_from earlier n (xs ++ ys) ≡ read_from (earlier ++ numbered_lines n xs) (n + length xs) ys
 among_read earlier n [] ys h =
     let same : n ≡ n + 0 = omega arith in
@@ -60,8 +60,8 @@ among_read earlier n (x ∷ xs) ys h =
     let more : List NumberedItem = earlier ++ (n, Plain x) ∷ [] in
     let subrs = same_has is_subrs_line earlier n (Plain x) refl in
     let glyphs = same_has is_glyphs_line earlier n (Plain x) refl in
-    let rest : AreAmong (has is_subrs_line more) (has is_glyphs_line more) xs =
-    subst (λ b. AreAmong b (has is_glyphs_line more) xs) subrs (subst (λ b. AreAmong (has is_subrs_line earlier) b xs) glyphs h.1) in
+    let rest : AreAmong (has_numbered is_subrs_line more) (has_numbered is_glyphs_line more) xs =
+    subst (λ b. AreAmong b (has_numbered is_glyphs_line more) xs) subrs (subst (λ b. AreAmong (has_numbered is_subrs_line earlier) b xs) glyphs h.1) in
     let next : n + (1 + 0) ≡ n + 1 = omega arith in
     let size : n + 1 + length xs ≡ n + suc (length xs) = omega arith in
     read_step earlier n x (xs ++ ys) (Plain x, 0) (ap (reported_at (Line n)) (h.0.1 earlier (xs ++ ys) refl refl)) (omega arith)

@@ -3,7 +3,7 @@ use Rattle.std.specs.Prelude.{◌≡◌, [], ◌∷◌, Some, Ok, codes, refl}
 use Rattle.t1_parts.specs.declared.item.Item.TheVariants.{Plain, Section, Glyph}
 use Rattle.t1_parts.specs.Entries.{glyph_entry}
 use Rattle.t1_parts.specs.Header.{escapes_blanked, before_balance, text_value}
-use Rattle.t1_parts.specs.Private.{items_of, item_at, line_item}
+use Rattle.t1_parts.specs.Private.{items_of, item_in_front, line_item}
 
 -- the byte after a backslash counts for nothing, a further backslash too
 escaped_row : escapes_blanked (92 ∷ 41 ∷ 92 ∷ 92 ∷ 40 ∷ 92 ∷ []) ≡ 92 ∷ 32 ∷ 92 ∷ 32 ∷ 40 ∷ 92 ∷ []
@@ -34,5 +34,5 @@ items_row : items_of 4 (codes "/CharStrings 1 dict dup begin" ∷ codes "/space 
     ∷ (5, Glyph (codes "space") (codes "0" ∷ codes "250" ∷ codes "hsbw" ∷ codes "endchar" ∷ []) (codes "ND"))
     ∷ (8, Plain (codes "end"))
     ∷ [])
-unfolding item_at glyph_entry line_item
+unfolding item_in_front glyph_entry line_item
 items_row = refl

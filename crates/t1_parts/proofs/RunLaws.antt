@@ -5,7 +5,7 @@ use Rattle.std.proofs.lemmas.Bool.{and_parts, cases_Bool, both_ways}
 use Rattle.std.proofs.lemmas.List.{take-append-drop}
 use Rattle.std.proofs.Math.Numerals.{one-add}
 use Rattle.t1_frac.specs.Words.{is_blank}
-use Rattle.t1_text.specs.Tokens.{is_bracket, is_regular, goes_on, onto_place, places_from}
+use Rattle.t1_text.specs.Tokens.{is_bracket, is_regular, token_goes_on, onto_place, places_from}
 use Rattle.t1_text.proofs.PlaceLaws.{regular_parts, other_place, regular_place, run_place}
 
 -- one or more bytes that go on with a token
@@ -14,11 +14,11 @@ is_run [] = false
 is_run (c ∷ cs) = list_all is_regular (c ∷ cs)
 
 -- a line goes on with a run
-run_goes_on : (es rest : List ℕ) → is_run es ≡ true → goes_on (es ++ rest) ≡ true
+run_goes_on : (es rest : List ℕ) → is_run es ≡ true → token_goes_on (es ++ rest) ≡ true
 run_goes_on [] rest h = cc
 run_goes_on (e ∷ es) rest h = (and_parts (is_regular e) (list_all is_regular es) h).0
 
-bytes_place : (i e : ℕ) (es rest : List ℕ) → list_all is_regular (e ∷ es) ≡ true → goes_on rest ≡ false → places_from i (e ∷ es ++ rest) ≡ (i, e ∷ es) ∷ places_from (i + (1 + length es)) rest
+bytes_place : (i e : ℕ) (es rest : List ℕ) → list_all is_regular (e ∷ es) ≡ true → token_goes_on rest ≡ false → places_from i (e ∷ es ++ rest) ≡ (i, e ∷ es) ∷ places_from (i + (1 + length es)) rest
 bytes_place i e [] rest h stop =
     regular_place i e rest (and_parts (is_regular e) true h).0 ∙ (rw stop (ap (λ k. (i, e ∷ []) ∷ places_from k rest) (omega arith)))
 bytes_place i e (d ∷ es) rest h stop =
@@ -28,7 +28,7 @@ bytes_place i e (d ∷ es) rest h stop =
     ∙ (rw next (ap (onto_place i e) (bytes_place (i + 1) d es rest parts.1 stop) ∙ ap (λ k. (i, e ∷ d ∷ es) ∷ places_from k rest) (omega arith)))
 
 -- a run, and what can't go on with it
-run_token : (i : ℕ) (es rest : List ℕ) → is_run es ≡ true → goes_on rest ≡ false → places_from i (es ++ rest) ≡ (i, es) ∷ places_from (i + length es) rest
+run_token : (i : ℕ) (es rest : List ℕ) → is_run es ≡ true → token_goes_on rest ≡ false → places_from i (es ++ rest) ≡ (i, es) ∷ places_from (i + length es) rest
 run_token i [] rest h stop = cc
 run_token i (e ∷ es) rest h stop = bytes_place i e es rest h stop ∙ ap (λ k. (i, e ∷ es) ∷ places_from k rest) (omega arith)
 
@@ -41,7 +41,7 @@ pub record AroundRun (i : ℕ) (l : List ℕ) (ps : List (ℕ × List ℕ)) (p :
   pub later : qs ≡ places_from (p + length t) after
   pub other : (es : List ℕ) → is_run es ≡ true → places_from i (before ++ (es ++ after)) ≡ ps ++ (p, es) ∷ places_from (p + length es) after
 
-stop_here : (rest : List ℕ) → goes_on (drop (prefix_len is_regular rest) rest) ≡ false
+stop_here : (rest : List ℕ) → token_goes_on (drop (prefix_len is_regular rest) rest) ≡ false
 stop_here [] = refl
 stop_here (d ∷ rest) =
     elim (cases_Bool (is_regular d)) [
@@ -82,13 +82,13 @@ around_first i c rest p t qs h word none e =
     ]
 
 -- whether a line goes on is the same with another run
-same_on : (before es t after : List ℕ) → is_run es ≡ true → is_run t ≡ true → goes_on (before ++ (es ++ after)) ≡ goes_on (before ++ (t ++ after))
+same_on : (before es t after : List ℕ) → is_run es ≡ true → is_run t ≡ true → token_goes_on (before ++ (es ++ after)) ≡ token_goes_on (before ++ (t ++ after))
 same_on [] es t after h k = run_goes_on es after h ∙ sym (run_goes_on t after k)
 same_on (d ∷ before) es t after h k = refl
 
 -- a byte in front
 around_longer : (i c : ℕ) (rest : List ℕ) (ps before_ps : List (ℕ × List ℕ)) (p : ℕ) (t : List ℕ) (qs : List (ℕ × List ℕ)) → is_run t ≡ true
-    → ((other : List ℕ) (us : List (ℕ × List ℕ)) → goes_on other ≡ goes_on rest → places_from (i + 1) other ≡ before_ps ++ us → places_from i (c ∷ other) ≡ ps ++ us)
+    → ((other : List ℕ) (us : List (ℕ × List ℕ)) → token_goes_on other ≡ token_goes_on rest → places_from (i + 1) other ≡ before_ps ++ us → places_from i (c ∷ other) ≡ ps ++ us)
     → AroundRun (i + 1) rest before_ps p t qs → AroundRun i (c ∷ rest) ps p t qs
 around_longer i c rest ps before_ps p t qs h step r =
     record {
@@ -99,7 +99,7 @@ around_longer i c rest ps before_ps p t qs h step r =
       later = r.later;
       other = λ es regular.
           step (r.before ++ (es ++ r.after)) ((p, es) ∷ places_from (p + length es) r.after)
-          (same_on r.before es t r.after regular h ∙ ap goes_on (sym r.whole)) (r.other es regular);
+          (same_on r.before es t r.after regular h ∙ ap token_goes_on (sym r.whole)) (r.other es regular);
     }
 
 -- the places of a token that goes on
@@ -127,15 +127,15 @@ around_run i (c ∷ rest) ps p t qs h e =
         → (other : List ℕ) (us : List (ℕ × List ℕ)) → places_from (i + 1) other ≡ xs ++ us → places_from i (c ∷ other) ≡ x ∷ (xs ++ us)
     bracket_step i c x xs word none bracket is other us more = rw (word, none, bracket) (ap (λ y. y ∷ places_from (i + 1) other) (sym is) ∙ ap (λ ys. x ∷ ys) more)
 
-    apart_step : (i c : ℕ) (rest : List ℕ) (x : ℕ × List ℕ) (xs : List (ℕ × List ℕ)) → is_blank c ≡ false → (c == 37) ≡ false → is_bracket c ≡ false → goes_on rest ≡ false → x ≡ (i, c ∷ [])
-        → (other : List ℕ) (us : List (ℕ × List ℕ)) → goes_on other ≡ goes_on rest → places_from (i + 1) other ≡ xs ++ us → places_from i (c ∷ other) ≡ x ∷ (xs ++ us)
+    apart_step : (i c : ℕ) (rest : List ℕ) (x : ℕ × List ℕ) (xs : List (ℕ × List ℕ)) → is_blank c ≡ false → (c == 37) ≡ false → is_bracket c ≡ false → token_goes_on rest ≡ false → x ≡ (i, c ∷ [])
+        → (other : List ℕ) (us : List (ℕ × List ℕ)) → token_goes_on other ≡ token_goes_on rest → places_from (i + 1) other ≡ xs ++ us → places_from i (c ∷ other) ≡ x ∷ (xs ++ us)
     apart_step i c rest x xs word none no_bracket off is other us on more =
-        other_place i c other word none no_bracket ∙ (let here : goes_on other ≡ false = on ∙ off in rw here (ap (λ y. y ∷ places_from (i + 1) other) (sym is) ∙ ap (λ ys. x ∷ ys) more))
+        other_place i c other word none no_bracket ∙ (let here : token_goes_on other ≡ false = on ∙ off in rw here (ap (λ y. y ∷ places_from (i + 1) other) (sym is) ∙ ap (λ ys. x ∷ ys) more))
 
-    joined_step : (i c : ℕ) (rest : List ℕ) (x z : ℕ × List ℕ) (xs : List (ℕ × List ℕ)) → is_blank c ≡ false → (c == 37) ≡ false → is_bracket c ≡ false → goes_on rest ≡ true → x ≡ (i, c ∷ z.1)
-        → (other : List ℕ) (us : List (ℕ × List ℕ)) → goes_on other ≡ goes_on rest → places_from (i + 1) other ≡ z ∷ (xs ++ us) → places_from i (c ∷ other) ≡ x ∷ (xs ++ us)
+    joined_step : (i c : ℕ) (rest : List ℕ) (x z : ℕ × List ℕ) (xs : List (ℕ × List ℕ)) → is_blank c ≡ false → (c == 37) ≡ false → is_bracket c ≡ false → token_goes_on rest ≡ true → x ≡ (i, c ∷ z.1)
+        → (other : List ℕ) (us : List (ℕ × List ℕ)) → token_goes_on other ≡ token_goes_on rest → places_from (i + 1) other ≡ z ∷ (xs ++ us) → places_from i (c ∷ other) ≡ x ∷ (xs ++ us)
     joined_step i c rest x z xs word none no_bracket on_rest is other us on more =
-        other_place i c other word none no_bracket ∙ (let here : goes_on other ≡ true = on ∙ on_rest in rw here (ap (onto_place i c) more ∙ ap (λ y. y ∷ (xs ++ us)) (sym is)))
+        other_place i c other word none no_bracket ∙ (let here : token_goes_on other ≡ true = on ∙ on_rest in rw here (ap (onto_place i c) more ∙ ap (λ y. y ∷ (xs ++ us)) (sym is)))
 
     following : (i c : ℕ) (rest : List ℕ) (ps : List (ℕ × List ℕ)) (p : ℕ) (t : List ℕ) (qs : List (ℕ × List ℕ)) → is_run t ≡ true → is_blank c ≡ false → (c == 37) ≡ false
         → places_from i (c ∷ rest) ≡ ps ++ (p, t) ∷ qs → ((xs : List (ℕ × List ℕ)) → places_from (i + 1) rest ≡ xs ++ (p, t) ∷ qs → AroundRun (i + 1) rest xs p t qs) → AroundRun i (c ∷ rest) ps p t qs
@@ -147,7 +147,7 @@ around_run i (c ∷ rest) ps p t qs h e =
               let is : ◌≡◌ {A = ℕ × List ℕ} (i, c ∷ []) x = cc in
               let later : places_from (i + 1) rest ≡ xs ++ (p, t) ∷ qs = cc in
               around_longer i c rest (x ∷ xs) xs p t qs h (λ other us on d. bracket_step i c x xs word none bracket (sym is) other us d) (more xs later)
-          | inr other ↦ elim (cases_Bool (goes_on rest)) [
+          | inr other ↦ elim (cases_Bool (token_goes_on rest)) [
             | inl on ↦
                 let whole : onto_place i c (places_from (i + 1) rest) ≡ x ∷ (xs ++ (p, t) ∷ qs) = rw on at (sym (other_place i c rest word none other) ∙ e) in
                 let parts = onto_parts i c (places_from (i + 1) rest) x xs qs (p, t) whole in

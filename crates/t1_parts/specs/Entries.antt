@@ -84,8 +84,8 @@ abbrev pub NumberedItem : Type 0
 NumberedItem = ℕ × Item
 
 -- profile, entries: whether one of the items passes the test
-abbrev pub has : (Item → Bool) → List NumberedItem → Bool
-has test items = list_any (λ i. test i.1) items
+abbrev pub has_numbered : (Item → Bool) → List NumberedItem → Bool
+has_numbered test items = list_any (λ i. test i.1) items
 
 -- profile, entries: the entry with this body
 abbrev pub entry_of : (List (List ℕ) → List ℕ → Item) → EntryBody → Taken
@@ -95,10 +95,10 @@ entry_of entry b = (entry b.words b.closing, b.more)
 unfoldable pub subr_entry : List NumberedItem → List ℕ → Option EntryBody → Result Taken Code
 subr_entry earlier t body = do
   n ← ok_or (up_to 32000 (decimal_of t)) F8
-  if has (is_subr n) earlier then Err F9 else ok_or (option_map (entry_of (Subr n)) body) F7
+  if has_numbered (is_subr n) earlier then Err F9 else ok_or (option_map (entry_of (Subr n)) body) F7
 
 -- profile, entries: a name that no earlier glyph has, and a finished body
 unfoldable pub glyph_entry : List NumberedItem → List ℕ → Option EntryBody → Result Taken Code
 glyph_entry earlier t body = do
   g ← ok_or (name_of_token t) F8
-  if has (is_glyph g) earlier then Err F10 else ok_or (option_map (entry_of (Glyph g)) body) F7
+  if has_numbered (is_glyph g) earlier then Err F10 else ok_or (option_map (entry_of (Glyph g)) body) F7

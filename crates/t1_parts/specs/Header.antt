@@ -7,7 +7,7 @@ use Rattle.t1_frac.specs.Ascii.{backslash, close_parenthesis, open_parenthesis, 
 use Rattle.t1_frac.specs.Words.{trimmed_front}
 use Rattle.t1_parts.specs.SourceParts.{SourceParts}
 use Rattle.t1_text.specs.Lines.{begins_with}
-use Rattle.t1_text.specs.Tokens.{tokens, first_token, goes_on}
+use Rattle.t1_text.specs.Tokens.{tokens, first_token, token_goes_on}
 use Rattle.t1_text.specs.Names.{name_of_token}
 
 -- profile, header keys: a value, where it isn't empty
@@ -48,7 +48,7 @@ token_value rest = first_token (tokens rest)
 abbrev pub after_key : List ℕ → List ℕ → Option (List ℕ)
 after_key key [] = None
 after_key key (c ∷ rest) =
-    if c == slash && starts_with (λ x y. x == y) rest key && not (goes_on (drop (length key) rest)) then Some (trimmed_front (drop (length key) rest))
+    if c == slash && starts_with (λ x y. x == y) rest key && not (token_goes_on (drop (length key) rest)) then Some (trimmed_front (drop (length key) rest))
     else None
 
 -- profile, header keys: the first line with the key decides; the bytes of it after the key

@@ -10,7 +10,7 @@ use Rattle.t1_parts.specs.SourceParts.{SourceParts}
 use Rattle.t1_text.specs.Lines.{lines}
 use Rattle.t1_parts.specs.Encoding.{clear_check, chooses_standard}
 use Rattle.t1_parts.specs.Sections.{is_glyphs_line}
-use Rattle.t1_parts.specs.Entries.{NumberedItem, has}
+use Rattle.t1_parts.specs.Entries.{NumberedItem, has_numbered}
 use Rattle.t1_parts.specs.Private.{private_items}
 use Rattle.t1_parts.specs.Parts.{parts_of, tail_of}
 use Rattle.t1_parts.specs.Counts.{raised}
@@ -23,7 +23,7 @@ unnumbered items = map (λ i. i.1) items
 -- profile, sources: the fault of the private items as a whole
 unfoldable pub whole_check : List NumberedItem → Result (Unit {0}) Fault
 whole_check items =
-    if has is_glyphs_line items then (lead_check (filter_map said_with_line items) >>= λ lead. Ok tt)
+    if has_numbered is_glyphs_line items then (lead_check (filter_map said_with_line items) >>= λ lead. Ok tt)
     else Err (fault_at Nowhere F3)
 
 -- profile, sources: the source of the lines, or the first fault

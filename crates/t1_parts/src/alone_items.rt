@@ -9,7 +9,8 @@ use crate::stretch::Stretch;
 use std::marker::Model;
 use std::slice;
 
-/// The items that are left but for the plain lines that say nothing of lenIV, one after another. Contracts see their list.
+/// The items that are left but for the plain lines that say nothing of lenIV, one after another.
+/// Contracts see their list.
 #[derive(Drop)]
 pub struct AloneItems<'i, 'a> {
     first: Option<&'i Item<'a>>,
@@ -23,7 +24,8 @@ impl<'i, 'a> Model for AloneItems<'i, 'a> {
 
     ghost Value = { List Item };
 
-    ghost view = { λ left. filter stands_alone (one_item left.first ++ items_in left.stretches.rest.now) };
+    ghost view = { λ left.
+        filter stands_alone (one_item left.first ++ items_in left.stretches.rest.now) };
 }
 
 /// Whether an item never stands among plain lines.
@@ -41,7 +43,8 @@ pub(crate) fn stands_alone(item: &Item) -> bool
 
 /// The next item of some stretches that never stands among plain lines.
 fn next_alone<'i, 'a>(stretches: &mut slice::Iter<'i, Stretch<'a>>) -> Option<&'i Item<'a>>
-    ensures { IsNextAlone (items_in stretches.old.rest.now) result (items_in stretches.new.rest.now) }
+    ensures { IsNextAlone (items_in stretches.old.rest.now) result
+        (items_in stretches.new.rest.now) }
 {
     while let Some(stretch) = stretches.next() {
         if let Some(item) = stretch.alone() {
@@ -57,7 +60,8 @@ impl<'i, 'a> AloneItems<'i, 'a> {
         first: Option<&'i Item<'a>>,
         stretches: slice::Iter<'i, Stretch<'a>>,
     ) -> Self
-        ensures { result ≡ filter stands_alone (one_item first.entry ++ items_in stretches.entry.rest.now) }
+        ensures { result
+            ≡ filter stands_alone (one_item first.entry ++ items_in stretches.entry.rest.now) }
     {
         AloneItems { first, stretches }
     }

@@ -1,13 +1,14 @@
 //! The bodies of entries: words, comments, closing text.
 
-ghost use Rattle.std.specs.Prelude.{◌≡◌, ◌≤◌, ◌+◌, ◌==◌, ◌∷◌, ℕ, List, length, drop, IfOk, IfSome, option_map};
+ghost use Rattle.std.specs.Prelude.{◌≡◌, ◌≤◌, ◌+◌, ◌==◌, ◌∷◌, ℕ, List, length, drop, IfOk, IfSome};
+ghost use Rattle.std.specs.Prelude.{option_map};
 ghost use Rattle.std.specs.List.{after_first, list_any, position_or_len};
 ghost use Rattle.t1_frac.specs.Ascii.{open_brace, percent};
 ghost use Rattle.t1_text.specs.Lines.{lines};
 ghost use Rattle.t1_text.specs.Tokens.{uncommented};
 ghost use Rattle.t1_text.specs.Delimiters.{is_brace};
 ghost use Rattle.t1_parts.specs.Entries.{has_brace, body_of, opened_body};
-ghost use Rattle.t1_parts.specs.Pieces.{IsAfter};
+ghost use Rattle.t1_parts.specs.Pieces.{AreLinesAfter};
 
 use crate::piece::{Piece, piece_of};
 use std::alloc::{AllocError, Global};
@@ -58,10 +59,12 @@ fn has_any_brace(line: &[u8]) -> bool
     line.iter().any(|byte| is_brace(*byte))
 }
 
-/// The body at the front of some bytes, of which the first piece has a comment after it, with words in memory of its own.
+/// The body at the front of some bytes, of which the first piece has a comment after it, with words
+/// in memory of its own.
 fn commented_body(alloc: Global, bytes: &[u8]) -> Result<Option<(EntryBody<'_>, &[u8])>, AllocError>
     ensures value { IfOk result (λ found. option_map (λ f. f.0) found ≡ body_of (lines bytes.now)) }
-    ensures after { IfOk result (λ found. IfSome found (λ f. IsAfter (f.0.more + 1) bytes.now f.1.now)) }
+    ensures after { IfOk result
+        (λ found. IfSome found (λ f. AreLinesAfter (f.0.more + 1) bytes.now f.1.now)) }
 {
     let mut words = OwnedWords::new(alloc);
     let mut more = 0;
@@ -84,11 +87,12 @@ fn commented_body(alloc: Global, bytes: &[u8]) -> Result<Option<(EntryBody<'_>, 
     Ok(Some((body, after)))
 }
 
-/// The body at the front of some bytes, and the bytes after the line on which it ends; nothing where it isn't ended. Its words
-/// stay where they stand, unless there is a comment among them.
+/// The body at the front of some bytes, and the bytes after the line on which it ends; nothing
+/// where it isn't ended. Its words stay where they stand, unless there is a comment among them.
 pub fn body_of(alloc: Global, bytes: &[u8]) -> Result<Option<(EntryBody<'_>, &[u8])>, AllocError>
     ensures value { IfOk result (λ found. option_map (λ f. f.0) found ≡ body_of (lines bytes.now)) }
-    ensures after { IfOk result (λ found. IfSome found (λ f. IsAfter (f.0.more + 1) bytes.now f.1.now)) }
+    ensures after { IfOk result
+        (λ found. IfSome found (λ f. AreLinesAfter (f.0.more + 1) bytes.now f.1.now)) }
 {
     match piece_of(bytes) {
         Piece::Closed(front, closing, after) => {
@@ -122,7 +126,8 @@ fn opening_end(line: &[u8]) -> usize
     if start < line.len() { start + 1 } else { start }
 }
 
-/// The body that opens on the first line of some bytes, and the bytes after the line on which it ends.
+/// The body that opens on the first line of some bytes, and the bytes after the line on which it
+/// ends.
 #[tactic(auto, using(crate::proofs::OpeningLaws::opened, crate::proofs::OpeningLaws::opened_after))]
 pub fn opened_body<'a>(
     alloc: Global,
@@ -130,8 +135,13 @@ pub fn opened_body<'a>(
     bytes: &'a [u8],
 ) -> Result<Option<(EntryBody<'a>, &'a [u8])>, AllocError>
     requires { length line.now ≤ length bytes.now }
-    ensures value { (ls : List (List ℕ)) → lines bytes.now ≡ line.now ∷ ls → IfOk result (λ found. option_map (λ f. f.0) found ≡ opened_body line.now ls) }
-    ensures after { (ls : List (List ℕ)) → lines bytes.now ≡ line.now ∷ ls → IfOk result (λ found. IfSome found (λ f. IsAfter (f.0.more + 1) bytes.now f.1.now)) }
+    ensures value { (ls : List (List ℕ))
+        → lines bytes.now ≡ line.now ∷ ls
+        → IfOk result (λ found. option_map (λ f. f.0) found ≡ opened_body line.now ls) }
+    ensures after { (ls : List (List ℕ))
+        → lines bytes.now ≡ line.now ∷ ls
+        → IfOk result
+        (λ found. IfSome found (λ f. AreLinesAfter (f.0.more + 1) bytes.now f.1.now)) }
 {
     let text = bytes.split_at(opening_end(line)).1;
     body_of(alloc, text)

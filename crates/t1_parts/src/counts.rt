@@ -8,7 +8,8 @@ use crate::items::Items;
 use crate::items_iter::ItemsIter;
 use crate::sections::is_glyphs_line;
 
-/// What the Subrs of these items ask of the section's count: the highest number plus one, 0 where there is none.
+/// What the Subrs of these items ask of the section's count: the highest number plus one, 0 where
+/// there is none.
 #[tactic(auto, using(crate::proofs::AloneLaws::subrs_alone))]
 pub fn subrs_needed(items: ItemsIter) -> u64
     ensures { result ≡ subrs_needed items.entry }

@@ -1,13 +1,18 @@
 //! Judging the encoding of a clear part.
 
-ghost use Rattle.std.specs.Prelude.{◌≡◌, ◌+◌, ◌≤◌, ◌<◌, ◌^◌, ◌∷◌, length, nat_le, option_map, IfSome, ◌&&◌, if◌then◌else◌};
+ghost use Rattle.std.specs.Prelude.{◌≡◌, ◌+◌, ◌≤◌, ◌<◌, ◌^◌, ◌∷◌, length, nat_le, option_map};
+ghost use Rattle.std.specs.Prelude.{IfSome, ◌&&◌, if◌then◌else◌};
 ghost use Rattle.std.specs.List.{list_any, position, position_or_len};
 ghost use Rattle.t1_frac.specs.Ascii.{digit_seven, digit_zero};
 ghost use Rattle.t1_frac.specs.declared.fault.Place.TheVariants as places;
 ghost use Rattle.t1_frac.specs.Outcome.{reported_at};
 ghost use Rattle.t1_text.specs.Tokens.{tokens};
 ghost use Rattle.t1_text.specs.Names.{up_to};
-ghost use Rattle.t1_parts.specs.Encoding.{opens_encoding, ends_array, is_standard, is_array, is_bad_slot, array_lines, from_encoding, opening_check, later_check, array_check, lines_check, clear_check, chooses_standard, code_of_token, slot_of_tokens, octal_of};
+ghost use Rattle.t1_parts.specs.Encoding.{opens_encoding, ends_array, is_standard, is_array};
+ghost use Rattle.t1_parts.specs.Encoding.{is_bad_slot, array_lines, from_encoding, opening_check};
+ghost use Rattle.t1_parts.specs.Encoding.{later_check, array_check, lines_check, clear_check};
+ghost use Rattle.t1_parts.specs.Encoding.{chooses_standard, code_of_token, slot_of_tokens};
+ghost use Rattle.t1_parts.specs.Encoding.{octal_of};
 
 use t1_frac::{Bytes, Code, Fault};
 use t1_text::{
@@ -161,7 +166,8 @@ fn code_of_token(token: &[u8]) -> Option<u8>
 
 /// The code and the name of a slot.
 pub fn slot_of(line: &[u8]) -> Option<(u8, &[u8])>
-    ensures value { option_map (λ slot. (slot.0, slot.1.now)) result ≡ slot_of_tokens (tokens line.now) }
+    ensures value { option_map (λ slot. (slot.0, slot.1.now)) result
+        ≡ slot_of_tokens (tokens line.now) }
     ensures byte { IfSome result (λ slot. slot.0 < 256) }
 {
     let Some((dup, after)) = next_token(line) else {
@@ -201,7 +207,9 @@ fn is_bad_slot(line: &[u8]) -> bool
 /// Judges a line of the array, or one after it.
 #[tactic(auto, unfolding(crate::specs::Encoding::later_check, crate::specs::Encoding::array_check))]
 fn check_line(number: u64, in_array: bool, line: &[u8]) -> Result<(), Fault>
-    ensures { result ≡ reported_at (places.Line number) ((if in_array then array_check else later_check) line.now) }
+    ensures { result
+        ≡ reported_at (places.Line number)
+        ((if in_array then array_check else later_check) line.now) }
 {
     if opens_encoding(line) {
         return Err(fault_on(number, Code::F5));
@@ -216,7 +224,8 @@ fn check_line(number: u64, in_array: bool, line: &[u8]) -> Result<(), Fault>
 #[tactic(auto, using(crate::proofs::EncodingLaws::line_passes, crate::proofs::EncodingLaws::line_stops))]
 fn check_lines(number: u64, in_array: bool, lines: &[Bytes]) -> Result<(), Fault>
     requires { number + length lines.now < 2 ^ 64 }
-    ensures { result ≡ lines_check (if in_array then array_check else later_check) number lines.now }
+    ensures { result
+        ≡ lines_check (if in_array then array_check else later_check) number lines.now }
 {
     let mut number = number;
     for line in lines {

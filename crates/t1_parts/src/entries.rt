@@ -6,8 +6,9 @@ ghost use Rattle.t1_frac.specs.declared.fault.Place.TheVariants as places;
 ghost use Rattle.t1_frac.specs.Outcome.{Gives, reported_at};
 ghost use Rattle.t1_text.specs.Lines.{begins_with, lines};
 ghost use Rattle.t1_text.specs.Tokens.{tokens};
-ghost use Rattle.t1_parts.specs.Entries.{glyph_name, opens_subr, opens_glyph, opened_body, subr_entry, glyph_entry};
-ghost use Rattle.t1_parts.specs.Pieces.{IsAfter};
+ghost use Rattle.t1_parts.specs.Entries.{glyph_name, opens_subr, opens_glyph, opened_body};
+ghost use Rattle.t1_parts.specs.Entries.{subr_entry, glyph_entry};
+ghost use Rattle.t1_parts.specs.Pieces.{AreLinesAfter};
 
 use crate::body::opened_body;
 use crate::gathered::Gathered;
@@ -47,12 +48,16 @@ pub fn subr_entry<'a>(
     bytes: &'a [u8],
 ) -> Result<Taken<'a>, Refusal>
     requires { length line.now ≤ length bytes.now }
-    ensures value { (ls : List (List ℕ)) → lines bytes.now ≡ line.now ∷ ls → Gives
-        (λ taken. (taken.item, taken.more))
-        result
-        (reported_at (places.Line number) (subr_entry earlier.now token.now (opened_body line.now ls))) }
-    ensures named { IfOk result (λ taken. option_map (λ n. n.now) taken.name ≡ glyph_name taken.item) }
-    ensures after { (ls : List (List ℕ)) → lines bytes.now ≡ line.now ∷ ls → IfOk result (λ taken. IsAfter (taken.more + 1) bytes.now taken.after.now) }
+    ensures value { (ls : List (List ℕ))
+        → lines bytes.now ≡ line.now ∷ ls
+        → Gives (λ taken. (taken.item, taken.more)) result
+        (reported_at (places.Line number)
+        (subr_entry earlier.now token.now (opened_body line.now ls))) }
+    ensures named { IfOk result
+        (λ taken. option_map (λ n. n.now) taken.name ≡ glyph_name taken.item) }
+    ensures after { (ls : List (List ℕ))
+        → lines bytes.now ≡ line.now ∷ ls
+        → IfOk result (λ taken. AreLinesAfter (taken.more + 1) bytes.now taken.after.now) }
 {
     let Some(subr) = decimal_up_to(32000, token) else {
         return Err(Refusal::from(fault_on(number, Code::F8)));
@@ -110,12 +115,16 @@ pub fn glyph_entry<'a>(
     bytes: &'a [u8],
 ) -> Result<Taken<'a>, Refusal>
     requires { length line.now ≤ length bytes.now }
-    ensures value { (ls : List (List ℕ)) → lines bytes.now ≡ line.now ∷ ls → Gives
-        (λ taken. (taken.item, taken.more))
-        result
-        (reported_at (places.Line number) (glyph_entry earlier.now token.now (opened_body line.now ls))) }
-    ensures named { IfOk result (λ taken. option_map (λ n. n.now) taken.name ≡ glyph_name taken.item) }
-    ensures after { (ls : List (List ℕ)) → lines bytes.now ≡ line.now ∷ ls → IfOk result (λ taken. IsAfter (taken.more + 1) bytes.now taken.after.now) }
+    ensures value { (ls : List (List ℕ))
+        → lines bytes.now ≡ line.now ∷ ls
+        → Gives (λ taken. (taken.item, taken.more)) result
+        (reported_at (places.Line number)
+        (glyph_entry earlier.now token.now (opened_body line.now ls))) }
+    ensures named { IfOk result
+        (λ taken. option_map (λ n. n.now) taken.name ≡ glyph_name taken.item) }
+    ensures after { (ls : List (List ℕ))
+        → lines bytes.now ≡ line.now ∷ ls
+        → IfOk result (λ taken. AreLinesAfter (taken.more + 1) bytes.now taken.after.now) }
 {
     let Some(name) = name_of_token(token) else {
         return Err(Refusal::from(fault_on(number, Code::F8)));

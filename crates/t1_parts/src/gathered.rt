@@ -1,9 +1,10 @@
 //! The items read so far.
 
-ghost use Rattle.std.specs.Prelude.{◌≡◌, ◌<◌, ◌+◌, ◌^◌, ◌∷◌, [], ◌++◌, length, IfOk, OnOk, option_map};
+ghost use Rattle.std.specs.Prelude.{◌≡◌, ◌<◌, ◌+◌, ◌^◌, ◌∷◌, [], ◌++◌, length, IfOk, OnOk};
+ghost use Rattle.std.specs.Prelude.{option_map};
 ghost use Rattle.t1_text.specs.Lines.{lines};
 ghost use Rattle.t1_parts.specs.Sections.{is_subrs_line, is_glyphs_line};
-ghost use Rattle.t1_parts.specs.Entries.{glyph_name, has, is_subr, is_glyph};
+ghost use Rattle.t1_parts.specs.Entries.{glyph_name, has_numbered, is_subr, is_glyph};
 ghost use Rattle.std.specs.List.{find};
 ghost use Rattle.t1_parts.specs.Gathered.{KeepsNames, KeepsNumbers};
 ghost use Rattle.t1_parts.specs.LenIV.{says_lead};
@@ -21,15 +22,16 @@ use std::collections::BTreeSet;
 use std::marker::Model;
 use t1_frac::SourceText;
 
-/// As many plain lines that follow one another stand together at least. Where fewer do, they stand one by one, so that a font of
-/// entries with a few lines between them has no lines that stand together, and the item of a place is found at once.
+/// As many plain lines that follow one another stand together at least. Where fewer do, they stand
+/// one by one, so that a font of entries with a few lines between them has no lines that stand
+/// together, and the item of a place is found at once.
 const FEWEST_TOGETHER: usize = 64;
 
 /// How many bytes an item is taken to have, where room is made for those to come.
 const BYTES_OF_AN_ITEM: usize = 256;
 
-/// The items read so far, each with the number of its first line, and what later lines ask of them; the glyphs' names are
-/// kept where they stand in the source. Contracts see the list of the items.
+/// The items read so far, each with the number of its first line, and what later lines ask of them;
+/// the glyphs' names are kept where they stand in the source. Contracts see the list of the items.
 #[derive(Drop)]
 pub struct Gathered<'a> {
     numbers: Vec<u64>,
@@ -44,8 +46,8 @@ pub struct Gathered<'a> {
 impl<'a> Model for Gathered<'a> {
     ghost use Rattle.std.specs.Prelude.{◌≡◌, List, true, length};
     ghost use Rattle.t1_parts.specs.Sections.{is_subrs_line, is_glyphs_line};
-    ghost use Rattle.t1_parts.specs.Entries.{NumberedItem, has};
-    ghost use Rattle.t1_parts.specs.Gathered.{HasNumbers, HasNames};
+    ghost use Rattle.t1_parts.specs.Entries.{NumberedItem, has_numbered};
+    ghost use Rattle.t1_parts.specs.Gathered.{HasNumbers, AreGlyphsNames};
     ghost use Rattle.t1_parts.specs.Items.{AreSingle};
     ghost use Rattle.t1_parts.specs.NumberedStretches.{numbered_in};
 
@@ -54,10 +56,12 @@ impl<'a> Model for Gathered<'a> {
     ghost view = { λ g. numbered_in g.numbers.items g.stretches.items };
 
     ghost invariant = { λ g.
-        (g.has_subrs_line ≡ has is_subrs_line (numbered_in g.numbers.items g.stretches.items))
-        × (g.has_glyphs_line ≡ has is_glyphs_line (numbered_in g.numbers.items g.stretches.items))
+        (g.has_subrs_line
+        ≡ has_numbered is_subrs_line (numbered_in g.numbers.items g.stretches.items))
+        × (g.has_glyphs_line
+        ≡ has_numbered is_glyphs_line (numbered_in g.numbers.items g.stretches.items))
         × HasNumbers g.subrs.keys (numbered_in g.numbers.items g.stretches.items)
-        × HasNames g.glyphs.keys (numbered_in g.numbers.items g.stretches.items)
+        × AreGlyphsNames g.glyphs.keys (numbered_in g.numbers.items g.stretches.items)
         × (length g.numbers.items ≡ length g.stretches.items)
         × (g.are_single ≡ true → AreSingle g.stretches.items) };
 }
@@ -68,7 +72,8 @@ fn first_saying<'s, 'a>(
     stretches: &'s [Stretch<'a>],
 ) -> Option<(u64, &'s Item<'a>)>
     requires { length numbers.now ≡ length stretches.now }
-    ensures { option_map (λ i. (i.0, i.1.now)) result ≡ find (λ i. says_lead i.1) (numbered_in numbers.now stretches.now) }
+    ensures { option_map (λ i. (i.0, i.1.now)) result
+        ≡ find (λ i. says_lead i.1) (numbered_in numbers.now stretches.now) }
 {
     for at in 0..stretches.len() {
         let stretch = &stretches[at];
@@ -91,7 +96,8 @@ fn keep_number(subrs: &mut BTreeSet<u16>, item: &Item) -> Result<(), AllocError>
 
 /// Keeps the name of a further item, where it is a glyph.
 fn keep_name<'a>(glyphs: &mut IndexSet<&'a [u8]>, name: Option<&'a [u8]>) -> Result<(), AllocError>
-    ensures { OnOk result (KeepsNames glyphs.old.keys glyphs.new.keys (option_map (λ n. n.now) name.entry)) }
+    ensures { OnOk result
+        (KeepsNames glyphs.old.keys glyphs.new.keys (option_map (λ n. n.now) name.entry)) }
 {
     if let Some(name) = name {
         glyphs.insert(name)?;
@@ -107,7 +113,8 @@ fn push_numbered<'a>(
     stretch: Stretch<'a>,
 ) -> Result<(), AllocError>
     ensures number { OnOk result (numbers.new.items ≡ numbers.old.items ++ number ∷ []) }
-    ensures stretch { OnOk result (stretches.new.items ≡ stretches.old.items ++ stretch.entry ∷ []) }
+    ensures stretch { OnOk result
+        (stretches.new.items ≡ stretches.old.items ++ stretch.entry ∷ []) }
 {
     numbers.push(number)?;
     stretches.push(stretch)?;
@@ -115,8 +122,8 @@ fn push_numbered<'a>(
 }
 
 impl<'a> Gathered<'a> {
-    /// No items, with room for those that so many bytes may have. An entry of a font takes some 256 bytes or more; where the items
-    /// are more, the room grows.
+    /// No items, with room for those that so many bytes may have. An entry of a font takes some 256
+    /// bytes or more; where the items are more, the room grows.
     pub fn for_bytes(alloc: Global, len: usize) -> Result<Self, AllocError>
         ensures { IfOk result (λ g. g ≡ []) }
     {
@@ -134,41 +141,42 @@ impl<'a> Gathered<'a> {
 
     /// Whether a Subrs line came before.
     pub fn has_subrs_line(&self) -> bool
-        ensures { result ≡ has is_subrs_line self.now }
+        ensures { result ≡ has_numbered is_subrs_line self.now }
     {
         self.has_subrs_line
     }
 
     /// Whether a CharStrings line came before.
     pub fn has_glyphs_line(&self) -> bool
-        ensures { result ≡ has is_glyphs_line self.now }
+        ensures { result ≡ has_numbered is_glyphs_line self.now }
     {
         self.has_glyphs_line
     }
 
     /// Whether the Subr of this number came before.
     pub fn has_subr(&self, number: u16) -> bool
-        ensures { result ≡ has (is_subr number) self.now }
+        ensures { result ≡ has_numbered (is_subr number) self.now }
     {
         self.subrs.contains(&number)
     }
 
     /// Whether the glyph of this name came before.
     pub fn has_glyph(&self, name: &[u8]) -> bool
-        ensures { result ≡ has (is_glyph name.now) self.now }
+        ensures { result ≡ has_numbered (is_glyph name.now) self.now }
     {
         self.glyphs.contains(name)
     }
 
-    /// The first item that says lenIV, with its number. Lines that stand together say nothing of it.
+    /// The first item that says lenIV, with its number. Lines that stand together say nothing of
+    /// it.
     pub fn first_saying(&self) -> Option<(u64, &Item<'a>)>
         ensures { option_map (λ i. (i.0, i.1.now)) result ≡ find (λ i. says_lead i.1) self.now }
     {
         first_saying(self.numbers.as_slice(), self.stretches.as_slice())
     }
 
-    /// The items without their numbers. None of them is copied. Want of memory is answered where they are 2^64 or more, which no
-    /// memory holds.
+    /// The items without their numbers. None of them is copied. Want of memory is answered where
+    /// they are 2^64 or more, which no memory holds.
     pub fn into_items(self) -> Result<Items<'a>, AllocError>
         ensures { IfOk result (λ items. items ≡ unnumbered self.entry) }
     {
@@ -209,7 +217,8 @@ impl<'a> Gathered<'a> {
         })
     }
 
-    /// The items and the lines of some bytes as plain ones that stand one by one, of which the first has this number.
+    /// The items and the lines of some bytes as plain ones that stand one by one, of which the
+    /// first has this number.
     fn with_each(self, number: u64, bytes: &'a [u8]) -> Result<Self, AllocError>
         requires { number + length (lines bytes.now) < 2 ^ 64 }
         ensures { IfOk result (λ g. g ≡ self.entry ++ numbered_lines number (lines bytes.now)) }
@@ -227,7 +236,8 @@ impl<'a> Gathered<'a> {
         Ok(items)
     }
 
-    /// The items and some plain lines, of which the first has this number. Only many of them stand together.
+    /// The items and some plain lines, of which the first has this number. Only many of them stand
+    /// together.
     pub(crate) fn with_lines(self, number: u64, plain: PlainLines<'a>) -> Result<Self, AllocError>
         requires { number + length plain < 2 ^ 64 }
         ensures { IfOk result (λ g. g ≡ self.entry ++ numbered_lines number plain.entry) }
@@ -238,7 +248,8 @@ impl<'a> Gathered<'a> {
         self.with_together(number, plain)
     }
 
-    /// The items and a further one, which begins on the line of this number. Where it is a glyph, its name comes with it.
+    /// The items and a further one, which begins on the line of this number. Where it is a glyph,
+    /// its name comes with it.
     pub fn with(
         self,
         number: u64,

@@ -4,8 +4,9 @@ ghost use Rattle.std.specs.Prelude.{◌≡◌, ◌≤◌, ◌<◌, ◌+◌, leng
 ghost use Rattle.std.specs.List.{list_any};
 ghost use Rattle.std.specs.Str.{bytes_eq};
 ghost use Rattle.t1_frac.specs.Words.{trimmed_front};
-ghost use Rattle.t1_text.specs.Tokens.{goes_on};
-ghost use Rattle.t1_parts.specs.Header.{before_balance, name_value, text_value, after_key, keyed, text_keys, token_keys, header_among};
+ghost use Rattle.t1_text.specs.Tokens.{token_goes_on};
+ghost use Rattle.t1_parts.specs.Header.{before_balance, name_value, text_value, after_key, keyed};
+ghost use Rattle.t1_parts.specs.Header.{text_keys, token_keys, header_among};
 
 use t1_frac::{Bytes, skip_blanks};
 use t1_text::{first_token, is_regular, name_of_token, same};
@@ -64,7 +65,7 @@ fn text_value(rest: &[u8]) -> Option<&[u8]>
 
 /// Whether a token that has come this far goes on.
 fn goes_on(rest: &[u8]) -> bool
-    ensures { result ≡ goes_on rest.now }
+    ensures { result ≡ token_goes_on rest.now }
 {
     match rest {
         [first, ..] => is_regular(*first),

@@ -5,7 +5,8 @@ ghost use Rattle.std.specs.Prelude.{◌≡◌, IfOk};
 use std::alloc::{AllocError, Global};
 use t1_frac::{SourceText, Words};
 
-/// One item of the private part; its texts stand in the source that was read, or in memory of their own.
+/// One item of the private part; its texts stand in the source that was read, or in memory of their
+/// own.
 #[derive(Debug, Drop)]
 pub enum Item<'a> {
     /// A line that is kept as it stands.
@@ -18,7 +19,8 @@ pub enum Item<'a> {
     Glyph(SourceText<'a>, Words<'a>, SourceText<'a>),
 }
 
-/// An item that was read, with its name where it is a glyph: how many lines it takes after its first, and the bytes after them.
+/// An item that was read, with its name where it is a glyph: how many lines it takes after its
+/// first, and the bytes after them.
 #[derive(Drop)]
 pub struct Taken<'a> {
     pub item: Item<'a>,

@@ -21,7 +21,8 @@ pub enum ItemRef<'i, 'a> {
 impl<'i, 'a> ItemRef<'i, 'a> {
     /// The item, where it doesn't stand among lines.
     pub fn as_item(&self) -> Option<&'i Item<'a>>
-        ensures { MatchOption result (IsPlain (item_of self.now)) (λ item. item.now ≡ item_of self.now) }
+        ensures { MatchOption result (IsPlain (item_of self.now))
+            (λ item. item.now ≡ item_of self.now) }
     {
         match self {
             ItemRef::Line(_line) => None,

@@ -1,6 +1,7 @@
 //! The items of a private part in memory.
 
-ghost use Rattle.std.specs.Prelude.{◌≡◌, ◌<◌, ◌≤◌, ◌^◌, ◌++◌, ◌∷◌, [], true, length, map, take, drop, slice_set, IfOk, OnOk, OnErr, IsOk, option_map};
+ghost use Rattle.std.specs.Prelude.{◌≡◌, ◌<◌, ◌≤◌, ◌^◌, ◌++◌, ◌∷◌, [], true, length, map, take};
+ghost use Rattle.std.specs.Prelude.{drop, slice_set, IfOk, OnOk, OnErr, IsOk, option_map};
 ghost use Rattle.std.specs.List.{insert, remove, slice_get, slice_index_or};
 ghost use Rattle.t1_parts.specs.declared.item.Item.{Item};
 ghost use Rattle.t1_parts.specs.Counts.{raised_item};
@@ -18,8 +19,9 @@ use crate::stretches::{
 use std::alloc::{AllocError, Global};
 use std::marker::Model;
 
-/// The items of a private part. Plain lines that follow one another may stand together, as the bytes that were read; where
-/// none do, the item of a place is found at once. Contracts see the list of the items, with an item for each plain line.
+/// The items of a private part. Plain lines that follow one another may stand together, as the
+/// bytes that were read; where none do, the item of a place is found at once. Contracts see the
+/// list of the items, with an item for each plain line.
 #[derive(Debug, Drop)]
 pub struct Items<'a> {
     stretches: Vec<Stretch<'a>>,
@@ -53,7 +55,8 @@ impl<'a> Items<'a> {
         }
     }
 
-    /// The items of some stretches, of which each may be known to be one item. None of them is copied.
+    /// The items of some stretches, of which each may be known to be one item. None of them is
+    /// copied.
     pub(crate) fn of_stretches(
         stretches: Vec<Stretch<'a>>,
         are_single: bool,
@@ -201,8 +204,8 @@ impl<'a> Items<'a> {
         Ok(())
     }
 
-    /// Takes the item at a place out. Only a plain line that says nothing of lenIV may take memory; where it runs out, nothing has
-    /// changed.
+    /// Takes the item at a place out. Only a plain line that says nothing of lenIV may take memory;
+    /// where it runs out, nothing has changed.
     pub fn take_out(&mut self, at: usize) -> Result<(), AllocError>
         requires { at < length self.old }
         ensures ok { OnOk result (self.new ≡ remove self.old at) }
@@ -215,8 +218,8 @@ impl<'a> Items<'a> {
         Ok(())
     }
 
-    /// Puts an item in the place of another. Only in the place of a plain line that says nothing of lenIV it may take memory; where
-    /// it runs out, nothing has changed.
+    /// Puts an item in the place of another. Only in the place of a plain line that says nothing of
+    /// lenIV it may take memory; where it runs out, nothing has changed.
     pub fn put(&mut self, at: usize, item: Item<'a>) -> Result<(), AllocError>
         requires { at < length self.old }
         ensures ok { OnOk result (self.new ≡ slice_set self.old at item.entry) }

@@ -12,8 +12,8 @@ use crate::stretch::Stretch;
 use std::marker::Model;
 use std::slice;
 
-/// The items that are left, one after another: an item, and those of some lines, of some stretches and of further lines.
-/// Contracts see their list.
+/// The items that are left, one after another: an item, and those of some lines, of some stretches
+/// and of further lines. Contracts see their list.
 #[derive(Drop)]
 pub struct ItemsIter<'i, 'a> {
     first: Option<&'i Item<'a>>,
@@ -31,10 +31,17 @@ impl<'i, 'a> Model for ItemsIter<'i, 'a> {
 
     ghost Value = { List Item };
 
-    ghost view = { λ left. one_item left.first ++ (line_items (lines left.front.now) ++ (items_in left.stretches.rest.now ++ line_items (lines left.back.now))) };
+    ghost view = { λ left.
+        one_item left.first
+        ++ (line_items (lines left.front.now)
+        ++ (items_in left.stretches.rest.now ++ line_items (lines left.back.now))) };
 
     ghost invariant = { λ left.
-        (left.len ≡ length (one_item left.first ++ (line_items (lines left.front.now) ++ (items_in left.stretches.rest.now ++ line_items (lines left.back.now)))))
+        (left.len
+        ≡ length
+        (one_item left.first
+        ++ (line_items (lines left.front.now)
+        ++ (items_in left.stretches.rest.now ++ line_items (lines left.back.now)))))
         × (lines_say (lines left.front.now) ≡ false)
         × (lines_say (lines left.back.now) ≡ false) };
 }
@@ -97,7 +104,8 @@ impl<'i, 'a> ItemsIter<'i, 'a> {
         *len
     }
 
-    /// The items but for the plain lines that say nothing of lenIV. Lines that stand together are passed over as a whole.
+    /// The items but for the plain lines that say nothing of lenIV. Lines that stand together are
+    /// passed over as a whole.
     pub fn alone(self) -> AloneItems<'i, 'a>
         ensures { result ≡ filter stands_alone self.entry }
     {
@@ -127,8 +135,12 @@ pub(crate) fn items_between<'i, 'a>(
 ) -> ItemsIter<'i, 'a>
     requires front { lines_say (lines front.now) ≡ false }
     requires back { lines_say (lines back.now) ≡ false }
-    requires len { len ≡ length (line_items (lines front.now) ++ (items_in stretches.now ++ line_items (lines back.now))) }
-    ensures { result ≡ line_items (lines front.now) ++ (items_in stretches.now ++ line_items (lines back.now)) }
+    requires len { len
+        ≡ length
+        (line_items (lines front.now)
+        ++ (items_in stretches.now ++ line_items (lines back.now))) }
+    ensures { result
+        ≡ line_items (lines front.now) ++ (items_in stretches.now ++ line_items (lines back.now)) }
 {
     ItemsIter {
         first: None,

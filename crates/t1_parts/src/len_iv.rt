@@ -4,7 +4,8 @@ ghost use Rattle.std.specs.Prelude.{◌≡◌, option_and_then, option_map, filt
 ghost use Rattle.std.specs.List.{find};
 ghost use Rattle.t1_parts.specs.ItemRefs.{item_of};
 ghost use Rattle.t1_parts.specs.Items.{line_says};
-ghost use Rattle.t1_parts.specs.LenIV.{plain_line, said_lead, says_lead, lead_of_token, said_with_line, lead_check, lead_among};
+ghost use Rattle.t1_parts.specs.LenIV.{plain_line, said_lead, says_lead, lead_of_token};
+ghost use Rattle.t1_parts.specs.LenIV.{said_with_line, lead_check, lead_among};
 
 use crate::gathered::Gathered;
 use crate::item::Item;
@@ -25,7 +26,8 @@ pub fn plain_line<'i>(item: &'i Item) -> Option<&'i [u8]>
 
 /// What an item says of lenIV: the token after `/lenIV` on a plain line, or that there is none.
 fn said_lead<'i>(item: &'i Item) -> Option<Option<&'i [u8]>>
-    ensures { option_map (λ said. option_map (λ token. token.now) said) result ≡ said_lead item.now }
+    ensures { option_map (λ said. option_map (λ token. token.now) said) result
+        ≡ said_lead item.now }
 {
     match plain_line(item) {
         Some(line) => after_token(b"/lenIV", line),

@@ -1,7 +1,9 @@
-//! The parts of a readable source: the clear part with its encoding and header keys, the private part with its sections and
-//! entries, the tail. Each is found in the lines of a text, or its first fault with its line; items print again.
+//! The parts of a readable source: the clear part with its encoding and header keys, the private
+//! part with its sections and entries, the tail. Each is found in the lines of a text, or its first
+//! fault with its line; items print again.
 //!
-//! All of it is for the crates above. Users meet [`Item`], which `t1_source` passes on, and [`Items`], which a source gives.
+//! All of it is for the crates above. Users meet [`Item`], which `t1_source` passes on, and
+//! [`Items`], which a source gives.
 #![tactic(auto)]
 
 mod alone_items;

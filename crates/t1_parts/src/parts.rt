@@ -1,6 +1,8 @@
 //! Cutting a source into its parts.
 
-ghost use Rattle.std.specs.Prelude.{◌≡◌, ◌==◌, ◌++◌, ◌∷◌, ◌<◌, [], false, true, length, IfOk, MatchOption, codes, if◌then◌else◌, Some, None, Ok, Err, MatchResult, filter_map};
+ghost use Rattle.std.specs.Prelude.{◌≡◌, ◌==◌, ◌++◌, ◌∷◌, ◌<◌, [], false, true, length, IfOk};
+ghost use Rattle.std.specs.Prelude.{MatchOption, codes, if◌then◌else◌, Some, None, Ok, Err};
+ghost use Rattle.std.specs.Prelude.{MatchResult, filter_map};
 ghost use Rattle.std.specs.List.{list_any, list_all};
 ghost use Rattle.t1_frac.specs.Ascii.{digit_zero};
 ghost use Rattle.t1_text.specs.Lines.{is_line, lines};
@@ -44,10 +46,10 @@ fn from_line_with<'a>(text: &Finder, bytes: &'a [u8]) -> &'a [u8]
 fn cut_at<'a>(text: &[u8], bytes: &'a [u8]) -> Option<Cut<'a>>
     requires some { 0 < length text.now }
     requires line { is_line text.now ≡ true }
-    ensures { MatchOption
-        result
-        (list_any (ends_in text.now) (lines bytes.now) ≡ false)
-        (λ cut. IsCut (ends_in text.now) (lines bytes.now) (lines cut.before.now) cut.line.now (lines cut.after.now)) }
+    ensures { MatchOption result (list_any (ends_in text.now) (lines bytes.now) ≡ false)
+        (λ cut.
+        IsCut (ends_in text.now) (lines bytes.now) (lines cut.before.now) cut.line.now
+        (lines cut.after.now)) }
 {
     let finder = Finder::new(text);
     let mut rest = from_line_with(&finder, bytes);
@@ -79,9 +81,17 @@ pub struct Parts<'a> {
 /// The parts of a source.
 #[tactic(auto, unfolding(crate::specs::Parts::parts_of), using(crate::proofs::PartLaws::no_clear, crate::proofs::PartLaws::no_private, crate::proofs::PartLaws::parts_cut))]
 pub fn parts_of(bytes: &[u8]) -> Result<Parts<'_>, Fault>
-    ensures { MatchResult
-        result
-        (λ p. parts_of (lines bytes.now) ≡ Ok (record { clear = lines p.clear.now ++ p.eexec.now ∷ []; private = lines p.private.now ++ p.closefile.now ∷ []; tail = lines p.tail.now }))
+    ensures { MatchResult result
+        (λ p.
+        parts_of (lines bytes.now)
+        ≡ Ok
+        (record {
+          clear = lines p.clear.now ++ p.eexec.now
+              ∷ [];
+          private = lines p.private.now ++ p.closefile.now
+              ∷ [];
+          tail = lines p.tail.now;
+        }))
         (λ fault. parts_of (lines bytes.now) ≡ Err fault) }
 {
     let Some(clear) = cut_at(b"currentfile eexec", bytes) else {
@@ -139,7 +149,10 @@ fn has_delimiter(lines: &[Bytes]) -> bool
 
 /// Copies of the lines that aren't lines of zeros.
 fn kept_lines(alloc: Global, bytes: &[u8]) -> Result<Vec<Bytes>, AllocError>
-    ensures { IfOk result (λ kept. kept.items ≡ filter_map (λ l. if is_zeros l then None else Some l) (lines bytes.now)) }
+    ensures { IfOk result
+        (λ kept.
+        kept.items
+        ≡ filter_map (λ l. if is_zeros l then None else Some l) (lines bytes.now)) }
 {
     let mut kept = Vec::new(alloc);
     let mut rest = bytes;

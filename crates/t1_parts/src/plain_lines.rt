@@ -1,6 +1,7 @@
 //! Plain lines that follow one another, as the bytes that were read.
 
-ghost use Rattle.std.specs.Prelude.{◌≡◌, ◌<◌, ◌≤◌, ◌+◌, ◌-◌, ◌∷◌, ◌++◌, ℕ, List, false, length, take, drop};
+ghost use Rattle.std.specs.Prelude.{◌≡◌, ◌<◌, ◌≤◌, ◌+◌, ◌-◌, ◌∷◌, ◌++◌, ℕ, List, false, length};
+ghost use Rattle.std.specs.Prelude.{take, drop};
 ghost use Rattle.std.specs.List.{slice_index_or};
 ghost use Rattle.t1_text.specs.Lines.{lines};
 ghost use Rattle.t1_parts.specs.Items.{IsCutAfter, lines_say};
@@ -8,8 +9,8 @@ ghost use Rattle.t1_parts.specs.Items.{IsCutAfter, lines_say};
 use std::marker::Model;
 use t1_text::first_line;
 
-/// One or more whole lines as they were read, with their ends, and how many they are. None of them says lenIV. Contracts see
-/// the list of the lines.
+/// One or more whole lines as they were read, with their ends, and how many they are. None of them
+/// says lenIV. Contracts see the list of the lines.
 #[derive(Debug, Drop)]
 pub(crate) struct PlainLines<'a> {
     bytes: &'a [u8],
@@ -26,15 +27,21 @@ impl<'a> Model for PlainLines<'a> {
 
     ghost view = { λ plain. lines plain.bytes.now };
 
-    ghost invariant = { λ plain. (0 < length plain.bytes.now) × (plain.count ≡ length (lines plain.bytes.now)) × (lines_say (lines plain.bytes.now) ≡ false) };
+    ghost invariant = { λ plain.
+        (0 < length plain.bytes.now)
+        × (plain.count ≡ length (lines plain.bytes.now))
+        × (lines_say (lines plain.bytes.now) ≡ false) };
 }
 
-/// The first line of some bytes, and the bytes after its end. An empty line is told by its first byte.
+/// The first line of some bytes, and the bytes after its end. An empty line is told by its first
+/// byte.
 pub(crate) fn next_line(bytes: &[u8]) -> (&[u8], &[u8])
     requires { 0 < length bytes.now }
     ensures lines { lines bytes.now ≡ result.0.now ∷ lines result.1.now }
     ensures shorter { length result.1.now < length bytes.now }
-    ensures cut { (j : ℕ) → lines (take (length bytes.now - length result.1.now + j) bytes.now) ≡ result.0.now ∷ lines (take j result.1.now) }
+    ensures cut { (j : ℕ)
+        → lines (take (length bytes.now - length result.1.now + j) bytes.now)
+        ≡ result.0.now ∷ lines (take j result.1.now) }
 {
     if let Some((first, after)) = bytes.split_first() {
         if *first == b'\n' {

@@ -1,12 +1,14 @@
-//! The printed form of a source. Where memory runs out, the contracts say nothing of the text, of which a part may have been
-//! added: whoever made it drops it.
+//! The printed form of a source. Where memory runs out, the contracts say nothing of the text, of
+//! which a part may have been added: whoever made it drops it.
 
-ghost use Rattle.std.specs.Prelude.{◌≡◌, ◌∷◌, [], ◌++◌, if◌then◌else◌, OnOk, map, decimal, codes, flat_map};
+ghost use Rattle.std.specs.Prelude.{◌≡◌, ◌∷◌, [], ◌++◌, if◌then◌else◌, OnOk, map, decimal, codes};
+ghost use Rattle.std.specs.Prelude.{flat_map};
 ghost use Rattle.t1_frac.specs.Ascii.{line_feed, space, tab};
 ghost use Rattle.t1_text.specs.Lines.{joined};
 ghost use Rattle.t1_frac.specs.Words.{words};
 ghost use Rattle.t1_parts.specs.ItemRefs.{item_of};
-ghost use Rattle.t1_parts.specs.Printing.{word_groups, body_line, last_line, entry_lines, item_lines};
+ghost use Rattle.t1_parts.specs.Printing.{word_groups, body_line, last_line, entry_lines};
+ghost use Rattle.t1_parts.specs.Printing.{item_lines};
 
 use crate::item::Item;
 use crate::item_ref::ItemRef;
@@ -47,7 +49,8 @@ pub fn push_decimal(text: &mut Vec<u8>, number: u64) -> Result<(), AllocError>
 
 /// Adds a word to a line of words that is open or begins with it.
 fn push_word(text: &mut Vec<u8>, is_open: bool, word: &[u8]) -> Result<(), AllocError>
-    ensures { OnOk result (text.new.items ≡ text.old.items ++ (if is_open then space else tab) ∷ word.now) }
+    ensures { OnOk result
+        (text.new.items ≡ text.old.items ++ (if is_open then space else tab) ∷ word.now) }
 {
     text.push(if is_open { b' ' } else { b'\t' })?;
     text.extend_from_slice(word)?;
@@ -57,7 +60,9 @@ fn push_word(text: &mut Vec<u8>, is_open: bool, word: &[u8]) -> Result<(), Alloc
 /// Adds the lines of a body's words to a text, as an entry's body is printed.
 #[tactic(auto, using(crate::proofs::GroupLaws::left_number, crate::proofs::GroupLaws::left_other))]
 pub fn push_words(text: &mut Vec<u8>, bytes: &[u8]) -> Result<(), AllocError>
-    ensures { OnOk result (text.new.items ≡ text.old.items ++ joined (map body_line (word_groups (words bytes.now)))) }
+    ensures { OnOk result
+        (text.new.items
+        ≡ text.old.items ++ joined (map body_line (word_groups (words bytes.now)))) }
 {
     let mut is_open = false;
     let mut rest = bytes;
@@ -77,7 +82,8 @@ pub fn push_words(text: &mut Vec<u8>, bytes: &[u8]) -> Result<(), AllocError>
 
 /// Adds the last line of an entry to a text.
 fn push_last_line(text: &mut Vec<u8>, closing: &[u8]) -> Result<(), AllocError>
-    ensures { OnOk result (text.new.items ≡ text.old.items ++ last_line closing.now ++ line_feed ∷ []) }
+    ensures { OnOk result
+        (text.new.items ≡ text.old.items ++ last_line closing.now ++ line_feed ∷ []) }
 {
     text.extend_from_slice(b"\t}")?;
     if !closing.is_empty() {
@@ -88,9 +94,9 @@ fn push_last_line(text: &mut Vec<u8>, closing: &[u8]) -> Result<(), AllocError>
 
 /// Adds an entry to a text, from after the name on its first line.
 fn push_entry(text: &mut Vec<u8>, bytes: &[u8], closing: &[u8]) -> Result<(), AllocError>
-    ensures { OnOk
-        result
-        (text.new.items ≡ text.old.items ++ joined (entry_lines (codes " {") (words bytes.now) closing.now)) }
+    ensures { OnOk result
+        (text.new.items
+        ≡ text.old.items ++ joined (entry_lines (codes " {") (words bytes.now) closing.now)) }
 {
     push_line(text, b" {")?;
     push_words(text, bytes)?;
@@ -123,7 +129,8 @@ fn push_item(text: &mut Vec<u8>, item: &Item) -> Result<(), AllocError>
 
 /// Adds the lines of an item where it stands to a text.
 fn push_item_ref(text: &mut Vec<u8>, item: &ItemRef) -> Result<(), AllocError>
-    ensures { OnOk result (text.new.items ≡ text.old.items ++ joined (item_lines (item_of item.now))) }
+    ensures { OnOk result
+        (text.new.items ≡ text.old.items ++ joined (item_lines (item_of item.now))) }
 {
     match item {
         ItemRef::Line(line) => push_line(text, line),
@@ -133,7 +140,8 @@ fn push_item_ref(text: &mut Vec<u8>, item: &ItemRef) -> Result<(), AllocError>
 
 /// Adds the lines of some items to a text.
 pub fn push_items(text: &mut Vec<u8>, items: ItemsIter) -> Result<(), AllocError>
-    ensures { OnOk result (text.new.items ≡ text.old.items ++ joined (flat_map item_lines items.entry)) }
+    ensures { OnOk result
+        (text.new.items ≡ text.old.items ++ joined (flat_map item_lines items.entry)) }
 {
     for item in items {
         push_item_ref(text, &item)?;

@@ -1,15 +1,17 @@
 //! Reading the private part: plain lines, section lines and entries.
 
-ghost use Rattle.std.specs.Prelude.{◌≡◌, ◌||◌, ◌+◌, ◌<◌, ◌^◌, ◌++◌, ◌∷◌, [], ℕ, List, None, Ok, Err, is_some, length, option_map, take, true, IfErr, IfOk, IfSome, MatchResult};
+ghost use Rattle.std.specs.Prelude.{◌≡◌, ◌||◌, ◌+◌, ◌<◌, ◌^◌, ◌++◌, ◌∷◌, [], ℕ, List, None, Ok};
+ghost use Rattle.std.specs.Prelude.{Err, is_some, length, option_map, take, true, IfErr, IfOk};
+ghost use Rattle.std.specs.Prelude.{IfSome, MatchResult};
 ghost use Rattle.t1_frac.specs.declared.fault.Place.TheVariants as places;
 ghost use Rattle.t1_frac.specs.Outcome.{Gives, Refuses, reported_at};
 ghost use Rattle.t1_text.specs.Lines.{lines};
-ghost use Rattle.t1_parts.specs.Entries.{glyph_name, has};
+ghost use Rattle.t1_parts.specs.Entries.{glyph_name, has_numbered};
 ghost use Rattle.t1_parts.specs.Items.{IsCutAfter};
-ghost use Rattle.t1_parts.specs.Pieces.{IsAfter};
-ghost use Rattle.t1_parts.specs.PlainRuns.{opens_entry, read_from, AreAmong, IsAmong};
+ghost use Rattle.t1_parts.specs.Pieces.{AreLinesAfter};
+ghost use Rattle.t1_parts.specs.PlainRuns.{may_open_entry, read_from, AreAmong, IsPlainAmong};
 ghost use Rattle.t1_parts.specs.Sections.{is_subrs_line, is_glyphs_line, subrs_line, glyphs_line};
-ghost use Rattle.t1_parts.specs.Private.{line_at, item_at, items_of, private_items};
+ghost use Rattle.t1_parts.specs.Private.{line_read, item_in_front, items_of, private_items};
 
 use crate::entries::{glyph_entry, opens_glyph, opens_subr, subr_entry};
 use crate::gathered::Gathered;
@@ -26,8 +28,8 @@ use t1_text::{fault_on, first_line};
 fn line_at<'a>(earlier: &Gathered, number: u64, line: &'a [u8]) -> Result<Item<'a>, Fault>
     ensures value { MatchResult
         result
-        (λ item. reported_at (places.Line number) (line_at earlier.now line.now) ≡ Ok (item, 0))
-        (λ fault. reported_at (places.Line number) (line_at earlier.now line.now) ≡ Err fault) }
+        (λ item. reported_at (places.Line number) (line_read earlier.now line.now) ≡ Ok (item, 0))
+        (λ fault. reported_at (places.Line number) (line_read earlier.now line.now) ≡ Err fault) }
     ensures unnamed { IfOk result (λ item. glyph_name item ≡ None) }
 {
     let subrs = count_between(b"/Subrs", b"array", line);
@@ -44,7 +46,7 @@ fn line_at<'a>(earlier: &Gathered, number: u64, line: &'a [u8]) -> Result<Item<'
 }
 
 /// The item at the front of some bytes, of which the first line has this number.
-#[tactic(auto, unfolding(crate::specs::Private::item_at))]
+#[tactic(auto, unfolding(crate::specs::Private::item_in_front))]
 fn item_at<'a>(
     alloc: Global,
     earlier: &Gathered,
@@ -55,9 +57,11 @@ fn item_at<'a>(
     ensures value { (l : List ℕ) (ls : List (List ℕ)) → lines bytes.now ≡ l ∷ ls → Gives
         (λ taken. (taken.item, taken.more))
         result
-        (reported_at (places.Line number) (item_at earlier.now l ls)) }
-    ensures named { IfOk result (λ taken. option_map (λ n. n.now) taken.name ≡ glyph_name taken.item) }
-    ensures after { IfOk result (λ taken. IsAfter (taken.more + 1) bytes.now taken.after.now) }
+        (reported_at (places.Line number) (item_in_front earlier.now l ls)) }
+    ensures named { IfOk result
+        (λ taken. option_map (λ n. n.now) taken.name ≡ glyph_name taken.item) }
+    ensures after { IfOk result
+        (λ taken. AreLinesAfter (taken.more + 1) bytes.now taken.after.now) }
 {
     let (line, after) = first_line(bytes);
     if earlier.has_glyphs_line() {
@@ -80,7 +84,9 @@ fn item_at<'a>(
 
 /// Whether a line opens an entry.
 fn opens_entry(earlier: &Gathered, line: &[u8]) -> bool
-    ensures { result ≡ opens_entry (has is_subrs_line earlier.now) (has is_glyphs_line earlier.now) line.now }
+    ensures { result
+        ≡ may_open_entry (has_numbered is_subrs_line earlier.now)
+        (has_numbered is_glyphs_line earlier.now) line.now }
 {
     if earlier.has_glyphs_line() {
         opens_glyph(line).is_some()
@@ -103,7 +109,9 @@ fn is_section(line: &[u8]) -> bool
 /// Whether a line may stand among plain lines: it opens nothing and says nothing of lenIV.
 #[tactic(auto, using(crate::proofs::PlainRunLaws::empty_among, crate::proofs::PlainRunLaws::is_among))]
 fn is_among(earlier: &Gathered, line: &[u8]) -> bool
-    ensures { result ≡ true → IsAmong (has is_subrs_line earlier.now) (has is_glyphs_line earlier.now) line.now }
+    ensures { result ≡ true
+        → IsPlainAmong (has_numbered is_subrs_line earlier.now)
+        (has_numbered is_glyphs_line earlier.now) line.now }
 {
     if line.is_empty() {
         return true;
@@ -114,10 +122,12 @@ fn is_among(earlier: &Gathered, line: &[u8]) -> bool
     !line_says(line)
 }
 
-/// The number of the lines at the front of some bytes that may stand among plain lines, and the bytes after them.
+/// The number of the lines at the front of some bytes that may stand among plain lines, and the
+/// bytes after them.
 fn past_plain<'a>(earlier: &Gathered, bytes: &'a [u8]) -> (usize, &'a [u8])
     ensures cut { IsCutAfter result.0 bytes.now result.1.now }
-    ensures among { AreAmong (has is_subrs_line earlier.now) (has is_glyphs_line earlier.now) (take result.0 (lines bytes.now)) }
+    ensures among { AreAmong (has_numbered is_subrs_line earlier.now)
+        (has_numbered is_glyphs_line earlier.now) (take result.0 (lines bytes.now)) }
 {
     let mut count = 0;
     let mut rest = bytes;
@@ -132,10 +142,14 @@ fn past_plain<'a>(earlier: &Gathered, bytes: &'a [u8]) -> (usize, &'a [u8])
     (count, rest)
 }
 
-/// The lines at the front of some bytes that may stand among plain lines, where there are some, and the bytes after them.
+/// The lines at the front of some bytes that may stand among plain lines, where there are some, and
+/// the bytes after them.
 fn plain_front<'a>(earlier: &Gathered, bytes: &'a [u8]) -> Option<(PlainLines<'a>, &'a [u8])>
     ensures lines { IfSome result (λ front. lines bytes.now ≡ front.0 ++ lines front.1.now) }
-    ensures among { IfSome result (λ front. AreAmong (has is_subrs_line earlier.now) (has is_glyphs_line earlier.now) front.0) }
+    ensures among { IfSome result
+        (λ front.
+        AreAmong (has_numbered is_subrs_line earlier.now)
+        (has_numbered is_glyphs_line earlier.now) front.0) }
 {
     let (count, after) = past_plain(earlier, bytes);
     if count == 0 {
@@ -145,8 +159,8 @@ fn plain_front<'a>(earlier: &Gathered, bytes: &'a [u8]) -> Option<(PlainLines<'a
     Some((PlainLines::counted(front, count), after))
 }
 
-/// The earlier items and the one at the front of some bytes, of which the first line has this number; the number of the next
-/// line; and the bytes from it on.
+/// The earlier items and the one at the front of some bytes, of which the first line has this
+/// number; the number of the next line; and the bytes from it on.
 fn read_item<'a>(
     alloc: Global,
     earlier: Gathered<'a>,
@@ -155,18 +169,24 @@ fn read_item<'a>(
 ) -> Result<(Gathered<'a>, u64, &'a [u8]), Refusal>
     requires some { 0 < length bytes.now }
     requires fits { number + length (lines bytes.now) < 2 ^ 64 }
-    ensures read { IfOk result (λ read. read_from earlier.entry number (lines bytes.now) ≡ read_from read.0 read.1 (lines read.2.now)) }
-    ensures number { IfOk result (λ read. read.1 + length (lines read.2.now) ≡ number + length (lines bytes.now)) }
+    ensures read { IfOk result
+        (λ read.
+        read_from earlier.entry number (lines bytes.now)
+        ≡ read_from read.0 read.1 (lines read.2.now)) }
+    ensures number { IfOk result
+        (λ read. read.1 + length (lines read.2.now) ≡ number + length (lines bytes.now)) }
     ensures shorter { IfOk result (λ read. length (lines read.2.now) < length (lines bytes.now)) }
-    ensures refused { IfErr result (λ refusal. Refuses refusal (read_from earlier.entry number (lines bytes.now))) }
+    ensures refused { IfErr result
+        (λ refusal. Refuses refusal (read_from earlier.entry number (lines bytes.now))) }
 {
     let taken = item_at(alloc, &earlier, number, bytes)?;
     let items = earlier.with(number, taken.item, taken.name)?;
     Ok((items, number + (taken.more as u64 + 1), taken.after))
 }
 
-/// The earlier items and those at the front of some bytes, of which the first line has this number: plain lines that follow
-/// one another, or one item; the number of the next line; and the bytes from it on.
+/// The earlier items and those at the front of some bytes, of which the first line has this number:
+/// plain lines that follow one another, or one item; the number of the next line; and the bytes
+/// from it on.
 fn read_front<'a>(
     alloc: Global,
     earlier: Gathered<'a>,
@@ -175,10 +195,15 @@ fn read_front<'a>(
 ) -> Result<(Gathered<'a>, u64, &'a [u8]), Refusal>
     requires some { 0 < length bytes.now }
     requires fits { number + length (lines bytes.now) < 2 ^ 64 }
-    ensures read { IfOk result (λ read. read_from earlier.entry number (lines bytes.now) ≡ read_from read.0 read.1 (lines read.2.now)) }
-    ensures number { IfOk result (λ read. read.1 + length (lines read.2.now) ≡ number + length (lines bytes.now)) }
+    ensures read { IfOk result
+        (λ read.
+        read_from earlier.entry number (lines bytes.now)
+        ≡ read_from read.0 read.1 (lines read.2.now)) }
+    ensures number { IfOk result
+        (λ read. read.1 + length (lines read.2.now) ≡ number + length (lines bytes.now)) }
     ensures shorter { IfOk result (λ read. length (lines read.2.now) < length (lines bytes.now)) }
-    ensures refused { IfErr result (λ refusal. Refuses refusal (read_from earlier.entry number (lines bytes.now))) }
+    ensures refused { IfErr result
+        (λ refusal. Refuses refusal (read_from earlier.entry number (lines bytes.now))) }
 {
     if let Some((plain, after)) = plain_front(&earlier, bytes) {
         let next = number + plain.len() as u64;
@@ -188,8 +213,8 @@ fn read_front<'a>(
     read_item(alloc, earlier, number, bytes)
 }
 
-/// The items of some bytes, of which the first line has this number, each with the number of its first line; and the number
-/// that a further line has.
+/// The items of some bytes, of which the first line has this number, each with the number of its
+/// first line; and the number that a further line has.
 fn items_of(alloc: Global, number: u64, bytes: &[u8]) -> Result<(Gathered<'_>, u64), Refusal>
     requires { number + length bytes.now < 2 ^ 64 }
     ensures value { Gives (λ read. read.0) result (items_of number (lines bytes.now)) }
@@ -207,7 +232,8 @@ fn items_of(alloc: Global, number: u64, bytes: &[u8]) -> Result<(Gathered<'_>, u
     Ok((items, first))
 }
 
-/// The items of a private part, of which the last line opens nothing. The first of its lines has this number.
+/// The items of a private part, of which the last line opens nothing. The first of its lines has
+/// this number.
 #[tactic(auto, using(crate::proofs::ItemLaws::last_refused))]
 pub fn private_items<'a>(
     alloc: Global,
@@ -216,7 +242,8 @@ pub fn private_items<'a>(
     last: &'a [u8],
 ) -> Result<Gathered<'a>, Refusal>
     requires { number + length bytes.now < 2 ^ 64 }
-    ensures { Gives (λ items. items) result (private_items number (lines bytes.now ++ last.now ∷ [])) }
+    ensures { Gives (λ items. items) result
+        (private_items number (lines bytes.now ++ last.now ∷ [])) }
 {
     let (items, further) = items_of(alloc, number, bytes)?;
     let last = Item::Plain(SourceText::borrowed(last));

@@ -1,6 +1,7 @@
 //! A stretch of items: one of any kind, or plain lines.
 
-ghost use Rattle.std.specs.Prelude.{◌≡◌, ◌<◌, ◌∷◌, [], ℕ, filter, IfOk, MatchOption, None, true, length, take, drop, false};
+ghost use Rattle.std.specs.Prelude.{◌≡◌, ◌<◌, ◌∷◌, [], ℕ, filter, IfOk, MatchOption, None, true};
+ghost use Rattle.std.specs.Prelude.{length, take, drop, false};
 ghost use Rattle.std.specs.List.{find, slice_index_or};
 ghost use Rattle.t1_parts.specs.declared.stretch.Stretch.TheVariants as stretches;
 ghost use Rattle.t1_parts.specs.LenIV.{says_lead};
@@ -30,7 +31,10 @@ impl<'a> Stretch<'a> {
     pub(crate) fn len(&self) -> usize
         ensures value { result ≡ length (stretch_items self.now) }
         ensures some { 0 < result }
-        ensures silent { (at : ℕ) (d : Item) → at < result → 1 < result → stands_alone (slice_index_or (stretch_items self.now) at d) ≡ false }
+        ensures silent { (at : ℕ) (d : Item)
+            → at < result
+            → 1 < result
+            → stands_alone (slice_index_or (stretch_items self.now) at d) ≡ false }
     {
         match self {
             Stretch::One(_item) => 1,
@@ -50,7 +54,8 @@ impl<'a> Stretch<'a> {
 
     /// The item, where it is one that says lenIV.
     pub(crate) fn saying(&self) -> Option<&Item<'a>>
-        ensures { MatchOption result (find says_lead (stretch_items self.now) ≡ None) (λ item. (self.now ≡ stretches.One item.now) × (says_lead item.now ≡ true)) }
+        ensures { MatchOption result (find says_lead (stretch_items self.now) ≡ None)
+            (λ item. (self.now ≡ stretches.One item.now) × (says_lead item.now ≡ true)) }
     {
         match self {
             Stretch::One(item) => { if says_lead(item) { Some(item) } else { None } }
@@ -63,7 +68,8 @@ impl<'a> Stretch<'a> {
 
     /// The item, where it is one that never stands among plain lines.
     pub(crate) fn alone(&self) -> Option<&Item<'a>>
-        ensures { MatchOption result (filter stands_alone (stretch_items self.now) ≡ []) (λ item. filter stands_alone (stretch_items self.now) ≡ item.now ∷ []) }
+        ensures { MatchOption result (filter stands_alone (stretch_items self.now) ≡ [])
+            (λ item. filter stands_alone (stretch_items self.now) ≡ item.now ∷ []) }
     {
         match self {
             Stretch::One(item) => { if stands_alone(item) { Some(item) } else { None } }
@@ -88,7 +94,11 @@ impl<'a> Stretch<'a> {
     /// The lines before a place, and those from it on, where there are some before it.
     pub(crate) fn cut(&self, at: usize) -> Option<(PlainLines<'a>, PlainLines<'a>)>
         requires { at < length (stretch_items self.now) }
-        ensures { MatchOption result (at ≡ 0) (λ cut. (line_items cut.0 ≡ take at (stretch_items self.now)) × (line_items cut.1 ≡ drop at (stretch_items self.now)) × (0 < at)) }
+        ensures { MatchOption result (at ≡ 0)
+            (λ cut.
+            (line_items cut.0 ≡ take at (stretch_items self.now))
+            × (line_items cut.1 ≡ drop at (stretch_items self.now))
+            × (0 < at)) }
     {
         match self {
             Stretch::Lines(plain) if 0 < at => Some(plain.cut(at)),

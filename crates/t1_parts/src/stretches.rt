@@ -1,8 +1,10 @@
 //! Stretches of items, by the places of their items.
 
-ghost use Rattle.std.specs.Prelude.{◌≡◌, ◌<◌, ◌≤◌, ◌++◌, ◌∷◌, true, length, map, take, drop, slice_set, IfOk, IfSome, OnOk, OnErr, IsOk};
+ghost use Rattle.std.specs.Prelude.{◌≡◌, ◌<◌, ◌≤◌, ◌++◌, ◌∷◌, true, length, map, take, drop};
+ghost use Rattle.std.specs.Prelude.{slice_set, IfOk, IfSome, OnOk, OnErr, IsOk};
 ghost use Rattle.std.specs.List.{insert, remove};
-ghost use Rattle.t1_parts.specs.Items.{items_in, raised_stretch, stretch_items, AreSingle, StandsAloneAt, IsPlace};
+ghost use Rattle.t1_parts.specs.Items.{items_in, raised_stretch, stretch_items, AreSingle};
+ghost use Rattle.t1_parts.specs.Items.{StandsAloneAt, IsPlace};
 
 use crate::item::Item;
 use crate::stretch::Stretch;
@@ -22,8 +24,8 @@ pub(crate) fn copied_stretches<'a>(
     Ok(copies)
 }
 
-/// Where the item of a place stands: in which stretch, and how many items of it stand before. The stretches before it are
-/// counted through.
+/// Where the item of a place stands: in which stretch, and how many items of it stand before. The
+/// stretches before it are counted through.
 fn counted_place(stretches: &[Stretch], at: usize) -> (usize, usize)
     requires { at ≤ length (items_in stretches.now) }
     ensures { IsPlace at stretches.now result }
@@ -41,8 +43,8 @@ fn counted_place(stretches: &[Stretch], at: usize) -> (usize, usize)
     (index, left)
 }
 
-/// Where the item of a place stands: in which stretch, and how many items of it stand before. Where each stretch is known to be
-/// one item it is found at once.
+/// Where the item of a place stands: in which stretch, and how many items of it stand before. Where
+/// each stretch is known to be one item it is found at once.
 pub(crate) fn place_of(stretches: &[Stretch], at: usize, are_single: bool) -> (usize, usize)
     requires within { at ≤ length (items_in stretches.now) }
     requires single { are_single ≡ true → AreSingle stretches.now }
@@ -61,7 +63,8 @@ pub(crate) fn stay_single(are_single: bool, stretch: &Stretch) -> bool
     are_single && stretch.len() == 1
 }
 
-/// How many items some stretches have, where a number can say it. The stretches are counted through.
+/// How many items some stretches have, where a number can say it. The stretches are counted
+/// through.
 fn counted_items(stretches: &[Stretch]) -> Option<usize>
     ensures { IfSome result (λ count. count ≡ length (items_in stretches.now)) }
 {
@@ -75,7 +78,8 @@ fn counted_items(stretches: &[Stretch]) -> Option<usize>
     Some(count)
 }
 
-/// How many items some stretches have, where a number can say it. Where each stretch is known to be one item none is looked at.
+/// How many items some stretches have, where a number can say it. Where each stretch is known to be
+/// one item none is looked at.
 pub(crate) fn item_count(stretches: &[Stretch], are_single: bool) -> Option<usize>
     requires { are_single ≡ true → AreSingle stretches.now }
     ensures { IfSome result (λ count. count ≡ length (items_in stretches.now)) }
@@ -101,7 +105,8 @@ pub(crate) fn insert_stretch<'a>(
     stretch: Stretch<'a>,
 ) -> Result<(), AllocError>
     requires { index ≤ length stretches.old.items }
-    ensures ok { OnOk result (stretches.new.items ≡ insert stretches.old.items index stretch.entry) }
+    ensures ok { OnOk result
+        (stretches.new.items ≡ insert stretches.old.items index stretch.entry) }
     ensures err { OnErr result (stretches.new.items ≡ stretches.old.items) }
 {
     stretches.insert(index, stretch)?;
@@ -116,7 +121,8 @@ fn remove_stretch(stretches: &mut Vec<Stretch>, index: usize)
     let _stretch = stretches.remove(index);
 }
 
-/// Cuts the stretch in which the item of a place stands, so that it is the first of its stretch, whose index is given.
+/// Cuts the stretch in which the item of a place stands, so that it is the first of its stretch,
+/// whose index is given.
 pub(crate) fn cut_before<'a>(
     stretches: &mut Vec<Stretch<'a>>,
     at: usize,
@@ -126,8 +132,11 @@ pub(crate) fn cut_before<'a>(
     requires single { are_single ≡ true → AreSingle stretches.old.items }
     ensures same { items_in stretches.new.items ≡ items_in stretches.old.items }
     ensures within { IfOk result (λ index. index ≤ length stretches.new.items) }
-    ensures before { IfOk result (λ index. length (items_in (take index stretches.new.items)) ≡ at) }
-    ensures still { at < length (items_in stretches.old.items) → StandsAloneAt (items_in stretches.old.items) at → IsOk result }
+    ensures before { IfOk result
+        (λ index. length (items_in (take index stretches.new.items)) ≡ at) }
+    ensures still { at < length (items_in stretches.old.items)
+        → StandsAloneAt (items_in stretches.old.items) at
+        → IsOk result }
     ensures single { AreSingle stretches.old.items → AreSingle stretches.new.items }
 {
     let (index, offset) = place_of(stretches.as_slice(), at, are_single);
@@ -148,7 +157,9 @@ pub(crate) fn cut_before<'a>(
 pub(crate) fn drop_first(stretches: &mut Vec<Stretch>, index: usize)
     requires { index < length stretches.old.items }
     ensures single { AreSingle stretches.old.items → AreSingle stretches.new.items }
-    ensures dropped { items_in stretches.new.items ≡ items_in (take index stretches.old.items) ++ drop 1 (items_in (drop index stretches.old.items)) }
+    ensures dropped { items_in stretches.new.items
+        ≡ items_in (take index stretches.old.items)
+        ++ drop 1 (items_in (drop index stretches.old.items)) }
 {
     let stretch = &stretches[index];
     if stretch.len() == 1 {
@@ -161,15 +172,18 @@ pub(crate) fn drop_first(stretches: &mut Vec<Stretch>, index: usize)
     put_stretch(stretches, index, Stretch::Lines(rest));
 }
 
-/// Puts an item in the place of the first one of a stretch. Where that is a plain line among others it takes memory; where it
-/// runs out, nothing has changed.
+/// Puts an item in the place of the first one of a stretch. Where that is a plain line among others
+/// it takes memory; where it runs out, nothing has changed.
 pub(crate) fn put_first<'a>(
     stretches: &mut Vec<Stretch<'a>>,
     index: usize,
     item: Item<'a>,
 ) -> Result<(), AllocError>
     requires { index < length stretches.old.items }
-    ensures ok { OnOk result (items_in stretches.new.items ≡ items_in (take index stretches.old.items) ++ (item.entry ∷ drop 1 (items_in (drop index stretches.old.items)))) }
+    ensures ok { OnOk result
+        (items_in stretches.new.items
+        ≡ items_in (take index stretches.old.items)
+        ++ (item.entry ∷ drop 1 (items_in (drop index stretches.old.items)))) }
     ensures err { OnErr result (items_in stretches.new.items ≡ items_in stretches.old.items) }
     ensures still { StandsAloneAt (items_in (drop index stretches.old.items)) 0 → IsOk result }
     ensures single { AreSingle stretches.old.items → AreSingle stretches.new.items }

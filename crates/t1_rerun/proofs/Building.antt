@@ -16,8 +16,8 @@ use Rattle.t1_run.specs.Run.{FontBodies, Key, Subr, Glyph, body_at}
 use Rattle.t1_extent.specs.Kept.{TracedRun}
 use Rattle.t1_run.specs.Touched.{is_user}
 use Rattle.t1_font.specs.declared.glyph_metrics.GlyphMetrics.{GlyphMetrics}
-use Rattle.t1_font.specs.Bodies.{subr_kept, glyph_kept, SameBodies}
-use Rattle.t1_font.specs.Runs.{Kept as KeptRun, run_kept, kept_of as run_of}
+use Rattle.t1_font.specs.Bodies.{subr_body_kept, glyph_body_kept, SameBodies}
+use Rattle.t1_font.specs.Runs.{NamedRun as KeptRun, run_kept, drawing_in as run_of}
 use Rattle.t1_cache.specs.declared.records.Records.{Records}
 use Rattle.t1_cache.specs.Bodies.{glyph_body, record_bodies}
 use Rattle.t1_cache.specs.Changed.{SetsBody}
@@ -26,7 +26,7 @@ use Rattle.t1_cache.specs.Laws.{AreDistinct}
 use Rattle.t1_cache.specs.Renewed.{kept, kept_of}
 use Rattle.t1_cache.specs.Room.{MayJoin}
 use Rattle.t1_cache.specs.Tables.{AreTables}
-use Rattle.t1_cache.specs.Users.{has, has_pair, lists, rest_of, users_at, wanted, HasRoom, Pairs}
+use Rattle.t1_cache.specs.Users.{has_name, has_pair, lists, rest_of, users_at, wanted, HasUserRoom, Pairs}
 use Rattle.t1_cache.proofs.Changing.{rest_same}
 use Rattle.t1_cache.proofs.Joining.{tables_first}
 use Rattle.t1_cache.proofs.Names.{bytes_equiv}
@@ -51,41 +51,41 @@ Glyphs = List (Vec ℕ Global × Body)
 
 -- ---- Subrs
 
-subr-last : (rest : Subrs) (k : ℕ) (b : Body) (n : ℕ) → subr_kept (rest ++ (k, b) ∷ []) n ≡ option_or (subr_kept rest n) (cond (nat_eq n k) (Some b) None)
+subr-last : (rest : Subrs) (k : ℕ) (b : Body) (n : ℕ) → subr_body_kept (rest ++ (k, b) ∷ []) n ≡ option_or (subr_body_kept rest n) (cond (nat_eq n k) (Some b) None)
 subr-last [] k b n = refl
 subr-last (e ∷ rest) k b n = by (nat_eq n e.0) (subr-last rest k b n) where
-  by : (t : Bool) → subr_kept (rest ++ (k, b) ∷ []) n ≡ option_or (subr_kept rest n) (cond (nat_eq n k) (Some b) None)
-      → cond t (Some e.1) (subr_kept (rest ++ (k, b) ∷ []) n) ≡ option_or (cond t (Some e.1) (subr_kept rest n)) (cond (nat_eq n k) (Some b) None)
+  by : (t : Bool) → subr_body_kept (rest ++ (k, b) ∷ []) n ≡ option_or (subr_body_kept rest n) (cond (nat_eq n k) (Some b) None)
+      → cond t (Some e.1) (subr_body_kept (rest ++ (k, b) ∷ []) n) ≡ option_or (cond t (Some e.1) (subr_body_kept rest n)) (cond (nat_eq n k) (Some b) None)
   by true others = refl
   by false others = others
 
 -- the bodies that are left, in front of those that have a record, are all
 pub record AreInserted (was : Records) (all left : Subrs) (now : Records) : Type 0 where
-  pub subrs : (n : ℕ) → option_or (subr_kept left n) (body_at (record_bodies now) (Subr n)) ≡ subr_kept all n
-  pub apart : (n : ℕ) → is_some (subr_kept left n) ≡ true → body_at (record_bodies now) (Subr n) ≡ None
+  pub subrs : (n : ℕ) → option_or (subr_body_kept left n) (body_at (record_bodies now) (Subr n)) ≡ subr_body_kept all n
+  pub apart : (n : ℕ) → is_some (subr_body_kept left n) ≡ true → body_at (record_bodies now) (Subr n) ≡ None
   pub glyphs : (g : List ℕ) → body_at (record_bodies now) (Glyph g) ≡ body_at (record_bodies was) (Glyph g)
   pub users : (k : Key) (u : List ℕ) → lists now k u ≡ lists was k u
   pub kept : map kept_of now.glyphs.entries ≡ map kept_of was.glyphs.entries
 
 module _ (was : Records) (all left rest : Subrs) (now : Records) (k : ℕ) (b : Body) (is : left ≡ rest ++ (k, b) ∷ []) (before : AreInserted was all left now) where
-  was-left : (n : ℕ) → subr_kept left n ≡ option_or (subr_kept rest n) (cond (nat_eq n k) (Some b) None)
-  was-left n = ap (λ l. subr_kept l n) is ∙ subr-last rest k b n
+  was-left : (n : ℕ) → subr_body_kept left n ≡ option_or (subr_body_kept rest n) (cond (nat_eq n k) (Some b) None)
+  was-left n = ap (λ l. subr_body_kept l n) is ∙ subr-last rest k b n
 
   pub subr-apart : body_at (record_bodies now) (Subr k) ≡ None
   subr-apart =
       before.apart k
-      (ap is_some (was-left k ∙ ap (λ t. option_or (subr_kept rest k) (cond t (Some b) None)) (numbers_tell.itself k)) ∙ or-some (subr_kept rest k))
+      (ap is_some (was-left k ∙ ap (λ t. option_or (subr_body_kept rest k) (cond t (Some b) None)) (numbers_tell.itself k)) ∙ or-some (subr_body_kept rest k))
     where
       or-some : (r : Option Body) → is_some (option_or r (Some b)) ≡ true
       or-some None = refl
       or-some (Some c) = refl
 
-  pub subr-inserted : (new : Records) → subr_kept rest k ≡ None → SetsBody (Subr k) (Some b) now new
+  pub subr-inserted : (new : Records) → subr_body_kept rest k ≡ None → SetsBody (Subr k) (Some b) now new
       → ((j : Key) (u : List ℕ) → lists new j u ≡ lists now j u) → map kept_of new.glyphs.entries ≡ map kept_of now.glyphs.entries
       → AreInserted was all rest new
   subr-inserted new gone sets users kept = record {
     subrs = λ n.
-        ap (option_or (subr_kept rest n)) (sets (Subr n)) ∙ moved (subr_kept rest n) (nat_eq n k) (body_at (record_bodies now) (Subr n))
+        ap (option_or (subr_body_kept rest n)) (sets (Subr n)) ∙ moved (subr_body_kept rest n) (nat_eq n k) (body_at (record_bodies now) (Subr n))
         ∙ ap (λ r. option_or r (body_at (record_bodies now) (Subr n))) (sym (was-left n)) ∙ before.subrs n;
     apart = λ n h. sets (Subr n) ∙ by n h (nat_eq n k) refl;
     glyphs = λ g. sets (Glyph g) ∙ before.glyphs g;
@@ -101,11 +101,11 @@ module _ (was : Records) (all left rest : Subrs) (now : Records) (k : ℕ) (b : 
     more None s h = absurd (cc)
     more (Some c) s h = refl
 
-    by : (n : ℕ) → is_some (subr_kept rest n) ≡ true → (t : Bool) → nat_eq n k ≡ t → cond t (Some b) (body_at (record_bodies now) (Subr n)) ≡ None
+    by : (n : ℕ) → is_some (subr_body_kept rest n) ≡ true → (t : Bool) → nat_eq n k ≡ t → cond t (Some b) (body_at (record_bodies now) (Subr n)) ≡ None
     by n h true e =
-        let never : true ≡ false = sym h ∙ ap (λ x. is_some (subr_kept rest x)) (numbers_tell.same n k e) ∙ ap is_some gone in
+        let never : true ≡ false = sym h ∙ ap (λ x. is_some (subr_body_kept rest x)) (numbers_tell.same n k e) ∙ ap is_some gone in
         absurd (cc)
-    by n h false e = before.apart n (ap is_some (was-left n) ∙ more (subr_kept rest n) (cond (nat_eq n k) (Some b) None) h)
+    by n h false e = before.apart n (ap is_some (was-left n) ∙ more (subr_body_kept rest n) (cond (nat_eq n k) (Some b) None) h)
 
 -- ---- glyphs
 
@@ -144,8 +144,8 @@ names-more ms at m far is =
 -- the glyphs that were measured so far have their records, and for the others runs and bodies are left
 pub record AreBuilt (was : Records) (bodies left_bodies : Glyphs) (runs left_runs : List KeptRun) (ms : List GlyphMetrics) (at : ℕ) (now : Records) : Type 0 where
   pub runs_left : (g : List ℕ) → run_kept left_runs g ≡ cond (is-done ms at g) None (run_kept runs g)
-  pub bodies_left : (g : List ℕ) → glyph_kept left_bodies g ≡ cond (is-done ms at g) None (glyph_kept bodies g)
-  pub glyphs : (g : List ℕ) → body_at (record_bodies now) (Glyph g) ≡ cond (is-done ms at g) (glyph_kept bodies g) None
+  pub bodies_left : (g : List ℕ) → glyph_body_kept left_bodies g ≡ cond (is-done ms at g) None (glyph_body_kept bodies g)
+  pub glyphs : (g : List ℕ) → body_at (record_bodies now) (Glyph g) ≡ cond (is-done ms at g) (glyph_body_kept bodies g) None
   pub subrs : (n : ℕ) → body_at (record_bodies now) (Subr n) ≡ body_at (record_bodies was) (Subr n)
   pub users : (k : Key) (u : List ℕ) → lists now k u ≡ lists was k u
   pub order : map (λ k. k.name) (map kept_of now.glyphs.entries) ≡ measured_names (take at ms)
@@ -161,8 +161,8 @@ module _ (was : Records) (bodies left_bodies : Glyphs) (runs left_runs : List Ke
   here = not-done ms at m distinct far is
 
   -- its body is still there
-  pub body-here : glyph_kept left_bodies m.name ≡ glyph_kept bodies m.name
-  body-here = before.bodies_left m.name ∙ ap (λ t. cond t None (glyph_kept bodies m.name)) here
+  pub body-here : glyph_body_kept left_bodies m.name ≡ glyph_body_kept bodies m.name
+  body-here = before.bodies_left m.name ∙ ap (λ t. cond t None (glyph_body_kept bodies m.name)) here
 
   -- and its run
   pub run-here : run_kept left_runs m.name ≡ run_kept runs m.name
@@ -170,7 +170,7 @@ module _ (was : Records) (bodies left_bodies : Glyphs) (runs left_runs : List Ke
 
   -- and it has no record
   pub glyph-apart : body_at (record_bodies now) (Glyph m.name) ≡ None
-  glyph-apart = before.glyphs m.name ∙ ap (λ t. cond t (glyph_kept bodies m.name) None) here
+  glyph-apart = before.glyphs m.name ∙ ap (λ t. cond t (glyph_body_kept bodies m.name) None) here
 
   left-more : {X : Type 0} (old left left' : List ℕ → Option X) → ((g : List ℕ) → left g ≡ cond (is-done ms at g) None (old g))
       → ((g : List ℕ) → left' g ≡ cond (bytes_eq m.name g) None (left g)) → (g : List ℕ) → left' g ≡ cond (is-done ms (at + 1) g) None (old g)
@@ -184,17 +184,17 @@ module _ (was : Records) (bodies left_bodies : Glyphs) (runs left_runs : List Ke
       both false true = refl
       both false false = refl
 
-  pub glyph-built : (body : Body) → Some body ≡ glyph_kept left_bodies m.name → (run : TracedRun) → Some run ≡ run_in (run_kept left_runs m.name)
-      → (left_bodies' : Glyphs) → ((g : List ℕ) → glyph_kept left_bodies' g ≡ cond (bytes_eq m.name g) None (glyph_kept left_bodies g))
+  pub glyph-built : (body : Body) → Some body ≡ glyph_body_kept left_bodies m.name → (run : TracedRun) → Some run ≡ run_in (run_kept left_runs m.name)
+      → (left_bodies' : Glyphs) → ((g : List ℕ) → glyph_body_kept left_bodies' g ≡ cond (bytes_eq m.name g) None (glyph_body_kept left_bodies g))
       → (left_runs' : List KeptRun) → ((g : List ℕ) → run_kept left_runs' g ≡ cond (bytes_eq m.name g) None (run_kept left_runs g))
       → (new : Records) → SetsBody (Glyph m.name) (Some body) now new → ((k : Key) (u : List ℕ) → lists new k u ≡ lists now k u)
       → map kept_of new.glyphs.entries ≡ map kept_of now.glyphs.entries ++ kept m.name run m.bbox ∷ []
       → AreBuilt was bodies left_bodies' runs left_runs' ms (at + 1) new
   glyph-built body body_is run run_is left_bodies' bodies_took left_runs' runs_took new sets users kept_is = record {
     runs_left = left-more (run_kept runs) (run_kept left_runs) (run_kept left_runs') before.runs_left runs_took;
-    bodies_left = left-more (glyph_kept bodies) (glyph_kept left_bodies) (glyph_kept left_bodies') before.bodies_left bodies_took;
+    bodies_left = left-more (glyph_body_kept bodies) (glyph_body_kept left_bodies) (glyph_body_kept left_bodies') before.bodies_left bodies_took;
     glyphs = λ g. sets (Glyph g) ∙ ap (cond (bytes_eq g m.name) (Some body)) (before.glyphs g) ∙ by g (bytes_eq g m.name) refl (is-done ms at g)
-        ∙ ap (λ t. cond t (glyph_kept bodies g) None) (sym (done-more g));
+        ∙ ap (λ t. cond t (glyph_body_kept bodies g) None) (sym (done-more g));
     subrs = λ n. sets (Subr n) ∙ before.subrs n;
     users = λ k u. users k u ∙ before.users k u;
     order = ap (map (λ k. k.name)) kept_is ∙ names-last (map kept_of now.glyphs.entries) (kept m.name run m.bbox) ∙ ap (λ l. l ++ m.name ∷ []) before.order
@@ -208,14 +208,14 @@ module _ (was : Records) (bodies left_bodies : Glyphs) (runs left_runs : List Ke
     inside (Some (Err code)) e = absurd (cc)
     inside (Some (Ok x)) e = let same : run ≡ x = cc in ap (λ y. Some (Ok y)) same
 
-    by : (g : List ℕ) (t : Bool) → bytes_eq g m.name ≡ t → (d : Bool) → cond t (Some body) (cond d (glyph_kept bodies g) None) ≡ cond (d || t) (glyph_kept bodies g) None
+    by : (g : List ℕ) (t : Bool) → bytes_eq g m.name ≡ t → (d : Bool) → cond t (Some body) (cond d (glyph_body_kept bodies g) None) ≡ cond (d || t) (glyph_body_kept bodies g) None
     by g false e true = refl
     by g false e false = refl
     by g true e d =
-        let its : Some body ≡ glyph_kept bodies g = body_is ∙ body-here ∙ ap (glyph_kept bodies) (sym (bytes_tell.same g m.name e)) in
+        let its : Some body ≡ glyph_body_kept bodies g = body_is ∙ body-here ∙ ap (glyph_body_kept bodies) (sym (bytes_tell.same g m.name e)) in
         its ∙ either d
       where
-        either : (d : Bool) → glyph_kept bodies g ≡ cond (d || true) (glyph_kept bodies g) None
+        either : (d : Bool) → glyph_body_kept bodies g ≡ cond (d || true) (glyph_body_kept bodies g) None
         either true = refl
         either false = refl
 
@@ -240,9 +240,9 @@ none-built was bodies runs ms none = record {
 module _ (was : Records) (bodies left_bodies : Glyphs) (runs left_runs : List KeptRun) (ms : List GlyphMetrics) (at : ℕ) (now : Records)
     (distinct : AreDistinct (measured_names ms)) (before : AreBuilt was bodies left_bodies runs left_runs ms at now)
     (m : GlyphMetrics) (far : at < length ms) (is : m ≡ get_or ms at m) where
-  pub body-there : ((g : List ℕ) → is_some (glyph_kept bodies g) ≡ list_any (bytes_eq g) (measured_names ms)) → None ≡ glyph_kept left_bodies m.name → ⊥
+  pub body-there : ((g : List ℕ) → is_some (glyph_body_kept bodies g) ≡ list_any (bytes_eq g) (measured_names ms)) → None ≡ glyph_body_kept left_bodies m.name → ⊥
   body-there have none =
-      let gone : None ≡ glyph_kept bodies m.name = none ∙ body-here was bodies left_bodies runs left_runs ms at now distinct before m far is in
+      let gone : None ≡ glyph_body_kept bodies m.name = none ∙ body-here was bodies left_bodies runs left_runs ms at now distinct before m far is in
       let never : false ≡ true = ap is_some gone ∙ have m.name ∙ name-among ms at m far is in
       absurd (cc)
 
@@ -255,13 +255,13 @@ module _ (was : Records) (bodies left_bodies : Glyphs) (runs left_runs : List Ke
 
 -- once all were measured, each body has its record
 pub all-built : (was : Records) (bodies left_bodies : Glyphs) (runs left_runs : List KeptRun) (ms : List GlyphMetrics) (at : ℕ) (now : Records)
-    → ((g : List ℕ) → is_some (glyph_kept bodies g) ≡ list_any (bytes_eq g) (measured_names ms)) → take at ms ≡ ms
+    → ((g : List ℕ) → is_some (glyph_body_kept bodies g) ≡ list_any (bytes_eq g) (measured_names ms)) → take at ms ≡ ms
     → AreBuilt was bodies left_bodies runs left_runs ms at now
-    → ((g : List ℕ) → body_at (record_bodies now) (Glyph g) ≡ glyph_kept bodies g) × (map (λ k. k.name) (map kept_of now.glyphs.entries) ≡ measured_names ms)
+    → ((g : List ℕ) → body_at (record_bodies now) (Glyph g) ≡ glyph_body_kept bodies g) × (map (λ k. k.name) (map kept_of now.glyphs.entries) ≡ measured_names ms)
 all-built was bodies left_bodies runs left_runs ms at now have all built =
-    (λ g. built.glyphs g ∙ by g (glyph_kept bodies g) refl (is-done ms at g) refl, built.order ∙ ap measured_names all)
+    (λ g. built.glyphs g ∙ by g (glyph_body_kept bodies g) refl (is-done ms at g) refl, built.order ∙ ap measured_names all)
   where
-    by : (g : List ℕ) (b : Option Body) → glyph_kept bodies g ≡ b → (t : Bool) → is-done ms at g ≡ t → cond t (glyph_kept bodies g) None ≡ glyph_kept bodies g
+    by : (g : List ℕ) (b : Option Body) → glyph_body_kept bodies g ≡ b → (t : Bool) → is-done ms at g ≡ t → cond t (glyph_body_kept bodies g) None ≡ glyph_body_kept bodies g
     by g b e true f = refl
     by g None e false f = sym e
     by g (Some b) e false f =
@@ -274,18 +274,18 @@ all-built was bodies left_bodies runs left_runs ms at now have all built =
 
 module _ (m : FontBodies) (names : List (Bor (List ℕ))) (runs : List KeptRun) (metrics : List GlyphMetrics) (are : AreMeasured m runs metrics)
     (named : map (λ name. name.now) names ≡ measured_names metrics) (joins : Pairs)
-    (joined : (k : Key) (u : List ℕ) → has_pair joins k u ≡ (has (λ name. name.now) names u && is_user k (run_of runs u))) where
-  are-joins : AreLeaves m (has (λ name. name.now) names) joins
-  are-joins k u = joined k u ∙ ap (λ r. has (λ name. name.now) names u && is_user k r) (are.draw u)
+    (joined : (k : Key) (u : List ℕ) → has_pair joins k u ≡ (has_name (λ name. name.now) names u && is_user k (run_of runs u))) where
+  are-joins : AreLeaves m (has_name (λ name. name.now) names) joins
+  are-joins k u = joined k u ∙ ap (λ r. has_name (λ name. name.now) names u && is_user k r) (are.draw u)
 
-  is-named : (g : List ℕ) (body : Body) → m.glyphs g ≡ Some body → has (λ name. name.now) names g ≡ true
+  is-named : (g : List ℕ) (body : Body) → m.glyphs g ≡ Some body → has_name (λ name. name.now) names g ≡ true
   is-named g body e = has-names names g ∙ ap (list_any (bytes_eq g)) named ∙ sym (are.bodies g) ∙ ap is_some e
 
   pub room-there : (records roomy : Records) → SameBodies (record_bodies records) m → rest_of roomy ≡ rest_of records
-      → ((k : Key) → MayJoin (wanted joins k) (users_at roomy k)) → (k : Key) → HasRoom (wanted joins k) (users_at roomy k)
+      → ((k : Key) → MayJoin (wanted joins k) (users_at roomy k)) → (k : Key) → HasUserRoom (wanted joins k) (users_at roomy k)
   room-there records roomy compiled rest may =
-      room_for_joins m (has (λ name. name.now) names) joins are-joins roomy (same-twice (record_bodies roomy) (record_bodies records) m (rest_same records roomy rest).0 compiled) may
+      room_for_joins m (has_name (λ name. name.now) names) joins are-joins roomy (same-twice (record_bodies roomy) (record_bodies records) m (rest_same records roomy rest).0 compiled) may
 
   pub tables-built : (old new : Records) (leaves : Pairs) → ((k : Key) (u : List ℕ) → lists old k u ≡ false)
       → ((k : Key) (u : List ℕ) → lists new k u ≡ ((lists old k u && not (has_pair leaves k u)) || has_pair joins k u)) → AreTables m new
-  tables-built old new leaves empty after = tables_first m (has (λ name. name.now) names) is-named old new leaves joins empty are-joins after
+  tables-built old new leaves empty after = tables_first m (has_name (λ name. name.now) names) is-named old new leaves joins empty are-joins after

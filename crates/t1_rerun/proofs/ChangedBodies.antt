@@ -11,7 +11,7 @@ use Rattle.t1_frac.specs.Outcome.{◌>>=◌}
 use Rattle.t1_parts.specs.SourceParts.{SourceParts}
 use Rattle.t1_source.specs.declared.edit.Edit.{Edit}
 use Rattle.t1_run.specs.Footprint.{Includes}
-use Rattle.t1_run.specs.Overlay.{changed}
+use Rattle.t1_run.specs.Overlay.{after_change}
 use Rattle.t1_run.specs.Run.{FontBodies, Key, Subr, Glyph, body_at, key_eq}
 use Rattle.t1_font.specs.Bodies.{bodies, SameBodies}
 use Rattle.t1_font.specs.Assembly.{file_check}
@@ -29,7 +29,7 @@ use Rattle.t1_rerun.specs.declared.renewal.Renewal.{Renewal}
 use Rattle.t1_rerun.specs.declared.entry_change.EntryChange.{EntryChange}
 use Rattle.t1_rerun.specs.declared.settling.Ready.{Ready}
 use Rattle.t1_rerun.specs.Changing.{body_changed, AreChangesOf, IsReadyFor, MayBePrepared}
-use Rattle.t1_rerun.specs.EntryChanges.{IsChanged, IsMade}
+use Rattle.t1_rerun.specs.EntryChanges.{IsChanged, IsMadeByEdit}
 use Rattle.t1_rerun.specs.Renewals.{IsLater, IsRenewal}
 use Rattle.t1_rerun.specs.Renewing.{IsEdited}
 use Rattle.t1_rerun.specs.Right.{IsEdit, IsRight, IsInOrder}
@@ -102,14 +102,14 @@ module _ (changes : List EntryChange) (old new : SourceParts) (records : Records
   kept-there (Glyph g) out = j.edited.bodies.same (Glyph g) out
 
   -- the records' bodies under the changes are those of the edited source
-  edited-there : (k : Key) → changed (body_changed changes k) (body_at (record_bodies records) k) ≡ body_at (bodies new.items) k
+  edited-there : (k : Key) → after_change (body_changed changes k) (body_at (record_bodies records) k) ≡ body_at (bodies new.items) k
   edited-there k = by (body_changed changes k) refl where
-    by : (r : Option (Option (List Command))) → body_changed changes k ≡ r → changed r (body_at (record_bodies records) k) ≡ body_at (bodies new.items) k
+    by : (r : Option (Option (List Command))) → body_changed changes k ≡ r → after_change r (body_at (record_bodies records) k) ≡ body_at (bodies new.items) k
     by (Some body) e = sym (set-is new changes k body j.bodies e)
     by None e = at-same (record_bodies records) (bodies old.items) k j.right.compiled ∙ kept-there k (unset-unnamed changes k e)
 
   module _ (edits : List Named) (keys : map key_of edits ≡ changed_keys changes) (m : FontBodies)
-      (are : (k : Key) → body_at m k ≡ changed (body_changed changes k) (body_at (record_bodies records) k)) where
+      (are : (k : Key) → body_at m k ≡ after_change (body_changed changes k) (body_at (record_bodies records) k)) where
     pub is-edit : IsEdit edits old new records m ordered
     is-edit = record {
       right = j.right;
@@ -196,11 +196,11 @@ reported-file s reported e = by (file_check s) e where
 
 -- where an edit was made of a source whose records are right, its change may be prepared
 pub entry-changed : (records : Records) (edit : Edit) (new : SourceParts) → IsEdited records edit new → file_check new ≡ Ok tt → (change : Option EntryChange)
-    → ((old new : SourceParts) → IsMade edit old new → IsChanged edit old new change) → (changes : List EntryChange) → changes ≡ option_to_list change
+    → ((old new : SourceParts) → IsMadeByEdit edit old new → IsChanged edit old new change) → (changes : List EntryChange) → changes ≡ option_to_list change
     → MayBePrepared changes records (glyph_names new.items)
-entry-changed records edit new e file change changed changes alone =
+entry-changed records edit new e file change after_change changes alone =
     let compiled = bodies-fine e.old (reported-file e.old e.right.kept.glyphs e.right.kept.faultless) in
-    let is = changed e.old new (record { pairs = e.pairs; made_pairs = e.made_pairs; compiled = compiled; well = e.well; well_made = e.well_made; made = e.made }) in (
+    let is = after_change e.old new (record { pairs = e.pairs; made_pairs = e.made_pairs; compiled = compiled; well = e.well; well_made = e.well_made; made = e.made }) in (
       e.old,
       (
         new,

@@ -43,7 +43,7 @@ use Rattle.t1_cache.proofs.Accepted.{glyph_at, last_glyph, last_subr, new_glyph,
 use Rattle.t1_cache.proofs.EditedBodies.{body_edited}
 use Rattle.t1_cache.proofs.Edits.{edits_named}
 use Rattle.t1_rerun.specs.declared.entry_change.EntryChange.{EntryChange}
-use Rattle.t1_rerun.specs.EntryChanges.{edit_change, key_change, number_within, put_key, put_number, removed_number, KeyChange, IsChanged, IsMade}
+use Rattle.t1_rerun.specs.EntryChanges.{edit_change, key_change, number_within, put_key, put_number, removed_number, KeyChange, IsChanged, IsMadeByEdit}
 use Rattle.t1_rerun.specs.Renewing.{entry_key, number_key}
 use Rattle.t1_rerun.specs.Settled.{changed_keys, was_moved, HasBody}
 use Rattle.t1_rerun.proofs.Entries.{edited-order, key-named}
@@ -286,7 +286,7 @@ keys-listed : (change : Option EntryChange) → changed_keys (option_to_list cha
 keys-listed None = refl
 keys-listed (Some change) = refl
 
-module _ (edit : Edit) (old new : SourceParts) (is : IsMade edit old new) where
+module _ (edit : Edit) (old new : SourceParts) (is : IsMadeByEdit edit old new) where
   checked-is : bodies_check new.items ≡ unit_of (edit_change edit)
   checked-is = edits_checked old is.pairs edit new is.made_pairs is.compiled is.made
 

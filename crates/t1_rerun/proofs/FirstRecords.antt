@@ -24,14 +24,14 @@ use Rattle.t1_font.specs.Assembly.{file_check}
 use Rattle.t1_font.specs.Bodies.{bodies, bodies_check, SameBodies}
 use Rattle.t1_font.specs.Glyphs.{Glyph as Reported, glyphs, glyphs_by, glyph_names}
 use Rattle.t1_font.specs.MeasuredGlyphs.{glyph_metrics, glyph_metrics_among}
-use Rattle.t1_font.specs.Runs.{Kept as KeptRun, drawing_kept, run_kept, kept_of as run_of, own_among, counted, AreTraced, Counts, CountsSome, IsAfter, IsTracedAs}
+use Rattle.t1_font.specs.Runs.{NamedRun as KeptRun, drawing_kept, run_kept, drawing_in as run_of, own_among, counted, AreTraced, Counts, CountsSome, IsNumberedAfter, IsTracedAs}
 use Rattle.t1_font.specs.SourceChecks.{source_check}
 use Rattle.t1_font.proofs.GlyphsOfSource.{check-by-glyphs}
 use Rattle.t1_font.proofs.Counted.{counted-source}
 use Rattle.t1_font.proofs.Measuring.{keeps-own, names-there, KeepsOwn, outline-is, same-function}
 use Rattle.t1_cache.specs.declared.records.Records.{Records}
 use Rattle.t1_cache.specs.Bodies.{record_bodies}
-use Rattle.t1_cache.specs.Laws.{check, AreDistinct}
+use Rattle.t1_cache.specs.Laws.{fault_check, AreDistinct}
 use Rattle.t1_cache.specs.Renewal.{IsFromScratch}
 use Rattle.t1_cache.specs.Renewed.{Kept, kept_of}
 use Rattle.t1_cache.specs.Tables.{AreTables}
@@ -68,7 +68,7 @@ glyphs-reported m names metrics e = by (glyphs m names) refl (sym (reported-by m
 -- ---- a source whose file has no fault
 
 module _ (s : SourceParts) (file : file_check s ≡ Ok tt) where
-  checked-is : source_check s ≡ check (glyphs (bodies s.items) (glyph_names s.items))
+  checked-is : source_check s ≡ fault_check (glyphs (bodies s.items) (glyph_names s.items))
   checked-is = check-by-glyphs s ∙ ap (λ r. (r >>= λ checked. glyphs (bodies s.items) (glyph_names s.items)) >>= λ gs. Ok tt) file
 
   pub runs-are : opening_runs s ≡ length (glyph_names s.items)
@@ -94,7 +94,7 @@ module _ (s : SourceParts) (file : file_check s ≡ Ok tt) where
         subst (Refuses refusal) (sym checked-is)
         (by refusal (glyphs m (glyph_names s.items)) (subst (Refuses refusal) (own-reported ∙ reported-by m (glyph_names s.items)) h))
       where
-        by : (refusal : Refusal) (r : Result (List Reported) Fault) → Refuses refusal (r >>= (λ gs. Ok (map glyph_metrics gs))) → Refuses refusal (check r)
+        by : (refusal : Refusal) (r : Result (List Reported) Fault) → Refuses refusal (r >>= (λ gs. Ok (map glyph_metrics gs))) → Refuses refusal (fault_check r)
         by refusals.Memory r h = tt
         by (refusals.Fault fault) (Ok ts) h = absurd (cc)
         by (refusals.Fault fault) (Err e) h = cc
@@ -110,7 +110,7 @@ module _ (s : SourceParts) (file : file_check s ≡ Ok tt) where
       names-measured = are ∙ sym all.1
 
       pub no-fault : source_check s ≡ Ok tt
-      no-fault = checked-is ∙ ap check its-glyphs.1
+      no-fault = checked-is ∙ ap fault_check its-glyphs.1
 
       has-run : (x : GlyphMetrics) → IsMeasured (own m) x → HasRun runs x
       has-run x is = ok-run (run_kept runs x.name) is.drawing (keeps x.name ∙ is.ran)
@@ -164,10 +164,10 @@ module _ (s : SourceParts) (file : file_check s ≡ Ok tt) where
         users = λ k g. users k g ∙ ap (is_user k) (own-alike bs m same g);
       }
 
-pub all-after : (count : ℕ) (runs : List KeptRun) (metrics : List GlyphMetrics) → ((g : List ℕ) → IsAfter count (run_kept runs g))
+pub all-after : (count : ℕ) (runs : List KeptRun) (metrics : List GlyphMetrics) → ((g : List ℕ) → IsNumberedAfter count (run_kept runs g))
     → (ks : List Kept) → AllByRecursion (IsRecorded runs metrics) ks → AllByRecursion (IsRunAfter count) ks
 all-after count runs metrics after ks each =
-    all-weaken (IsRecorded runs metrics) (IsRunAfter count) (λ k is. subst (IsAfter count) is.run (after k.name)) ks each
+    all-weaken (IsRecorded runs metrics) (IsRunAfter count) (λ k is. subst (IsNumberedAfter count) is.run (after k.name)) ks each
 
 -- ---- counts
 

@@ -26,21 +26,21 @@ use Rattle.t1_font.specs.Assembly.{file_check}
 use Rattle.t1_font.specs.Bodies.{bodies, SameBodies}
 use Rattle.t1_font.specs.Glyphs.{Glyph as Reported, glyph_of, placed_parts_of, glyphs_by, glyphs, glyph_names}
 use Rattle.t1_font.specs.MeasuredGlyphs.{glyph_metrics, glyph_metrics_among}
-use Rattle.t1_font.specs.Runs.{Kept as KeptRun, drawing_kept, run_kept, kept_of as run_of, own_among, AreTraced, IsTracedAs}
+use Rattle.t1_font.specs.Runs.{NamedRun as KeptRun, drawing_kept, run_kept, drawing_in as run_of, own_among, AreTraced, IsTracedAs}
 use Rattle.t1_font.specs.SourceChecks.{source_glyphs, source_check}
 use Rattle.t1_font.proofs.GlyphsOfSource.{check-by-glyphs}
 use Rattle.t1_font.proofs.Measuring.{own-none}
 use Rattle.t1_cache.specs.declared.records.Rerun.{Rerun}
 use Rattle.t1_cache.specs.declared.records.Records.{Records}
 use Rattle.t1_cache.specs.Edited.{IsEditedAt, stale}
-use Rattle.t1_cache.specs.Kept.{shown, shown_from}
-use Rattle.t1_cache.specs.Laws.{check}
+use Rattle.t1_cache.specs.Kept.{without_serial, shown_from}
+use Rattle.t1_cache.specs.Laws.{fault_check}
 use Rattle.t1_cache.specs.Renewal.{IsFromScratch, kept_by}
 use Rattle.t1_cache.specs.Renewed.{kept_of, recorded_run}
 use Rattle.t1_cache.proofs.Judging.{first_fault_stale}
 use Rattle.t1_cache.proofs.Renewing.{glyphs-of}
 use Rattle.t1_rerun.specs.Newest.{newest_among}
-use Rattle.t1_rerun.specs.Renewals.{rerun_names, HasBox, HasRun, IsRerun}
+use Rattle.t1_rerun.specs.Renewals.{rerun_names, HasBox, HasRun, IsMeasuredRerun}
 use Rattle.t1_cache.proofs.Filtering.{among-passing, among-off}
 use Rattle.t1_rerun.proofs.Meeting.{all-among, some-own, glyph-among, own-is, newest-is, own-body}
 
@@ -169,7 +169,7 @@ have-runs m names records there runs runs-are metrics measured =
 -- ---- an edited source
 
 module _ (keys : List Key) (old new : SourceParts) (reported : List Reported) (edit : IsEditedAt keys old new) (was : source_glyphs old ≡ Ok reported)
-    (records : Records) (kept : map shown (map kept_of records.glyphs.entries) ≡ map shown_from reported)
+    (records : Records) (kept : map without_serial (map kept_of records.glyphs.entries) ≡ map shown_from reported)
     (m : FontBodies) (bodies-are : SameBodies m (bodies new.items))
     (there : AllByRecursion (λ g. (b : List Command) × ((bodies new.items).glyphs g ≡ Some b)) (stale old keys new)) where
   abbrev newest : Runs
@@ -187,7 +187,7 @@ module _ (keys : List Key) (old new : SourceParts) (reported : List Reported) (e
       (glyphs-same newest (own (bodies new.items)) (outline_within newest 4) (outline (bodies new.items)) (stale old keys new) (newest-all (stale old keys new) there))
 
   module _ (file : file_check new ≡ Ok tt) where
-    checked-is : source_check new ≡ check (glyphs (bodies new.items) (stale old keys new))
+    checked-is : source_check new ≡ fault_check (glyphs (bodies new.items) (stale old keys new))
     checked-is =
         check-by-glyphs new
         ∙ ap (λ r. (r >>= λ checked. glyphs (bodies new.items) (glyph_names new.items)) >>= λ gs. Ok tt) file
@@ -196,14 +196,14 @@ module _ (keys : List Key) (old new : SourceParts) (reported : List Reported) (e
     -- where the stale glyphs were measured, the source has no fault
     pub faultless : (metrics : List GlyphMetrics) → glyph_metrics_among newest (stale old keys new) ≡ Ok metrics → source_check new ≡ Ok tt
     faultless metrics e = checked-is ∙ by (glyphs (bodies new.items) (stale old keys new)) (sym reported-are ∙ e) where
-      by : (r : Result (List Reported) Fault) → (r >>= (λ gs. Ok (map glyph_metrics gs))) ≡ Ok metrics → check r ≡ Ok tt
+      by : (r : Result (List Reported) Fault) → (r >>= (λ gs. Ok (map glyph_metrics gs))) ≡ Ok metrics → fault_check r ≡ Ok tt
       by (Ok ts) e = refl
       by (Err fault) e = absurd (cc)
 
     -- and their first fault is the source's
     pub refused : (refused : Refusal) → Refuses refused (glyph_metrics_among newest (stale old keys new)) → Refuses refused (source_check new)
     refused refusal h = subst (Refuses refusal) (sym checked-is) (by refusal (glyphs (bodies new.items) (stale old keys new)) (subst (Refuses refusal) reported-are h)) where
-      by : (refusal : Refusal) (r : Result (List Reported) Fault) → Refuses refusal (r >>= (λ gs. Ok (map glyph_metrics gs))) → Refuses refusal (check r)
+      by : (refusal : Refusal) (r : Result (List Reported) Fault) → Refuses refusal (r >>= (λ gs. Ok (map glyph_metrics gs))) → Refuses refusal (fault_check r)
       by refusals.Memory r h = tt
       by (refusals.Fault fault) (Ok ts) h = absurd (cc)
       by (refusals.Fault fault) (Err e) h = cc
@@ -220,7 +220,7 @@ module _ (keys : List Key) (old new : SourceParts) (reported : List Reported) (e
       by true h = h
       by false h = let never : ◌≡◌ {A = Option (Result Drawing Code)} None (Some r) = h in absurd (cc)
 
-    scratch-one : (r : Rerun) → IsRerun runs metrics r → IsFromScratch (bodies new.items) (kept_by r)
+    scratch-one : (r : Rerun) → IsMeasuredRerun runs metrics r → IsFromScratch (bodies new.items) (kept_by r)
     scratch-one r is =
         let g = r.name.items in
         let box = box-measured newest metrics g r.bbox all-measured.0 is.box in
@@ -235,7 +235,7 @@ module _ (keys : List Key) (old new : SourceParts) (reported : List Reported) (e
         }
 
     -- the runs and boxes that were gathered are those of the edited font
-    pub scratch-reruns : (rs : List Rerun) → AllByRecursion (IsRerun runs metrics) rs → AllByRecursion (λ r. IsFromScratch (bodies new.items) (kept_by r)) rs
+    pub scratch-reruns : (rs : List Rerun) → AllByRecursion (IsMeasuredRerun runs metrics) rs → AllByRecursion (λ r. IsFromScratch (bodies new.items) (kept_by r)) rs
     scratch-reruns [] all = tt
     scratch-reruns (r ∷ rs) all = (scratch-one r all.0, scratch-reruns rs all.1)
 

@@ -21,7 +21,7 @@ use Rattle.t1_run.proofs.Asked.{bytes_self}
 use Rattle.t1_font.proofs.Measuring.{own-none}
 use Rattle.t1_cache.specs.declared.records.Records.{Records}
 use Rattle.t1_cache.specs.Edited.{IsEditedAt, is_stale, stale}
-use Rattle.t1_cache.specs.Kept.{shown, shown_from}
+use Rattle.t1_cache.specs.Kept.{without_serial, shown_from}
 use Rattle.t1_cache.specs.Renewed.{kept_of, recorded_run}
 use Rattle.t1_cache.proofs.Drawing.{all_draw}
 use Rattle.t1_cache.proofs.Newest.{found as at-glyph, newest_drawn, not-key}
@@ -98,7 +98,7 @@ own-body m g r e = by (m.glyphs g) refl where
   by (Some b) h = (b, h)
 
 module _ (keys : List Key) (old new : SourceParts) (reported : List Reported) (edit : IsEditedAt keys old new) (was : source_glyphs old ≡ Ok reported)
-    (records : Records) (kept : map shown (map kept_of records.glyphs.entries) ≡ map shown_from reported) where
+    (records : Records) (kept : map without_serial (map kept_of records.glyphs.entries) ≡ map shown_from reported) where
   -- the run of a glyph's record, or none, is that of the font
   pub recorded-own : (g : List ℕ) → recorded_run records g ≡ own (bodies old.items) g
   recorded-own = runs_recorded old records (record { glyphs = reported; faultless = was; from_scratch = kept })

@@ -20,7 +20,7 @@ use Rattle.t1_cache.specs.declared.records.NewRun.{NewRun}
 use Rattle.t1_cache.specs.declared.records.Records.{Records}
 use Rattle.t1_cache.specs.declared.records.Rerun.{Rerun}
 use Rattle.t1_cache.specs.Bodies.{glyph_body, record_bodies, subr_body}
-use Rattle.t1_cache.specs.Changed.{AreUnchanged}
+use Rattle.t1_cache.specs.Changed.{AreSameRecords}
 use Rattle.t1_cache.specs.Kept.{KeepsAll}
 use Rattle.t1_cache.specs.Renewed.{kept_of, rerun_of, reruns_by_name}
 use Rattle.t1_cache.specs.Users.{among, glyph_users, key_of, subr_users, users_at}
@@ -29,7 +29,7 @@ use Rattle.t1_rerun.specs.declared.settling.steps.Step.{Step}
 use Rattle.t1_rerun.specs.declared.settling.steps.Step.TheVariants as steps
 use Rattle.t1_rerun.specs.declared.renewal.Renewal.{Renewal}
 use Rattle.t1_rerun.specs.Settled.{changed_keys, AreAsBefore, AreDistinctKeys, IsJudged}
-use Rattle.t1_rerun.specs.Steps.{changed, inserts, is_last, new_run, new_run_of, some_inserts, AreStepsOf, IsStepOf, LacksRun}
+use Rattle.t1_rerun.specs.Steps.{entry_change, inserts, is_last, new_run, new_run_of, some_inserts, AreStepsOf, IsStepOf, LacksRun}
 use Rattle.t1_rerun.proofs.Stepping.{inserted-named, inserts-last}
 use Rattle.t1_font.proofs.Keys.{at-same, same-at}
 use Rattle.t1_rerun.proofs.Steps.{same-twice}
@@ -168,18 +168,18 @@ if-ok P Q (Ok x) h step = step x h
 if-ok P Q (Err e) h step = tt
 
 pub step-of : (c : EntryChange) (d : Named) (body : List Command) (run : List ℕ → Option (TracedRun × Option BBox)) (count : Key → ℕ) (records : Records) (s : Step)
-    → c.named ≡ d → c.body ≡ Some body → IsStepOf run count records (changed d (Some body) c.moved) s → IsStepOf run count records c s
+    → c.named ≡ d → c.body ≡ Some body → IsStepOf run count records (entry_change d (Some body) c.moved) s → IsStepOf run count records c s
 step-of c d body run count records s e f is =
-    let same : c ≡ changed d (Some body) c.moved = (λ j. record { named = e j; body = f j; moved = c.moved }) in
+    let same : c ≡ entry_change d (Some body) c.moved = (λ j. record { named = e j; body = f j; moved = c.moved }) in
     subst (λ x. IsStepOf run count records x s) (sym same) is
 
 -- ---- records that are as before
 
-pub users-same : (mid new : Records) → AreUnchanged mid new → (k : Key) → users_at new k ≡ users_at mid k
+pub users-same : (mid new : Records) → AreSameRecords mid new → (k : Key) → users_at new k ≡ users_at mid k
 users-same mid new same (Subr n) = ap (λ es. subr_users es n) same.0
 users-same mid new same (Glyph g) = ap (λ es. glyph_users es g) same.1
 
-pub as-unchanged : (old mid new : Records) → AreAsBefore old mid → AreUnchanged mid new → AreAsBefore old new
+pub as-unchanged : (old mid new : Records) → AreAsBefore old mid → AreSameRecords mid new → AreAsBefore old new
 as-unchanged old mid new before same = record {
   bodies = λ k. same-at (record_bodies new) (record_bodies old) k (bodies k ∙ at-same (record_bodies mid) (record_bodies old) k (before.bodies k));
   kept = ap (map kept_of) same.1 ∙ before.kept;

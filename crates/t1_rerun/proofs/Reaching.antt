@@ -16,7 +16,7 @@ use Rattle.t1_font.specs.declared.glyph_metrics.GlyphMetrics.{GlyphMetrics}
 use Rattle.t1_font.specs.Bodies.{bodies}
 use Rattle.t1_font.specs.Glyphs.{glyph_names}
 use Rattle.t1_font.specs.MeasuredGlyphs.{glyph_metrics_among}
-use Rattle.t1_font.specs.Runs.{Kept as KeptRun, run_kept, kept_of as run_of, own_among, counted, AreTraced, Counts, IsAfter}
+use Rattle.t1_font.specs.Runs.{NamedRun as KeptRun, run_kept, drawing_in as run_of, own_among, counted, AreTraced, Counts, IsNumberedAfter}
 use Rattle.t1_font.specs.SourceChecks.{source_check}
 use Rattle.t1_cache.specs.declared.records.Named.{Named}
 use Rattle.t1_cache.specs.declared.records.Records.{Records}
@@ -24,10 +24,10 @@ use Rattle.t1_cache.specs.declared.records.Rerun.{Rerun}
 use Rattle.t1_cache.specs.Edited.{stale}
 use Rattle.t1_cache.specs.Renewal.{IsFromScratch, kept_by}
 use Rattle.t1_cache.specs.Renewed.{recorded_run}
-use Rattle.t1_cache.specs.Users.{has, has_pair, key_of}
+use Rattle.t1_cache.specs.Users.{has_name, has_pair, key_of}
 use Rattle.t1_rerun.specs.declared.renewal.Renewal.{Renewal}
 use Rattle.t1_rerun.specs.Newest.{newest_among}
-use Rattle.t1_rerun.specs.Renewals.{rerun_names, IsLater, IsRenewal, IsRerun}
+use Rattle.t1_rerun.specs.Renewals.{rerun_names, IsLater, IsRenewal, IsMeasuredRerun}
 use Rattle.t1_rerun.specs.Right.{IsEdit}
 use Rattle.t1_rerun.proofs.Meeting.{recorded-own, stale-is}
 use Rattle.t1_rerun.proofs.Gathering.{faultless, joins-are, names-gathered, refused, scratch-reruns}
@@ -67,7 +67,7 @@ length-map f (x ∷ xs) = ap suc_of (length-map f xs) where
   suc_of : ℕ → ℕ
   suc_of n = Rattle.std.specs.Prelude.suc n
 
-pub has-names : (names : List (Bor (List ℕ))) (g : List ℕ) → has (λ name. name.now) names g ≡ list_any (bytes_eq g) (map (λ name. name.now) names)
+pub has-names : (names : List (Bor (List ℕ))) (g : List ℕ) → has_name (λ name. name.now) names g ≡ list_any (bytes_eq g) (map (λ name. name.now) names)
 has-names [] g = refl
 has-names (x ∷ names) g = ap (λ b. bytes_eq g x.now || b) (has-names names g)
 
@@ -90,10 +90,10 @@ counts-same {T} {U} runs runs' old new r s e f is is' same equal h =
 
 -- ---- later runs
 
-pub all-later : (count : ℕ) (runs : List KeptRun) (metrics : List GlyphMetrics) → ((g : List ℕ) → IsAfter count (run_kept runs g))
-    → (rs : List Rerun) → AllByRecursion (IsRerun runs metrics) rs → AllByRecursion (IsLater count) rs
+pub all-later : (count : ℕ) (runs : List KeptRun) (metrics : List GlyphMetrics) → ((g : List ℕ) → IsNumberedAfter count (run_kept runs g))
+    → (rs : List Rerun) → AllByRecursion (IsMeasuredRerun runs metrics) rs → AllByRecursion (IsLater count) rs
 all-later count runs metrics after [] h = tt
-all-later count runs metrics after (r ∷ rs) h = (subst (IsAfter count) h.0.run (after r.name.items), all-later count runs metrics after rs h.1)
+all-later count runs metrics after (r ∷ rs) h = (subst (IsNumberedAfter count) h.0.run (after r.name.items), all-later count runs metrics after rs h.1)
 
 -- ---- an edit
 
@@ -133,7 +133,7 @@ module _ (edits : List Named) (old new : SourceParts) (records : Records) (m : F
 
   pub is-renewal : (metrics : List GlyphMetrics) → glyph_metrics_among (newest_among m some records) some ≡ Ok metrics
       → (runs : List KeptRun) → ((g : List ℕ) → run_of runs g ≡ own_among m some g) → AreTraced runs → (renewal : Renewal)
-      → AllByRecursion (IsRerun runs metrics) renewal.reruns.items
+      → AllByRecursion (IsMeasuredRerun runs metrics) renewal.reruns.items
       → ((g : List ℕ) → list_any (bytes_eq g) (rerun_names renewal.reruns.items) ≡ list_any (λ x. bytes_eq g x.name) metrics)
       → ((k : Key) (u : List ℕ) → has_pair renewal.leaves.items k u ≡ (found u && is_user k (recorded_run records u)))
       → ((k : Key) (u : List ℕ) → has_pair renewal.joins.items k u ≡ (list_any (bytes_eq u) some && is_user k (run_of runs u)))

@@ -26,7 +26,7 @@ use Rattle.t1_font.specs.Assembly.{file_check}
 use Rattle.t1_font.specs.Bodies.{bodies, bodies_check, SameBodies}
 use Rattle.t1_font.specs.Glyphs.{Glyph as Reported, glyph_names, glyph_of, glyphs_by}
 use Rattle.t1_font.specs.MeasuredGlyphs.{glyph_metrics, glyph_metrics_among}
-use Rattle.t1_font.specs.Runs.{Kept as KeptRun, kept_of as run_of, own_among, AreTraced}
+use Rattle.t1_font.specs.Runs.{NamedRun as KeptRun, drawing_in as run_of, own_among, AreTraced}
 use Rattle.t1_font.specs.SourceChecks.{source_check}
 use Rattle.t1_font.proofs.LengthLaws.{body_fault_reported}
 use Rattle.t1_font.proofs.Measuring.{names-there, same-function}
@@ -36,13 +36,13 @@ use Rattle.t1_cache.specs.declared.records.Rerun.{Rerun}
 use Rattle.t1_cache.specs.Edited.{stale}
 use Rattle.t1_cache.specs.Laws.{AreDistinct}
 use Rattle.t1_cache.specs.Renewed.{recorded_run}
-use Rattle.t1_cache.specs.Users.{has, has_pair, key_of}
+use Rattle.t1_cache.specs.Users.{has_name, has_pair, key_of}
 use Rattle.t1_cache.proofs.Counting.{found_count}
 use Rattle.t1_cache.proofs.Lists.{all-weaken, all-at}
 use Rattle.t1_font.proofs.Lookups.{bytes_tell}
 use Rattle.t1_rerun.specs.declared.renewal.Renewal.{Renewal}
 use Rattle.t1_rerun.specs.Newest.{judged_in, newest_among, FirstIn}
-use Rattle.t1_rerun.specs.Renewals.{rerun_names, HasBox, IsRenewal, IsRerun}
+use Rattle.t1_rerun.specs.Renewals.{rerun_names, HasBox, IsRenewal, IsMeasuredRerun}
 use Rattle.t1_rerun.specs.Right.{has_glyph, IsEdit}
 use Rattle.t1_rerun.proofs.Gathering.{box-measured, measured-all, measured-names, IsMeasured}
 use Rattle.t1_cache.proofs.Filtering.{has-passing}
@@ -84,7 +84,7 @@ bodies-there f (x ∷ xs) = one (f x) refl (bodies-there f xs) where
 
 -- names that were found, of which those that have a body are left
 module _ (f : List ℕ → Option (List Command)) (keys : List (Bor (List ℕ))) (these : List (List ℕ)) (is : these ≡ filter (λ g. is_some (f g)) (map (λ name. name.now) keys)) where
-  pub those-are : (g : List ℕ) → list_any (bytes_eq g) these ≡ (has (λ name. name.now) keys g && is_some (f g))
+  pub those-are : (g : List ℕ) → list_any (bytes_eq g) these ≡ (has_name (λ name. name.now) keys g && is_some (f g))
   those-are g =
       ap (list_any (bytes_eq g)) is ∙ has-passing (λ g. is_some (f g)) g (map (λ name. name.now) keys) ∙ ap (λ b. b && is_some (f g)) (sym (has-names keys g))
 
@@ -161,9 +161,9 @@ boxes-again run xs ys ms ns reported again same g box h =
 
 reruns-again : (run : Runs) (xs ys : List (List ℕ)) (ms ns : List GlyphMetrics) → glyph_metrics_among run xs ≡ Ok ms → glyph_metrics_among run ys ≡ Ok ns
     → ((g : List ℕ) → list_any (bytes_eq g) xs ≡ list_any (bytes_eq g) ys) → (runs : List KeptRun) (rs : List Rerun)
-    → AllByRecursion (IsRerun runs ms) rs → AllByRecursion (IsRerun runs ns) rs
+    → AllByRecursion (IsMeasuredRerun runs ms) rs → AllByRecursion (IsMeasuredRerun runs ns) rs
 reruns-again run xs ys ms ns reported again same runs rs all =
-    all-weaken (IsRerun runs ms) (IsRerun runs ns)
+    all-weaken (IsMeasuredRerun runs ms) (IsMeasuredRerun runs ns)
     (λ r is. record { run = is.run; box = boxes-again run xs ys ms ns reported again same r.name.items r.bbox is.box }) rs all
 
 names-again : (run : Runs) (xs ys : List (List ℕ)) (ms ns : List GlyphMetrics) → glyph_metrics_among run xs ≡ Ok ms → glyph_metrics_among run ys ≡ Ok ns
@@ -297,7 +297,7 @@ module _ (edits : List Named) (old new : SourceParts) (records : Records) (m : F
 
   pub renewal-is : (ms : List GlyphMetrics) → judged_in (glyph_metrics_among run these) (glyph_metrics_among run ordered) ≡ Ok ms
       → (runs : List KeptRun) → ((g : List ℕ) → run_of runs g ≡ own_among m these g) → AreTraced runs → (renewal : Renewal)
-      → AllByRecursion (IsRerun runs ms) renewal.reruns.items
+      → AllByRecursion (IsMeasuredRerun runs ms) renewal.reruns.items
       → ((g : List ℕ) → list_any (bytes_eq g) (rerun_names renewal.reruns.items) ≡ list_any (λ x. bytes_eq g x.name) ms)
       → ((k : Key) (u : List ℕ) → has_pair renewal.leaves.items k u ≡ (found u && is_user k (recorded_run records u)))
       → ((k : Key) (u : List ℕ) → has_pair renewal.joins.items k u ≡ (list_any (bytes_eq u) these && is_user k (run_of runs u)))

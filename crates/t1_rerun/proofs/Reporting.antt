@@ -18,7 +18,7 @@ use Rattle.t1_font.specs.Assembly.{file_check}
 use Rattle.t1_font.specs.Bodies.{bodies}
 use Rattle.t1_font.specs.Glyphs.{Glyph as Reported, glyph_of, placed_parts_of, glyphs_by, glyphs, glyph_names}
 use Rattle.t1_font.specs.SourceChecks.{measured_source}
-use Rattle.t1_cache.specs.Kept.{KeepsAll, shown, shown_from}
+use Rattle.t1_cache.specs.Kept.{KeepsAll, without_serial, shown_from}
 use Rattle.t1_frac.specs.declared.fault.Place.TheVariants.{Nowhere}
 use Rattle.t1_frac.specs.declared.fault.Refusal.{Refusal}
 use Rattle.t1_frac.specs.declared.fault.Refusal.TheVariants as refusals
@@ -107,14 +107,14 @@ reported-each run o (g ∷ names) ts e = one (glyph_of g (run g) (o g)) refl (gl
   one (Ok x) here (Err fault) there others e = absurd (cc)
   one (Err code) here rest there others e = absurd (cc)
 
-metrics-of : (kept : List Kept) (ts : List Reported) → map shown kept ≡ map shown_from ts
+metrics-of : (kept : List Kept) (ts : List Reported) → map without_serial kept ≡ map shown_from ts
     → AllByRecursion (λ t. glyph_metrics_by t.name t.drawing (drawn_box t.outline) ≡ Ok (glyph_metrics t)) ts → kept_metrics kept ≡ Ok (map glyph_metrics ts)
 metrics-of [] [] e all = refl
 metrics-of [] (t ∷ ts) e all = absurd (cc)
 metrics-of (k ∷ kept) [] e all = absurd (cc)
 metrics-of (k ∷ kept) (t ∷ ts) e all =
-    let first : shown k ≡ shown_from t = cc in
-    let rest : map shown kept ≡ map shown_from ts = cc in
+    let first : without_serial k ≡ shown_from t = cc in
+    let rest : map without_serial kept ≡ map shown_from ts = cc in
     ap (λ s. glyph_metrics_by s.name s.drawing s.box >>= (λ m. kept_metrics kept >>= (λ ms. Ok (m ∷ ms)))) first
     ∙ ap (λ r. r >>= (λ m. kept_metrics kept >>= (λ ms. Ok (m ∷ ms)))) all.0
     ∙ ap (λ r. r >>= (λ ms. Ok (glyph_metrics t ∷ ms))) (metrics-of kept ts rest all.1)

@@ -20,7 +20,7 @@ use Rattle.t1_cache.specs.declared.records.Rerun.{Rerun}
 use Rattle.t1_cache.specs.Bodies.{record_bodies}
 use Rattle.t1_cache.specs.Edited.{is_stale, stale, IsEditedAt}
 use Rattle.t1_cache.specs.Kept.{KeepsAll}
-use Rattle.t1_cache.specs.Laws.{check}
+use Rattle.t1_cache.specs.Laws.{fault_check}
 use Rattle.t1_cache.specs.Renewal.{IsFromScratch, IsOneOf, IsRenewed, kept_by}
 use Rattle.t1_cache.specs.Renewed.{Kept, kept_of, rerun_of, with_rerun}
 use Rattle.t1_cache.specs.Users.{has_pair, lists}
@@ -105,7 +105,7 @@ module _ (keys : List Key) (old : SourceParts) (reruns left : List Rerun) (kept 
 
 pub reported-of : (s : SourceParts) → source_check s ≡ Ok tt → (reported : List Reported) × (source_glyphs s ≡ Ok reported)
 reported-of s e = by (source_glyphs s) refl (sym (check-by-glyphs s) ∙ e) where
-  by : (r : Result (List Reported) Fault) → source_glyphs s ≡ r → ◌≡◌ {A = Result (Unit {0}) Fault} (check r) (Ok tt) → (reported : List Reported) × (source_glyphs s ≡ Ok reported)
+  by : (r : Result (List Reported) Fault) → source_glyphs s ≡ r → ◌≡◌ {A = Result (Unit {0}) Fault} (fault_check r) (Ok tt) → (reported : List Reported) × (source_glyphs s ≡ Ok reported)
   by (Ok reported) here e = (reported, here)
   by (Err fault) here e = absurd (cc)
 

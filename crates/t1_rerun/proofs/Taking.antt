@@ -9,17 +9,17 @@ use Rattle.std.proofs.lemmas.Slice.Eq.{bytes_eq-Decides}
 use Rattle.t1_frac.specs.declared.fault.Code.{Code}
 use Rattle.t1_extent.specs.Kept.{TracedRun}
 use Rattle.t1_font.specs.declared.glyph_metrics.GlyphMetrics.{GlyphMetrics}
-use Rattle.t1_font.specs.Runs.{Kept, run_kept}
+use Rattle.t1_font.specs.Runs.{NamedRun, run_kept}
 use Rattle.t1_cache.specs.declared.records.Rerun.{Rerun}
 use Rattle.t1_cache.proofs.Lists.{all-last}
-use Rattle.t1_rerun.specs.Renewals.{rerun_names, run_in, HasBox, HasRun, IsRerun}
+use Rattle.t1_rerun.specs.Renewals.{rerun_names, run_in, HasBox, HasRun, IsMeasuredRerun}
 
 pub has-box : (ms : List GlyphMetrics) (i : ℕ) (m : GlyphMetrics) → i < length ms → m ≡ get_or ms i m → HasBox ms m.name m.bbox
 has-box [] i m h e = absurd (omega (arith, h))
 has-box (x ∷ ms) zero m h e = inl (ap (λ y. y.name) (sym e), ap (λ y. y.bbox) (sym e))
 has-box (x ∷ ms) (suc i) m h e = inr (has-box ms i m (omega (arith, h)) e)
 
-pub has-run : (runs : List Kept) (ms : List GlyphMetrics) (i : ℕ) (m : GlyphMetrics) → AllByRecursion (HasRun runs) ms → i < length ms → m ≡ get_or ms i m → HasRun runs m
+pub has-run : (runs : List NamedRun) (ms : List GlyphMetrics) (i : ℕ) (m : GlyphMetrics) → AllByRecursion (HasRun runs) ms → i < length ms → m ≡ get_or ms i m → HasRun runs m
 has-run runs [] i m all h e = absurd (omega (arith, h))
 has-run runs (x ∷ ms) zero m all h e = let same : x ≡ m = sym e in (all.0.0, ap (λ y. run_kept runs y.name) e ∙ all.0.1)
 has-run runs (x ∷ ms) (suc i) m all h e = has-run runs ms i m all.1 (omega (arith, h)) e
@@ -29,12 +29,12 @@ names-more [] r g = or-false (bytes_eq g r.name.items)
 names-more (x ∷ rs) r g = ap (λ b. bytes_eq g x.name.items || b) (names-more rs r g) ∙ sym (or_assoc (bytes_eq g x.name.items) (list_any (bytes_eq g) (rerun_names rs)) (bytes_eq g r.name.items))
 
 -- what holds of the reruns so far
-pub record AreTaken (runs now : List Kept) (metrics : List GlyphMetrics) (at : ℕ) (rs : List Rerun) : Type 0 where
-  pub each : AllByRecursion (IsRerun runs metrics) rs
+pub record AreTaken (runs now : List NamedRun) (metrics : List GlyphMetrics) (at : ℕ) (rs : List Rerun) : Type 0 where
+  pub each : AllByRecursion (IsMeasuredRerun runs metrics) rs
   pub names : (g : List ℕ) → list_any (bytes_eq g) (rerun_names rs) ≡ list_any (λ m. bytes_eq g m.name) (take at metrics)
   pub left : (g : List ℕ) → run_kept now g ≡ cond (list_any (bytes_eq g) (rerun_names rs)) None (run_kept runs g)
 
-module _ (runs now new : List Kept) (metrics : List GlyphMetrics) (at : ℕ) (rs : List Rerun) (m : GlyphMetrics)
+module _ (runs now new : List NamedRun) (metrics : List GlyphMetrics) (at : ℕ) (rs : List Rerun) (m : GlyphMetrics)
     (far : at < length metrics) (is : m ≡ get_or metrics at m) (had : HasRun runs m) (before : AreTaken runs now metrics at rs)
     (others : (g : List ℕ) → run_kept new g ≡ cond (bytes_eq m.name g) None (run_kept now g)) where
   same_name : (g : List ℕ) → bytes_eq g m.name ≡ true → g ≡ m.name
@@ -56,7 +56,7 @@ module _ (runs now new : List Kept) (metrics : List GlyphMetrics) (at : ℕ) (rs
   -- a glyph whose run was there, and was taken
   pub taken-more : (r : Rerun) → r.name.items ≡ m.name → r.bbox ≡ m.bbox → Some r.run ≡ run_in (run_kept now m.name) → AreTaken runs new metrics (at + 1) (rs ++ r ∷ [])
   taken-more r name box run = record {
-    each = all-last (IsRerun runs metrics) rs r before.each (record {
+    each = all-last (IsMeasuredRerun runs metrics) rs r before.each (record {
       run = ap (run_kept runs) name ∙ sym (was (list_any (bytes_eq m.name) (rerun_names rs)) refl);
       box = rw (name, box) (has-box metrics at m far is);
     });

@@ -11,7 +11,7 @@ use Rattle.t1_extent.specs.Kept.{traces}
 use Rattle.t1_font.specs.Glyphs.{Glyph as Reported}
 use Rattle.t1_cache.specs.declared.records.GlyphRecord.{GlyphRecord}
 use Rattle.t1_cache.specs.declared.records.Records.{Records}
-use Rattle.t1_cache.specs.Kept.{keep_traces, shown, shown_from}
+use Rattle.t1_cache.specs.Kept.{keep_traces, without_serial, shown_from}
 use Rattle.t1_cache.specs.Renewed.{Kept, kept_of, record_of}
 use Rattle.t1_rerun.specs.Right.{IsRight}
 use Rattle.t1_run.proofs.Asked.{bytes_same}
@@ -31,12 +31,12 @@ found_trace (x ∷ es) g r h e =
         subst (λ k. traces g k.run ≡ true) is (ap (λ n. traces n x.1.run) (bytes_same g x.0.items same) ∙ here)
     by false other here later h = later h
 
-all-traced : (ks : List Kept) (ts : List Reported) → map shown ks ≡ map shown_from ts → list_all (λ (k : Kept). traces k.name k.run) ks ≡ true
+all-traced : (ks : List Kept) (ts : List Reported) → map without_serial ks ≡ map shown_from ts → list_all (λ (k : Kept). traces k.name k.run) ks ≡ true
 all-traced [] ts e = refl
 all-traced (k ∷ ks) [] e = absurd (cc)
 all-traced (k ∷ ks) (t ∷ ts) e =
-    let first : shown k ≡ shown_from t = cc in
-    let rest : map shown ks ≡ map shown_from ts = cc in
+    let first : without_serial k ≡ shown_from t = cc in
+    let rest : map without_serial ks ≡ map shown_from ts = cc in
     ap (λ b. b && list_all (λ (x : Kept). traces x.name x.run) ks) (ap (λ s. s.keeps_trace) first) ∙ all-traced ks ts rest
 
 -- right records keep their traces

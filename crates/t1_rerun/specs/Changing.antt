@@ -7,7 +7,7 @@ use Rattle.std.specs.Option.{option_copied}
 use Rattle.std.specs.Str.{bytes_eq}
 use Rattle.t1_code.specs.declared.command.Command.{Command}
 use Rattle.t1_parts.specs.SourceParts.{SourceParts}
-use Rattle.t1_run.specs.Overlay.{changed}
+use Rattle.t1_run.specs.Overlay.{after_change}
 use Rattle.t1_run.specs.Run.{FontBodies, Key, font, key_eq}
 use Rattle.t1_font.specs.Assembly.{file_check}
 use Rattle.t1_font.specs.Glyphs.{glyph_names}
@@ -42,8 +42,8 @@ glyph_set entries g = option_copied (lookup (λ name. bytes_eq g name.now) entri
 -- word: the font that edited bodies are
 abbrev pub edited_font : EditedBodies → FontBodies
 edited_font e =
-    font (λ n. changed (subr_set e.subrs.entries n) (subr_body e.records.now.subrs.entries n))
-    (λ g. changed (glyph_set e.glyphs.entries g) (glyph_body e.records.now.glyphs.entries g))
+    font (λ n. after_change (subr_set e.subrs.entries n) (subr_body e.records.now.subrs.entries n))
+    (λ g. after_change (glyph_set e.glyphs.entries g) (glyph_body e.records.now.glyphs.entries g))
 
 -- ---- edits
 
@@ -73,7 +73,7 @@ pub record IsReadyFor (count : ℕ) (changes : List EntryChange) (old new : Sour
   pub later : AllByRecursion (IsLater count) renewal.reruns.items
 
 -- word: there are such changes and such sources
-pub record IsPrepared (records : Records) (ready : Ready) : Type 0 where
+pub record ArePreparedChanges (records : Records) (ready : Ready) : Type 0 where
   pub count : ℕ
   pub changes : List EntryChange
   pub old : SourceParts

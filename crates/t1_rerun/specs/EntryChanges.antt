@@ -62,7 +62,7 @@ edit_change (RemoveSubr n) = Ok (removed_number (number_within n))
 edit_change _ = Ok None
 
 -- word: a source whose bodies have no fault, and what an edit makes of it
-pub record IsMade (edit : Edit) (old new : SourceParts) : Type 0 where
+pub record IsMadeByEdit (edit : Edit) (old new : SourceParts) : Type 0 where
   pub pairs : List Pair
   pub made_pairs : List Pair
   pub compiled : bodies_check old.items ≡ Ok tt

@@ -7,13 +7,13 @@ use Rattle.t1_frac.specs.declared.fault.Refusal.{Refusal}
 use Rattle.t1_frac.specs.declared.fault.Refusal.TheVariants as refusals
 use Rattle.t1_frac.specs.Outcome.{Refuses}
 use Rattle.t1_run.specs.Run.{FontBodies, Drawing}
-use Rattle.t1_font.specs.Runs.{Kept, kept_of, own_among}
+use Rattle.t1_font.specs.Runs.{NamedRun, drawing_in, own_among}
 use Rattle.t1_cache.specs.declared.records.Records.{Records}
 use Rattle.t1_cache.specs.Renewed.{recorded_run}
 
 -- word: the run that was made again, where there is one, else the run of the record
-abbrev pub newest : List Kept → Records → List ℕ → Option (Result Drawing Code)
-newest runs records g = option_or (kept_of runs g) (recorded_run records g)
+abbrev pub newest : List NamedRun → Records → List ℕ → Option (Result Drawing Code)
+newest runs records g = option_or (drawing_in runs g) (recorded_run records g)
 
 -- word: what the own bodies of these glyphs draw, else the run of the record
 abbrev pub newest_among : FontBodies → List (List ℕ) → Records → List ℕ → Option (Result Drawing Code)

@@ -8,7 +8,7 @@ use Rattle.t1_run.specs.Run.{FontBodies, own}
 use Rattle.t1_font.specs.declared.glyph_metrics.GlyphMetrics.{GlyphMetrics}
 use Rattle.t1_font.specs.Assembly.{file_check}
 use Rattle.t1_font.specs.Glyphs.{glyph_names}
-use Rattle.t1_font.specs.Runs.{Kept as KeptRun, run_kept, kept_of, counted}
+use Rattle.t1_font.specs.Runs.{NamedRun as KeptRun, run_kept, drawing_in, counted}
 use Rattle.t1_cache.specs.Laws.{AreDistinct}
 use Rattle.t1_cache.specs.Renewed.{Kept}
 use Rattle.t1_rerun.specs.Renewals.{HasBox, HasRun}
@@ -23,7 +23,7 @@ pub record AreMeasured (m : FontBodies) (runs : List KeptRun) (metrics : List Gl
   pub distinct : AreDistinct (measured_names metrics)
   pub bodies : (g : List ℕ) → is_some (m.glyphs g) ≡ list_any (bytes_eq g) (measured_names metrics)
   pub each : AllByRecursion (HasRun runs) metrics
-  pub draw : (g : List ℕ) → kept_of runs g ≡ own m g
+  pub draw : (g : List ℕ) → drawing_in runs g ≡ own m g
 
 -- word: a record has the run that was kept, and the box that was measured
 pub record IsRecorded (runs : List KeptRun) (metrics : List GlyphMetrics) (k : Kept) : Type 0 where

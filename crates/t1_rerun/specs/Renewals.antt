@@ -9,7 +9,7 @@ use Rattle.t1_extent.specs.Kept.{TracedRun}
 use Rattle.t1_afm.specs.declared.bbox.BBox.{BBox}
 use Rattle.t1_font.specs.declared.glyph_metrics.GlyphMetrics.{GlyphMetrics}
 use Rattle.t1_font.specs.Bodies.{bodies}
-use Rattle.t1_font.specs.Runs.{Kept as KeptRun, run_kept, counted}
+use Rattle.t1_font.specs.Runs.{NamedRun as KeptRun, run_kept, counted}
 use Rattle.t1_cache.specs.declared.records.Rerun.{Rerun}
 use Rattle.t1_cache.specs.Edited.{stale}
 use Rattle.t1_cache.specs.Joins.{AreLeaves}
@@ -41,7 +41,7 @@ abbrev pub HasRun : List KeptRun → GlyphMetrics → Type 0
 HasRun runs m = (run : TracedRun) × (run_kept runs m.name ≡ Some (Ok run))
 
 -- word: a rerun is a run that was kept, with the box that was measured
-pub record IsRerun (runs : List KeptRun) (metrics : List GlyphMetrics) (r : Rerun) : Type 0 where
+pub record IsMeasuredRerun (runs : List KeptRun) (metrics : List GlyphMetrics) (r : Rerun) : Type 0 where
   pub run : run_kept runs r.name.items ≡ Some (Ok r.run)
   pub box : HasBox metrics r.name.items r.bbox
 

@@ -18,7 +18,7 @@ use Rattle.t1_cache.specs.declared.records.Records.{Records}
 use Rattle.t1_cache.specs.declared.records.Rerun.{Rerun}
 use Rattle.t1_cache.specs.Bodies.{record_bodies}
 use Rattle.t1_cache.specs.Renewed.{Kept, kept, kept_of, rerun_of}
-use Rattle.t1_cache.specs.Users.{has, key_of, users_at, users_of, UserSet}
+use Rattle.t1_cache.specs.Users.{has_name, key_of, users_at, users_of, UserSet}
 use Rattle.t1_rerun.specs.declared.entry_change.EntryChange.{EntryChange}
 use Rattle.t1_rerun.specs.declared.settling.steps.Step.{Step}
 use Rattle.t1_rerun.specs.declared.settling.steps.Step.TheVariants as steps
@@ -86,7 +86,7 @@ takes_out _ g = false
 
 -- word: steps take out the records of these glyphs
 abbrev pub AreTakenOut : List (Vec ℕ Global) → List Step → Type 0
-AreTakenOut names steps = (g : List ℕ) → has (λ name. name.items) names g ≡ true → list_any (λ step. takes_out step g) steps ≡ true
+AreTakenOut names steps = (g : List ℕ) → has_name (λ name. name.items) names g ≡ true → list_any (λ step. takes_out step g) steps ≡ true
 
 -- ---- the steps of changes
 
@@ -136,8 +136,8 @@ IsStepOf run count records c (steps.InsertGlyph name r) =
     × ((is_last records c.moved c.named ≡ true) × (HasPlaces (count (Glyph name.items)) r.users × (run name.items ≡ Some (r.run, r.bbox)))))
 
 -- word: the change of an entry, from its parts
-abbrev pub changed : Named → Option (List Command) → Bool → EntryChange
-changed named body moved = record { named = named; body = body; moved = moved }
+abbrev pub entry_change : Named → Option (List Command) → Bool → EntryChange
+entry_change named body moved = record { named = named; body = body; moved = moved }
 
 -- word: the last step is that of the first change, and so on
 abbrev pub AreStepsOf : (List ℕ → Option (TracedRun × Option BBox)) → (Key → ℕ) → Records → List EntryChange → List Step → Type 0

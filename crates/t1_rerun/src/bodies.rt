@@ -1,8 +1,9 @@
 //! The bodies of records under changes of some entries.
-ghost use Rattle.std.specs.Prelude.{◌≡◌, ◌∷◌, [], nat_eq, ℕ, List, IfOk, None, OnOk, Some, if◌then◌else◌};
+ghost use Rattle.std.specs.Prelude.{◌≡◌, ◌∷◌, [], nat_eq, ℕ, List, IfOk, None, OnOk, Some};
+ghost use Rattle.std.specs.Prelude.{if◌then◌else◌};
 ghost use Rattle.std.specs.Option.{option_copied, option_or};
 ghost use Rattle.std.specs.Str.{bytes_eq};
-ghost use Rattle.t1_run.specs.Overlay.{changed};
+ghost use Rattle.t1_run.specs.Overlay.{after_change};
 ghost use Rattle.t1_run.specs.Run.{Glyph, Key, Subr, body_at};
 ghost use Rattle.t1_cache.specs.Bodies.{record_bodies};
 ghost use Rattle.t1_rerun.specs.Changing.{body_changed, edited_font, glyph_set, subr_set};
@@ -14,8 +15,8 @@ use t1_cache::{Named, Records};
 use t1_code::{Body, Command};
 use t1_run::{Bodies, StoredBodies};
 
-/// The bodies of records, with those that changes set or take out. Each is asked for by one look-up among the changes and at
-/// most one among the records.
+/// The bodies of records, with those that changes set or take out. Each is asked for by one look-up
+/// among the changes and at most one among the records.
 #[derive(Drop)]
 pub struct EditedBodies<'a> {
     records: &'a Records,
@@ -51,13 +52,16 @@ fn commands_of(body: &Option<Body>) -> Option<&[Command]>
 }
 
 impl<'a> Bodies for EditedBodies<'a> {
-    ghost use Rattle.t1_run.specs.Overlay.{changed};
+    ghost use Rattle.t1_run.specs.Overlay.{after_change};
     ghost use Rattle.t1_cache.specs.Bodies.{glyph_body, subr_body};
     ghost use Rattle.t1_rerun.specs.Changing.{glyph_set, subr_set};
 
-    ghost subrs = { λ e n. changed (subr_set e.subrs.entries n) (subr_body e.records.now.subrs.entries n) };
+    ghost subrs = { λ e n.
+        after_change (subr_set e.subrs.entries n) (subr_body e.records.now.subrs.entries n) };
 
-    ghost glyphs = { λ e name. changed (glyph_set e.glyphs.entries name) (glyph_body e.records.now.glyphs.entries name) };
+    ghost glyphs = { λ e name.
+        after_change (glyph_set e.glyphs.entries name)
+        (glyph_body e.records.now.glyphs.entries name) };
 
     fn subr(&self, n: u16) -> Option<&[Command]> {
         match subr_in(&self.subrs, n) {
@@ -89,7 +93,11 @@ fn set_subr<'a>(
     number: u16,
     body: &'a Option<Body>,
 ) -> Result<(), AllocError>
-    ensures { OnOk result ((n : ℕ) → subr_set subrs.new.entries n ≡ option_or (subr_set subrs.old.entries n) (if nat_eq n number then Some body.now else None)) }
+    ensures { OnOk result
+        ((n : ℕ)
+        → subr_set subrs.new.entries n
+        ≡ option_or (subr_set subrs.old.entries n)
+        (if nat_eq n number then Some body.now else None)) }
 {
     if subrs.contains_key(&number) {
         return Ok(());
@@ -104,7 +112,11 @@ fn set_glyph<'a>(
     name: &'a [u8],
     body: &'a Option<Body>,
 ) -> Result<(), AllocError>
-    ensures { OnOk result ((g : List ℕ) → glyph_set glyphs.new.entries g ≡ option_or (glyph_set glyphs.old.entries g) (if bytes_eq g name.now then Some body.now else None)) }
+    ensures { OnOk result
+        ((g : List ℕ)
+        → glyph_set glyphs.new.entries g
+        ≡ option_or (glyph_set glyphs.old.entries g)
+        (if bytes_eq g name.now then Some body.now else None)) }
 {
     if glyphs.contains_key(name) {
         return Ok(());
@@ -119,8 +131,15 @@ fn set_body<'a>(
     glyphs: &mut IndexMap<&'a [u8], &'a Option<Body>>,
     change: &'a EntryChange,
 ) -> Result<(), AllocError>
-    ensures subrs { OnOk result ((n : ℕ) → subr_set subrs.new.entries n ≡ option_or (subr_set subrs.old.entries n) (body_changed (change.now ∷ []) (Subr n))) }
-    ensures glyphs { OnOk result ((g : List ℕ) → glyph_set glyphs.new.entries g ≡ option_or (glyph_set glyphs.old.entries g) (body_changed (change.now ∷ []) (Glyph g))) }
+    ensures subrs { OnOk result
+        ((n : ℕ)
+        → subr_set subrs.new.entries n
+        ≡ option_or (subr_set subrs.old.entries n) (body_changed (change.now ∷ []) (Subr n))) }
+    ensures glyphs { OnOk result
+        ((g : List ℕ)
+        → glyph_set glyphs.new.entries g
+        ≡ option_or (glyph_set glyphs.old.entries g)
+        (body_changed (change.now ∷ []) (Glyph g))) }
 {
     match &change.named {
         Named::Subr(number) => set_subr(subrs, *number, &change.body),
@@ -134,7 +153,12 @@ pub fn edited_bodies<'a>(
     records: &'a Records,
     changes: &'a [EntryChange],
 ) -> Result<EditedBodies<'a>, AllocError>
-    ensures { IfOk result (λ bodies. (k : Key) → body_at (edited_font bodies) k ≡ changed (body_changed changes.now k) (body_at (record_bodies records.now) k)) }
+    ensures { IfOk result
+        (λ bodies.
+        (k : Key)
+        → body_at (edited_font bodies) k
+        ≡ after_change (body_changed changes.now k)
+        (body_at (record_bodies records.now) k)) }
 {
     let mut subrs = IndexMap::new(alloc);
     let mut glyphs = IndexMap::new(alloc);

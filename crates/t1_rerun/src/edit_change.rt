@@ -7,7 +7,8 @@ ghost use Rattle.t1_parts.specs.SourceParts.{SourceParts};
 ghost use Rattle.t1_source.specs.Editing.{body_words};
 ghost use Rattle.t1_run.specs.Run.{Glyph};
 ghost use Rattle.t1_font.specs.Assembly.{file_check};
-ghost use Rattle.t1_rerun.specs.EntryChanges.{edit_change, key_change, number_within, put_key, put_number, removed_number, IsChanged, IsMade};
+ghost use Rattle.t1_rerun.specs.EntryChanges.{edit_change, key_change, number_within, put_key};
+ghost use Rattle.t1_rerun.specs.EntryChanges.{put_number, removed_number, IsChanged, IsMadeByEdit};
 
 use crate::entry_change::EntryChange;
 use std::alloc::{AllocError, Global};
@@ -29,7 +30,8 @@ fn subr_number(number: i64) -> Option<u16>
 
 /// A Subr with the commands of a body's words, or their fault.
 fn subr_put(alloc: Global, number: i64, body: &Bytes) -> Result<Option<EntryChange>, Refusal>
-    ensures { Gives (option_map key_change) result (put_number (number_within number) (body_words body.now)) }
+    ensures { Gives (option_map key_change) result
+        (put_number (number_within number) (body_words body.now)) }
 {
     let Some(number) = subr_number(number) else {
         return Ok(None);
@@ -45,7 +47,8 @@ fn subr_put(alloc: Global, number: i64, body: &Bytes) -> Result<Option<EntryChan
 
 /// A glyph with the commands of a body's words, or their fault.
 fn glyph_put(alloc: Global, name: &Bytes, body: &Bytes) -> Result<Option<EntryChange>, Refusal>
-    ensures { Gives (option_map key_change) result (put_key (Glyph name.now) (places.Glyph name.now) (body_words body.now)) }
+    ensures { Gives (option_map key_change) result
+        (put_key (Glyph name.now) (places.Glyph name.now) (body_words body.now)) }
 {
     let words = body_words(alloc, body.as_slice())?;
     let body = compiled_glyph(alloc, name.as_slice(), &words)?;
@@ -70,7 +73,9 @@ fn subr_removed(number: i64) -> Option<EntryChange>
 
 /// A glyph that is removed.
 fn glyph_removed(alloc: Global, name: &Bytes) -> Result<EntryChange, AllocError>
-    ensures { IfOk result (λ change. key_change change ≡ record { key = Glyph name.now; body = None; moved = false }) }
+    ensures { IfOk result
+        (λ change.
+        key_change change ≡ record { key = Glyph name.now; body = None; moved = false }) }
 {
     Ok(EntryChange {
         named: Named::Glyph(Bytes::copied(alloc, name.as_slice())?),
@@ -79,7 +84,8 @@ fn glyph_removed(alloc: Global, name: &Bytes) -> Result<EntryChange, AllocError>
     })
 }
 
-/// The entry that an edit names, where it names one, with its body after it, or the fault of its words.
+/// The entry that an edit names, where it names one, with its body after it, or the fault of its
+/// words.
 fn entry_change(alloc: Global, edit: &Edit) -> Result<Option<EntryChange>, Refusal>
     ensures { Gives (option_map key_change) result (edit_change edit.now) }
 {
@@ -98,11 +104,15 @@ fn entry_change(alloc: Global, edit: &Edit) -> Result<Option<EntryChange>, Refus
     }
 }
 
-/// The entry that an edit names, where it names one, with its body after it; `None` in its place where it is removed. Or the
-/// fault of the edit's words, at the entry: where all other bodies have no fault it is the first of the edited source.
+/// The entry that an edit names, where it names one, with its body after it; `None` in its place
+/// where it is removed. Or the fault of the edit's words, at the entry: where all other bodies have
+/// no fault it is the first of the edited source.
 pub fn change_of_edit(alloc: Global, edit: &Edit) -> Result<Option<EntryChange>, Refusal>
     ensures change { Gives (option_map key_change) result (edit_change edit.now) }
-    ensures changed { (old new : SourceParts) → IsMade edit.now old new → MatchResult result (IsChanged edit.now old new) (λ refusal. Refuses refusal (file_check new)) }
+    ensures changed { (old new : SourceParts)
+        → IsMadeByEdit edit.now old new
+        → MatchResult result (IsChanged edit.now old new)
+        (λ refusal. Refuses refusal (file_check new)) }
 {
     entry_change(alloc, edit)
 }

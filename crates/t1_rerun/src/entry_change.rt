@@ -3,8 +3,8 @@
 use t1_cache::Named;
 use t1_code::Body;
 
-/// An entry that edits name, and its body in the edited font; `None` where it was removed. A glyph that was removed and added
-/// again has moved: it stands after the others.
+/// An entry that edits name, and its body in the edited font; `None` where it was removed. A glyph
+/// that was removed and added again has moved: it stands after the others.
 #[derive(Drop)]
 pub struct EntryChange {
     pub named: Named,

@@ -5,12 +5,13 @@ ghost use Rattle.t1_frac.specs.Outcome.{Gives};
 ghost use Rattle.t1_parts.specs.SourceParts.{SourceParts};
 ghost use Rattle.t1_run.specs.Run.{font};
 ghost use Rattle.t1_font.specs.MeasuredGlyphs.{glyph_metrics_among};
-ghost use Rattle.t1_font.specs.Runs.{own_among, kept_of, run_kept, AreTraced, Counts, IsAfter};
+ghost use Rattle.t1_font.specs.Runs.{own_among, drawing_in, run_kept, AreTraced, Counts};
+ghost use Rattle.t1_font.specs.Runs.{IsNumberedAfter};
 ghost use Rattle.t1_font.specs.SourceChecks.{source_check};
 ghost use Rattle.t1_cache.specs.Edited.{stale};
 ghost use Rattle.t1_cache.specs.Kept.{keep_traces};
-ghost use Rattle.t1_cache.specs.Laws.{check};
-ghost use Rattle.t1_cache.specs.Users.{has, key_of};
+ghost use Rattle.t1_cache.specs.Laws.{fault_check};
+ghost use Rattle.t1_cache.specs.Users.{has_name, key_of};
 ghost use Rattle.t1_rerun.specs.Newest.{judged_in, newest, newest_among, FirstIn};
 ghost use Rattle.t1_rerun.specs.Renewals.{IsLater, IsRenewal};
 ghost use Rattle.t1_rerun.specs.Right.{IsEdit};
@@ -33,7 +34,10 @@ fn check_in_order<O: GlyphOrder>(
     found: &IndexSet<&[u8]>,
     order: &O,
 ) -> Result<(), Refusal>
-    ensures { Gives (λ x. x) result (check (glyph_metrics_among (newest runs.now.runs.now runs.now.records.now) (filter (has (λ name. name.now) found.now.keys) (O.ordered order.now)))) }
+    ensures { Gives (λ x. x) result
+        (fault_check
+        (glyph_metrics_among (newest runs.now.runs.now runs.now.records.now)
+        (filter (has_name (λ name. name.now) found.now.keys) (O.ordered order.now)))) }
 {
     let names = order.names(alloc)?;
     let stale = stale_among(alloc, &names, found)?;
@@ -41,7 +45,8 @@ fn check_in_order<O: GlyphOrder>(
     Ok(())
 }
 
-/// The first fault in the order of the font, where one of the glyphs that were found has a fault; or want of memory.
+/// The first fault in the order of the font, where one of the glyphs that were found has a fault;
+/// or want of memory.
 fn first_in_order<O: GlyphOrder>(
     alloc: Global,
     runs: &Newest,
@@ -49,7 +54,10 @@ fn first_in_order<O: GlyphOrder>(
     order: &O,
     refusal: Refusal,
 ) -> Refusal
-    ensures { FirstIn refusal (glyph_metrics_among (newest runs.now.runs.now runs.now.records.now) (filter (has (λ name. name.now) found.now.keys) (O.ordered order.now))) result }
+    ensures { FirstIn refusal
+        (glyph_metrics_among (newest runs.now.runs.now runs.now.records.now)
+        (filter (has_name (λ name. name.now) found.now.keys) (O.ordered order.now)))
+        result }
 {
     match refusal {
         Refusal::Memory => Refusal::Memory,
@@ -60,8 +68,8 @@ fn first_in_order<O: GlyphOrder>(
     }
 }
 
-/// What is measured of stale glyphs, in the order in which they were found, or the first fault of one in the order of the
-/// font, which is asked for only there.
+/// What is measured of stale glyphs, in the order in which they were found, or the first fault of
+/// one in the order of the font, which is asked for only there.
 fn measured_in_turn<'a, O: GlyphOrder>(
     alloc: Global,
     runs: &Newest,
@@ -69,7 +77,12 @@ fn measured_in_turn<'a, O: GlyphOrder>(
     found: &IndexSet<&[u8]>,
     order: &O,
 ) -> Result<Vec<GlyphMetrics<'a>>, Refusal>
-    ensures { Gives (λ metrics. metrics.items) result (judged_in (glyph_metrics_among (newest runs.now.runs.now runs.now.records.now) (map (λ name. name.now) stale.now)) (glyph_metrics_among (newest runs.now.runs.now runs.now.records.now) (filter (has (λ name. name.now) found.now.keys) (O.ordered order.now)))) }
+    ensures { Gives (λ metrics. metrics.items) result
+        (judged_in
+        (glyph_metrics_among (newest runs.now.runs.now runs.now.records.now)
+        (map (λ name. name.now) stale.now))
+        (glyph_metrics_among (newest runs.now.runs.now runs.now.records.now)
+        (filter (has_name (λ name. name.now) found.now.keys) (O.ordered order.now)))) }
 {
     match glyph_metrics_of(alloc, runs, stale) {
         Ok(metrics) => Ok(metrics),
@@ -77,8 +90,8 @@ fn measured_in_turn<'a, O: GlyphOrder>(
     }
 }
 
-/// Runs each of these glyphs and measures it by the newest runs, or answers the first fault of one of them in the order of
-/// the font. The meter counts each of them.
+/// Runs each of these glyphs and measures it by the newest runs, or answers the first fault of one
+/// of them in the order of the font. The meter counts each of them.
 fn judged<'a, B: StoredBodies, O: GlyphOrder>(
     alloc: Global,
     records: &Records,
@@ -90,10 +103,25 @@ fn judged<'a, B: StoredBodies, O: GlyphOrder>(
 ) -> Result<(Runs<'a>, Vec<GlyphMetrics<'a>>), Refusal>
     requires there { All (λ name. IsSome (B.glyphs bodies.now name.now)) stale.now }
     requires traced { keep_traces records.now ≡ true }
-    ensures reported { Gives (λ made. made.1.items) result (judged_in (glyph_metrics_among (newest_among (font (B.subrs bodies.now) (B.glyphs bodies.now)) (map (λ name. name.now) stale.now) records.now) (map (λ name. name.now) stale.now)) (glyph_metrics_among (newest_among (font (B.subrs bodies.now) (B.glyphs bodies.now)) (map (λ name. name.now) stale.now) records.now) (filter (has (λ name. name.now) found.now.keys) (O.ordered order.now)))) }
-    ensures kept { IfOk result (λ made. (g : List ℕ) → kept_of made.0 g ≡ own_among (font (B.subrs bodies.now) (B.glyphs bodies.now)) (map (λ name. name.now) stale.now) g) }
+    ensures reported { Gives (λ made. made.1.items) result
+        (judged_in
+        (glyph_metrics_among
+        (newest_among (font (B.subrs bodies.now) (B.glyphs bodies.now))
+        (map (λ name. name.now) stale.now) records.now)
+        (map (λ name. name.now) stale.now))
+        (glyph_metrics_among
+        (newest_among (font (B.subrs bodies.now) (B.glyphs bodies.now))
+        (map (λ name. name.now) stale.now) records.now)
+        (filter (has_name (λ name. name.now) found.now.keys) (O.ordered order.now)))) }
+    ensures kept { IfOk result
+        (λ made.
+        (g : List ℕ)
+        → drawing_in made.0 g
+        ≡ own_among (font (B.subrs bodies.now) (B.glyphs bodies.now))
+        (map (λ name. name.now) stale.now) g) }
     ensures traced { IfOk result (λ made. AreTraced made.0) }
-    ensures after { IfOk result (λ made. (g : List ℕ) → IsAfter meter.old (run_kept made.0 g)) }
+    ensures after { IfOk result
+        (λ made. (g : List ℕ) → IsNumberedAfter meter.old (run_kept made.0 g)) }
     ensures counted { Counts (length stale.now) meter.old meter.new result }
 {
     let runs = runs_of(alloc, bodies, stale, meter)?;
@@ -105,9 +133,10 @@ fn judged<'a, B: StoredBodies, O: GlyphOrder>(
     Ok((runs, metrics))
 }
 
-/// Runs the glyphs that edits make stale, each once, and measures them by the newest runs: what is new of the edited font, or
-/// its first fault. The bodies and the order of the glyphs are those of the edited font; the order is asked for only where a
-/// glyph has a fault. The meter counts each run.
+/// Runs the glyphs that edits make stale, each once, and measures them by the newest runs: what is
+/// new of the edited font, or its first fault. The bodies and the order of the glyphs are those of
+/// the edited font; the order is asked for only where a glyph has a fault. The meter counts each
+/// run.
 pub fn rerun<B: StoredBodies, O: GlyphOrder>(
     alloc: Global,
     records: &Records,
@@ -117,10 +146,20 @@ pub fn rerun<B: StoredBodies, O: GlyphOrder>(
     meter: &mut Meter,
 ) -> Result<Renewal, Refusal>
     requires { keep_traces records.now ≡ true }
-    ensures checked { (old new : SourceParts) → IsEdit edits.now old new records.now (font (B.subrs bodies.now) (B.glyphs bodies.now)) (O.ordered order.now) → Gives (λ _. tt) result (source_check new) }
-    ensures renewal { (old new : SourceParts) → IsEdit edits.now old new records.now (font (B.subrs bodies.now) (B.glyphs bodies.now)) (O.ordered order.now) → IfOk result (IsRenewal (map key_of edits.now) old new) }
-    ensures later { IfOk result (λ renewal. AllByRecursion (IsLater meter.old) renewal.reruns.items) }
-    ensures counted { (old new : SourceParts) → IsEdit edits.now old new records.now (font (B.subrs bodies.now) (B.glyphs bodies.now)) (O.ordered order.now) → Counts (length (stale old (map key_of edits.now) new)) meter.old meter.new result }
+    ensures checked { (old new : SourceParts)
+        → IsEdit edits.now old new records.now (font (B.subrs bodies.now) (B.glyphs bodies.now))
+        (O.ordered order.now)
+        → Gives (λ _. tt) result (source_check new) }
+    ensures renewal { (old new : SourceParts)
+        → IsEdit edits.now old new records.now (font (B.subrs bodies.now) (B.glyphs bodies.now))
+        (O.ordered order.now)
+        → IfOk result (IsRenewal (map key_of edits.now) old new) }
+    ensures later { IfOk result
+        (λ renewal. AllByRecursion (IsLater meter.old) renewal.reruns.items) }
+    ensures counted { (old new : SourceParts)
+        → IsEdit edits.now old new records.now (font (B.subrs bodies.now) (B.glyphs bodies.now))
+        (O.ordered order.now)
+        → Counts (length (stale old (map key_of edits.now) new)) meter.old meter.new result }
 {
     let found = found(alloc, records, edits)?;
     let stale = there_among(alloc, bodies, found.as_slice())?;

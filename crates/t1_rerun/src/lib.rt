@@ -1,14 +1,16 @@
-//! The records of a font, from scratch and after an edit that is judged by the glyphs that it makes stale.
+//! The records of a font, from scratch and after an edit that is judged by the glyphs that it makes
+//! stale.
 //!
-//! [`opened_records`] gives the records of a source, or its first fault, and [`measured_records`] the metrics of the font by
-//! them.
+//! [`opened_records`] gives the records of a source, or its first fault, and [`measured_records`]
+//! the metrics of the font by them.
 //!
-//! [`prepare_changes`] and [`settle_ready`] bring them to those of an edited source in two steps, for the entries that its edits
-//! name: the glyphs that these make stale are run, each once, and measured by their newest runs ([`rerun`]), over the bodies of
-//! the records under the changes ([`EditedBodies`]); [`make_ready`] makes all that the change of the records takes; and
-//! [`settle`] changes them, which takes no memory. There is no pass over the font: the order of the glyphs is asked for
-//! ([`GlyphOrder`], as of [`Prepared`]) only where one has a fault. The entry that one edit names [`change_of_edit`] gives, and
-//! [`change_alone`] the list of it.
+//! [`prepare_changes`] and [`settle_ready`] bring them to those of an edited source in two steps,
+//! for the entries that its edits name: the glyphs that these make stale are run, each once, and
+//! measured by their newest runs ([`rerun`]), over the bodies of the records under the changes
+//! ([`EditedBodies`]); [`make_ready`] makes all that the change of the records takes; and
+//! [`settle`] changes them, which takes no memory. There is no pass over the font: the order of the
+//! glyphs is asked for ([`GlyphOrder`], as of [`Prepared`]) only where one has a fault. The entry
+//! that one edit names [`change_of_edit`] gives, and [`change_alone`] the list of it.
 //!
 //! All of it is for the crates above.
 #![tactic(auto)]

@@ -15,7 +15,8 @@ use t1_frac::Refusal;
 
 /// What is reported of each glyph that has a record, in their order.
 fn kept_glyphs(alloc: Global, records: &Records) -> Result<Vec<GlyphMetrics<'_>>, Refusal>
-    ensures { Gives (λ metrics. metrics.items) result (reported_at Nowhere (kept_metrics (map kept_of records.now.glyphs.entries))) }
+    ensures { Gives (λ metrics. metrics.items) result
+        (reported_at Nowhere (kept_metrics (map kept_of records.now.glyphs.entries))) }
 {
     let mut metrics = Vec::with_capacity(alloc, records.glyphs.len())?;
     for at in 0..records.glyphs.len() {
@@ -29,7 +30,9 @@ fn kept_glyphs(alloc: Global, records: &Records) -> Result<Vec<GlyphMetrics<'_>>
 
 /// The metrics of the glyphs of a source whose records are right. No glyph is run.
 pub fn measured_records(alloc: Global, records: &Records) -> Result<MeasuredGlyphs<'_>, Refusal>
-    ensures { (s : SourceParts) → IsRight s records.now → Gives (λ font. font) result (measured_source s) }
+    ensures { (s : SourceParts)
+        → IsRight s records.now
+        → Gives (λ font. font) result (measured_source s) }
 {
     let metrics = kept_glyphs(alloc, records)?;
     Ok(MeasuredGlyphs::of(metrics))

@@ -1,10 +1,11 @@
 //! The records of a source from scratch.
-ghost use Rattle.std.specs.Prelude.{◌≡◌, [], ℕ, List, None, false, IfOk, OnOk, is_some, map, if◌then◌else◌};
+ghost use Rattle.std.specs.Prelude.{◌≡◌, [], ℕ, List, None, false, IfOk, OnOk, is_some, map};
+ghost use Rattle.std.specs.Prelude.{if◌then◌else◌};
 ghost use Rattle.std.specs.List.{AllByRecursion, list_any};
 ghost use Rattle.std.specs.Str.{bytes_eq};
 ghost use Rattle.t1_frac.specs.Outcome.{Gives};
 ghost use Rattle.t1_run.specs.Run.{Key, Subr, Glyph, body_at};
-ghost use Rattle.t1_font.specs.Bodies.{glyph_kept, plain_bodies, subr_kept, SameBodies};
+ghost use Rattle.t1_font.specs.Bodies.{glyph_body_kept, plain_bodies, subr_body_kept, SameBodies};
 ghost use Rattle.t1_font.specs.Runs.{Counts};
 ghost use Rattle.t1_font.specs.SourceChecks.{source_check};
 ghost use Rattle.t1_cache.specs.Bodies.{record_bodies};
@@ -12,7 +13,8 @@ ghost use Rattle.t1_cache.specs.Laws.{AreDistinct};
 ghost use Rattle.t1_cache.specs.Renewed.{kept_of};
 ghost use Rattle.t1_cache.specs.Tables.{AreTables};
 ghost use Rattle.t1_cache.specs.Users.{lists};
-ghost use Rattle.t1_rerun.specs.Opened.{measured_names, opening_runs, AreMeasured, IsRecorded, IsRunAfter};
+ghost use Rattle.t1_rerun.specs.Opened.{measured_names, opening_runs, AreMeasured, IsRecorded};
+ghost use Rattle.t1_rerun.specs.Opened.{IsRunAfter};
 ghost use Rattle.t1_rerun.specs.Renewals.{HasRun};
 ghost use Rattle.t1_rerun.specs.Right.{IsRight};
 
@@ -34,10 +36,17 @@ fn insert_subrs(
     bodies: IndexMap<u16, Body>,
 ) -> Result<(), AllocError>
     requires { (n : ℕ) → body_at (record_bodies records.old) (Subr n) ≡ None }
-    ensures subrs { OnOk result ((n : ℕ) → body_at (record_bodies records.new) (Subr n) ≡ subr_kept bodies.entries n) }
-    ensures glyphs { OnOk result ((g : List ℕ) → body_at (record_bodies records.new) (Glyph g) ≡ body_at (record_bodies records.old) (Glyph g)) }
-    ensures users { OnOk result ((k : Key) (u : List ℕ) → lists records.new k u ≡ lists records.old k u) }
-    ensures kept { OnOk result (map kept_of records.new.glyphs.entries ≡ map kept_of records.old.glyphs.entries) }
+    ensures subrs { OnOk result
+        ((n : ℕ)
+        → body_at (record_bodies records.new) (Subr n) ≡ subr_body_kept bodies.entries n) }
+    ensures glyphs { OnOk result
+        ((g : List ℕ)
+        → body_at (record_bodies records.new) (Glyph g)
+        ≡ body_at (record_bodies records.old) (Glyph g)) }
+    ensures users { OnOk result
+        ((k : Key) (u : List ℕ) → lists records.new k u ≡ lists records.old k u) }
+    ensures kept { OnOk result
+        (map kept_of records.new.glyphs.entries ≡ map kept_of records.old.glyphs.entries) }
 {
     let mut left = bodies;
     while let Some((number, body)) = left.pop() {
@@ -48,14 +57,16 @@ fn insert_subrs(
 
 /// Takes out the body of a glyph, where there is one.
 fn taken_body(bodies: &mut IndexMap<Vec<u8>, Body>, name: &[u8]) -> Option<Body>
-    ensures body { result ≡ glyph_kept bodies.old.entries name.now }
-    ensures others { (g : List ℕ) → glyph_kept bodies.new.entries g ≡ (if bytes_eq name.now g then None else glyph_kept bodies.old.entries g) }
+    ensures body { result ≡ glyph_body_kept bodies.old.entries name.now }
+    ensures others { (g : List ℕ)
+        → glyph_body_kept bodies.new.entries g
+        ≡ (if bytes_eq name.now g then None else glyph_body_kept bodies.old.entries g) }
 {
     bodies.swap_remove(name)
 }
 
-/// Puts in the records of all glyphs, which were run and measured, in the order in which they were, without users. It takes out
-/// their bodies and runs.
+/// Puts in the records of all glyphs, which were run and measured, in the order in which they were,
+/// without users. It takes out their bodies and runs.
 fn insert_glyphs(
     alloc: Global,
     records: &mut Records,
@@ -65,13 +76,26 @@ fn insert_glyphs(
 ) -> Result<(), AllocError>
     requires none { map kept_of records.old.glyphs.entries ≡ [] }
     requires distinct { AreDistinct (measured_names metrics.now) }
-    requires bodies { (g : List ℕ) → is_some (glyph_kept bodies.old.entries g) ≡ list_any (bytes_eq g) (measured_names metrics.now) }
+    requires bodies { (g : List ℕ)
+        → is_some (glyph_body_kept bodies.old.entries g)
+        ≡ list_any (bytes_eq g) (measured_names metrics.now) }
     requires runs { AllByRecursion (HasRun runs.old) metrics.now }
-    ensures subrs { OnOk result ((n : ℕ) → body_at (record_bodies records.new) (Subr n) ≡ body_at (record_bodies records.old) (Subr n)) }
-    ensures glyphs { OnOk result ((g : List ℕ) → body_at (record_bodies records.new) (Glyph g) ≡ glyph_kept bodies.old.entries g) }
-    ensures users { OnOk result ((k : Key) (u : List ℕ) → lists records.new k u ≡ lists records.old k u) }
-    ensures order { OnOk result (map (λ k. k.name) (map kept_of records.new.glyphs.entries) ≡ measured_names metrics.now) }
-    ensures each { OnOk result (AllByRecursion (IsRecorded runs.old metrics.now) (map kept_of records.new.glyphs.entries)) }
+    ensures subrs { OnOk result
+        ((n : ℕ)
+        → body_at (record_bodies records.new) (Subr n)
+        ≡ body_at (record_bodies records.old) (Subr n)) }
+    ensures glyphs { OnOk result
+        ((g : List ℕ)
+        → body_at (record_bodies records.new) (Glyph g)
+        ≡ glyph_body_kept bodies.old.entries g) }
+    ensures users { OnOk result
+        ((k : Key) (u : List ℕ) → lists records.new k u ≡ lists records.old k u) }
+    ensures order { OnOk result
+        (map (λ k. k.name) (map kept_of records.new.glyphs.entries)
+        ≡ measured_names metrics.now) }
+    ensures each { OnOk result
+        (AllByRecursion (IsRecorded runs.old metrics.now)
+        (map kept_of records.new.glyphs.entries)) }
 {
     for glyph in metrics {
         let text = glyph.name.as_slice();
@@ -95,10 +119,17 @@ fn unused_records(
     metrics: &[GlyphMetrics],
 ) -> Result<Records, AllocError>
     requires { AreMeasured (plain_bodies bodies) runs metrics.now }
-    ensures compiled { IfOk result (λ records. SameBodies (record_bodies records) (plain_bodies bodies)) }
+    ensures compiled { IfOk result
+        (λ records. SameBodies (record_bodies records) (plain_bodies bodies)) }
     ensures users { IfOk result (λ records. (k : Key) (u : List ℕ) → lists records k u ≡ false) }
-    ensures order { IfOk result (λ records. map (λ k. k.name) (map kept_of records.glyphs.entries) ≡ measured_names metrics.now) }
-    ensures each { IfOk result (λ records. AllByRecursion (IsRecorded runs.entry metrics.now) (map kept_of records.glyphs.entries)) }
+    ensures order { IfOk result
+        (λ records.
+        map (λ k. k.name) (map kept_of records.glyphs.entries)
+        ≡ measured_names metrics.now) }
+    ensures each { IfOk result
+        (λ records.
+        AllByRecursion (IsRecorded runs.entry metrics.now)
+        (map kept_of records.glyphs.entries)) }
 {
     let mut records = Records {
         subrs: IndexMap::new(alloc),
@@ -111,7 +142,8 @@ fn unused_records(
     Ok(records)
 }
 
-/// The records of bodies, whose glyphs were run and measured, with the users of each Subr and each glyph.
+/// The records of bodies, whose glyphs were run and measured, with the users of each Subr and each
+/// glyph.
 fn records_of(
     alloc: Global,
     bodies: Plain,
@@ -121,10 +153,17 @@ fn records_of(
 ) -> Result<Records, AllocError>
     requires names { map (λ name. name.now) names.now ≡ measured_names metrics.now }
     requires measured { AreMeasured (plain_bodies bodies) runs metrics.now }
-    ensures compiled { IfOk result (λ records. SameBodies (record_bodies records) (plain_bodies bodies)) }
+    ensures compiled { IfOk result
+        (λ records. SameBodies (record_bodies records) (plain_bodies bodies)) }
     ensures users { IfOk result (AreTables (plain_bodies bodies)) }
-    ensures order { IfOk result (λ records. map (λ k. k.name) (map kept_of records.glyphs.entries) ≡ measured_names metrics.now) }
-    ensures each { IfOk result (λ records. AllByRecursion (IsRecorded runs.entry metrics.now) (map kept_of records.glyphs.entries)) }
+    ensures order { IfOk result
+        (λ records.
+        map (λ k. k.name) (map kept_of records.glyphs.entries)
+        ≡ measured_names metrics.now) }
+    ensures each { IfOk result
+        (λ records.
+        AllByRecursion (IsRecorded runs.entry metrics.now)
+        (map kept_of records.glyphs.entries)) }
 {
     let joins = joins_of(alloc, &runs, names)?;
     let mut records = unused_records(alloc, bodies, runs, metrics)?;
@@ -133,12 +172,14 @@ fn records_of(
     Ok(records)
 }
 
-/// The records of a source, or its first fault: of a body, F23, or of a glyph, in the order of the source. Each glyph is run
-/// once, and the meter counts it.
+/// The records of a source, or its first fault: of a body, F23, or of a glyph, in the order of the
+/// source. Each glyph is run once, and the meter counts it.
 pub fn opened_records(alloc: Global, source: &Source, meter: &mut Meter) -> Result<Records, Refusal>
     ensures checked { Gives (λ _. tt) result (source_check source.now) }
     ensures right { IfOk result (IsRight source.now) }
-    ensures later { IfOk result (λ records. AllByRecursion (IsRunAfter meter.old) (map kept_of records.glyphs.entries)) }
+    ensures later { IfOk result
+        (λ records.
+        AllByRecursion (IsRunAfter meter.old) (map kept_of records.glyphs.entries)) }
     ensures counted { Counts (opening_runs source.now) meter.old meter.new result }
 {
     text_of_source_read(source);

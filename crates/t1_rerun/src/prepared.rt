@@ -21,7 +21,9 @@ pub struct Prepared<'e, 'a> {
 /// Adds the names of the glyphs among items, in their order.
 #[tactic(auto, using(t1_font::proofs::AloneLaws::names_alone))]
 fn push_names<'i>(names: &mut Vec<&'i [u8]>, items: ItemsIter<'i, '_>) -> Result<(), AllocError>
-    ensures { OnOk result (map (λ name. name.now) names.new.items ≡ map (λ name. name.now) names.old.items ++ glyph_names items.entry) }
+    ensures { OnOk result
+        (map (λ name. name.now) names.new.items
+        ≡ map (λ name. name.now) names.old.items ++ glyph_names items.entry) }
 {
     for item in items.alone() {
         let Item::Glyph(name, _, _) = item else {
@@ -39,7 +41,10 @@ fn names_of_three<'i>(
     middle: ItemsIter<'i, '_>,
     back: ItemsIter<'i, '_>,
 ) -> Result<Vec<&'i [u8]>, AllocError>
-    ensures { IfOk result (λ names. map (λ name. name.now) names.items ≡ glyph_names front.entry ++ (glyph_names middle.entry ++ glyph_names back.entry)) }
+    ensures { IfOk result
+        (λ names.
+        map (λ name. name.now) names.items
+        ≡ glyph_names front.entry ++ (glyph_names middle.entry ++ glyph_names back.entry)) }
 {
     let mut names = Vec::new(alloc);
     push_names(&mut names, front)?;
@@ -64,7 +69,10 @@ fn names_put<'i, 'a>(
     at: usize,
     item: &'i Item<'a>,
 ) -> Result<Vec<&'i [u8]>, AllocError>
-    ensures { IfOk result (λ names. map (λ name. name.now) names.items ≡ glyph_names (slice_set items.now at item.now)) }
+    ensures { IfOk result
+        (λ names.
+        map (λ name. name.now) names.items
+        ≡ glyph_names (slice_set items.now at item.now)) }
 {
     if items.len() <= at {
         return glyph_names(alloc, items);
@@ -80,7 +88,9 @@ fn names_inserted<'i, 'a>(
     at: usize,
     item: &'i Item<'a>,
 ) -> Result<Vec<&'i [u8]>, AllocError>
-    ensures { IfOk result (λ names. map (λ name. name.now) names.items ≡ glyph_names (insert items.now at item.now)) }
+    ensures { IfOk result
+        (λ names.
+        map (λ name. name.now) names.items ≡ glyph_names (insert items.now at item.now)) }
 {
     let (front, back) = items.split_at(cmp::min(at, items.len()));
     names_of_three(alloc, front, items.one(item), back)
@@ -92,7 +102,8 @@ fn names_removed<'i>(
     items: &'i Items,
     at: usize,
 ) -> Result<Vec<&'i [u8]>, AllocError>
-    ensures { IfOk result (λ names. map (λ name. name.now) names.items ≡ glyph_names (remove items.now at)) }
+    ensures { IfOk result
+        (λ names. map (λ name. name.now) names.items ≡ glyph_names (remove items.now at)) }
 {
     if items.len() <= at {
         return glyph_names(alloc, items);
@@ -107,7 +118,10 @@ fn names_after<'i, 'a>(
     source: &'i Source<'a>,
     change: &'i Change<'a>,
 ) -> Result<Vec<&'i [u8]>, AllocError>
-    ensures { IfOk result (λ names. map (λ name. name.now) names.items ≡ glyph_names (changed change.now source.now []).0.items) }
+    ensures { IfOk result
+        (λ names.
+        map (λ name. name.now) names.items
+        ≡ glyph_names (changed change.now source.now []).0.items) }
 {
     let items = source.items();
     match change {

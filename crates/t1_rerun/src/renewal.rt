@@ -4,18 +4,18 @@ ghost use Rattle.std.specs.List.{AllByRecursion, list_any};
 ghost use Rattle.std.specs.Str.{bytes_eq};
 ghost use Rattle.t1_run.specs.Run.{Key};
 ghost use Rattle.t1_run.specs.Touched.{is_user};
-ghost use Rattle.t1_font.specs.Runs.{kept_of};
+ghost use Rattle.t1_font.specs.Runs.{drawing_in};
 ghost use Rattle.t1_cache.specs.Renewed.{recorded_run};
-ghost use Rattle.t1_cache.specs.Users.{has, has_pair};
-ghost use Rattle.t1_rerun.specs.Renewals.{rerun_names, HasRun, IsRerun};
+ghost use Rattle.t1_cache.specs.Users.{has_name, has_pair};
+ghost use Rattle.t1_rerun.specs.Renewals.{rerun_names, HasRun, IsMeasuredRerun};
 
 use crate::reruns::reruns_of;
 use std::alloc::{AllocError, Global};
 use t1_cache::{Named, Records, Rerun, joins_of, leaves_of};
 use t1_font::{GlyphMetrics, Runs};
 
-/// What edits make new of the glyphs that they make stale: their runs and boxes, and which of them leave and join the users
-/// of Subrs and glyphs, each with its user.
+/// What edits make new of the glyphs that they make stale: their runs and boxes, and which of them
+/// leave and join the users of Subrs and glyphs, each with its user.
 #[derive(Drop)]
 pub struct Renewal {
     pub reruns: Vec<Rerun>,
@@ -23,8 +23,8 @@ pub struct Renewal {
     pub joins: Vec<(Named, Vec<u8>)>,
 }
 
-/// What is new of the glyphs that were found: the runs and boxes of those that were measured, and the users that the
-/// glyphs leave by the records and join by the runs.
+/// What is new of the glyphs that were found: the runs and boxes of those that were measured, and
+/// the users that the glyphs leave by the records and join by the runs.
 pub fn renewal_of(
     alloc: Global,
     records: &Records,
@@ -34,10 +34,26 @@ pub fn renewal_of(
     metrics: &[GlyphMetrics],
 ) -> Result<Renewal, AllocError>
     requires { AllByRecursion (HasRun runs) metrics.now }
-    ensures each { IfOk result (λ renewal. AllByRecursion (IsRerun runs.entry metrics.now) renewal.reruns.items) }
-    ensures names { IfOk result (λ renewal. (g : List ℕ) → list_any (bytes_eq g) (rerun_names renewal.reruns.items) ≡ list_any (λ m. bytes_eq g m.name) metrics.now) }
-    ensures leaves { IfOk result (λ renewal. (k : Key) (u : List ℕ) → has_pair renewal.leaves.items k u ≡ (has (λ name. name.now) found.now u && is_user k (recorded_run records.now u))) }
-    ensures joins { IfOk result (λ renewal. (k : Key) (u : List ℕ) → has_pair renewal.joins.items k u ≡ (has (λ name. name.now) stale.now u && is_user k (kept_of runs.entry u))) }
+    ensures each { IfOk result
+        (λ renewal.
+        AllByRecursion (IsMeasuredRerun runs.entry metrics.now) renewal.reruns.items) }
+    ensures names { IfOk result
+        (λ renewal.
+        (g : List ℕ)
+        → list_any (bytes_eq g) (rerun_names renewal.reruns.items)
+        ≡ list_any (λ m. bytes_eq g m.name) metrics.now) }
+    ensures leaves { IfOk result
+        (λ renewal.
+        (k : Key) (u : List ℕ)
+        → has_pair renewal.leaves.items k u
+        ≡ (has_name (λ name. name.now) found.now u && is_user k
+        (recorded_run records.now u))) }
+    ensures joins { IfOk result
+        (λ renewal.
+        (k : Key) (u : List ℕ)
+        → has_pair renewal.joins.items k u
+        ≡ (has_name (λ name. name.now) stale.now u && is_user k
+        (drawing_in runs.entry u))) }
 {
     let leaves = leaves_of(alloc, records, found)?;
     let joins = joins_of(alloc, &runs, stale)?;

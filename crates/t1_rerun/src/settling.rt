@@ -1,13 +1,14 @@
-//! The records of a source, brought to those of the source after edits, in two steps: all growths first, which may fail, and
-//! then the change, which takes no memory and can't fail.
+//! The records of a source, brought to those of the source after edits, in two steps: all growths
+//! first, which may fail, and then the change, which takes no memory and can't fail.
 ghost use Rattle.std.specs.Prelude.{◌≤◌, List, IfOk, OnOk, map};
 ghost use Rattle.std.specs.List.{AllByRecursion};
 ghost use Rattle.indexmap.specs.IndexMap.{spare};
-ghost use Rattle.t1_cache.specs.Changed.{AreUnchanged};
+ghost use Rattle.t1_cache.specs.Changed.{AreSameRecords};
 ghost use Rattle.t1_cache.specs.Renewed.{kept_of};
 ghost use Rattle.t1_parts.specs.SourceParts.{SourceParts};
 ghost use Rattle.t1_rerun.specs.Right.{IsRight};
-ghost use Rattle.t1_rerun.specs.Settled.{changed_keys, AreAsBefore, AreDistinctKeys, IsJudged, IsReady, IsRenewedBy, MayBeSettled};
+ghost use Rattle.t1_rerun.specs.Settled.{changed_keys, AreAsBefore, AreDistinctKeys, IsJudged};
+ghost use Rattle.t1_rerun.specs.Settled.{IsReady, IsRenewedBy, MayBeSettled};
 
 mod preparing;
 mod steps;
@@ -33,7 +34,7 @@ pub struct Ready {
 
 /// Makes room for so many more Subrs and so many more glyphs.
 fn reserve_entries(records: &mut Records, count: usize) -> Result<(), AllocError>
-    ensures same { AreUnchanged records.old records.new }
+    ensures same { AreSameRecords records.old records.new }
     ensures subrs { OnOk result (count ≤ spare records.new.subrs) }
     ensures glyphs { OnOk result (count ≤ spare records.new.glyphs) }
 {
@@ -41,9 +42,9 @@ fn reserve_entries(records: &mut Records, count: usize) -> Result<(), AllocError
     records.glyphs.reserve(count)
 }
 
-/// Makes all growths that changes of the records take: room for new entries and for the users that join each, the records of
-/// new entries, the new runs by their names, and the names of what leaves its place. The records stay as they are, also where
-/// memory runs out.
+/// Makes all growths that changes of the records take: room for new entries and for the users that
+/// join each, the records of new entries, the new runs by their names, and the names of what leaves
+/// its place. The records stay as they are, also where memory runs out.
 pub fn make_ready(
     alloc: Global,
     records: &mut Records,
@@ -73,13 +74,24 @@ pub fn make_ready(
     })
 }
 
-/// Brings the records from those of a source to those of the edited one, which has no fault: records of removed entries are
-/// taken out, those of new ones put in, users move, and each stale glyph has its new run and box. However many glyphs leave
-/// their places, one pass over the records takes them out. It takes no memory and can't fail.
+/// Brings the records from those of a source to those of the edited one, which has no fault:
+/// records of removed entries are taken out, those of new ones put in, users move, and each stale
+/// glyph has its new run and box. However many glyphs leave their places, one pass over the records
+/// takes them out. It takes no memory and can't fail.
 pub fn settle(records: &mut Records, ready: Ready)
     requires { MayBeSettled records.old ready }
-    ensures right { (changes : List EntryChange) (renewal : Renewal) → IsReady changes renewal records.old ready → (old new : SourceParts) → IsJudged changes old new records.old renewal → IsRight new records.new }
-    ensures renews { (changes : List EntryChange) (renewal : Renewal) → IsReady changes renewal records.old ready → (old new : SourceParts) → IsJudged changes old new records.old renewal → AllByRecursion (IsRenewedBy (changed_keys changes) old renewal.reruns.items (map kept_of records.old.glyphs.entries)) (map kept_of records.new.glyphs.entries) }
+    ensures right { (changes : List EntryChange) (renewal : Renewal)
+        → IsReady changes renewal records.old ready
+        → (old new : SourceParts)
+        → IsJudged changes old new records.old renewal
+        → IsRight new records.new }
+    ensures renews { (changes : List EntryChange) (renewal : Renewal)
+        → IsReady changes renewal records.old ready
+        → (old new : SourceParts)
+        → IsJudged changes old new records.old renewal
+        → AllByRecursion
+        (IsRenewedBy (changed_keys changes) old renewal.reruns.items
+        (map kept_of records.old.glyphs.entries)) (map kept_of records.new.glyphs.entries) }
 {
     let Ready {
         steps,

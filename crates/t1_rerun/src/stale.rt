@@ -1,6 +1,6 @@
 //! The stale glyphs of an edited font, in its order.
 ghost use Rattle.std.specs.Prelude.{◌≡◌, IfOk, filter, is_some, map};
-ghost use Rattle.t1_cache.specs.Users.{has};
+ghost use Rattle.t1_cache.specs.Users.{has_name};
 
 use indexmap::IndexSet;
 use std::alloc::{AllocError, Global};
@@ -12,7 +12,11 @@ pub fn stale_among<'a>(
     names: &[&'a [u8]],
     found: &IndexSet<&[u8]>,
 ) -> Result<Vec<&'a [u8]>, AllocError>
-    ensures { IfOk result (λ stale. map (λ name. name.now) stale.items ≡ filter (has (λ name. name.now) found.now.keys) (map (λ name. name.now) names.now)) }
+    ensures { IfOk result
+        (λ stale.
+        map (λ name. name.now) stale.items
+        ≡ filter (has_name (λ name. name.now) found.now.keys)
+        (map (λ name. name.now) names.now)) }
 {
     let mut stale = Vec::new(alloc);
     for name in names {
@@ -30,7 +34,11 @@ pub fn there_among<'a, B: Bodies>(
     bodies: &B,
     found: &[&'a [u8]],
 ) -> Result<Vec<&'a [u8]>, AllocError>
-    ensures { IfOk result (λ there. map (λ name. name.now) there.items ≡ filter (λ g. is_some (B.glyphs bodies.now g)) (map (λ name. name.now) found.now)) }
+    ensures { IfOk result
+        (λ there.
+        map (λ name. name.now) there.items
+        ≡ filter (λ g. is_some (B.glyphs bodies.now g))
+        (map (λ name. name.now) found.now)) }
 {
     let mut there = Vec::new(alloc);
     for name in found {

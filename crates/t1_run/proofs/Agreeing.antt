@@ -12,7 +12,7 @@ use Rattle.t1_run.specs.State.{State, initial}
 use Rattle.t1_run.specs.Step.{Step, Next, Call, Back, End, Compose, Fault}
 use Rattle.t1_run.specs.Words.{step}
 use Rattle.t1_run.specs.Footprint.{Includes, AgreeOn, FootprintLaw, KeysFrom, keys_after, keys_of_names, keys_of_parts, keys_of_step, keys_of_words, keys_of_body, keys_of_call, asked_of, foot}
-use Rattle.t1_run.specs.Run.{FontBodies, Key, Subr, Glyph, Stop, OutOfWords, Returned, Completed, Failed, Runner, Caller, go_on, act, words, call_within, called, too_deep, composed, encoded, entering, body_stop, own, own_of, outcome_of}
+use Rattle.t1_run.specs.Run.{FontBodies, Key, Subr, Glyph, Stop, OutOfWords, Returned, Completed, Failed, Runner, Caller, go_on, act, run_words, call_within, called, too_deep, composed, standard_glyph, entering, body_stop, own, own_of, outcome_of}
 
 pub agree-part : {m n : FontBodies} {ks ks' : List Key} → AgreeOn m n ks' → ((k : Key) → Includes ks k → Includes ks' k) → AgreeOn m n ks
 agree-part h inside = record { same = λ k i. h.same k (inside k i) }
@@ -92,16 +92,16 @@ act-same m n levels inside inside' next next' keys keys' calls same (Call k s) h
 act-same m n levels inside inside' next next' keys keys' calls same (Back s) h = (refl, refl)
 act-same m n levels inside inside' next next' keys keys' calls same (End s) h = (refl, refl)
 act-same m n levels inside inside' next next' keys keys' calls same (Compose a s) h =
-    let parts = names-same {m = m} {n = n} a (encoded a.base) (encoded a.accent) h in
+    let parts = names-same {m = m} {n = n} a (standard_glyph a.base) (standard_glyph a.accent) h in
     (ap (λ r. composed r s) parts.0, parts.1)
 act-same m n levels inside inside' next next' keys keys' calls same (Fault fault) h = (refl, refl)
 
 words-same : (m n : FontBodies) (levels : ℕ) (inside inside' : ℕ → KeysFrom)
     → SameCaller m n (call_within m levels) (call_within n levels) inside inside' → (cs : List Command)
-    → SameRun m n (words m (call_within m levels) cs) (words n (call_within n levels) cs) (keys_of_words m levels inside cs) (keys_of_words n levels inside' cs)
+    → SameRun m n (run_words m (call_within m levels) cs) (run_words n (call_within n levels) cs) (keys_of_words m levels inside cs) (keys_of_words n levels inside' cs)
 words-same m n levels inside inside' calls [] s h = (refl, refl)
 words-same m n levels inside inside' calls (c ∷ cs) s h =
-    act-same m n levels inside inside' (words m (call_within m levels) cs) (words n (call_within n levels) cs)
+    act-same m n levels inside inside' (run_words m (call_within m levels) cs) (run_words n (call_within n levels) cs)
     (keys_of_words m levels inside cs) (keys_of_words n levels inside' cs) calls (words-same m n levels inside inside' calls cs) (step c s) h
 
 called-same : {m n : FontBodies} (run run' : List Command → Runner) (keys keys' : List Command → KeysFrom)
@@ -113,10 +113,10 @@ called-same run run' keys keys' same (Some body) k s h = same body (entering k s
 call_within-same : (m n : FontBodies) (levels : ℕ) → SameCaller m n (call_within m levels) (call_within n levels) (keys_of_call m levels) (keys_of_call n levels)
 call_within-same m n zero k e s h = (ap (λ b. called too_deep b k s) (sym e), refl)
 call_within-same m n (suc levels) k e s h =
-    let same = called-same (words m (call_within m levels)) (words n (call_within n levels))
+    let same = called-same (run_words m (call_within m levels)) (run_words n (call_within n levels))
     (keys_of_words m levels (keys_of_call m levels)) (keys_of_words n levels (keys_of_call n levels))
     (words-same m n levels (keys_of_call m levels) (keys_of_call n levels) (call_within-same m n levels)) (m.subrs k) k s h in (
-      ap (λ b. called (words n (call_within n levels)) b k s) (sym e) ∙ same.0,
+      ap (λ b. called (run_words n (call_within n levels)) b k s) (sym e) ∙ same.0,
       ap (λ b. keys_of_body (keys_of_words n levels (keys_of_call n levels)) b k s) (sym e) ∙ same.1,
     )
 

@@ -15,7 +15,7 @@ use Rattle.t1_run.specs.declared.outline.Accent.{Accent}
 use Rattle.t1_run.specs.declared.outline.Composite.{Composite}
 use Rattle.t1_run.specs.declared.outline.Metric.{Metric}
 use Rattle.t1_run.specs.Footprint.{Includes, KeysFrom, keys_after, keys_of_names, keys_of_parts, keys_of_step, keys_of_words, keys_of_body, keys_of_call, asked_of, foot, Leaves, asks, uses, HasParts, ExactLaw, PartsLaw}
-use Rattle.t1_run.specs.Run.{FontBodies, Key, Subr, Glyph, Stop, OutOfWords, Returned, Completed, Failed, Runner, Caller, Drawing, go_on, act, words, call_within, called, too_deep, composed, encoded, entered_with, entering, body_stop, own, own_of, drawing_of, outcome_of}
+use Rattle.t1_run.specs.Run.{FontBodies, Key, Subr, Glyph, Stop, OutOfWords, Returned, Completed, Failed, Runner, Caller, Drawing, go_on, act, run_words, call_within, called, too_deep, composed, standard_glyph, entered_with, entering, body_stop, own, own_of, drawing_of, outcome_of}
 use Rattle.t1_run.specs.State.{State, initial}
 use Rattle.t1_run.specs.Step.{Step, Next, Call, Back, End, Compose, Fault}
 use Rattle.t1_run.specs.Words.{step}
@@ -219,14 +219,14 @@ act-stops m levels inside next keys calls runs asked s (End t) st h =
     let u = under-stepped m asked s t st h in
     no-more m asked (Completed None t) (record { keys = u.keys; subrs = u.subrs; parts = tt; steps = u.steps })
 act-stops m levels inside next keys calls runs asked s (Compose a t) st h =
-    names-end m a (encoded a.base) (encoded a.accent) asked t (under-stepped m asked s t st h)
+    names-end m a (standard_glyph a.base) (standard_glyph a.accent) asked t (under-stepped m asked s t st h)
 act-stops m levels inside next keys calls runs asked s (Fault fault) st h = tt
 
 words-stop : (m : FontBodies) (levels : ℕ) (inside : ℕ → KeysFrom) → Calls m (call_within m levels) inside → (cs : List Command)
-    → Runs m (words m (call_within m levels) cs) (keys_of_words m levels inside cs)
+    → Runs m (run_words m (call_within m levels) cs) (keys_of_words m levels inside cs)
 words-stop m levels inside calls [] asked s h = no-more m asked (OutOfWords s) h
 words-stop m levels inside calls (c ∷ cs) asked s h =
-    act-stops m levels inside (words m (call_within m levels) cs) (keys_of_words m levels inside cs) calls (words-stop m levels inside calls cs)
+    act-stops m levels inside (run_words m (call_within m levels) cs) (keys_of_words m levels inside cs) calls (words-stop m levels inside calls cs)
     asked s (step c s) (step-leaves c s) h
 
 called-stops : (m : FontBodies) (run : List Command → Runner) (keys : List Command → KeysFrom) → ((body : List Command) → Runs m (run body) (keys body))
@@ -243,7 +243,7 @@ too-deep m (Some body) n asked s = tt
 call_within-stops : (m : FontBodies) (levels : ℕ) → Calls m (call_within m levels) (keys_of_call m levels)
 call_within-stops m zero n asked s h = too-deep m (m.subrs n) n ((asked ++ Subr n ∷ []) ++ []) s
 call_within-stops m (suc levels) n asked s h =
-    called-stops m (words m (call_within m levels)) (keys_of_words m levels (keys_of_call m levels))
+    called-stops m (run_words m (call_within m levels)) (keys_of_words m levels (keys_of_call m levels))
     (words-stop m levels (keys_of_call m levels) (call_within-stops m levels)) n (m.subrs n) refl asked s h
 
 none-asked : Asks None [] []

@@ -11,7 +11,7 @@ use Rattle.t1_frac.specs.Numbers.{is_number_word}
 use Rattle.t1_run.specs.declared.outline.Point.{Point}
 use Rattle.t1_run.specs.declared.outline.Segment.{Segment}
 use Rattle.t1_run.specs.declared.outline.Segment.TheVariants.{Line}
-use Rattle.t1_run.specs.Composite.{accent_move, joined, outline}
+use Rattle.t1_run.specs.Composite.{accent_move, joined_outline, outline}
 use Rattle.t1_run.specs.Footprint.{foot, outline_foot}
 use Rattle.t1_run.specs.Run.{FontBodies, Subr, Glyph, own, body_stop}
 use Rattle.t1_run.proofs.Rows.{font_of, demo_subrs, pt}
@@ -38,7 +38,7 @@ of_letter = Line (pt (pos 10) (pos 0)) (pt (pos 310) (pos 0)) ∷ Line (pt (pos 
 -- the accent moves by 10 + 170 - 93 and by 214
 moves : outline (with_composite letter accent (codes "10 600 hsbw 93 170 214 65 194 seac")) (codes "Aacute")
     ≡ Ok (of_letter ++ Line (pt (pos 180) (pos 714)) (pt (pos 280) (pos 892)) ∷ [])
-unfolding own body_stop outline joined coordinate_sum coordinate_difference quotient lowest gcd commands command_of_word operator_named operator_words is_number_word number_of_word standard_name standard_names
+unfolding own body_stop outline joined_outline coordinate_sum coordinate_difference quotient lowest gcd commands command_of_word operator_named operator_words is_number_word number_of_word standard_name standard_names
 moves = refl
 
 -- by a half, from an accent that stands at a quarter; the letter has two other lines
@@ -51,7 +51,7 @@ moves_by_half : outline (with_composite
     (codes "10 600 hsbw 93 341 2 div 214 65 194 seac")) (codes "Aacute")
     ≡ Ok (Line (pt (pos 10) (pos 0)) (pt (pos 60) (pos 0)) ∷ Line (pt (pos 60) (pos 0)) (pt (pos 60) (pos 700))
     ∷ Line (x_of (pos 723) 4 (pos 714)) (x_of (pos 1123) 4 (pos 892)) ∷ [])
-unfolding own body_stop outline joined coordinate_sum coordinate_difference quotient lowest gcd commands command_of_word operator_named operator_words is_number_word number_of_word standard_name standard_names
+unfolding own body_stop outline joined_outline coordinate_sum coordinate_difference quotient lowest gcd commands command_of_word operator_named operator_words is_number_word number_of_word standard_name standard_names
 moves_by_half = refl
 
 half_nearest : nearest_of (record { num = pos 175; den = 2 }) ≡ pos 88
@@ -60,18 +60,18 @@ half_nearest = refl
 -- a composite draws what it drew before its seac, too
 draws_itself : outline (with_composite letter accent (codes "10 600 hsbw 5 hlineto 93 170 214 65 194 seac")) (codes "Aacute")
     ≡ Ok (Line (pt (pos 10) (pos 0)) (pt (pos 15) (pos 0)) ∷ (of_letter ++ Line (pt (pos 180) (pos 714)) (pt (pos 280) (pos 892)) ∷ []))
-unfolding own body_stop outline joined coordinate_sum coordinate_difference quotient lowest gcd commands command_of_word operator_named operator_words is_number_word number_of_word standard_name standard_names
+unfolding own body_stop outline joined_outline coordinate_sum coordinate_difference quotient lowest gcd commands command_of_word operator_named operator_words is_number_word number_of_word standard_name standard_names
 draws_itself = refl
 
 -- an accent that is a composite itself
 accent_on_accent : outline (with_composite letter accent (codes "10 600 hsbw 93 170 214 65 200 seac")) (codes "Aacute")
     ≡ Ok (of_letter ++ Line (pt (pos 180) (pos 714)) (pt (pos 280) (pos 892)) ∷ Line (pt (pos 230) (pos 714)) (pt (pos 330) (pos 892)) ∷ [])
-unfolding own body_stop outline joined coordinate_sum coordinate_difference quotient lowest gcd commands command_of_word operator_named operator_words is_number_word number_of_word standard_name standard_names
+unfolding own body_stop outline joined_outline coordinate_sum coordinate_difference quotient lowest gcd commands command_of_word operator_named operator_words is_number_word number_of_word standard_name standard_names
 accent_on_accent = refl
 
 composite_foot : foot (with_composite letter accent (codes "10 600 hsbw 93 170 214 65 200 seac")) (codes "Aacute")
     ≡ Glyph (codes "Aacute") ∷ Glyph (codes "A") ∷ Glyph (codes "dieresis") ∷ []
-unfolding own body_stop outline joined coordinate_sum coordinate_difference quotient lowest gcd commands command_of_word operator_named operator_words is_number_word number_of_word standard_name standard_names foot
+unfolding own body_stop outline joined_outline coordinate_sum coordinate_difference quotient lowest gcd commands command_of_word operator_named operator_words is_number_word number_of_word standard_name standard_names foot
 composite_foot = refl
 
 -- the outline depends on the accent's parts, and on the Subr that they enter
@@ -80,7 +80,7 @@ composite_outline_foot : outline_foot (with_composite letter accent (codes "10 6
     ∷ Glyph (codes "A")
     ∷ Glyph (codes "dieresis") ∷ Glyph (codes "acute") ∷ Glyph (codes "acute")
     ∷ Glyph (codes "acute") ∷ Subr 4 ∷ Glyph (codes "acute") ∷ Subr 4 ∷ []
-unfolding own body_stop outline joined coordinate_sum coordinate_difference quotient lowest gcd commands command_of_word operator_named operator_words is_number_word number_of_word standard_name standard_names foot outline_foot
+unfolding own body_stop outline joined_outline coordinate_sum coordinate_difference quotient lowest gcd commands command_of_word operator_named operator_words is_number_word number_of_word standard_name standard_names foot outline_foot
 composite_outline_foot = refl
 
 -- ---- faults
@@ -101,7 +101,7 @@ faults : map (λ m. fault_of (outline m (codes "Aacute"))) (
     with_composite letter (codes "32000 333 hsbw 32000 hmoveto 32000 hmoveto 32000 hmoveto 32000 hmoveto 32000 hmoveto 32000 hmoveto 32000 hmoveto 32000 hmoveto 32000 hmoveto 32000 hmoveto 32000 hmoveto 32000 hmoveto 32000 hmoveto 32000 hmoveto 32000 hmoveto 32000 hmoveto 32000 hmoveto 32000 hmoveto 32000 hmoveto 32000 hmoveto 32000 hmoveto 32000 hmoveto 32000 hmoveto 32000 hmoveto 32000 hmoveto 32000 hmoveto 32000 hmoveto 32000 hmoveto 32000 hmoveto 32000 hmoveto 32000 hmoveto 24576 hlineto endchar") (codes "0 600 hsbw 0 1 0 65 194 seac") ∷
     [])
     ≡ Some F38 ∷ Some F38 ∷ Some F38 ∷ None ∷ Some F45 ∷ None ∷ Some F39 ∷ Some F40 ∷ []
-unfolding own body_stop outline joined coordinate_sum coordinate_difference quotient lowest gcd commands command_of_word operator_named operator_words is_number_word number_of_word standard_name standard_names
+unfolding own body_stop outline joined_outline coordinate_sum coordinate_difference quotient lowest gcd commands command_of_word operator_named operator_words is_number_word number_of_word standard_name standard_names
 faults = refl
 
 -- past 1,048,576, and a denominator past it
@@ -111,7 +111,7 @@ move_faults : map (λ r. r) (
     (record { base = []; accent = []; asb = whole (pos 0); adx = record { num = pos 1; den = 3 }; ady = whole (pos 0) }) ∷
     [])
     ≡ Err F40 ∷ Err F39 ∷ []
-unfolding own body_stop outline joined coordinate_sum coordinate_difference quotient lowest gcd commands command_of_word operator_named operator_words is_number_word number_of_word standard_name standard_names
+unfolding own body_stop outline joined_outline coordinate_sum coordinate_difference quotient lowest gcd commands command_of_word operator_named operator_words is_number_word number_of_word standard_name standard_names
 move_faults = refl
 
 -- ---- levels
@@ -128,14 +128,14 @@ tower space = font_of [] (
     [])
 
 levels : map (λ g. fault_of (outline (tower (codes "0 250 hsbw endchar")) g)) (codes "a" ∷ codes "d" ∷ codes "e" ∷ []) ≡ None ∷ None ∷ Some F46 ∷ []
-unfolding own body_stop outline joined coordinate_sum coordinate_difference quotient lowest gcd commands command_of_word operator_named operator_words is_number_word number_of_word standard_name standard_names
+unfolding own body_stop outline joined_outline coordinate_sum coordinate_difference quotient lowest gcd commands command_of_word operator_named operator_words is_number_word number_of_word standard_name standard_names
 levels = refl
 
 -- a glyph that reaches itself
 reaches_itself : map (λ g. fault_of (outline (tower (codes "0 250 hsbw 0 0 0 97 97 seac")) g)) (codes "space" ∷ codes "a" ∷ []) ≡ Some F46 ∷ Some F46 ∷ []
-unfolding own body_stop outline joined coordinate_sum coordinate_difference quotient lowest gcd commands command_of_word operator_named operator_words is_number_word number_of_word standard_name standard_names
+unfolding own body_stop outline joined_outline coordinate_sum coordinate_difference quotient lowest gcd commands command_of_word operator_named operator_words is_number_word number_of_word standard_name standard_names
 reaches_itself = refl
 
 stands_on_itself : fault_of (outline (tower (codes "0 250 hsbw 0 0 0 32 32 seac")) (codes "space")) ≡ Some F46
-unfolding own body_stop outline joined coordinate_sum coordinate_difference quotient lowest gcd commands command_of_word operator_named operator_words is_number_word number_of_word standard_name standard_names
+unfolding own body_stop outline joined_outline coordinate_sum coordinate_difference quotient lowest gcd commands command_of_word operator_named operator_words is_number_word number_of_word standard_name standard_names
 stands_on_itself = refl

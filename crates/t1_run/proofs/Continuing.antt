@@ -21,7 +21,7 @@ use Rattle.t1_run.specs.Step.{Next, Call, Back, End, Compose, Fault}
 use Rattle.t1_run.specs.Words.{step}
 use Rattle.t1_run.specs.Machine.{RefusesStep, refusal_by, state_of}
 use Rattle.t1_run.specs.Continuing.{Asks, Comes, Continues, Meets, resume}
-use Rattle.t1_run.specs.Run.{FontBodies, Completed, Failed, go_on, act, words, call_within, called, too_deep, composed, composite_of, runs, entering, body_stop, drawing_of, outcome_of}
+use Rattle.t1_run.specs.Run.{FontBodies, Completed, Failed, go_on, act, run_words, call_within, called, too_deep, composed, composite_of, runs, entering, body_stop, drawing_of, outcome_of}
 
 resume-completed : (m : FontBodies) (levels : ℕ) (waiting : List (List Command)) (composite : Option Composite) (s : State)
     → resume m levels waiting (Completed composite s) ≡ Completed composite s
@@ -78,7 +78,7 @@ call_at m body cs sub waiting s s' c n (suc levels) room same e found fits = rec
   same =
       sym (ap (λ t. resume m (suc levels) waiting (act m (call_within m (suc levels)) (runs m (suc levels) cs) t)) e
       ∙ ap (λ b. resume m (suc levels) waiting
-      (go_on (runs m (suc levels) cs) (called (words m (call_within m levels)) b n s'))) found)
+      (go_on (runs m (suc levels) cs) (called (run_words m (call_within m levels)) b n s'))) found)
       ∙ same;
 }
 
@@ -139,7 +139,7 @@ missing_at m body cs waiting s s' c n (suc levels) same e found =
     ap outcome_of (sym same
     ∙ ap (λ t. resume m (suc levels) waiting (act m (call_within m (suc levels)) (runs m (suc levels) cs) t)) e
     ∙ ap (λ b. resume m (suc levels) waiting
-    (go_on (runs m (suc levels) cs) (called (words m (call_within m levels)) b n s'))) found
+    (go_on (runs m (suc levels) cs) (called (run_words m (call_within m levels)) b n s'))) found
     ∙ resume-failed m (suc levels) waiting F32)
 
 pub outcome-missing : {m : FontBodies} {body cs : List Command} {waiting : List (List Command)} {s s' : State} {c : Command} {n : ℕ}

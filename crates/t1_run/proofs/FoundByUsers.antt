@@ -11,7 +11,7 @@ use Rattle.t1_frac.specs.declared.fault.Code.TheVariants.{F46}
 use Rattle.t1_frac.proofs.OutcomeLaws.{bind_ok}
 use Rattle.t1_run.specs.declared.outline.Composite.{Composite}
 use Rattle.t1_run.specs.declared.outline.Segment.{Segment}
-use Rattle.t1_run.specs.Composite.{joined, with_parts, drawn, outline_within, outline}
+use Rattle.t1_run.specs.Composite.{joined_outline, with_parts, drawn, outline_within, outline}
 use Rattle.t1_run.specs.Footprint.{uses, is_part}
 use Rattle.t1_run.specs.Run.{FontBodies, Key, Subr, Glyph, Drawing, own}
 use Rattle.t1_run.specs.Touched.{is_key_of, is_user, is_met, meets_run, meets_part, meets_parts, touched_within, is_touched, IsClosed, Found, Seed, User, FoundByUsersLaw}
@@ -42,8 +42,8 @@ module _ (m : FontBodies) (keys : List Key) (has : List ℕ → Bool) (closed : 
       → (o : List Segment) → with_parts part c d ≡ Ok o → meets_part touched c ≡ true → has g ≡ true
   part-has part touched have g d e None is o drew h = absurd (cc)
   part-has part touched have g d e (Some c) is o drew h =
-      let b = bind_ok (part c.base) (λ base. part c.accent >>= (λ accent. joined d base accent)) o drew in
-      let t = bind_ok (part c.accent) (λ accent. joined d b.0 accent) o b.2 in
+      let b = bind_ok (part c.base) (λ base. part c.accent >>= (λ accent. joined_outline d base accent)) o drew in
+      let t = bind_ok (part c.accent) (λ accent. joined_outline d b.0 accent) o b.2 in
       elim (or_cases (touched c.base) (touched c.accent) h) [
         | inl h' ↦ closed.users c.base g (have c.base b.0 b.1 h')
             (ap (is_user (Glyph c.base)) e ∙ ap (is_part c.base) is ∙ or_left (bytes_eq c.base c.base) (bytes_eq c.accent c.base) (bytes_self c.base))
@@ -77,8 +77,8 @@ module _ (m : FontBodies) (keys : List Key) where
       → (c : Option Composite) (d : Drawing) (o : List Segment) → with_parts part c d ≡ Ok o → is_part p c ≡ true → meets_part touched c ≡ true
   user-part part touched p touch None d o drew h = absurd (cc)
   user-part part touched p touch (Some c) d o drew h =
-      let b = bind_ok (part c.base) (λ base. part c.accent >>= (λ accent. joined d base accent)) o drew in
-      let t = bind_ok (part c.accent) (λ accent. joined d b.0 accent) o b.2 in
+      let b = bind_ok (part c.base) (λ base. part c.accent >>= (λ accent. joined_outline d base accent)) o drew in
+      let t = bind_ok (part c.accent) (λ accent. joined_outline d b.0 accent) o b.2 in
       elim (or_cases (bytes_eq c.base p) (bytes_eq c.accent p) h) [
         | inl h' ↦ let same : c.base ≡ p = (bytes_eq-Decides c.base p).0 h' in
             or_left (touched c.base) (touched c.accent) (ap touched same ∙ touch b.0 (ap part (sym same) ∙ b.1))

@@ -13,7 +13,7 @@ use Rattle.t1_code.specs.declared.command.Command.{Command}
 use Rattle.t1_run.specs.declared.outline.Accent.{Accent}
 use Rattle.t1_run.specs.declared.outline.Composite.{Composite}
 use Rattle.t1_run.specs.Composite.{HasStandardParts}
-use Rattle.t1_run.specs.Run.{composite_of, encoded}
+use Rattle.t1_run.specs.Run.{composite_of, standard_glyph}
 
 abbrev has-name : List ℕ → List (ℕ × List ℕ) → Bool
 has-name name rows = list_any (λ (row : ℕ × List ℕ). bytes_eq row.1 name) rows
@@ -38,7 +38,7 @@ standard : (code : ℕ) (name : List ℕ) → standard_name code ≡ Some name �
 unfolding standard_name is_standard_name
 standard code name e = found-name (nat_eq code) standard_names name e
 
-encoded-name : (code : ℤ) (name : List ℕ) → encoded code ≡ Some name → is_standard_name name ≡ true
+encoded-name : (code : ℤ) (name : List ℕ) → standard_glyph code ≡ Some name → is_standard_name name ≡ true
 encoded-name (negsuc n) name e = absurd (cc)
 encoded-name (pos n) name e = by (nat_lt n 256) e where
   by : (b : Bool) → cond b (standard_name n) None ≡ Some name → is_standard_name name ≡ true
@@ -46,11 +46,11 @@ encoded-name (pos n) name e = by (nat_lt n 256) e where
   by false h = absurd (cc)
 
 pub standard_parts : (glyphs : List ℕ → Option (List Command)) (a : Accent) (c : Composite) → composite_of glyphs a ≡ Ok c → HasStandardParts c
-standard_parts glyphs a c e = by (encoded a.base) refl (encoded a.accent) refl e where
+standard_parts glyphs a c e = by (standard_glyph a.base) refl (standard_glyph a.accent) refl e where
   made : (base accent : List ℕ) → Composite
   made base accent = record { base = base; accent = accent; asb = a.asb; adx = a.adx; ady = a.ady }
 
-  last : (base accent : List ℕ) → encoded a.base ≡ Some base → encoded a.accent ≡ Some accent → (b : Option (List Command)) (t : Option (List Command))
+  last : (base accent : List ℕ) → standard_glyph a.base ≡ Some base → standard_glyph a.accent ≡ Some accent → (b : Option (List Command)) (t : Option (List Command))
       → (ok_or b F45 >>= (λ _. ok_or t F45 >>= (λ _. Ok (made base accent)))) ≡ Ok c → HasStandardParts c
   last base accent f g None t h = absurd (cc)
   last base accent f g (Some b) None h = absurd (cc)
@@ -61,7 +61,7 @@ standard_parts glyphs a c e = by (encoded a.base) refl (encoded a.accent) refl e
         accent = ap is_standard_name (sym (ap (λ x. x.accent) is)) ∙ encoded-name a.accent accent g;
       }
 
-  by : (x : Option (List ℕ)) → encoded a.base ≡ x → (y : Option (List ℕ)) → encoded a.accent ≡ y
+  by : (x : Option (List ℕ)) → standard_glyph a.base ≡ x → (y : Option (List ℕ)) → standard_glyph a.accent ≡ y
       → (ok_or x F44 >>= (λ base. ok_or y F44 >>= (λ accent. ok_or (glyphs base) F45 >>= (λ _. ok_or (glyphs accent) F45 >>= (λ _. Ok (made base accent)))))) ≡ Ok c
       → HasStandardParts c
   by None f y g h = absurd (cc)

@@ -6,7 +6,7 @@ use Rattle.t1_frac.specs.declared.fault.Code.{Code}
 use Rattle.t1_frac.specs.declared.fault.Code.TheVariants.{F46}
 use Rattle.t1_run.specs.declared.outline.Composite.{Composite}
 use Rattle.t1_run.specs.declared.outline.Segment.{Segment}
-use Rattle.t1_run.specs.Composite.{joined, with_parts, drawn, outline_within, outline}
+use Rattle.t1_run.specs.Composite.{joined_outline, with_parts, drawn, outline_within, outline}
 use Rattle.t1_run.specs.Footprint.{AgreeOn, OutlineFootprintLaw, asked_by_parts, asked_after, foot, foot_within, outline_foot}
 use Rattle.t1_run.specs.Run.{FontBodies, Key, Drawing, own}
 pub use Rattle.t1_run.proofs.Agreeing.{in_first, in_second}
@@ -23,8 +23,8 @@ parts-same part part' keys keys' same None d h = (refl, refl)
 parts-same part part' keys keys' same (Some c) d h =
     let base = same c.base (agree-part h (λ k i. in_first (keys c.base) (keys c.accent) k i)) in
     let accent = same c.accent (agree-part h (λ k i. in_second (keys c.base) (keys c.accent) k i)) in (
-      ap (λ b. b >>= (λ base. part' c.accent >>= (λ accent. joined d base accent))) base.0
-          ∙ ap (λ t. part c.base >>= (λ base. t >>= (λ accent. joined d base accent))) accent.0,
+      ap (λ b. b >>= (λ base. part' c.accent >>= (λ accent. joined_outline d base accent))) base.0
+          ∙ ap (λ t. part c.base >>= (λ base. t >>= (λ accent. joined_outline d base accent))) accent.0,
       ap (λ ks. ks ++ keys' c.accent) base.1 ∙ ap (λ ks. keys c.base ++ ks) accent.1,
     )
 

@@ -9,7 +9,7 @@ use Rattle.t1_run.specs.Composite.{HasStandardParts}
 use Rattle.t1_run.specs.State.{State, initial}
 use Rattle.t1_run.specs.Step.{Step, Next, Call, Back, End, Compose, Fault}
 use Rattle.t1_run.specs.Words.{step}
-use Rattle.t1_run.specs.Run.{FontBodies, Stop, OutOfWords, Returned, Completed, Failed, Runner, Caller, Drawing, entering, composite_of, composed, go_on, act, words, called, too_deep, call_within, body_stop, drawing_of, outcome_of, own, own_of}
+use Rattle.t1_run.specs.Run.{FontBodies, Stop, OutOfWords, Returned, Completed, Failed, Runner, Caller, Drawing, entering, composite_of, composed, go_on, act, run_words, called, too_deep, call_within, body_stop, drawing_of, outcome_of, own, own_of}
 use Rattle.t1_run.proofs.Naming.{standard_parts}
 
 -- so do those of a stop
@@ -39,9 +39,9 @@ act-well m caller next (End s) calls rest = tt
 act-well m caller next (Compose a s) calls rest = composed-well m.glyphs a (composite_of m.glyphs a) s refl
 act-well m caller next (Fault fault) calls rest = tt
 
-words-well : (m : FontBodies) (caller : Caller) → ((n : ℕ) (s : State) → StopsWell (caller n s)) → (cs : List Command) (s : State) → StopsWell (words m caller cs s)
+words-well : (m : FontBodies) (caller : Caller) → ((n : ℕ) (s : State) → StopsWell (caller n s)) → (cs : List Command) (s : State) → StopsWell (run_words m caller cs s)
 words-well m caller calls [] s = tt
-words-well m caller calls (c ∷ cs) s = act-well m caller (words m caller cs) (step c s) calls (words-well m caller calls cs)
+words-well m caller calls (c ∷ cs) s = act-well m caller (run_words m caller cs) (step c s) calls (words-well m caller calls cs)
 
 called-well : (run : List Command → Runner) (body : Option (List Command)) (n : ℕ) (s : State) → ((cs : List Command) (s : State) → StopsWell (run cs s))
     → StopsWell (called run body n s)
@@ -50,7 +50,7 @@ called-well run (Some body) n s h = h body (entering n s)
 
 calls-well : (m : FontBodies) (levels : ℕ) (n : ℕ) (s : State) → StopsWell (call_within m levels n s)
 calls-well m zero n s = called-well too_deep (m.subrs n) n s (λ cs. λ s'. tt)
-calls-well m (suc levels) n s = called-well (words m (call_within m levels)) (m.subrs n) n s (words-well m (call_within m levels) (calls-well m levels))
+calls-well m (suc levels) n s = called-well (run_words m (call_within m levels)) (m.subrs n) n s (words-well m (call_within m levels) (calls-well m levels))
 
 stop-well : (m : FontBodies) (body : List Command) → StopsWell (body_stop m body)
 unfolding body_stop

@@ -17,14 +17,14 @@ use Rattle.t1_run.specs.Step.{Next, push, refuse, unless_fault, attempt, with_tw
 use Rattle.t1_run.specs.Words.{execute, step}
 use Rattle.t1_run.specs.Run.{FontBodies}
 use Rattle.t1_run.specs.Continuing.{Continues}
-use Rattle.t1_run.specs.Pushing.{value_of, is_number, numbers_at_front}
+use Rattle.t1_run.specs.Pushing.{pushed_value, is_number, numbers_at_front}
 use Rattle.t1_run.proofs.Continuing.{Continues-next}
 
 -- ---- the numbers at the front
 
 front_number : (n : ℕ) (k : ℤ) (commands : List Command) → numbers_at_front (suc n) (Num k ∷ commands) ≡ whole k ∷ numbers_at_front n commands
 unfolding numbers_at_front
-front_number n k commands = ap (λ cs. take (suc n) (filter_map value_of cs)) (take_while-cons is_number (Num k) commands)
+front_number n k commands = ap (λ cs. take (suc n) (filter_map pushed_value cs)) (take_while-cons is_number (Num k) commands)
 
 pub front_step : (n : ℕ) (k : ℤ) (commands : List Command) → 0 < n → numbers_at_front n (Num k ∷ commands) ≡ whole k ∷ numbers_at_front (n - 1) commands
 front_step zero k commands h = absurd (omega (arith, h))

@@ -11,7 +11,7 @@ use Rattle.t1_frac.proofs.OutcomeLaws.{bind_ok}
 use Rattle.t1_code.specs.declared.command.Command.{Command}
 use Rattle.t1_run.specs.declared.outline.Composite.{Composite}
 use Rattle.t1_run.specs.declared.outline.Segment.{Segment}
-use Rattle.t1_run.specs.Composite.{drawn, joined, outline, outline_within, with_parts}
+use Rattle.t1_run.specs.Composite.{drawn, joined_outline, outline, outline_within, with_parts}
 use Rattle.t1_run.specs.Footprint.{is_part, uses}
 use Rattle.t1_run.specs.Run.{FontBodies, Key, Subr, Glyph, Drawing, own, own_of}
 use Rattle.t1_run.specs.Touched.{is_key_of, is_met, is_named, is_touched, is_user, meets_part, meets_parts, meets_run, touched_within, AreStale, IsClosed, Found, Seed, User, TouchedAreStaleLaw}
@@ -30,8 +30,8 @@ module _ (part : List ℕ → Result (List Segment) Code) (p q : List ℕ → Bo
   weaker-part : (c : Option Composite) (d : Drawing) (o : List Segment) → with_parts part c d ≡ Ok o → meets_part p c ≡ true → meets_part q c ≡ true
   weaker-part None d o drew h = absurd (cc)
   weaker-part (Some c) d o drew h =
-      let b = bind_ok (part c.base) (λ base. part c.accent >>= (λ accent. joined d base accent)) o drew in
-      let t = bind_ok (part c.accent) (λ accent. joined d b.0 accent) o b.2 in
+      let b = bind_ok (part c.base) (λ base. part c.accent >>= (λ accent. joined_outline d base accent)) o drew in
+      let t = bind_ok (part c.accent) (λ accent. joined_outline d b.0 accent) o b.2 in
       elim (or_cases (p c.base) (p c.accent) h) [
         | inl h' ↦ or_left (q c.base) (q c.accent) (weaker c.base b.0 b.1 h')
         | inr h' ↦ or_right (q c.base) (q c.accent) (weaker c.accent t.0 t.1 h')
@@ -75,8 +75,8 @@ module _ (m : FontBodies) (keys : List Key) where
       → (o : List Segment) → with_parts part c d ≡ Ok o → meets_part touched c ≡ true → Found m keys g
   found-part part touched found g d e None is o drew h = absurd (cc)
   found-part part touched found g d e (Some c) is o drew h =
-      let b = bind_ok (part c.base) (λ base. part c.accent >>= (λ accent. joined d base accent)) o drew in
-      let t = bind_ok (part c.accent) (λ accent. joined d b.0 accent) o b.2 in
+      let b = bind_ok (part c.base) (λ base. part c.accent >>= (λ accent. joined_outline d base accent)) o drew in
+      let t = bind_ok (part c.accent) (λ accent. joined_outline d b.0 accent) o b.2 in
       elim (or_cases (touched c.base) (touched c.accent) h) [
         | inl h' ↦ User c.base g (found c.base b.0 b.1 h')
             (ap (is_user (Glyph c.base)) e ∙ ap (is_part c.base) is ∙ or_left (bytes_eq c.base c.base) (bytes_eq c.accent c.base) (bytes_self c.base))

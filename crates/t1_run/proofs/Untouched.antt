@@ -9,7 +9,7 @@ use Rattle.t1_frac.specs.declared.fault.Code.TheVariants.{F46}
 use Rattle.t1_frac.proofs.OutcomeLaws.{bind_ok}
 use Rattle.t1_run.specs.declared.outline.Composite.{Composite}
 use Rattle.t1_run.specs.declared.outline.Segment.{Segment}
-use Rattle.t1_run.specs.Composite.{joined, with_parts, drawn, outline_within, outline}
+use Rattle.t1_run.specs.Composite.{joined_outline, with_parts, drawn, outline_within, outline}
 use Rattle.t1_run.specs.Footprint.{Includes, uses}
 use Rattle.t1_run.specs.Run.{FontBodies, Key, Drawing, own}
 use Rattle.t1_run.proofs.Agreeing.{own_same}
@@ -37,11 +37,11 @@ parts-kept : (part part' : List ℕ → Result (List Segment) Code) (touched : L
     → with_parts part' c d ≡ with_parts part c d
 parts-kept part part' touched kept None d o e h = refl
 parts-kept part part' touched kept (Some c) d o e h =
-    let b = bind_ok (part c.base) (λ base. part c.accent >>= (λ accent. joined d base accent)) o e in
-    let t = bind_ok (part c.accent) (λ accent. joined d b.0 accent) o b.2 in
+    let b = bind_ok (part c.base) (λ base. part c.accent >>= (λ accent. joined_outline d base accent)) o e in
+    let t = bind_ok (part c.accent) (λ accent. joined_outline d b.0 accent) o b.2 in
     let h' = or_parts (touched c.base) (touched c.accent) h in
-    ap (λ r. r >>= (λ base. part' c.accent >>= (λ accent. joined d base accent))) (kept c.base b.0 b.1 h'.0)
-    ∙ ap (λ r. part c.base >>= (λ base. r >>= (λ accent. joined d base accent))) (kept c.accent t.0 t.1 h'.1)
+    ap (λ r. r >>= (λ base. part' c.accent >>= (λ accent. joined_outline d base accent))) (kept c.base b.0 b.1 h'.0)
+    ∙ ap (λ r. part c.base >>= (λ base. r >>= (λ accent. joined_outline d base accent))) (kept c.accent t.0 t.1 h'.1)
 
 abbrev KeptAs : FontBodies → FontBodies → List ℕ → (part part' : List ℕ → Result (List Segment) Code) → Option (Result Drawing Code) → Type 0
 KeptAs m n g part part' r = (own n g ≡ r) × (drawn part' (own n g) ≡ drawn part r)

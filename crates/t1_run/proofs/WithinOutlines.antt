@@ -10,7 +10,7 @@ use Rattle.t1_run.specs.declared.outline.Composite.{Composite}
 use Rattle.t1_run.specs.declared.outline.Point.{Point}
 use Rattle.t1_run.specs.declared.outline.Segment.{Segment}
 use Rattle.t1_run.specs.declared.outline.Segment.TheVariants.{Line, Curve}
-use Rattle.t1_run.specs.Composite.{accent_move, moved_point, moved_segment, moved_outline, joined, joined_with, with_parts, drawn, outline_within, outline, IsPoint, IsWithin}
+use Rattle.t1_run.specs.Composite.{accent_move, moved_point, moved_segment, moved_outline, joined_outline, joined_with, with_parts, drawn, outline_within, outline, IsPoint, IsWithin}
 use Rattle.t1_code.specs.declared.command.Command.{Command}
 use Rattle.t1_run.specs.Run.{FontBodies, Drawing, own, body_stop, outcome_of}
 use Rattle.t1_run.specs.Within.{DrawnWithinLaw, AreRuns, OutlinesWithinLaw}
@@ -62,8 +62,8 @@ joined_with-drawn (Some composite) d base accent c h b a =
     bind-ok AllDrawn AllDrawn (moved_outline by accent) _ (outline-moved by accent k a) (λ accent' a'.
     each-append IsDrawn (d.segments ++ base) accent' (each-append IsDrawn d.segments base h.segments b) a'))
 
-joined-drawn : (d : Drawing) (base accent : List Segment) → DrawingWithin d → AllDrawn base → AllDrawn accent → IfOk (joined d base accent) AllDrawn
-unfolding joined
+joined-drawn : (d : Drawing) (base accent : List Segment) → DrawingWithin d → AllDrawn base → AllDrawn accent → IfOk (joined_outline d base accent) AllDrawn
+unfolding joined_outline
 joined-drawn d base accent h b a = joined_with-drawn d.composite d base accent h.parts h b a
 
 abbrev PartsDrawn : (List ℕ → Result (List Segment) Code) → Type 0

@@ -9,7 +9,7 @@ use Rattle.t1_code.specs.declared.command.Command.{Command}
 use Rattle.t1_run.specs.declared.outline.Accent.{Accent}
 use Rattle.t1_run.specs.declared.outline.Composite.{Composite}
 use Rattle.t1_run.specs.declared.outline.Metric.{Metric}
-use Rattle.t1_run.specs.Run.{FontBodies, Stop, OutOfWords, Returned, Completed, Failed, Runner, Caller, Drawing, go_on, act, words, call_within, called, too_deep, composed, composite_of, encoded, entering, body_stop, own, own_of, drawing_of, outcome_of}
+use Rattle.t1_run.specs.Run.{FontBodies, Stop, OutOfWords, Returned, Completed, Failed, Runner, Caller, Drawing, go_on, act, run_words, call_within, called, too_deep, composed, composite_of, standard_glyph, entering, body_stop, own, own_of, drawing_of, outcome_of}
 use Rattle.t1_run.specs.State.{State, initial}
 use Rattle.t1_run.specs.Step.{Step, Next, Call, Back, End, Compose, Fault}
 use Rattle.t1_run.specs.Words.{step}
@@ -42,8 +42,8 @@ after-any Q (Err fault) next h = tt
 
 composite-within : (glyphs : List ℕ → Option (List Command)) (a : Accent) → AccentWithin a → IfOk (composite_of glyphs a) PartsWithin
 composite-within glyphs a h =
-    after-any PartsWithin (ok_or (encoded a.base) F44) _ (λ base.
-    after-any PartsWithin (ok_or (encoded a.accent) F44) _ (λ accent.
+    after-any PartsWithin (ok_or (standard_glyph a.base) F44) _ (λ base.
+    after-any PartsWithin (ok_or (standard_glyph a.accent) F44) _ (λ accent.
     after-any PartsWithin (ok_or (glyphs base) F45) _ (λ _.
     after-any PartsWithin (ok_or (glyphs accent) F45) _ (λ _.
     record { asb = h.asb; adx = h.adx; ady = h.ady }))))
@@ -69,10 +69,10 @@ act-within m caller next calls runs (End s) h = (tt, h)
 act-within m caller next calls runs (Compose a s) h = composed-within (composite_of m.glyphs a) s (composite-within m.glyphs a h.0) h.1
 act-within m caller next calls runs (Fault fault) h = tt
 
-words-within : (m : FontBodies) (caller : Caller) → CallsWithin caller → (cs : List Command) → RunsWithin (words m caller cs)
+words-within : (m : FontBodies) (caller : Caller) → CallsWithin caller → (cs : List Command) → RunsWithin (run_words m caller cs)
 words-within m caller calls [] s h = h
 words-within m caller calls (c ∷ cs) s h =
-    act-within m caller (words m caller cs) calls (words-within m caller calls cs) (step c s) (step-within c s h)
+    act-within m caller (run_words m caller cs) calls (words-within m caller calls cs) (step c s) (step-within c s h)
 
 entering-within : (n : ℕ) (s : State) → StateWithin s → StateWithin (entering n s)
 entering-within n s h =
@@ -85,7 +85,7 @@ called-within run runs (Some body) n s h = runs body (entering n s) (entering-wi
 calls-within : (m : FontBodies) (levels : ℕ) → CallsWithin (call_within m levels)
 calls-within m zero n s h = called-within too_deep (λ body s' h'. tt) (m.subrs n) n s h
 calls-within m (suc levels) n s h =
-    called-within (words m (call_within m levels)) (words-within m (call_within m levels) (calls-within m levels)) (m.subrs n) n s h
+    called-within (run_words m (call_within m levels)) (words-within m (call_within m levels) (calls-within m levels)) (m.subrs n) n s h
 
 initial-within : StateWithin initial
 initial-within = record {

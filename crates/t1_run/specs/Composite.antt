@@ -54,13 +54,13 @@ joined_with None d base accent = Ok d.segments
 joined_with (Some c) d base accent = joined_by c d base accent
 
 -- profile: the same, by the parts that the glyph's run found
-unfoldable pub joined : Drawing → List Segment → List Segment → Result (List Segment) Code
-joined d base accent = joined_with d.composite d base accent
+unfoldable pub joined_outline : Drawing → List Segment → List Segment → Result (List Segment) Code
+joined_outline d base accent = joined_with d.composite d base accent
 
 -- profile, order of faults: the base's outline, then the accent's, then both joined
 abbrev pub with_parts : (List ℕ → Result (List Segment) Code) → Option Composite → Drawing → Result (List Segment) Code
 with_parts part None d = Ok d.segments
-with_parts part (Some c) d = part c.base >>= (λ base. part c.accent >>= (λ accent. joined d base accent))
+with_parts part (Some c) d = part c.base >>= (λ base. part c.accent >>= (λ accent. joined_outline d base accent))
 
 -- profile, order of faults: its own run comes first; seac asks for its parts, so none of them is missing
 abbrev pub drawn : (List ℕ → Result (List Segment) Code) → Option (Result Drawing Code) → Result (List Segment) Code

@@ -8,7 +8,7 @@ use Rattle.t1_run.specs.declared.state.Control.{Control}
 use Rattle.t1_run.specs.declared.state.State.{State as StateFields}
 use Rattle.t1_run.specs.State.{State}
 use Rattle.t1_run.specs.Words.{step}
-use Rattle.t1_run.specs.Machine.{state_of, reported, RefusesStep, refusal_by}
+use Rattle.t1_run.specs.Machine.{state_of, asked_step, RefusesStep, refusal_by}
 use Rattle.t1_run.specs.Run.{FontBodies, Stop, go_on, runs, body_stop}
 
 -- word: where a body stopped, the bodies that wait go on, the innermost first; `levels` is what was left there
@@ -27,7 +27,7 @@ pub record Asks (m : FontBodies) (body rest : List Command) (waiting : List (Lis
   pub command : Command
   pub before : State
   pub here : Continues m body (command ∷ rest) waiting before
-  pub is : step command before ≡ reported control after
+  pub is : step command before ≡ asked_step control after
 
 -- word: the run has come to a command whose step is refused, which refuses the run
 pub record Meets (m : FontBodies) (body : List Command) (waiting : List (List Command)) (refusal : Refusal) : Type 0 where

@@ -9,7 +9,7 @@ use Rattle.t1_run.specs.declared.outline.Composite.{Composite}
 use Rattle.t1_run.specs.State.{State, initial}
 use Rattle.t1_run.specs.Step.{Step, Next, Call, Back, End, Compose, Fault}
 use Rattle.t1_run.specs.Words.{step}
-use Rattle.t1_run.specs.Run.{FontBodies, Key, Subr, Glyph, Stop, OutOfWords, Returned, Drawing, encoded, entering, call_within, own}
+use Rattle.t1_run.specs.Run.{FontBodies, Key, Subr, Glyph, Stop, OutOfWords, Returned, Drawing, standard_glyph, entering, call_within, own}
 use Rattle.t1_run.specs.Composite.{outline}
 
 -- ---- what a run asks of the maps
@@ -39,7 +39,7 @@ keys_of_parts m _ _ = []
 abbrev pub keys_of_step : FontBodies → ℕ → (ℕ → KeysFrom) → KeysFrom → Step → List Key
 keys_of_step m levels called next (Next s) = next s
 keys_of_step m levels called next (Call n s) = Subr n ∷ (called n s ++ keys_after next (call_within m levels n s))
-keys_of_step m levels called next (Compose a s) = keys_of_parts m (encoded a.base) (encoded a.accent)
+keys_of_step m levels called next (Compose a s) = keys_of_parts m (standard_glyph a.base) (standard_glyph a.accent)
 keys_of_step m levels called next _ = []
 
 -- profile: the keys of words one after another

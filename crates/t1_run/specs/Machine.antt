@@ -36,11 +36,11 @@ state_of s = record {
 }
 
 -- word: the step of a word that asks for this, with the state after it
-abbrev pub reported : Control → State → Step
-reported (controls.Call n) s = Call n s
-reported controls.Back s = Back s
-reported controls.End s = End s
-reported (controls.Compose a) s = Compose a s
+abbrev pub asked_step : Control → State → Step
+asked_step (controls.Call n) s = Call n s
+asked_step controls.Back s = Back s
+asked_step controls.End s = End s
+asked_step (controls.Compose a) s = Compose a s
 
 -- word: a step is refused by its fault, or for want of memory
 abbrev pub RefusesStep : Halt → Step → Type 0
@@ -62,9 +62,9 @@ answered step (Ok value) s = step value s
 answered step (Err code) s = Fault code
 
 -- word: a call makes this step: its value and the state that it leaves stand for it, or it refuses as the step does
-abbrev pub Reports : {A : Type 0} → (A → State → Step) → Step → Result A Halt → StateFields → Type 0
-Reports step made (Ok value) now = made ≡ step value (state_of now)
-Reports step made (Err halt) now = RefusesStep halt made
+abbrev pub MakesStep : {A : Type 0} → (A → State → Step) → Step → Result A Halt → StateFields → Type 0
+MakesStep step made (Ok value) now = made ≡ step value (state_of now)
+MakesStep step made (Err halt) now = RefusesStep halt made
 
 -- profile: a call answers what the own body of a glyph of the maps draws, or its fault at no place, unless memory ran out
 abbrev pub GivesOwn : Result NumberedRun Refusal → Option (Result Drawing Code) → Type 0

@@ -2,6 +2,6 @@
 use Rattle.std.specs.Prelude.{Option, Some, None}
 
 -- word: what a change sets, or takes out; what was there where nothing is changed
-abbrev pub changed : {X : Type 0} → Option (Option X) → Option X → Option X
-changed None was = was
-changed (Some now) was = now
+abbrev pub after_change : {X : Type 0} → Option (Option X) → Option X → Option X
+after_change None was = was
+after_change (Some now) was = now

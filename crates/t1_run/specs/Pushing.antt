@@ -7,14 +7,14 @@ use Rattle.t1_code.specs.declared.command.Command.{Command}
 use Rattle.t1_code.specs.declared.command.Command.TheVariants.{Num}
 
 -- word: the value of a number
-abbrev pub value_of : Command → Option Fraction
-value_of (Num k) = Some (whole k)
-value_of _ = None
+abbrev pub pushed_value : Command → Option Fraction
+pushed_value (Num k) = Some (whole k)
+pushed_value _ = None
 
 -- word: a number, which is pushed
 abbrev pub is_number : Command → Bool
-is_number c = is_some (value_of c)
+is_number c = is_some (pushed_value c)
 
 -- word: the numbers that some commands begin with, at most so many
 unfoldable pub numbers_at_front : ℕ → List Command → List Fraction
-numbers_at_front most commands = take most (filter_map value_of (take_while is_number commands))
+numbers_at_front most commands = take most (filter_map pushed_value (take_while is_number commands))

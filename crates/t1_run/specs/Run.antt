@@ -74,15 +74,15 @@ entering n s = record s { entered = entered_with n s.entered }
 -- ---- composites
 
 -- Type 1 Font Format, Chapter 6 (seac): the glyph name of a code of StandardEncoding
-abbrev pub encoded : ℤ → Option (List ℕ)
-encoded (pos code) = if nat_lt code 256 then standard_name code else None
-encoded (negsuc code) = None
+abbrev pub standard_glyph : ℤ → Option (List ℕ)
+standard_glyph (pos code) = if nat_lt code 256 then standard_name code else None
+standard_glyph (negsuc code) = None
 
 -- profile: F44 where the base's code, then the accent's, has no name; F45 where the font lacks the base, then the accent
 abbrev pub composite_of : (List ℕ → Option (List Command)) → Accent → Result Composite Code
 composite_of glyphs a =
-    ok_or (encoded a.base) F44 >>= (λ base.
-    ok_or (encoded a.accent) F44 >>= (λ accent.
+    ok_or (standard_glyph a.base) F44 >>= (λ base.
+    ok_or (standard_glyph a.accent) F44 >>= (λ accent.
     ok_or (glyphs base) F45 >>= (λ _.
     ok_or (glyphs accent) F45 >>= (λ _.
     Ok (record { base = base; accent = accent; asb = a.asb; adx = a.adx; ady = a.ady })))))
@@ -111,9 +111,9 @@ act m caller next (Compose a s) = composed (composite_of m.glyphs a) s
 act m caller next (Fault fault) = Failed fault
 
 -- Type 1 Font Format, Chapter 6: the words one after another
-abbrev pub words : FontBodies → Caller → List Command → Runner
-words m caller [] s = OutOfWords s
-words m caller (c ∷ cs) s = act m caller (words m caller cs) (step c s)
+abbrev pub run_words : FontBodies → Caller → List Command → Runner
+run_words m caller [] s = OutOfWords s
+run_words m caller (c ∷ cs) s = act m caller (run_words m caller cs) (step c s)
 
 -- Type 1 Font Format, Chapter 6 (callsubr): a Subr's body, run by this runner; F32 where there is no such Subr
 abbrev pub called : (List Command → Runner) → Option (List Command) → Caller
@@ -127,11 +127,11 @@ too_deep body s = Failed F33
 -- profile, limits: a call, where so many Subrs more may be active at once
 abbrev pub call_within : FontBodies → ℕ → Caller
 call_within m zero n s = called too_deep (m.subrs n) n s
-call_within m (suc levels) n s = called (words m (call_within m levels)) (m.subrs n) n s
+call_within m (suc levels) n s = called (run_words m (call_within m levels)) (m.subrs n) n s
 
 -- profile, limits: what a list of commands does, where so many Subrs may be active at once
 abbrev pub runs : FontBodies → ℕ → List Command → Runner
-runs m levels = words m (call_within m levels)
+runs m levels = run_words m (call_within m levels)
 
 -- profile, limits: how a glyph's own body stops, in which ten Subrs may be active
 unfoldable pub body_stop : FontBodies → List Command → Stop

@@ -6,8 +6,8 @@ ghost use Rattle.t1_code.specs.declared.command.Command.{Command as Commands};
 
 use t1_code::Command;
 
-/// What the run of a glyph's body asks of a font: the bodies of its Subrs, and which glyphs it has. Contracts see two maps, from
-/// a number and from a name to a list of commands.
+/// What the run of a glyph's body asks of a font: the bodies of its Subrs, and which glyphs it has.
+/// Contracts see two maps, from a number and from a name to a list of commands.
 pub trait Bodies {
     ghost subrs: { Self → ℕ → Option (List Commands) };
 

@@ -3,8 +3,11 @@
 ghost use Rattle.std.specs.Prelude.{◌≡◌, None, Some, MatchResult};
 ghost use Rattle.std.specs.List.{list_any};
 ghost use Rattle.t1_frac.specs.Limits.{exceeds as exceeds_limit};
-ghost use Rattle.t1_run.specs.Operands.{takes as takes_of, is_whole as is_whole_of, operand_fault, operand_faults, size_fault};
-ghost use Rattle.t1_run.specs.Words.{draws_or_ends as draws_or_ends_of, needs_bearing as needs_bearing_of, sets_bearing as sets_bearing_of};
+ghost use Rattle.t1_run.specs.Operands.{takes as takes_of, is_whole as is_whole_of, operand_fault};
+ghost use Rattle.t1_run.specs.Operands.{operand_faults, size_fault};
+ghost use Rattle.t1_run.specs.Words.{draws_or_ends as draws_or_ends_of};
+ghost use Rattle.t1_run.specs.Words.{needs_bearing as needs_bearing_of};
+ghost use Rattle.t1_run.specs.Words.{sets_bearing as sets_bearing_of};
 
 use t1_code::Command;
 use t1_frac::{Code, Frac};
@@ -123,7 +126,8 @@ fn has_large(values: &[Frac]) -> bool
 /// Operands none of which has to be whole.
 #[inline(always)]
 pub fn check_sizes(values: &[Frac]) -> Result<(), Code>
-    ensures { MatchResult result (λ _. size_fault values.now ≡ None) (λ code. size_fault values.now ≡ Some code) }
+    ensures { MatchResult result (λ _. size_fault values.now ≡ None)
+        (λ code. size_fault values.now ≡ Some code) }
 {
     if has_large(values) {
         return Err(Code::F37);

@@ -2,9 +2,11 @@
 
 ghost use Rattle.std.specs.Prelude.{◌≡◌, [], ◌∷◌, ◌++◌, ◌≤◌, true, length, OnOk};
 ghost use Rattle.t1_run.specs.Dispatch.{sets_point};
-ghost use Rattle.t1_run.specs.Machine.{state_of, going_on, answered, Reports};
+ghost use Rattle.t1_run.specs.Machine.{state_of, going_on, answered, MakesStep};
 ghost use Rattle.t1_run.specs.Operands.{takes, topmost};
-ghost use Rattle.t1_run.specs.Step.{moved as moved_by, move_by as move_of, line_by as line_of, curve_by as curve_of, set_metric as metric_of, Next, cleared, at_point};
+ghost use Rattle.t1_run.specs.Step.{moved as moved_by, move_by as move_of, line_by as line_of};
+ghost use Rattle.t1_run.specs.Step.{curve_by as curve_of, set_metric as metric_of, Next, cleared};
+ghost use Rattle.t1_run.specs.Step.{at_point};
 ghost use Rattle.t1_run.specs.Words.{rule, draws as draws_of};
 
 use crate::halt::Halt;
@@ -24,7 +26,8 @@ pub fn moved(point: &Point, dx: &Frac, dy: &Frac) -> Result<Point, Code>
     Ok(Point { x, y })
 }
 
-/// Adds a segment. Room is made for it first, where there is none, so that it is written where it stays.
+/// Adds a segment. Room is made for it first, where there is none, so that it is written where it
+/// stays.
 #[inline(always)]
 fn add_segment(segments: &mut Vec<Segment>, segment: Segment) -> Result<(), AllocError>
     ensures { OnOk result (segments.new.items ≡ segments.old.items ++ segment ∷ []) }
@@ -40,7 +43,8 @@ impl State {
     /// Moves the current point, and draws nothing.
     #[inline(always)]
     fn move_by(&mut self, dx: Frac, dy: Frac) -> Result<(), Code>
-        ensures reported { move_of dx dy (state_of self.old) ≡ answered going_on result (state_of self.new) }
+        ensures reported { move_of dx dy (state_of self.old)
+            ≡ answered going_on result (state_of self.new) }
         ensures steps { self.new.steps ≡ self.old.steps }
     {
         self.current = moved(&self.current, &dx, &dy)?;
@@ -51,7 +55,7 @@ impl State {
     /// Draws a line from the current point.
     #[inline(always)]
     fn line_by(&mut self, dx: Frac, dy: Frac) -> Result<(), Halt>
-        ensures reported { Reports going_on (line_of dx dy (state_of self.old)) result self.new }
+        ensures reported { MakesStep going_on (line_of dx dy (state_of self.old)) result self.new }
         ensures steps { self.new.steps ≡ self.old.steps }
     {
         let start = self.current;
@@ -70,7 +74,9 @@ impl State {
         second: (Frac, Frac),
         third: (Frac, Frac),
     ) -> Result<(), Halt>
-        ensures reported { Reports going_on (curve_of first.0 first.1 second.0 second.1 third.0 third.1 (state_of self.old)) result self.new }
+        ensures reported { MakesStep going_on
+            (curve_of first.0 first.1 second.0 second.1 third.0 third.1 (state_of self.old))
+            result self.new }
         ensures steps { self.new.steps ≡ self.old.steps }
     {
         let start = self.current;
@@ -101,7 +107,8 @@ impl State {
     /// Sets the current point.
     #[inline(always)]
     fn set_point(&mut self, x: Frac, y: Frac)
-        ensures reported { cleared (at_point (record { x = x; y = y }) (state_of self.old)) ≡ state_of self.new }
+        ensures reported { cleared (at_point (record { x = x; y = y }) (state_of self.old))
+            ≡ state_of self.new }
         ensures steps { self.new.steps ≡ self.old.steps }
     {
         self.current = Point { x, y };
@@ -113,7 +120,9 @@ impl State {
     pub fn draw(&mut self, command: Command) -> Result<(), Halt>
         requires kind { draws_of command ≡ true }
         requires enough { takes command ≤ length self.old.operands }
-        ensures reported { Reports going_on (rule command (topmost (takes command) self.old.operands) (state_of self.old)) result self.new }
+        ensures reported { MakesStep going_on
+            (rule command (topmost (takes command) self.old.operands) (state_of self.old))
+            result self.new }
         ensures steps { self.new.steps ≡ self.old.steps }
     {
         let zero = Frac::whole(0);
@@ -151,7 +160,9 @@ impl State {
     pub fn place(&mut self, command: Command) -> Result<(), Code>
         requires kind { sets_point command ≡ true }
         requires enough { takes command ≤ length self.old.operands }
-        ensures reported { rule command (topmost (takes command) self.old.operands) (state_of self.old) ≡ answered going_on result (state_of self.new) }
+        ensures reported { rule command (topmost (takes command) self.old.operands)
+            (state_of self.old)
+            ≡ answered going_on result (state_of self.new) }
         ensures steps { self.new.steps ≡ self.old.steps }
     {
         let zero = Frac::whole(0);

@@ -1,9 +1,11 @@
 //! Exact execution of a glyph's charstring, and the outlines of composites.
 //!
-//! For users: a font as [`Bodies`] or [`StoredBodies`], for which [`Plain`] may stand; a [`Meter`]; [`run`], and a [`Run`]
-//! with its [`Segment`]s of [`Point`]s and its [`Composite`]; [`join`]. For the crates above: [`run_of_body`], which runs
-//! a body that the font needn't have stored, [`Entered`], and the moves of accents, points and segments; [`State`] with
-//! [`Control`], [`Halt`] and [`find_parts`], by which a body is run word by word, to see at which word it fails.
+//! For users: a font as [`Bodies`] or [`StoredBodies`], for which [`Plain`] may stand; a [`Meter`];
+//! [`run`], and a [`Run`] with its [`Segment`]s of [`Point`]s and its [`Composite`]; [`join`]. For
+//! the crates above: [`run_of_body`], which runs a body that the font needn't have stored,
+//! [`Entered`], and the moves of accents, points and segments; [`State`] with [`Control`], [`Halt`]
+//! and [`find_parts`], by which a body is run word by word, to see at which word it fails, and
+//! [`takes`], [`standard_glyph`] and [`Recorded`], by which is told why.
 #![tactic(auto)]
 
 mod bodies;
@@ -29,6 +31,7 @@ mod state;
 mod step;
 
 pub use bodies::{Bodies, StoredBodies};
+pub use checks::takes;
 pub use composite::{accent_move, join};
 pub use entered::Entered;
 pub use halt::Halt;
@@ -37,6 +40,7 @@ pub use moving::{moved_point, moved_segment};
 pub use outcome::Run;
 pub use outline::{Composite, Point, Segment};
 pub use plain::Plain;
+pub use recorded::Recorded;
 pub use runner::{run, run_of_body};
-pub use seac::find_parts;
+pub use seac::{find_parts, standard_glyph};
 pub use state::{Control, State};

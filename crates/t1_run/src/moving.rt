@@ -1,7 +1,8 @@
 //! Points and segments moved.
 
 ghost use Rattle.std.specs.Prelude.{◌≡◌, IfOk};
-ghost use Rattle.t1_run.specs.Composite.{moved_point as point_by, moved_segment as segment_by, IsPoint, IsWithin};
+ghost use Rattle.t1_run.specs.Composite.{moved_point as point_by, moved_segment as segment_by};
+ghost use Rattle.t1_run.specs.Composite.{IsPoint, IsWithin};
 
 use crate::outline::{Point, Segment};
 use t1_frac::Code;

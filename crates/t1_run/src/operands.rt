@@ -26,8 +26,8 @@ impl Model for Operands {
     ghost invariant = { λ o. o.len ≤ 24 };
 }
 
-/// Stores the numbers at the front of some commands from a place on, at most so many: how many they are, and the commands after
-/// them.
+/// Stores the numbers at the front of some commands from a place on, at most so many: how many they
+/// are, and the commands after them.
 #[inline(always)]
 fn store_numbers<'a>(
     values: &mut [Frac; 24],
@@ -39,7 +39,8 @@ fn store_numbers<'a>(
     ensures few { result.0 ≤ most }
     ensures count { result.0 ≡ length (numbers_at_front most commands.now) }
     ensures rest { result.1.now ≡ drop result.0 commands.now }
-    ensures stored { take (place + result.0) values.new ≡ take place values.old ++ numbers_at_front most commands.now }
+    ensures stored { take (place + result.0) values.new
+        ≡ take place values.old ++ numbers_at_front most commands.now }
 {
     let mut count = 0;
     let mut rest = commands;
@@ -114,7 +115,8 @@ impl Operands {
         self.len += 1;
     }
 
-    /// Pushes the numbers at the front of some commands, at most so many: how many they are, and the commands after them.
+    /// Pushes the numbers at the front of some commands, at most so many: how many they are, and
+    /// the commands after them.
     #[inline(always)]
     pub fn push_numbers<'a>(
         &mut self,

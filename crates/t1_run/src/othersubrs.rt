@@ -1,8 +1,10 @@
 //! callothersubr: flex, hint replacement and counter hints.
 
 ghost use Rattle.std.specs.Prelude.{◌≡◌, ◌≤◌, ◌+◌, pos, true, length, [], ◌∷◌};
-ghost use Rattle.t1_run.specs.Machine.{state_of, going_on, answered, Reports, effect_of};
-ghost use Rattle.t1_run.specs.OtherSubrs.{is_supported as is_supported_of, start_flex as start_of, add_flex as add_of, end_flex as end_of, other_effect, other_with as with_of, other_subr as other_of};
+ghost use Rattle.t1_run.specs.Machine.{state_of, going_on, answered, MakesStep, effect_of};
+ghost use Rattle.t1_run.specs.OtherSubrs.{is_supported as is_supported_of, start_flex as start_of};
+ghost use Rattle.t1_run.specs.OtherSubrs.{add_flex as add_of, end_flex as end_of, other_effect};
+ghost use Rattle.t1_run.specs.OtherSubrs.{other_with as with_of, other_subr as other_of};
 ghost use Rattle.t1_run.specs.State.{State as States};
 
 use crate::checks::{check_operand, check_sizes};
@@ -50,7 +52,8 @@ fn effect_on(number: usize, arguments: &[Frac]) -> Effect
 impl State {
     /// Opens a flex at the current point.
     fn start_flex(&mut self) -> Result<(), Code>
-        ensures reported { start_of (state_of self.old).flex (state_of self.old) ≡ answered going_on result (state_of self.new) }
+        ensures reported { start_of (state_of self.old).flex (state_of self.old)
+            ≡ answered going_on result (state_of self.new) }
         ensures steps { self.new.steps ≡ self.old.steps }
     {
         if self.flex.is_some() {
@@ -64,7 +67,8 @@ impl State {
 
     /// Records the current point for the flex.
     fn record_point(&mut self) -> Result<(), Code>
-        ensures reported { add_of (state_of self.old).flex (state_of self.old) ≡ answered going_on result (state_of self.new) }
+        ensures reported { add_of (state_of self.old).flex (state_of self.old)
+            ≡ answered going_on result (state_of self.new) }
         ensures steps { self.new.steps ≡ self.old.steps }
     {
         if self.flex.is_none() || self.recorded.is_full() {
@@ -77,7 +81,9 @@ impl State {
 
     /// Draws the flex and closes it.
     fn end_flex(&mut self, height: Frac, x: Frac, y: Frac) -> Result<(), Halt>
-        ensures reported { Reports going_on (end_of (state_of self.old).flex (height ∷ x ∷ y ∷ []) (state_of self.old)) result self.new }
+        ensures reported { MakesStep going_on
+            (end_of (state_of self.old).flex (height ∷ x ∷ y ∷ []) (state_of self.old)) result
+            self.new }
         ensures steps { self.new.steps ≡ self.old.steps }
     {
         let before = self.flex.ok_or(Code::F41)?;
@@ -94,7 +100,8 @@ impl State {
 impl State {
     /// The othersubr's effect.
     fn perform(&mut self, effect: Effect) -> Result<(), Halt>
-        ensures reported { Reports going_on (effect_of effect (state_of self.old)) result self.new }
+        ensures reported { MakesStep going_on (effect_of effect (state_of self.old)) result
+            self.new }
         ensures steps { self.new.steps ≡ self.old.steps }
     {
         match effect {
@@ -117,7 +124,8 @@ impl State {
     fn call_with(&mut self, number: usize, count: usize) -> Result<(), Halt>
         requires small { count ≤ 22 }
         requires supported { is_supported_of (pos number) (pos count) ≡ true }
-        ensures reported { Reports going_on (with_of number count (state_of self.old)) result self.new }
+        ensures reported { MakesStep going_on (with_of number count (state_of self.old)) result
+            self.new }
         ensures steps { self.new.steps ≡ self.old.steps }
     {
         let values = self.operands.as_slice();
@@ -135,7 +143,8 @@ impl State {
 
     /// callothersubr, by the count of its arguments and its number.
     pub fn call_other(&mut self, count: Frac, number: Frac) -> Result<(), Halt>
-        ensures reported { Reports going_on (other_of count number (state_of self.old)) result self.new }
+        ensures reported { MakesStep going_on (other_of count number (state_of self.old)) result
+            self.new }
         ensures steps { self.new.steps ≡ self.old.steps }
     {
         check_operand(true, &number)?;

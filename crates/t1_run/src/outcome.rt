@@ -11,7 +11,8 @@ use crate::outline::{Composite, Metric, Point, Segment};
 use crate::state::State;
 use std::marker::Model;
 
-/// What the run of a glyph's own body answered. It is made by `run` and `run_of_body` alone, and can't be cloned.
+/// What the run of a glyph's own body answered. It is made by `run` and `run_of_body` alone, and
+/// can't be cloned.
 #[derive(Drop)]
 pub struct Run {
     metric: Metric,
@@ -111,8 +112,8 @@ impl Run {
         self.entered.as_slice()
     }
 
-    /// The parts of a glyph that ended by seac, the numbers of the Subrs that the run entered, and its segments. It takes no
-    /// memory.
+    /// The parts of a glyph that ended by seac, the numbers of the Subrs that the run entered, and
+    /// its segments. It takes no memory.
     pub fn into_parts(self) -> (Option<Composite>, Entered, Vec<Segment>)
         ensures parts { result.0 ≡ self.drawing.composite }
         ensures entered { result.1 ≡ self.drawing.entered }

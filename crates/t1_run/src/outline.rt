@@ -8,7 +8,8 @@ pub struct Point {
     pub y: Frac,
 }
 
-/// What a glyph draws: a line by its two ends, or a Bézier curve by its ends and the two points between them.
+/// What a glyph draws: a line by its two ends, or a Bézier curve by its ends and the two points
+/// between them.
 #[derive(Clone, Copy, Debug, PartialEq, Eq)]
 pub enum Segment {
     Line(Point, Point),
@@ -22,7 +23,8 @@ pub struct Metric {
     pub width: Point,
 }
 
-/// The operands of seac: the accent's side bearing, the place of its origin, and two codes of StandardEncoding.
+/// The operands of seac: the accent's side bearing, the place of its origin, and two codes of
+/// StandardEncoding.
 #[derive(Clone, Copy)]
 pub struct Accent {
     pub asb: Frac,
@@ -32,7 +34,8 @@ pub struct Accent {
     pub accent: i64,
 }
 
-/// A base and an accent by their glyph names, with the accent's side bearing and the place of its origin.
+/// A base and an accent by their glyph names, with the accent's side bearing and the place of its
+/// origin.
 #[derive(Debug, Drop)]
 pub struct Composite {
     pub base: Bytes,

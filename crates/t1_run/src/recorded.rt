@@ -49,11 +49,17 @@ impl Recorded {
         }
     }
 
+    /// How many points are recorded.
+    pub fn len(&self) -> usize
+        ensures { result ≡ length self.now }
+    {
+        self.points[..self.len].len()
+    }
+
     pub fn is_full(&self) -> bool
         ensures { IsTrue result ↔ (7 ≤ length self.now) }
     {
-        let points = &self.points[..self.len];
-        points.len() >= 7
+        self.len() >= 7
     }
 
     pub fn clear(&mut self)

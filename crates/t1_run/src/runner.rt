@@ -1,6 +1,7 @@
 //! The run of a glyph's own body.
 
-ghost use Rattle.std.specs.Prelude.{◌≡◌, ◌+◌, ◌-◌, ◌^◌, ◌<◌, ◌≤◌, [], ℕ, List, Some, min, IsSome, IfOk, IfSome};
+ghost use Rattle.std.specs.Prelude.{◌≡◌, ◌+◌, ◌-◌, ◌^◌, ◌<◌, ◌≤◌, [], ℕ, List, Some, min, IsSome};
+ghost use Rattle.std.specs.Prelude.{IfOk, IfSome};
 ghost use Rattle.t1_frac.specs.Outcome.{Gives, reported_at};
 ghost use Rattle.t1_code.specs.declared.command.Command.{Command as CommandOf};
 ghost use Rattle.t1_run.specs.Composite.{HasStandardParts};
@@ -20,14 +21,17 @@ use std::alloc::Global;
 use t1_code::Command;
 use t1_frac::{Code, Place, Refusal};
 
-/// Executes commands up to the first that asks for more than the next one: what it asks for, and the commands after it; nothing after
-/// the last command. It stands apart from what asks a font for its bodies, so that a step is compiled once, whatever the font is.
+/// Executes commands up to the first that asks for more than the next one: what it asks for, and
+/// the commands after it; nothing after the last command. It stands apart from what asks a font for
+/// its bodies, so that a step is compiled once, whatever the font is.
 #[inline(never)]
 fn run_commands<'a>(
     state: &mut State,
     body: &'a [Command],
 ) -> Result<Option<(Control, &'a [Command])>, Refusal>
-    ensures comes { (m : FontBodies) (own : List CommandOf) (waiting : List (List CommandOf)) → Continues m own body.now waiting (state_of state.old) → Comes m own waiting result state.new }
+    ensures comes { (m : FontBodies) (own : List CommandOf) (waiting : List (List CommandOf))
+        → Continues m own body.now waiting (state_of state.old)
+        → Comes m own waiting result state.new }
     ensures counted { IfOk result (λ asked. IfSome asked (λ _. state.old.steps < state.new.steps)) }
     ensures kept { IfOk result (λ _. state.old.steps ≤ state.new.steps) }
     ensures bounded { IfOk result (λ asked. IfSome asked (λ _. state.new.steps ≤ 100000)) }
@@ -51,8 +55,8 @@ fn run_commands<'a>(
     }
 }
 
-/// Executes a body, and the Subrs that it calls, up to its endchar or seac: the parts of a glyph that ends by seac. The state isn't
-/// owned here, so that no way out of the loop has to drop it.
+/// Executes a body, and the Subrs that it calls, up to its endchar or seac: the parts of a glyph
+/// that ends by seac. The state isn't owned here, so that no way out of the loop has to drop it.
 fn run_words<'a, B: Bodies>(
     alloc: Global,
     bodies: &'a B,
@@ -60,7 +64,9 @@ fn run_words<'a, B: Bodies>(
     state: &mut State,
 ) -> Result<Option<Composite>, Refusal>
     requires { state_of state.old ≡ initial }
-    ensures ends { Ends (outcome_of (body_stop (font (B.subrs bodies.now) (B.glyphs bodies.now)) body.now)) result state.new }
+    ensures ends { Ends
+        (outcome_of (body_stop (font (B.subrs bodies.now) (B.glyphs bodies.now)) body.now))
+        result state.new }
     ensures parts { IfOk result (λ composite. IfSome composite HasStandardParts) }
 {
     let mut returns = ReturnStack::new();
@@ -99,10 +105,10 @@ fn run_body<B: Bodies>(
     serial: u64,
 ) -> Result<Run, Refusal>
     requires { segments.items ≡ [] }
-    ensures drawing { Gives
-        (λ run. run.drawing)
-        result
-        (reported_at Place.Nowhere (outcome_of (body_stop (font (B.subrs bodies.now) (B.glyphs bodies.now)) body.now))) }
+    ensures drawing { Gives (λ run. run.drawing) result
+        (reported_at Place.Nowhere
+        (outcome_of
+        (body_stop (font (B.subrs bodies.now) (B.glyphs bodies.now)) body.now))) }
     ensures serial { IfOk result (λ run. run.serial ≡ serial) }
 {
     let mut state = State::new(alloc, segments);
@@ -111,9 +117,10 @@ fn run_body<B: Bodies>(
     Ok(Run::ended(state, metric, composite, serial))
 }
 
-/// Runs the own body of a glyph of the font, exactly. The answer is what it draws, or its first fault, at no place. Of a body that
-/// is no glyph's of the font nothing is said but the counts. The meter counts the run either way, and the run's serial is its new
-/// count. Its segments are drawn into the room, which is emptied first, so that the memory of one run serves the next.
+/// Runs the own body of a glyph of the font, exactly. The answer is what it draws, or its first
+/// fault, at no place. Of a body that is no glyph's of the font nothing is said but the counts. The
+/// meter counts the run either way, and the run's serial is its new count. Its segments are drawn
+/// into the room, which is emptied first, so that the memory of one run serves the next.
 #[tactic(auto, unfolding(crate::specs::Run::own))]
 pub fn run_of_body<B: Bodies>(
     alloc: Global,
@@ -122,7 +129,9 @@ pub fn run_of_body<B: Bodies>(
     room: Vec<Segment>,
     meter: &mut Meter,
 ) -> Result<Run, Refusal>
-    ensures outcome { (name : List ℕ) → B.glyphs bodies.now name ≡ Some body.now → GivesOwn result (own (font (B.subrs bodies.now) (B.glyphs bodies.now)) name) }
+    ensures outcome { (name : List ℕ)
+        → B.glyphs bodies.now name ≡ Some body.now
+        → GivesOwn result (own (font (B.subrs bodies.now) (B.glyphs bodies.now)) name) }
     ensures serial { IfOk result (λ run. run.serial ≡ meter.new) }
     ensures counted { meter.new ≡ min (meter.old + 1) (2 ^ 64 - 1) }
 {
@@ -141,7 +150,8 @@ pub fn run<B: StoredBodies>(
     meter: &mut Meter,
 ) -> Result<Run, Refusal>
     requires { IsSome (B.glyphs bodies.now name.now) }
-    ensures outcome { GivesOwn result (own (font (B.subrs bodies.now) (B.glyphs bodies.now)) name.now) }
+    ensures outcome { GivesOwn result
+        (own (font (B.subrs bodies.now) (B.glyphs bodies.now)) name.now) }
     ensures serial { IfOk result (λ run. run.serial ≡ meter.new) }
     ensures counted { meter.new ≡ min (meter.old + 1) (2 ^ 64 - 1) }
 {

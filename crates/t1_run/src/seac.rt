@@ -3,7 +3,7 @@
 ghost use Rattle.std.specs.Prelude.{◌≡◌};
 ghost use Rattle.std.specs.Option.{option_map};
 ghost use Rattle.t1_frac.specs.Outcome.{Gives, reported_at};
-ghost use Rattle.t1_run.specs.Run.{encoded as encoded_of, composite_of};
+ghost use Rattle.t1_run.specs.Run.{standard_glyph as standard_glyph_of, composite_of};
 
 use crate::bodies::Bodies;
 use crate::outline::{Accent, Composite};
@@ -12,8 +12,8 @@ use t1_code::standard_name;
 use t1_frac::{Bytes, Code, Place, Refusal};
 
 /// The glyph name of a code of StandardEncoding.
-fn encoded(code: i64) -> Option<&'static str>
-    ensures { option_map (λ name. name.now) result ≡ encoded_of code }
+pub fn standard_glyph(code: i64) -> Option<&'static str>
+    ensures { option_map (λ name. name.now) result ≡ standard_glyph_of code }
 {
     if code < 0 || code > 255 {
         return None;
@@ -21,17 +21,18 @@ fn encoded(code: i64) -> Option<&'static str>
     standard_name(code as u8)
 }
 
-/// The parts of a composite. It is F44 where the base's code, then the accent's, has no name, and F45 where the font
-/// lacks the base, then the accent.
+/// The parts of a composite. It is F44 where the base's code, then the accent's, has no name, and
+/// F45 where the font lacks the base, then the accent.
 pub fn find_parts<B: Bodies>(
     alloc: Global,
     bodies: &B,
     accent: &Accent,
 ) -> Result<Composite, Refusal>
-    ensures { Gives (λ parts. parts) result (reported_at Place.Nowhere (composite_of (B.glyphs bodies.now) accent.now)) }
+    ensures { Gives (λ parts. parts) result
+        (reported_at Place.Nowhere (composite_of (B.glyphs bodies.now) accent.now)) }
 {
-    let base_name = encoded(accent.base).ok_or(Code::F44)?.as_bytes();
-    let accent_name = encoded(accent.accent).ok_or(Code::F44)?.as_bytes();
+    let base_name = standard_glyph(accent.base).ok_or(Code::F44)?.as_bytes();
+    let accent_name = standard_glyph(accent.accent).ok_or(Code::F44)?.as_bytes();
     if !bodies.has_glyph(base_name) || !bodies.has_glyph(accent_name) {
         return Err(Refusal::from(Code::F45));
     }

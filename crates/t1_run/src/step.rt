@@ -1,14 +1,17 @@
 //! One word of a charstring.
 
-ghost use Rattle.std.specs.Prelude.{◌≡◌, ◌∷◌, ◌+◌, ◌≤◌, List, OnOk, IfErr, IfSome, true, false, None, length};
+ghost use Rattle.std.specs.Prelude.{◌≡◌, ◌∷◌, ◌+◌, ◌≤◌, List, OnOk, IfErr, IfSome, true, false};
+ghost use Rattle.std.specs.Prelude.{None, length};
 ghost use Rattle.t1_code.specs.declared.command.Command.{Command as CommandOf};
 ghost use Rattle.t1_run.specs.Continuing.{Continues};
 ghost use Rattle.t1_run.specs.Dispatch.{next_word_follows, pushes_value};
 ghost use Rattle.t1_run.specs.Run.{FontBodies};
 ghost use Rattle.t1_frac.specs.Limits.{exceeds};
-ghost use Rattle.t1_run.specs.Machine.{state_of, going_on, answered, reported, Reports};
-ghost use Rattle.t1_run.specs.Operands.{topmost, below, takes as takes_of, is_whole, operand_faults};
-ghost use Rattle.t1_run.specs.Step.{push as push_of, pop_result as pop_of, divide as divide_of, call as call_of, Call, Compose, Fault, with_stack};
+ghost use Rattle.t1_run.specs.Machine.{state_of, going_on, answered, asked_step, MakesStep};
+ghost use Rattle.t1_run.specs.Operands.{topmost, below, takes as takes_of, is_whole};
+ghost use Rattle.t1_run.specs.Operands.{operand_faults};
+ghost use Rattle.t1_run.specs.Step.{push as push_of, pop_result as pop_of, divide as divide_of};
+ghost use Rattle.t1_run.specs.Step.{call as call_of, Call, Compose, Fault, with_stack};
 ghost use Rattle.t1_code.specs.declared.command.Command.TheVariants as Commands;
 ghost use Rattle.t1_run.specs.Words.{step as step_of, execute as execute_of, rule as rule_of};
 
@@ -22,10 +25,14 @@ use t1_frac::{Code, Frac};
 /// How many words a run executes.
 const MAX_STEPS: u32 = 100_000;
 
-/// The numbers that some commands begin with, where a div of both comes next, and the commands after it.
+/// The numbers that some commands begin with, where a div of both comes next, and the commands
+/// after it.
 #[inline(always)]
 fn first_quotient(commands: &[Command]) -> Option<(i32, i32, &[Command])>
-    ensures { IfSome result (λ found. commands.now ≡ Commands.Num found.0 ∷ Commands.Num found.1 ∷ Commands.Div ∷ found.2.now) }
+    ensures { IfSome result
+        (λ found.
+        commands.now
+        ≡ Commands.Num found.0 ∷ Commands.Num found.1 ∷ Commands.Div ∷ found.2.now) }
 {
     let Some((front, tail)) = commands.split_first_chunk::<3>() else {
         return None;
@@ -42,7 +49,8 @@ impl State {
     /// Pushes a value.
     #[inline(always)]
     fn push(&mut self, value: Frac) -> Result<(), Code>
-        ensures reported { push_of value (state_of self.old) ≡ answered going_on result (state_of self.new) }
+        ensures reported { push_of value (state_of self.old)
+            ≡ answered going_on result (state_of self.new) }
         ensures steps { self.new.steps ≡ self.old.steps }
     {
         if self.operands.as_slice().len() >= 24 {
@@ -55,7 +63,8 @@ impl State {
     /// Takes a result.
     #[inline(always)]
     fn pop_result(&mut self) -> Result<(), Code>
-        ensures reported { pop_of self.old.results (state_of self.old) ≡ answered going_on result (state_of self.new) }
+        ensures reported { pop_of self.old.results (state_of self.old)
+            ≡ answered going_on result (state_of self.new) }
         ensures steps { self.new.steps ≡ self.old.steps }
     {
         let Some(value) = self.results.pop() else {
@@ -68,7 +77,8 @@ impl State {
     #[inline(always)]
     fn divide(&mut self, dividend: Frac, divisor: Frac) -> Result<(), Code>
         requires { 2 ≤ length self.old.operands }
-        ensures reported { divide_of dividend divisor (state_of self.old) ≡ answered going_on result (state_of self.new) }
+        ensures reported { divide_of dividend divisor (state_of self.old)
+            ≡ answered going_on result (state_of self.new) }
         ensures steps { self.new.steps ≡ self.old.steps }
     {
         let quotient = dividend.div(&divisor)?;
@@ -84,7 +94,9 @@ impl State {
         requires some { 1 ≤ length self.old.operands }
         requires whole { is_whole number ≡ true }
         requires small { exceeds 32000 number ≡ false }
-        ensures reported { call_of number.num (with_stack (below 1 (state_of self.old).stack) (state_of self.old)) ≡ answered Call result (state_of self.new) }
+        ensures reported { call_of number.num
+            (with_stack (below 1 (state_of self.old).stack) (state_of self.old))
+            ≡ answered Call result (state_of self.new) }
         ensures steps { self.new.steps ≡ self.old.steps }
     {
         let number = number.num();
@@ -100,7 +112,8 @@ impl State {
     #[inline(always)]
     fn compose(&mut self) -> Accent
         requires { 5 ≤ length self.old.operands }
-        ensures reported { rule_of Command.Seac (topmost 5 self.old.operands) (state_of self.old) ≡ Compose result (state_of self.new) }
+        ensures reported { rule_of Command.Seac (topmost 5 self.old.operands) (state_of self.old)
+            ≡ Compose result (state_of self.new) }
         ensures steps { self.new.steps ≡ self.old.steps }
     {
         let [asb, adx, ady, base, accent] = self.operands.topmost::<5>();
@@ -119,7 +132,9 @@ impl State {
     fn compute(&mut self, command: Command) -> Result<(), Code>
         requires kind { pushes_value command ≡ true }
         requires enough { takes_of command ≤ length self.old.operands }
-        ensures reported { rule_of command (topmost (takes_of command) self.old.operands) (state_of self.old) ≡ answered going_on result (state_of self.new) }
+        ensures reported { rule_of command (topmost (takes_of command) self.old.operands)
+            (state_of self.old)
+            ≡ answered going_on result (state_of self.new) }
         ensures steps { self.new.steps ≡ self.old.steps }
     {
         match command {
@@ -138,7 +153,9 @@ impl State {
     fn carry_out(&mut self, command: Command) -> Result<(), Halt>
         requires kind { next_word_follows command ≡ true }
         requires enough { takes_of command ≤ length self.old.operands }
-        ensures reported { Reports going_on (rule_of command (topmost (takes_of command) self.old.operands) (state_of self.old)) result self.new }
+        ensures reported { MakesStep going_on
+            (rule_of command (topmost (takes_of command) self.old.operands) (state_of self.old))
+            result self.new }
         ensures steps { self.new.steps ≡ self.old.steps }
     {
         match command {
@@ -177,8 +194,11 @@ impl State {
     fn ask(&mut self, command: Command) -> Result<Control, Code>
         requires kind { next_word_follows command ≡ false }
         requires enough { takes_of command ≤ length self.old.operands }
-        requires faultless { operand_faults command (topmost (takes_of command) self.old.operands) ≡ None }
-        ensures reported { rule_of command (topmost (takes_of command) self.old.operands) (state_of self.old) ≡ answered reported result (state_of self.new) }
+        requires faultless { operand_faults command (topmost (takes_of command) self.old.operands)
+            ≡ None }
+        ensures reported { rule_of command (topmost (takes_of command) self.old.operands)
+            (state_of self.old)
+            ≡ answered asked_step result (state_of self.new) }
         ensures steps { self.new.steps ≡ self.old.steps }
     {
         match command {
@@ -200,9 +220,14 @@ impl State {
     #[inline(always)]
     fn test(&self, command: Command) -> Result<(), Code>
         ensures enough { OnOk result (takes_of command ≤ length self.now.operands) }
-        ensures faultless { OnOk result (operand_faults command (topmost (takes_of command) self.now.operands) ≡ None) }
-        ensures passed { OnOk result (execute_of command (state_of self.now) ≡ rule_of command (topmost (takes_of command) self.now.operands) (state_of self.now)) }
-        ensures refused { IfErr result (λ code. execute_of command (state_of self.now) ≡ Fault code) }
+        ensures faultless { OnOk result
+            (operand_faults command (topmost (takes_of command) self.now.operands) ≡ None) }
+        ensures passed { OnOk result
+            (execute_of command (state_of self.now)
+            ≡ rule_of command (topmost (takes_of command) self.now.operands)
+            (state_of self.now)) }
+        ensures refused { IfErr result
+            (λ code. execute_of command (state_of self.now) ≡ Fault code) }
     {
         let values = self.operands.as_slice();
         let count = takes(command);
@@ -224,19 +249,21 @@ impl State {
     #[inline(always)]
     fn execute(&mut self, command: Command) -> Result<(), Halt>
         requires kind { next_word_follows command ≡ true }
-        ensures reported { Reports going_on (execute_of command (state_of self.old)) result self.new }
+        ensures reported { MakesStep going_on (execute_of command (state_of self.old)) result
+            self.new }
         ensures steps { self.new.steps ≡ self.old.steps }
     {
         self.test(command)?;
         self.carry_out(command)
     }
 
-    /// The same. The commands that fonts have most are named, so that the compiler knows which tests each of them has, and
-    /// which rule comes after them.
+    /// The same. The commands that fonts have most are named, so that the compiler knows which
+    /// tests each of them has, and which rule comes after them.
     #[inline(always)]
     fn execute_by_name(&mut self, command: Command) -> Result<(), Halt>
         requires kind { next_word_follows command ≡ true }
-        ensures reported { Reports going_on (execute_of command (state_of self.old)) result self.new }
+        ensures reported { MakesStep going_on (execute_of command (state_of self.old)) result
+            self.new }
         ensures steps { self.new.steps ≡ self.old.steps }
     {
         match command {
@@ -255,11 +282,13 @@ impl State {
         }
     }
 
-    /// Pushes the numbers at the front of some commands that there is room for, while the run may make steps: the commands after
-    /// them. Counts are kept in registers meanwhile.
+    /// Pushes the numbers at the front of some commands that there is room for, while the run may
+    /// make steps: the commands after them. Counts are kept in registers meanwhile.
     #[inline(always)]
     fn push_numbers<'a>(&mut self, commands: &'a [Command]) -> &'a [Command]
-        ensures goes { (m : FontBodies) (own : List CommandOf) (waiting : List (List CommandOf)) → Continues m own commands.now waiting (state_of self.old) → Continues m own result.now waiting (state_of self.new) }
+        ensures goes { (m : FontBodies) (own : List CommandOf) (waiting : List (List CommandOf))
+            → Continues m own commands.now waiting (state_of self.old)
+            → Continues m own result.now waiting (state_of self.new) }
         ensures kept { self.old.steps ≤ self.new.steps }
         ensures left { length result.now ≤ length commands.now }
     {
@@ -270,11 +299,15 @@ impl State {
         rest
     }
 
-    /// Pushes the quotient of two numbers, as the three steps of both and of a div do. Where there is no room for these, or a fault,
-    /// the state stays as it was.
+    /// Pushes the quotient of two numbers, as the three steps of both and of a div do. Where there
+    /// is no room for these, or a fault, the state stays as it was.
     #[inline(always)]
     fn push_quotient(&mut self, dividend: i32, divisor: i32) -> bool
-        ensures pushed { result ≡ true → (m : FontBodies) (own rest : List CommandOf) (waiting : List (List CommandOf)) → Continues m own (Commands.Num dividend ∷ Commands.Num divisor ∷ Commands.Div ∷ rest) waiting (state_of self.old) → Continues m own rest waiting (state_of self.new) }
+        ensures pushed { result ≡ true
+            → (m : FontBodies) (own rest : List CommandOf) (waiting : List (List CommandOf))
+            → Continues m own (Commands.Num dividend ∷ Commands.Num divisor ∷ Commands.Div ∷ rest)
+            waiting (state_of self.old)
+            → Continues m own rest waiting (state_of self.new) }
         ensures refused { result ≡ false → state_of self.new ≡ state_of self.old }
         ensures kept { self.old.steps ≤ self.new.steps }
     {
@@ -289,11 +322,14 @@ impl State {
         true
     }
 
-    /// Pushes the quotients at the front of some commands, each of two numbers and a div, that there is room for and that have no
-    /// fault, while the run may make steps: the commands after them. A font whose coordinates have fractions writes each of them so.
+    /// Pushes the quotients at the front of some commands, each of two numbers and a div, that
+    /// there is room for and that have no fault, while the run may make steps: the commands after
+    /// them. A font whose coordinates have fractions writes each of them so.
     #[inline(always)]
     fn push_quotients<'a>(&mut self, commands: &'a [Command]) -> &'a [Command]
-        ensures goes { (m : FontBodies) (own : List CommandOf) (waiting : List (List CommandOf)) → Continues m own commands.now waiting (state_of self.old) → Continues m own result.now waiting (state_of self.new) }
+        ensures goes { (m : FontBodies) (own : List CommandOf) (waiting : List (List CommandOf))
+            → Continues m own commands.now waiting (state_of self.old)
+            → Continues m own result.now waiting (state_of self.new) }
         ensures kept { self.old.steps ≤ self.new.steps }
         ensures left { length result.now ≤ length commands.now }
     {
@@ -309,11 +345,13 @@ impl State {
         }
     }
 
-    /// Pushes the quotients and the numbers that some commands begin with, as far as there is room for them and the run may make steps:
-    /// the commands after them.
+    /// Pushes the quotients and the numbers that some commands begin with, as far as there is room
+    /// for them and the run may make steps: the commands after them.
     #[inline(always)]
     pub fn push_values<'a>(&mut self, commands: &'a [Command]) -> &'a [Command]
-        ensures goes { (m : FontBodies) (own : List CommandOf) (waiting : List (List CommandOf)) → Continues m own commands.now waiting (state_of self.old) → Continues m own result.now waiting (state_of self.new) }
+        ensures goes { (m : FontBodies) (own : List CommandOf) (waiting : List (List CommandOf))
+            → Continues m own commands.now waiting (state_of self.old)
+            → Continues m own result.now waiting (state_of self.new) }
         ensures kept { self.old.steps ≤ self.new.steps }
         ensures left { length result.now ≤ length commands.now }
     {
@@ -324,7 +362,8 @@ impl State {
     /// A number: F47 where a run has made its last step already, then F31 past 24 values.
     #[inline(always)]
     pub fn step_by_number(&mut self, number: i32) -> Result<(), Halt>
-        ensures reported { Reports going_on (step_of (Commands.Num number) (state_of self.old)) result self.new }
+        ensures reported { MakesStep going_on (step_of (Commands.Num number) (state_of self.old))
+            result self.new }
         ensures counted { OnOk result (self.new.steps ≡ self.old.steps + 1) }
         ensures bounded { OnOk result (self.new.steps ≤ 100000) }
     {
@@ -339,7 +378,8 @@ impl State {
     #[inline(always)]
     pub fn step_on(&mut self, command: Command) -> Result<(), Halt>
         requires kind { next_word_follows command ≡ true }
-        ensures reported { Reports going_on (step_of command (state_of self.old)) result self.new }
+        ensures reported { MakesStep going_on (step_of command (state_of self.old)) result
+            self.new }
         ensures counted { OnOk result (self.new.steps ≡ self.old.steps + 1) }
         ensures bounded { OnOk result (self.new.steps ≤ 100000) }
     {
@@ -350,11 +390,13 @@ impl State {
         self.execute_by_name(command)
     }
 
-    /// A command that asks for more than the next word: F47 where a run has made its last step already.
+    /// A command that asks for more than the next word: F47 where a run has made its last step
+    /// already.
     #[inline(always)]
     pub fn step_asking(&mut self, command: Command) -> Result<Control, Halt>
         requires kind { next_word_follows command ≡ false }
-        ensures reported { Reports reported (step_of command (state_of self.old)) result self.new }
+        ensures reported { MakesStep asked_step (step_of command (state_of self.old)) result
+            self.new }
         ensures counted { OnOk result (self.new.steps ≡ self.old.steps + 1) }
         ensures bounded { OnOk result (self.new.steps ≤ 100000) }
     {

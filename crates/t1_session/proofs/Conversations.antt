@@ -13,8 +13,8 @@ use Rattle.t1_commands.specs.Commands.{Opening, commands_of, takes_body, alone, 
 use Rattle.t1_commands.specs.AnswerTexts.{answer_text}
 use Rattle.t1_commands.specs.Answers.{answers, answer_to}
 use Rattle.t1_session.specs.Machine.{machine}
-use Rattle.t1_session.specs.State.{State}
-use Rattle.t1_session.specs.Conversation.{Conversation, commands_from, input_after, is_unbroken, Performs, Goes, Grows, IsQuiet, AnswersCommand, LineGoes, EndsCommandLine, IsBodyLine, EndsLine, Answered, StopsForMemory, Feeds, Ends}
+use Rattle.t1_session.specs.State.{SessionState}
+use Rattle.t1_session.specs.Conversation.{Conversation, commands_from, input_after, is_unbroken, Performs, Goes, Grows, IsQuiet, AnswersCommand, LineGoes, EndsCommandLine, IsBodyLine, EndsLine, Answered, StopsForMemory, Feeds, AnswersTheEnd}
 use Rattle.t1_session.specs.LineEnds.{ends_line, ends_in_return}
 use Rattle.t1_session.proofs.Flushing.{flushes-none, flushes-append, flushes-fails}
 use Rattle.t1_session.proofs.LineLaws.{finished_lines-line, finished_lines-unbroken, finished_lines-last, last_line, unified-byte, unified-end, is_unbroken-push}
@@ -32,13 +32,13 @@ pub quiet : (c : Conversation) → is_unbroken c.line ≡ true → IsQuiet c
 unfolding commands_from
 quiet c h = rw (silent c.after_return, append-nil c.line, finished_lines-unbroken c.line h, none_more c.opening) refl
 
-Performs-none : (s : State) → Performs s s [] []
+Performs-none : (s : SessionState) → Performs s s [] []
 Performs-none s = record { marks = []; on = λ rest more. refl }
 
-Performs-one : (s new : State) (q : Command) (mark : Bool) → new ≡ (answer_to machine s q mark).next → Performs s new (q ∷ []) (answer_text (answer_to machine s q mark).answer)
+Performs-one : (s new : SessionState) (q : Command) (mark : Bool) → new ≡ (answer_to machine s q mark).next → Performs s new (q ∷ []) (answer_text (answer_to machine s q mark).answer)
 Performs-one s new q mark next = record { marks = mark ∷ []; on = λ rest more. rw next refl }
 
-Performs-both : (a b c : State) (made others : List Command) (t u : List ℕ) → Performs a b made t → Performs b c others u → Performs a c (made ++ others) (t ++ u)
+Performs-both : (a b c : SessionState) (made others : List Command) (t u : List ℕ) → Performs a b made t → Performs b c others u → Performs a c (made ++ others) (t ++ u)
 Performs-both a b c made others t u p q = record {
   marks = p.marks ++ q.marks;
   on = λ rest more.
@@ -239,15 +239,15 @@ module _ {W : Type 0} (contents : W → Option (List ℕ)) where
   EndsLine-command c new before after (Err (errors.Load fault)) e = absurd e
 
   -- the end of the input makes one command
-  pub Ends-answered : {T : Type 0} (c : Conversation) (new : State) (before after : Tally W) (q : Command) (r : Result T ServeError)
-      → commands_from c [] true ≡ q ∷ [] → AnswersCommand contents c.state new before after q r → Ends contents c before after r
+  pub Ends-answered : {T : Type 0} (c : Conversation) (new : SessionState) (before after : Tally W) (q : Command) (r : Result T ServeError)
+      → commands_from c [] true ≡ q ∷ [] → AnswersCommand contents c.state new before after q r → AnswersTheEnd contents c before after r
   Ends-answered c new before after q r one p =
       let text = answer_text (answer_to machine c.state q p.mark).answer in
       let all : answers machine c.state (commands_from c [] true) (p.mark ∷ []) ≡ text = rw one (append-nil text) in
       record { marks = p.mark ∷ []; sends = rw all p.sends }
 
   -- the end of the input makes none
-  pub Ends-nothing : (c : Conversation) (sink : Tally W) → commands_from c [] true ≡ [] → Ends {T = Unit {0}} contents c sink sink (Ok tt)
+  pub Ends-nothing : (c : Conversation) (sink : Tally W) → commands_from c [] true ≡ [] → AnswersTheEnd {T = Unit {0}} contents c sink sink (Ok tt)
   Ends-nothing c sink none = record { marks = []; sends = rw none (flushes-none contents sink) }
 
   -- a failed call after a first part that was taken

@@ -29,7 +29,7 @@ use Rattle.t1_commands.specs.Answers.{Performed}
 use Rattle.t1_session.specs.declared.refused.Refused.{Refused}
 use Rattle.t1_session.specs.Machine.{abort_in, after_want, alone, begin_in, blocks_answer, commit_in, drafted, edit_in, file_answer, judged, machine, may_want_memory, noted, opened, opening_state, outcome, perform, query_answer, scratch, taken}
 use Rattle.t1_session.specs.Readable.{AreMade, IsDraftMade, IsFaultless, IsReadable, KeepsFaultless, KeepsReadable, OpensFaultless, OpensReadable, PrintsWithoutFault, ReadsBack, ShowsWithoutFault, TellsNoFault}
-use Rattle.t1_session.specs.State.{State}
+use Rattle.t1_session.specs.State.{SessionState}
 use Rattle.t1_session.specs.Queries.{encoding_text, glyph_text, subr_text}
 use Rattle.t1_outline.proofs.OfSources.{stored, glyph-shown, other-shown}
 use Rattle.std.specs.List.{list_any}
@@ -40,8 +40,8 @@ use Rattle.t1_session.proofs.StateLaws.{asked_scratch, blocks_there, outline_scr
 
 -- ---- after an answer, marked or not
 
-module _ (P : State → Type 0) (without-batch : (s : State) → P s → P (alone s)) (with-refusal : (s : State) (kept : Option Refused) → P s → P (record s { refused = kept })) where
-  after-want : (s : State) (command : Command) → P s → P (after_want s command)
+module _ (P : SessionState → Type 0) (without-batch : (s : SessionState) → P s → P (alone s)) (with-refusal : (s : SessionState) (kept : Option Refused) → P s → P (record s { refused = kept })) where
+  after-want : (s : SessionState) (command : Command) → P s → P (after_want s command)
   after-want s (commands.Edit edit) h = h
   after-want s (commands.Print print) h = h
   after-want s (commands.Show show) h = h
@@ -50,7 +50,7 @@ module _ (P : State → Type 0) (without-batch : (s : State) → P s → P (alon
   after-want s commands.Abort h = h
   after-want s (commands.Broken rule) h = h
 
-  after-note : (s : State) (command : Command) (p : Performed State) → P p.next → P (noted s command p).next
+  after-note : (s : SessionState) (command : Command) (p : Performed SessionState) → P p.next → P (noted s command p).next
   after-note s (commands.Edit edit) p h = with-refusal p.next _ h
   after-note s (commands.Print print) p h = h
   after-note s (commands.Show show) p h = h
@@ -59,7 +59,7 @@ module _ (P : State → Type 0) (without-batch : (s : State) → P s → P (alon
   after-note s commands.Abort p h = with-refusal p.next _ h
   after-note s (commands.Broken rule) p h = h
 
-  after-answer : ((s : State) (command : Command) → P s → P (outcome s command).next) → (s : State) (command : Command) (mark : Bool) → P s → P (answer_to machine s command mark).next
+  after-answer : ((s : SessionState) (command : Command) → P s → P (outcome s command).next) → (s : SessionState) (command : Command) (mark : Bool) → P s → P (answer_to machine s command mark).next
   unfolding perform
   after-answer performed s command mark h =
       elim (cases_Bool (mark && may_want_memory s command)) [
@@ -69,8 +69,8 @@ module _ (P : State → Type 0) (without-batch : (s : State) → P s → P (alon
 
 -- ---- no fault
 
-opened-faultless : (parts : SourceParts) (k : List Pair) (r : Result (Unit {0}) Fault) (s : State) → source_check parts ≡ r
-    → ◌≡◌ {A = Result State Fault} (r >>= λ checked. Ok (opening_state parts k)) (Ok s) → IsFaultless s
+opened-faultless : (parts : SourceParts) (k : List Pair) (r : Result (Unit {0}) Fault) (s : SessionState) → source_check parts ≡ r
+    → ◌≡◌ {A = Result SessionState Fault} (r >>= λ checked. Ok (opening_state parts k)) (Ok s) → IsFaultless s
 opened-faultless parts k (Ok checked) s e h =
     let same : opening_state parts k ≡ s = cc in subst IsFaultless same e
 opened-faultless parts k (Err fault) s e h = absurd (cc)
@@ -78,35 +78,35 @@ opened-faultless parts k (Err fault) s e h = absurd (cc)
 pub opens_faultless : OpensFaultless
 opens_faultless source kerning s h = opened-faultless source kerning (source_check source) s refl h
 
-judged-faultless : (s : State) (made : SourceParts × List Pair) (r : Result (Unit {0}) Fault) → source_check made.0 ≡ r → IsFaultless s → IsFaultless (judged s made r).next
+judged-faultless : (s : SessionState) (made : SourceParts × List Pair) (r : Result (Unit {0}) Fault) → source_check made.0 ≡ r → IsFaultless s → IsFaultless (judged s made r).next
 judged-faultless s made (Ok checked) e h = e
 judged-faultless s made (Err fault) e h = h
 
-taken-faultless : (s : State) (r : Result (SourceParts × List Pair) Rule) → IsFaultless s → IsFaultless (taken s r).next
+taken-faultless : (s : SessionState) (r : Result (SourceParts × List Pair) Rule) → IsFaultless s → IsFaultless (taken s r).next
 taken-faultless s (Ok made) h = judged-faultless s made (source_check made.0) refl h
 taken-faultless s (Err rule) h = h
 
-drafted-faultless : (s : State) (entries : List EntryEdit) (r : Result (SourceParts × List Pair) Rule) → IsFaultless s → IsFaultless (drafted s entries r).next
+drafted-faultless : (s : SessionState) (entries : List EntryEdit) (r : Result (SourceParts × List Pair) Rule) → IsFaultless s → IsFaultless (drafted s entries r).next
 drafted-faultless s entries (Ok made) h = h
 drafted-faultless s entries (Err rule) h = h
 
-edit-faultless : (b : Option Draft) (s : State) (edit : Edit) → IsFaultless s → IsFaultless (edit_in b s edit).next
+edit-faultless : (b : Option Draft) (s : SessionState) (edit : Edit) → IsFaultless s → IsFaultless (edit_in b s edit).next
 edit-faultless None s edit h = taken-faultless s (edited s.source s.pairs edit) h
 edit-faultless (Some d) s edit h = drafted-faultless s (d.entries ++ edited_entries edit) (edited d.source d.pairs edit) h
 
-begin-faultless : (b : Option Draft) (s : State) → IsFaultless s → IsFaultless (begin_in b s).next
+begin-faultless : (b : Option Draft) (s : SessionState) → IsFaultless s → IsFaultless (begin_in b s).next
 begin-faultless None s h = h
 begin-faultless (Some d) s h = h
 
-commit-faultless : (b : Option Draft) (s : State) → IsFaultless s → IsFaultless (commit_in b s).next
+commit-faultless : (b : Option Draft) (s : SessionState) → IsFaultless s → IsFaultless (commit_in b s).next
 commit-faultless None s h = h
 commit-faultless (Some d) s h = judged-faultless s (d.source, d.pairs) (source_check d.source) refl h
 
-abort-faultless : (b : Option Draft) (s : State) → IsFaultless s → IsFaultless (abort_in b s).next
+abort-faultless : (b : Option Draft) (s : SessionState) → IsFaultless s → IsFaultless (abort_in b s).next
 abort-faultless None s h = h
 abort-faultless (Some d) s h = h
 
-performed-faultless : (s : State) (command : Command) → IsFaultless s → IsFaultless (outcome s command).next
+performed-faultless : (s : SessionState) (command : Command) → IsFaultless s → IsFaultless (outcome s command).next
 unfolding outcome
 performed-faultless s (commands.Edit edit) h = edit-faultless s.batch s edit h
 performed-faultless s (commands.Print print) h = h
@@ -121,24 +121,24 @@ keeps_faultless = after-answer IsFaultless (λ s h. h) (λ s kept h. h) performe
 
 -- ---- readable
 
-alone-readable : (s : State) → IsReadable s → IsReadable (alone s)
+alone-readable : (s : SessionState) → IsReadable s → IsReadable (alone s)
 alone-readable s h = record { faultless = h.faultless; made = h.made; draft = tt }
 
 pairs_made : (bytes : List ℕ) (k : List Pair) → pairs bytes ≡ Ok k → are_pairs k ≡ true
 unfolding pairs
 pairs_made bytes k e = lines_good 1 (lines bytes) k e
 
-opened-readable : (parts : SourceParts) (k : List Pair) (s : State) → AreMade parts k → opened parts k ≡ Ok s → IsReadable s
+opened-readable : (parts : SourceParts) (k : List Pair) (s : SessionState) → AreMade parts k → opened parts k ≡ Ok s → IsReadable s
 opened-readable parts k s made h =
     let faultless = opens_faultless parts k s h in
     of (source_check parts) refl h
   where
-    of : (r : Result (Unit {0}) Fault) → source_check parts ≡ r → ◌≡◌ {A = Result State Fault} (r >>= λ checked. Ok (opening_state parts k)) (Ok s) → IsReadable s
+    of : (r : Result (Unit {0}) Fault) → source_check parts ≡ r → ◌≡◌ {A = Result SessionState Fault} (r >>= λ checked. Ok (opening_state parts k)) (Ok s) → IsReadable s
     of (Ok checked) e g = let same : opening_state parts k ≡ s = cc in subst IsReadable same (record { faultless = e; made = made; draft = tt })
     of (Err fault) e g = absurd (cc)
 
-loaded-readable : (source kerning : List ℕ) (a : Result SourceParts Fault) (b : Result (List Pair) Fault) (s : State) → reads source ≡ a → pairs kerning ≡ b
-    → ◌≡◌ {A = Result State Fault} (a >>= λ parts. b >>= λ k. opened parts k) (Ok s) → IsReadable s
+loaded-readable : (source kerning : List ℕ) (a : Result SourceParts Fault) (b : Result (List Pair) Fault) (s : SessionState) → reads source ≡ a → pairs kerning ≡ b
+    → ◌≡◌ {A = Result SessionState Fault} (a >>= λ parts. b >>= λ k. opened parts k) (Ok s) → IsReadable s
 loaded-readable source kerning (Ok parts) (Ok k) s read paired h = opened-readable parts k s (source_well_formed source parts read, pairs_made kerning k paired) h
 loaded-readable source kerning (Ok parts) (Err fault) s read paired h = absurd (cc)
 loaded-readable source kerning (Err fault) b s read paired h = absurd (cc)
@@ -150,39 +150,39 @@ opens_readable source kerning s h = loaded-readable source kerning (reads source
 edit-made : (source : SourceParts) (k : List Pair) (edit : Edit) (made : SourceParts × List Pair) → edited source k edit ≡ Ok made → AreMade source k → AreMade made.0 made.1
 edit-made source k edit made e h = (edited_well_formed source k edit made.0 made.1 h.0 e, edited_pairs source k edit made.0 made.1 h.1 e)
 
-judged-readable : (s : State) (made : SourceParts × List Pair) (r : Result (Unit {0}) Fault) → source_check made.0 ≡ r → AreMade made.0 made.1 → IsReadable s → IsReadable (judged s made r).next
+judged-readable : (s : SessionState) (made : SourceParts × List Pair) (r : Result (Unit {0}) Fault) → source_check made.0 ≡ r → AreMade made.0 made.1 → IsReadable s → IsReadable (judged s made r).next
 judged-readable s made (Ok checked) e m h = record { faultless = e; made = m; draft = tt }
 judged-readable s made (Err fault) e m h = alone-readable s h
 
-taken-readable : (s : State) (edit : Edit) (r : Result (SourceParts × List Pair) Rule) → edited s.source s.pairs edit ≡ r → IsReadable s → IsReadable (taken s r).next
+taken-readable : (s : SessionState) (edit : Edit) (r : Result (SourceParts × List Pair) Rule) → edited s.source s.pairs edit ≡ r → IsReadable s → IsReadable (taken s r).next
 taken-readable s edit (Ok made) e h = judged-readable s made (source_check made.0) refl (edit-made s.source s.pairs edit made e h.made) h
 taken-readable s edit (Err rule) e h = h
 
-drafted-readable : (s : State) (d : Draft) (entries : List EntryEdit) (edit : Edit) (r : Result (SourceParts × List Pair) Rule) → edited d.source d.pairs edit ≡ r
+drafted-readable : (s : SessionState) (d : Draft) (entries : List EntryEdit) (edit : Edit) (r : Result (SourceParts × List Pair) Rule) → edited d.source d.pairs edit ≡ r
     → AreMade d.source d.pairs → IsReadable s → IsReadable (drafted s entries r).next
 drafted-readable s d entries edit (Ok made) e m h = record { faultless = h.faultless; made = h.made; draft = edit-made d.source d.pairs edit made e m }
 drafted-readable s d entries edit (Err rule) e m h = h
 
-edit-readable : (b : Option Draft) (s : State) (edit : Edit) → IsDraftMade b → IsReadable s → IsReadable (edit_in b s edit).next
+edit-readable : (b : Option Draft) (s : SessionState) (edit : Edit) → IsDraftMade b → IsReadable s → IsReadable (edit_in b s edit).next
 edit-readable None s edit m h = taken-readable s edit (edited s.source s.pairs edit) refl h
 edit-readable (Some d) s edit m h = drafted-readable s d (d.entries ++ edited_entries edit) edit (edited d.source d.pairs edit) refl m h
 
-begin-readable : (b : Option Draft) (s : State) → IsReadable s → IsReadable (begin_in b s).next
+begin-readable : (b : Option Draft) (s : SessionState) → IsReadable s → IsReadable (begin_in b s).next
 begin-readable None s h = record { faultless = h.faultless; made = h.made; draft = h.made }
 begin-readable (Some d) s h = h
 
-commit-readable : (b : Option Draft) (s : State) → IsDraftMade b → IsReadable s → IsReadable (commit_in b s).next
+commit-readable : (b : Option Draft) (s : SessionState) → IsDraftMade b → IsReadable s → IsReadable (commit_in b s).next
 commit-readable None s m h = h
 commit-readable (Some d) s m h = judged-readable s (d.source, d.pairs) (source_check d.source) refl m h
 
-abort-readable : (b : Option Draft) (s : State) → IsReadable s → IsReadable (abort_in b s).next
+abort-readable : (b : Option Draft) (s : SessionState) → IsReadable s → IsReadable (abort_in b s).next
 abort-readable None s h = h
 abort-readable (Some d) s h = alone-readable s h
 
-noted-readable : (s : State) (kept : Option Refused) → IsReadable s → IsReadable (record s { refused = kept })
+noted-readable : (s : SessionState) (kept : Option Refused) → IsReadable s → IsReadable (record s { refused = kept })
 noted-readable s kept h = record { faultless = h.faultless; made = h.made; draft = h.draft }
 
-performed-readable : (s : State) (command : Command) → IsReadable s → IsReadable (outcome s command).next
+performed-readable : (s : SessionState) (command : Command) → IsReadable s → IsReadable (outcome s command).next
 unfolding outcome
 performed-readable s (commands.Edit edit) h = edit-readable s.batch s edit h.draft h
 performed-readable s (commands.Print print) h = h
@@ -203,7 +203,7 @@ reads_back s h = (source_again s.source h.made.0 (counts_checked s.source h.faul
 tells-none : (r : Result (List ℕ) Fault) → (file : List ℕ) × (r ≡ Ok file) → TellsNoFault (file_answer r)
 tells-none r file = rw file.1 tt
 
-blocks-tell-none : (s : State) (size : Option ℕ) → IsReadable s → TellsNoFault (blocks_answer s size)
+blocks-tell-none : (s : SessionState) (size : Option ℕ) → IsReadable s → TellsNoFault (blocks_answer s size)
 blocks-tell-none s None h = tt
 blocks-tell-none s (Some size) h = let back = reads_back s h in tells-none _ (blocks_there s h.faultless back.0 back.1 size)
 

@@ -21,16 +21,16 @@ use Rattle.t1_cache.specs.Edited.{stale}
 use Rattle.t1_rerun.specs.Renewing.{IsRunWhereStale}
 use Rattle.t1_session.specs.Reruns.{Edition, Reruns}
 use Rattle.t1_session.specs.RerunsByTest.{RerunsByTest}
-use Rattle.t1_session.specs.State.{SessionView, State}
+use Rattle.t1_session.specs.State.{SessionView, SessionState}
 
 -- a state with this kept of a refusal
-abbrev told : State → Option Refused → State
+abbrev told : SessionState → Option Refused → SessionState
 told s kept = record s { refused = kept }
 
-answered : (faulty : Option Refused) (p : Performed State) (a : Answer) → p.answer ≡ a → told p.next (kept_by faulty p.next.refused a) ≡ (keeping faulty p).next
+answered : (faulty : Option Refused) (p : Performed SessionState) (a : Answer) → p.answer ≡ a → told p.next (kept_by faulty p.next.refused a) ≡ (keeping faulty p).next
 answered faulty p a is = ap (λ (x : Answer). told p.next (kept_by faulty p.next.refused x)) (sym is)
 
-pub took_noted : {T : Type 0} (old mid new : State) (p : Performed State) (may : Bool) (want : State) (faulty : Option Refused) (r : Result T Cause)
+pub took_noted : {T : Type 0} (old mid new : SessionState) (p : Performed SessionState) (may : Bool) (want : SessionState) (faulty : Option Refused) (r : Result T Cause)
     → Took old p may want r mid → new ≡ record mid { refused = refused_after faulty mid.refused r } → TookNoted old (keeping faulty p) may want r new
 took_noted old mid new p may want faulty (Ok done) h is =
     (h.0, is ∙ ap (λ s. told s None) h.1 ∙ answered faulty p _ h.0)
@@ -43,7 +43,7 @@ took_noted old mid new p may want faulty (Err causes.Memory) h is = (h.0, is ∙
 
 -- ---- the calls
 
-module _ {T : Type 0} (old mid new : State) where
+module _ {T : Type 0} (old mid new : SessionState) where
   pub edit_takes : (edit : Edit) (r : Result T Cause) → TakesUnnoted old (commands.Edit edit) r mid
       → new ≡ record mid { refused = refused_after (Some (kinds.Edit edit)) mid.refused r } → Takes old (commands.Edit edit) r new
   unfolding perform

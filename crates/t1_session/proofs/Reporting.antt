@@ -14,12 +14,12 @@ use Rattle.t1_commands.specs.declared.command.Command.TheVariants as commands
 use Rattle.t1_commands.specs.declared.print.Print.{Print}
 use Rattle.t1_commands.specs.declared.show.Show.{Show}
 use Rattle.t1_commands.specs.AnswerTexts.{answer_text}
-use Rattle.t1_commands.specs.Answering.{Reports, SendsText}
+use Rattle.t1_commands.specs.Answering.{ReportsPerformed, SendsText}
 use Rattle.t1_session.specs.Conversation.{IsPerformed}
 use Rattle.t1_session.specs.Machine.{after_want, may_want_memory, outcome, perform, printed, shown, stays}
-use Rattle.t1_session.specs.State.{State}
+use Rattle.t1_session.specs.State.{SessionState}
 
-module _ {W : Type 0} (contents : W → Option (List ℕ)) (old new : State) (before after : Tally W) where
+module _ {W : Type 0} (contents : W → Option (List ℕ)) (old new : SessionState) (before after : Tally W) where
   sent : {E : Type 0} (command : Command) (r : Result E OutError) (answer : Answer) → (perform old command).answer ≡ answer → new ≡ (perform old command).next
       → SendsText contents before after (answer_text answer) r → IsPerformed contents old new before after command r
   sent command (Ok done) answer is next h = (subst (λ (a : Answer). WritesAll contents before after (answer_text a)) (sym is) h, next)
@@ -31,7 +31,7 @@ same-text : (text whole : List ℕ) → ◌≡◌ {A = Result (List ℕ) Fault} 
 same-text text whole h = cc
 
 -- a command that changes nothing, and may want memory, was answered
-module _ {W E : Type 0} (contents : W → Option (List ℕ)) (s : State) (before after : Tally W) (command : Command) (answer : Answer) (r : Result E OutError)
+module _ {W E : Type 0} (contents : W → Option (List ℕ)) (s : SessionState) (before after : Tally W) (command : Command) (answer : Answer) (r : Result E OutError)
     (performed : perform s command ≡ stays s answer) (may_want : may_want_memory s command ≡ true) (want : after_want s command ≡ s) where
   pub shown_performed : Prints contents before after (Ok (answer_text answer)) r → IsPerformed contents s s before after command r
   shown_performed h = by r h
@@ -42,19 +42,19 @@ module _ {W E : Type 0} (contents : W → Option (List ℕ)) (s : State) (before
       by (Err (out.Fault fault)) h = absurd (let none = h.0 in cc)
       by (Err out.Memory) h = (h, may_want, sym want)
 
-pub print_performed : {W E : Type 0} (contents : W → Option (List ℕ)) (s : State) (before after : Tally W) (print : Print) (r : Result E OutError)
+pub print_performed : {W E : Type 0} (contents : W → Option (List ℕ)) (s : SessionState) (before after : Tally W) (print : Print) (r : Result E OutError)
     → Prints contents before after (Ok (answer_text (printed s print))) r → IsPerformed contents s s before after (commands.Print print) r
 unfolding perform outcome
 print_performed contents s before after print r h =
     shown_performed contents s before after (commands.Print print) (printed s print) r refl refl refl h
 
-pub query_performed : {W E : Type 0} (contents : W → Option (List ℕ)) (s : State) (before after : Tally W) (show : Show) (r : Result E OutError)
+pub query_performed : {W E : Type 0} (contents : W → Option (List ℕ)) (s : SessionState) (before after : Tally W) (show : Show) (r : Result E OutError)
     → Prints contents before after (Ok (answer_text (shown s show))) r → IsPerformed contents s s before after (commands.Show show) r
 unfolding perform outcome
 query_performed contents s before after show r h =
     shown_performed contents s before after (commands.Show show) (shown s show) r refl refl refl h
 
-pub broken_performed : {W E : Type 0} (contents : W → Option (List ℕ)) (s : State) (before after : Tally W) (rule : Rule) (r : Result E OutError)
-    → Reports {T = Unit {0}} contents before after (Err (causes.Rule rule)) r → IsPerformed contents s s before after (commands.Broken rule) r
+pub broken_performed : {W E : Type 0} (contents : W → Option (List ℕ)) (s : SessionState) (before after : Tally W) (rule : Rule) (r : Result E OutError)
+    → ReportsPerformed {T = Unit {0}} contents before after (Err (causes.Rule rule)) r → IsPerformed contents s s before after (commands.Broken rule) r
 unfolding perform outcome
 broken_performed contents s before after rule r h = sent contents s s before after (commands.Broken rule) r (Broken rule) refl refl h

@@ -11,19 +11,19 @@ use Rattle.t1_session.specs.declared.error.ServeError.TheVariants as errors
 use Rattle.t1_commands.specs.Commands.{input_commands}
 use Rattle.t1_commands.specs.Answers.{answers, session_answers}
 use Rattle.t1_session.specs.Machine.{machine}
-use Rattle.t1_session.specs.State.{State}
-use Rattle.t1_session.specs.Conversation.{Conversation, fresh, commands_from, Goes, Grows, IsQuiet, Feeds, Ends}
+use Rattle.t1_session.specs.State.{SessionState}
+use Rattle.t1_session.specs.Conversation.{Conversation, fresh, commands_from, Goes, Grows, IsQuiet, Feeds, AnswersTheEnd}
 use Rattle.t1_session.specs.LineEnds.{ends_line}
 use Rattle.t1_session.specs.Serving.{Streams, Reads, ReadsAndFails, StopsAtRead, WantsRoom, Converses, Serves}
 use Rattle.t1_session.proofs.Flushing.{flushes-append, flushes-fails}
 use Rattle.t1_session.proofs.Conversations.{Goes-both}
 
 -- before the first byte all commands of the input are to come
-from_fresh : (s : State) (input : List ℕ) (ended : Bool) → commands_from (fresh s) input ended ≡ input_commands ended input
+from_fresh : (s : SessionState) (input : List ℕ) (ended : Bool) → commands_from (fresh s) input ended ≡ input_commands ended input
 unfolding commands_from
 from_fresh s input ended = refl
 
-module _ (s : State) (c : Conversation) (input text : List ℕ) (goes : Goes (fresh s) c input text) where
+module _ (s : SessionState) (c : Conversation) (input text : List ℕ) (goes : Goes (fresh s) c input text) where
   -- the commands of what was read and of what follows
   pub spelled : (rest : List ℕ) (ended : Bool) → input_commands ended (input ++ rest) ≡ goes.made ++ commands_from c rest ended
   spelled rest ended = sym (from_fresh s (input ++ rest) ended) ∙ goes.spells rest ended
@@ -62,7 +62,7 @@ module _ (s : State) (c : Conversation) (input text : List ℕ) (goes : Goes (fr
   )
 
 module _ {R W : Type 0} (remaining : R → Option (List ℕ)) (contents : W → Option (List ℕ)) where
-  pub stopped_at_read : (s : State) (c : Conversation) (old new : Streams R W) (input text : List ℕ) → Goes (fresh s) c input text → IsQuiet c
+  pub stopped_at_read : (s : SessionState) (c : Conversation) (old new : Streams R W) (input text : List ℕ) → Goes (fresh s) c input text → IsQuiet c
       → ReadsAndFails remaining old.reader new.reader input → WritesAndFlushes contents old.writer new.writer text → StopsAtRead remaining contents s old new
   stopped_at_read s c old new input text goes q read wrote = record {
     input = input;
@@ -72,9 +72,9 @@ module _ {R W : Type 0} (remaining : R → Option (List ℕ)) (contents : W → 
   }
 
   -- the input was read to its end
-  pub Converses-ended : {T : Type 0} (s : State) (c : Conversation) (old new : Streams R W) (mid : Tally W) (input text : List ℕ) (r : Result T ServeError)
+  pub Converses-ended : {T : Type 0} (s : SessionState) (c : Conversation) (old new : Streams R W) (mid : Tally W) (input text : List ℕ) (r : Result T ServeError)
       → Goes (fresh s) c input text → Reads remaining old.reader new.reader input → IsAtEnd (remaining new.reader.inner) → WritesAndFlushes contents old.writer mid text
-      → Ends contents c mid new.writer r → Converses remaining contents s old new r
+      → AnswersTheEnd contents c mid new.writer r → Converses remaining contents s old new r
   Converses-ended s c old new mid input text (Ok done) goes read at_end wrote e = record {
     input = input;
     marks = goes.performs.marks ++ e.marks;
@@ -95,7 +95,7 @@ module _ {R W : Type 0} (remaining : R → Option (List ℕ)) (contents : W → 
   Converses-ended s c old new mid input text (Err (errors.Load fault)) goes read at_end wrote e = absurd e.sends
 
   -- a piece of the input couldn't be answered
-  pub Converses-fed : (T : Type 0) (s : State) (c d : Conversation) (old new : Streams R W) (mid : Tally W) (input piece text : List ℕ) (error : ServeError)
+  pub Converses-fed : (T : Type 0) (s : SessionState) (c d : Conversation) (old new : Streams R W) (mid : Tally W) (input piece text : List ℕ) (error : ServeError)
       → Goes (fresh s) c input text → Reads remaining old.reader new.reader (input ++ piece) → WritesAndFlushes contents old.writer mid text
       → Feeds {T = T} contents c d mid new.writer piece (Err error) → Converses remaining contents {T = T} s old new (Err error)
   Converses-fed T s c d old new mid input piece text errors.Memory goes read wrote e =
@@ -132,11 +132,11 @@ module _ {R W : Type 0} (remaining : R → Option (List ℕ)) (contents : W → 
   Converses-fed T s c d old new mid input piece text (errors.Load fault) goes read wrote e = absurd e
 
   -- memory was wanted before the session was open
-  pub Serves-wanted : (T : Type 0) (opened : Result State Fault) (old : Streams R W) → Serves remaining contents {T = T} opened old old (Err errors.Memory)
+  pub Serves-wanted : (T : Type 0) (opened : Result SessionState Fault) (old : Streams R W) → Serves remaining contents {T = T} opened old old (Err errors.Memory)
   Serves-wanted T (Ok s) old = inr refl
   Serves-wanted T (Err fault) old = (refl, tt)
 
   -- a session that opened
-  pub Serves-opened : {T : Type 0} (opened : Result State Fault) (s : State) (old new : Streams R W) (r : Result T ServeError) → opened ≡ Ok s
+  pub Serves-opened : {T : Type 0} (opened : Result SessionState Fault) (s : SessionState) (old new : Streams R W) (r : Result T ServeError) → opened ≡ Ok s
       → Converses remaining contents s old new r → Serves remaining contents opened old new r
   Serves-opened opened s old new r is e = rw is (inl e)

@@ -48,7 +48,7 @@ use Rattle.t1_cache.specs.declared.records.GlyphRecord.{GlyphRecord}
 use Rattle.t1_cache.specs.Kept.{KeepsAll}
 use Rattle.t1_cache.specs.Renewed.{kept_of, record_of}
 use Rattle.t1_session.specs.RecordedLines.{recorded_line}
-use Rattle.t1_session.specs.State.{State}
+use Rattle.t1_session.specs.State.{SessionState}
 use Rattle.t1_session.proofs.MetricsLineLaws.{line_recorded}
 
 -- ---- by the metrics of its glyphs
@@ -62,7 +62,7 @@ check_refused s fault e = ap (λ (r : Result MeasuredFont Fault). r >>= λ metri
 -- ---- a source judged
 
 -- without a batch a state is alone
-pub stays_alone : (s : State) → s.batch ≡ None → s ≡ alone s
+pub stays_alone : (s : SessionState) → s.batch ≡ None → s ≡ alone s
 stays_alone s none = ap (λ (b : Option Draft). record s { batch = b }) none
 
 -- ---- its file
@@ -152,25 +152,25 @@ pub held_checked : (s : SourceParts) (h : Held) → IsHeld s h → source_check 
 held_checked s h is = right_checked s h.records is.right
 
 -- a source that is refused
-pub refused_takes : (refusal : Refusal) (old : State) (made : SourceParts × List Pair) → Refuses refusal (source_check made.0) → old.batch ≡ None
+pub refused_takes : (refusal : Refusal) (old : SessionState) (made : SourceParts × List Pair) → Refuses refusal (source_check made.0) → old.batch ≡ None
     → Took {T = Unit {0}} old (judged old made (source_check made.0)) true old (Err (refused_source refusal)) old
 refused_takes refusals.Memory old made h none = (refl, refl)
 refused_takes (refusals.Fault fault) old made h none = rw h (refl, stays_alone old none)
 
 -- the texts that prints show
-pub afm_shown : {A E : Type 0} (given : Result (Vec ℕ A) E) (s : State) (file : List ℕ) → IfOk given (λ found. found.items ≡ file) → metrics_from_scratch s ≡ Ok file
+pub afm_shown : {A E : Type 0} (given : Result (Vec ℕ A) E) (s : SessionState) (file : List ℕ) → IfOk given (λ found. found.items ≡ file) → metrics_from_scratch s ≡ Ok file
     → IfOk given (λ found. printed s prints.Afm ≡ Data found.items)
 afm_shown (Ok found) s file is known = ap file_answer known ∙ ap (λ (l : List ℕ). Data l) (sym is)
 afm_shown (Err e) s file is known = tt
 
-pub uses_shown : {A E : Type 0} (given : Result (Vec ℕ A) E) (s : State) (table : List ℕ) → IfOk given (λ found. found.items ≡ table) → uses_from_scratch s ≡ Ok table
+pub uses_shown : {A E : Type 0} (given : Result (Vec ℕ A) E) (s : SessionState) (table : List ℕ) → IfOk given (λ found. found.items ≡ table) → uses_from_scratch s ≡ Ok table
     → IfOk given (λ found. printed s prints.Uses ≡ Data found.items)
 uses_shown (Ok found) s table is known = ap file_answer known ∙ ap (λ (l : List ℕ). Data l) (sym is)
 uses_shown (Err e) s table is known = tt
 
 -- ---- its texts from scratch
 
-module _ (s : State) (font : MeasuredFont) (known : measured_source s.source ≡ Ok font)
+module _ (s : SessionState) (font : MeasuredFont) (known : measured_source s.source ≡ Ok font)
     (source : reads (text s.source) ≡ Ok s.source) (kerning : pairs (kern s.pairs) ≡ Ok s.pairs) where
   all-texts : (file : List ℕ) → source_file whole_file s.source ≡ Ok file
       → from_scratch s ≡ Ok (record { pfb = file; metrics = metrics_of s.source s.pairs font; uses = usage_table font.metrics })
@@ -197,16 +197,16 @@ module _ (s : State) (font : MeasuredFont) (known : measured_source s.source ≡
       let file = has_file s.source font known in
       ap (λ r. r >>= λ texts. Ok texts.uses) (all-texts file.0 file.1)
 
-pub pfb_checked : (s : State) → source_check s.source ≡ Ok tt → reads (text s.source) ≡ Ok s.source → pairs (kern s.pairs) ≡ Ok s.pairs
+pub pfb_checked : (s : SessionState) → source_check s.source ≡ Ok tt → reads (text s.source) ≡ Ok s.source → pairs (kern s.pairs) ≡ Ok s.pairs
     → pfb_from_scratch s ≡ file_in (pfb_of whole_file) s.source
 unfolding source_file
 pfb_checked s e source kerning = let font = checked-metrics s.source e in pfb_scratch s font.0 font.1 source kerning
 
 -- what is asked of the printed source is asked of the session's
-pub asked_scratch : {X : Type 0} (answer : SourceParts → X) (s : State) → reads (text s.source) ≡ Ok s.source → asked answer s ≡ Ok (answer s.source)
+pub asked_scratch : {X : Type 0} (answer : SourceParts → X) (s : SessionState) → reads (text s.source) ≡ Ok s.source → asked answer s ≡ Ok (answer s.source)
 asked_scratch answer s source = ap (λ r. r >>= λ parts. Ok (answer parts)) source
 
-pub outline_scratch : (s : State) (name : List ℕ) → reads (text s.source) ≡ Ok s.source → outline_from_scratch name s ≡ source_outline s.source name
+pub outline_scratch : (s : SessionState) (name : List ℕ) → reads (text s.source) ≡ Ok s.source → outline_from_scratch name s ≡ source_outline s.source name
 outline_scratch s name source = ap (λ r. r >>= λ parts. source_outline parts name) source
 
 -- a text that was found is the one from scratch
@@ -221,23 +221,23 @@ told_scratch (Ok text) given told is known = known ∙ ap (λ (l : List ℕ). Ok
 told_scratch (Err e) given told is known = tt
 
 -- the files that the assembler alone makes
-pub blocks_scratch : (s : State) (size : ℕ) → reads (text s.source) ≡ Ok s.source → blocks_from_scratch size s ≡ file_in (pfb_of size) s.source
+pub blocks_scratch : (s : SessionState) (size : ℕ) → reads (text s.source) ≡ Ok s.source → blocks_from_scratch size s ≡ file_in (pfb_of size) s.source
 unfolding assembled source_file
 blocks_scratch s size source = ap (λ r. r >>= λ parts. source_file size parts) source
 
-pub pfa_scratch : (s : State) → reads (text s.source) ≡ Ok s.source → pfa_from_scratch s ≡ file_in pfa_of s.source
+pub pfa_scratch : (s : SessionState) → reads (text s.source) ≡ Ok s.source → pfa_from_scratch s ≡ file_in pfa_of s.source
 unfolding assembled_pfa source_pfa
 pfa_scratch s source = ap (λ r. r >>= λ parts. source_pfa parts) source
 
 -- the files as data
-pub data_blocks_scratch : (s : State) (size : ℕ) → source_check s.source ≡ Ok tt → reads (text s.source) ≡ Ok s.source
+pub data_blocks_scratch : (s : SessionState) (size : ℕ) → source_check s.source ≡ Ok tt → reads (text s.source) ≡ Ok s.source
     → file_in (λ clear private trailer. data_of (pfb_of size clear private trailer)) s.source ≡ Ok (answer_text (file_answer (blocks_from_scratch size s)))
 unfolding assembled
 data_blocks_scratch s size checked source =
     data_blocks s.source size checked
     ∙ ap (λ (r : Result (List ℕ) Fault). Ok (answer_text (file_answer r))) (sym (ap (λ r. r >>= λ parts. source_file size parts) source))
 
-pub data_pfa_scratch : (s : State) → source_check s.source ≡ Ok tt → reads (text s.source) ≡ Ok s.source
+pub data_pfa_scratch : (s : SessionState) → source_check s.source ≡ Ok tt → reads (text s.source) ≡ Ok s.source
     → file_in (λ clear private trailer. data_of (pfa_of clear private trailer)) s.source ≡ Ok (answer_text (file_answer (pfa_from_scratch s)))
 unfolding assembled_pfa
 data_pfa_scratch s checked source =
@@ -245,12 +245,12 @@ data_pfa_scratch s checked source =
     ∙ ap (λ (r : Result (List ℕ) Fault). Ok (answer_text (file_answer r))) (sym (ap (λ r. r >>= λ parts. source_pfa parts) source))
 
 -- in one segment a part, the file of the assembler is that of the texts
-pub blocks_in_one : (s : State) → source_check s.source ≡ Ok tt → reads (text s.source) ≡ Ok s.source → pairs (kern s.pairs) ≡ Ok s.pairs
+pub blocks_in_one : (s : SessionState) → source_check s.source ≡ Ok tt → reads (text s.source) ≡ Ok s.source → pairs (kern s.pairs) ≡ Ok s.pairs
     → blocks_from_scratch whole_file s ≡ pfb_from_scratch s
 blocks_in_one s e source kerning = blocks_scratch s whole_file source ∙ sym (pfb_checked s e source kerning)
 
 -- each text is there
-module _ (s : State) (checked : source_check s.source ≡ Ok tt) (source : reads (text s.source) ≡ Ok s.source) (kerning : pairs (kern s.pairs) ≡ Ok s.pairs) where
+module _ (s : SessionState) (checked : source_check s.source ≡ Ok tt) (source : reads (text s.source) ≡ Ok s.source) (kerning : pairs (kern s.pairs) ≡ Ok s.pairs) where
   pub pfb_there : (file : List ℕ) × (pfb_from_scratch s ≡ Ok file)
   pfb_there =
       let font = checked-metrics s.source checked in

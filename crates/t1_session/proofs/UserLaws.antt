@@ -9,12 +9,12 @@ use Rattle.std.proofs.lemmas.Bool.{cases_Bool}
 use Rattle.std.proofs.lemmas.Map.Made.{lookup-map_values}
 use Rattle.t1_parts.specs.SourceParts.{SourceParts}
 use Rattle.t1_run.specs.Run.{Key, Subr, Glyph}
-use Rattle.t1_cache.specs.Users.{UserSet, among, users_of, users_at as recorded_at}
+use Rattle.t1_cache.specs.Users.{UserSet, among, users_at as recorded_at, users_of}
 use Rattle.t1_cache.specs.declared.records.GlyphRecord.{GlyphRecord}
 use Rattle.t1_cache.specs.declared.records.Records.{Records}
 use Rattle.t1_cache.specs.declared.records.SubrRecord.{SubrRecord}
 use Rattle.t1_rerun.specs.Right.{IsRight}
-use Rattle.t1_session.specs.Users.{AreUsers, is_among, listed, user_table, users_at}
+use Rattle.t1_session.specs.Users.{AreUsers, is_among, listed, user_table, users_row}
 
 -- the names of a set, as a row has them
 row-has : (g : List ℕ) (names : List (Vec ℕ Global)) → list_any (bytes_eq g) (listed names) ≡ list_any (λ (k : Vec ℕ Global). bytes_eq g k.items) names
@@ -40,7 +40,7 @@ twice : {A B C : Type 0} (f : A → B) (h : B → C) (o : Option A) → option_m
 twice f h None = refl
 twice f h (Some a) = refl
 
-row-is : (records : Records) (k : Key) → users_at (user_table records) k ≡ option_map (λ (set : UserSet). listed set.names) (recorded_at records k)
+row-is : (records : Records) (k : Key) → users_row (user_table records) k ≡ option_map (λ (set : UserSet). listed set.names) (recorded_at records k)
 row-is records (Subr n) =
     lookup-map_values (λ (r : SubrRecord). listed r.users.keys) (nat_eq n) records.subrs.entries
     ∙ twice (λ (r : SubrRecord). users_of r.users) (λ (set : UserSet). listed set.names) (lookup (nat_eq n) records.subrs.entries)

@@ -17,18 +17,18 @@ use Rattle.t1_commands.specs.Answers.{answers, answer_to}
 use Rattle.t1_session.specs.Flushing.{WritesAndFlushes}
 use Rattle.t1_session.specs.LineEnds.{ends_line, ends_in_return}
 use Rattle.t1_session.specs.Machine.{machine, may_want_memory, after_want}
-use Rattle.t1_session.specs.State.{State}
+use Rattle.t1_session.specs.State.{SessionState}
 
 -- word: a session in the midst of its input: its state, the command whose body is being read, the unfinished line,
 -- and whether the byte before was a CR
 pub record Conversation : Type 0 where
-  pub state : State
+  pub state : SessionState
   pub opening : Option Opening
   pub line : List ℕ
   pub after_return : Bool
 
 -- word: a session before its first byte
-abbrev pub fresh : State → Conversation
+abbrev pub fresh : SessionState → Conversation
 fresh s = record { state = s; opening = None; line = []; after_return = false }
 
 -- word: an LF directly after a CR belongs to it
@@ -44,7 +44,7 @@ unfoldable pub commands_from : Conversation → List ℕ → Bool → List Comma
 commands_from c rest ended = commands_of ended c.opening (finished_lines ended (c.line ++ unified (input_after c.after_return rest)))
 
 -- word: these commands bring a session from one state to another with this text, whatever commands come after
-pub record Performs (old new : State) (made : List Command) (text : List ℕ) : Type 0 where
+pub record Performs (old new : SessionState) (made : List Command) (text : List ℕ) : Type 0 where
   pub marks : List Bool
   pub on : (rest : List Command) (more : List Bool) → answers machine old (made ++ rest) (marks ++ more) ≡ text ++ answers machine new rest more
 
@@ -70,7 +70,7 @@ Sends contents old new text (Err (errors.Load fault)) = ⊥
 
 -- word: a command was performed, and its answer went out, or a failed write cut it short; or it met want of memory,
 -- and nothing was written
-abbrev pub IsPerformed : {W T : Type 0} → (W → Option (List ℕ)) → State → State → Tally W → Tally W → Command → Result T OutError → Type 0
+abbrev pub IsPerformed : {W T : Type 0} → (W → Option (List ℕ)) → SessionState → SessionState → Tally W → Tally W → Command → Result T OutError → Type 0
 IsPerformed contents old new before after command (Ok done) =
     WritesAll contents before after (answer_text (machine.perform old command).answer) × (new ≡ (machine.perform old command).next)
 IsPerformed contents old new before after command (Err out.Write) =
@@ -80,7 +80,7 @@ IsPerformed contents old new before after command (Err out.Memory) =
     (after ≡ before) × (may_want_memory old command ≡ true) × (new ≡ after_want old command)
 
 -- word: the answer to one command, marked or not
-pub record AnswersCommand {W T : Type 0} (contents : W → Option (List ℕ)) (old new : State) (before after : Tally W) (command : Command) (result : Result T ServeError) : Type 0 where
+pub record AnswersCommand {W T : Type 0} (contents : W → Option (List ℕ)) (old new : SessionState) (before after : Tally W) (command : Command) (result : Result T ServeError) : Type 0 where
   pub mark : Bool
   pub sends : Sends contents before after (answer_text (answer_to machine old command mark).answer) result
   pub next : new ≡ (answer_to machine old command mark).next
@@ -171,6 +171,6 @@ Feeds contents old new before after piece (Err errors.Read) = ⊥
 Feeds contents old new before after piece (Err (errors.Load fault)) = ⊥
 
 -- word: the end of the input is answered; it doesn't end a session for want of memory
-pub record Ends {W T : Type 0} (contents : W → Option (List ℕ)) (old : Conversation) (before after : Tally W) (result : Result T ServeError) : Type 0 where
+pub record AnswersTheEnd {W T : Type 0} (contents : W → Option (List ℕ)) (old : Conversation) (before after : Tally W) (result : Result T ServeError) : Type 0 where
   pub marks : List Bool
   pub sends : Sends contents before after (answers machine old.state (commands_from old [] true) marks) result

@@ -25,32 +25,32 @@ use Rattle.t1_commands.specs.Blocks.{block_size}
 use Rattle.t1_commands.specs.Answers.{Performed, Machine}
 use Rattle.t1_session.specs.FromScratch.{blocks_from_scratch, encoding_from_scratch, glyph_from_scratch, metrics_from_scratch, metrics_line_from_scratch, outline_from_scratch, pfa_from_scratch, pfb_from_scratch, subr_from_scratch, uses_from_scratch}
 use Rattle.t1_session.specs.Refusing.{refused_text}
-use Rattle.t1_session.specs.State.{State}
+use Rattle.t1_session.specs.State.{SessionState}
 use Rattle.t1_session.specs.declared.refused.Refused.{Refused}
 use Rattle.t1_session.specs.declared.refused.Refused.TheVariants as kinds
 
 -- profile: the state without its batch
-abbrev pub alone : State → State
+abbrev pub alone : SessionState → SessionState
 alone s = record s { batch = None }
 
 -- profile: the state with this source and these pairs, and no batch
-abbrev pub holding : State → SourceParts × List Pair → State
+abbrev pub holding : SessionState → SourceParts × List Pair → SessionState
 holding s made = record s { source = made.0; pairs = made.1; batch = None }
 
 -- profile: a command that changes nothing
-abbrev pub stays : State → Answer → Performed State
+abbrev pub stays : SessionState → Answer → Performed SessionState
 stays s answer = record { answer = answer; next = s }
 
 -- ---- edits
 
 -- profile, edits: an edited source without a fault becomes the session's, with its pairs; else the session is as before,
 -- and a batch is closed either way
-abbrev pub judged : State → SourceParts × List Pair → Result (Unit {0}) Fault → Performed State
+abbrev pub judged : SessionState → SourceParts × List Pair → Result (Unit {0}) Fault → Performed SessionState
 judged s made (Ok checked) = record { answer = Accepted; next = holding s made }
 judged s made (Err fault) = record { answer = Faulty fault; next = alone s }
 
 -- profile, edits: an edit outside a batch is judged by the edit rules, then by the first fault of the edited source
-abbrev pub taken : State → Result (SourceParts × List Pair) Rule → Performed State
+abbrev pub taken : SessionState → Result (SourceParts × List Pair) Rule → Performed SessionState
 taken s (Ok made) = judged s made (source_check made.0)
 taken s (Err rule) = stays s (Broken rule)
 
@@ -62,27 +62,27 @@ drafting source pairs entries = Some (record { source = source; pairs = pairs; e
 
 -- profile, batches: an edit in a batch is judged by the edit rules alone, on the batch's source and pairs; the entry that it
 -- names is noted
-abbrev pub drafted : State → List EntryEdit → Result (SourceParts × List Pair) Rule → Performed State
+abbrev pub drafted : SessionState → List EntryEdit → Result (SourceParts × List Pair) Rule → Performed SessionState
 drafted s entries (Ok made) = record { answer = Accepted; next = record s { batch = drafting made.0 made.1 entries } }
 drafted s entries (Err rule) = stays s (Broken rule)
 
 -- profile, batches: an edit goes into the batch that is open; where none is, it is judged at once
-abbrev pub edit_in : Option Draft → State → Edit → Performed State
+abbrev pub edit_in : Option Draft → SessionState → Edit → Performed SessionState
 edit_in None s edit = taken s (edited s.source s.pairs edit)
 edit_in (Some d) s edit = drafted s (d.entries ++ edited_entries edit) (edited d.source d.pairs edit)
 
 -- profile, batches: E11 where one is open already
-abbrev pub begin_in : Option Draft → State → Performed State
+abbrev pub begin_in : Option Draft → SessionState → Performed SessionState
 begin_in None s = record { answer = Accepted; next = record s { batch = drafting s.source s.pairs [] } }
 begin_in (Some d) s = stays s (Broken E11)
 
 -- profile, batches: the edits of a batch are judged once, together; E12 where none is open
-abbrev pub commit_in : Option Draft → State → Performed State
+abbrev pub commit_in : Option Draft → SessionState → Performed SessionState
 commit_in None s = stays s (Broken E12)
 commit_in (Some d) s = judged s (d.source, d.pairs) (source_check d.source)
 
 -- profile, batches: the edits of a batch are dropped; E12 where none is open
-abbrev pub abort_in : Option Draft → State → Performed State
+abbrev pub abort_in : Option Draft → SessionState → Performed SessionState
 abort_in None s = stays s (Broken E12)
 abort_in (Some d) s = record { answer = Accepted; next = alone s }
 
@@ -94,13 +94,13 @@ file_answer (Ok file) = Data file
 file_answer (Err fault) = Faulty fault
 
 -- profile, session commands: the PFB file from scratch in segments of this size; E4 where there can be none
-abbrev pub blocks_answer : State → Option ℕ → Answer
+abbrev pub blocks_answer : SessionState → Option ℕ → Answer
 blocks_answer s None = Broken E4
 blocks_answer s (Some size) = file_answer (blocks_from_scratch size s)
 
 -- profile, session commands: what a print shows: the printed source, the printed pairs, and what reading, assembling and
 -- measuring these two texts gives from scratch; in a batch, of the session as before it
-abbrev pub printed : State → Print → Answer
+abbrev pub printed : SessionState → Print → Answer
 printed s prints.Source = Data (text s.source)
 printed s prints.Kern = Data (kern s.pairs)
 printed s prints.Pfb = file_answer (pfb_from_scratch s)
@@ -123,7 +123,7 @@ query_answer (Err fault) = Faulty fault
 
 -- profile, session commands: what a query shows, by what reading and measuring the printed source gives from scratch; in a
 -- batch, of the session as before it
-abbrev pub shown : State → Show → Answer
+abbrev pub shown : SessionState → Show → Answer
 shown s (shows.Glyph name) = query_answer (glyph_from_scratch name s)
 shown s (shows.Subr number) = query_answer (subr_from_scratch number s)
 shown s (shows.Metrics name) = query_answer (metrics_line_from_scratch name s)
@@ -134,7 +134,7 @@ shown s shows.Refusal = Data (refused_text s.source s.pairs s.refused)
 -- ---- all commands
 
 -- profile, session commands: what a command is answered, and the state after it, with what was refused before
-unfoldable pub outcome : State → Command → Performed State
+unfoldable pub outcome : SessionState → Command → Performed SessionState
 outcome s (commands.Edit edit) = edit_in s.batch s edit
 outcome s (commands.Print print) = stays s (printed s print)
 outcome s (commands.Show show) = stays s (shown s show)
@@ -152,7 +152,7 @@ kept_by faulty before (Faulty fault) = faulty
 kept_by faulty before answer = before
 
 -- profile, refusals: the state keeps what was refused
-abbrev pub keeping : Option Refused → Performed State → Performed State
+abbrev pub keeping : Option Refused → Performed SessionState → Performed SessionState
 keeping faulty p = record { answer = p.answer; next = record p.next { refused = kept_by faulty p.next.refused p.answer } }
 
 -- profile, refusals: the source of a batch, as it is refused
@@ -160,7 +160,7 @@ abbrev pub refused_batch : Option Draft → Option Refused
 refused_batch batch = option_map (λ draft. kinds.Batch draft.source) batch
 
 -- profile, refusals: an edit, a `begin`, a `commit` and an `abort` change what is kept of a refusal, and no other command does
-abbrev pub noted : State → Command → Performed State → Performed State
+abbrev pub noted : SessionState → Command → Performed SessionState → Performed SessionState
 noted s (commands.Edit edit) p = keeping (Some (kinds.Edit edit)) p
 noted s commands.Begin p = keeping None p
 noted s commands.Commit p = keeping (refused_batch s.batch) p
@@ -168,11 +168,11 @@ noted s commands.Abort p = keeping None p
 noted s command p = p
 
 -- profile, session commands: what a command is answered, and the state after it
-unfoldable pub perform : State → Command → Performed State
+unfoldable pub perform : SessionState → Command → Performed SessionState
 perform s command = noted s command (outcome s command)
 
 -- profile, answers: which commands may meet want of memory: edits, prints and queries, a `begin` outside a batch, a `commit` in one
-abbrev pub may_want_memory : State → Command → Bool
+abbrev pub may_want_memory : SessionState → Command → Bool
 may_want_memory s (commands.Edit edit) = true
 may_want_memory s (commands.Print print) = true
 may_want_memory s (commands.Show show) = true
@@ -182,26 +182,26 @@ may_want_memory s commands.Abort = false
 may_want_memory s (commands.Broken rule) = false
 
 -- profile, answers: want of memory leaves the state as it was, but for the batch of a `commit`, which is closed
-abbrev pub after_want : State → Command → State
+abbrev pub after_want : SessionState → Command → SessionState
 after_want s commands.Commit = alone s
 after_want s _ = s
 
 -- profile: the machine of a session
-abbrev pub machine : Machine State
+abbrev pub machine : Machine SessionState
 machine = record { perform = perform; may_want_memory = may_want_memory; after_want = after_want }
 
 -- ---- opening
 
 -- profile: the state of a source and its pairs, no batch, and nothing refused
-abbrev pub opening_state : SourceParts → List Pair → State
+abbrev pub opening_state : SourceParts → List Pair → SessionState
 opening_state source pairs = record { source = source; pairs = pairs; batch = None; refused = None }
 
 -- profile: the state that a session of a source and its pairs opens with, or the source's first fault
-abbrev pub opened : SourceParts → List Pair → Result State Fault
+abbrev pub opened : SourceParts → List Pair → Result SessionState Fault
 opened source pairs = source_check source >>= λ checked. Ok (opening_state source pairs)
 
 -- profile: the state that a session opens with, or the first fault of reading the source, of the pairs, of the source
-unfoldable pub scratch : List ℕ → List ℕ → Result State Fault
+unfoldable pub scratch : List ℕ → List ℕ → Result SessionState Fault
 scratch source pair_lines = do
   parts ← reads source
   kerning ← pairs pair_lines

@@ -16,7 +16,7 @@ use Rattle.t1_commands.specs.Answers.{Performed}
 use Rattle.t1_session.specs.declared.refused.Refused.{Refused}
 use Rattle.t1_session.specs.declared.refused.Refused.TheVariants as kinds
 use Rattle.t1_session.specs.Machine.{keeping, outcome, perform, may_want_memory, after_want}
-use Rattle.t1_session.specs.State.{SessionView, State}
+use Rattle.t1_session.specs.State.{SessionView, SessionState}
 
 -- profile: an edit whose source is refused is refused for the same reason
 abbrev pub refused_source : Refusal → Cause
@@ -25,19 +25,19 @@ refused_source refusals.Memory = causes.Memory
 
 -- word: what was to be performed was accepted; or refused, by a rule, which changes nothing, or by a fault; or memory
 -- ran out, where it may, and left this state; what was refused before is kept
-abbrev pub Took : {T : Type 0} → State → Performed State → Bool → State → Result T Cause → State → Type 0
+abbrev pub Took : {T : Type 0} → SessionState → Performed SessionState → Bool → SessionState → Result T Cause → SessionState → Type 0
 Took old p may_want want (Ok done) new = (p.answer ≡ Accepted) × (new ≡ p.next)
 Took old p may_want want (Err (causes.Rule rule)) new = (p.answer ≡ Broken rule) × (p.next ≡ old) × (new ≡ old)
 Took old p may_want want (Err (causes.Fault fault)) new = (p.answer ≡ Faulty fault) × (new ≡ p.next)
 Took old p may_want want (Err causes.Memory) new = (may_want ≡ true) × (new ≡ want)
 
 -- word: the same, of a command
-abbrev pub TakesUnnoted : {T : Type 0} → State → Command → Result T Cause → State → Type 0
+abbrev pub TakesUnnoted : {T : Type 0} → SessionState → Command → Result T Cause → SessionState → Type 0
 TakesUnnoted old c result new = Took old (outcome old c) (may_want_memory old c) (after_want old c) result new
 
 -- profile: what was to be performed was accepted; or refused, by a rule, of which no more than the rule is kept, or by a fault; or
 -- memory ran out, where it may, and left this state
-abbrev pub TookNoted : {T : Type 0} → State → Performed State → Bool → State → Result T Cause → State → Type 0
+abbrev pub TookNoted : {T : Type 0} → SessionState → Performed SessionState → Bool → SessionState → Result T Cause → SessionState → Type 0
 TookNoted old p may_want want (Ok done) new = (p.answer ≡ Accepted) × (new ≡ p.next)
 TookNoted old p may_want want (Err (causes.Rule rule)) new =
     (p.answer ≡ Broken rule) × (new ≡ p.next) × (new ≡ record old { refused = Some (kinds.Rule rule) })
@@ -45,15 +45,15 @@ TookNoted old p may_want want (Err (causes.Fault fault)) new = (p.answer ≡ Fau
 TookNoted old p may_want want (Err causes.Memory) new = (may_want ≡ true) × (new ≡ want)
 
 -- profile: a command was performed
-abbrev pub Takes : {T : Type 0} → State → Command → Result T Cause → State → Type 0
+abbrev pub Takes : {T : Type 0} → SessionState → Command → Result T Cause → SessionState → Type 0
 Takes old c result new = TookNoted old (perform old c) (may_want_memory old c) (after_want old c) result new
 
 -- profile: the same, of a call that keeps nothing of an edit whose source has a fault
-abbrev pub TakesOrDrops : {T : Type 0} → State → Command → Result T Cause → State → Type 0
+abbrev pub TakesOrDrops : {T : Type 0} → SessionState → Command → Result T Cause → SessionState → Type 0
 TakesOrDrops old c result new = TookNoted old (keeping None (outcome old c)) (may_want_memory old c) (after_want old c) result new
 
 -- profile: the same, of a call that hands what it took back with each refusal
-abbrev pub TakesOrReturns : {T E : Type 0} → State → Command → E → Result T (Cause × E) → State → Type 0
+abbrev pub TakesOrReturns : {T E : Type 0} → SessionState → Command → E → Result T (Cause × E) → SessionState → Type 0
 TakesOrReturns {T} old c given (Ok done) new = TakesOrDrops {T = T} old c (Ok done) new
 TakesOrReturns {T} old c given (Err back) new = TakesOrDrops {T = T} old c (Err back.0) new × (back.1 ≡ given)
 

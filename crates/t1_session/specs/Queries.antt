@@ -11,8 +11,8 @@ use Rattle.t1_font.specs.Metrics.{all_codes}
 use Rattle.t1_refusal.specs.Entries.{entry_words, glyph_named, subr_of}
 
 -- profile, queries: the words of an entry, in the lines that the printed source has
-abbrev pub entry_text : Item → List ℕ
-entry_text item = joined (map body_line (word_groups (entry_words item)))
+abbrev pub shown_entry : Item → List ℕ
+shown_entry item = joined (map body_line (word_groups (entry_words item)))
 
 -- profile, queries: a Subr's number is from 0 to 32000
 abbrev pub subr_number : ℤ → Option ℕ
@@ -25,11 +25,11 @@ subr_numbered number items = option_and_then (λ n. subr_of n items) (subr_numbe
 
 -- profile, queries: the words of the glyph of this name
 abbrev pub glyph_text : List ℕ → SourceParts → Option (List ℕ)
-glyph_text name s = option_map entry_text (glyph_named name s.items)
+glyph_text name s = option_map shown_entry (glyph_named name s.items)
 
 -- profile, queries: the words of the Subr of this number
 abbrev pub subr_text : ℤ → SourceParts → Option (List ℕ)
-subr_text number s = option_map entry_text (subr_numbered number s.items)
+subr_text number s = option_map shown_entry (subr_numbered number s.items)
 
 -- profile, queries: the line of the glyph of this name in an AFM file
 abbrev pub metrics_line : List ℕ → FontMetrics → Option (List ℕ)

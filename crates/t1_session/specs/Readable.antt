@@ -15,19 +15,19 @@ use Rattle.t1_commands.specs.declared.print.Print.{Print}
 use Rattle.t1_commands.specs.declared.show.Show.{Show}
 use Rattle.t1_commands.specs.Answers.{answer_to}
 use Rattle.t1_session.specs.Machine.{machine, opened, printed, scratch, shown}
-use Rattle.t1_session.specs.State.{State}
+use Rattle.t1_session.specs.State.{SessionState}
 
 -- profile: the source of a state has no fault
-abbrev pub IsFaultless : State → Type 0
+abbrev pub IsFaultless : SessionState → Type 0
 IsFaultless s = source_check s.source ≡ Ok tt
 
 -- profile: a session opens without a fault
 abbrev pub OpensFaultless : Type 0
-OpensFaultless = (source : SourceParts) (kerning : List Pair) (s : State) → opened source kerning ≡ Ok s → IsFaultless s
+OpensFaultless = (source : SourceParts) (kerning : List Pair) (s : SessionState) → opened source kerning ≡ Ok s → IsFaultless s
 
 -- profile: a state without a fault stays so through every command, also one for which memory ran out
 abbrev pub KeepsFaultless : Type 0
-KeepsFaultless = (s : State) (command : Command) (mark : Bool) → IsFaultless s → IsFaultless (answer_to machine s command mark).next
+KeepsFaultless = (s : SessionState) (command : Command) (mark : Bool) → IsFaultless s → IsFaultless (answer_to machine s command mark).next
 
 -- profile: a source and pairs are as reading and edits make them
 abbrev pub AreMade : SourceParts → List Pair → Type 0
@@ -39,22 +39,22 @@ IsDraftMade None = Unit {0}
 IsDraftMade (Some draft) = AreMade draft.source draft.pairs
 
 -- profile: a state without a fault, all of it as reading and edits make it
-pub record IsReadable (s : State) : Type 0 where
+pub record IsReadable (s : SessionState) : Type 0 where
   pub faultless : IsFaultless s
   pub made : AreMade s.source s.pairs
   pub draft : IsDraftMade s.batch
 
 -- profile: a session of two texts opens readable
 abbrev pub OpensReadable : Type 0
-OpensReadable = (source kerning : List ℕ) (s : State) → scratch source kerning ≡ Ok s → IsReadable s
+OpensReadable = (source kerning : List ℕ) (s : SessionState) → scratch source kerning ≡ Ok s → IsReadable s
 
 -- profile: a readable state stays so through every command, also one for which memory ran out
 abbrev pub KeepsReadable : Type 0
-KeepsReadable = (s : State) (command : Command) (mark : Bool) → IsReadable s → IsReadable (answer_to machine s command mark).next
+KeepsReadable = (s : SessionState) (command : Command) (mark : Bool) → IsReadable s → IsReadable (answer_to machine s command mark).next
 
 -- profile: what a readable state prints reads back as it
 abbrev pub ReadsBack : Type 0
-ReadsBack = (s : State) → IsReadable s → (reads (text s.source) ≡ Ok s.source) × (pairs (kern s.pairs) ≡ Ok s.pairs)
+ReadsBack = (s : SessionState) → IsReadable s → (reads (text s.source) ≡ Ok s.source) × (pairs (kern s.pairs) ≡ Ok s.pairs)
 
 -- profile: an answer tells no fault
 abbrev pub TellsNoFault : Answer → Type 0
@@ -63,8 +63,8 @@ TellsNoFault answer = Unit {0}
 
 -- profile: no print of a readable state tells a fault
 abbrev pub PrintsWithoutFault : Type 0
-PrintsWithoutFault = (s : State) (print : Print) → IsReadable s → TellsNoFault (printed s print)
+PrintsWithoutFault = (s : SessionState) (print : Print) → IsReadable s → TellsNoFault (printed s print)
 
 -- profile: no query of a readable state tells a fault
 abbrev pub ShowsWithoutFault : Type 0
-ShowsWithoutFault = (s : State) (show : Show) → IsReadable s → TellsNoFault (shown s show)
+ShowsWithoutFault = (s : SessionState) (show : Show) → IsReadable s → TellsNoFault (shown s show)

@@ -19,7 +19,7 @@ use Rattle.t1_rerun.specs.Opened.{IsRunAfter}
 use Rattle.t1_commands.specs.declared.command.Command.{Command}
 use Rattle.t1_commands.specs.declared.command.Command.TheVariants as commands
 use Rattle.t1_held.specs.Batch.{Draft, keys}
-use Rattle.t1_session.specs.State.{SessionView, State}
+use Rattle.t1_session.specs.State.{SessionView, SessionState}
 
 -- profile: the keys at which a source was edited, and the edited source
 pub record Edition : Type 0 where
@@ -27,14 +27,14 @@ pub record Edition : Type 0 where
   pub source : SourceParts
 
 -- profile, edits, batches: what a command edits, by the batch that is open, where one is
-abbrev pub edition_in : Option Draft → State → Command → Option Edition
+abbrev pub edition_in : Option Draft → SessionState → Command → Option Edition
 edition_in None s (commands.Edit edit) = option_map (λ made. record { keys = named edit; source = made.0 }) (result_ok (edited s.source s.pairs edit))
 edition_in (Some d) s commands.Commit = Some (record { keys = keys d.entries; source = d.source })
 edition_in batch s c = None
 
 -- profile, edits, batches: an edit outside a batch that breaks no edit rule edits the session's source, and so does the commit
 -- of a batch, by all its edits; it is judged by its runs
-abbrev pub edition : State → Command → Option Edition
+abbrev pub edition : SessionState → Command → Option Edition
 edition s c = edition_in s.batch s c
 
 -- profile, edits: which glyphs are stale: those that the edits name, those whose own run in the source before them entered a

@@ -12,7 +12,7 @@ use Rattle.t1_text.specs.Lines.{is_line_end}
 use Rattle.t1_session.specs.Flushing.{WritesAndFlushes}
 use Rattle.t1_session.specs.LineEnds.{ends_line, ends_in_return}
 use Rattle.t1_session.specs.Machine.{machine}
-use Rattle.t1_session.specs.State.{State}
+use Rattle.t1_session.specs.State.{SessionState}
 
 -- profile: a reader and a writer, and what contracts know of the bytes that they have
 pub record Streams (R W : Type 0) : Type 0 where
@@ -45,7 +45,7 @@ module _ {R : Type 0} (remaining : R → Option (List ℕ)) where
 
 module _ {R W : Type 0} (remaining : R → Option (List ℕ)) (contents : W → Option (List ℕ)) where
   -- profile: at Ok, the input was read to its end, and the answer to it written
-  pub record Finishes (state : State) (old new : Streams R W) : Type 0 where
+  pub record Finishes (state : SessionState) (old new : Streams R W) : Type 0 where
     pub input : List ℕ
     pub marks : List Bool
     pub reads : Reads remaining old.reader new.reader input
@@ -53,7 +53,7 @@ module _ {R W : Type 0} (remaining : R → Option (List ℕ)) (contents : W → 
     pub writes : WritesAndFlushes contents old.writer new.writer (session_answers machine state input true marks)
 
   -- profile: at Read, the answer to what was read, as input that goes on, was written
-  pub record StopsAtRead (state : State) (old new : Streams R W) : Type 0 where
+  pub record StopsAtRead (state : SessionState) (old new : Streams R W) : Type 0 where
     pub input : List ℕ
     pub marks : List Bool
     pub reads : ReadsAndFails remaining old.reader new.reader input
@@ -61,7 +61,7 @@ module _ {R W : Type 0} (remaining : R → Option (List ℕ)) (contents : W → 
 
   -- profile: at Memory, the answer to a beginning of what was read, as input that goes on, was written; the next byte,
   -- for which there was no memory, goes into a line or a body, and finishes no command
-  pub record StopsForMemory (state : State) (old new : Streams R W) : Type 0 where
+  pub record StopsForMemory (state : SessionState) (old new : Streams R W) : Type 0 where
     pub front : List ℕ
     pub byte : ℕ
     pub rest : List ℕ
@@ -72,14 +72,14 @@ module _ {R W : Type 0} (remaining : R → Option (List ℕ)) (contents : W → 
     pub writes : WritesAndFlushes contents old.writer new.writer (session_answers machine state front false marks)
 
   -- profile: at Write, a beginning of the answer to what was read, as whole input, was written
-  pub record StopsAtWrite (state : State) (old new : Streams R W) : Type 0 where
+  pub record StopsAtWrite (state : SessionState) (old new : Streams R W) : Type 0 where
     pub input : List ℕ
     pub marks : List Bool
     pub reads : Reads remaining old.reader new.reader input
     pub writes : WritesFront contents old.writer new.writer (session_answers machine state input true marks)
 
   -- profile: a session from the state that it opened with
-  abbrev pub Converses : {T : Type 0} → State → Streams R W → Streams R W → Result T ServeError → Type 0
+  abbrev pub Converses : {T : Type 0} → SessionState → Streams R W → Streams R W → Result T ServeError → Type 0
   Converses state old new (Ok done) = Finishes state old new
   Converses state old new (Err errors.Read) = StopsAtRead state old new
   Converses state old new (Err errors.Memory) = StopsForMemory state old new
@@ -104,6 +104,6 @@ module _ {R W : Type 0} (remaining : R → Option (List ℕ)) (contents : W → 
 
   -- profile: a whole session: from the state that it opens with, unless memory ran out before; or nothing is read or
   -- written, and the refusal is reported
-  abbrev pub Serves : {T : Type 0} → Result State Fault → Streams R W → Streams R W → Result T ServeError → Type 0
+  abbrev pub Serves : {T : Type 0} → Result SessionState Fault → Streams R W → Streams R W → Result T ServeError → Type 0
   Serves (Ok state) old new result = Converses state old new result ⊎ NeverOpens old new result
   Serves (Err fault) old new result = (new ≡ old) × Refuses fault result

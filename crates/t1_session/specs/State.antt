@@ -9,7 +9,7 @@ use Rattle.t1_session.specs.Users.{UserTable}
 
 -- profile: a source, its kerning pairs, the batch that is open, or none, and what was refused since an edit, a `begin`, a
 -- `commit` or an `abort` was accepted, or nothing
-pub record State : Type 0 where
+pub record SessionState : Type 0 where
   pub source : SourceParts
   pub pairs : List Pair
   pub batch : Option Draft
@@ -18,7 +18,7 @@ pub record State : Type 0 where
 -- profile: what contracts see of a session: what it holds, what is kept of its glyphs, in source order, who uses each
 -- Subr and each glyph, and the count of runs
 pub record SessionView : Type 0 where
-  pub state : State
+  pub state : SessionState
   pub kept : List Kept
   pub users : UserTable
   pub runs : ℕ

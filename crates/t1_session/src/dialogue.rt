@@ -39,7 +39,8 @@ fn ends_line(after_return: bool, byte: u8) -> bool
 }
 
 impl<'a> Dialogue<'a> {
-    ghost use Rattle.t1_session.specs.Conversation.{fresh, EndsCommandLine, EndsLine, Feeds, Ends};
+    ghost use Rattle.t1_session.specs.Conversation.{fresh, EndsCommandLine, EndsLine, Feeds};
+    ghost use Rattle.t1_session.specs.Conversation.{AnswersTheEnd};
     ghost use Rattle.t1_session.specs.Dialogues.{conversation_of, opening_of};
 
     /// A session before its first byte.
@@ -165,7 +166,7 @@ impl<'a> Dialogue<'a> {
         alloc: Global,
         writer: &mut Counted<W>,
     ) -> Result<(), ServeError>
-        ensures { Ends W.contents (conversation_of self.old) writer.old writer.new result }
+        ensures { AnswersTheEnd W.contents (conversation_of self.old) writer.old writer.new result }
     {
         match self.opening.take() {
             None => self.finish_command_line(alloc, writer),
@@ -180,7 +181,7 @@ impl<'a> Dialogue<'a> {
         writer: &mut Counted<W>,
     ) -> Result<(), ServeError>
         requires { self.old.opening ≡ None }
-        ensures { Ends W.contents (conversation_of self.old) writer.old writer.new result }
+        ensures { AnswersTheEnd W.contents (conversation_of self.old) writer.old writer.new result }
     {
         if takes_body(&self.line) {
             let made = Ok(open_command(&self.line));
@@ -201,7 +202,7 @@ impl<'a> Dialogue<'a> {
         writer: &mut Counted<W>,
     ) -> Result<(), ServeError>
         requires { self.old.opening ≡ None }
-        ensures { Ends W.contents
+        ensures { AnswersTheEnd W.contents
             (record (conversation_of self.old) { opening = Some (opening_of opening) })
             writer.old writer.new result }
     {

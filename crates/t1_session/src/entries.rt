@@ -1,6 +1,6 @@
 //! The words of entries, in the lines of the printed form.
 ghost use Rattle.std.specs.Prelude.{◌≡◌, option_map, IfOk};
-ghost use Rattle.t1_session.specs.Queries.{entry_text, subr_number, subr_numbered};
+ghost use Rattle.t1_session.specs.Queries.{shown_entry, subr_number, subr_numbered};
 
 use std::alloc::{AllocError, Global};
 use t1_parts::{Items, push_words};
@@ -30,7 +30,7 @@ pub fn subr_numbered<'i, 'a>(items: &'i Items<'a>, number: i64) -> Option<&'i It
 
 /// The words of an item, in the lines of the printed form.
 fn text_of(alloc: Global, item: &Item) -> Result<Vec<u8>, AllocError>
-    ensures { IfOk result (λ text. text.items ≡ entry_text item.now) }
+    ensures { IfOk result (λ text. text.items ≡ shown_entry item.now) }
 {
     let mut text = Vec::new(alloc);
     push_words(&mut text, entry_words(item))?;
@@ -42,7 +42,7 @@ pub fn entry_text(alloc: Global, item: Option<&Item>) -> Result<Option<Vec<u8>>,
     ensures { IfOk
         result
         (λ found. option_map (λ text. text.items) found
-        ≡ option_map entry_text (option_map (λ i. i.now) item.entry)) }
+        ≡ option_map shown_entry (option_map (λ i. i.now) item.entry)) }
 {
     match item {
         Some(item) => Ok(Some(text_of(alloc, item)?)),

@@ -1,7 +1,7 @@
 //! The line of a glyph in an AFM file.
 ghost use Rattle.std.specs.Prelude.{◌≡◌, ◌++◌, ℕ, List, option_map, IfOk, OnOk};
 ghost use Rattle.std.specs.Fmt.{signed_decimal};
-ghost use Rattle.t1_code.specs.Parts.{bytes_of};
+ghost use Rattle.t1_code.specs.Parts.{slices_bytes};
 ghost use Rattle.t1_afm.specs.Afm.{char_line, code_number, line_text, rest_text, width_words};
 ghost use Rattle.t1_cache.specs.Renewed.{record_of};
 ghost use Rattle.t1_session.specs.RecordedLines.{after_width, before_width};
@@ -44,7 +44,7 @@ fn width_slices<'w>(glyph: &CharMetric, wx: &'w str, wy: &'w str) -> [&'w [u8]; 
     requires x { wx.now ≡ signed_decimal glyph.now.wx }
     requires y { wy.now ≡ signed_decimal glyph.now.wy }
     ensures { (words : List (List ℕ))
-        → bytes_of result ++ rest_text words
+        → slices_bytes result ++ rest_text words
         ≡ rest_text (width_words glyph.now.wx glyph.now.wy ++ words) }
 {
     if glyph.wy == 0 {

@@ -10,15 +10,15 @@ pub struct Performer<'a> {
 }
 
 impl<'a> Model for Performer<'a> {
-    ghost use Rattle.t1_session.specs.State.{State};
+    ghost use Rattle.t1_session.specs.State.{SessionState};
 
-    ghost Value = { State };
+    ghost Value = { SessionState };
 
     ghost view = { λ performer. performer.session.state };
 }
 
 ghost use Rattle.std.specs.Prelude.{◌≡◌};
-ghost use Rattle.t1_commands.specs.Answering.{Reports};
+ghost use Rattle.t1_commands.specs.Answering.{ReportsPerformed};
 ghost use Rattle.t1_session.specs.Conversation.{IsPerformed};
 
 use std::io::Write;
@@ -29,7 +29,7 @@ use t1_source::Cause;
 /// Writes what is answered to a command that was performed, or refused; nothing where memory ran
 /// out.
 fn report<W: Write>(performed: Result<(), Cause>, out: &mut Counted<W>) -> Result<(), OutError>
-    ensures { Reports W.contents out.old out.new performed result }
+    ensures { ReportsPerformed W.contents out.old out.new performed result }
 {
     let answer = answer_of(performed)?;
     put_answer(out, &answer)?;

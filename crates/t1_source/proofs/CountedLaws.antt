@@ -17,8 +17,8 @@ use Rattle.t1_text.specs.Names.{decimal_of, up_to, name_of_token}
 use Rattle.t1_frac.specs.Numbers.{decimal_value}
 use Rattle.t1_text.specs.Names.{is_count}
 use Rattle.t1_parts.specs.Sections.{count_between, section_at, subrs_line, glyphs_line, is_subrs_line, is_glyphs_line}
-use Rattle.t1_parts.specs.Entries.{NumberedItem, Taken, has, is_subr, is_glyph, opens_subr, opens_glyph, opened_body, entry_of, subr_entry, glyph_entry}
-use Rattle.t1_parts.specs.Private.{line_item, among_glyphs, among_subrs, item_at, items_of, private_items}
+use Rattle.t1_parts.specs.Entries.{NumberedItem, Taken, has_numbered, is_subr, is_glyph, opens_subr, opens_glyph, opened_body, entry_of, subr_entry, glyph_entry}
+use Rattle.t1_parts.specs.Private.{line_item, among_glyphs, among_subrs, item_in_front, items_of, private_items}
 use Rattle.t1_parts.specs.Counts.{subrs_needed, glyphs_needed, raised_item, raised}
 use Rattle.t1_parts.specs.Reading.{unnumbered, reads}
 use Rattle.t1_parts.specs.Printing.{text}
@@ -43,7 +43,7 @@ line_counted : (earlier : List NumberedItem) (l : List ℕ) (o p : Option Item) 
 unfolding line_item
 line_counted earlier l None None x eo ep e = let same : ◌≡◌ {A = Taken} (Plain l, 0) x = cc in ap (λ y. is_counted y.0) (sym same)
 line_counted earlier l (Some s) None x eo ep e =
-    elim (cases_Bool (has is_subrs_line earlier || has is_glyphs_line earlier)) [
+    elim (cases_Bool (has_numbered is_subrs_line earlier || has_numbered is_glyphs_line earlier)) [
       | inl late ↦ let none : Err F4 ≡ Ok x = rw late at e in cc
       | inr first ↦
           let here : ◌≡◌ {A = Result Taken Code} (Ok (s, 0)) (Ok x) = rw first at e in
@@ -51,7 +51,7 @@ line_counted earlier l (Some s) None x eo ep e =
           ap (λ y. is_counted y.0) (sym same) ∙ section_counted (codes "/Subrs") (codes "array") l (count_between (codes "/Subrs") (codes "array") (places_from 0 l)) s refl refl eo
     ]
 line_counted earlier l None (Some s) x eo ep e =
-    elim (cases_Bool (has is_glyphs_line earlier)) [
+    elim (cases_Bool (has_numbered is_glyphs_line earlier)) [
       | inl late ↦ let none : Err F4 ≡ Ok x = rw late at e in cc
       | inr first ↦
           let here : ◌≡◌ {A = Result Taken Code} (Ok (s, 0)) (Ok x) = rw first at e in
@@ -63,9 +63,9 @@ line_counted earlier l (Some s) (Some t) x eo ep e = cc
 glyph_counted : (earlier : List NumberedItem) (t : List ℕ) (body : Option EntryBody) (x : Taken) → glyph_entry earlier t body ≡ Ok x → is_counted x.0 ≡ true
 unfolding glyph_entry
 glyph_counted earlier t body x e =
-    let named = bind_ok (ok_or (name_of_token t) F8) (λ g. if has (is_glyph g) earlier then Err F10 else ok_or (option_map (entry_of (Glyph g)) body) F7) x e in
+    let named = bind_ok (ok_or (name_of_token t) F8) (λ g. if has_numbered (is_glyph g) earlier then Err F10 else ok_or (option_map (entry_of (Glyph g)) body) F7) x e in
     let g = named.0 in
-    elim (cases_Bool (has (is_glyph g) earlier)) [
+    elim (cases_Bool (has_numbered (is_glyph g) earlier)) [
       | inl old ↦ let none : Err F10 ≡ Ok x = rw old at named.2 in cc
       | inr fresh ↦ ap is_counted (sym (entry_given (Glyph g) body F7 x (rw fresh at named.2)).2)
     ]
@@ -73,9 +73,9 @@ glyph_counted earlier t body x e =
 subr_counted : (earlier : List NumberedItem) (t : List ℕ) (body : Option EntryBody) (x : Taken) → subr_entry earlier t body ≡ Ok x → is_counted x.0 ≡ true
 unfolding subr_entry
 subr_counted earlier t body x e =
-    let numbered = bind_ok (ok_or (up_to 32000 (decimal_of t)) F8) (λ n. if has (is_subr n) earlier then Err F9 else ok_or (option_map (entry_of (Subr n)) body) F7) x e in
+    let numbered = bind_ok (ok_or (up_to 32000 (decimal_of t)) F8) (λ n. if has_numbered (is_subr n) earlier then Err F9 else ok_or (option_map (entry_of (Subr n)) body) F7) x e in
     let n = numbered.0 in
-    elim (cases_Bool (has (is_subr n) earlier)) [
+    elim (cases_Bool (has_numbered (is_subr n) earlier)) [
       | inl old ↦ let none : Err F9 ≡ Ok x = rw old at numbered.2 in cc
       | inr fresh ↦ ap is_counted (sym (entry_given (Subr n) body F7 x (rw fresh at numbered.2)).2)
     ]
@@ -88,12 +88,12 @@ subrs_counted : (earlier : List NumberedItem) (l : List ℕ) (ls : List (List �
 subrs_counted earlier l ls x None e = line_counted earlier l (subrs_line l) (glyphs_line l) x refl refl e
 subrs_counted earlier l ls x (Some t) e = subr_counted earlier t (opened_body l ls) x e
 
-item_counted : (earlier : List NumberedItem) (l : List ℕ) (ls : List (List ℕ)) (x : Taken) → item_at earlier l ls ≡ Ok x → is_counted x.0 ≡ true
-unfolding item_at
+item_counted : (earlier : List NumberedItem) (l : List ℕ) (ls : List (List ℕ)) (x : Taken) → item_in_front earlier l ls ≡ Ok x → is_counted x.0 ≡ true
+unfolding item_in_front
 item_counted earlier l ls x e =
-    elim (cases_Bool (has is_glyphs_line earlier)) [
+    elim (cases_Bool (has_numbered is_glyphs_line earlier)) [
       | inl glyphs ↦ glyphs_counted earlier l ls x (opens_glyph (tokens l)) (rw glyphs at e)
-      | inr no_glyphs ↦ elim (cases_Bool (has is_subrs_line earlier)) [
+      | inr no_glyphs ↦ elim (cases_Bool (has_numbered is_subrs_line earlier)) [
         | inl subrs ↦ subrs_counted earlier l ls x (opens_subr (tokens l)) (rw (no_glyphs, subrs) at e)
         | inr no_subrs ↦ line_counted earlier l (subrs_line l) (glyphs_line l) x refl refl (rw (no_glyphs, no_subrs) at e)
       ]

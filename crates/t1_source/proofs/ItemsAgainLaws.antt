@@ -13,8 +13,8 @@ use Rattle.t1_parts.specs.declared.item.Item.TheVariants.{Plain, Section, Subr, 
 use Rattle.t1_text.specs.Tokens.{tokens}
 use Rattle.t1_frac.specs.Numbers.{decimal_value}
 use Rattle.t1_parts.specs.Sections.{subrs_line, glyphs_line, is_subrs_line, is_glyphs_line}
-use Rattle.t1_parts.specs.Entries.{NumberedItem, has, is_subr, is_glyph, opens_subr, opens_glyph}
-use Rattle.t1_parts.specs.Private.{line_item, line_at, item_at, items_of, private_items}
+use Rattle.t1_parts.specs.Entries.{NumberedItem, has_numbered, is_subr, is_glyph, opens_subr, opens_glyph}
+use Rattle.t1_parts.specs.Private.{line_item, line_read, item_in_front, items_of, private_items}
 use Rattle.t1_parts.specs.Reading.{unnumbered}
 use Rattle.t1_parts.specs.Printing.{item_lines, body_line, last_line, word_groups}
 use Rattle.t1_source.specs.WellFormed.{is_inner, opens_entry, IsSectionLine, Stands, Stand, is_counted}
@@ -28,7 +28,7 @@ pub and_off : (a b : Bool) → a ≡ true → (a && b) ≡ false → b ≡ false
 and_off a b on h = let rest : b ≡ false = rw on at h in rest
 
 -- a test of numbered items is one of the items
-pub has_item : (test : Item → Bool) (items : List NumberedItem) → has test items ≡ list_any test (unnumbered items)
+pub has_item : (test : Item → Bool) (items : List NumberedItem) → has_numbered test items ≡ list_any test (unnumbered items)
 has_item test [] = refl
 has_item test (i ∷ items) = ap (λ b. test i.1 || b) (has_item test items)
 
@@ -37,42 +37,42 @@ none_opens None h = refl
 none_opens (Some t) h = cc
 
 -- a line that opens no entry
-pub no_entry : (earlier : List NumberedItem) (l : List ℕ) (ls : List (List ℕ)) → opens_entry (unnumbered earlier) l ≡ false → item_at earlier l ls ≡ line_at earlier l
-unfolding item_at
+pub no_entry : (earlier : List NumberedItem) (l : List ℕ) (ls : List (List ℕ)) → opens_entry (unnumbered earlier) l ≡ false → item_in_front earlier l ls ≡ line_read earlier l
+unfolding item_in_front
 no_entry earlier l ls off =
     let glyphs_here = has_item is_glyphs_line earlier in
     let subrs_here = has_item is_subrs_line earlier in
     elim (cases_Bool (list_any is_glyphs_line (unnumbered earlier))) [
       | inl glyphs ↦
           let none : opens_glyph (tokens l) ≡ None = none_opens (opens_glyph (tokens l)) (rw glyphs at off) in
-          let on : has is_glyphs_line earlier ≡ true = glyphs_here ∙ glyphs in
+          let on : has_numbered is_glyphs_line earlier ≡ true = glyphs_here ∙ glyphs in
           rw (on, none) refl
       | inr no_glyphs ↦
           let rest : (list_any is_subrs_line (unnumbered earlier) && is_some (opens_subr (tokens l))) ≡ false = rw no_glyphs at off in
-          let no : has is_glyphs_line earlier ≡ false = glyphs_here ∙ no_glyphs in
+          let no : has_numbered is_glyphs_line earlier ≡ false = glyphs_here ∙ no_glyphs in
           elim (cases_Bool (list_any is_subrs_line (unnumbered earlier))) [
             | inl subrs ↦
                 let none : opens_subr (tokens l) ≡ None = none_opens (opens_subr (tokens l)) (and_off (list_any is_subrs_line (unnumbered earlier)) (is_some (opens_subr (tokens l))) subrs rest) in
-                let on : has is_subrs_line earlier ≡ true = subrs_here ∙ subrs in
+                let on : has_numbered is_subrs_line earlier ≡ true = subrs_here ∙ subrs in
                 rw (no, on, none) refl
             | inr no_subrs ↦
-                let also : has is_subrs_line earlier ≡ false = subrs_here ∙ no_subrs in
+                let also : has_numbered is_subrs_line earlier ≡ false = subrs_here ∙ no_subrs in
                 rw (no, also) refl
           ]
     ]
 
 -- a plain line and a section line
-plain_line : (earlier : List NumberedItem) (l : List ℕ) → subrs_line l ≡ None → glyphs_line l ≡ None → line_at earlier l ≡ Ok (Plain l, 0)
+plain_line : (earlier : List NumberedItem) (l : List ℕ) → subrs_line l ≡ None → glyphs_line l ≡ None → line_read earlier l ≡ Ok (Plain l, 0)
 unfolding line_item
 plain_line earlier l p q = rw (p, q) refl
 
-section_line : (earlier : List NumberedItem) (s : Item) (l : List ℕ) → IsSectionLine (unnumbered earlier) s l → line_at earlier l ≡ Ok (s, 0)
+section_line : (earlier : List NumberedItem) (s : Item) (l : List ℕ) → IsSectionLine (unnumbered earlier) s l → line_read earlier l ≡ Ok (s, 0)
 unfolding line_item
 section_line earlier s l h =
-    let no : has is_glyphs_line earlier ≡ false = has_item is_glyphs_line earlier ∙ h.0 in
+    let no : has_numbered is_glyphs_line earlier ≡ false = has_item is_glyphs_line earlier ∙ h.0 in
     elim h.1 [
       | inl subrs ↦
-          let also : has is_subrs_line earlier ≡ false = has_item is_subrs_line earlier ∙ subrs.2 in
+          let also : has_numbered is_subrs_line earlier ≡ false = has_item is_subrs_line earlier ∙ subrs.2 in
           rw (subrs.0, subrs.1, also, no) refl
       | inr glyphs ↦ rw (glyphs.0, glyphs.1, no) refl
     ]
@@ -82,7 +82,7 @@ pub record Again (earlier : List NumberedItem) (i : Item) : Type 0 where
   pub head : List ℕ
   pub others : List (List ℕ)
   pub lines : item_lines i ≡ head ∷ others
-  pub read : (ls : List (List ℕ)) → item_at earlier head (others ++ ls) ≡ Ok (i, length others)
+  pub read : (ls : List (List ℕ)) → item_in_front earlier head (others ++ ls) ≡ Ok (i, length others)
   pub inner : list_all is_inner (head ∷ others) ≡ true
 
 body_count : (ws : List (List ℕ)) (closing : List ℕ) → 1 + length (word_groups ws) ≡ length (map body_line (word_groups ws) ++ last_line closing ∷ [])
@@ -120,7 +120,7 @@ again earlier (Subr n ws closing) h small =
       others = map body_line (word_groups ws) ++ last_line closing ∷ [];
       lines = refl;
       read = λ ls.
-          ap (item_at earlier head) (append_assoc (map body_line (word_groups ws)) (last_line closing ∷ []) ls)
+          ap (item_in_front earlier head) (append_assoc (map body_line (word_groups ws)) (last_line closing ∷ []) ls)
           ∙ subr_again earlier n ws closing ls (has_item is_glyphs_line earlier ∙ h.0) (has_item is_subrs_line earlier ∙ h.1) (has_item (is_subr n) earlier ∙ h.2) h.3 entry.0 entry.2
           ∙ ap (λ k. Ok (Subr n ws closing, k)) (body_count ws closing);
       inner = entry_inner head ws closing (subr_inner n (omega (arith, h.3))) entry;
@@ -133,7 +133,7 @@ again earlier (Glyph g ws closing) h small =
       others = map body_line (word_groups ws) ++ last_line closing ∷ [];
       lines = refl;
       read = λ ls.
-          ap (item_at earlier head) (append_assoc (map body_line (word_groups ws)) (last_line closing ∷ []) ls)
+          ap (item_in_front earlier head) (append_assoc (map body_line (word_groups ws)) (last_line closing ∷ []) ls)
           ∙ glyph_again earlier g ws closing ls (has_item is_glyphs_line earlier ∙ h.0) (has_item (is_glyph g) earlier ∙ h.1) h.2 entry.0 entry.2
           ∙ ap (λ k. Ok (Glyph g ws closing, k)) (body_count ws closing);
       inner = entry_inner head ws closing (glyph_inner g h.2) entry;

@@ -9,7 +9,7 @@ use Rattle.t1_parts.specs.SourceParts.{SourceParts}
 use Rattle.t1_text.specs.Lines.{joined}
 use Rattle.t1_parts.specs.Encoding.{clear_check, opening_check, later_check, array_check}
 use Rattle.t1_parts.specs.Entries.{subr_entry, glyph_entry}
-use Rattle.t1_parts.specs.Private.{item_at, line_item, private_items}
+use Rattle.t1_parts.specs.Private.{item_in_front, line_item, private_items}
 use Rattle.t1_parts.specs.Parts.{parts_of, tail_of}
 use Rattle.t1_parts.specs.Reading.{reads, reads_lines, whole_check}
 use Rattle.t1_parts.specs.Header.{header, header_among}
@@ -66,15 +66,15 @@ neat_lines =
     codes "cleartomark" ∷ []
 
 pub loose_printed : (reads (joined loose_lines) >>= λ s. Ok (text s)) ≡ Ok (joined neat_lines)
-unfolding reads reads_lines parts_of clear_check opening_check later_check array_check private_items item_at subr_entry glyph_entry line_item whole_check tail_of digits is_number_word
+unfolding reads reads_lines parts_of clear_check opening_check later_check array_check private_items item_in_front subr_entry glyph_entry line_item whole_check tail_of digits is_number_word
 loose_printed = refl
 
 pub neat_printed : (reads (joined neat_lines) >>= λ s. Ok (text s)) ≡ Ok (joined neat_lines)
-unfolding reads reads_lines parts_of clear_check opening_check later_check array_check private_items item_at subr_entry glyph_entry line_item whole_check tail_of digits is_number_word
+unfolding reads reads_lines parts_of clear_check opening_check later_check array_check private_items item_in_front subr_entry glyph_entry line_item whole_check tail_of digits is_number_word
 neat_printed = refl
 
 pub neat_again : reads (joined neat_lines) ≡ reads (joined loose_lines)
-unfolding reads reads_lines parts_of clear_check opening_check later_check array_check private_items item_at subr_entry glyph_entry line_item whole_check tail_of
+unfolding reads reads_lines parts_of clear_check opening_check later_check array_check private_items item_in_front subr_entry glyph_entry line_item whole_check tail_of
 neat_again = refl
 
 pub demo_name : header demo_form (codes "FontName") ≡ Some (codes "Demo")

@@ -15,7 +15,7 @@ use Rattle.t1_parts.specs.declared.item.Item.TheVariants.{Plain}
 use Rattle.t1_parts.specs.SourceParts.{SourceParts}
 use Rattle.t1_text.specs.Lines.{is_line}
 use Rattle.t1_parts.specs.Sections.{is_glyphs_line}
-use Rattle.t1_parts.specs.Entries.{NumberedItem, has}
+use Rattle.t1_parts.specs.Entries.{NumberedItem, has_numbered}
 use Rattle.t1_parts.specs.Private.{private_items}
 use Rattle.t1_parts.specs.Parts.{parts_of, is_eexec, is_closefile}
 use Rattle.t1_parts.specs.LenIV.{said_lead, said_with_line, lead_check, lead_of_token}
@@ -94,7 +94,7 @@ lead_again (i ∷ ns) h = lead_said i.0 (said_lead i.1) (filter_map said_with_li
 whole_again : (ns : List NumberedItem) → list_any is_glyphs_line (unnumbered ns) ≡ true → says_lead_well (unnumbered ns) ≡ true → whole_check ns ≡ Ok tt
 unfolding whole_check
 whole_again ns section lead =
-    let on : has is_glyphs_line ns ≡ true = has_item is_glyphs_line ns ∙ section in
+    let on : has_numbered is_glyphs_line ns ≡ true = has_item is_glyphs_line ns ∙ section in
     rw on (lead_again ns lead)
 
 -- the private part of a source

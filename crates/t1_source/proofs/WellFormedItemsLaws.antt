@@ -12,8 +12,8 @@ use Rattle.t1_text.specs.Tokens.{tokens, places_from}
 use Rattle.t1_text.specs.Names.{is_name, name_of_token, decimal_of, up_to}
 use Rattle.t1_frac.specs.Numbers.{decimal_value}
 use Rattle.t1_parts.specs.Sections.{count_between, section_at, subrs_line, glyphs_line, is_subrs_line, is_glyphs_line}
-use Rattle.t1_parts.specs.Entries.{NumberedItem, Taken, has, is_subr, is_glyph, opens_subr, opens_glyph, opened_body, entry_of, subr_entry, glyph_entry}
-use Rattle.t1_parts.specs.Private.{line_item, among_glyphs, among_subrs, item_at, items_of}
+use Rattle.t1_parts.specs.Entries.{NumberedItem, Taken, has_numbered, is_subr, is_glyph, opens_subr, opens_glyph, opened_body, entry_of, subr_entry, glyph_entry}
+use Rattle.t1_parts.specs.Private.{line_item, among_glyphs, among_subrs, item_in_front, items_of}
 use Rattle.t1_parts.specs.Reading.{unnumbered}
 use Rattle.t1_source.specs.WellFormed.{is_inner, opens_entry, IsSectionLine, IsEntry, Stands, Stand}
 use Rattle.t1_frac.proofs.OutcomeLaws.{bind_ok}
@@ -59,13 +59,13 @@ number_given (Some m) n e =
     ]
 
 -- a glyph that was read
-glyph_stands : (earlier : List NumberedItem) (t : List ℕ) (body : Option EntryBody) (x : Taken) → has is_glyphs_line earlier ≡ true → ((b : EntryBody) → body ≡ Some b → IsEntry b.words b.closing) → glyph_entry earlier t body ≡ Ok x
+glyph_stands : (earlier : List NumberedItem) (t : List ℕ) (body : Option EntryBody) (x : Taken) → has_numbered is_glyphs_line earlier ≡ true → ((b : EntryBody) → body ≡ Some b → IsEntry b.words b.closing) → glyph_entry earlier t body ≡ Ok x
     → Stands (unnumbered earlier) x.0
 unfolding glyph_entry
 glyph_stands earlier t body x section entry e =
-    let named = bind_ok (ok_or (name_of_token t) F8) (λ g. if has (is_glyph g) earlier then Err F10 else ok_or (option_map (entry_of (Glyph g)) body) F7) x e in
+    let named = bind_ok (ok_or (name_of_token t) F8) (λ g. if has_numbered (is_glyph g) earlier then Err F10 else ok_or (option_map (entry_of (Glyph g)) body) F7) x e in
     let g = named.0 in
-    elim (cases_Bool (has (is_glyph g) earlier)) [
+    elim (cases_Bool (has_numbered (is_glyph g) earlier)) [
       | inl old ↦ let none : Err F10 ≡ Ok x = rw old at named.2 in cc
       | inr fresh ↦
           let rest : ok_or (option_map (entry_of (Glyph g)) body) F7 ≡ Ok x = rw fresh at named.2 in
@@ -79,13 +79,13 @@ glyph_stands earlier t body x section entry e =
     ]
 
 -- a Subr that was read
-subr_stands : (earlier : List NumberedItem) (t : List ℕ) (body : Option EntryBody) (x : Taken) → has is_glyphs_line earlier ≡ false → has is_subrs_line earlier ≡ true → ((b : EntryBody) → body ≡ Some b → IsEntry b.words b.closing)
+subr_stands : (earlier : List NumberedItem) (t : List ℕ) (body : Option EntryBody) (x : Taken) → has_numbered is_glyphs_line earlier ≡ false → has_numbered is_subrs_line earlier ≡ true → ((b : EntryBody) → body ≡ Some b → IsEntry b.words b.closing)
     → subr_entry earlier t body ≡ Ok x → Stands (unnumbered earlier) x.0
 unfolding subr_entry
 subr_stands earlier t body x no_glyphs section entry e =
-    let numbered = bind_ok (ok_or (up_to 32000 (decimal_of t)) F8) (λ n. if has (is_subr n) earlier then Err F9 else ok_or (option_map (entry_of (Subr n)) body) F7) x e in
+    let numbered = bind_ok (ok_or (up_to 32000 (decimal_of t)) F8) (λ n. if has_numbered (is_subr n) earlier then Err F9 else ok_or (option_map (entry_of (Subr n)) body) F7) x e in
     let n = numbered.0 in
-    elim (cases_Bool (has (is_subr n) earlier)) [
+    elim (cases_Bool (has_numbered (is_subr n) earlier)) [
       | inl old ↦ let none : Err F9 ≡ Ok x = rw old at numbered.2 in cc
       | inr fresh ↦
           let rest : ok_or (option_map (entry_of (Subr n)) body) F7 ≡ Ok x = rw fresh at numbered.2 in
@@ -120,10 +120,10 @@ line_stands earlier l None None x inner off eo ep e =
     let same : ◌≡◌ {A = Taken} (Plain l, 0) x = cc in
     same_stands (unnumbered earlier) (Plain l) x.0 (ap (λ y. y.0) same) (inner, off, eo, ep)
 line_stands earlier l (Some s) None x inner off eo ep e =
-    elim (cases_Bool (has is_subrs_line earlier || has is_glyphs_line earlier)) [
+    elim (cases_Bool (has_numbered is_subrs_line earlier || has_numbered is_glyphs_line earlier)) [
       | inl late ↦ let none : Err F4 ≡ Ok x = rw late at e in cc
       | inr first ↦
-          let parts = or_parts (has is_subrs_line earlier) (has is_glyphs_line earlier) first in
+          let parts = or_parts (has_numbered is_subrs_line earlier) (has_numbered is_glyphs_line earlier) first in
           let here : ◌≡◌ {A = Result Taken Code} (Ok (s, 0)) (Ok x) = rw first at e in
           let same : ◌≡◌ {A = Taken} (s, 0) x = cc in
           let f = section_form l (count_between (codes "/Subrs") (codes "array") (places_from 0 l)) s eo in
@@ -132,7 +132,7 @@ line_stands earlier l (Some s) None x inner off eo ep e =
           (sym (has_item is_glyphs_line earlier) ∙ parts.1, inl (eo ∙ ap Some (sym f.3), ep, sym (has_item is_subrs_line earlier) ∙ parts.0)))
     ]
 line_stands earlier l None (Some s) x inner off eo ep e =
-    elim (cases_Bool (has is_glyphs_line earlier)) [
+    elim (cases_Bool (has_numbered is_glyphs_line earlier)) [
       | inl late ↦ let none : Err F4 ≡ Ok x = rw late at e in cc
       | inr first ↦
           let here : ◌≡◌ {A = Result Taken Code} (Ok (s, 0)) (Ok x) = rw first at e in
@@ -144,7 +144,7 @@ line_stands earlier l None (Some s) x inner off eo ep e =
 line_stands earlier l (Some s) (Some t) x inner off eo ep e = cc
 
 -- after the CharStrings line
-glyphs_case : (earlier : List NumberedItem) (l : List ℕ) (ls : List (List ℕ)) (x : Taken) (o : Option (List ℕ)) → is_inner l ≡ true → list_all is_inner ls ≡ true → has is_glyphs_line earlier ≡ true → opens_glyph (tokens l) ≡ o
+glyphs_case : (earlier : List NumberedItem) (l : List ℕ) (ls : List (List ℕ)) (x : Taken) (o : Option (List ℕ)) → is_inner l ≡ true → list_all is_inner ls ≡ true → has_numbered is_glyphs_line earlier ≡ true → opens_glyph (tokens l) ≡ o
     → among_glyphs earlier l ls o ≡ Ok x → Stands (unnumbered earlier) x.0
 glyphs_case earlier l ls x None h k section opens e =
     let on : list_any is_glyphs_line (unnumbered earlier) ≡ true = sym (has_item is_glyphs_line earlier) ∙ section in
@@ -152,7 +152,7 @@ glyphs_case earlier l ls x None h k section opens e =
 glyphs_case earlier l ls x (Some t) h k section opens e = glyph_stands earlier t (opened_body l ls) x section (λ b d. opened_entry l ls b h k d) e
 
 -- between the section lines
-subrs_case : (earlier : List NumberedItem) (l : List ℕ) (ls : List (List ℕ)) (x : Taken) (o : Option (List ℕ)) → is_inner l ≡ true → list_all is_inner ls ≡ true → has is_glyphs_line earlier ≡ false → has is_subrs_line earlier ≡ true
+subrs_case : (earlier : List NumberedItem) (l : List ℕ) (ls : List (List ℕ)) (x : Taken) (o : Option (List ℕ)) → is_inner l ≡ true → list_all is_inner ls ≡ true → has_numbered is_glyphs_line earlier ≡ false → has_numbered is_subrs_line earlier ≡ true
     → opens_subr (tokens l) ≡ o → among_subrs earlier l ls o ≡ Ok x → Stands (unnumbered earlier) x.0
 subrs_case earlier l ls x None h k no_glyphs section opens e =
     let no : list_any is_glyphs_line (unnumbered earlier) ≡ false = sym (has_item is_glyphs_line earlier) ∙ no_glyphs in
@@ -161,12 +161,12 @@ subrs_case earlier l ls x None h k no_glyphs section opens e =
 subrs_case earlier l ls x (Some t) h k no_glyphs section opens e = subr_stands earlier t (opened_body l ls) x no_glyphs section (λ b d. opened_entry l ls b h k d) e
 
 -- an item that was read stands after the earlier ones
-pub item_stands : (earlier : List NumberedItem) (l : List ℕ) (ls : List (List ℕ)) (x : Taken) → is_inner l ≡ true → list_all is_inner ls ≡ true → item_at earlier l ls ≡ Ok x → Stands (unnumbered earlier) x.0
-unfolding item_at
+pub item_stands : (earlier : List NumberedItem) (l : List ℕ) (ls : List (List ℕ)) (x : Taken) → is_inner l ≡ true → list_all is_inner ls ≡ true → item_in_front earlier l ls ≡ Ok x → Stands (unnumbered earlier) x.0
+unfolding item_in_front
 item_stands earlier l ls x h k e =
-    elim (cases_Bool (has is_glyphs_line earlier)) [
+    elim (cases_Bool (has_numbered is_glyphs_line earlier)) [
       | inl glyphs ↦ glyphs_case earlier l ls x (opens_glyph (tokens l)) h k glyphs refl (rw glyphs at e)
-      | inr no_glyphs ↦ elim (cases_Bool (has is_subrs_line earlier)) [
+      | inr no_glyphs ↦ elim (cases_Bool (has_numbered is_subrs_line earlier)) [
         | inl subrs ↦ subrs_case earlier l ls x (opens_subr (tokens l)) h k no_glyphs subrs refl (rw (no_glyphs, subrs) at e)
         | inr no_subrs ↦
             let no : list_any is_glyphs_line (unnumbered earlier) ≡ false = sym (has_item is_glyphs_line earlier) ∙ no_glyphs in
@@ -182,7 +182,7 @@ read_stand n ls items h e = (items_keep (λ its rest. (list_all is_inner rest �
     passed : (its : List NumberedItem) (l : List ℕ) (rest : List (List ℕ)) → (list_all is_inner (l ∷ rest) ≡ true) × Stand [] (unnumbered its) → (list_all is_inner rest ≡ true) × Stand [] (unnumbered its)
     passed its l rest k = ((and_parts (is_inner l) (list_all is_inner rest) k.0).1, k.1)
 
-    taken : (its : List NumberedItem) (m : ℕ) (l : List ℕ) (rest : List (List ℕ)) (x : Taken) → (list_all is_inner (l ∷ rest) ≡ true) × Stand [] (unnumbered its) → item_at its l rest ≡ Ok x
+    taken : (its : List NumberedItem) (m : ℕ) (l : List ℕ) (rest : List (List ℕ)) (x : Taken) → (list_all is_inner (l ∷ rest) ≡ true) × Stand [] (unnumbered its) → item_in_front its l rest ≡ Ok x
         → (list_all is_inner rest ≡ true) × Stand [] (unnumbered (its ++ (m, x.0) ∷ []))
     taken its m l rest x k is =
         let parts = and_parts (is_inner l) (list_all is_inner rest) k.0 in

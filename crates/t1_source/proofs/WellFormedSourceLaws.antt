@@ -14,7 +14,7 @@ use Rattle.t1_parts.specs.SourceParts.{SourceParts}
 use Rattle.t1_text.specs.Lines.{begins_with, unified, split_lines, lines, is_line, is_line_end}
 use Rattle.t1_parts.specs.Encoding.{clear_check}
 use Rattle.t1_parts.specs.Sections.{is_glyphs_line}
-use Rattle.t1_parts.specs.Entries.{NumberedItem, has}
+use Rattle.t1_parts.specs.Entries.{NumberedItem, has_numbered}
 use Rattle.t1_parts.specs.Private.{items_of, private_items}
 use Rattle.t1_parts.specs.Parts.{Parts, parts_of, is_eexec, is_closefile, is_zeros, holds, tail_of}
 use Rattle.t1_parts.specs.LenIV.{said_lead, said_with_line, lead_check, lead_of_token}
@@ -203,7 +203,7 @@ lead_well_formed (i ∷ ns) e = lead_said i.0 (said_lead i.1) (filter_map said_w
 whole_well_formed : (ns : List NumberedItem) → whole_check ns ≡ Ok tt → (list_any is_glyphs_line (unnumbered ns) ≡ true) × (says_lead_well (unnumbered ns) ≡ true)
 unfolding whole_check
 whole_well_formed ns e =
-    elim (cases_Bool (has is_glyphs_line ns)) [
+    elim (cases_Bool (has_numbered is_glyphs_line ns)) [
       | inl on ↦ (sym (has_item is_glyphs_line ns) ∙ on, lead_well_formed ns (rw on at e))
       | inr off ↦ let none = rw off at e in cc
     ]

@@ -248,13 +248,13 @@ edited s k (Kern left right v) = beside_source s (kerned k left right v)
 edited s k (Unkern left right) = beside_source s (unkerned k left right)
 
 -- word, edits: a cause is the rule that the definition gives, or want of memory
-abbrev pub Reports : {Y : Type 0} → Cause → Result Y Rule → Type 0
-Reports causes.Memory given = Unit {0}
-Reports (causes.Rule rule) given = given ≡ Err rule
-Reports (causes.Fault fault) given = ⊥
+abbrev pub ReportsRule : {Y : Type 0} → Cause → Result Y Rule → Type 0
+ReportsRule causes.Memory given = Unit {0}
+ReportsRule (causes.Rule rule) given = given ≡ Err rule
+ReportsRule (causes.Fault fault) given = ⊥
 
 -- word, edits: an edit answers what a definition gives: its value, as the view sees it, or its rule, unless memory
 -- ran out
 abbrev pub Edits : {X Y : Type 0} → (X → Y) → Result X Cause → Result Y Rule → Type 0
 Edits view (Ok x) given = given ≡ Ok (view x)
-Edits view (Err cause) given = Reports cause given
+Edits view (Err cause) given = ReportsRule cause given

@@ -38,9 +38,11 @@ pub fn standard_code(name: &[u8]) -> Option<u8>
 
 /// For each code, whether the last of its slots on these lines gives it the name.
 fn codes_named(lines: &[Bytes], name: &[u8]) -> [bool; 256]
-    ensures { (code : ℕ) → code < 256
+    ensures { (code : ℕ)
+        → code < 256
         → get_or result code false
-        ≡ is_token name.now (slot_name (filter_map (λ l. slot_of_tokens (tokens l)) lines.now) code) }
+        ≡ is_token name.now
+        (slot_name (filter_map (λ l. slot_of_tokens (tokens l)) lines.now) code) }
 {
     let mut named = [false; 256];
     for line in lines {
@@ -84,7 +86,10 @@ pub fn standard_names<'a>() -> [Option<&'a [u8]>; 256]
 
 /// The names that the slots on these lines give the codes from 0 to 255.
 fn slot_names(lines: &[Bytes]) -> [Option<&[u8]>; 256]
-    ensures { (code : ℕ) → code < 256 → name_at result code ≡ slot_name (filter_map (λ l. slot_of_tokens (tokens l)) lines.now) code }
+    ensures { (code : ℕ)
+        → code < 256
+        → name_at result code
+        ≡ slot_name (filter_map (λ l. slot_of_tokens (tokens l)) lines.now) code }
 {
     let mut names = [None; 256];
     for line in lines {

@@ -56,7 +56,8 @@ pub enum Rule {
     E12,
 }
 
-/// Why an edit is refused: the first rule that it breaks, a fault of the font that it would make, or want of memory.
+/// Why an edit is refused: the first rule that it breaks, a fault of the font that it would make,
+/// or want of memory.
 #[derive(Debug, Drop, Error)]
 pub enum Cause {
     #[error("a rule is broken")]

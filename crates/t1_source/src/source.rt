@@ -24,14 +24,19 @@ impl<'a> Model for Source<'a> {
 
     ghost Value = { SourceParts };
 
-    ghost view = { λ source. record { clear = source.clear.items; items = source.items; tail = source.tail.items } };
+    ghost view = { λ source.
+        record { clear = source.clear.items; items = source.items; tail = source.tail.items } };
 
     ghost use Rattle.t1_source.specs.WellFormed.{IsWellFormed};
 
-    ghost invariant = { λ source. IsWellFormed (record { clear = source.clear.items; items = source.items; tail = source.tail.items }) };
+    ghost invariant = { λ source.
+        IsWellFormed
+        (record
+        { clear = source.clear.items; items = source.items; tail = source.tail.items }) };
 }
 
-ghost use Rattle.std.specs.Prelude.{◌≡◌, ◌<◌, ◌≤◌, ◌++◌, ◌∷◌, ℕ, [], length, slice_set, slice_index_or, IfOk, IsOk, OnOk, OnErr, option_map};
+ghost use Rattle.std.specs.Prelude.{◌≡◌, ◌<◌, ◌≤◌, ◌++◌, ◌∷◌, ℕ, [], length, slice_set};
+ghost use Rattle.std.specs.Prelude.{slice_index_or, IfOk, IsOk, OnOk, OnErr, option_map};
 ghost use Rattle.std.specs.List.{insert, remove};
 ghost use Rattle.t1_frac.specs.Outcome.{Gives};
 ghost use Rattle.t1_text.specs.Lines.{lines};
@@ -61,16 +66,18 @@ fn check_whole(items: &Gathered) -> Result<(), Fault>
 
 /// The lines of the clear part, of which the eexec line is the last.
 fn clear_lines(alloc: Global, parts: &Parts) -> Result<Vec<Bytes>, AllocError>
-    ensures { IfOk result (λ clear. clear.items ≡ lines parts.now.clear.now ++ parts.now.eexec.now ∷ []) }
+    ensures { IfOk result
+        (λ clear. clear.items ≡ lines parts.now.clear.now ++ parts.now.eexec.now ∷ []) }
 {
     let mut clear = copied_lines(alloc, parts.clear)?;
     clear.push(Bytes::copied(alloc, parts.eexec)?)?;
     Ok(clear)
 }
 
-/// The source of some bytes. The first fault refuses it: F1 where no line ends the clear part, F2 where none ends the
-/// private part, then F5 and F6 of the clear lines, F4 and F7 to F10 of the private lines, each from the top and
-/// with its line, then F3 and F11. No table of the lines is made.
+/// The source of some bytes. The first fault refuses it: F1 where no line ends the clear part, F2
+/// where none ends the private part, then F5 and F6 of the clear lines, F4 and F7 to F10 of the
+/// private lines, each from the top and with its line, then F3 and F11. No table of the lines is
+/// made.
 #[tactic(auto, unfolding(t1_parts::specs::Reading::reads, t1_parts::specs::Reading::reads_lines))]
 pub fn read_source(alloc: Global, bytes: &[u8]) -> Result<Source<'_>, Refusal>
     ensures { Gives (λ source. source) result (reads bytes.now) }
@@ -139,7 +146,8 @@ impl<'a> Source<'a> {
         self.tail.as_slice()
     }
 
-    /// The number of bytes that stand in front of a charstring: lenIV, 4 where no plain line says it.
+    /// The number of bytes that stand in front of a charstring: lenIV, 4 where no plain line says
+    /// it.
     pub fn lead(&self) -> u8
         ensures { result ≡ lead self.now }
     {
@@ -164,8 +172,9 @@ impl<'a> Source<'a> {
         Ok(text)
     }
 
-    /// The value of a header key: `FontName`, `FullName`, `FamilyName`, `Weight`, `version`, `Notice`, `ItalicAngle`,
-    /// `isFixedPitch`, `UnderlinePosition` or `UnderlineThickness`. Any other key has none.
+    /// The value of a header key: `FontName`, `FullName`, `FamilyName`, `Weight`, `version`,
+    /// `Notice`, `ItalicAngle`, `isFixedPitch`, `UnderlinePosition` or `UnderlineThickness`. Any
+    /// other key has none.
     pub fn header(&self, key: &str) -> Option<&[u8]>
         ensures { option_map (λ value. value.now) result ≡ header self.now key.now }
     {
@@ -202,7 +211,8 @@ impl<'a> Source<'a> {
         has_standard(self.clear.as_slice())
     }
 
-    /// Puts an item in the place of one of its kind and key, which never stands among plain lines. It can't fail.
+    /// Puts an item in the place of one of its kind and key, which never stands among plain lines.
+    /// It can't fail.
     pub(crate) fn put_item(&mut self, at: usize, item: Item<'a>) -> Result<(), AllocError>
         requires within { at < length self.old.items }
         requires alone { StandsAloneAt self.old.items at }
@@ -219,7 +229,8 @@ impl<'a> Source<'a> {
     pub(crate) fn insert_item(&mut self, at: usize, item: Item<'a>) -> Result<(), AllocError>
         requires within { at ≤ length self.old.items }
         requires made { IsWellFormed (with_items self.old (insert self.old.items at item)) }
-        ensures ok { OnOk result (self.new ≡ with_items self.old (insert self.old.items at item.entry)) }
+        ensures ok { OnOk result
+            (self.new ≡ with_items self.old (insert self.old.items at item.entry)) }
         ensures err { OnErr result (self.new ≡ self.old) }
     {
         self.items.insert(at, item)?;

@@ -60,8 +60,8 @@ fn knows_standard_names(rt: HostRuntime) {
     assert!(rt; !is_standard_name(b"Aacute"));
 }
 
-/// A writer over memory that takes some bytes a call and in all, and then fails by an error or by taking none. It fails a call
-/// that hands it more than 4,096 bytes.
+/// A writer over memory that takes some bytes a call and in all, and then fails by an error or by
+/// taking none. It fails a call that hands it more than 4,096 bytes.
 #[derive(Drop)]
 struct Short {
     taken: Vec<u8>,
@@ -156,7 +156,8 @@ fn writes_a_byte_a_call(rt: HostRuntime) -> Result<(), Fail> {
     Ok(())
 }
 
-/// What a writer with room for so many bytes takes of the small font in blocks of one byte, and how many of its calls failed.
+/// What a writer with room for so many bytes takes of the small font in blocks of one byte, and how
+/// many of its calls failed.
 fn cut_off(alloc: Global, room: usize, reports: bool) -> Result<(usize, u64), Fail> {
     let trailer = trailer(alloc)?;
     let mut out = Counted::new(Short {
@@ -233,7 +234,8 @@ fn knows_how_long_empty_parts_are(rt: HostRuntime) -> Result<(), Fail> {
     Ok(())
 }
 
-/// One slice of 65,536 bytes, lent 32,768 times, makes a private part that no segment holds. Nothing of it is written.
+/// One slice of 65,536 bytes, lent 32,768 times, makes a private part that no segment holds.
+/// Nothing of it is written.
 #[test]
 fn refuses_a_part_of_two_gigabytes(rt: HostRuntime) -> Result<(), Fail> {
     let alloc = rt.alloc();

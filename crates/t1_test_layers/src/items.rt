@@ -1,4 +1,5 @@
-//! The items of a private part of which 70 lines stand together in memory, parted among these, with memory that doesn't run out.
+//! The items of a private part of which 70 lines stand together in memory, parted among these, with
+//! memory that doesn't run out.
 use std::alloc::Global;
 use std::test::Fail;
 use t1_frac::{SourceText, Words};

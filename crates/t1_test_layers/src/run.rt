@@ -1,4 +1,5 @@
-//! A composite joined of three runs, and the Subrs that a run entered, with memory that doesn't run out.
+//! A composite joined of three runs, and the Subrs that a run entered, with memory that doesn't run
+//! out.
 use indexmap::IndexMap;
 use std::alloc::Global;
 use std::test::Fail;

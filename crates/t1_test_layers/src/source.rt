@@ -1,4 +1,5 @@
-//! A source read, copied and edited, with memory that doesn't run out. The text is that of docs/SOURCE.md.
+//! A source read, copied and edited, with memory that doesn't run out. The text is that of
+//! docs/SOURCE.md.
 use std::alloc::Global;
 use std::test::Fail;
 use t1_frac::Bytes;

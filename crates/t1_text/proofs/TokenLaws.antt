@@ -3,7 +3,7 @@ use Rattle.std.proofs.Common.{◌≡◌, ℕ, Bool, true, false, ◌==◌, ◌+�
 use Rattle.std.specs.List.{onto_first, prefix_len}
 use Rattle.std.proofs.lemmas.Bool.{cases_Bool}
 use Rattle.t1_frac.specs.Words.{is_blank, trimmed_front}
-use Rattle.t1_text.specs.Tokens.{tokens, token_len, is_bracket, is_regular, goes_on, places_from, joins_at, onto_place}
+use Rattle.t1_text.specs.Tokens.{tokens, token_len, is_bracket, is_regular, token_goes_on, places_from, joins_at, onto_place}
 use Rattle.t1_text.proofs.PlaceLaws.{regular_parts, other_place, place_at, no_place_at}
 
 -- the tokens without their places
@@ -12,7 +12,7 @@ bare ps = map (λ t. t.1) ps
 
 -- a byte of a token before the tokens that follow it
 abbrev pub joins : ℕ → List ℕ → List (List ℕ) → List (List ℕ)
-joins c rest ts = if goes_on rest then onto_first c ts else (c ∷ []) ∷ ts
+joins c rest ts = if token_goes_on rest then onto_first c ts else (c ∷ []) ∷ ts
 
 bare_onto : (i c : ℕ) (ps : List (ℕ × List ℕ)) → bare (onto_place i c ps) ≡ onto_first c (bare ps)
 bare_onto i c [] = refl
@@ -23,7 +23,7 @@ bare_if i c true ps = bare_onto i c ps
 bare_if i c false ps = refl
 
 bare_joins : (i c : ℕ) (rest : List ℕ) (ps : List (ℕ × List ℕ)) → bare (joins_at i c rest ps) ≡ joins c rest (bare ps)
-bare_joins i c rest ps = bare_if i c (goes_on rest) ps
+bare_joins i c rest ps = bare_if i c (token_goes_on rest) ps
 
 moved : (i j : ℕ) (l : List ℕ) → bare (places_from i l) ≡ bare (places_from j l)
 moved i j [] = refl

@@ -18,9 +18,9 @@ abbrev pub is_regular : ℕ → Bool
 is_regular c = not (is_blank c || is_bracket c || c == slash || c == percent)
 
 -- profile, tokens: whether a token that has come this far goes on
-abbrev pub goes_on : List ℕ → Bool
-goes_on [] = false
-goes_on (c ∷ rest) = is_regular c
+abbrev pub token_goes_on : List ℕ → Bool
+token_goes_on [] = false
+token_goes_on (c ∷ rest) = is_regular c
 
 -- profile, tokens: a byte before the first token, which then begins at this place
 abbrev pub onto_place : ℕ → ℕ → List (ℕ × List ℕ) → List (ℕ × List ℕ)
@@ -29,7 +29,7 @@ onto_place i c (t ∷ ts) = (i, c ∷ t.1) ∷ ts
 
 -- profile, tokens: a byte of a token at a place, before the tokens that follow it
 abbrev pub joins_at : ℕ → ℕ → List ℕ → List (ℕ × List ℕ) → List (ℕ × List ℕ)
-joins_at i c rest ts = if goes_on rest then onto_place i c ts else (i, c ∷ []) ∷ ts
+joins_at i c rest ts = if token_goes_on rest then onto_place i c ts else (i, c ∷ []) ∷ ts
 
 -- profile, tokens: the tokens of a line, the first byte of which has this place, each with the place where it begins. '%'
 -- begins a comment, a bracket is a token, '/' begins one, and other bytes that aren't blanks form longest runs

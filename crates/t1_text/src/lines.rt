@@ -1,13 +1,15 @@
 //! Cutting a text into lines.
 
-ghost use Rattle.std.specs.Prelude.{◌≡◌, ◌<◌, ◌≤◌, ◌-◌, ◌+◌, ℕ, true, false, List, [], ◌∷◌, ◌++◌, ◌==◌, count_by, length, take, drop, IfOk, OnOk, reverse};
+ghost use Rattle.std.specs.Prelude.{◌≡◌, ◌<◌, ◌≤◌, ◌-◌, ◌+◌, ℕ, true, false, List, [], ◌∷◌, ◌++◌};
+ghost use Rattle.std.specs.Prelude.{◌==◌, count_by, length, take, drop, IfOk, OnOk, reverse};
 ghost use Rattle.std.specs.List.{prefix_len, position_or_len};
 ghost use Rattle.t1_frac.specs.declared.fault.Place.TheVariants as places;
 ghost use Rattle.t1_frac.specs.Ascii.{line_feed};
 ghost use Rattle.t1_frac.specs.Outcome.{fault_at};
 ghost use Rattle.t1_frac.specs.Words.{is_blank};
 ghost use Rattle.t1_text.specs.Delimiters.{is_safe};
-ghost use Rattle.t1_text.specs.Lines.{begins_with, lines, line_ends, is_line, is_line_end, after_end, trimmed};
+ghost use Rattle.t1_text.specs.Lines.{begins_with, lines, line_ends, is_line, is_line_end};
+ghost use Rattle.t1_text.specs.Lines.{after_end, trimmed};
 
 use memchr::{memchr, memchr2, memchr3, memrchr2};
 use std::alloc::{AllocError, Global};
@@ -63,7 +65,8 @@ fn after_end(bytes: &[u8]) -> &[u8]
 /// The bytes before the first line end, and the bytes after it.
 pub fn cut_line(bytes: &[u8]) -> (&[u8], &[u8])
     ensures line { result.0.now ≡ take (position_or_len is_line_end bytes.now) bytes.now }
-    ensures after { result.1.now ≡ after_end (drop (position_or_len is_line_end bytes.now) bytes.now) }
+    ensures after { result.1.now
+        ≡ after_end (drop (position_or_len is_line_end bytes.now) bytes.now) }
 {
     let (line, end) = bytes.split_at(line_len(bytes));
     (line, after_end(end))
@@ -77,7 +80,9 @@ pub fn first_line(bytes: &[u8]) -> (&[u8], &[u8])
     ensures shorter { length result.1.now < length bytes.now }
     ensures front { result.0.now ≡ take (length result.0.now) bytes.now }
     ensures back { result.1.now ≡ drop (length bytes.now - length result.1.now) bytes.now }
-    ensures cut { (j : ℕ) → lines (take (length bytes.now - length result.1.now + j) bytes.now) ≡ result.0.now ∷ lines (take j result.1.now) }
+    ensures cut { (j : ℕ)
+        → lines (take (length bytes.now - length result.1.now + j) bytes.now)
+        ≡ result.0.now ∷ lines (take j result.1.now) }
 {
     cut_line(bytes)
 }
@@ -86,7 +91,9 @@ pub fn first_line(bytes: &[u8]) -> (&[u8], &[u8])
 pub fn last_line_start(bytes: &[u8]) -> usize
     ensures within { result ≤ length bytes.now }
     ensures line { is_line (drop result bytes.now) ≡ true }
-    ensures cut { (back : List ℕ) → begins_with line_feed back ≡ false → lines (take result bytes.now ++ back) ≡ lines (take result bytes.now) ++ lines back }
+    ensures cut { (back : List ℕ)
+        → begins_with line_feed back ≡ false
+        → lines (take result bytes.now ++ back) ≡ lines (take result bytes.now) ++ lines back }
 {
     match memrchr2(b'\n', b'\r', bytes) {
         Some(end) => end + 1,
@@ -130,7 +137,8 @@ pub fn line_ends(text: &[u8]) -> usize
 /// The most bytes whose line feeds a byte can count.
 const COUNTED_AT_ONCE: usize = 255;
 
-/// How many LF stand in so few bytes. The count is a byte too, so that the compiler counts in many bytes at once.
+/// How many LF stand in so few bytes. The count is a byte too, so that the compiler counts in many
+/// bytes at once.
 fn few_line_feeds(text: &[u8]) -> u8
     requires { length text.now ≤ 255 }
     ensures { result ≡ count_by (λ c. c == line_feed) text.now }

@@ -3,7 +3,8 @@
 ghost use Rattle.std.specs.Prelude.{◌≡◌, is_some, option_map, IsTrue};
 ghost use Rattle.std.specs.List.{list_all};
 ghost use Rattle.t1_frac.specs.Numbers.{decimal_value};
-ghost use Rattle.t1_text.specs.Names.{is_name, is_name_byte, name_of_token, decimal_of, up_to, is_count};
+ghost use Rattle.t1_text.specs.Names.{is_name, is_name_byte, name_of_token, decimal_of, up_to};
+ghost use Rattle.t1_text.specs.Names.{is_count};
 
 use crate::tokens::is_regular;
 use t1_frac::{are_digits, leading_number, magnitude};

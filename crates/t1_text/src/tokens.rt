@@ -1,10 +1,12 @@
 //! Cutting a line into tokens.
 
-ghost use Rattle.std.specs.Prelude.{◌≡◌, ◌+◌, ◌^◌, ◌<◌, ◌≤◌, [], ◌∷◌, length, IfSome, MatchOption, option_map};
+ghost use Rattle.std.specs.Prelude.{◌≡◌, ◌+◌, ◌^◌, ◌<◌, ◌≤◌, [], ◌∷◌, length, IfSome, MatchOption};
+ghost use Rattle.std.specs.Prelude.{option_map};
 ghost use Rattle.std.specs.List.{prefix_len};
 ghost use Rattle.std.specs.Str.{bytes_eq};
 ghost use Rattle.t1_frac.specs.Words.{is_blank};
-ghost use Rattle.t1_text.specs.Tokens.{is_bracket, is_regular, token_len, tokens, first_token, first_is, last_is, after_token, places_from};
+ghost use Rattle.t1_text.specs.Tokens.{is_bracket, is_regular, token_len, tokens, first_token};
+ghost use Rattle.t1_text.specs.Tokens.{first_is, last_is, after_token, places_from};
 
 use t1_frac::{blank_len, is_blank, skip_blanks};
 
@@ -59,7 +61,8 @@ pub fn next_token(line: &[u8]) -> Option<(&[u8], &[u8])>
     Some(rest.split_at(token_len(rest)))
 }
 
-/// The first token of a line that begins at a place, with the token's place, and the bytes after it.
+/// The first token of a line that begins at a place, with the token's place, and the bytes after
+/// it.
 #[tactic(auto, using(crate::proofs::PlaceLaws::place_at, crate::proofs::PlaceLaws::no_place_at))]
 pub fn next_place(place: usize, line: &[u8]) -> Option<(usize, &[u8], &[u8])>
     requires { place + length line.now < 2 ^ 64 }
@@ -67,10 +70,10 @@ pub fn next_place(place: usize, line: &[u8]) -> Option<(usize, &[u8], &[u8])>
         result
         (λ found. found.0 + length found.1.now + length found.2.now ≡ place + length line.now) }
     ensures shorter { IfSome result (λ found. length found.2.now < length line.now) }
-    ensures value { MatchOption
-        result
-        (places_from place line.now ≡ [])
-        (λ found. places_from place line.now ≡ (found.0, found.1.now) ∷ places_from (found.0 + length found.1.now) found.2.now) }
+    ensures value { MatchOption result (places_from place line.now ≡ [])
+        (λ found.
+        places_from place line.now
+        ≡ (found.0, found.1.now) ∷ places_from (found.0 + length found.1.now) found.2.now) }
 {
     let count = blank_len(line);
     let rest = line.split_at(count).1;
@@ -126,7 +129,8 @@ pub fn last_is(key: &[u8], line: &[u8]) -> bool
 
 /// The token after the first token of this text; nothing where the text is no token.
 pub fn after_token<'a>(key: &[u8], line: &'a [u8]) -> Option<Option<&'a [u8]>>
-    ensures { option_map (λ said. option_map (λ token. token.now) said) result ≡ after_token key.now (tokens line.now) }
+    ensures { option_map (λ said. option_map (λ token. token.now) said) result
+        ≡ after_token key.now (tokens line.now) }
 {
     let mut rest = line;
     while let Some((token, after)) = next_token(rest) {

@@ -2,7 +2,7 @@
 use Rattle.std.proofs.Common.{◌≡◌, List, ℕ, refl, Option, Result, Ok, Err, inr}
 use Rattle.t1_frac.specs.declared.fault.Fault.{Fault}
 use Rattle.t1_session.specs.Serving.{Serves, Streams}
-use Rattle.t1_session.specs.State.{State}
+use Rattle.t1_session.specs.State.{SessionState}
 use Rattle.t1_disassemble.specs.declared.fault.FontFault.{FontFault}
 use Rattle.t1_session.specs.declared.error.ServeError.{ServeError}
 use Rattle.t1_session.specs.declared.error.ServeError.TheVariants as errors
@@ -33,6 +33,6 @@ on_source (Ok text) source old new does (Err error) e h = let same : text ≡ so
 on_source (Err fault) source old new does answer e h = absurd (cc)
 
 -- a session for which there is no memory reads and writes nothing, whatever it would be on
-pub unopened : {R W : Type 0} (T : Type 0) (remaining : R → Option (List ℕ)) (contents : W → Option (List ℕ)) (given : Result State Fault) (s : Streams R W) → Serves remaining contents {T = T} given s s (Err errors.Memory)
+pub unopened : {R W : Type 0} (T : Type 0) (remaining : R → Option (List ℕ)) (contents : W → Option (List ℕ)) (given : Result SessionState Fault) (s : Streams R W) → Serves remaining contents {T = T} given s s (Err errors.Memory)
 unopened T remaining contents (Ok state) s = inr refl
 unopened T remaining contents (Err fault) s = (refl, tt)

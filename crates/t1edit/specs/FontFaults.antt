@@ -28,14 +28,14 @@ is_glyph [] = false
 is_glyph (byte ∷ rest) = byte == 47
 
 -- profile: a glyph by its name, or a Subr by its number, which stands after 'dup '
-abbrev pub entry_text : List ℕ → List ℕ
-entry_text entry = if is_glyph entry then codes " glyph " ++ drop 1 entry else codes " subr " ++ drop 4 entry
+abbrev pub font_entry_text : List ℕ → List ℕ
+font_entry_text entry = if is_glyph entry then codes " glyph " ++ drop 1 entry else codes " subr " ++ drop 4 entry
 
 -- profile: where a fault stands, after its code
 abbrev pub font_place_text : FontPlace → List ℕ
 font_place_text Nowhere = []
 font_place_text (Byte n) = codes " byte " ++ decimal n
-font_place_text (Entry entry) = entry_text entry
+font_place_text (Entry entry) = font_entry_text entry
 
 -- word: the number that stands in a place
 abbrev pub font_place_number : FontPlace → ℕ

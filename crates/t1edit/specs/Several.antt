@@ -6,7 +6,7 @@ use Rattle.t1_session.specs.declared.error.ServeError.{ServeError}
 use Rattle.t1edit.specs.Checking.{JudgesFile}
 use Rattle.t1edit.specs.FileErrors.{file_error_text, status_of_file}
 use Rattle.t1edit.specs.Sources.{source_in}
-use Rattle.t1edit.specs.Status.{IsWritten, line_of}
+use Rattle.t1edit.specs.Status.{IsWritten, line_with}
 use Rattle.t1edit.specs.declared.file_error.FileError.{FileError}
 use Rattle.t1edit.specs.declared.file_error.FileError.TheVariants.{Served}
 use Rattle.t1edit.specs.declared.kind.Kind.{Kind}
@@ -41,7 +41,7 @@ front_of path = path ++ codes ": "
 -- profile: the line that tells of a file, where it is refused
 abbrev pub answer_lines : List ℕ → Result (Unit {0}) FileError → List (List ℕ)
 answer_lines path (Ok done) = []
-answer_lines path (Err error) = line_of (front_of path) (file_error_text error) ∷ []
+answer_lines path (Err error) = line_with (front_of path) (file_error_text error) ∷ []
 
 -- profile: the lines that tell of all files that are refused, in their order
 abbrev pub lines_of_answers : List (Bor (List ℕ)) → List (Result (Unit {0}) FileError) → List (List ℕ)

@@ -44,12 +44,12 @@ status_of_run (Ok done) = 0
 status_of_run (Err stop) = status_of_stop stop
 
 -- profile: a line that holds a text after what begins it
-abbrev pub line_of : List ℕ → List ℕ → List ℕ
-line_of front text = front ++ text ++ codes "\n"
+abbrev pub line_with : List ℕ → List ℕ → List ℕ
+line_with front text = front ++ text ++ codes "\n"
 
 -- profile: the line that reports the error of a file
 abbrev pub error_line : FileError → List ℕ
-error_line error = line_of (codes "t1edit: ") (file_error_text error)
+error_line error = line_with (codes "t1edit: ") (file_error_text error)
 
 -- profile: the line that reports a misuse
 abbrev pub misuse_line : Misuse → List ℕ

@@ -12,8 +12,8 @@ use t1_code::Counted;
 use t1_frac::Refusal;
 use t1_session::{ServeError, measure_source};
 
-/// Judges a source and a kerning file as measuring them does, and writes nothing: `Ok` where they have an AFM file, else
-/// the fault that measuring reports.
+/// Judges a source and a kerning file as measuring them does, and writes nothing: `Ok` where they
+/// have an AFM file, else the fault that measuring reports.
 pub fn check_source(alloc: Global, source: &[u8], pairs: &[u8]) -> Result<(), Refusal>
     ensures { Gives (λ _. tt) result (verdict source.now pairs.now) }
 {

@@ -17,7 +17,8 @@ pub fn explain<W: Write>(
     code: Option<&str>,
     out: &mut Counted<W>,
 ) -> Result<(), Stop>
-    ensures { Explains W.contents out.old out.new (explanation_of sections.now (option_map (λ word. word.now) code.entry)) result }
+    ensures { Explains W.contents out.old out.new
+        (explanation_of sections.now (option_map (λ word. word.now) code.entry)) result }
 {
     let Ok(explained) = explanation(alloc, sections, code) else {
         return Err(Stop::from(ServeError::Memory));

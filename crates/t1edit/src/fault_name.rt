@@ -31,8 +31,8 @@ fn push_number(text: &mut Vec<u8>, kind: &[u8], number: u64) -> Result<(), Alloc
     Ok(())
 }
 
-/// Adds a place as `check` says it, after a space: ` line 5`, ` subr 7`, ` glyph A`; nothing where it
-/// is nowhere.
+/// Adds a place as `check` says it, after a space: ` line 5`, ` subr 7`, ` glyph A`; nothing where
+/// it is nowhere.
 pub fn push_place(text: &mut Vec<u8>, place: &Place) -> Result<(), AllocError>
     ensures { OnOk result (text.new.items ≡ text.old.items ++ place_text place.now) }
 {

@@ -2,7 +2,7 @@
 ghost use Rattle.std.specs.Prelude.{◌≡◌};
 ghost use Rattle.t1_code.specs.Counted.{Writes};
 ghost use Rattle.t1edit.specs.FileErrors.{file_error_text, served, status_of_file};
-ghost use Rattle.t1edit.specs.Status.{line_of};
+ghost use Rattle.t1edit.specs.Status.{line_with};
 
 use crate::font_fault::put_font_fault;
 use crate::status::{FAULT, report, status_of};
@@ -51,7 +51,7 @@ pub fn put_file_error<W: Write>(
     writer: &mut Counted<W>,
 ) -> io::Result<()>
     ensures { Writes W.contents writer.old writer.new
-        (line_of front.now (file_error_text error.now)) result }
+        (line_with front.now (file_error_text error.now)) result }
 {
     match error {
         FileError::Served(error) => report(front, error, writer),

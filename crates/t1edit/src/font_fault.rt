@@ -1,9 +1,10 @@
 //! The line that reports a fault of a font's file.
 ghost use Rattle.std.specs.Prelude.{◌≡◌, ◌++◌, decimal, drop};
 ghost use Rattle.t1_code.specs.Counted.{Writes};
-ghost use Rattle.t1_code.specs.Parts.{bytes_of};
-ghost use Rattle.t1edit.specs.FontFaults.{font_code_name, font_place_number, font_place_text, font_fault_text, entry_text, is_glyph};
-ghost use Rattle.t1edit.specs.Status.{line_of};
+ghost use Rattle.t1_code.specs.Parts.{slices_bytes};
+ghost use Rattle.t1edit.specs.FontFaults.{font_code_name, font_place_number, font_place_text};
+ghost use Rattle.t1edit.specs.FontFaults.{font_fault_text, font_entry_text, is_glyph};
+ghost use Rattle.t1edit.specs.Status.{line_with};
 
 use itoa::Buffer;
 use std::io::{self, Write};
@@ -63,7 +64,7 @@ fn past(count: usize, bytes: &[u8]) -> &[u8]
 
 /// The line of a fault at an entry, in slices.
 fn entry_slices<'a>(front: &'a [u8], code: &'a [u8], entry: &'a [u8]) -> [&'a [u8]; 5]
-    ensures { bytes_of result ≡ line_of front.now (code.now ++ entry_text entry.now) }
+    ensures { slices_bytes result ≡ line_with front.now (code.now ++ font_entry_text entry.now) }
 {
     if is_glyph(entry) {
         [front, code, b" glyph ", past(1, entry), b"\n"]
@@ -80,7 +81,7 @@ fn line_slices<'a>(
     number: &'a str,
 ) -> [&'a [u8]; 5]
     requires { number.now ≡ decimal (font_place_number place.now) }
-    ensures { bytes_of result ≡ line_of front.now (code.now ++ font_place_text place.now) }
+    ensures { slices_bytes result ≡ line_with front.now (code.now ++ font_place_text place.now) }
 {
     match place {
         FontPlace::Nowhere => [front, code, b"", b"", b"\n"],
@@ -92,7 +93,7 @@ fn line_slices<'a>(
 /// Writes slices, one after another, by way of a chunk: one call of the writer takes up to 4,096
 /// bytes of them.
 fn write_slices<W: Write>(writer: &mut Counted<W>, slices: &[&[u8]]) -> io::Result<()>
-    ensures { Writes W.contents writer.old writer.new (bytes_of slices.now) result }
+    ensures { Writes W.contents writer.old writer.new (slices_bytes slices.now) result }
 {
     let mut chunk = Chunk::new();
     put_slices(writer, &mut chunk, slices)?;
@@ -101,14 +102,14 @@ fn write_slices<W: Write>(writer: &mut Counted<W>, slices: &[&[u8]]) -> io::Resu
 
 /// A line that holds a text after what begins it, in slices.
 fn text_slices<'a>(front: &'a [u8], text: &'a [u8]) -> [&'a [u8]; 3]
-    ensures { bytes_of result ≡ line_of front.now text.now }
+    ensures { slices_bytes result ≡ line_with front.now text.now }
 {
     [front, text, b"\n"]
 }
 
 /// Writes a line that holds a text after what begins it. It takes no memory.
 pub fn put_line<W: Write>(front: &[u8], text: &[u8], writer: &mut Counted<W>) -> io::Result<()>
-    ensures { Writes W.contents writer.old writer.new (line_of front.now text.now) result }
+    ensures { Writes W.contents writer.old writer.new (line_with front.now text.now) result }
 {
     write_slices(writer, &text_slices(front, text))
 }
@@ -122,7 +123,7 @@ pub fn put_font_fault<W: Write>(
     writer: &mut Counted<W>,
 ) -> io::Result<()>
     ensures { Writes W.contents writer.old writer.new
-        (line_of front.now (font_fault_text fault.now)) result }
+        (line_with front.now (font_fault_text fault.now)) result }
 {
     let code = code_name(fault.code);
     let mut buffer = Buffer::new();

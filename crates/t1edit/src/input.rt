@@ -35,11 +35,15 @@ fn read_whole<R: Read>(
     reader: &mut Counted<R>,
     room: usize,
 ) -> Result<Vec<u8>, ServeError>
-    ensures ok { IfOk result (λ bytes. Consumes (R.remaining reader.old.inner) (R.remaining reader.new.inner) bytes.items) }
+    ensures ok { IfOk result
+        (λ bytes.
+        Consumes (R.remaining reader.old.inner) (R.remaining reader.new.inner)
+        bytes.items) }
     ensures at_end { IfOk result (λ _. IsAtEnd (R.remaining reader.new.inner)) }
     ensures errors { IfErr result FailsToRead }
     ensures memory { result ≡ Err ServeError.Memory → reader.new.failures ≡ reader.old.failures }
-    ensures read_failed { result ≡ Err ServeError.Read → reader.new.failures ≡ one_more reader.old.failures }
+    ensures read_failed { result ≡ Err ServeError.Read
+        → reader.new.failures ≡ one_more reader.old.failures }
 {
     let mut bytes = Vec::with_capacity(alloc, room)?;
     let mut buffer = [0; BUFFER_LEN];

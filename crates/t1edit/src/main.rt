@@ -53,7 +53,8 @@ use t1_code::Counted;
 use t1_command_line::{all_sections, command};
 use t1_session::ServeError;
 
-/// The paths that the command line gives: of the source, and of the kerning file where it names one.
+/// The paths that the command line gives: of the source, and of the kerning file where it names
+/// one.
 fn paths<'a>(matches: &ArgMatches<'a>) -> (&'a str, Option<&'a str>) {
     (
         matches.get_str("SOURCE").unwrap_or(""),
@@ -194,8 +195,8 @@ fn check(rt: &HostRuntime, matches: &ArgMatches<'_>) -> Result<(), Stop> {
     }
 }
 
-/// Writes what is told of files in turn; the worst status is 1 where something was found and nothing
-/// is wanted.
+/// Writes what is told of files in turn; the worst status is 1 where something was found and
+/// nothing is wanted.
 fn report<R: Report>(
     rt: &HostRuntime,
     report: &R,
@@ -270,8 +271,8 @@ fn session(rt: &HostRuntime, matches: &ArgMatches<'_>) -> Result<(), Stop> {
     )?)
 }
 
-/// What came of a command line that clap doesn't take for a command, with clap's text: a help, the version, or what is
-/// wrong.
+/// What came of a command line that clap doesn't take for a command, with clap's text: a help, the
+/// version, or what is wrong.
 fn shown(rt: &HostRuntime, error: &Error) -> Result<(), Stop> {
     if error.kind() == ErrorKind::OutOfMemory {
         return Err(Stop::from(ServeError::Memory));

@@ -4,7 +4,7 @@ ghost use Rattle.t1_code.specs.Counted.{Writes};
 ghost use Rattle.t1edit.specs.FileErrors.{file_error_text};
 ghost use Rattle.t1edit.specs.Several.{AreWritten, Becomes, ChecksAll};
 ghost use Rattle.t1edit.specs.Several.{answer_lines, front_of, status_of_answer};
-ghost use Rattle.t1edit.specs.Status.{line_of};
+ghost use Rattle.t1edit.specs.Status.{line_with};
 
 use crate::checking::check_file;
 use crate::file_error::{FileError, put_file_error, status_of_file};
@@ -65,7 +65,7 @@ fn check_path<F: Files>(
 /// Writes the line of a file that is refused, which begins with the file's name.
 fn put_refused<W: Write>(path: &str, error: &FileError, writer: &mut Counted<W>) -> io::Result<()>
     ensures { Writes W.contents writer.old writer.new
-        (line_of (front_of path.now) (file_error_text error.now)) result }
+        (line_with (front_of path.now) (file_error_text error.now)) result }
 {
     writer.put_all(path.as_bytes())?;
     put_file_error(b": ", error, writer)

@@ -4,8 +4,8 @@ ghost use Rattle.t1edit.specs.Shown.{shown, shown_byte};
 
 use std::alloc::{AllocError, Global};
 
-/// Adds a byte as it is shown: a space and what is printed as they are, any other byte by its value,
-/// as `\xa0`.
+/// Adds a byte as it is shown: a space and what is printed as they are, any other byte by its
+/// value, as `\xa0`.
 fn push_shown_byte(alloc: Global, text: &mut Vec<u8>, byte: u8) -> Result<(), AllocError>
     ensures { OnOk result (text.new.items ≡ text.old.items ++ shown_byte byte) }
 {

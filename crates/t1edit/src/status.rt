@@ -2,7 +2,7 @@
 ghost use Rattle.std.specs.Prelude.{◌≡◌, IfErr};
 ghost use Rattle.t1_code.specs.Counted.{Writes};
 ghost use Rattle.t1edit.specs.FileErrors.{error_text, status_of, status_of_file};
-ghost use Rattle.t1edit.specs.Status.{error_line, line_of, misuse_line};
+ghost use Rattle.t1edit.specs.Status.{error_line, line_with, misuse_line};
 ghost use Rattle.t1edit.specs.Status.{status_of_misuse, status_of_stop, status_of_run};
 ghost use Rattle.t1edit.specs.Status.{IsWritten, ReportsStop, ReportsRun};
 
@@ -139,7 +139,7 @@ impl From<FontRefusal> for Stop {
 /// Writes the line that reports an error, after a text that begins it. It takes no memory.
 pub fn report<W: Write>(front: &[u8], error: &ServeError, writer: &mut Counted<W>) -> io::Result<()>
     ensures { Writes W.contents writer.old writer.new
-        (line_of front.now (error_text error.now)) result }
+        (line_with front.now (error_text error.now)) result }
 {
     match error {
         ServeError::Load(fault) => put_fault(writer, front, fault, b"\n"),

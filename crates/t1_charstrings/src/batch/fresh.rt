@@ -1,7 +1,7 @@
 //! The charstrings of the entries that edits replace or add.
 ghost use Rattle.std.specs.Prelude.{Some, OnErr, OnOk};
 ghost use Rattle.t1_run.specs.Run.{Subr, Glyph};
-ghost use Rattle.t1_charstrings.specs.Changed.{AreUnchanged, Sets};
+ghost use Rattle.t1_charstrings.specs.Changed.{AreSameCharstrings, Sets};
 ghost use Rattle.t1_charstrings.specs.Entries.{encrypted};
 
 use crate::changed::{insert_glyph, insert_subr};
@@ -10,8 +10,8 @@ use crate::entries::Charstrings;
 use std::alloc::{AllocError, Global};
 use t1_code::Body;
 
-/// Keeps a Subr, encrypted with so many leading bytes, in the place of what was kept of it. Where memory runs out all stays
-/// as it was.
+/// Keeps a Subr, encrypted with so many leading bytes, in the place of what was kept of it. Where
+/// memory runs out all stays as it was.
 pub fn put_fresh_subr(
     alloc: Global,
     lead: u8,
@@ -19,15 +19,17 @@ pub fn put_fresh_subr(
     number: u16,
     body: &Body,
 ) -> Result<(), AllocError>
-    ensures sets { OnOk result (Sets (Subr number) (Some (encrypted lead (Subr number) body.now)) fresh.old fresh.new) }
-    ensures refused { OnErr result (AreUnchanged fresh.old fresh.new) }
+    ensures sets { OnOk result
+        (Sets (Subr number) (Some (encrypted lead (Subr number) body.now)) fresh.old
+        fresh.new) }
+    ensures refused { OnErr result (AreSameCharstrings fresh.old fresh.new) }
 {
     let entry = encrypted_subr(alloc, lead, number, body)?;
     insert_subr(fresh, number, entry)
 }
 
-/// Keeps a glyph, encrypted with so many leading bytes, in the place of what was kept of it. Where memory runs out all stays
-/// as it was.
+/// Keeps a glyph, encrypted with so many leading bytes, in the place of what was kept of it. Where
+/// memory runs out all stays as it was.
 pub fn put_fresh_glyph(
     alloc: Global,
     lead: u8,
@@ -35,8 +37,10 @@ pub fn put_fresh_glyph(
     name: &[u8],
     body: &Body,
 ) -> Result<(), AllocError>
-    ensures sets { OnOk result (Sets (Glyph name.now) (Some (encrypted lead (Glyph name.now) body.now)) fresh.old fresh.new) }
-    ensures refused { OnErr result (AreUnchanged fresh.old fresh.new) }
+    ensures sets { OnOk result
+        (Sets (Glyph name.now) (Some (encrypted lead (Glyph name.now) body.now)) fresh.old
+        fresh.new) }
+    ensures refused { OnErr result (AreSameCharstrings fresh.old fresh.new) }
 {
     let entry = encrypted_glyph(alloc, lead, name, body)?;
     insert_glyph(fresh, Vec::from_slice(alloc, name)?, entry)

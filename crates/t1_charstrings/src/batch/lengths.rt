@@ -4,7 +4,8 @@ ghost use Rattle.t1_parts.specs.ItemRefs.{item_of};
 ghost use Rattle.t1_parts.specs.LenIV.{lead};
 ghost use Rattle.t1_parts.specs.SourceParts.{SourceParts};
 ghost use Rattle.t1_run.specs.Run.{Key};
-ghost use Rattle.t1_charstrings.specs.Batch.{has_line, line_by, over, text_by, AreFresh, IsBatchOf};
+ghost use Rattle.t1_charstrings.specs.Batch.{has_line, item_line_by, fresh_over, text_by, AreFresh};
+ghost use Rattle.t1_charstrings.specs.Batch.{IsBatchOf};
 ghost use Rattle.t1_font.specs.Lengths.{IsPrivateLen};
 
 use crate::entries::Charstrings;
@@ -23,14 +24,17 @@ fn has_line(charstrings: &Charstrings, item: &Item) -> bool
     }
 }
 
-/// How long the line of an item is, up to 2^64 - 1: that of its fresh charstring, or else that of the old one.
+/// How long the line of an item is, up to 2^64 - 1: that of its fresh charstring, or else that of
+/// the old one.
 pub(crate) fn batch_line_len(
     charstrings: &Charstrings,
     fresh: &Charstrings,
     operator: &[u8],
     item: &Item,
 ) -> usize
-    ensures { result ≡ min (length (line_by (over fresh.now charstrings.now) operator.now item.now)) (2 ^ 64 - 1) }
+    ensures { result
+        ≡ min (length (item_line_by (fresh_over fresh.now charstrings.now) operator.now item.now))
+        (2 ^ 64 - 1) }
 {
     if has_line(fresh, item) {
         return line_len(fresh, operator, item);
@@ -38,14 +42,19 @@ pub(crate) fn batch_line_len(
     line_len(charstrings, operator, item)
 }
 
-/// How long the line of an item is, where it stands, up to 2^64 - 1: that of its fresh charstring, or else that of the old one.
+/// How long the line of an item is, where it stands, up to 2^64 - 1: that of its fresh charstring,
+/// or else that of the old one.
 fn batch_line_ref_len(
     charstrings: &Charstrings,
     fresh: &Charstrings,
     operator: &[u8],
     item: &ItemRef,
 ) -> usize
-    ensures { result ≡ min (length (line_by (over fresh.now charstrings.now) operator.now (item_of item.now))) (2 ^ 64 - 1) }
+    ensures { result
+        ≡ min
+        (length
+        (item_line_by (fresh_over fresh.now charstrings.now) operator.now
+        (item_of item.now))) (2 ^ 64 - 1) }
 {
     match item {
         ItemRef::Line(line) => line.len().saturating_add(1),
@@ -60,7 +69,9 @@ fn batch_items_len(
     operator: &[u8],
     items: &Items,
 ) -> usize
-    ensures { result ≡ min (length (text_by (over fresh.now charstrings.now) operator.now items.now)) (2 ^ 64 - 1) }
+    ensures { result
+        ≡ min (length (text_by (fresh_over fresh.now charstrings.now) operator.now items.now))
+        (2 ^ 64 - 1) }
 {
     let mut total: usize = 0;
     for item in items.iter() {
@@ -69,10 +80,14 @@ fn batch_items_len(
     total
 }
 
-/// How long the private text of an edited source is, up to 2^64 - 1, by the fresh charstrings of the entries that were edited
-/// and the old ones of the others. The items are gone through once, and nothing is copied.
+/// How long the private text of an edited source is, up to 2^64 - 1, by the fresh charstrings of
+/// the entries that were edited and the old ones of the others. The items are gone through once,
+/// and nothing is copied.
 pub fn batch_len(charstrings: &Charstrings, fresh: &Charstrings, source: &Source) -> usize
-    ensures { (keys : List Key) (s : SourceParts) → IsBatchOf keys s source.now charstrings.now → AreFresh (lead source.now) keys source.now fresh.now → IsPrivateLen source.now result }
+    ensures { (keys : List Key) (s : SourceParts)
+        → IsBatchOf keys s source.now charstrings.now
+        → AreFresh (lead source.now) keys source.now fresh.now
+        → IsPrivateLen source.now result }
 {
     batch_items_len(charstrings, fresh, source.operator(), source.items())
 }

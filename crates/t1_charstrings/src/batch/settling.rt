@@ -3,9 +3,9 @@ ghost use Rattle.std.specs.Prelude.{◌≡◌, ◌≤◌, ℕ, List, None, if◌
 ghost use Rattle.std.specs.Option.{option_or};
 ghost use Rattle.indexmap.specs.IndexMap.{spare};
 ghost use Rattle.t1_run.specs.Run.{Key};
-ghost use Rattle.t1_charstrings.specs.Batch.{gone_key, is_gone, over};
+ghost use Rattle.t1_charstrings.specs.Batch.{gone_key, is_gone, fresh_over};
 ghost use Rattle.t1_charstrings.specs.Changed.{Sets};
-ghost use Rattle.t1_charstrings.specs.Entries.{glyph_kept, subr_kept};
+ghost use Rattle.t1_charstrings.specs.Entries.{glyph_charstring, subr_charstring};
 ghost use Rattle.t1_charstrings.specs.Kept.{kept_at};
 
 use crate::changed::{insert_glyph, insert_subr};
@@ -16,7 +16,8 @@ use indexmap::IndexMap;
 /// Takes the charstring of an entry out.
 fn take_one_out(charstrings: &mut Charstrings, gone: &Gone)
     ensures sets { Sets (gone_key gone.now) None charstrings.old charstrings.new }
-    ensures room { (spare charstrings.old.subrs ≤ spare charstrings.new.subrs) × (spare charstrings.old.glyphs ≤ spare charstrings.new.glyphs) }
+    ensures room { (spare charstrings.old.subrs ≤ spare charstrings.new.subrs)
+        × (spare charstrings.old.glyphs ≤ spare charstrings.new.glyphs) }
 {
     match gone {
         Gone::Subr(number) => {
@@ -30,8 +31,11 @@ fn take_one_out(charstrings: &mut Charstrings, gone: &Gone)
 
 /// Takes the charstrings of entries out. It takes no memory and can't fail.
 pub(crate) fn take_out(charstrings: &mut Charstrings, gone: &[Gone])
-    ensures kept { (k : Key) → kept_at charstrings.new k ≡ (if is_gone gone.now k then None else kept_at charstrings.old k) }
-    ensures room { (spare charstrings.old.subrs ≤ spare charstrings.new.subrs) × (spare charstrings.old.glyphs ≤ spare charstrings.new.glyphs) }
+    ensures kept { (k : Key)
+        → kept_at charstrings.new k
+        ≡ (if is_gone gone.now k then None else kept_at charstrings.old k) }
+    ensures room { (spare charstrings.old.subrs ≤ spare charstrings.new.subrs)
+        × (spare charstrings.old.glyphs ≤ spare charstrings.new.glyphs) }
 {
     for entry in gone {
         take_one_out(charstrings, entry);
@@ -40,7 +44,11 @@ pub(crate) fn take_out(charstrings: &mut Charstrings, gone: &[Gone])
 
 /// Puts the charstrings of Subrs in, in room that was made.
 fn put_subrs(charstrings: &mut Charstrings, fresh: IndexMap<u16, Entry>)
-    ensures subrs { length fresh.entries ≤ spare charstrings.old.subrs → (n : ℕ) → subr_kept charstrings.new.subrs.entries n ≡ option_or (subr_kept fresh.entries n) (subr_kept charstrings.old.subrs.entries n) }
+    ensures subrs { length fresh.entries ≤ spare charstrings.old.subrs
+        → (n : ℕ)
+        → subr_charstring charstrings.new.subrs.entries n
+        ≡ option_or (subr_charstring fresh.entries n)
+        (subr_charstring charstrings.old.subrs.entries n) }
     ensures glyphs { charstrings.new.glyphs ≡ charstrings.old.glyphs }
 {
     let mut left = fresh;
@@ -51,7 +59,11 @@ fn put_subrs(charstrings: &mut Charstrings, fresh: IndexMap<u16, Entry>)
 
 /// Puts the charstrings of glyphs in, in room that was made.
 fn put_glyphs(charstrings: &mut Charstrings, fresh: IndexMap<Vec<u8>, Entry>)
-    ensures glyphs { length fresh.entries ≤ spare charstrings.old.glyphs → (g : List ℕ) → glyph_kept charstrings.new.glyphs.entries g ≡ option_or (glyph_kept fresh.entries g) (glyph_kept charstrings.old.glyphs.entries g) }
+    ensures glyphs { length fresh.entries ≤ spare charstrings.old.glyphs
+        → (g : List ℕ)
+        → glyph_charstring charstrings.new.glyphs.entries g
+        ≡ option_or (glyph_charstring fresh.entries g)
+        (glyph_charstring charstrings.old.glyphs.entries g) }
     ensures subrs { charstrings.new.subrs ≡ charstrings.old.subrs }
 {
     let mut left = fresh;
@@ -60,10 +72,13 @@ fn put_glyphs(charstrings: &mut Charstrings, fresh: IndexMap<Vec<u8>, Entry>)
     }
 }
 
-/// Puts charstrings in, each in the place of what was kept of its entry. In room that was made it takes no memory and can't
-/// fail.
+/// Puts charstrings in, each in the place of what was kept of its entry. In room that was made it
+/// takes no memory and can't fail.
 pub(crate) fn put_in(charstrings: &mut Charstrings, fresh: Charstrings)
-    ensures { length fresh.subrs.entries ≤ spare charstrings.old.subrs → length fresh.glyphs.entries ≤ spare charstrings.old.glyphs → (k : Key) → kept_at charstrings.new k ≡ over fresh charstrings.old k }
+    ensures { length fresh.subrs.entries ≤ spare charstrings.old.subrs
+        → length fresh.glyphs.entries ≤ spare charstrings.old.glyphs
+        → (k : Key)
+        → kept_at charstrings.new k ≡ fresh_over fresh charstrings.old k }
 {
     let Charstrings { subrs, glyphs } = fresh;
     put_subrs(charstrings, subrs);

@@ -1,6 +1,6 @@
 //! The faults of a body, and of the PFB file.
 ghost use Rattle.std.specs.Prelude.{◌≡◌};
-ghost use Rattle.t1_command_line.specs.Codes.{outline_of, bodies};
+ghost use Rattle.t1_command_line.specs.Codes.{outline_of, body_codes};
 
 use crate::table::FAULT_EXAMPLE;
 use crate::topic::{Section, Topic};
@@ -69,7 +69,7 @@ const SECTION: Section = Section {
 };
 
 pub(crate) fn section() -> Section
-    ensures { outline_of result ≡ bodies }
+    ensures { outline_of result ≡ body_codes }
 {
     SECTION
 }

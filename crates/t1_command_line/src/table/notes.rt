@@ -1,6 +1,6 @@
 //! The notes on a source, which are no faults.
 ghost use Rattle.std.specs.Prelude.{◌≡◌};
-ghost use Rattle.t1_command_line.specs.Codes.{outline_of, notes};
+ghost use Rattle.t1_command_line.specs.Codes.{outline_of, note_codes};
 
 use crate::topic::{Section, Topic};
 
@@ -210,7 +210,7 @@ const SECTION: Section = Section {
 };
 
 pub(crate) fn section() -> Section
-    ensures { outline_of result ≡ notes }
+    ensures { outline_of result ≡ note_codes }
 {
     SECTION
 }

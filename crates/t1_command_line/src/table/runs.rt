@@ -1,6 +1,6 @@
 //! The faults of running a glyph.
 ghost use Rattle.std.specs.Prelude.{◌≡◌};
-ghost use Rattle.t1_command_line.specs.Codes.{outline_of, runs};
+ghost use Rattle.t1_command_line.specs.Codes.{outline_of, run_codes};
 
 use crate::table::FAULT_EXAMPLE;
 use crate::topic::{Section, Topic};
@@ -264,7 +264,7 @@ const SECTION: Section = Section {
 };
 
 pub(crate) fn section() -> Section
-    ensures { outline_of result ≡ runs }
+    ensures { outline_of result ≡ run_codes }
 {
     SECTION
 }

@@ -11,7 +11,8 @@ ghost use Rattle.t1_font.specs.Bodies.{bodies_check};
 ghost use Rattle.t1_cache.specs.declared.records.Named.TheVariants as named;
 ghost use Rattle.t1_cache.specs.Users.{key_of};
 ghost use Rattle.t1_held.specs.Batch.{entry_edit, keys, AreBatchChanges, IsEditedBy};
-ghost use Rattle.t1_held.specs.Passing.{all_removed, after_item, after_items, changes_by, item_put, items_put, mark_at, put_of, removed_at, without};
+ghost use Rattle.t1_held.specs.Passing.{all_removed, after_item, after_items, changes_by, item_put};
+ghost use Rattle.t1_held.specs.Passing.{items_put, mark_at, put_of, removed_at, without_key};
 
 use crate::batch::entries::EditedEntry;
 use crate::batch::marks::Marks;
@@ -23,15 +24,19 @@ use t1_parts::Items;
 use t1_rerun::EntryChange;
 use t1_source::{Item, Source};
 
-/// A Subr with the commands of its words, or their fault, where it is marked; its mark is taken out.
+/// A Subr with the commands of its words, or their fault, where it is marked; its mark is taken
+/// out.
 fn subr_change(
     alloc: Global,
     marks: &mut Marks,
     number: u16,
     words: &Words,
 ) -> Result<Option<EntryChange>, Refusal>
-    ensures change { Gives (λ change. change) result (put_of (mark_at marks.old (Subr number)) (named.Subr number) (places.Subr number) words.now) }
-    ensures others { (k : Key) → mark_at marks.new k ≡ without (Subr number) (mark_at marks.old) k }
+    ensures change { Gives (λ change. change) result
+        (put_of (mark_at marks.old (Subr number)) (named.Subr number) (places.Subr number)
+        words.now) }
+    ensures others { (k : Key)
+        → mark_at marks.new k ≡ without_key (Subr number) (mark_at marks.old) k }
 {
     let Some(moved) = marks.take_subr(number) else {
         return Ok(None);
@@ -44,15 +49,19 @@ fn subr_change(
     }))
 }
 
-/// A glyph with the commands of its words, or their fault, where it is marked; its mark is taken out.
+/// A glyph with the commands of its words, or their fault, where it is marked; its mark is taken
+/// out.
 fn glyph_change(
     alloc: Global,
     marks: &mut Marks,
     name: &[u8],
     words: &Words,
 ) -> Result<Option<EntryChange>, Refusal>
-    ensures change { Gives (λ change. change) result (put_of (mark_at marks.old (Glyph name.now)) (named.Glyph name.now) (places.Glyph name.now) words.now) }
-    ensures others { (k : Key) → mark_at marks.new k ≡ without (Glyph name.now) (mark_at marks.old) k }
+    ensures change { Gives (λ change. change) result
+        (put_of (mark_at marks.old (Glyph name.now)) (named.Glyph name.now)
+        (places.Glyph name.now) words.now) }
+    ensures others { (k : Key)
+        → mark_at marks.new k ≡ without_key (Glyph name.now) (mark_at marks.old) k }
 {
     let Some(moved) = marks.take_glyph(name) else {
         return Ok(None);
@@ -95,14 +104,17 @@ fn push_change(
     Ok(())
 }
 
-/// The marked entries of the items, each with its commands, or the first fault of one; their marks are taken out.
+/// The marked entries of the items, each with its commands, or the first fault of one; their marks
+/// are taken out.
 fn changes_of_items(
     alloc: Global,
     marks: &mut Marks,
     items: &Items,
 ) -> Result<Vec<EntryChange>, Refusal>
-    ensures changes { Gives (λ changes. changes.items) result (items_put (mark_at marks.old) items.now) }
-    ensures others { OnOk result ((k : Key) → mark_at marks.new k ≡ after_items items.now (mark_at marks.old) k) }
+    ensures changes { Gives (λ changes. changes.items) result
+        (items_put (mark_at marks.old) items.now) }
+    ensures others { OnOk result
+        ((k : Key) → mark_at marks.new k ≡ after_items items.now (mark_at marks.old) k) }
 {
     let mut changes = Vec::new(alloc);
     for item in items.iter().alone() {
@@ -115,7 +127,8 @@ fn changes_of_items(
 /// An entry that was removed, where it is still marked; its mark is taken out.
 fn removed_change(marks: &mut Marks, named: Named) -> Option<EntryChange>
     ensures change { result ≡ removed_at (mark_at marks.old (key_of named)) named }
-    ensures others { (k : Key) → mark_at marks.new k ≡ without (key_of named) (mark_at marks.old) k }
+    ensures others { (k : Key)
+        → mark_at marks.new k ≡ without_key (key_of named) (mark_at marks.old) k }
 {
     marks.take(&named)?;
     Some(EntryChange {
@@ -131,7 +144,8 @@ fn push_removed(
     marks: Marks,
     entries: Vec<EditedEntry>,
 ) -> Result<(), AllocError>
-    ensures { OnOk result (changes.new.items ≡ changes.old.items ++ all_removed (mark_at marks) entries.items) }
+    ensures { OnOk result
+        (changes.new.items ≡ changes.old.items ++ all_removed (mark_at marks) entries.items) }
 {
     let mut marks = marks;
     for entry in entries {
@@ -155,15 +169,22 @@ fn changes_by_entries(
     Ok(changes)
 }
 
-/// What became of the entries that the edits of a batch name, each once: its body in the batch's source, `None` where it was
-/// removed, and whether an edit added it. Or the source's first fault. It is one pass over the source, and compiles these
-/// entries alone.
+/// What became of the entries that the edits of a batch name, each once: its body in the batch's
+/// source, `None` where it was removed, and whether an edit added it. Or the source's first fault.
+/// It is one pass over the source, and compiles these entries alone.
 pub fn batch_changes(
     alloc: Global,
     source: &Source,
     entries: Vec<EditedEntry>,
 ) -> Result<Vec<EntryChange>, Refusal>
-    ensures { (old : SourceParts) → IsWellFormed old → bodies_check old.items ≡ Ok tt → IsEditedBy (map entry_edit entries.items) old source.now → MatchResult result (λ changes. AreBatchChanges old source.now (keys (map entry_edit entries.items)) changes.items) (λ refusal. Refuses refusal (file_check source.now)) }
+    ensures { (old : SourceParts)
+        → IsWellFormed old
+        → bodies_check old.items ≡ Ok tt
+        → IsEditedBy (map entry_edit entries.items) old source.now
+        → MatchResult result
+        (λ changes.
+        AreBatchChanges old source.now (keys (map entry_edit entries.items)) changes.items)
+        (λ refusal. Refuses refusal (file_check source.now)) }
 {
     changes_by_entries(alloc, source.items(), entries)
 }

@@ -68,7 +68,11 @@ fn adds_entry(edit: &Edit) -> bool
 
 /// The entry that an edit names, where it names one.
 pub fn edited_entry(alloc: Global, edit: &Edit) -> Result<Option<EditedEntry>, AllocError>
-    ensures { IfOk result (λ entry. option_map entry_edit entry ≡ option_map (λ key. record { key = key; added = adds edit.now }) (entry_key edit.now)) }
+    ensures { IfOk result
+        (λ entry.
+        option_map entry_edit entry
+        ≡ option_map (λ key. record { key = key; added = adds edit.now })
+        (entry_key edit.now)) }
 {
     let Some(named) = named_entry(alloc, edit)? else {
         return Ok(None);

@@ -3,7 +3,8 @@ ghost use Rattle.std.specs.Prelude.{◌≡◌, ℕ, List, None, Some, IfOk, OnOk
 ghost use Rattle.std.specs.Str.{bytes_eq};
 ghost use Rattle.t1_run.specs.Run.{Key, Subr, Glyph};
 ghost use Rattle.t1_cache.specs.Users.{key_of};
-ghost use Rattle.t1_held.specs.Passing.{all_marked, glyph_mark, mark_at, marked, none_sought, subr_mark, with_mark, without};
+ghost use Rattle.t1_held.specs.Passing.{all_marked, glyph_mark, mark_at, marked, none_sought};
+ghost use Rattle.t1_held.specs.Passing.{subr_mark, with_mark, without_key};
 
 use crate::batch::entries::EditedEntry;
 use indexmap::IndexMap;
@@ -26,7 +27,11 @@ fn now_added(was_added: Option<bool>, added: bool) -> bool
 
 /// Marks a Subr. One that was added stays so marked.
 fn mark_subr(subrs: &mut IndexMap<u16, bool>, number: u16, added: bool) -> Result<(), AllocError>
-    ensures { OnOk result ((n : ℕ) → subr_mark subrs.new.entries n ≡ (if nat_eq n number then marked added (subr_mark subrs.old.entries n) else subr_mark subrs.old.entries n)) }
+    ensures { OnOk result
+        ((n : ℕ)
+        → subr_mark subrs.new.entries n
+        ≡ (if nat_eq n number then marked added (subr_mark subrs.old.entries n) else subr_mark
+        subrs.old.entries n)) }
 {
     let added = now_added(subrs.get(&number).copied(), added);
     subrs.insert(number, added)?;
@@ -40,7 +45,11 @@ fn mark_glyph(
     name: &[u8],
     added: bool,
 ) -> Result<(), AllocError>
-    ensures { OnOk result ((g : List ℕ) → glyph_mark glyphs.new.entries g ≡ (if bytes_eq g name.now then marked added (glyph_mark glyphs.old.entries g) else glyph_mark glyphs.old.entries g)) }
+    ensures { OnOk result
+        ((g : List ℕ)
+        → glyph_mark glyphs.new.entries g
+        ≡ (if bytes_eq g name.now then marked added (glyph_mark glyphs.old.entries g) else
+        glyph_mark glyphs.old.entries g)) }
 {
     let added = now_added(glyphs.get(name).copied(), added);
     glyphs.insert(Vec::from_slice(alloc, name)?, added)?;
@@ -50,7 +59,9 @@ fn mark_glyph(
 /// Takes out the mark of a Subr. It takes no memory.
 fn take_subr(subrs: &mut IndexMap<u16, bool>, number: u16) -> Option<bool>
     ensures taken { result ≡ subr_mark subrs.old.entries number }
-    ensures others { (n : ℕ) → subr_mark subrs.new.entries n ≡ (if nat_eq number n then None else subr_mark subrs.old.entries n) }
+    ensures others { (n : ℕ)
+        → subr_mark subrs.new.entries n
+        ≡ (if nat_eq number n then None else subr_mark subrs.old.entries n) }
 {
     subrs.swap_remove(&number)
 }
@@ -58,7 +69,9 @@ fn take_subr(subrs: &mut IndexMap<u16, bool>, number: u16) -> Option<bool>
 /// Takes out the mark of a glyph. It takes no memory.
 fn take_glyph(glyphs: &mut IndexMap<Vec<u8>, bool>, name: &[u8]) -> Option<bool>
     ensures taken { result ≡ glyph_mark glyphs.old.entries name.now }
-    ensures others { (g : List ℕ) → glyph_mark glyphs.new.entries g ≡ (if bytes_eq name.now g then None else glyph_mark glyphs.old.entries g) }
+    ensures others { (g : List ℕ)
+        → glyph_mark glyphs.new.entries g
+        ≡ (if bytes_eq name.now g then None else glyph_mark glyphs.old.entries g) }
 {
     glyphs.swap_remove(name)
 }
@@ -66,7 +79,10 @@ fn take_glyph(glyphs: &mut IndexMap<Vec<u8>, bool>, name: &[u8]) -> Option<bool>
 impl Marks {
     /// Marks an entry.
     fn mark(&mut self, alloc: Global, entry: &EditedEntry) -> Result<(), AllocError>
-        ensures { OnOk result ((k : Key) → mark_at self.new k ≡ with_mark (key_of entry.now.named) entry.now.added (mark_at self.old) k) }
+        ensures { OnOk result
+            ((k : Key)
+            → mark_at self.new k
+            ≡ with_mark (key_of entry.now.named) entry.now.added (mark_at self.old) k) }
     {
         match &entry.named {
             Named::Subr(number) => mark_subr(&mut self.subrs, *number, entry.added),
@@ -76,7 +92,8 @@ impl Marks {
 
     /// The marks of these entries.
     pub fn of(alloc: Global, entries: &[EditedEntry]) -> Result<Marks, AllocError>
-        ensures { IfOk result (λ marks. (k : Key) → mark_at marks k ≡ all_marked entries.now none_sought k) }
+        ensures { IfOk result
+            (λ marks. (k : Key) → mark_at marks k ≡ all_marked entries.now none_sought k) }
     {
         let mut marks = Marks {
             subrs: IndexMap::new(alloc),
@@ -91,7 +108,8 @@ impl Marks {
     /// Takes out the mark of a Subr. It takes no memory.
     pub fn take_subr(&mut self, number: u16) -> Option<bool>
         ensures taken { result ≡ mark_at self.old (Subr number) }
-        ensures others { (k : Key) → mark_at self.new k ≡ without (Subr number) (mark_at self.old) k }
+        ensures others { (k : Key)
+            → mark_at self.new k ≡ without_key (Subr number) (mark_at self.old) k }
     {
         take_subr(&mut self.subrs, number)
     }
@@ -99,7 +117,8 @@ impl Marks {
     /// Takes out the mark of a glyph. It takes no memory.
     pub fn take_glyph(&mut self, name: &[u8]) -> Option<bool>
         ensures taken { result ≡ mark_at self.old (Glyph name.now) }
-        ensures others { (k : Key) → mark_at self.new k ≡ without (Glyph name.now) (mark_at self.old) k }
+        ensures others { (k : Key)
+            → mark_at self.new k ≡ without_key (Glyph name.now) (mark_at self.old) k }
     {
         take_glyph(&mut self.glyphs, name)
     }
@@ -107,7 +126,8 @@ impl Marks {
     /// Takes out the mark of an entry. It takes no memory.
     pub fn take(&mut self, named: &Named) -> Option<bool>
         ensures taken { result ≡ mark_at self.old (key_of named.now) }
-        ensures others { (k : Key) → mark_at self.new k ≡ without (key_of named.now) (mark_at self.old) k }
+        ensures others { (k : Key)
+            → mark_at self.new k ≡ without_key (key_of named.now) (mark_at self.old) k }
     {
         match named {
             Named::Subr(number) => self.take_subr(*number),

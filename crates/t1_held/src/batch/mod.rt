@@ -1,8 +1,8 @@
 //! The edits of an open batch, and what they changed.
 //!
-//! A [`Batch`] makes the edits of an open batch on copies of a source and its pairs, and notes the entries that they name.
-//! At its commit [`batch_changes`] gives what became of these entries, by one pass over the edited source, or the source's
-//! first fault.
+//! A [`Batch`] makes the edits of an open batch on copies of a source and its pairs, and notes the
+//! entries that they name. At its commit [`batch_changes`] gives what became of these entries, by
+//! one pass over the edited source, or the source's first fault.
 mod changes;
 mod entries;
 mod marks;
@@ -13,8 +13,8 @@ use std::marker::Model;
 use t1_pairs::Pairs;
 use t1_source::Source;
 
-/// The source and the pairs after the edits of a batch so far, and the entries that the edits name, in the order of the
-/// edits.
+/// The source and the pairs after the edits of a batch so far, and the entries that the edits name,
+/// in the order of the edits.
 #[derive(Drop)]
 pub struct Batch<'a> {
     source: Source<'a>,
@@ -28,7 +28,9 @@ impl<'a> Model for Batch<'a> {
 
     ghost Value = { Draft };
 
-    ghost view = { λ b. record { source = b.source; pairs = b.pairs; entries = map entry_edit b.entries.items } };
+    ghost view = { λ b.
+        record
+        { source = b.source; pairs = b.pairs; entries = map entry_edit b.entries.items } };
 }
 
 ghost use Rattle.std.specs.Prelude.{◌≡◌, ◌<◌, ◌++◌, [], vec_capacity, vec_len, IfOk, OnOk, map};
@@ -48,7 +50,11 @@ fn entry_with_room(
     entries: &mut Vec<EditedEntry>,
     edit: &Edit,
 ) -> Result<Option<EditedEntry>, AllocError>
-    ensures entry { IfOk result (λ entry. option_map entry_edit entry ≡ option_map (λ key. record { key = key; added = adds edit.now }) (entry_key edit.now)) }
+    ensures entry { IfOk result
+        (λ entry.
+        option_map entry_edit entry
+        ≡ option_map (λ key. record { key = key; added = adds edit.now })
+        (entry_key edit.now)) }
     ensures same { entries.new.items ≡ entries.old.items }
     ensures room { OnOk result (vec_len entries.new < vec_capacity entries.new) }
 {
@@ -70,7 +76,8 @@ fn note(entries: &mut Vec<EditedEntry>, entry: Option<EditedEntry>)
 impl<'a> Batch<'a> {
     /// A batch without edits, on copies of a source and its pairs.
     pub fn of(alloc: Global, source: &Source<'a>, pairs: &Pairs) -> Result<Batch<'a>, AllocError>
-        ensures made { IfOk result (λ batch. batch ≡ record { source = source.now; pairs = pairs.now; entries = [] }) }
+        ensures made { IfOk result
+            (λ batch. batch ≡ record { source = source.now; pairs = pairs.now; entries = [] }) }
         ensures draft { IsWellFormed source.now → IfOk result (IsDraftOf source.now) }
     {
         Ok(Batch {
@@ -80,8 +87,8 @@ impl<'a> Batch<'a> {
         })
     }
 
-    /// Makes an edit and notes its entry, or answers the first edit rule that it breaks and changes nothing, as where memory
-    /// runs out. No glyph is run.
+    /// Makes an edit and notes its entry, or answers the first edit rule that it breaks and changes
+    /// nothing, as where memory runs out. No glyph is run.
     pub fn edit(&mut self, alloc: Global, edit: &Edit) -> Result<(), Cause>
         ensures edited { Drafts self.old edit.now result self.new }
         ensures draft { (s : SourceParts) → IsDraftOf s self.old → IsDraftOf s self.new }

@@ -1,5 +1,6 @@
 //! The changes of records, each with the memory that it takes.
-ghost use Rattle.std.specs.Prelude.{◌≡◌, ◌&&◌, ℕ, Bool, false, List, Option, None, Some, IfOk, IfSome, true, is_some, length, not, if◌then◌else◌};
+ghost use Rattle.std.specs.Prelude.{◌≡◌, ◌&&◌, ℕ, Bool, false, List, Option, None, Some, IfOk};
+ghost use Rattle.std.specs.Prelude.{IfSome, true, is_some, length, not, if◌then◌else◌};
 ghost use Rattle.std.specs.Str.{bytes_eq};
 ghost use Rattle.t1_run.specs.Run.{Glyph, body_at};
 ghost use Rattle.t1_extent.specs.Kept.{TracedRun};
@@ -10,7 +11,8 @@ ghost use Rattle.t1_cache.specs.Renewed.{reruns_by_name};
 ghost use Rattle.t1_cache.specs.Room.{count_at};
 ghost use Rattle.t1_cache.specs.Users.{wanted};
 ghost use Rattle.t1_rerun.specs.Settled.{changed_keys, AreDistinctKeys};
-ghost use Rattle.t1_rerun.specs.Steps.{changed, inserts, new_run, new_run_of, some_inserts, takes_out, AreStepsOf, AreTakenOut, IsStepOf};
+ghost use Rattle.t1_rerun.specs.Steps.{entry_change, inserts, new_run, new_run_of, some_inserts};
+ghost use Rattle.t1_rerun.specs.Steps.{takes_out, AreStepsOf, AreTakenOut, IsStepOf};
 
 use super::steps::Step;
 use crate::entry_change::EntryChange;
@@ -24,9 +26,12 @@ use t1_code::Body;
 use t1_frac::Bytes;
 use t1_run::Bodies;
 
-/// The new runs and boxes by the names of their glyphs. Of several reruns of a glyph the first counts.
+/// The new runs and boxes by the names of their glyphs. Of several reruns of a glyph the first
+/// counts.
 pub fn runs_by_name(alloc: Global, reruns: Vec<Rerun>) -> Result<NewRuns, AllocError>
-    ensures { IfOk result (λ runs. (g : List ℕ) → new_run (reruns_by_name runs.entries) g ≡ new_run reruns.items g) }
+    ensures { IfOk result
+        (λ runs.
+        (g : List ℕ) → new_run (reruns_by_name runs.entries) g ≡ new_run reruns.items g) }
 {
     let mut runs = IndexMap::new(alloc);
     let mut left = reruns;
@@ -43,14 +48,17 @@ pub fn runs_by_name(alloc: Global, reruns: Vec<Rerun>) -> Result<NewRuns, AllocE
 /// Takes out the new run and box of a glyph.
 fn taken_run(runs: &mut NewRuns, name: &[u8]) -> Option<NewRun>
     ensures run { new_run_of result ≡ new_run (reruns_by_name runs.old.entries) name.now }
-    ensures others { (g : List ℕ) → new_run (reruns_by_name runs.new.entries) g ≡ (if bytes_eq name.now g then None else new_run (reruns_by_name runs.old.entries) g) }
+    ensures others { (g : List ℕ)
+        → new_run (reruns_by_name runs.new.entries) g
+        ≡ (if bytes_eq name.now g then None else new_run (reruns_by_name runs.old.entries) g) }
 {
     runs.swap_remove(name)
 }
 
 /// Whether a glyph with a body keeps its place in the records.
 fn keeps_place(records: &Records, name: &[u8], moved: bool) -> bool
-    ensures { result ≡ (not moved && is_some (body_at (record_bodies records.now) (Glyph name.now))) }
+    ensures { result
+        ≡ (not moved && is_some (body_at (record_bodies records.now) (Glyph name.now))) }
 {
     !moved && records.has_glyph(name)
 }
@@ -63,7 +71,11 @@ fn subr_step(
     body: Body,
     counts: &Counts,
 ) -> Result<Step, AllocError>
-    ensures step { IfOk result (λ step. (run : List ℕ → Option (TracedRun × Option BBox)) (moved : Bool) → IsStepOf run (count_at counts.now) records.now (changed (named.Subr number) (Some body) moved) step) }
+    ensures step { IfOk result
+        (λ step.
+        (run : List ℕ → Option (TracedRun × Option BBox)) (moved : Bool)
+        → IsStepOf run (count_at counts.now) records.now
+        (entry_change (named.Subr number) (Some body) moved) step) }
     ensures apart { IfOk result (λ step. (g : List ℕ) → inserts step g ≡ false) }
 {
     if records.subr(number).is_some() {
@@ -83,8 +95,14 @@ fn glyph_step(
     counts: &Counts,
     runs: &mut NewRuns,
 ) -> Result<Step, AllocError>
-    ensures step { IfOk result (IsStepOf (new_run (reruns_by_name runs.old.entries)) (count_at counts.now) records.now (changed (named.Glyph name) (Some body) moved)) }
-    ensures runs { IfOk result (λ step. (g : List ℕ) → new_run (reruns_by_name runs.new.entries) g ≡ (if inserts step g then None else new_run (reruns_by_name runs.old.entries) g)) }
+    ensures step { IfOk result
+        (IsStepOf (new_run (reruns_by_name runs.old.entries)) (count_at counts.now) records.now
+        (entry_change (named.Glyph name) (Some body) moved)) }
+    ensures runs { IfOk result
+        (λ step.
+        (g : List ℕ)
+        → new_run (reruns_by_name runs.new.entries) g
+        ≡ (if inserts step g then None else new_run (reruns_by_name runs.old.entries) g)) }
 {
     if keeps_place(records, name.as_slice(), moved) {
         return Ok(Step::Put(Named::Glyph(name), body));
@@ -110,8 +128,14 @@ fn step_of(
     counts: &Counts,
     runs: &mut NewRuns,
 ) -> Result<Step, AllocError>
-    ensures step { IfOk result (IsStepOf (new_run (reruns_by_name runs.old.entries)) (count_at counts.now) records.now change) }
-    ensures runs { IfOk result (λ step. (g : List ℕ) → new_run (reruns_by_name runs.new.entries) g ≡ (if inserts step g then None else new_run (reruns_by_name runs.old.entries) g)) }
+    ensures step { IfOk result
+        (IsStepOf (new_run (reruns_by_name runs.old.entries)) (count_at counts.now) records.now
+        change) }
+    ensures runs { IfOk result
+        (λ step.
+        (g : List ℕ)
+        → new_run (reruns_by_name runs.new.entries) g
+        ≡ (if inserts step g then None else new_run (reruns_by_name runs.old.entries) g)) }
 {
     let EntryChange { named, body, moved } = change;
     let Some(body) = body else {
@@ -132,8 +156,16 @@ fn steps_of(
     runs: &mut NewRuns,
 ) -> Result<Vec<Step>, AllocError>
     requires { AreDistinctKeys (changed_keys changes.items) }
-    ensures steps { IfOk result (λ steps. AreStepsOf (new_run (reruns_by_name runs.old.entries)) (count_at counts.now) records.now changes.items steps.items) }
-    ensures runs { IfOk result (λ steps. (g : List ℕ) → new_run (reruns_by_name runs.new.entries) g ≡ (if some_inserts steps.items g then None else new_run (reruns_by_name runs.old.entries) g)) }
+    ensures steps { IfOk result
+        (λ steps.
+        AreStepsOf (new_run (reruns_by_name runs.old.entries)) (count_at counts.now)
+        records.now changes.items steps.items) }
+    ensures runs { IfOk result
+        (λ steps.
+        (g : List ℕ)
+        → new_run (reruns_by_name runs.new.entries) g
+        ≡ (if some_inserts steps.items g then None else new_run
+        (reruns_by_name runs.old.entries) g)) }
     ensures count { IfOk result (λ steps. length steps.items ≡ length changes.items) }
 {
     let mut steps = Vec::new(alloc);
@@ -144,7 +176,8 @@ fn steps_of(
     Ok(steps)
 }
 
-/// The steps of the changes, where each pair is a Subr or a glyph and the glyph that joins its users.
+/// The steps of the changes, where each pair is a Subr or a glyph and the glyph that joins its
+/// users.
 pub fn steps_with_room(
     alloc: Global,
     records: &Records,
@@ -153,8 +186,16 @@ pub fn steps_with_room(
     runs: &mut NewRuns,
 ) -> Result<Vec<Step>, AllocError>
     requires { AreDistinctKeys (changed_keys changes.items) }
-    ensures steps { IfOk result (λ steps. AreStepsOf (new_run (reruns_by_name runs.old.entries)) (wanted joins.now) records.now changes.items steps.items) }
-    ensures runs { IfOk result (λ steps. (g : List ℕ) → new_run (reruns_by_name runs.new.entries) g ≡ (if some_inserts steps.items g then None else new_run (reruns_by_name runs.old.entries) g)) }
+    ensures steps { IfOk result
+        (λ steps.
+        AreStepsOf (new_run (reruns_by_name runs.old.entries)) (wanted joins.now)
+        records.now changes.items steps.items) }
+    ensures runs { IfOk result
+        (λ steps.
+        (g : List ℕ)
+        → new_run (reruns_by_name runs.new.entries) g
+        ≡ (if some_inserts steps.items g then None else new_run
+        (reruns_by_name runs.old.entries) g)) }
     ensures count { IfOk result (λ steps. length steps.items ≡ length changes.items) }
 {
     let counts = count_joins(alloc, joins)?;
@@ -183,8 +224,8 @@ fn recorded_name_taken_out<'a>(records: &Records, step: &'a Step) -> Option<&'a 
     Some(name)
 }
 
-/// The names of the glyphs with a record that steps take out of their places. They save time alone: a step takes out its glyph
-/// where that is still there.
+/// The names of the glyphs with a record that steps take out of their places. They save time alone:
+/// a step takes out its glyph where that is still there.
 pub fn taken_out(alloc: Global, records: &Records, steps: &[Step]) -> Result<Names, AllocError>
     ensures { IfOk result (λ names. AreTakenOut names.keys steps.now) }
 {

@@ -31,7 +31,9 @@ pub enum Step {
 fn remove(records: &mut Records, named: &Named)
     ensures bodies { SetsBody (key_of named.now) None records.old records.new }
     ensures users { SetsUsers (key_of named.now) None records.old records.new }
-    ensures kept { map kept_of records.new.glyphs.entries ≡ filter (λ k. not (is_key_of k.name (key_of named.now))) (map kept_of records.old.glyphs.entries) }
+    ensures kept { map kept_of records.new.glyphs.entries
+        ≡ filter (λ k. not (is_key_of k.name (key_of named.now)))
+        (map kept_of records.old.glyphs.entries) }
     ensures room { UsesUp 0 records.old records.new }
 {
     match named {
@@ -68,8 +70,9 @@ fn change_one(records: &mut Records, step: Step)
     }
 }
 
-/// Makes the changes, the last one first, in the room that was made. It takes no memory and can't fail. The glyphs that are
-/// named as taken out go first, all in one pass over the records: a step takes out a glyph that isn't there at once.
+/// Makes the changes, the last one first, in the room that was made. It takes no memory and can't
+/// fail. The glyphs that are named as taken out go first, all in one pass over the records: a step
+/// takes out a glyph that isn't there at once.
 pub fn change_all(records: &mut Records, steps: Vec<Step>, taken: &Names)
     requires taken { AreTakenOut taken.now.keys steps.items }
     requires subrs { length steps.items ≤ spare records.old.subrs }

@@ -7,7 +7,9 @@ ghost use Rattle.t1_parts.specs.Counts.{is_glyph_entry};
 ghost use Rattle.t1_parts.specs.Entries.{is_glyph};
 ghost use Rattle.t1_parts.specs.ItemRefs.{item_of};
 ghost use Rattle.t1_source.specs.Changes.{changed, Fits};
-ghost use Rattle.t1_source.specs.Editing.{Edits, added_glyph, among_glyphs_items, beside_pairs, body_words, closing_among, removed_glyph, replaced_glyph, through_last};
+ghost use Rattle.t1_source.specs.Editing.{Edits, added_glyph, among_glyphs_items, beside_pairs};
+ghost use Rattle.t1_source.specs.Editing.{body_words, closing_among, removed_glyph, replaced_glyph};
+ghost use Rattle.t1_source.specs.Editing.{through_last};
 ghost use Rattle.t1_pairs.specs.declared.pairs.Pair.{Pair};
 
 use crate::edit::{Cause, Rule};
@@ -142,7 +144,9 @@ pub fn replacing_glyph<'a>(
     name: &[u8],
     body: &[u8],
 ) -> Result<Change<'a>, Cause>
-    ensures change { (k : List Pair) → Edits (λ change. changed change source.now k) result (beside_pairs k (replaced_glyph source.now name.now body.now)) }
+    ensures change { (k : List Pair)
+        → Edits (λ change. changed change source.now k) result
+        (beside_pairs k (replaced_glyph source.now name.now body.now)) }
     ensures fits { (k : List Pair) → IfOk result (λ change. Fits change source.now k) }
 {
     good_name(name)?;
@@ -158,7 +162,9 @@ pub fn replacing_glyph<'a>(
 /// A new glyph.
 #[tactic(auto, unfolding(crate::specs::Editing::added_glyph))]
 pub fn adding_glyph<'a>(source: &Source<'a>, name: &[u8], body: &[u8]) -> Result<Change<'a>, Cause>
-    ensures change { (k : List Pair) → Edits (λ change. changed change source.now k) result (beside_pairs k (added_glyph source.now name.now body.now)) }
+    ensures change { (k : List Pair)
+        → Edits (λ change. changed change source.now k) result
+        (beside_pairs k (added_glyph source.now name.now body.now)) }
     ensures fits { (k : List Pair) → IfOk result (λ change. Fits change source.now k) }
 {
     good_name(name)?;
@@ -172,7 +178,9 @@ pub fn adding_glyph<'a>(source: &Source<'a>, name: &[u8], body: &[u8]) -> Result
 /// A glyph taken out.
 #[tactic(auto, unfolding(crate::specs::Editing::removed_glyph))]
 pub fn removing_glyph<'a>(source: &Source<'a>, name: &[u8]) -> Result<Change<'a>, Cause>
-    ensures change { (k : List Pair) → Edits (λ change. changed change source.now k) result (beside_pairs k (removed_glyph source.now name.now)) }
+    ensures change { (k : List Pair)
+        → Edits (λ change. changed change source.now k) result
+        (beside_pairs k (removed_glyph source.now name.now)) }
     ensures fits { (k : List Pair) → IfOk result (λ change. Fits change source.now k) }
 {
     good_name(name)?;

@@ -14,7 +14,8 @@ use t1_pairs::{Pair, Pairs};
 
 /// The pair of two names.
 fn pair_of(alloc: Global, left: &[u8], right: &[u8], value: i32) -> Result<Pair, AllocError>
-    ensures { IfOk result (λ pair. pair ≡ record { left = left.now; right = right.now; value = value }) }
+    ensures { IfOk result
+        (λ pair. pair ≡ record { left = left.now; right = right.now; value = value }) }
 {
     let left = Bytes::copied(alloc, left)?;
     let right = Bytes::copied(alloc, right)?;
@@ -29,7 +30,9 @@ pub fn kerning_pair<'a>(
     right: &[u8],
     value: i64,
 ) -> Result<Change<'a>, Cause>
-    ensures change { (s : SourceParts) → Edits (λ change. changed change s pairs.now) result (beside_source s (kerned pairs.now left.now right.now value)) }
+    ensures change { (s : SourceParts)
+        → Edits (λ change. changed change s pairs.now) result
+        (beside_source s (kerned pairs.now left.now right.now value)) }
     ensures fits { (s : SourceParts) → IfOk result (λ change. Fits change s pairs.now) }
 {
     good_name(left)?;
@@ -46,7 +49,9 @@ pub fn kerning_pair<'a>(
 /// A pair taken out.
 #[tactic(auto, unfolding(crate::specs::Editing::unkerned))]
 pub fn unkerning_pair<'a>(pairs: &Pairs, left: &[u8], right: &[u8]) -> Result<Change<'a>, Cause>
-    ensures change { (s : SourceParts) → Edits (λ change. changed change s pairs.now) result (beside_source s (unkerned pairs.now left.now right.now)) }
+    ensures change { (s : SourceParts)
+        → Edits (λ change. changed change s pairs.now) result
+        (beside_source s (unkerned pairs.now left.now right.now)) }
     ensures fits { (s : SourceParts) → IfOk result (λ change. Fits change s pairs.now) }
 {
     good_name(left)?;

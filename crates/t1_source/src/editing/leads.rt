@@ -1,12 +1,14 @@
 //! Editing lenIV.
 
-ghost use Rattle.std.specs.Prelude.{◌≡◌, ◌+◌, ◌<◌, ◌≤◌, ◌^◌, List, length, IfOk, IfSome, option_map};
+ghost use Rattle.std.specs.Prelude.{◌≡◌, ◌+◌, ◌<◌, ◌≤◌, ◌^◌, List, length, IfOk, IfSome};
+ghost use Rattle.std.specs.Prelude.{option_map};
 ghost use Rattle.std.specs.List.{position, position_or_len};
 ghost use Rattle.t1_text.specs.Tokens.{places_from};
 ghost use Rattle.t1_parts.specs.ItemRefs.{item_of};
 ghost use Rattle.t1_source.specs.Changes.{changed, Fits};
 ghost use Rattle.t1_source.specs.Editing.{Edits, beside_pairs, lead_edited};
-ghost use Rattle.t1_source.specs.Leads.{first_place, is_section_line, lead_line, line_at, line_of, line_with_lead, place_after, says_lead};
+ghost use Rattle.t1_source.specs.Leads.{first_place, is_section_line, lead_line, line_at, line_of};
+ghost use Rattle.t1_source.specs.Leads.{line_with_lead, place_after, says_lead};
 ghost use Rattle.t1_pairs.specs.declared.pairs.Pair.{Pair};
 
 use crate::edit::Cause;
@@ -82,8 +84,10 @@ fn line_at<'i>(at: usize, items: &'i Items) -> &'i [u8]
 /// The first token of a line that begins at a place, with its place.
 fn first_place(place: usize, line: &[u8]) -> Option<(usize, &[u8])>
     requires { place + length line.now < 2 ^ 63 }
-    ensures value { option_map (λ found. (found.0, found.1.now)) result ≡ first_place (places_from place line.now) }
-    ensures within { IfSome result (λ found. found.0 + length found.1.now ≤ place + length line.now) }
+    ensures value { option_map (λ found. (found.0, found.1.now)) result
+        ≡ first_place (places_from place line.now) }
+    ensures within { IfSome result
+        (λ found. found.0 + length found.1.now ≤ place + length line.now) }
 {
     match next_place(place, line) {
         Some((at, token, _after)) => Some((at, token)),
@@ -94,7 +98,8 @@ fn first_place(place: usize, line: &[u8]) -> Option<(usize, &[u8])>
 /// The token after the first token of some text on a line, with its place.
 fn place_after<'a>(key: &[u8], line: &'a [u8]) -> Option<(usize, &'a [u8])>
     requires { length line.now < 2 ^ 63 }
-    ensures value { option_map (λ found. (found.0, found.1.now)) result ≡ place_after key.now (places_from 0 line.now) }
+    ensures value { option_map (λ found. (found.0, found.1.now)) result
+        ≡ place_after key.now (places_from 0 line.now) }
     ensures within { IfSome result (λ found. found.0 + length found.1.now ≤ length line.now) }
 {
     let mut place = 0;
@@ -138,7 +143,9 @@ fn lead_line<'a>(alloc: Global, lead: u16) -> Result<SourceText<'a>, AllocError>
 /// lenIV put into the line that says it, or into a new one.
 #[tactic(auto, unfolding(crate::specs::Editing::lead_edited, crate::specs::Leads::items_with_lead))]
 pub fn putting_lead<'a>(source: &Source<'a>, number: i64) -> Result<Change<'a>, Cause>
-    ensures change { (k : List Pair) → Edits (λ change. changed change source.now k) result (beside_pairs k (lead_edited source.now number)) }
+    ensures change { (k : List Pair)
+        → Edits (λ change. changed change source.now k) result
+        (beside_pairs k (lead_edited source.now number)) }
     ensures fits { (k : List Pair) → IfOk result (λ change. Fits change source.now k) }
 {
     let lead = number_up_to(64, number)?;

@@ -1,4 +1,5 @@
-//! Edits of a source and its pairs, in two steps: what an edit changes is made first, then it is put in place.
+//! Edits of a source and its pairs, in two steps: what an edit changes is made first, then it is
+//! put in place.
 
 mod change;
 mod entries;
@@ -9,7 +10,8 @@ mod rules;
 mod slots;
 mod subrs;
 
-ghost use Rattle.std.specs.Prelude.{◌≡◌, ◌-◌, ◌<◌, ◌≤◌, IfOk, IfSome, IsOk, OnOk, OnErr, false, unwrap_or};
+ghost use Rattle.std.specs.Prelude.{◌≡◌, ◌-◌, ◌<◌, ◌≤◌, IfOk, IfSome, IsOk, OnOk, OnErr, false};
+ghost use Rattle.std.specs.Prelude.{unwrap_or};
 ghost use Rattle.t1_source.specs.Changes.{changed, Fits, Serves, takes_room};
 ghost use Rattle.t1_source.specs.Editing.{Edits, edited};
 
@@ -25,7 +27,8 @@ pub use rules::body_words;
 use std::alloc::AllocError;
 use t1_pairs::Pairs;
 
-/// How many elements stand through one after which so many stand, or none where there is no such one.
+/// How many elements stand through one after which so many stand, or none where there is no such
+/// one.
 fn through(len: usize, after: Option<usize>) -> usize
     requires { IfSome after (λ after. after < len) }
     ensures within { result ≤ len }
@@ -54,7 +57,8 @@ impl<'a> Source<'a> {
     /// What an edit changes, or the first rule that it breaks.
     #[tactic(auto, unfolding(crate::specs::Editing::edited))]
     fn found_change(&self, pairs: &Pairs, edit: &Edit) -> Result<Change<'a>, Cause>
-        ensures change { Edits (λ change. changed change self.now pairs.now) result (edited self.now pairs.now edit.now) }
+        ensures change { Edits (λ change. changed change self.now pairs.now) result
+            (edited self.now pairs.now edit.now) }
         ensures fits { IfOk result (λ change. Fits change self.now pairs.now) }
     {
         match edit {
@@ -76,10 +80,11 @@ impl<'a> Source<'a> {
         }
     }
 
-    /// What an edit changes, or the first rule that it breaks. Nothing is changed, and nothing that stays is copied but
-    /// the clear part, where the encoding is edited.
+    /// What an edit changes, or the first rule that it breaks. Nothing is changed, and nothing that
+    /// stays is copied but the clear part, where the encoding is edited.
     pub fn prepared(&self, pairs: &Pairs, edit: &Edit) -> Result<Change<'a>, Cause>
-        ensures change { Edits (λ change. changed change self.now pairs.now) result (edited self.now pairs.now edit.now) }
+        ensures change { Edits (λ change. changed change self.now pairs.now) result
+            (edited self.now pairs.now edit.now) }
         ensures serves { IfOk result (λ change. Serves change self.now pairs.now) }
     {
         let _items = self.kept_items();
@@ -88,8 +93,8 @@ impl<'a> Source<'a> {
         Ok(change)
     }
 
-    /// Makes a change that was prepared for this source and these pairs. Only an item or a pair that is put in takes
-    /// memory: where it runs out, nothing has changed.
+    /// Makes a change that was prepared for this source and these pairs. Only an item or a pair
+    /// that is put in takes memory: where it runs out, nothing has changed.
     pub fn commit(&mut self, pairs: &mut Pairs, change: Change<'a>) -> Result<(), AllocError>
         requires { Serves change self.old pairs.old }
         ensures source { OnOk result (self.new ≡ (changed change.entry self.old pairs.old).0) }
@@ -116,7 +121,8 @@ impl<'a> Source<'a> {
         Ok((self.copied()?, pairs.copied()?))
     }
 
-    /// The source and the pairs after a change that was prepared for them. Nothing handed in is changed.
+    /// The source and the pairs after a change that was prepared for them. Nothing handed in is
+    /// changed.
     fn changed(&self, pairs: &Pairs, change: Change<'a>) -> Result<(Source<'a>, Pairs), AllocError>
         requires { Serves change self.now pairs.now }
         ensures { IfOk result (λ made. made ≡ changed change.entry self.now pairs.now) }
@@ -131,7 +137,8 @@ impl<'a> Source<'a> {
         }
     }
 
-    /// The source and the pairs after an edit, or the first rule that it breaks. Nothing handed in is changed.
+    /// The source and the pairs after an edit, or the first rule that it breaks. Nothing handed in
+    /// is changed.
     pub fn edited(&self, pairs: &Pairs, edit: &Edit) -> Result<(Source<'a>, Pairs), Cause>
         ensures { Edits (λ made. made) result (edited self.now pairs.now edit.now) }
     {

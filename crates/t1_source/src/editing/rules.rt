@@ -1,7 +1,8 @@
 //! The rules that edits keep.
 
 ghost use Rattle.std.specs.Prelude.{◌≡◌, IfOk};
-ghost use Rattle.t1_source.specs.Editing.{keeps, number_up_to, kerning_number, good_name, good_body, braced, body_words};
+ghost use Rattle.t1_source.specs.Editing.{keeps, number_up_to, kerning_number, good_name};
+ghost use Rattle.t1_source.specs.Editing.{good_body, braced, body_words};
 
 use crate::edit::Rule;
 use std::alloc::{AllocError, Global};

@@ -1,9 +1,12 @@
 //! Editing the array of an encoding.
 
-ghost use Rattle.std.specs.Prelude.{◌≡◌, ◌++◌, ◌<◌, ◌≤◌, List, length, Ok, Err, not, filter, reverse, IfOk, IfSome, MatchResult};
+ghost use Rattle.std.specs.Prelude.{◌≡◌, ◌++◌, ◌<◌, ◌≤◌, List, length, Ok, Err, not, filter};
+ghost use Rattle.std.specs.Prelude.{reverse, IfOk, IfSome, MatchResult};
 ghost use Rattle.std.specs.List.{list_any, position};
 ghost use Rattle.t1_source.specs.Changes.{changed, Fits};
-ghost use Rattle.t1_source.specs.Editing.{Edits, array_parts, beside_pairs, is_slot, is_slot_of, through_last, slot_line, encoded_lines, encoded, unencoded};
+ghost use Rattle.t1_source.specs.Editing.{Edits, array_parts, beside_pairs, is_slot, is_slot_of};
+ghost use Rattle.t1_source.specs.Editing.{through_last, slot_line, encoded_lines, encoded};
+ghost use Rattle.t1_source.specs.Editing.{unencoded};
 ghost use Rattle.t1_pairs.specs.declared.pairs.Pair.{Pair};
 
 use crate::edit::{Cause, Rule};
@@ -27,9 +30,12 @@ struct ArrayParts<'a> {
 /// The array among the clear lines.
 #[tactic(auto, unfolding(crate::specs::Editing::array_parts))]
 fn array_parts(clear: &[Bytes]) -> Result<ArrayParts<'_>, Rule>
-    ensures { MatchResult
-        result
-        (λ parts. array_parts clear.now ≡ Ok (record { front = parts.front.now; lines = parts.lines.now; back = parts.back.now }))
+    ensures { MatchResult result
+        (λ parts.
+        array_parts clear.now
+        ≡ Ok
+        (record
+        { front = parts.front.now; lines = parts.lines.now; back = parts.back.now }))
         (λ rule. array_parts clear.now ≡ Err rule) }
 {
     keeps(Rule::E5, !has_standard(clear))?;
@@ -147,7 +153,8 @@ fn with_lines(
     array: &ArrayParts,
     mut lines: Vec<Bytes>,
 ) -> Result<Vec<Bytes>, AllocError>
-    ensures { IfOk result (λ clear. clear.items ≡ array.now.front.now ++ lines.items ++ array.now.back.now) }
+    ensures { IfOk result
+        (λ clear. clear.items ≡ array.now.front.now ++ lines.items ++ array.now.back.now) }
 {
     let mut clear = copied_bytes(alloc, array.front)?;
     clear.append(&mut lines)?;
@@ -159,7 +166,9 @@ fn with_lines(
 /// A code encoded.
 #[tactic(auto, unfolding(crate::specs::Editing::encoded))]
 pub fn encoding_code<'a>(source: &Source<'a>, code: i64, name: &[u8]) -> Result<Change<'a>, Cause>
-    ensures change { (k : List Pair) → Edits (λ change. changed change source.now k) result (beside_pairs k (encoded source.now code name.now)) }
+    ensures change { (k : List Pair)
+        → Edits (λ change. changed change source.now k) result
+        (beside_pairs k (encoded source.now code name.now)) }
     ensures fits { (k : List Pair) → IfOk result (λ change. Fits change source.now k) }
 {
     good_name(name)?;
@@ -189,7 +198,9 @@ fn unencoded_lines(alloc: Global, code: u16, lines: &[Bytes]) -> Result<Vec<Byte
 /// The slots of a code taken out.
 #[tactic(auto, unfolding(crate::specs::Editing::unencoded))]
 pub fn unencoding_code<'a>(source: &Source<'a>, code: i64) -> Result<Change<'a>, Cause>
-    ensures change { (k : List Pair) → Edits (λ change. changed change source.now k) result (beside_pairs k (unencoded source.now code)) }
+    ensures change { (k : List Pair)
+        → Edits (λ change. changed change source.now k) result
+        (beside_pairs k (unencoded source.now code)) }
     ensures fits { (k : List Pair) → IfOk result (λ change. Fits change source.now k) }
 {
     let code = number_up_to(255, code)?;

@@ -7,7 +7,9 @@ ghost use Rattle.t1_parts.specs.Entries.{is_subr};
 ghost use Rattle.t1_parts.specs.ItemRefs.{item_of};
 ghost use Rattle.t1_parts.specs.Sections.{is_subrs_line};
 ghost use Rattle.t1_source.specs.Changes.{changed, Fits};
-ghost use Rattle.t1_source.specs.Editing.{Edits, added_subr, among_subrs_items, beside_pairs, body_words, closing_among, has_section, is_subr_entry, removed_subr, replaced_subr, through_last};
+ghost use Rattle.t1_source.specs.Editing.{Edits, added_subr, among_subrs_items, beside_pairs};
+ghost use Rattle.t1_source.specs.Editing.{body_words, closing_among, has_section, is_subr_entry};
+ghost use Rattle.t1_source.specs.Editing.{removed_subr, replaced_subr, through_last};
 ghost use Rattle.t1_pairs.specs.declared.pairs.Pair.{Pair};
 
 use crate::edit::{Cause, Rule};
@@ -155,7 +157,9 @@ pub fn replacing_subr<'a>(
     number: i64,
     body: &[u8],
 ) -> Result<Change<'a>, Cause>
-    ensures change { (k : List Pair) → Edits (λ change. changed change source.now k) result (beside_pairs k (replaced_subr source.now number body.now)) }
+    ensures change { (k : List Pair)
+        → Edits (λ change. changed change source.now k) result
+        (beside_pairs k (replaced_subr source.now number body.now)) }
     ensures fits { (k : List Pair) → IfOk result (λ change. Fits change source.now k) }
 {
     let number = number_up_to(32000, number)?;
@@ -172,7 +176,9 @@ pub fn replacing_subr<'a>(
 /// A new Subr.
 #[tactic(auto, unfolding(crate::specs::Editing::added_subr))]
 pub fn adding_subr<'a>(source: &Source<'a>, number: i64, body: &[u8]) -> Result<Change<'a>, Cause>
-    ensures change { (k : List Pair) → Edits (λ change. changed change source.now k) result (beside_pairs k (added_subr source.now number body.now)) }
+    ensures change { (k : List Pair)
+        → Edits (λ change. changed change source.now k) result
+        (beside_pairs k (added_subr source.now number body.now)) }
     ensures fits { (k : List Pair) → IfOk result (λ change. Fits change source.now k) }
 {
     let number = number_up_to(32000, number)?;
@@ -187,7 +193,9 @@ pub fn adding_subr<'a>(source: &Source<'a>, number: i64, body: &[u8]) -> Result<
 /// A Subr taken out.
 #[tactic(auto, unfolding(crate::specs::Editing::removed_subr))]
 pub fn removing_subr<'a>(source: &Source<'a>, number: i64) -> Result<Change<'a>, Cause>
-    ensures change { (k : List Pair) → Edits (λ change. changed change source.now k) result (beside_pairs k (removed_subr source.now number)) }
+    ensures change { (k : List Pair)
+        → Edits (λ change. changed change source.now k) result
+        (beside_pairs k (removed_subr source.now number)) }
     ensures fits { (k : List Pair) → IfOk result (λ change. Fits change source.now k) }
 {
     let number = number_up_to(32000, number)?;

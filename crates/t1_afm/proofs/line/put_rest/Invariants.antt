@@ -2,10 +2,10 @@ use Rattle.std.proofs.Common.{drop}
 use Rattle.t1_code.specs.Counted.{outlet}
 use Rattle.t1_code.proofs.Writing.{passing, Written}
 use Rattle.t1_afm.specs.Afm.{rest_text}
-use Rattle.t1_afm.specs.Lines.{words_of}
+use Rattle.t1_afm.specs.Lines.{line_words}
 use Rattle.t1_afm.proofs.line.put_rest.Given as goal
 
 -- the words that are left
 abbrev pub invariant-loop-word : goal.invariant-loop-word
 invariant-loop-word g l =
-    Written (passing g.W.Write.contents) (outlet l.fn.out l.fn.chunk) (outlet l.out l.chunk) (rest_text (words_of l.words)) (rest_text (words_of (drop l.word-index l.words)))
+    Written (passing g.W.Write.contents) (outlet l.fn.out l.fn.chunk) (outlet l.out l.chunk) (rest_text (line_words l.words)) (rest_text (line_words (drop l.word-index l.words)))

@@ -6,7 +6,7 @@ use Rattle.t1_cache.specs.declared.records.GlyphRecord.{GlyphRecord}
 use Rattle.t1_cache.specs.declared.records.Records.{Records}
 use Rattle.t1_cache.specs.Bodies.{glyph_body, record_bodies}
 use Rattle.t1_cache.specs.Renewed.{kept_of}
-use Rattle.t1_cache.specs.Users.{among, glyph_users, lists, users_at, users_of, HasRoom}
+use Rattle.t1_cache.specs.Users.{among, glyph_users, lists, users_at, users_of, HasUserRoom}
 use Rattle.t1_font.proofs.Keys.{at-key}
 use Rattle.t1_cache.proofs.Changing.{kept-last, nothing-read, reads-inserted, room-inserted, users-inserted}
 use Rattle.t1_font.proofs.Lookups.{bytes_tell}
@@ -39,10 +39,10 @@ returns-clause-room c =
     let now : GlyphRecord = record { body = c.args.body; run = c.args.run; bbox = c.args.bbox; users = c.new.result } in
     let old : Records = c.args.records.now in
     let new : Records = record c.args.records.now { glyphs = c.insert.new.self } in
-    at-key (λ k. (count : ℕ) → HasRoom count (users_at old k) → HasRoom count (users_at new k))
+    at-key (λ k. (count : ℕ) → HasUserRoom count (users_at old k) → HasUserRoom count (users_at new k))
     (λ n count had. had)
     (λ g count had.
-    subst (λ es. HasRoom count (glyph_users es g)) (sym c.in_ok-insert.ensures.entries)
+    subst (λ es. HasUserRoom count (glyph_users es g)) (sym c.in_ok-insert.ensures.entries)
     (room-inserted bytes_eq bytes_tell (λ k. k.items) (λ r. users_of r.users) old.glyphs.entries c.args.name now (nothing-read (λ r. r.body) _ c.requires) g count had))
 
 pub returns-clause-kept : goal.returns-clause-kept

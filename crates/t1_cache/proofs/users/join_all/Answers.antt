@@ -1,7 +1,7 @@
 use Rattle.std.proofs.Common.{Vec, Global, ℕ, ◌≡◌, ◌+◌, cond, ap, sym, subst, ◌∙◌, arith}
 use Rattle.std.specs.Prelude.{◌||◌}
 use Rattle.t1_cache.specs.declared.records.Named.{Named}
-use Rattle.t1_cache.specs.Users.{has_pair, key_of, lists, users_at, wanted, HasRoom}
+use Rattle.t1_cache.specs.Users.{has_pair, key_of, lists, users_at, wanted, HasUserRoom}
 use Rattle.t1_font.proofs.Keys.{key-itself}
 use Rattle.t1_cache.proofs.Adding.{less-room, wanted-last, joined-last}
 use Rattle.t1_cache.proofs.users.join_all.Goals as goal
@@ -26,7 +26,7 @@ loop-named-preserved c =
     record {
       room = λ k.
           reported.room k (wanted rest k)
-          (subst (λ n. HasRoom n (users_at c.loop-named.records k)) (ap (λ l. wanted l k) c.in-Some.ensures.items ∙ wanted-last rest p k) (was.room k));
+          (subst (λ n. HasUserRoom n (users_at c.loop-named.records k)) (ap (λ l. wanted l k) c.in-Some.ensures.items ∙ wanted-last rest p k) (was.room k));
       users = λ k u.
           ap (λ b. b || has_pair rest k u) (reported.users k u)
           ∙ joined-last rest p k u (had k u)

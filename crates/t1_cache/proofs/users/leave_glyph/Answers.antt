@@ -1,7 +1,7 @@
 use Rattle.std.proofs.Common.{ap, map, sym, subst, ◌∙◌, refl}
 use Rattle.std.specs.Str.{bytes_eq}
 use Rattle.t1_cache.specs.declared.records.GlyphRecord.{GlyphRecord}
-use Rattle.t1_cache.specs.Users.{among, users_of, glyph_users, glyph_rest, HasRoom}
+use Rattle.t1_cache.specs.Users.{among, users_of, glyph_users, glyph_rest, HasUserRoom}
 use Rattle.t1_font.proofs.Lookups.{bytes_tell}
 use Rattle.t1_cache.proofs.Putting.{left, rest-put, room-stays}
 use Rattle.t1_cache.proofs.users.leave_glyph.Goals as goal
@@ -15,7 +15,7 @@ returns-in-Some-clause-users c = λ q u.
 pub returns-in-Some-clause-room : goal.returns-in-Some-clause-room
 returns-in-Some-clause-room c = λ q count had.
     let now : GlyphRecord = record c.in-Some.record.now { users = c.take_out.new.names } in
-    subst (λ es. HasRoom count (glyph_users es q)) (sym (c.get_mut.follows.holds now).0)
+    subst (λ es. HasUserRoom count (glyph_users es q)) (sym (c.get_mut.follows.holds now).0)
     (room-stays bytes_eq bytes_tell (λ k. k.items) (λ r. users_of r.users) c.args.glyphs.now.entries c.args.part.now c.in-Some.record.now now (sym c.in-Some.ensures.value) c.take_out.ensures.room q count had)
 
 pub returns-in-Some-clause-rest : goal.returns-in-Some-clause-rest

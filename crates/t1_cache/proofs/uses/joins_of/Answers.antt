@@ -6,8 +6,8 @@ use Rattle.std.proofs.lemmas.List.Folds.{list_any_more}
 use Rattle.std.proofs.lemmas.Slice.Eq.{bytes_eq-Decides}
 use Rattle.t1_run.specs.Footprint.{asks}
 use Rattle.t1_run.specs.Touched.{is_user}
-use Rattle.t1_font.specs.Runs.{kept_of}
-use Rattle.t1_cache.specs.Users.{has}
+use Rattle.t1_font.specs.Runs.{drawing_in}
+use Rattle.t1_cache.specs.Users.{has_name}
 use Rattle.t1_cache.proofs.Using.{glyph-more, none-more}
 use Rattle.t1_cache.proofs.uses.joins_of.Goals as goal
 
@@ -18,10 +18,10 @@ loop-name-preserved-in_default c = λ k u.
     let i = c.loop-name.name-index in
     let none : Bor (List ℕ) = record { ref_ptr = (0, 0); now = [] } in
     let name = (get_or names i none).now in
-    let used = is_user k (kept_of runs u) in
+    let used = is_user k (drawing_in runs u) in
     c.loop-name.invariant k u
-    ∙ none-more (has (λ n. n.now) (take i names) u) used (bytes_eq u name)
-    (λ e. ap (λ g. is_user k (kept_of runs g)) ((bytes_eq-Decides u name).0 e) ∙ sym (c.in_default.ensures k))
+    ∙ none-more (has_name (λ n. n.now) (take i names) u) used (bytes_eq u name)
+    (λ e. ap (λ g. is_user k (drawing_in runs g)) ((bytes_eq-Decides u name).0 e) ∙ sym (c.in_default.ensures k))
     ∙ ap (λ b. b && used) (sym (list_any_more (λ n. bytes_eq u n.now) names i none (omega arith)))
 
 pub loop-name-preserved : goal.loop-name-preserved
@@ -31,11 +31,11 @@ loop-name-preserved c = λ k u.
     let i = c.loop-name.name-index in
     let none : Bor (List ℕ) = record { ref_ptr = (0, 0); now = [] } in
     let name = (get_or names i none).now in
-    let used = is_user k (kept_of runs u) in
+    let used = is_user k (drawing_in runs u) in
     let drawing = c.in-Some.run'.now.drawing in
     let asked = asks drawing.composite drawing.entered k in
     c.in_ok-push_uses.ensures k u
     ∙ ap (λ b. b || (asked && bytes_eq u name)) (c.loop-name.invariant k u)
-    ∙ glyph-more (has (λ n. n.now) (take i names) u) used asked (bytes_eq u name)
-    (λ e. ap (λ g. is_user k (kept_of runs g)) ((bytes_eq-Decides u name).0 e) ∙ sym (c.in-Some.ensures k))
+    ∙ glyph-more (has_name (λ n. n.now) (take i names) u) used asked (bytes_eq u name)
+    (λ e. ap (λ g. is_user k (drawing_in runs g)) ((bytes_eq-Decides u name).0 e) ∙ sym (c.in-Some.ensures k))
     ∙ ap (λ b. b && used) (sym (list_any_more (λ n. bytes_eq u n.now) names i none (omega arith)))

@@ -2,7 +2,7 @@ use Rattle.std.proofs.Common.{◌≡◌, ◌∙◌, ap, cond, refl, Some}
 use Rattle.std.specs.Str.{bytes_eq}
 use Rattle.t1_run.specs.Run.{Glyph, key_eq}
 use Rattle.t1_charstrings.specs.declared.entries.Charstrings.{Charstrings}
-use Rattle.t1_charstrings.specs.Entries.{glyph_kept}
+use Rattle.t1_charstrings.specs.Entries.{glyph_charstring}
 use Rattle.t1_charstrings.specs.Kept.{kept_at}
 use Rattle.t1_font.proofs.Keys.{at-key}
 use Rattle.t1_font.proofs.Lookups.{bytes_tell, inserted-at}
@@ -15,5 +15,5 @@ returns-clause-sets c =
     at-key (λ k. kept_at new k ≡ cond (key_eq k (Glyph c.args.name.items)) (Some c.args.entry) (kept_at old k))
     (λ n. refl)
     (λ g.
-    ap (λ es. glyph_kept es g) c.in_ok-insert.ensures.entries
+    ap (λ es. glyph_charstring es g) c.in_ok-insert.ensures.entries
     ∙ inserted-at bytes_eq bytes_tell (λ k. k.items) g c.args.name c.args.entry old.glyphs.entries)

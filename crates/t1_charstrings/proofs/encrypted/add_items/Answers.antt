@@ -4,7 +4,7 @@ use Rattle.t1_run.specs.Run.{Subr, Glyph, body_at}
 use Rattle.t1_font.specs.Bodies.{bodies, bodies_check, subr_among, glyph_among}
 use Rattle.t1_font.proofs.Compiling.{or-none}
 use Rattle.t1_font.proofs.Keys.{at-key}
-use Rattle.t1_charstrings.specs.Entries.{encrypted, glyph_kept, subr_kept}
+use Rattle.t1_charstrings.specs.Entries.{encrypted, glyph_charstring, subr_charstring}
 use Rattle.t1_charstrings.specs.Kept.{kept_at}
 use Rattle.t1_charstrings.proofs.AloneLaws.{bodies_alone, glyph_alone, subr_alone}
 use Rattle.t1_charstrings.proofs.encrypted.add_items.Goals as goal
@@ -22,8 +22,8 @@ returns-clause-kept c =
     let items = c.args.items.now in
     let front = c.args.lead in
     let none : c.loop-item.item-iterator ≡ [] = search rules in
-    let subrs = subr_kept c.loop-item.charstrings.subrs.entries in
-    let glyphs = glyph_kept c.loop-item.charstrings.glyphs.entries in
+    let subrs = subr_charstring c.loop-item.charstrings.subrs.entries in
+    let glyphs = glyph_charstring c.loop-item.charstrings.glyphs.entries in
     let were = c.args.charstrings.now in
     at-key (λ k. kept_at c.loop-item.charstrings k ≡ option_or (kept_at were k) (option_map (encrypted front k) (body_at (bodies items) k)))
     (λ n. or-none (subrs n) ∙ sym (ap (λ l. option_or (subrs n) (option_map (encrypted front (Subr n)) (subr_among l n))) none) ∙ c.loop-item.invariant.3 n

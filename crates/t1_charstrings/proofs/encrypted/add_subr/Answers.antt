@@ -6,7 +6,7 @@ use Rattle.t1_code.specs.Words.{commands}
 use Rattle.t1_run.specs.Run.{Subr}
 use Rattle.indexmap.proofs.CallerLemmas.{insert_entry-new}
 use Rattle.t1_font.proofs.Compiling.{lookup-last, none-there, reported-ok}
-use Rattle.t1_charstrings.specs.Entries.{encrypted, subr_kept}
+use Rattle.t1_charstrings.specs.Entries.{encrypted, subr_charstring}
 use Rattle.t1_charstrings.proofs.Gathered.{subr-there}
 use Rattle.t1_charstrings.proofs.encrypted.add_subr.Goals as goal
 
@@ -16,10 +16,10 @@ returns-clause-kept c = λ n.
     let number = c.args.number in
     let body = c.in_ok-body.body in
     let entry = c.in_ok-entry.entry in
-    let absent = none-there (subr_kept old.entries number) (sym c.contains_key.ensures ∙ c.if-contains_key.false) in
-    ap (λ es. subr_kept es n) (c.in_ok-insert.ensures.entries ∙ insert_entry-new nat_eq old number entry absent)
+    let absent = none-there (subr_charstring old.entries number) (sym c.contains_key.ensures ∙ c.if-contains_key.false) in
+    ap (λ es. subr_charstring es n) (c.in_ok-insert.ensures.entries ∙ insert_entry-new nat_eq old number entry absent)
     ∙ lookup-last (nat_eq n) old.entries number entry
-    ∙ ap (λ e. option_or (subr_kept old.entries n) (cond (n == number) (Some e) None)) c.in_ok-entry.ensures
-    ∙ ap (option_or (subr_kept old.entries n)) (subr-there c.args.lead n number body)
-    ∙ ap (λ r. option_or (subr_kept old.entries n) (option_map (encrypted c.args.lead (Subr n)) (cond (n == number) r None)))
+    ∙ ap (λ e. option_or (subr_charstring old.entries n) (cond (n == number) (Some e) None)) c.in_ok-entry.ensures
+    ∙ ap (option_or (subr_charstring old.entries n)) (subr-there c.args.lead n number body)
+    ∙ ap (λ r. option_or (subr_charstring old.entries n) (option_map (encrypted c.args.lead (Subr n)) (cond (n == number) r None)))
     (sym (reported-ok (places.Subr number) (commands c.args.words.now) body c.in_ok-body.ensures))

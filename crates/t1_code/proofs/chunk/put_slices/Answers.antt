@@ -2,13 +2,13 @@ use Rattle.std.proofs.Common.{◌<◌, [], length, refl, arith}
 use Rattle.std.proofs.lemmas.List.{drop_all}
 use Rattle.std.proofs.lemmas.Result.{err_from_is_err_and}
 use Rattle.t1_code.specs.Counted.{outlet}
-use Rattle.t1_code.specs.Parts.{bytes_of}
+use Rattle.t1_code.specs.Parts.{slices_bytes}
 use Rattle.t1_code.proofs.Encrypting.{flat_map-drop}
 use Rattle.t1_code.proofs.Writing.{passing, Written-none, Written-step, Written-fails, Written-all}
 use Rattle.t1_code.proofs.chunk.put_slices.Goals as goal
 
 pub loop-slice-init : goal.loop-slice-init
-loop-slice-init g c = Written-none (passing g.W.Write.contents) (outlet c.args.out.now c.args.chunk.now) (bytes_of c.args.slices.now)
+loop-slice-init g c = Written-none (passing g.W.Write.contents) (outlet c.args.out.now c.args.chunk.now) (slices_bytes c.args.slices.now)
 
 pub loop-slice-preserved : goal.loop-slice-preserved
 loop-slice-preserved g c =
@@ -24,5 +24,5 @@ returns-in_err-put_plain g c =
 
 pub returns : goal.returns
 returns g c =
-    Written-all (passing g.W.Write.contents) (outlet c.args.out.now c.args.chunk.now) (outlet c.loop-slice.out c.loop-slice.chunk) (bytes_of c.args.slices.now)
+    Written-all (passing g.W.Write.contents) (outlet c.args.out.now c.args.chunk.now) (outlet c.loop-slice.out c.loop-slice.chunk) (slices_bytes c.args.slices.now)
     (rw (drop_all c.loop-slice.slice-index c.args.slices.now (omega arith)) at c.loop-slice.invariant)

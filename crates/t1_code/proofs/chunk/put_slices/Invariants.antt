@@ -1,10 +1,10 @@
 use Rattle.std.proofs.Common.{drop}
 use Rattle.t1_code.specs.Counted.{outlet}
-use Rattle.t1_code.specs.Parts.{bytes_of}
+use Rattle.t1_code.specs.Parts.{slices_bytes}
 use Rattle.t1_code.proofs.Writing.{passing, Written}
 use Rattle.t1_code.proofs.chunk.put_slices.Given as goal
 
 -- the slices so far were passed on, and the others are left
 abbrev pub invariant-loop-slice : goal.invariant-loop-slice
 invariant-loop-slice g l =
-    Written (passing g.W.Write.contents) (outlet l.fn.out l.fn.chunk) (outlet l.out l.chunk) (bytes_of l.slices) (bytes_of (drop l.slice-index l.slices))
+    Written (passing g.W.Write.contents) (outlet l.fn.out l.fn.chunk) (outlet l.out l.chunk) (slices_bytes l.slices) (slices_bytes (drop l.slice-index l.slices))

@@ -1,15 +1,15 @@
 use Rattle.std.proofs.Common.{ap₂, codes, ◌≡◌, ◌∙◌}
 use Rattle.std.proofs.lemmas.Result.{IfOk-weaker}
 use Rattle.clap.specs.Words.{App, app_of, new_app, with_rule}
-use Rattle.t1_command_line.specs.CommandLine.{as_font, block, output, pfa}
+use Rattle.t1_command_line.specs.CommandLine.{as_font, block_rule, output, pfa_rule}
 use Rattle.t1_command_line.proofs.command_line.assemble.Goals as goal
 
 -- the command with its first arguments
 abbrev with_block : App
-with_block = with_rule (new_app (codes "assemble")) block
+with_block = with_rule (new_app (codes "assemble")) block_rule
 
 abbrev with_pfa : App
-with_pfa = with_rule with_block pfa
+with_pfa = with_rule with_block pfa_rule
 
 abbrev with_as_font : App
 with_as_font = with_rule with_pfa as_font

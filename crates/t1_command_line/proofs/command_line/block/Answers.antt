@@ -5,7 +5,7 @@ use Rattle.std.proofs.lemmas.List.{nil_from_length}
 use Rattle.clap.specs.Words.{AddsConflicts, Rule, rule_of}
 use Rattle.clap.specs.Walk.{is_empty, is_free_arg}
 use Rattle.clap.specs.declared.builder.arg.Arg.{Arg}
-use Rattle.t1_command_line.specs.CommandLine.{block}
+use Rattle.t1_command_line.specs.CommandLine.{block_rule}
 use Rattle.t1_command_line.proofs.Rules.{is_global}
 use Rattle.t1_command_line.proofs.command_line.block.Goals as goal
 
@@ -21,8 +21,8 @@ free_by a exclusive conflicts =
     && (is_empty a.r_ifs.items && (is_empty a.r_ifs_all.items && (is_empty a.r_unless.items && is_empty a.r_unless_all.items)))))
 
 -- the rule of the option once it conflicts with another argument
-conflicting : (old new : Arg) (x : Bor (List ℕ)) → rule_of old ≡ record block { is_free = true } → old.exclusive ≡ false
-    → new.conflicts.items ≡ x ∷ [] → rule_of (record old { conflicts = new.conflicts }) ≡ block
+conflicting : (old new : Arg) (x : Bor (List ℕ)) → rule_of old ≡ record block_rule { is_free = true } → old.exclusive ≡ false
+    → new.conflicts.items ≡ x ∷ [] → rule_of (record old { conflicts = new.conflicts }) ≡ block_rule
 conflicting old new x rule exclusive conflicts =
     ap (λ e. record (rule_of old) { is_free = free_by old e new.conflicts.items }) exclusive ∙ ap (λ items. record (rule_of old) { is_free = free_by old false items }) conflicts
     ∙ ap (λ (r : Rule). record r { is_free = false }) rule

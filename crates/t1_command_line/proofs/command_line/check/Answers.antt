@@ -1,12 +1,12 @@
 use Rattle.std.proofs.Common.{ap₂, codes, ◌≡◌, ◌∙◌}
 use Rattle.std.proofs.lemmas.Result.{IfOk-weaker}
 use Rattle.clap.specs.Words.{App, app_of, new_app, with_rule}
-use Rattle.t1_command_line.specs.CommandLine.{as_font, kern}
+use Rattle.t1_command_line.specs.CommandLine.{as_font, kern_rule}
 use Rattle.t1_command_line.proofs.command_line.check.Goals as goal
 
 -- the command with its first arguments
 abbrev with_kern : App
-with_kern = with_rule (new_app (codes "check")) kern
+with_kern = with_rule (new_app (codes "check")) kern_rule
 
 abbrev with_as_font : App
 with_as_font = with_rule with_kern as_font

@@ -1,7 +1,7 @@
 use Rattle.std.proofs.Common.{ap₂, codes, ◌≡◌, ◌∙◌}
 use Rattle.std.proofs.lemmas.Result.{IfOk-weaker}
 use Rattle.clap.specs.Words.{App, app_of, new_app, with_rule}
-use Rattle.t1_command_line.specs.CommandLine.{as_font, json, kern}
+use Rattle.t1_command_line.specs.CommandLine.{as_font, json, kern_rule}
 use Rattle.t1_command_line.proofs.command_line.faults.Goals as goal
 
 -- the command with its first arguments
@@ -9,7 +9,7 @@ abbrev with_json : App
 with_json = with_rule (new_app (codes "faults")) json
 
 abbrev with_kern : App
-with_kern = with_rule with_json kern
+with_kern = with_rule with_json kern_rule
 
 abbrev with_as_font : App
 with_as_font = with_rule with_kern as_font

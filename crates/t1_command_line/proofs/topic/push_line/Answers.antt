@@ -1,11 +1,11 @@
 use Rattle.std.proofs.Common.{◌≡◌, ◌∙◌, ◌++◌, codes, string_bytes, ap, refl}
-use Rattle.t1_command_line.specs.Topics.{line_text}
+use Rattle.t1_command_line.specs.Topics.{topic_line}
 use Rattle.t1_command_line.specs.declared.topic.Topic.{Topic}
 use Rattle.t1_command_line.proofs.Texts.{added, four}
 use Rattle.t1_command_line.proofs.topic.push_line.Goals as goal
 
-line_is : (topic : Topic) → topic.code.now ++ (codes ": " ++ (topic.meaning.now ++ codes "\n")) ≡ line_text topic
-unfolding line_text
+line_is : (topic : Topic) → topic.code.now ++ (codes ": " ++ (topic.meaning.now ++ codes "\n")) ≡ topic_line topic
+unfolding topic_line
 line_is topic = refl
 
 pub returns : goal.returns

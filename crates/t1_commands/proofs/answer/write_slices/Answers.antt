@@ -1,6 +1,6 @@
 use Rattle.std.proofs.lemmas.Result.{err_from_is_err_and}
 use Rattle.t1_code.specs.Counted.{outlet}
-use Rattle.t1_code.specs.Parts.{bytes_of}
+use Rattle.t1_code.specs.Parts.{slices_bytes}
 use Rattle.t1_code.proofs.Writing.{Puts-sent}
 use Rattle.t1_commands.proofs.answer.write_slices.Goals as goal
 
@@ -10,4 +10,4 @@ returns-in_err-put_slices g c = rw (err_from_is_err_and c.from_residual.result c
 pub returns : goal.returns
 returns g c =
     Puts-sent g.W.Write.contents c.send.result c.args.writer.now (outlet c.put_slices.new.out c.put_slices.new.chunk) c.send.new.out
-    (bytes_of c.args.slices.now) (rw c.new-chunk.ensures at c.in_ok-put_slices.ensures) c.send.ensures.text
+    (slices_bytes c.args.slices.now) (rw c.new-chunk.ensures at c.in_ok-put_slices.ensures) c.send.ensures.text

@@ -4,7 +4,7 @@ use Rattle.std.proofs.lemmas.Result.{err_from_is_err_and}
 use Rattle.std.proofs.lemmas.List.Elements.{All-cons}
 use Rattle.t1_run.specs.Composite.{outline_within}
 use Rattle.t1_extent.specs.Laws.{IsDistance}
-use Rattle.t1_extent.specs.Reached.{Reports}
+use Rattle.t1_extent.specs.Reached.{GivesReached}
 use Rattle.t1_extent.specs.Turns.{through, given_in_turn, given_through}
 use Rattle.t1_extent.proofs.Walking.{drawing_found, faulty, lonely, refused_reported, walks, stuck, own_moved_refused, base_moved_refused, accent_moved_refused, moved_reported}
 use Rattle.t1_extent.proofs.outline_reach.+moved_reach.Goals as goal
@@ -97,7 +97,7 @@ returns-in_err-base g t c =
     let whole = given_through c.args.moves.now c.args.last.now (outline_within run c.args.depth c.args.name.now) in
     let drawn = through c.args.moves.now c.args.last.now d.segments in
     let p = err_from_is_err_and c.from_residual-in_err-base.result c.from_residual-in_err-base.ensures.1 in
-    let b = subst (λ n. Reports (Err c.in_err-base.field-0.0) (given_through c.args.moves.now c.args.last.now (part n))) c.as_slice.ensures c.in_err-base.ensures in
+    let b = subst (λ n. GivesReached (Err c.in_err-base.field-0.0) (given_through c.args.moves.now c.args.last.now (part n))) c.as_slice.ensures c.in_err-base.ensures in
     rw (p.1, p.2) (base_moved_refused drawn base accent whole c.in_ok-own.own c.in_err-base.field-0.0 w.parts c.in_ok-own.ensures b)
 
 pub moved_reach-requires-2 : goal.moved_reach-requires-2
@@ -133,10 +133,10 @@ returns-in_err-accent g t c =
     let drawn = through c.args.moves.now c.args.last.now d.segments in
     let moves' = c.as_slice-3.result.now in
     let same : moves' ≡ c.in_ok-accent_move.accent_move.by ∷ c.args.moves.now = c.as_slice-3.ensures.value ∙ c.in_ok-inner.ensures in
-    let b = subst (λ n. Reports (Ok c.in_ok-base.base) (given_through c.args.moves.now c.args.last.now (part n))) c.as_slice.ensures c.in_ok-base.ensures in
+    let b = subst (λ n. GivesReached (Ok c.in_ok-base.base) (given_through c.args.moves.now c.args.last.now (part n))) c.as_slice.ensures c.in_ok-base.ensures in
     let p = err_from_is_err_and c.from_residual-in_err-accent.result c.from_residual-in_err-accent.ensures.1 in
-    let a = subst (λ n. Reports (Err c.in_err-accent.field-0.0) (given_through (c.in_ok-accent_move.accent_move.by ∷ c.args.moves.now) c.args.last.now (part n))) c.as_slice-2.ensures
-    (subst (λ ms. Reports (Err c.in_err-accent.field-0.0) (given_through ms c.args.last.now (part c.as_slice-2.result.now))) same c.in_err-accent.ensures) in
+    let a = subst (λ n. GivesReached (Err c.in_err-accent.field-0.0) (given_through (c.in_ok-accent_move.accent_move.by ∷ c.args.moves.now) c.args.last.now (part n))) c.as_slice-2.ensures
+    (subst (λ ms. GivesReached (Err c.in_err-accent.field-0.0) (given_through ms c.args.last.now (part c.as_slice-2.result.now))) same c.in_err-accent.ensures) in
     rw (p.1, p.2) (accent_moved_refused drawn base accent whole c.in_ok-own.own c.in_ok-base.base c.in_err-accent.field-0.0 w.parts c.in_ok-own.ensures b a)
 
 pub united-requires-2-clause-one : goal.united-requires-2-clause-one
@@ -160,7 +160,7 @@ returns g t c =
     let drawn = through c.args.moves.now c.args.last.now d.segments in
     let moves' = c.as_slice-3.result.now in
     let same : moves' ≡ c.in_ok-accent_move.accent_move.by ∷ c.args.moves.now = c.as_slice-3.ensures.value ∙ c.in_ok-inner.ensures in
-    let b = subst (λ n. Reports (Ok c.in_ok-base.base) (given_through c.args.moves.now c.args.last.now (part n))) c.as_slice.ensures c.in_ok-base.ensures in
-    let a = subst (λ n. Reports (Ok c.in_ok-accent.accent) (given_through (c.in_ok-accent_move.accent_move.by ∷ c.args.moves.now) c.args.last.now (part n))) c.as_slice-2.ensures
-    (subst (λ ms. Reports (Ok c.in_ok-accent.accent) (given_through ms c.args.last.now (part c.as_slice-2.result.now))) same c.in_ok-accent.ensures) in
+    let b = subst (λ n. GivesReached (Ok c.in_ok-base.base) (given_through c.args.moves.now c.args.last.now (part n))) c.as_slice.ensures c.in_ok-base.ensures in
+    let a = subst (λ n. GivesReached (Ok c.in_ok-accent.accent) (given_through (c.in_ok-accent_move.accent_move.by ∷ c.args.moves.now) c.args.last.now (part n))) c.as_slice-2.ensures
+    (subst (λ ms. GivesReached (Ok c.in_ok-accent.accent) (given_through ms c.args.last.now (part c.as_slice-2.result.now))) same c.in_ok-accent.ensures) in
     moved_reported drawn base accent whole c.in_ok-own.own c.in_ok-base.base c.in_ok-accent.accent c.united.result c.united-2.result w.parts c.in_ok-own.ensures b a c.united.ensures c.united-2.ensures

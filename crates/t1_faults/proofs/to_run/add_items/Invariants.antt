@@ -1,6 +1,6 @@
 use Rattle.std.proofs.Common.{◌≡◌, ℕ, List}
 use Rattle.std.specs.Option.{option_or}
-use Rattle.t1_font.specs.Bodies.{glyph_kept, subr_among, subr_kept}
+use Rattle.t1_font.specs.Bodies.{glyph_body_kept, subr_among, subr_body_kept}
 use Rattle.t1_font.specs.ToRun.{glyph_to_run}
 use Rattle.t1_faults.proofs.to_run.add_items.Given as goal
 
@@ -9,6 +9,6 @@ abbrev pub invariant-loop-item : goal.invariant-loop-item
 invariant-loop-item l =
     (goal.iterator-loop-item).can_next l.item-iterator × (goal.iterator-loop-item).is_finite l.item-iterator
     × record {
-      subrs : (n : ℕ) → option_or (subr_kept l.subrs.entries n) (subr_among l.item-iterator n) ≡ subr_among l.items n;
-      glyphs : (g : List ℕ) → option_or (glyph_kept l.glyphs.entries g) (glyph_to_run l.item-iterator g) ≡ glyph_to_run l.items g;
+      subrs : (n : ℕ) → option_or (subr_body_kept l.subrs.entries n) (subr_among l.item-iterator n) ≡ subr_among l.items n;
+      glyphs : (g : List ℕ) → option_or (glyph_body_kept l.glyphs.entries g) (glyph_to_run l.item-iterator g) ≡ glyph_to_run l.items g;
     }

@@ -12,7 +12,7 @@ use Rattle.t1_rerun.specs.Changing.{AreChangesOf}
 use Rattle.t1_rerun.proofs.Judged.{file-refused}
 use Rattle.t1_rerun.proofs.Preparing.{as-self}
 use Rattle.t1_held.specs.declared.held.ReadyHeld.{ReadyHeld}
-use Rattle.t1_held.specs.Edits.{keys_of, made_of, source_of}
+use Rattle.t1_held.specs.Edits.{keys_of, edits_made, edits_source}
 use Rattle.t1_held.specs.Entries.{fresh_in, gone_keys}
 use Rattle.t1_held.proofs.CommitLaws.{edits_are, made_is, right_held, runs_are, source_by}
 use Rattle.t1_held.proofs.HeldLaws.{counts_none, prepared_by, right_well, still_held}
@@ -25,8 +25,8 @@ prepare_lines-requires-clause-prepared c =
 pub prepare_lines-requires-clause-edits : goal.prepare_lines-requires-clause-edits
 prepare_lines-requires-clause-edits c =
     let e = c.args.edits in
-    let s = source_of e in
-    let made = made_of e in
+    let s = edits_source e in
+    let made = edits_made e in
     let held = c.args.held.now in
     let changes = c.in_ok-changes.changes.items in
     let are = c.in_ok-changes.ensures held c.requires in
@@ -39,13 +39,13 @@ prepare_lines-requires-clause-edits c =
 pub returns-in_err-changes-clause-checked : goal.returns-in_err-changes-clause-checked
 returns-in_err-changes-clause-checked c =
     let p = err_from_is_err_and c.from_residual.result c.from_residual.ensures.1 in
-    rw (p.1, p.2) (file-refused (made_of c.args.edits) c.in_err-changes.field-0.0 (c.in_err-changes.ensures c.args.held.now c.requires))
+    rw (p.1, p.2) (file-refused (edits_made c.args.edits) c.in_err-changes.field-0.0 (c.in_err-changes.ensures c.args.held.now c.requires))
 
 pub returns-in_err-lines-clause-checked : goal.returns-in_err-lines-clause-checked
 returns-in_err-lines-clause-checked c =
     let e = c.args.edits in
-    let s = source_of e in
-    let made = made_of e in
+    let s = edits_source e in
+    let made = edits_made e in
     let held = c.args.held.now in
     let is : made_in c.made-made.result ≡ made = ap made_in c.made-made.ensures ∙ made_is e in
     let p = err_from_is_err_and c.from_residual-in_err-lines.result c.from_residual-in_err-lines.ensures.1 in
@@ -59,8 +59,8 @@ returns-in_err-lines-clause-held c =
 pub returns-in_err-lines-clause-counted : goal.returns-in_err-lines-clause-counted
 returns-in_err-lines-clause-counted c =
     let e = c.args.edits in
-    let s = source_of e in
-    let made = made_of e in
+    let s = edits_source e in
+    let made = edits_made e in
     let held = c.args.held.now in
     let is : made_in c.made-made.result ≡ made = ap made_in c.made-made.ensures ∙ made_is e in
     let p = err_from_is_err_and c.from_residual-in_err-lines.result c.from_residual-in_err-lines.ensures.1 in
@@ -71,8 +71,8 @@ returns-in_err-lines-clause-counted c =
 pub prepare_records-requires : goal.prepare_records-requires
 prepare_records-requires c =
     let e = c.args.edits in
-    let s = source_of e in
-    let made = made_of e in
+    let s = edits_source e in
+    let made = edits_made e in
     let held = c.args.held.now in
     let is : made_in c.made-made.result ≡ made = ap made_in c.made-made.ensures ∙ made_is e in
     let changes = c.in_ok-changes.changes.items in
@@ -84,8 +84,8 @@ prepare_records-requires c =
 pub returns-in-Err-clause-checked : goal.returns-in-Err-clause-checked
 returns-in-Err-clause-checked c =
     let e = c.args.edits in
-    let s = source_of e in
-    let made = made_of e in
+    let s = edits_source e in
+    let made = edits_made e in
     let held = c.args.held.now in
     let is : made_in c.made-made.result ≡ made = ap made_in c.made-made.ensures ∙ made_is e in
     let changes = c.in_ok-changes.changes.items in
@@ -101,8 +101,8 @@ returns-in-Err-clause-held c =
 pub returns-in-Err-clause-counted : goal.returns-in-Err-clause-counted
 returns-in-Err-clause-counted c =
     let e = c.args.edits in
-    let s = source_of e in
-    let made = made_of e in
+    let s = edits_source e in
+    let made = edits_made e in
     let held = c.args.held.now in
     let is : made_in c.made-made.result ≡ made = ap made_in c.made-made.ensures ∙ made_is e in
     let changes = c.in_ok-changes.changes.items in
@@ -115,8 +115,8 @@ returns-in-Err-clause-counted c =
 pub returns-in-Ok-clause-checked : goal.returns-in-Ok-clause-checked
 returns-in-Ok-clause-checked c =
     let e = c.args.edits in
-    let s = source_of e in
-    let made = made_of e in
+    let s = edits_source e in
+    let made = edits_made e in
     let held = c.args.held.now in
     let is : made_in c.made-made.result ≡ made = ap made_in c.made-made.ensures ∙ made_is e in
     let changes = c.in_ok-changes.changes.items in
@@ -128,8 +128,8 @@ returns-in-Ok-clause-checked c =
 pub returns-in-Ok-clause-ready : goal.returns-in-Ok-clause-ready
 returns-in-Ok-clause-ready c =
     let e = c.args.edits in
-    let s = source_of e in
-    let made = made_of e in
+    let s = edits_source e in
+    let made = edits_made e in
     let held = c.args.held.now in
     let is : made_in c.made-made.result ≡ made = ap made_in c.made-made.ensures ∙ made_is e in
     let changes = c.in_ok-changes.changes.items in
@@ -150,8 +150,8 @@ returns-in-Ok-clause-held c =
 pub returns-in-Ok-clause-counted : goal.returns-in-Ok-clause-counted
 returns-in-Ok-clause-counted c =
     let e = c.args.edits in
-    let s = source_of e in
-    let made = made_of e in
+    let s = edits_source e in
+    let made = edits_made e in
     let held = c.args.held.now in
     let is : made_in c.made-made.result ≡ made = ap made_in c.made-made.ensures ∙ made_is e in
     let changes = c.in_ok-changes.changes.items in

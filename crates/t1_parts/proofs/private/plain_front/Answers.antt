@@ -1,7 +1,7 @@
 use Rattle.std.proofs.Common.{◌++◌, take, ap, length, sym, ◌∙◌, subst, arith}
 use Rattle.std.proofs.lemmas.List.{length-take-le}
 use Rattle.t1_text.specs.Lines.{lines}
-use Rattle.t1_parts.specs.Entries.{has}
+use Rattle.t1_parts.specs.Entries.{has_numbered}
 use Rattle.t1_parts.specs.Items.{lines_say}
 use Rattle.t1_parts.specs.PlainRuns.{AreAmong}
 use Rattle.t1_parts.specs.Sections.{is_subrs_line, is_glyphs_line}
@@ -20,7 +20,7 @@ counted-requires-clause-count c =
 pub counted-requires-clause-silent : goal.counted-requires-clause-silent
 counted-requires-clause-silent c =
     let front = ap lines c.split_at.ensures.front ∙ lines_before c.past_plain-count.result.0 c.args.bytes.now c.past_plain-count.result.1.now c.past_plain-count.ensures.cut in
-    ap lines_say front ∙ among_silent (has is_subrs_line c.args.earlier.now) (has is_glyphs_line c.args.earlier.now) _ c.past_plain-count.ensures.among
+    ap lines_say front ∙ among_silent (has_numbered is_subrs_line c.args.earlier.now) (has_numbered is_glyphs_line c.args.earlier.now) _ c.past_plain-count.ensures.among
 
 pub returns-clause-lines : goal.returns-clause-lines
 returns-clause-lines c =
@@ -35,4 +35,4 @@ returns-clause-lines c =
 pub returns-clause-among : goal.returns-clause-among
 returns-clause-among c =
     let front = ap lines c.split_at.ensures.front ∙ lines_before c.past_plain-count.result.0 c.args.bytes.now c.past_plain-count.result.1.now c.past_plain-count.ensures.cut in
-    subst (AreAmong (has is_subrs_line c.args.earlier.now) (has is_glyphs_line c.args.earlier.now)) (sym (c.counted.ensures ∙ front)) c.past_plain-count.ensures.among
+    subst (AreAmong (has_numbered is_subrs_line c.args.earlier.now) (has_numbered is_glyphs_line c.args.earlier.now)) (sym (c.counted.ensures ∙ front)) c.past_plain-count.ensures.among

@@ -1,7 +1,7 @@
 use Rattle.std.proofs.Common.{◌≡◌, ◌∙◌, ◌+◌, [], ◌∷◌, ap, arith, drop, sym}
 use Rattle.std.proofs.lemmas.List.{drop_all}
 use Rattle.std.specs.Option.{option_or}
-use Rattle.t1_run.specs.Overlay.{changed}
+use Rattle.t1_run.specs.Overlay.{after_change}
 use Rattle.t1_run.specs.Run.{Subr, Glyph, body_at}
 use Rattle.t1_font.proofs.Compiling.{or-assoc, or-none}
 use Rattle.t1_cache.specs.Bodies.{glyph_body, record_bodies, subr_body}
@@ -41,10 +41,10 @@ returns c =
     let subrs = subr_set c.loop-change.subrs.entries in
     let glyphs = glyph_set c.loop-change.glyphs.entries in
     let made : EditedBodies = record { records = c.args.records; subrs = c.loop-change.subrs; glyphs = c.loop-change.glyphs } in
-    at-key (λ k. body_at (edited_font made) k ≡ changed (body_changed changes k) (body_at (record_bodies records) k))
+    at-key (λ k. body_at (edited_font made) k ≡ after_change (body_changed changes k) (body_at (record_bodies records) k))
     (λ n.
-    ap (λ r. changed r (subr_body records.subrs.entries n))
+    ap (λ r. after_change r (subr_body records.subrs.entries n))
     (or-none (subrs n) ∙ sym (ap (λ l. option_or (subrs n) (body_changed l (Subr n))) none) ∙ c.loop-change.invariant.subrs n))
     (λ g.
-    ap (λ r. changed r (glyph_body records.glyphs.entries g))
+    ap (λ r. after_change r (glyph_body records.glyphs.entries g))
     (or-none (glyphs g) ∙ sym (ap (λ l. option_or (glyphs g) (body_changed l (Glyph g))) none) ∙ c.loop-change.invariant.glyphs g))

@@ -2,15 +2,15 @@ use Rattle.std.proofs.Common.{◌≡◌, ◌∙◌, ap, filter, is_some, map, sy
 use Rattle.std.specs.Prelude.{◌&&◌}
 use Rattle.std.specs.Str.{bytes_eq}
 use Rattle.t1_run.specs.Touched.{is_user}
-use Rattle.t1_font.specs.Runs.{counted, kept_of as run_of}
+use Rattle.t1_font.specs.Runs.{counted, drawing_in as run_of}
 use Rattle.t1_cache.specs.Renewed.{recorded_run}
 use Rattle.std.proofs.lemmas.Result.{err_from_is_err_and}
 use Rattle.t1_run.specs.Run.{font}
 use Rattle.t1_font.specs.Bodies.{bodies}
-use Rattle.t1_cache.specs.Users.{has, key_of}
+use Rattle.t1_cache.specs.Users.{has_name, key_of}
 use Rattle.t1_cache.specs.Edited.{stale}
 use Rattle.std.specs.List.{AllByRecursion, list_any}
-use Rattle.t1_rerun.specs.Renewals.{HasRun, IsRerun}
+use Rattle.t1_rerun.specs.Renewals.{HasRun, IsMeasuredRerun}
 use Rattle.t1_rerun.proofs.Gathering.{have-runs}
 use Rattle.t1_rerun.proofs.Reaching.{some-all, all-later, has-names, length-map, counts-none, counts-all, counts-same}
 use Rattle.t1_rerun.proofs.Reordering.{as-many, first-fault, judged-ok, no-fault, renewal-is, those-are, those-distinct, those-there}
@@ -49,7 +49,7 @@ returns-in_err-runs-clause-checked g c = λ old new e.
     let is = ap (map (λ name. name.now)) c.deref.ensures.value ∙ c.in_ok-stale.ensures
     ∙ ap (λ l. filter (λ x. is_some (m.glyphs x)) (map (λ name. name.now) l)) c.as_slice.ensures.keys in
     let names = g.O.GlyphOrder.ordered c.args.order.now in
-    let found = has (λ name. name.now) keys in
+    let found = has_name (λ name. name.now) keys in
     let reached = c.in_ok-found.ensures.stale (bodies old.items) e.right.users in
     let are = those-are m.glyphs keys these is in
     let p = err_from_is_err_and c.from_residual-in_err-runs.result c.from_residual-in_err-runs.ensures.1 in
@@ -63,7 +63,7 @@ returns-in_err-runs-clause-counted g c = λ old new e.
     let is = ap (map (λ name. name.now)) c.deref.ensures.value ∙ c.in_ok-stale.ensures
     ∙ ap (λ l. filter (λ x. is_some (m.glyphs x)) (map (λ name. name.now) l)) c.as_slice.ensures.keys in
     let names = g.O.GlyphOrder.ordered c.args.order.now in
-    let found = has (λ name. name.now) keys in
+    let found = has_name (λ name. name.now) keys in
     let reached = c.in_ok-found.ensures.stale (bodies old.items) e.right.users in
     let are = those-are m.glyphs keys these is in
     let equal = sym (length-map (λ name. name.now) c.deref.result.now)
@@ -80,7 +80,7 @@ returns-in_err-renewal_of-clause-counted g c = λ old new e.
     let is = ap (map (λ name. name.now)) c.deref.ensures.value ∙ c.in_ok-stale.ensures
     ∙ ap (λ l. filter (λ x. is_some (m.glyphs x)) (map (λ name. name.now) l)) c.as_slice.ensures.keys in
     let names = g.O.GlyphOrder.ordered c.args.order.now in
-    let found = has (λ name. name.now) keys in
+    let found = has_name (λ name. name.now) keys in
     let reached = c.in_ok-found.ensures.stale (bodies old.items) e.right.users in
     let are = those-are m.glyphs keys these is in
     let equal = sym (length-map (λ name. name.now) c.deref.result.now)
@@ -97,7 +97,7 @@ returns-clause-checked g c = λ old new e.
     let is = ap (map (λ name. name.now)) c.deref.ensures.value ∙ c.in_ok-stale.ensures
     ∙ ap (λ l. filter (λ x. is_some (m.glyphs x)) (map (λ name. name.now) l)) c.as_slice.ensures.keys in
     let names = g.O.GlyphOrder.ordered c.args.order.now in
-    let found = has (λ name. name.now) keys in
+    let found = has_name (λ name. name.now) keys in
     let reached = c.in_ok-found.ensures.stale (bodies old.items) e.right.users in
     let are = those-are m.glyphs keys these is in
     no-fault c.args.edits.now old new c.args.records.now m names e found reached these are c.in_ok-runs.metrics.items c.in_ok-runs.ensures.reported
@@ -110,16 +110,16 @@ returns-clause-renewal g c = λ old new e.
     let is = ap (map (λ name. name.now)) c.deref.ensures.value ∙ c.in_ok-stale.ensures
     ∙ ap (λ l. filter (λ x. is_some (m.glyphs x)) (map (λ name. name.now) l)) c.as_slice.ensures.keys in
     let names = g.O.GlyphOrder.ordered c.args.order.now in
-    let found = has (λ name. name.now) keys in
+    let found = has_name (λ name. name.now) keys in
     let reached = c.in_ok-found.ensures.stale (bodies old.items) e.right.users in
     let are = those-are m.glyphs keys these is in
     let runs = c.in_ok-runs.runs in
     let renewal = c.in_ok-renewal_of.field-0 in
     renewal-is c.args.edits.now old new c.args.records.now m names e found reached these are
     c.in_ok-runs.metrics.items c.in_ok-runs.ensures.reported runs c.in_ok-runs.ensures.kept c.in_ok-runs.ensures.traced renewal
-    (subst (λ ms. AllByRecursion (IsRerun runs ms) renewal.reruns.items) c.deref-3.ensures.value c.in_ok-renewal_of.ensures.each)
+    (subst (λ ms. AllByRecursion (IsMeasuredRerun runs ms) renewal.reruns.items) c.deref-3.ensures.value c.in_ok-renewal_of.ensures.each)
     (λ x. c.in_ok-renewal_of.ensures.names x ∙ ap (list_any (λ y. bytes_eq x y.name)) c.deref-3.ensures.value)
-    (λ k u. c.in_ok-renewal_of.ensures.leaves k u ∙ ap (λ l. has (λ name. name.now) l u && is_user k (recorded_run c.args.records.now u)) c.as_slice-2.ensures.keys)
+    (λ k u. c.in_ok-renewal_of.ensures.leaves k u ∙ ap (λ l. has_name (λ name. name.now) l u && is_user k (recorded_run c.args.records.now u)) c.as_slice-2.ensures.keys)
     (λ k u. c.in_ok-renewal_of.ensures.joins k u
     ∙ ap (λ b. b && is_user k (run_of runs u)) (has-names c.deref-2.result.now u
     ∙ ap (list_any (bytes_eq u)) (ap (map (λ name. name.now)) (c.deref-2.ensures.value ∙ sym c.deref.ensures.value))))
@@ -130,7 +130,7 @@ returns-clause-later g c =
     let metrics = c.in_ok-runs.metrics.items in
     let reruns = c.in_ok-renewal_of.field-0.reruns.items in
     all-later c.args.meter.now runs metrics c.in_ok-runs.ensures.after reruns
-    (subst (λ ms. AllByRecursion (IsRerun runs ms) reruns) c.deref-3.ensures.value c.in_ok-renewal_of.ensures.each)
+    (subst (λ ms. AllByRecursion (IsMeasuredRerun runs ms) reruns) c.deref-3.ensures.value c.in_ok-renewal_of.ensures.each)
 
 pub returns-clause-counted : goal.returns-clause-counted
 returns-clause-counted g c = λ old new e.
@@ -140,7 +140,7 @@ returns-clause-counted g c = λ old new e.
     let is = ap (map (λ name. name.now)) c.deref.ensures.value ∙ c.in_ok-stale.ensures
     ∙ ap (λ l. filter (λ x. is_some (m.glyphs x)) (map (λ name. name.now) l)) c.as_slice.ensures.keys in
     let names = g.O.GlyphOrder.ordered c.args.order.now in
-    let found = has (λ name. name.now) keys in
+    let found = has_name (λ name. name.now) keys in
     let reached = c.in_ok-found.ensures.stale (bodies old.items) e.right.users in
     let are = those-are m.glyphs keys these is in
     let equal = sym (length-map (λ name. name.now) c.deref.result.now)

@@ -3,7 +3,7 @@ use Rattle.std.specs.Prelude.{◌++◌, ◌∷◌, []}
 use Rattle.std.proofs.lemmas.List.{take_all}
 use Rattle.std.specs.Str.{bytes_eq}
 use Rattle.t1_run.specs.Run.{Glyph, body_at}
-use Rattle.t1_font.specs.Bodies.{glyph_kept}
+use Rattle.t1_font.specs.Bodies.{glyph_body_kept}
 use Rattle.t1_font.specs.Runs.{run_kept}
 use Rattle.t1_cache.specs.Bodies.{record_bodies}
 use Rattle.t1_cache.specs.Changed.{SetsBody}
@@ -21,7 +21,7 @@ loop-glyph-preserved-in_default c =
     absurd (
     body-there c.args.records.now c.args.bodies.now.entries left c.args.runs.now c.loop-glyph.runs c.args.metrics.now c.loop-glyph.glyph-index c.loop-glyph.records
     c.requires.distinct c.loop-glyph.invariant c.glyph-item.result c.loop-glyph-test.true c.glyph-item.is c.requires.bodies
-    (sym c.in_default.is ∙ c.taken_body.ensures.body ∙ ap (glyph_kept left) c.as_slice-text.ensures))
+    (sym c.in_default.is ∙ c.taken_body.ensures.body ∙ ap (glyph_body_kept left) c.as_slice-text.ensures))
 
 pub loop-glyph-preserved-in_default-taken : goal.loop-glyph-preserved-in_default-taken
 loop-glyph-preserved-in_default-taken c =
@@ -42,9 +42,9 @@ loop-glyph-preserved c =
     let reported = c.in_ok-insert_glyph.ensures in
     glyph-built c.args.records.now c.args.bodies.now.entries bodies c.args.runs.now runs c.args.metrics.now c.loop-glyph.glyph-index now
     c.requires.distinct c.loop-glyph.invariant m c.loop-glyph-test.true c.glyph-item.is
-    c.in-Some.body (sym c.in-Some.is ∙ c.taken_body.ensures.body ∙ ap (glyph_kept bodies) c.as_slice-text.ensures)
+    c.in-Some.body (sym c.in-Some.is ∙ c.taken_body.ensures.body ∙ ap (glyph_body_kept bodies) c.as_slice-text.ensures)
     c.in-Some-taken.run' (sym c.in-Some-taken.is ∙ c.taken.ensures.run ∙ ap (λ n. run_in (run_kept runs n)) c.as_slice-text.ensures)
-    c.taken_body.new.bodies.entries (λ g. c.taken_body.ensures.others g ∙ ap (λ n. cond (bytes_eq n g) None (glyph_kept bodies g)) c.as_slice-text.ensures)
+    c.taken_body.new.bodies.entries (λ g. c.taken_body.ensures.others g ∙ ap (λ n. cond (bytes_eq n g) None (glyph_body_kept bodies g)) c.as_slice-text.ensures)
     c.taken.new.runs (λ g. c.taken.ensures.others g ∙ ap (λ n. cond (bytes_eq n g) None (run_kept runs g)) c.as_slice-text.ensures)
     new (subst (λ n. SetsBody (Glyph n) (Some c.in-Some.body) now new) name reported.bodies) reported.users
     (reported.kept ∙ ap (λ n. map kept_of now.glyphs.entries ++ kept n c.in-Some-taken.run' m.bbox ∷ []) name)

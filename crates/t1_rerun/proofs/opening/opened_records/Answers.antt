@@ -5,7 +5,7 @@ use Rattle.t1_frac.specs.Outcome.{Refuses}
 use Rattle.t1_font.specs.Bodies.{plain_bodies}
 use Rattle.t1_font.specs.Glyphs.{glyph_names}
 use Rattle.t1_font.specs.MeasuredGlyphs.{glyph_metrics_among}
-use Rattle.t1_font.specs.Runs.{kept_of as run_of, own_among, Counts}
+use Rattle.t1_font.specs.Runs.{drawing_in as run_of, own_among, Counts}
 use Rattle.t1_cache.specs.Renewed.{kept_of}
 use Rattle.t1_font.proofs.Measuring.{names-there}
 use Rattle.t1_rerun.specs.Opened.{measured_names, AreMeasured, IsRecorded}

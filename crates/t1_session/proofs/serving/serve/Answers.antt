@@ -1,7 +1,7 @@
 use Rattle.std.proofs.Common.{◌∙◌, ap, subst, sym}
 use Rattle.t1_session.specs.Conversation.{Conversation, fresh}
 use Rattle.t1_session.specs.Serving.{Converses, streams}
-use Rattle.t1_session.specs.State.{State}
+use Rattle.t1_session.specs.State.{SessionState}
 use Rattle.t1_session.specs.Machine.{scratch}
 use Rattle.t1_session.proofs.Sessions.{Serves-wanted, Serves-opened}
 use Rattle.t1_session.proofs.serving.serve.Goals as goal
@@ -14,7 +14,7 @@ returns-in-Ok g c =
     let before = streams c.args.reader.now c.args.writer.now in
     let after = streams c.converse-answered.new.reader c.converse-answered.new.writer in
     Serves-opened g.R.Read.remaining g.W.Write.contents (scratch c.args.source.now c.args.pairs.now) c.in-Ok.session before after c.converse-answered.result c.in-Ok.ensures
-    (subst (λ (state : State). Converses g.R.Read.remaining g.W.Write.contents state before after c.converse-answered.result)
+    (subst (λ (state : SessionState). Converses g.R.Read.remaining g.W.Write.contents state before after c.converse-answered.result)
     (ap (λ (old : Conversation). old.state) c.new-dialogue.ensures) c.converse-answered.ensures)
 
 pub returns-in-Err-Memory : goal.returns-in-Err-Memory

@@ -3,7 +3,7 @@ use Rattle.std.proofs.lemmas.List.{drop_all}
 use Rattle.std.proofs.lemmas.Result.{err_from_is_err_and}
 use Rattle.t1_code.specs.Counted.{outlet}
 use Rattle.t1_code.specs.Eexec.{enciphered, state_after}
-use Rattle.t1_code.specs.Parts.{bytes_of}
+use Rattle.t1_code.specs.Parts.{slices_bytes}
 use Rattle.t1_code.proofs.Carrying.{Carried-all, Carried-end, Carried-turn, Carried-turn-fails}
 use Rattle.t1_code.proofs.Enciphering.{enciphering, none_enciphered, state_stays}
 use Rattle.t1_code.proofs.eexec.EexecWriter.put_each.Goals as goal
@@ -25,12 +25,12 @@ pub returns-clause-text : goal.returns-clause-text
 returns-clause-text g c =
     let slices = c.args.slices.now in
     let state = c.loop-slice.self in
-    Carried-all g.W.Write.contents enciphering (outlet c.args.out.now c.args.chunk.now) (outlet c.loop-slice.out c.loop-slice.chunk) c.args.self.now state (bytes_of slices) (bytes_of (drop c.loop-slice.slice-index slices))
-    c.loop-slice.invariant (ap (λ l. enciphered state (bytes_of l)) (drop_all c.loop-slice.slice-index slices (omega arith)) ∙ none_enciphered state)
+    Carried-all g.W.Write.contents enciphering (outlet c.args.out.now c.args.chunk.now) (outlet c.loop-slice.out c.loop-slice.chunk) c.args.self.now state (slices_bytes slices) (slices_bytes (drop c.loop-slice.slice-index slices))
+    c.loop-slice.invariant (ap (λ l. enciphered state (slices_bytes l)) (drop_all c.loop-slice.slice-index slices (omega arith)) ∙ none_enciphered state)
 
 pub returns-clause-state : goal.returns-clause-state
 returns-clause-state g c =
     let slices = c.args.slices.now in
     let state = c.loop-slice.self in
-    Carried-end g.W.Write.contents enciphering (outlet c.args.out.now c.args.chunk.now) (outlet c.loop-slice.out c.loop-slice.chunk) c.args.self.now state (bytes_of slices) (bytes_of (drop c.loop-slice.slice-index slices))
-    c.loop-slice.invariant (ap (λ l. state_after state (bytes_of l)) (drop_all c.loop-slice.slice-index slices (omega arith)) ∙ state_stays state)
+    Carried-end g.W.Write.contents enciphering (outlet c.args.out.now c.args.chunk.now) (outlet c.loop-slice.out c.loop-slice.chunk) c.args.self.now state (slices_bytes slices) (slices_bytes (drop c.loop-slice.slice-index slices))
+    c.loop-slice.invariant (ap (λ l. state_after state (slices_bytes l)) (drop_all c.loop-slice.slice-index slices (omega arith)) ∙ state_stays state)

@@ -3,7 +3,7 @@ use Rattle.std.specs.List.{flat_map}
 use Rattle.std.proofs.lemmas.List.{drop_all}
 use Rattle.std.proofs.lemmas.Result.{err_from_is_err_and}
 use Rattle.t1_code.specs.Counted.{outlet}
-use Rattle.t1_code.specs.Parts.{bytes_of, piece_text}
+use Rattle.t1_code.specs.Parts.{slices_bytes, piece_text}
 use Rattle.t1_code.specs.declared.parts.Piece.TheVariants.{Plain}
 use Rattle.t1_code.proofs.Carrying.{Carried-step, Carried-fails, Carried-turn, Carried-turn-fails}
 use Rattle.t1_code.proofs.Encrypting.{flat_map-drop}
@@ -55,7 +55,7 @@ loop-piece-preserved g c =
           rw (w.self-is, w.out-is, w.chunk-is, none) put
       | else-not-keep_all w ↦
           let kept =
-          c.keep_all-in-loop-piece.ensures.kept w.if-not-keep_all.false ∙ ap (λ l. l ++ bytes_of c.slices-slices.result) c.in_ok-pass.ensures.empty ∙ c.slices-slices.ensures in
+          c.keep_all-in-loop-piece.ensures.kept w.if-not-keep_all.false ∙ ap (λ l. l ++ slices_bytes c.slices-slices.result) c.in_ok-pass.ensures.empty ∙ c.slices-slices.ensures in
           let left_then = flat_map-drop piece_text c.args.pieces.now c.loop-piece.piece-index _ (Plain (record { ref_ptr = (0, 0); now = [] })) inside refl in
           rw (w.self-is, w.out-is, w.chunk-is, kept) (rw left_then at passed)
     ]

@@ -2,7 +2,7 @@ use Rattle.std.proofs.Common.{◌≡◌, ◌∙◌, ◌++◌, ◌<◌, ◌≤◌
 use Rattle.std.proofs.lemmas.List.{take-append-drop}
 use Rattle.std.proofs.lemmas.Result.{err_from_is_err_and}
 use Rattle.t1_code.specs.Counted.{outlet}
-use Rattle.t1_code.specs.Segments.{opened, in_segments, segmenting_after}
+use Rattle.t1_code.specs.Segments.{segment_opened, in_segments, segmenting_after}
 use Rattle.t1_code.proofs.Carrying.{Carried-none, Carried-all, Carried-end}
 use Rattle.t1_code.proofs.Segmenting.{cutting, some_of, room_opens, head_fails, front_fails, front_passes}
 use Rattle.t1_code.proofs.Writing.{nothing_left}
@@ -36,12 +36,12 @@ returns-in_err-put_plain-clause-text g c =
     let after = c.split_at.result.1.now in
     let parts : c.loop-rest.rest.now ≡ front ++ after = rw (c.split_at.ensures.front, c.split_at.ensures.back) (sym (take-append-drop c.min.result c.loop-rest.rest.now)) in
     let is_open = c.self.view_is ∙ c.in_ok-open.ensures.state in
-    let room : c.self.inside.room ≡ (opened s).room = ap (λ v. v.room) is_open in
-    let size : c.self.inside.size ≡ (opened s).size = ap (λ v. v.size) is_open in
+    let room : c.self.inside.room ≡ (segment_opened s).room = ap (λ v. v.room) is_open in
+    let size : c.self.inside.size ≡ (segment_opened s).size = ap (λ v. v.size) is_open in
     let opens = room_opens s (omega (arith, size, c.self.invariant.0)) in
     let left : 0 < length c.loop-rest.rest.now = some_of (length c.loop-rest.rest.now) (sym c.is_empty.ensures ∙ c.loop-rest-test.true) in
     let some : 0 < length front = omega (arith, opens, left, room, c.min.ensures, c.split_at.ensures.front_len) in
-    let short : length front ≤ (opened s).room = omega (arith, room, c.min.ensures, c.split_at.ensures.front_len) in
+    let short : length front ≤ (segment_opened s).room = omega (arith, room, c.min.ensures, c.split_at.ensures.front_len) in
     rw p.1 (front_fails g.W.Write.contents (outlet c.args.out.now c.args.chunk.now) c.args.self.now c.args.bytes.now (outlet c.loop-rest.out c.loop-rest.chunk) (outlet c.open.new.out c.open.new.chunk)
     (outlet c.put_plain.new.out c.put_plain.new.chunk) s c.loop-rest.rest.now front after c.loop-rest.invariant parts some short c.in_ok-open.ensures.text c.in_err-put_plain.ensures)
 
@@ -52,14 +52,14 @@ loop-rest-preserved g c =
     let after = c.split_at.result.1.now in
     let parts : c.loop-rest.rest.now ≡ front ++ after = rw (c.split_at.ensures.front, c.split_at.ensures.back) (sym (take-append-drop c.min.result c.loop-rest.rest.now)) in
     let is_open = c.self.view_is ∙ c.in_ok-open.ensures.state in
-    let room : c.self.inside.room ≡ (opened s).room = ap (λ v. v.room) is_open in
-    let size : c.self.inside.size ≡ (opened s).size = ap (λ v. v.size) is_open in
+    let room : c.self.inside.room ≡ (segment_opened s).room = ap (λ v. v.room) is_open in
+    let size : c.self.inside.size ≡ (segment_opened s).size = ap (λ v. v.size) is_open in
     let opens = room_opens s (omega (arith, size, c.self.invariant.0)) in
     let left : 0 < length c.loop-rest.rest.now = some_of (length c.loop-rest.rest.now) (sym c.is_empty.ensures ∙ c.loop-rest-test.true) in
     let some : 0 < length front = omega (arith, opens, left, room, c.min.ensures, c.split_at.ensures.front_len) in
-    let short : length front ≤ (opened s).room = omega (arith, room, c.min.ensures, c.split_at.ensures.front_len) in
-    let left_is : c.self.inside.left ≡ (opened s).left = ap (λ v. v.left) is_open in
-    let kind : c.self.inside.kind ≡ (opened s).kind = ap (λ v. v.kind) is_open in
+    let short : length front ≤ (segment_opened s).room = omega (arith, room, c.min.ensures, c.split_at.ensures.front_len) in
+    let left_is : c.self.inside.left ≡ (segment_opened s).left = ap (λ v. v.left) is_open in
+    let kind : c.self.inside.kind ≡ (segment_opened s).kind = ap (λ v. v.kind) is_open in
     front_passes g.W.Write.contents (outlet c.args.out.now c.args.chunk.now) c.args.self.now c.args.bytes.now (outlet c.loop-rest.out c.loop-rest.chunk) (outlet c.open.new.out c.open.new.chunk)
     (outlet c.put_plain.new.out c.put_plain.new.chunk) s _ c.loop-rest.rest.now front after c.loop-rest.invariant parts some short c.in_ok-open.ensures.text c.in_ok-put_plain.ensures
     (rw (c.saturating_sub-self-inside.ensures, kind, size, room, left_is) refl)

@@ -1,5 +1,5 @@
 use Rattle.std.proofs.Common.{◌^◌, ap, sym, ◌∙◌, arith}
-use Rattle.t1_extent.specs.Sides.{over}
+use Rattle.t1_extent.specs.Sides.{in_lowest_terms}
 use Rattle.t1_extent.proofs.Folding.{same_extremes}
 use Rattle.t1_extent.proofs.Siding.{least_read, greatest_read}
 use Rattle.t1_extent.proofs.Sums.{lesser_over, greater_over}
@@ -21,7 +21,7 @@ returns c =
     let s = c.args.self.now in
     let o = c.args.other.now in
     same_extremes _ _ _ _ _ _ _ _
-    (ap (over 1) (least_read (2 ^ 20) c.min.result s.left o.left (omega arith) c.min.ensures.value s.left_size o.left_size).0 ∙ sym (lesser_over 1 s.left o.left (omega arith)))
-    (ap (over 1) (least_read (2 ^ 20) c.min-2.result s.bottom o.bottom (omega arith) c.min-2.ensures.value s.bottom_size o.bottom_size).0 ∙ sym (lesser_over 1 s.bottom o.bottom (omega arith)))
-    (ap (over 1) (greatest_read (2 ^ 20) c.max.result s.right o.right (omega arith) c.max.ensures.value s.right_size o.right_size).0 ∙ sym (greater_over 1 s.right o.right (omega arith)))
-    (ap (over 1) (greatest_read (2 ^ 20) c.max-2.result s.top o.top (omega arith) c.max-2.ensures.value s.top_size o.top_size).0 ∙ sym (greater_over 1 s.top o.top (omega arith)))
+    (ap (in_lowest_terms 1) (least_read (2 ^ 20) c.min.result s.left o.left (omega arith) c.min.ensures.value s.left_size o.left_size).0 ∙ sym (lesser_over 1 s.left o.left (omega arith)))
+    (ap (in_lowest_terms 1) (least_read (2 ^ 20) c.min-2.result s.bottom o.bottom (omega arith) c.min-2.ensures.value s.bottom_size o.bottom_size).0 ∙ sym (lesser_over 1 s.bottom o.bottom (omega arith)))
+    (ap (in_lowest_terms 1) (greatest_read (2 ^ 20) c.max.result s.right o.right (omega arith) c.max.ensures.value s.right_size o.right_size).0 ∙ sym (greater_over 1 s.right o.right (omega arith)))
+    (ap (in_lowest_terms 1) (greatest_read (2 ^ 20) c.max-2.result s.top o.top (omega arith) c.max-2.ensures.value s.top_size o.top_size).0 ∙ sym (greater_over 1 s.top o.top (omega arith)))

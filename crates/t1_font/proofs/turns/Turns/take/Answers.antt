@@ -1,6 +1,6 @@
 use Rattle.std.proofs.Common.{◌≡◌, sym, subst}
 use Rattle.t1_font.specs.InTurn.{AreRows, RunsAs, staying}
-use Rattle.t1_font.specs.Runs.{kept_of}
+use Rattle.t1_font.specs.Runs.{drawing_in}
 use Rattle.t1_run.specs.Run.{font}
 use Rattle.t1_font.specs.ToRun.{glyph_to_run, subr_stored}
 use Rattle.t1_font.proofs.InTurnLaws.{rows-more, runs-more}
@@ -22,5 +22,5 @@ returns-in_ok-push-in-Glyph-clause-runs c = λ run. λ gs. λ runs. λ before. �
     let m = font (subr_stored c.args.self.now.subrs) (glyph_to_run c.args.items.now) in
     let own = subst (λ item. RunsAs item run m) is runs in
     rw is
-    (runs-more run gs c.in-Glyph.name g (kept_of c.args.reported.now.runs g) (kept_of c.glyph_turn.new.runs g) (before g)
+    (runs-more run gs c.in-Glyph.name g (drawing_in c.args.reported.now.runs g) (drawing_in c.glyph_turn.new.runs g) (before g)
     (rw (← c.as_slice.ensures) (c.in_ok-row-in-Glyph.ensures.kept run (subst (λ name. run name ≡ Rattle.t1_run.specs.Run.own m name) (sym c.as_slice.ensures) own) g)))

@@ -10,7 +10,7 @@ use Rattle.t1_run.specs.Run.{own}
 use Rattle.t1_font.specs.Bodies.{bodies_check, body_check, subr_in, subr_among}
 use Rattle.t1_font.specs.Glyphs.{glyph_names, name_in}
 use Rattle.t1_font.specs.InTurn.{AreRows, IsFirstOfName}
-use Rattle.t1_font.specs.Runs.{kept_of}
+use Rattle.t1_font.specs.Runs.{drawing_in}
 use Rattle.t1_font.specs.ToRun.{font_to_run, subr_stored, SubrsStandFirst}
 use Rattle.t1_font.proofs.AloneLaws.{checks_alone, first_alone, names_alone, subrs_alone}
 use Rattle.t1_font.proofs.Compiling.{or-assoc}
@@ -33,7 +33,7 @@ loop-item-init c =
         done = [];
         names = ap glyph_names start ∙ names_alone items;
         rows = subst (AreRows (own (font_to_run items)) []) (sym c.requires.rows) tt;
-        runs = λ g. ap (λ runs. kept_of runs g) c.requires.runs;
+        runs = λ g. ap (λ runs. drawing_in runs g) c.requires.runs;
       },
     )
 

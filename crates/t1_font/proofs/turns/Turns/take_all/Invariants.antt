@@ -5,7 +5,7 @@ use Rattle.t1_run.specs.Run.{own}
 use Rattle.t1_font.specs.Bodies.{bodies_check, subr_among}
 use Rattle.t1_font.specs.Glyphs.{glyph_names}
 use Rattle.t1_font.specs.InTurn.{staying, AreRows, IsFirstOfName}
-use Rattle.t1_font.specs.Runs.{kept_of}
+use Rattle.t1_font.specs.Runs.{drawing_in}
 use Rattle.t1_font.specs.ToRun.{font_to_run, subr_stored, SubrsStandFirst}
 use Rattle.t1_font.proofs.turns.Turns.take_all.Given as goal
 
@@ -21,5 +21,5 @@ invariant-loop-item l =
       done : List (List ℕ);
       names : done ++ glyph_names l.item-iterator ≡ glyph_names l.items;
       rows : AreRows (own (font_to_run l.items)) done l.reported.rows;
-      runs : (g : List ℕ) → kept_of l.reported.runs g ≡ staying (own (font_to_run l.items)) done g;
+      runs : (g : List ℕ) → drawing_in l.reported.runs g ≡ staying (own (font_to_run l.items)) done g;
     }

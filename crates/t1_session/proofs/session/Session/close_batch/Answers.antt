@@ -4,7 +4,7 @@ use Rattle.t1_cache.specs.Renewed.{kept_of}
 use Rattle.t1_held.specs.Batch.{Draft, entry_edit, keys}
 use Rattle.t1_session.specs.Reruns.{Edition, edition, edition_in}
 use Rattle.t1_session.specs.RerunsByTest.{RerunsByTest}
-use Rattle.t1_session.specs.State.{SessionView, State}
+use Rattle.t1_session.specs.State.{SessionView, SessionState}
 use Rattle.t1_session.specs.Users.{user_table}
 use Rattle.t1_session.proofs.RefusalLaws.{batch_reruns}
 use Rattle.t1_session.proofs.session.Session.close_batch.Goals as goal
@@ -14,7 +14,7 @@ returns-in-Some-clause-runs c =
     let s = c.self.inside in
     let now = c.args.self.now in
     let draft : Draft = c.in-Some.batch in
-    let state : State = record { source = s.source; pairs = s.pairs; batch = s.batch; refused = s.refused } in
+    let state : SessionState = record { source = s.source; pairs = s.pairs; batch = s.batch; refused = s.refused } in
     let opened : s.batch ≡ Some draft = search rules in
     let e : Edition = record { keys = keys draft.entries; source = draft.source } in
     let is : edition now.state commands.Commit ≡ Some e =
