@@ -68,9 +68,14 @@ def whole(number):
     return f"{number}"
 
 
-def fifths(number):
-    """A number of fifths, as `div` has them."""
-    return f"{number} 5 div"
+def over(*denominators):
+    """How numbers are written as `div` has them, each over one of these denominators; over 1 it stands alone."""
+
+    def written(number):
+        denominator = denominators[abs(number) % len(denominators)]
+        return whole(number) if denominator == 1 else f"{number} {denominator} div"
+
+    return written
 
 
 # A kind of large fonts: glyphs of so many words, how a coordinate is written, and whether a curve goes on in one direction
@@ -79,7 +84,14 @@ Kind = collections.namedtuple("Kind", "glyphs words written steady")
 
 LONG_BODIES = Kind(2000, 200, whole, False)
 SHORT_ENTRIES = Kind(14422, 40, whole, False)
-FIFTHS = Kind(1000, 600, fifths, True)
+# Kinds whose coordinates are fractions. In the last, whole numbers stand between them, and curves turn between their ends.
+FRACTIONS = {
+    "fifths": Kind(1000, 600, over(5), True),
+    "sevenths": Kind(1000, 600, over(7), True),
+    "hundredths": Kind(1000, 600, over(100), True),
+    "1,024ths": Kind(1000, 600, over(1024), True),
+    "mixed": Kind(1000, 600, over(1, 2, 1, 5, 10, 3, 1, 100, 4, 1, 7), False),
+}
 
 SMALL, LARGE = (-107, 107), (-400, 400)
 # The commands that draw: their operands' axes and ranges.

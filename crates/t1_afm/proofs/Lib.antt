@@ -2,6 +2,7 @@ pub mod Between
 pub mod Boxes
 pub mod Ceilings
 pub mod Convex
+pub mod Denominators
 pub mod Differences
 pub mod EndSums
 pub mod EndValues

@@ -30,3 +30,11 @@ pair_fraction p = record { num = p.num; den = p.den }
 -- word: a sum over 64^3
 abbrev pub over_cube : ℤ → Fraction
 over_cube sum = record { num = sum; den = 262144 }
+
+-- word: a numerator over a denominator
+abbrev pub over_den : ℕ → ℤ → Fraction
+over_den den n = record { num = n; den = den }
+
+-- word: a sum over 64^3 and a denominator
+abbrev pub over_cube_and : ℕ → ℤ → Fraction
+over_cube_and den sum = record { num = sum; den = 262144 * den }

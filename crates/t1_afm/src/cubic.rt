@@ -6,6 +6,7 @@ ghost use Rattle.t1_afm.specs.Points.{cubic_at, cubic_values};
 ghost use Rattle.t1_afm.specs.Spans.{span_of, span_around_one};
 ghost use Rattle.t1_afm.specs.Bounds.{IsInRange, fraction_of};
 
+use crate::common::CommonCubic;
 use crate::ratio::{Ratio, WeightedPair};
 use crate::span::{Span, line_span};
 use crate::whole::WholeCubic;
@@ -88,6 +89,18 @@ impl Cubic {
         self.sampled_span()
     }
 
+    /// The span around the 65 values, over a denominator of all four points, where one is found.
+    fn common_span(&self) -> Span
+        ensures { result
+            ≡ span_of (cubic_values self.now.start self.now.first self.now.second self.now.end) }
+    {
+        let found = CommonCubic::of(&self.start, &self.first, &self.second, &self.end);
+        let Some(cubic) = found else {
+            return self.fraction_span();
+        };
+        cubic.span()
+    }
+
     /// The span around the 65 values.
     pub(crate) fn span(&self) -> Span
         ensures { result
@@ -106,6 +119,6 @@ impl Cubic {
             };
             return cubic.span();
         }
-        self.fraction_span()
+        self.common_span()
     }
 }

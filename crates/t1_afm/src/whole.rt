@@ -85,7 +85,7 @@ impl Sample {
 }
 
 /// The sum over 64^3, rounded down.
-fn floor(sum: i64) -> i32
+pub(crate) fn floor(sum: i64) -> i32
     requires { IsInRange (over_cube sum) }
     ensures value { result ≡ floor_of (over_cube sum) }
     ensures size { unsigned_abs result ≤ 2 ^ 20 }

@@ -15,7 +15,7 @@ cross n d g p q =
     let b : d / g * g ≡ d = div-mul_cancel g q in
     omega (arith, ap (λ x. n / g * x) b, ap (λ x. x * (d / g)) a)
 
-neg_mul : (k d : ℕ) → neg_ℤ (pos k) *ℤ pos d ≡ neg_ℤ (pos (k * d))
+pub neg_mul : (k d : ℕ) → neg_ℤ (pos k) *ℤ pos d ≡ neg_ℤ (pos (k * d))
 neg_mul zero d = let e : 0 * d ≡ 0 = omega arith in rw e
 neg_mul (suc k) d = refl
 
@@ -27,7 +27,7 @@ pub lowest_same : (a : Fraction) → IsSame (lowest a) a
 unfolding lowest
 lowest_same a = same_at a.num a.den (gcd (unsigned_abs a.num) a.den) (IsGcd-gcd (unsigned_abs a.num) a.den).0 (IsGcd-gcd (unsigned_abs a.num) a.den).1
 
-abs_neg : (k : ℕ) → unsigned_abs (neg_ℤ (pos k)) ≡ k
+pub abs_neg : (k : ℕ) → unsigned_abs (neg_ℤ (pos k)) ≡ k
 abs_neg zero = refl
 abs_neg (suc k) = refl
 

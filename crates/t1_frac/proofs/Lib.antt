@@ -10,5 +10,6 @@ mod Quotients
 pub mod Rounded
 pub mod Rows
 pub mod SameLowest
+pub mod SmallPrimes
 pub mod Sums
 pub mod WordLaws

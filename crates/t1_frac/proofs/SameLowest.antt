@@ -30,7 +30,7 @@ scaled_within (suc k) a (suc b) c some h =
     (scaled_within k (suc b) (a % suc b) c some (omega arith)))
 
 -- multiples have the multiple of the greatest common divisor
-scaled_gcd : (a b c : ℕ) → 0 < c → IsGcd (a * c) (b * c) (gcd a b * c)
+pub scaled_gcd : (a b c : ℕ) → 0 < c → IsGcd (a * c) (b * c) (gcd a b * c)
 unfolding gcd
 scaled_gcd a b c some = scaled_within (b + 1) a b c some (omega arith)
 
@@ -49,7 +49,7 @@ gcds_same n m d e hd he same =
     let z : IsGcd (n * e) (d * e) (gcd m e * d) = subst (λ k. IsGcd (n * e) k (gcd m e * d)) swapped (subst (λ k. IsGcd k (e * d) (gcd m e * d)) (sym same) y) in
     same_from_IsGcd (n * e) (d * e) (gcd n d * e) (gcd m e * d) x z
 
-cancel : (x y k : ℕ) → 0 < k → x * k ≡ y * k → x ≡ y
+pub cancel : (x y k : ℕ) → 0 < k → x * k ≡ y * k → x ≡ y
 cancel x y k some e =
     let a : x ≤ y = le_of_mul-le-mul_right {m = x} {n = y} (omega (arith, e)) some in
     let b : y ≤ x = le_of_mul-le-mul_right {m = y} {n = x} (omega (arith, e)) some in

@@ -1,6 +1,6 @@
 //! Exact fractions within the limits of a run.
 
-ghost use Rattle.std.specs.Prelude.{◌≡◌, ◌≢◌, ◌+ℤ◌, ◌*ℤ◌, pos, ◌*◌, ◌^◌, ◌≤◌, ◌<◌, ◌==◌, IfOk};
+ghost use Rattle.std.specs.Prelude.{◌≡◌, ◌≢◌, ◌+ℤ◌, ◌*ℤ◌, pos, ◌*◌, ◌%◌, ◌^◌, ◌≤◌, ◌<◌, ◌==◌, IfOk};
 ghost use Rattle.std.specs.Prelude.{MatchResult, Ok, Err, true};
 ghost use Rattle.std.specs.Int.RustNames.{unsigned_abs};
 ghost use Rattle.t1_frac.specs.Fraction.{whole as whole_of, gcd as gcd_of, IsLowest, IsSmallPrime};
@@ -13,6 +13,7 @@ ghost use Rattle.t1_frac.specs.declared.fault.Code.TheVariants.{F40};
 use crate::division::{floor_quotient, quotient, signed_quotient};
 use crate::fault::Code;
 use crate::gcd::{gcd, gcd_64};
+use crate::terms::over_small_primes;
 use std::cmp::Ordering;
 use std::marker::Model;
 
@@ -61,6 +62,7 @@ fn over_prime(num: i64, prime: u64) -> (i64, u64)
 }
 
 /// A short numerator and denominator over their greatest common divisor.
+#[inline(never)]
 #[tactic(auto, using(crate::proofs::Divisors::gcd_above, crate::proofs::Divisors::gcd_below, crate::proofs::Exact::lowest_coprime_terms), unfolding(crate::specs::Fraction::lowest))]
 fn over_common_divisor(num: i64, den: u64) -> (i64, u64)
     requires num { unsigned_abs num < 2 ^ 63 }
@@ -78,7 +80,39 @@ fn over_common_divisor(num: i64, den: u64) -> (i64, u64)
     (signed_quotient(num, divisor), quotient(den, divisor))
 }
 
-/// A short numerator and denominator in lowest terms. Most denominators of fonts are primes.
+/// A short numerator and denominator in lowest terms. Where the denominator is known where this is
+/// compiled, so is which primes are tried.
+#[inline(always)]
+fn over_known(num: i64, den: u64) -> (i64, u64)
+    requires num { unsigned_abs num < 2 ^ 63 }
+    requires den_above { 0 < den }
+    requires den_below { den < 2 ^ 63 }
+    ensures lowest { record { num = result.0; den = result.1 }
+        ≡ lowest (record { num = num; den = den }) }
+    ensures den_above { 0 < result.1 }
+    ensures den_below { result.1 ≤ den }
+{
+    if let Some(terms) = over_small_primes(num, den) {
+        return terms;
+    }
+    over_common_divisor(num, den)
+}
+
+/// The same, whatever the denominator.
+#[inline(never)]
+fn over_any(num: i64, den: u64) -> (i64, u64)
+    requires num { unsigned_abs num < 2 ^ 63 }
+    requires den_above { 0 < den }
+    requires den_below { den < 2 ^ 63 }
+    ensures lowest { record { num = result.0; den = result.1 }
+        ≡ lowest (record { num = num; den = den }) }
+    ensures den_above { 0 < result.1 }
+    ensures den_below { result.1 ≤ den }
+{
+    over_known(num, den)
+}
+
+/// The same. The denominators that most fonts have are known here.
 #[inline(always)]
 fn in_lowest_terms(num: i64, den: u64) -> (i64, u64)
     requires num { unsigned_abs num < 2 ^ 63 }
@@ -94,7 +128,10 @@ fn in_lowest_terms(num: i64, den: u64) -> (i64, u64)
         3 => over_prime(num, 3),
         5 => over_prime(num, 5),
         7 => over_prime(num, 7),
-        _ => over_common_divisor(num, den),
+        10 => over_known(num, 10),
+        100 => over_known(num, 100),
+        1024 => over_known(num, 1024),
+        _ => over_any(num, den),
     }
 }
 
@@ -321,6 +358,40 @@ impl Frac {
         (self.sum_num(other), self.den)
     }
 
+    /// The sum's numerator and denominator over this denominator, which is a multiple of the
+    /// other, not in lowest terms.
+    #[inline(always)]
+    fn multiple_terms(&self, other: &Frac) -> (i64, u64)
+        requires left_short { unsigned_abs self.now.num ≤ 2 ^ 40 }
+        requires right_short { unsigned_abs other.now.num ≤ 2 ^ 40 }
+        requires multiple { self.now.den % other.now.den ≡ 0 }
+        ensures sum { lowest (record { num = result.0; den = result.1 })
+            ≡ lowest (plus self.now other.now) }
+        ensures num_below { unsigned_abs result.0 < 2 ^ 63 }
+        ensures den_above { 0 < result.1 }
+        ensures den_below { result.1 < 2 ^ 63 }
+    {
+        let right = scaled(other.num, self.den / other.den);
+        (self.num + right, self.den)
+    }
+
+    /// The sum of two short fractions of which this one's denominator is the greater: over it,
+    /// where it is a multiple of the other.
+    #[tactic(auto, unfolding(crate::specs::Limits::coordinate_sum))]
+    #[inline(always)]
+    fn short_sum(&self, other: &Frac) -> Result<Frac, Code>
+        requires left_short { unsigned_abs self.now.num ≤ 2 ^ 40 }
+        requires right_short { unsigned_abs other.now.num ≤ 2 ^ 40 }
+        ensures { result ≡ coordinate_sum self.now other.now }
+    {
+        if self.den % other.den == 0 {
+            let (num, den) = self.multiple_terms(other);
+            return reduced(Code::F40, 1 << 20, num, den);
+        }
+        let (num, den) = self.crossed_terms(other);
+        reduced(Code::F40, 1 << 20, num, den)
+    }
+
     /// The quotient's numerator and denominator, not in lowest terms, where both are whole.
     #[inline(always)]
     fn whole_quotient_terms(&self, other: &Frac) -> (i64, u64)
@@ -397,7 +468,7 @@ impl Frac {
     }
 
     /// The sum, where both may have fractions. Over one denominator the numerators are added.
-    #[tactic(auto, unfolding(crate::specs::Limits::coordinate_sum))]
+    #[tactic(auto, using(crate::proofs::Sums::sum_turned), unfolding(crate::specs::Limits::coordinate_sum))]
     #[inline(never)]
     fn fraction_sum(self, other: Frac) -> Result<Frac, Code>
         ensures { result ≡ coordinate_sum self other }
@@ -406,11 +477,13 @@ impl Frac {
             let (num, den) = self.alike_terms(&other);
             return reduced(Code::F40, 1 << 20, num, den);
         }
-        if self.is_short() && other.is_short() {
-            let (num, den) = self.crossed_terms(&other);
-            return reduced(Code::F40, 1 << 20, num, den);
+        if !self.is_short() || !other.is_short() {
+            return self.add_long(other);
         }
-        self.add_long(other)
+        if self.den > other.den {
+            return self.short_sum(&other);
+        }
+        other.short_sum(&self)
     }
 
     /// The same, with its answer in registers. It stands apart from `add`, so that whole numbers

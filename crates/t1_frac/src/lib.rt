@@ -14,6 +14,7 @@ mod gcd;
 pub mod laws;
 mod number;
 mod source_text;
+mod terms;
 mod words;
 
 pub use bytes::Bytes;
