@@ -9,6 +9,7 @@ pub mod GroupLaws
 pub mod HeaderLaws
 pub mod ItemLaws
 pub mod KeyLaws
+pub mod LeadKeptLaws
 pub mod LeadLaws
 pub mod NumberedLaws
 pub mod OpeningLaws

@@ -3,7 +3,7 @@
 ghost use Rattle.std.specs.Prelude.{◌≡◌, IfOk};
 
 use std::alloc::{AllocError, Global};
-use t1_frac::{SourceText, Words};
+use t1_frac::{OwnedWords, SourceText, Words};
 
 /// One item of the private part; its texts stand in the source that was read, or in memory of their
 /// own.
@@ -42,6 +42,35 @@ fn copied_body<'a>(
     Ok((words, closing.copied(alloc)?))
 }
 
+/// A copy of a text, in memory of its own.
+fn owned_text(alloc: Global, text: &SourceText) -> Result<SourceText<'static>, AllocError>
+    ensures { IfOk result (λ owned. owned ≡ text.now) }
+{
+    SourceText::copy_of(alloc, text.as_slice())
+}
+
+/// A copy of some words, in memory of their own.
+fn owned_words(alloc: Global, words: &Words) -> Result<Words<'static>, AllocError>
+    ensures { IfOk result (λ owned. owned ≡ words.now) }
+{
+    let mut owned = OwnedWords::new(alloc);
+    owned.push_line(words.as_bytes())?;
+    Ok(owned.into_words())
+}
+
+/// Copies of an entry's words and of the text after its closing brace, in memory of their own.
+fn owned_body(
+    alloc: Global,
+    words: &Words,
+    closing: &SourceText,
+) -> Result<(Words<'static>, SourceText<'static>), AllocError>
+    ensures words { IfOk result (λ body. body.0 ≡ words.now) }
+    ensures closing { IfOk result (λ body. body.1 ≡ closing.now) }
+{
+    let words = owned_words(alloc, words)?;
+    Ok((words, owned_text(alloc, closing)?))
+}
+
 impl<'a> Item<'a> {
     /// A copy. It takes no memory where the texts stand in a source.
     pub fn copied(&self, alloc: Global) -> Result<Item<'a>, AllocError>
@@ -60,6 +89,28 @@ impl<'a> Item<'a> {
             Item::Glyph(name, words, closing) => {
                 let name = name.copied(alloc)?;
                 let (words, closing) = copied_body(alloc, words, closing)?;
+                Ok(Item::Glyph(name, words, closing))
+            }
+        }
+    }
+
+    /// A copy that borrows nothing.
+    pub fn owned(&self, alloc: Global) -> Result<Item<'static>, AllocError>
+        ensures { IfOk result (λ owned. owned ≡ self.now) }
+    {
+        match self {
+            Item::Plain(line) => Ok(Item::Plain(owned_text(alloc, line)?)),
+            Item::Section(before, count, after) => {
+                let before = owned_text(alloc, before)?;
+                Ok(Item::Section(before, *count, owned_text(alloc, after)?))
+            }
+            Item::Subr(number, words, closing) => {
+                let (words, closing) = owned_body(alloc, words, closing)?;
+                Ok(Item::Subr(*number, words, closing))
+            }
+            Item::Glyph(name, words, closing) => {
+                let name = owned_text(alloc, name)?;
+                let (words, closing) = owned_body(alloc, words, closing)?;
                 Ok(Item::Glyph(name, words, closing))
             }
         }

@@ -1,6 +1,6 @@
 //! An item where it stands.
 
-ghost use Rattle.std.specs.Prelude.{◌≡◌, MatchOption, option_map};
+ghost use Rattle.std.specs.Prelude.{◌≡◌, IfOk, MatchOption, option_map};
 ghost use Rattle.t1_parts.specs.ItemRefs.{item_of, IsPlain};
 ghost use Rattle.t1_parts.specs.LenIV.{plain_line};
 ghost use Rattle.t1_parts.specs.Sections.{is_subrs_line, is_glyphs_line};
@@ -8,6 +8,8 @@ ghost use Rattle.t1_parts.specs.Sections.{is_subrs_line, is_glyphs_line};
 use crate::item::Item;
 use crate::len_iv::plain_line;
 use crate::sections::{is_glyphs_line, is_subrs_line};
+use std::alloc::{AllocError, Global};
+use t1_frac::SourceText;
 
 /// An item where it stands: a plain line among the bytes that were read, or an item of any kind.
 #[derive(Clone, Copy)]
@@ -27,6 +29,16 @@ impl<'i, 'a> ItemRef<'i, 'a> {
         match self {
             ItemRef::Line(_line) => None,
             ItemRef::Item(item) => Some(item),
+        }
+    }
+
+    /// A copy that borrows nothing.
+    pub fn owned(&self, alloc: Global) -> Result<Item<'static>, AllocError>
+        ensures { IfOk result (λ owned. owned ≡ item_of self.now) }
+    {
+        match self {
+            ItemRef::Line(line) => Ok(Item::Plain(SourceText::copy_of(alloc, line)?)),
+            ItemRef::Item(item) => item.owned(alloc),
         }
     }
 

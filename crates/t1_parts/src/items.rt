@@ -1,16 +1,19 @@
 //! The items of a private part in memory.
 
-ghost use Rattle.std.specs.Prelude.{◌≡◌, ◌<◌, ◌≤◌, ◌^◌, ◌++◌, ◌∷◌, [], true, length, map, take};
-ghost use Rattle.std.specs.Prelude.{drop, slice_set, IfOk, OnOk, OnErr, IsOk, option_map};
+ghost use Rattle.std.specs.Prelude.{◌≡◌, ◌<◌, ◌≤◌, ◌^◌, ◌++◌, ◌∷◌, ◌||◌, [], false, true, length};
+ghost use Rattle.std.specs.Prelude.{map, take, drop, slice_set, IfOk, OnOk, OnErr, IsOk};
+ghost use Rattle.std.specs.Prelude.{option_map};
 ghost use Rattle.std.specs.List.{insert, remove, slice_get, slice_index_or};
 ghost use Rattle.t1_parts.specs.declared.item.Item.{Item};
 ghost use Rattle.t1_parts.specs.Counts.{raised_item};
 ghost use Rattle.t1_parts.specs.Items.{items_in, stretch_items, AreSingle, StandsAloneAt};
 ghost use Rattle.t1_parts.specs.ItemRefs.{item_of};
+ghost use Rattle.t1_parts.specs.LenIV.{lead_among, says_lead};
 
 use crate::item::Item;
 use crate::item_ref::ItemRef;
 use crate::items_iter::{ItemsIter, item_before, items_between};
+use crate::len_iv::{lead_of, says_lead};
 use crate::stretch::Stretch;
 use crate::stretches::{
     copied_stretches, cut_before, drop_first, insert_stretch, item_count, place_of, put_first,
@@ -20,19 +23,21 @@ use std::alloc::{AllocError, Global};
 use std::marker::Model;
 
 /// The items of a private part. Plain lines that follow one another may stand together, as the
-/// bytes that were read; where none do, the item of a place is found at once. Contracts see the
-/// list of the items, with an item for each plain line.
+/// bytes that were read; where none do, the item of a place is found at once. Their lenIV is kept.
+/// Contracts see the list of the items, with an item for each plain line.
 #[derive(Debug, Drop)]
 pub struct Items<'a> {
     stretches: Vec<Stretch<'a>>,
     len: usize,
     are_single: bool,
+    lead: u8,
 }
 
 impl<'a> Model for Items<'a> {
     ghost use Rattle.std.specs.Prelude.{◌≡◌, List, length, true};
     ghost use Rattle.t1_parts.specs.declared.item.Item.{Item};
     ghost use Rattle.t1_parts.specs.Items.{items_in, AreSingle};
+    ghost use Rattle.t1_parts.specs.LenIV.{lead_among};
 
     ghost Value = { List Item };
 
@@ -40,7 +45,28 @@ impl<'a> Model for Items<'a> {
 
     ghost invariant = { λ items.
         (items.len ≡ length (items_in items.stretches.items))
-        × (items.are_single ≡ true → AreSingle items.stretches.items) };
+        × (items.are_single ≡ true → AreSingle items.stretches.items)
+        × (items.lead ≡ lead_among (items_in items.stretches.items)) };
+}
+
+/// Whether an item says lenIV, or the one in whose place it comes.
+fn says_either(old: &ItemRef, new: &Item) -> bool
+    ensures { result ≡ (says_lead (item_of old.now) || says_lead new.now) }
+{
+    old.says_lead() || says_lead(new)
+}
+
+/// The lenIV of some stretches after an edit: the one before it, where nothing that was put in or
+/// taken out says lenIV.
+fn lead_after(stretches: &[Stretch], len: usize, lead: u8, is_said: bool) -> u8
+    requires len { len ≡ length (items_in stretches.now) }
+    requires same { is_said ≡ false → lead ≡ lead_among (items_in stretches.now) }
+    ensures { result ≡ lead_among (items_in stretches.now) }
+{
+    if is_said {
+        return lead_of(items_between(b"", stretches, b"", len));
+    }
+    lead
 }
 
 impl<'a> Items<'a> {
@@ -52,6 +78,7 @@ impl<'a> Items<'a> {
             stretches: Vec::new(alloc),
             len: 0,
             are_single: true,
+            lead: 4,
         }
     }
 
@@ -67,10 +94,12 @@ impl<'a> Items<'a> {
         let Some(len) = item_count(stretches.as_slice(), are_single) else {
             return Err(AllocError);
         };
+        let lead = lead_of(items_between(b"", stretches.as_slice(), b"", len));
         Ok(Items {
             stretches,
             len,
             are_single,
+            lead,
         })
     }
 
@@ -80,6 +109,15 @@ impl<'a> Items<'a> {
     {
         let Items { len, .. } = self;
         *len
+    }
+
+    /// The number of bytes that stand in front of a charstring, which is kept: 4 where no item says
+    /// lenIV.
+    pub fn lead(&self) -> u8
+        ensures { result ≡ lead_among self.now }
+    {
+        let Items { lead, .. } = self;
+        *lead
     }
 
     /// The items, one after another.
@@ -137,12 +175,25 @@ impl<'a> Items<'a> {
         ensures { IfOk result (λ copy. copy ≡ self.now) }
     {
         let len = self.len;
+        let lead = self.lead;
         let stretches = copied_stretches(alloc, self.stretches.as_slice())?;
         Ok(Items {
             stretches,
             len,
             are_single: self.are_single,
+            lead,
         })
+    }
+
+    /// A copy that borrows nothing. Each plain line stands by itself in it.
+    pub fn owned(&self, alloc: Global) -> Result<Items<'static>, AllocError>
+        ensures { IfOk result (λ owned. owned ≡ self.now) }
+    {
+        let mut owned = Items::new(alloc);
+        for item in self.iter() {
+            owned.push(item.owned(alloc)?)?;
+        }
+        Ok(owned)
     }
 
     /// The item at a place.
@@ -175,9 +226,11 @@ impl<'a> Items<'a> {
             return Err(AllocError);
         };
         let are_single = stay_single(self.are_single, &stretch);
+        let is_said = stretch.saying().is_some();
         self.stretches.push(stretch)?;
         self.len = len;
         self.are_single = are_single;
+        self.lead = lead_after(self.stretches.as_slice(), len, self.lead, is_said);
         Ok(())
     }
 
@@ -198,9 +251,11 @@ impl<'a> Items<'a> {
         let Some(len) = self.len.checked_add(1) else {
             return Err(AllocError);
         };
+        let is_said = says_lead(&item);
         let index = cut_before(&mut self.stretches, at, self.are_single)?;
         insert_stretch(&mut self.stretches, index, Stretch::One(item))?;
         self.len = len;
+        self.lead = lead_after(self.stretches.as_slice(), len, self.lead, is_said);
         Ok(())
     }
 
@@ -212,9 +267,12 @@ impl<'a> Items<'a> {
         ensures err { OnErr result (self.new ≡ self.old) }
         ensures still { StandsAloneAt self.old at → IsOk result }
     {
+        let is_said = self.item(at).says_lead();
         let index = cut_before(&mut self.stretches, at, self.are_single)?;
         drop_first(&mut self.stretches, index);
-        self.len -= 1;
+        let len = self.len - 1;
+        self.len = len;
+        self.lead = lead_after(self.stretches.as_slice(), len, self.lead, is_said);
         Ok(())
     }
 
@@ -226,8 +284,10 @@ impl<'a> Items<'a> {
         ensures err { OnErr result (self.new ≡ self.old) }
         ensures still { StandsAloneAt self.old at → IsOk result }
     {
+        let is_said = says_either(&self.item(at), &item);
         let index = cut_before(&mut self.stretches, at, self.are_single)?;
         put_first(&mut self.stretches, index, item)?;
+        self.lead = lead_after(self.stretches.as_slice(), self.len, self.lead, is_said);
         Ok(())
     }
 

@@ -5,8 +5,8 @@ use std::alloc::{AllocError, Global};
 use std::marker::Model;
 use t1_frac::{Bytes, Code, Fault, Refusal};
 use t1_parts::{
-    Gathered, Item, Items, Parts, check_clear, check_lead, has_standard, header_of, lead_of,
-    operator_of, parts_of, private_items, push_items, push_lines, raise, tail_of,
+    Gathered, Item, Items, Parts, check_clear, check_lead, has_standard, header_of, operator_of,
+    parts_of, private_items, push_items, push_lines, raise, tail_of,
 };
 use t1_text::{copied_bytes, copied_lines, same};
 
@@ -117,6 +117,19 @@ impl<'a> Source<'a> {
         })
     }
 
+    /// A copy that borrows nothing of the bytes that were read, so that it may outlive them. Each
+    /// of its texts takes memory of its own.
+    pub fn owned(&self) -> Result<Source<'static>, AllocError>
+        ensures { IfOk result (λ owned. owned ≡ self.now) }
+    {
+        Ok(Source {
+            alloc: self.alloc,
+            clear: copied_bytes(self.alloc, self.clear.as_slice())?,
+            items: self.items.owned(self.alloc)?,
+            tail: copied_bytes(self.alloc, self.tail.as_slice())?,
+        })
+    }
+
     /// The items, of a source that was read or edited.
     pub(crate) fn kept_items(&self) -> &Items<'a>
         ensures value { result.now ≡ self.now.items }
@@ -151,7 +164,7 @@ impl<'a> Source<'a> {
     pub fn lead(&self) -> u8
         ensures { result ≡ lead self.now }
     {
-        lead_of(self.items.iter())
+        self.items.lead()
     }
 
     /// The operator that reads a charstring, usually `RD`.

@@ -1,6 +1,8 @@
 use Rattle.std.proofs.Common.{◌∙◌, ap, sym, subst, length, arith}
 use Rattle.std.proofs.lemmas.List.{length-append}
 use Rattle.t1_parts.specs.Items.{items_in, stretch_items, AreSingle}
+use Rattle.t1_parts.specs.LenIV.{lead_among}
+use Rattle.t1_parts.proofs.LeadKeptLaws.{lead_pushed, none_said}
 use Rattle.t1_parts.proofs.SingleLaws.{items_pushed, single_pushed}
 use Rattle.t1_parts.proofs.items.Items.push_stretch.Goals as goal
 
@@ -12,4 +14,12 @@ invariant_of-self-2 c =
       omega (arith, more, both, c.self.invariant.0, c.len.ensures.value, c.in-Some.ensures),
       λ on. (let known = c.stay_single-are_single.ensures on in
           subst AreSingle (sym c.in_ok-push.ensures.items) (single_pushed ss c.args.stretch (c.self.invariant.1 known.0) known.1)),
+      c.lead_after-self-inside.ensures ∙ ap (λ xs. lead_among (items_in xs)) c.as_slice.ensures.value,
     )
+
+pub lead_after-self-inside-requires-clause-same : goal.lead_after-self-inside-requires-clause-same
+lead_after-self-inside-requires-clause-same c silent =
+    let ss = c.self.inside.stretches.items in
+    let more = ap items_in (c.as_slice.ensures.value ∙ c.in_ok-push.ensures.items) ∙ items_pushed ss c.args.stretch in
+    lead_pushed c.self.inside.lead (items_in ss) (stretch_items c.args.stretch) (items_in c.as_slice.result.now) c.self.invariant.2
+    (none_said c.saying.result c.is_some-is_said.result (stretch_items c.args.stretch) _ c.saying.ensures c.is_some-is_said.ensures silent) more

@@ -1,7 +1,11 @@
-use Rattle.std.proofs.Common.{◌∙◌, ap, length, arith}
-use Rattle.std.specs.List.{remove}
+use Rattle.std.proofs.Common.{◌≡◌, [], ◌∙◌, ap, sym, length, arith}
+use Rattle.std.specs.List.{remove, slice_index_or}
 use Rattle.std.proofs.lemmas.List.Edits.{length-remove}
+use Rattle.t1_parts.specs.declared.item.Item.TheVariants.{Plain}
+use Rattle.t1_parts.specs.ItemRefs.{item_of}
 use Rattle.t1_parts.specs.Items.{items_in}
+use Rattle.t1_parts.specs.LenIV.{lead_among, says_lead}
+use Rattle.t1_parts.proofs.LeadKeptLaws.{lead_removed}
 use Rattle.t1_parts.proofs.StretchLaws.{removed}
 use Rattle.t1_parts.proofs.items.Items.take_out.Goals as goal
 
@@ -10,8 +14,27 @@ invariant_of-self-2 c =
     let made = removed c.args.at c.in_ok-index.index c.self.inside.stretches.items c.cut_before.new.stretches.items c.drop_first.new.stretches.items c.cut_before.ensures.same c.in_ok-index.ensures.before c.drop_first.ensures.dropped in
     let view = ap length c.self.view_is in
     let less = length-remove (items_in c.self.inside.stretches.items) c.args.at (omega (arith, view, c.requires)) in
-    let size = ap length made in
-    (omega (arith, size, less, view, c.requires, c.self.invariant.0), λ on. c.drop_first.ensures.single (c.cut_before.ensures.single (c.self.invariant.1 on)))
+    let size = ap length made in (
+      omega (arith, size, less, view, c.requires, c.self.invariant.0),
+      λ on. c.drop_first.ensures.single (c.cut_before.ensures.single (c.self.invariant.1 on)),
+      c.lead_after-self-inside.ensures ∙ ap (λ xs. lead_among (items_in xs)) c.as_slice.ensures.value,
+    )
+
+pub lead_after-self-inside-requires-clause-len : goal.lead_after-self-inside-requires-clause-len
+lead_after-self-inside-requires-clause-len c =
+    let made = removed c.args.at c.in_ok-index.index c.self.inside.stretches.items c.cut_before.new.stretches.items c.drop_first.new.stretches.items c.cut_before.ensures.same c.in_ok-index.ensures.before c.drop_first.ensures.dropped in
+    let view = ap length c.self.view_is in
+    let less = length-remove (items_in c.self.inside.stretches.items) c.args.at (omega (arith, view, c.requires)) in
+    let size = ap length (ap items_in c.as_slice.ensures.value ∙ made) in
+    omega (arith, size, less, view, c.requires, c.self.invariant.0)
+
+pub lead_after-self-inside-requires-clause-same : goal.lead_after-self-inside-requires-clause-same
+lead_after-self-inside-requires-clause-same c silent =
+    let items = items_in c.self.inside.stretches.items in
+    let d = Plain [] in
+    let made = removed c.args.at c.in_ok-index.index c.self.inside.stretches.items c.cut_before.new.stretches.items c.drop_first.new.stretches.items c.cut_before.ensures.same c.in_ok-index.ensures.before c.drop_first.ensures.dropped in
+    let there : slice_index_or items c.args.at d ≡ item_of c.item.result = ap (λ xs. slice_index_or xs c.args.at d) c.self.view_is ∙ c.item.ensures d in
+    lead_removed c.self.inside.lead c.args.at items (items_in c.as_slice.result.now) d c.self.invariant.2 (ap says_lead there ∙ sym c.says_lead-is_said.ensures ∙ silent) (ap items_in c.as_slice.ensures.value ∙ made)
 
 pub returns-clause-ok : goal.returns-clause-ok
 returns-clause-ok c =
