@@ -1,21 +1,23 @@
 -- What is told of the first fault of a source.
-use Rattle.std.proofs.Common.{◌≡◌, ◌∙◌, ℕ, Bool, true, false, List, [], ◌∷◌, ◌++◌, append_assoc, append-nil, Option, Some, None, option_map, Result, Ok, Err, ap, subst, sym}
+use Rattle.std.proofs.Common.{◌≡◌, ◌∙◌, ℕ, Bool, true, false, List, [], ◌∷◌, ◌++◌, append_assoc, append-nil, Option, Some, None, option_map, Result, Ok, Err, ap, refl, subst, sym}
 use Rattle.std.specs.Prelude.{OnOk, if◌then◌else◌}
 use Rattle.t1_frac.specs.Ascii.{line_feed}
 use Rattle.t1_frac.specs.declared.fault.Fault.{Fault}
+use Rattle.t1_frac.specs.declared.fault.Place.{Place}
+use Rattle.t1_frac.specs.declared.fault.Place.TheVariants as places
 use Rattle.t1_frac.specs.declared.fault.Refusal.{Refusal}
 use Rattle.t1_frac.specs.declared.fault.Refusal.TheVariants as refusals
 use Rattle.t1_frac.specs.Outcome.{Refuses, ◌>>=◌}
 use Rattle.t1_parts.specs.declared.item.Item.{Item}
 use Rattle.t1_parts.specs.SourceParts.{SourceParts}
 use Rattle.t1_commands.specs.AnswerTexts.{fault_text}
-use Rattle.t1_run.specs.declared.plain.Plain.{Plain}
-use Rattle.t1_font.specs.Bodies.{SameBodies, bodies, bodies_check, plain_bodies}
+use Rattle.t1_run.specs.Run.{FontBodies}
+use Rattle.t1_font.specs.Bodies.{SameBodies, bodies, bodies_check}
 use Rattle.t1_font.specs.MeasuredGlyphs.{MeasuredFont}
 use Rattle.t1_font.specs.SourceChecks.{measured_source, source_check}
 use Rattle.t1_refusal.specs.declared.met.FailedRun.{FailedRun}
-use Rattle.t1_refusal.specs.Met.{GlyphFailure, met_within, seen_of}
-use Rattle.t1_refusal.specs.Telling.{fault_lines, fault_of, glyph_lines, is_of_word, lines_of, met_lines, place_lines, refusal_text, run_lines, word_lines}
+use Rattle.t1_refusal.specs.Met.{met_within, seen_of}
+use Rattle.t1_refusal.specs.Telling.{fault_lines, fault_of, glyph_lines, is_of_word, lines_of, met_lines, place_lines, refusal_text, run_lines, word_lines, HasFaultyBody}
 use Rattle.t1_refusal.proofs.MetLaws.{met_same}
 
 pub fault_of_passed : (s : SourceParts) (font : MeasuredFont) → measured_source s ≡ Ok font → ◌≡◌ {A = Option Fault} None (fault_of (source_check s))
@@ -30,18 +32,25 @@ fault_of_refused s fault e = sym (ap (λ (r : Result MeasuredFont Fault). fault_
 pub added_none : (text more : List ℕ) → [] ≡ more → text ≡ text ++ more
 added_none text more e = sym (append-nil text) ∙ ap (λ t. text ++ t) e
 
-pub run_refused : (items : List Item) (glyph : List ℕ) (refusal : Refusal) (fault : Fault) → refusal ≡ refusals.Fault fault → Refuses refusal (bodies_check items) → [] ≡ glyph_lines items glyph
+run-refused : (items : List Item) (glyph : List ℕ) → HasFaultyBody items → [] ≡ glyph_lines items glyph
 unfolding glyph_lines
-run_refused items glyph refusal fault is h =
-    let refused : bodies_check items ≡ Err fault = subst (λ r. Refuses r (bodies_check items)) is h in
-    sym (ap (λ r. run_lines items r (met_within (bodies items) 4 glyph)) refused)
+run-refused items glyph refused = sym (ap (λ r. run_lines items r (met_within (bodies items) 4 glyph)) refused.1)
 
-module _ (items : List Item) (glyph : List ℕ) (plain : Plain) (found : Option FailedRun) (sound : bodies_check items ≡ Ok (tt {0})) (same : SameBodies (plain_bodies plain) (bodies items))
-    (is : option_map seen_of found ≡ met_within (plain_bodies plain) 4 glyph) where
+place-refused : (items : List Item) (place : Place) → HasFaultyBody items → [] ≡ place_lines items place
+place-refused items (places.Glyph glyph) refused = run-refused items glyph refused
+place-refused items places.Nowhere refused = refl
+place-refused items (places.Line n) refused = refl
+place-refused items (places.Subr n) refused = refl
+
+pub faulty_body : (items : List Item) (refusal : Refusal) (fault : Fault) → refusal ≡ refusals.Fault fault → Refuses refusal (bodies_check items) → HasFaultyBody items
+faulty_body items refusal fault is h = (fault, subst (λ r. Refuses r (bodies_check items)) is h)
+
+module _ (items : List Item) (glyph : List ℕ) (m : FontBodies) (found : Option FailedRun) (sound : bodies_check items ≡ Ok (tt {0})) (same : SameBodies m (bodies items))
+    (is : option_map seen_of found ≡ met_within m 4 glyph) where
   run-lines : run_lines items (Ok (tt {0})) (option_map seen_of found) ≡ glyph_lines items glyph
   unfolding glyph_lines
   run-lines =
-      ap (run_lines items (Ok (tt {0}))) (is ∙ met_same (plain_bodies plain) (bodies items) 4 glyph same)
+      ap (run_lines items (Ok (tt {0}))) (is ∙ met_same m (bodies items) 4 glyph same)
       ∙ sym (ap (λ r. run_lines items r (met_within (bodies items) 4 glyph)) sound)
 
   pub run_met : (met : FailedRun) → found ≡ Some met → met_lines items (seen_of met) ≡ glyph_lines items glyph
@@ -68,6 +77,11 @@ module _ (items : List Item) (fault : Fault) (old mid : List ℕ) (first : mid �
   place_told r new e h =
       subst (λ t. OnOk r (new ≡ t))
       (lines-are (place_lines items fault.place) (sym (ap (λ (b : Bool). if b then word_lines items fault.place else place_lines items fault.place) e))) h
+
+  pub none_told : is_of_word fault.code ≡ false → HasFaultyBody items → mid ≡ old ++ fault_lines items fault
+  none_told e refused =
+      sym (append-nil mid) ∙ ap (λ t. mid ++ t) (place-refused items fault.place refused)
+      ∙ lines-are (place_lines items fault.place) (sym (ap (λ (b : Bool). if b then word_lines items fault.place else place_lines items fault.place) e))
 
 -- ---- the lines of a source
 

@@ -1,6 +1,7 @@
 pub mod ClosureLaws
 pub mod Conversations
 pub mod Delivering
+pub mod EditedBodyLaws
 pub mod FaultLaws
 pub mod Flushing
 pub mod LineLaws

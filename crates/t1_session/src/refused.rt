@@ -1,16 +1,28 @@
 //! What was refused last, and what is told of it.
-ghost use Rattle.std.specs.Prelude.{◌≡◌, IfOk};
+ghost use Rattle.std.specs.Prelude.{◌≡◌, List, Ok, IfOk, map};
+ghost use Rattle.t1_pairs.specs.declared.pairs.Pair.{Pair};
+ghost use Rattle.t1_source.specs.Changes.{changed};
+ghost use Rattle.t1_source.specs.Editing.{edited};
+ghost use Rattle.t1_font.specs.SourceChecks.{source_check};
+ghost use Rattle.t1_refusal.specs.Telling.{fault_lines, fault_of, refusal_text};
+ghost use Rattle.t1_cache.specs.Renewed.{kept_of};
+ghost use Rattle.t1_held.specs.Edits.{IsPreparedEdit};
+ghost use Rattle.t1_held.specs.Held.{IsHeld};
 ghost use Rattle.t1_session.specs.Outcomes.{faulty_batch, refused_source};
 ghost use Rattle.t1_session.specs.Refusing.{edited_lines, refused_after, refused_text, rule_line};
-ghost use Rattle.t1_source.specs.Editing.{edited};
+ghost use Rattle.t1_session.specs.Refusing.{fault_of_edited, IsEditOfHeld};
 
 use std::alloc::{AllocError, Global};
 use std::mem;
 use t1_commands::push_rule;
-use t1_frac::Refusal;
+use t1_frac::{Fault, Refusal};
+use t1_held::{Edits, Held, prepare_edits};
 use t1_pairs::Pairs;
-use t1_refusal::refusal_text;
-use t1_source::{Cause, Edit, Rule, Source};
+use t1_refusal::{body_fault_text, refusal_text, run_fault_text};
+use t1_rerun::{change_alone, change_of_edit, edited_bodies};
+use t1_run::Meter;
+use t1_source::laws::source_is_well_formed;
+use t1_source::{Cause, Change, Edit, Rule, Source};
 
 /// What was refused last.
 #[derive(Drop)]
@@ -32,40 +44,157 @@ fn rule_line(alloc: Global, rule: Rule) -> Result<Vec<u8>, AllocError>
     Ok(text)
 }
 
-/// The lines of an edit that was refused.
+/// The first fault of the source that a prepared edit makes: the glyphs that the edit makes stale
+/// are run for it, and not counted. What is held stays.
+fn prepared_fault(
+    alloc: Global,
+    source: &Source,
+    pairs: &Pairs,
+    held: &mut Held,
+    edit: &Edit,
+    change: &Change,
+) -> Result<Option<Fault>, AllocError>
+    requires { IsPreparedEdit source.now pairs.now edit.now change.now held.old }
+    ensures fault { IfOk result (λ fault.
+        fault ≡ fault_of (source_check (changed change.now source.now pairs.now).0)) }
+    ensures held { IsHeld source.now held.new }
+    ensures kept { map kept_of held.new.records.glyphs.entries
+        ≡ map kept_of held.old.records.glyphs.entries }
+{
+    let edits = Edits::One {
+        source,
+        pairs,
+        edit,
+        change,
+    };
+    let mut meter = Meter::new();
+    match prepare_edits(alloc, held, edits, &mut meter) {
+        Ok(_ready) => Ok(None),
+        Err(Refusal::Fault(fault)) => Ok(Some(fault)),
+        Err(Refusal::Memory) => Err(AllocError),
+    }
+}
+
+/// The same of an edit that is to be prepared.
+fn edited_fault(
+    alloc: Global,
+    source: &Source,
+    pairs: &Pairs,
+    held: &mut Held,
+    edit: &Edit,
+) -> Result<Option<Fault>, AllocError>
+    requires { IsHeld source.now held.old }
+    ensures fault { IfOk result
+        (λ fault. fault ≡ fault_of_edited (edited source.now pairs.now edit.now)) }
+    ensures held { IsHeld source.now held.new }
+    ensures kept { map kept_of held.new.records.glyphs.entries
+        ≡ map kept_of held.old.records.glyphs.entries }
+{
+    source_is_well_formed(source);
+    match source.prepared(pairs, edit) {
+        Ok(change) => {
+            let fault = prepared_fault(alloc, source, pairs, held, edit, &change);
+            drop(change);
+            fault
+        }
+        Err(_) => Err(AllocError),
+    }
+}
+
+/// The lines of a fault of an edited source. Its bodies are those that are held, but for the one
+/// that the edit sets or takes out; no other is compiled.
+fn fault_text(
+    alloc: Global,
+    held: &Held,
+    edit: &Edit,
+    made: &Source,
+    fault: &Fault,
+) -> Result<Vec<u8>, AllocError>
+    requires { IsEditOfHeld edit.now made.now held.now }
+    ensures { IfOk result (λ text. text.items ≡ fault_lines made.now.items fault.now) }
+{
+    match change_of_edit(alloc, edit) {
+        Ok(change) => {
+            let changes = change_alone(alloc, change)?;
+            let bodies = edited_bodies(alloc, &held.records, &changes)?;
+            run_fault_text(alloc, made.items(), &bodies, fault)
+        }
+        Err(Refusal::Fault(_fault)) => body_fault_text(alloc, made.items(), fault),
+        Err(Refusal::Memory) => Err(AllocError),
+    }
+}
+
+/// The lines of the first fault of an edited source; none where it has none.
+fn made_lines(
+    alloc: Global,
+    source: &Source,
+    pairs: &Pairs,
+    held: &mut Held,
+    edit: &Edit,
+    made: &Source,
+) -> Result<Vec<u8>, AllocError>
+    requires held { IsHeld source.now held.old }
+    requires made { (others : List Pair)
+        × (edited source.now pairs.now edit.now ≡ Ok (made.now, others)) }
+    ensures shown { IfOk result (λ text. text.items ≡ refusal_text made.now) }
+    ensures held { IsHeld source.now held.new }
+    ensures kept { map kept_of held.new.records.glyphs.entries
+        ≡ map kept_of held.old.records.glyphs.entries }
+{
+    source_is_well_formed(source);
+    source_is_well_formed(made);
+    let Some(fault) = edited_fault(alloc, source, pairs, held, edit)? else {
+        return Ok(Vec::new(alloc));
+    };
+    fault_text(alloc, held, edit, made, &fault)
+}
+
+/// The lines of an edit that was refused. It costs about as much as the edit did: what is held of
+/// the source stays.
 fn edited_lines(
     alloc: Global,
     source: &Source,
     pairs: &Pairs,
+    held: &mut Held,
     edit: &Edit,
 ) -> Result<Vec<u8>, AllocError>
-    ensures { IfOk result
+    requires { IsHeld source.now held.old }
+    ensures shown { IfOk result
         (λ text. text.items ≡ edited_lines (edited source.now pairs.now edit.now)) }
+    ensures held { IsHeld source.now held.new }
+    ensures kept { map kept_of held.new.records.glyphs.entries
+        ≡ map kept_of held.old.records.glyphs.entries }
 {
     match source.edited(pairs, edit) {
-        Ok((made, _pairs)) => refusal_text(alloc, &made),
+        Ok((made, _pairs)) => made_lines(alloc, source, pairs, held, edit, &made),
         Err(Cause::Rule(rule)) => rule_line(alloc, rule),
         // An edit that isn't made yet breaks a rule, or wants memory.
         Err(_) => Err(AllocError),
     }
 }
 
-/// What is told of what was refused.
+/// What is told of what was refused. What is held of the source stays.
 #[tactic(auto, unfolding(crate::specs::Refusing::refused_text))]
 pub fn refused_text(
     alloc: Global,
     source: &Source,
     pairs: &Pairs,
-    kept: &Option<Refused>,
+    held: &mut Held,
+    refused: &Option<Refused>,
 ) -> Result<Vec<u8>, AllocError>
-    ensures { IfOk result (λ text. text.items ≡ refused_text source.now pairs.now kept.now) }
+    requires { IsHeld source.now held.old }
+    ensures shown { IfOk result
+        (λ text. text.items ≡ refused_text source.now pairs.now refused.now) }
+    ensures held { IsHeld source.now held.new }
+    ensures kept { map kept_of held.new.records.glyphs.entries
+        ≡ map kept_of held.old.records.glyphs.entries }
 {
-    let Some(refused) = kept else {
+    let Some(refused) = refused else {
         return Ok(Vec::new(alloc));
     };
     match refused {
         Refused::Rule(rule) => rule_line(alloc, *rule),
-        Refused::Edit(edit) => edited_lines(alloc, source, pairs, edit),
+        Refused::Edit(edit) => edited_lines(alloc, source, pairs, held, edit),
         Refused::Batch(made) => refusal_text(alloc, made),
     }
 }

@@ -535,13 +535,25 @@ impl<'a> Session<'a> {
     /// What is told of what was refused last, in lines: the rule; or code and place of the first
     /// fault, the word that has it, with its number, as `word 4 moveto`, and the way of the run
     /// that met it, as `in glyph V, subr 4`. Nothing where nothing was refused since an edit, a
-    /// `begin`, a `commit` or an `abort` was accepted. It costs a check of the source that was
-    /// refused.
-    pub fn show_refusal(&self) -> Result<Vec<u8>, AllocError>
-        ensures { IfOk result (λ text. text.items ≡ refused_text self.now.state.source
-            self.now.state.pairs self.now.state.refused) }
+    /// `begin`, a `commit` or an `abort` was accepted. Of an edit it costs about what the edit did;
+    /// of a `commit`, a check of the source that was refused. No run is counted.
+    pub fn show_refusal(&mut self) -> Result<Vec<u8>, AllocError>
+        ensures shown { IfOk result (λ text. text.items ≡ refused_text self.old.state.source
+            self.old.state.pairs self.old.state.refused) }
+        ensures same { self.new.state ≡ self.old.state }
+        ensures kept { self.new.kept ≡ self.old.kept }
+        ensures users { AreUsers self.new.state.source self.new.users }
+        ensures runs { self.new.runs ≡ self.old.runs }
     {
-        refused_text(self.alloc, &self.source, &self.pairs, &self.refused)
+        let text = refused_text(
+            self.alloc,
+            &self.source,
+            &self.pairs,
+            &mut self.held,
+            &self.refused,
+        );
+        self.users_are_right();
+        text
     }
 
     /// Writes the PFB file as the data of an answer. No file is made in memory.
