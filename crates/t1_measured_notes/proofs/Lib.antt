@@ -1,1 +1,3 @@
 pub mod Numbering
+pub mod Reach
+pub mod Unused

@@ -1,15 +1,14 @@
-//! Notes that stand on runs of a font's glyphs: a Subr that no run enters, and a box that isn't
-//! that of the
-//! glyphs.
+//! Notes that stand on runs of a font's glyphs: a Subr that no run enters, a box that isn't that of
+//! the glyphs, and a glyph that reaches past ±16,000.
 //!
-//! [`measured_notes`] finds them in a source without a fault; [`all_notes`] has those of
-//! `t1_notes` too. Both
-//! are for the program.
+//! [`measured_notes`] finds them in a source without a fault; [`all_notes`] has those of `t1_notes`
+//! too. Both are for the program.
 #![tactic(auto)]
 
 mod boxes;
 mod entered;
 mod measured;
 mod subrs;
+mod wide;
 
 pub use measured::{all_notes, measured_notes};

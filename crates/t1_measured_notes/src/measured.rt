@@ -4,13 +4,17 @@ ghost use Rattle.std.specs.Prelude.{◌≡◌, ◌++◌, IfOk, OnOk};
 ghost use Rattle.t1_frac.specs.Outcome.{◌>>=◌ as and_then};
 ghost use Rattle.t1_parts.specs.Reading.{reads};
 ghost use Rattle.t1_font.specs.SourceChecks.{measured_source};
+ghost use Rattle.t1_notes.specs.LineSections.{is_section};
+ghost use Rattle.t1_notes.specs.NumberedLines.{before};
+ghost use Rattle.t1_notes.specs.declared.sections.Section.TheVariants.{Glyphs};
 ghost use Rattle.t1_measured_notes.specs.MeasuredNotes.{has_number, is_entered, font_notes};
-ghost use Rattle.t1_measured_notes.specs.MeasuredNotes.{sound_notes};
+ghost use Rattle.t1_measured_notes.specs.MeasuredNotes.{is_wide, wide_notes, sound_notes};
 ghost use Rattle.t1_measured_notes.specs.MeasuredNotes.{measured_notes, all_notes};
 
 use crate::boxes::push_boxes;
 use crate::entered::entered_numbers;
 use crate::subrs::push_unused;
+use crate::wide::{push_wide, wide_names};
 use indexmap::IndexSet;
 use std::alloc::{AllocError, Global};
 use t1_afm::BBox;
@@ -52,6 +56,36 @@ fn push_measured(
     push_font(alloc, notes, &font.font_box(), &entered, lines)
 }
 
+/// Adds the notes on the lines that open glyphs, by what is measured of these.
+fn push_reach(
+    alloc: Global,
+    notes: &mut Vec<Note>,
+    font: &MeasuredGlyphs,
+    lines: &[Line],
+) -> Result<(), AllocError>
+    ensures { OnOk result (notes.new.items ≡ notes.old.items ++ wide_notes (is_wide
+        font.now.metrics) lines.now) }
+{
+    let names = wide_names(alloc, font.metrics())?;
+    push_wide(alloc, notes, &names, lines)
+}
+
+/// Adds the notes on the lines of a source, by what is measured of its glyphs.
+fn push_sound(
+    alloc: Global,
+    notes: &mut Vec<Note>,
+    font: &MeasuredGlyphs,
+    lines: &[Line],
+) -> Result<(), AllocError>
+    ensures { OnOk result (notes.new.items ≡ notes.old.items ++ (font_notes font.now.font_box
+        (is_entered font.now.metrics) (before (is_section Glyphs) lines.now) ++ wide_notes (is_wide
+        font.now.metrics) lines.now)) }
+{
+    let front = lines.split_at(section_place(Section::Glyphs, lines)).0;
+    push_measured(alloc, notes, font, front)?;
+    push_reach(alloc, notes, font, lines)
+}
+
 /// Adds the notes on the lines of a source that was read, where it has no fault.
 fn push_source(
     alloc: Global,
@@ -63,10 +97,7 @@ fn push_source(
         (measured_source source.now)) }
 {
     match measured_glyphs(alloc, source) {
-        Ok(font) => {
-            let front = lines.split_at(section_place(Section::Glyphs, lines)).0;
-            push_measured(alloc, notes, &font, front)
-        }
+        Ok(font) => push_sound(alloc, notes, &font, lines),
         Err(Refusal::Fault(_fault)) => Ok(()),
         Err(Refusal::Memory) => Err(AllocError),
     }
@@ -90,8 +121,7 @@ fn push_text(
 }
 
 /// The notes on a text that stand on runs of its glyphs, in the order of their places. A text that
-/// isn't a
-/// source, or has a fault, has none.
+/// isn't a source, or has a fault, has none.
 #[tactic(auto, unfolding(crate::specs::MeasuredNotes::measured_notes))]
 pub fn measured_notes(alloc: Global, text: &[u8]) -> Result<Vec<Note>, AllocError>
     ensures { IfOk result (λ notes. notes.items ≡ measured_notes text.now) }

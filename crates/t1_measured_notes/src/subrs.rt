@@ -2,8 +2,10 @@
 
 ghost use Rattle.std.specs.Prelude.{◌≡◌, ◌++◌, OnOk};
 ghost use Rattle.t1_notes.specs.declared.note.NoteKind.TheVariants.{UnusedSubr};
-ghost use Rattle.t1_notes.specs.Notes.{noted};
-ghost use Rattle.t1_measured_notes.specs.MeasuredNotes.{has_number, is_unused, unused_notes};
+ghost use Rattle.t1_notes.specs.BodyWords.{note_where};
+ghost use Rattle.t1_notes.specs.NumberedLines.{note_on};
+ghost use Rattle.t1_measured_notes.specs.MeasuredNotes.{has_number, is_unused, unused_among};
+ghost use Rattle.t1_measured_notes.specs.MeasuredNotes.{unused_notes};
 
 use crate::entered::is_among;
 use indexmap::IndexSet;
@@ -19,19 +21,32 @@ fn is_unused(entered: &IndexSet<u64>, line: &[u8]) -> bool
     5 < need && !is_among(entered, need - 1)
 }
 
-/// Adds the notes on lines that open a Subr whose number isn't among these.
+/// Adds the note on a line, where it opens such a Subr and follows no other.
+fn push_head(notes: &mut Vec<Note>, holds: bool, line: &Line) -> Result<(), AllocError>
+    ensures { OnOk result (notes.new.items ≡ notes.old.items ++ note_where holds (note_on UnusedSubr
+        line.now)) }
+{
+    if holds {
+        notes.push(line.note(NoteKind::UnusedSubr))?;
+    }
+    Ok(())
+}
+
+/// Adds the notes on the first of those lines that follow one another and open a Subr whose number
+/// isn't among these.
 fn push_heads(
     notes: &mut Vec<Note>,
     entered: &IndexSet<u64>,
     heads: &[Line],
 ) -> Result<(), AllocError>
-    ensures { OnOk result (notes.new.items ≡ notes.old.items ++ noted UnusedSubr (is_unused
-        (has_number entered.now.keys)) heads.now) }
+    ensures { OnOk result (notes.new.items ≡ notes.old.items ++ unused_among (has_number
+        entered.now.keys) heads.now) }
 {
+    let mut follows = false;
     for line in heads {
-        if is_unused(entered, line.bytes()) {
-            notes.push(line.note(NoteKind::UnusedSubr))?;
-        }
+        let unused = is_unused(entered, line.bytes());
+        push_head(notes, unused && !follows, line)?;
+        follows = unused;
     }
     Ok(())
 }

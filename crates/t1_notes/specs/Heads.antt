@@ -1,18 +1,17 @@
 -- The lines of a section that don't stand inside an entry.
 use Rattle.std.specs.Prelude.{ℕ, Bool, false, not, ◌&&◌, ◌==◌, if◌then◌else◌, List, [], ◌∷◌, ◌++◌, drop}
-use Rattle.std.specs.List.{position_or_len, prefix_len}
+use Rattle.std.specs.List.{list_any, position_or_len}
 use Rattle.t1_frac.specs.Ascii.{open_brace}
 use Rattle.t1_parts.specs.Entries.{has_brace}
-use Rattle.t1_text.specs.Delimiters.{is_safe}
-use Rattle.t1_text.specs.Lines.{begins_with}
+use Rattle.t1_text.specs.Tokens.{uncommented}
 use Rattle.t1_notes.specs.declared.line.Line.{Line}
 use Rattle.t1_notes.specs.declared.sections.Section.{Section}
 use Rattle.t1_notes.specs.LineSections.{opens}
 use Rattle.t1_notes.specs.Told.{told}
 
--- profile, notes: whether the first brace of a line outside its comment is `{`
+-- profile, notes: whether a line has `{` outside its comment
 abbrev pub has_open : List ℕ → Bool
-has_open l = begins_with open_brace (drop (prefix_len is_safe l) l)
+has_open l = list_any (λ c. c == open_brace) (uncommented l)
 
 -- profile, notes: a line after its first `{`
 abbrev pub after_brace : List ℕ → List ℕ

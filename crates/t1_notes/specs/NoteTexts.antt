@@ -2,7 +2,7 @@
 use Rattle.std.specs.Prelude.{ℕ, List, ◌++◌, codes, decimal, flat_map}
 use Rattle.t1_notes.specs.declared.note.Note.{Note}
 use Rattle.t1_notes.specs.declared.note.NoteKind.{NoteKind}
-use Rattle.t1_notes.specs.declared.note.NoteKind.TheVariants.{ByteOrderMark, FirstLine, EncodedName, Count, PlainEntry, NoNotdef, NoEntry, AfterEnd, ValuesLeft, WideCoordinate, NegativeWidth, OpenPath, NoSuchGlyph, UnusedSubr, FontBox}
+use Rattle.t1_notes.specs.declared.note.NoteKind.TheVariants.{ByteOrderMark, FirstLine, EncodedName, Count, PlainEntry, NoNotdef, NoEntry, AfterEnd, ValuesLeft, WideCoordinate, NegativeWidth, OpenPath, NoSuchGlyph, UnusedSubr, FontBox, WideGlyph}
 
 -- profile, notes: the name of a kind
 abbrev pub kind_name : NoteKind → List ℕ
@@ -21,6 +21,7 @@ kind_name OpenPath = codes "open-path"
 kind_name NoSuchGlyph = codes "no-such-glyph"
 kind_name UnusedSubr = codes "unused-subr"
 kind_name FontBox = codes "font-box"
+kind_name WideGlyph = codes "wide-glyph"
 
 -- profile, notes: what a kind says, in a few words
 abbrev pub kind_text : NoteKind → List ℕ
@@ -39,6 +40,7 @@ kind_text OpenPath = codes "a path isn't closed before a move or the end of the 
 kind_text NoSuchGlyph = codes "a pair names a glyph that isn't there"
 kind_text UnusedSubr = codes "no glyph's run enters the Subr"
 kind_text FontBox = codes "FontBBox isn't the box around the glyphs"
+kind_text WideGlyph = codes "the glyph reaches past 16000, which old interpreters may not take"
 
 -- profile, notes: where a note on a file of this name stands
 abbrev pub place_text : List ℕ → Note → List ℕ

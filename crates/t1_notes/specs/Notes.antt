@@ -17,7 +17,7 @@ use Rattle.t1_notes.specs.declared.sections.Section.{Section}
 use Rattle.t1_notes.specs.declared.sections.Section.TheVariants.{Subrs, Glyphs}
 use Rattle.t1_notes.specs.BodyWords.{body_notes, note_where}
 use Rattle.t1_notes.specs.GlyphNames.{has_glyph}
-use Rattle.t1_notes.specs.Heads.{heads}
+use Rattle.t1_notes.specs.Heads.{goes_on, has_open, heads}
 use Rattle.t1_notes.specs.LineSections.{is_section, opens, section_count}
 use Rattle.t1_notes.specs.Merged.{merged}
 use Rattle.t1_notes.specs.NumberedLines.{before, from, past, note_on, numbered}
@@ -98,28 +98,33 @@ count_notes section l need = too_high l (section_count section l.text) need
 
 -- profile, notes: whether a line looks like the entry of a Subr, and opens none
 abbrev pub is_plain_entry : List ℕ → Bool
-is_plain_entry l = not (opens Subrs l) && (first_is (codes "dup") (tokens l) || last_is (codes "{") (tokens l))
+is_plain_entry l = not (opens Subrs l) && (first_is (codes "dup") (tokens l) || has_open l)
 
 -- profile, notes: such lines
 abbrev pub plain_notes : List Line → List Note
 plain_notes heads = noted PlainEntry is_plain_entry heads
 
--- profile, notes: the lines from that of the Subrs on
-abbrev pub subrs_from : List Line → List Note
-subrs_from [] = []
-subrs_from (section ∷ later) = count_notes Subrs section (subrs_need (heads Subrs later)) ++ plain_notes (heads Subrs later)
+-- profile, notes: the line of the section itself, where an entry begins at its end
+abbrev pub section_entry : Line → List Note
+section_entry section = note_where (last_is (codes "{") (tokens section.text)) (note_on PlainEntry section)
 
--- profile, notes: the section of the Subrs, where the lines before the glyphs have one
+-- profile, notes: the lines that open a Subr which goes on, where no section has them
+abbrev pub lost_notes : List Line → List Note
+lost_notes ls = noted PlainEntry (goes_on Subrs) ls
+
+-- profile, notes: the lines before the section of the Subrs, and those from its line on, without which the first are all
+abbrev pub subrs_from : List Line → List Line → List Note
+subrs_from early [] = lost_notes early
+subrs_from early (section ∷ later) =
+    section_entry section ++ (count_notes Subrs section (subrs_need (heads Subrs later)) ++ plain_notes (heads Subrs later))
+
+-- profile, notes: the Subrs of the lines before the glyphs
 abbrev pub subr_notes : List Line → List Note
-subr_notes ls = subrs_from (from (is_section Subrs) ls)
+subr_notes ls = subrs_from (before (is_section Subrs) ls) (from (is_section Subrs) ls)
 
 -- Type 1 Font Format, Chapter 2: the line that ends the glyphs
 abbrev pub is_end : List ℕ → Bool
 is_end l = first_is (codes "end") (tokens l)
-
--- profile, notes: the lines outside glyphs, from that of the section of the glyphs to the one that ends the glyphs
-abbrev pub glyph_heads : List Line → List Line
-glyph_heads ls = before is_end (heads Glyphs (past (is_section Glyphs) ls))
 
 -- profile, notes: whether a line has nothing but blanks and a comment
 abbrev pub is_bare : List ℕ → Bool
@@ -162,7 +167,8 @@ late_notes heads = noted AfterEnd (opens Glyphs) heads
 -- profile, notes: the section of the glyphs, by its lines to the one that ends the glyphs, and those from there on
 abbrev pub glyph_notes : (List ℕ → Bool) → Line → List Line → List Line → List Note
 glyph_notes is_there section heads late =
-    notdef_notes is_there section ++ (count_notes Glyphs section (glyphs_need heads) ++ (stray_notes heads ++ late_notes late))
+    notdef_notes is_there section
+    ++ (count_notes Glyphs section (glyphs_need heads) ++ (stray_notes heads ++ late_notes late))
 
 -- profile, notes: the lines before the glyphs and the section of the glyphs, by which glyphs are there
 abbrev pub glyph_parts_notes : (List ℕ → Bool) → List Line → Line → List Line → List Line → List Note

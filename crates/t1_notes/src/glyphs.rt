@@ -105,8 +105,7 @@ fn push_late(notes: &mut Vec<Note>, heads: &[Line]) -> Result<(), AllocError>
 }
 
 /// Adds the notes on the section of the glyphs of these names, by its line, its lines to the one
-/// that
-/// ends the glyphs, and those from there on.
+/// that ends the glyphs, and those from there on.
 pub fn push_glyphs(
     notes: &mut Vec<Note>,
     names: &IndexSet<&[u8]>,

@@ -1,30 +1,28 @@
 //! The lines of a section that don't stand inside an entry.
 
-ghost use Rattle.std.specs.Prelude.{◌≡◌, ◌++◌, ◌==◌, ◌≤◌, drop, length, IfOk, OnOk};
-ghost use Rattle.std.specs.List.{position_or_len, prefix_len};
+ghost use Rattle.std.specs.Prelude.{◌≡◌, ◌++◌, ◌==◌, ◌≤◌, length, IfOk, OnOk};
+ghost use Rattle.std.specs.List.{list_any, position_or_len};
 ghost use Rattle.t1_frac.specs.Ascii.{open_brace};
-ghost use Rattle.t1_text.specs.Delimiters.{is_safe};
 ghost use Rattle.t1_notes.specs.Heads.{after_brace, has_open, goes_on, head_of, entry_open_after};
 ghost use Rattle.t1_notes.specs.Heads.{heads};
 
 use crate::line::Line;
 use crate::sections::{Section, opens};
 use std::alloc::{AllocError, Global};
-use t1_parts::has_brace;
-use t1_text::first_delimiter;
+use t1_parts::{has_brace, uncommented};
 
-/// The bytes of a line from its first brace or comment on.
-fn from_delimiter(line: &[u8]) -> &[u8]
-    ensures { result.now ≡ drop (prefix_len is_safe line.now) line.now }
+/// Whether a line has `{`.
+fn has_any_open(line: &[u8]) -> bool
+    ensures { result ≡ list_any (λ c. c == open_brace) line.now }
 {
-    line.split_at(first_delimiter(line)).1
+    line.iter().any(|byte| *byte == b'{')
 }
 
-/// Whether the first brace of a line outside its comment is `{`.
-fn has_open(line: &[u8]) -> bool
+/// Whether a line has `{` outside its comment.
+pub fn has_open(line: &[u8]) -> bool
     ensures { result ≡ has_open line.now }
 {
-    matches!(from_delimiter(line), [b'{', ..])
+    has_any_open(uncommented(line))
 }
 
 /// How many bytes stand before the first `{` of a line.
@@ -46,7 +44,7 @@ fn after_brace(line: &[u8]) -> &[u8]
 }
 
 /// Whether a line opens an entry of the section, and has no brace behind the `{`.
-fn goes_on(section: Section, line: &[u8]) -> bool
+pub fn goes_on(section: Section, line: &[u8]) -> bool
     ensures { result ≡ goes_on section line.now }
 {
     opens(section, line) && !has_brace(after_brace(line))

@@ -2,14 +2,11 @@
 //! column.
 //!
 //! [`notes_of`] finds them by lines and tokens, also in a text that can't be read, since a brace
-//! that
-//! is lost is often what made its fault; [`pair_notes`] finds those on the kerning file of a
-//! source.
-//! [`notes_text`] has a line for each [`Note`].
+//! that is lost is often what made its fault; [`pair_notes`] finds those on the kerning file of a
+//! source. [`notes_text`] has a line for each [`Note`].
 //!
-//! These three and the notes are for the program. Lines, sections and lists of notes as one are
-//! for the
-//! crate above, whose notes stand on runs of the glyphs.
+//! These three and the notes are for the program. Lines, sections and lists of notes as one are for
+//! the crate above, whose notes stand on runs of the glyphs.
 #![tactic(auto)]
 
 mod bodies;
@@ -34,6 +31,7 @@ pub use counts::subr_need;
 pub use heads::section_heads;
 pub use line::{Line, numbered_lines, past};
 pub use merging::push_merged;
+pub use names::{is_among, opened_name, put_name};
 pub use note::{Note, NoteKind};
 pub use notes::notes_of;
 pub use pairs::pair_notes;

@@ -12,14 +12,14 @@ use t1_parts::opens_glyph;
 use t1_text::name_of_token;
 
 /// The name of the glyph that a line opens.
-fn opened_name(line: &[u8]) -> Option<&[u8]>
+pub fn opened_name(line: &[u8]) -> Option<&[u8]>
     ensures { option_map (λ name. name.now) result ≡ opened_name line.now }
 {
     name_of_token(opens_glyph(line)?)
 }
 
 /// Adds a name to others.
-fn put_name<'a>(names: &mut IndexSet<&'a [u8]>, name: &'a [u8]) -> Result<(), AllocError>
+pub fn put_name<'a>(names: &mut IndexSet<&'a [u8]>, name: &'a [u8]) -> Result<(), AllocError>
     ensures { OnOk result ((glyph : List ℕ) → has_name names.new.keys glyph ≡ (has_name
         names.old.keys glyph || bytes_eq glyph name.entry.now)) }
 {

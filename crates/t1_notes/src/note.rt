@@ -29,10 +29,12 @@ pub enum NoteKind {
     OpenPath,
     /// A pair of a kerning file names no glyph.
     NoSuchGlyph,
-    /// A Subr that no glyph's run enters.
+    /// The first of some Subrs that follow one another and that no glyph's run enters.
     UnusedSubr,
     /// `/FontBBox` isn't the box around the glyphs.
     FontBox,
+    /// A glyph reaches past ±16,000.
+    WideGlyph,
 }
 
 /// A note on a text: the number of its line and its byte in that line, both counted from 1.

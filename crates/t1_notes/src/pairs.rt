@@ -3,14 +3,17 @@
 ghost use Rattle.std.specs.Prelude.{◌≡◌, ◌<◌, ◌^◌, ◌++◌, IfOk, OnOk};
 ghost use Rattle.t1_text.specs.Tokens.{places_from};
 ghost use Rattle.t1_notes.specs.GlyphNames.{has_glyph, has_name};
-ghost use Rattle.t1_notes.specs.Notes.{is_end, glyph_heads};
+ghost use Rattle.t1_notes.specs.declared.sections.Section.TheVariants.{Glyphs};
+ghost use Rattle.t1_notes.specs.Heads.{heads};
+ghost use Rattle.t1_notes.specs.Notes.{is_end};
 ghost use Rattle.t1_notes.specs.NumberedLines.{before};
-ghost use Rattle.t1_notes.specs.PairNotes.{name_note, kpx_notes, lines_notes, pair_notes};
+ghost use Rattle.t1_notes.specs.PairNotes.{name_note, kpx_notes, lines_notes, paired_notes};
+ghost use Rattle.t1_notes.specs.PairNotes.{pair_notes};
 
 use crate::bodies::push_where;
 use crate::glyphs::end_place;
 use crate::heads::section_heads;
-use crate::line::{Line, numbered_lines, past};
+use crate::line::{Line, numbered_lines};
 use crate::names::{glyph_names, is_among};
 use crate::note::{Note, NoteKind};
 use crate::sections::{Section, section_place};
@@ -81,8 +84,7 @@ fn push_pairs(
     Ok(())
 }
 
-/// Adds the notes on the lines of a kerning file, whose pairs are to be of the glyphs that these
-/// lines
+/// Adds the notes on the lines of a kerning file, whose pairs are to be of glyphs that these lines
 /// open.
 fn push_lines(
     alloc: Global,
@@ -97,8 +99,7 @@ fn push_lines(
     push_pairs(notes, &names, lines)
 }
 
-/// Adds the notes on the lines of a kerning file, whose pairs are to be of the glyphs that these
-/// lines
+/// Adds the notes on the lines of a kerning file, whose pairs are to be of glyphs that these lines
 /// open before the one that ends the glyphs.
 fn push_ended(
     alloc: Global,
@@ -112,30 +113,49 @@ fn push_ended(
     push_lines(alloc, notes, heads.split_at(end_place(heads)).0, lines)
 }
 
-/// Adds the notes on the lines of a kerning file, whose pairs are to be of glyphs of these lines.
-fn push_source(
+/// Adds the notes on the lines of a kerning file, whose pairs are to be of glyphs of a section with
+/// these lines.
+fn push_section(
     alloc: Global,
     notes: &mut Vec<Note>,
-    source: &[Line],
+    later: &[Line],
     lines: &[Line],
 ) -> Result<(), AllocError>
     ensures { OnOk result (notes.new.items ≡ notes.old.items ++ lines_notes
-        (has_glyph (glyph_heads source.now)) lines.now) }
+        (has_glyph (before is_end (heads Glyphs later.now))) lines.now) }
 {
-    let later = past(source, section_place(Section::Glyphs, source));
     let heads = section_heads(alloc, Section::Glyphs, later)?;
     push_ended(alloc, notes, &heads, lines)
 }
 
-/// The notes on a kerning file, whose pairs are to be of glyphs of a source, in the order of their
-/// places. Neither of them need be one that can be read.
+/// Adds the notes on the lines of a kerning file, by the lines of a source from that of its glyphs
+/// on, without which nothing is noted.
+fn push_source(
+    alloc: Global,
+    notes: &mut Vec<Note>,
+    from: &[Line],
+    lines: &[Line],
+) -> Result<(), AllocError>
+    ensures { OnOk result (notes.new.items ≡ notes.old.items ++ paired_notes from.now lines.now) }
+{
+    match from.split_first() {
+        Some((_, later)) => push_section(alloc, notes, later, lines),
+        None => Ok(()),
+    }
+}
+
+/// The notes on a kerning file whose pairs are to be of glyphs of a source, in the order of their
+/// places, which are lines and columns of the kerning file. Neither text need be one that can be
+/// read; without a section of glyphs in the source nothing is noted.
 #[tactic(auto, unfolding(crate::specs::PairNotes::pair_notes))]
 pub fn pair_notes(alloc: Global, source: &[u8], pairs: &[u8]) -> Result<Vec<Note>, AllocError>
     ensures { IfOk result (λ notes. notes.items ≡ pair_notes source.now pairs.now) }
 {
     let source_lines = numbered_lines(alloc, source)?;
     let pair_lines = numbered_lines(alloc, pairs)?;
+    let place = section_place(Section::Glyphs, &source_lines);
+    let from = source_lines.split_at(place).1;
     let mut notes = Vec::new(alloc);
-    push_source(alloc, &mut notes, &source_lines, &pair_lines)?;
+    push_source(alloc, &mut notes, from, &pair_lines)?;
     Ok(notes)
 }

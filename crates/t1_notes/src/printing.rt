@@ -27,6 +27,7 @@ fn kind_name(kind: NoteKind) -> &'static [u8]
         NoteKind::NoSuchGlyph => b"no-such-glyph",
         NoteKind::UnusedSubr => b"unused-subr",
         NoteKind::FontBox => b"font-box",
+        NoteKind::WideGlyph => b"wide-glyph",
     }
 }
 
@@ -52,6 +53,7 @@ fn kind_text(kind: NoteKind) -> &'static [u8]
         NoteKind::NoSuchGlyph => b"a pair names a glyph that isn't there",
         NoteKind::UnusedSubr => b"no glyph's run enters the Subr",
         NoteKind::FontBox => b"FontBBox isn't the box around the glyphs",
+        NoteKind::WideGlyph => b"the glyph reaches past 16000, which old interpreters may not take",
     }
 }
 
