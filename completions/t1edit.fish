@@ -9,7 +9,7 @@ complete -c t1edit -n __fish_use_subcommand -a check -d 'Judges sources as measu
 complete -c t1edit -n __fish_use_subcommand -a faults -d 'Writes every fault of sources, each with its line, its column and its word'
 complete -c t1edit -n __fish_use_subcommand -a notes -d 'Writes what is no fault in sources and is most likely a mistake'
 complete -c t1edit -n __fish_use_subcommand -a session -d 'Edits and prints a source by commands from standard input'
-complete -c t1edit -n __fish_use_subcommand -a explain -d 'Says what a code, a rule or an exit status means, and what to do'
+complete -c t1edit -n __fish_use_subcommand -a explain -d 'Says what a code, a note, a rule or an exit status means, and what to do'
 complete -c t1edit -n __fish_use_subcommand -a help -d 'Print this message or the help of the given subcommand(s)'
 complete -c t1edit -n '__fish_seen_subcommand_from assemble' -s l -l block -x -d 'Cuts each part of the PFB file into segments of N bytes, from 1 to 2147483647'
 complete -c t1edit -n '__fish_seen_subcommand_from assemble' -s a -l pfa -d 'Writes the PFA file, whose encrypted part is hexadecimal'
@@ -35,6 +35,7 @@ complete -c t1edit -n '__fish_seen_subcommand_from faults' -l font -d 'Takes fon
 complete -c t1edit -n '__fish_seen_subcommand_from faults' -s h -l help -d 'Print help (see a summary with \'-h\')'
 complete -c t1edit -n '__fish_seen_subcommand_from faults' -F
 complete -c t1edit -n '__fish_seen_subcommand_from notes' -l strict -d 'Ends with status 1 where there are notes'
+complete -c t1edit -n '__fish_seen_subcommand_from notes' -l kern -r -F -d 'A file with the kerning pairs, of which the KPX lines count; - for standard input'
 complete -c t1edit -n '__fish_seen_subcommand_from notes' -l font -d 'Takes fonts\' PFB, PFA or raw files as SOURCE, and disassembles each first'
 complete -c t1edit -n '__fish_seen_subcommand_from notes' -s h -l help -d 'Print help (see a summary with \'-h\')'
 complete -c t1edit -n '__fish_seen_subcommand_from notes' -F
@@ -60,8 +61,10 @@ complete -c t1edit -n '__fish_seen_subcommand_from explain; and test (count (com
 complete -c t1edit -n '__fish_seen_subcommand_from explain; and test (count (commandline -opc)) -eq 2' -k -a E3 -d 'a bad name'
 complete -c t1edit -n '__fish_seen_subcommand_from explain; and test (count (commandline -opc)) -eq 2' -k -a E2 -d 'add: there already'
 complete -c t1edit -n '__fish_seen_subcommand_from explain; and test (count (commandline -opc)) -eq 2' -k -a E1 -d 'replace, remove or show: no such glyph or Subr'
+complete -c t1edit -n '__fish_seen_subcommand_from explain; and test (count (commandline -opc)) -eq 2' -k -a wide-glyph -d 'a glyph reaches past 16000'
 complete -c t1edit -n '__fish_seen_subcommand_from explain; and test (count (commandline -opc)) -eq 2' -k -a font-box -d 'FontBBox isn\'t the box around the glyphs'
 complete -c t1edit -n '__fish_seen_subcommand_from explain; and test (count (commandline -opc)) -eq 2' -k -a unused-subr -d 'no glyph\'s run enters the Subr'
+complete -c t1edit -n '__fish_seen_subcommand_from explain; and test (count (commandline -opc)) -eq 2' -k -a no-such-glyph -d 'a pair of a kerning file names a glyph that isn\'t there'
 complete -c t1edit -n '__fish_seen_subcommand_from explain; and test (count (commandline -opc)) -eq 2' -k -a open-path -d 'a path isn\'t closed before a move or the end of the glyph'
 complete -c t1edit -n '__fish_seen_subcommand_from explain; and test (count (commandline -opc)) -eq 2' -k -a negative-width -d 'the width of a glyph is below 0'
 complete -c t1edit -n '__fish_seen_subcommand_from explain; and test (count (commandline -opc)) -eq 2' -k -a wide-coordinate -d 'a command has a value past 16000'

@@ -26,8 +26,8 @@ enum {
     /* What was asked for was done. */
     T1EDIT_DONE = 0,
     /* The source, the pairs or the font's file have a fault. The first one is told by its code and its place, where it has one:
-     * "F22 subr 7", "F20 glyph A", "F7 line 90", "F1"; of a font's file "D7 glyph A", "D5 byte 1200". docs/FAULTS.md has the
-     * codes. */
+     * "F22 subr 7", "F20 glyph A", "F7 line 90", "F1"; of a font's file "D7 glyph A", "D5 byte 1200"; t1edit_faults tells all.
+     * docs/FAULTS.md has the codes. */
     T1EDIT_REFUSED = 1,
     /* There wasn't memory enough; nothing was done, and nothing told. */
     T1EDIT_MEMORY = 2,
@@ -43,7 +43,6 @@ enum {
  * It is its caller's, who doesn't copy it while it is open. For one call at a time. */
 typedef struct t1edit_session {
     void *at;
-    void *source;
 } t1edit_session;
 
 uint32_t t1edit_version(void);
@@ -92,6 +91,24 @@ uint32_t t1edit_measure(const uint8_t *source, size_t source_len, const uint8_t 
  * fault. */
 uint32_t t1edit_check(const uint8_t *source, size_t source_len, const uint8_t *pairs, size_t pairs_len, uint8_t *out,
                       size_t room, size_t *len);
+
+/* Tells the fault of a source's pairs, where they have one, and then every fault of the source, a line each that ends with LF:
+ * DONE where there is none, with a text of no bytes, REFUSED where there are some, or MEMORY. It is DONE exactly where
+ * t1edit_check is. A line has fields with a byte 9, a tab, between two of them:
+ *
+ *     1  the text that has the fault: "pairs" or "source"
+ *     2  the line, from 1
+ *     3  the column: bytes of the line, from 1
+ *     4  the code: "F20"
+ *     5  the place: "glyph A", "subr 7", "line 90", or no bytes
+ *     6  the word that stands there, or no bytes where no word is at fault
+ *     7  what more is known: "hlineto?", "no Subr 9", "1 value, 2 wanted", or no bytes
+ *
+ * and then, of a fault that runs met in a Subr, a field for each glyph that met it: the glyph, and the Subrs that its run had
+ * entered, in turn, as "glyph H subr 4 subr 9"; no name has a space in it. A byte that isn't printed, spaces aside, is told as
+ * "\x" and two hexadecimal digits. */
+uint32_t t1edit_faults(const uint8_t *source, size_t source_len, const uint8_t *pairs, size_t pairs_len, uint8_t *out,
+                       size_t room, size_t *len);
 
 /* Tells the readable source of a font's file, PFB, PFA or raw (docs/DISASSEMBLE.md), or the file's first fault. */
 uint32_t t1edit_disassemble(const uint8_t *font, size_t font_len, uint8_t *out, size_t room, size_t *len);

@@ -7,6 +7,7 @@ import subprocess
 from dataclasses import dataclass
 from typing import Any, Dict, List, Optional, Tuple
 
+from . import library
 from .files import File, named
 from .program import FAULT, ending, found, titles, unreadable
 from .refusals import Stopped
@@ -43,9 +44,13 @@ class Fault:
 
 
 def faults(source: File, kern: Optional[File] = None, *, program: Optional[str] = None) -> List[Fault]:
-    """All faults of a source, and of a kerning file; both are paths or bytes. None where check passes."""
+    """All faults of a source, and of a kerning file; both are paths or bytes. None where check passes. They are found by
+    the library for C where one is named, as sessions are, or else by a run of the program."""
     with named(source) as path, named(kern) as pairs:
         assert path is not None
+        shared = library.named(program)
+        if shared:
+            return by_library(shared, path, pairs)
         t1edit = found(program)
         words = [t1edit, "faults", "--json", *([] if pairs is None else ["--kern", pairs]), path]
         ran = subprocess.run(words, stdin=subprocess.DEVNULL, capture_output=True)
@@ -53,11 +58,35 @@ def faults(source: File, kern: Optional[File] = None, *, program: Optional[str] 
             error = ending(t1edit, "t1edit", ran.returncode, ran.stderr.decode("latin-1"))
             raise unreadable(error, [path, pairs]) if isinstance(error, Stopped) else error
         meanings = titles(t1edit)
-        return [fault_of(json.loads(line), meanings, path) for line in ran.stdout.decode().splitlines()]
+        return [fault_of_object(json.loads(line), meanings, path) for line in ran.stdout.decode().splitlines()]
 
 
-def fault_of(told: Dict[str, Any], meanings: Dict[str, str], source: str) -> Fault:
+def by_library(shared: str, source: str, kern: Optional[str]) -> List[Fault]:
+    """The same by the library for C. What codes mean is the program's to say, where there is one."""
+    given = library.contents(source), b"" if kern is None else library.contents(kern)
+    rows = library.rows_of_faults(shared, *given)
+    try:
+        meanings = titles(found()) if rows else {}
+    except FileNotFoundError:
+        meanings = {}
+    return [fault_of_row(row, meanings) for row in rows]
+
+
+def fault_of_object(told: Dict[str, Any], meanings: Dict[str, str], source: str) -> Fault:
     """A fault by an object that the program wrote."""
     chains = tuple(tuple(calls) for calls in told["chain"])
     where = told["place"] or "", meanings.get(told["code"], ""), told["line"], told["column"]
-    return Fault(told["code"], *where, told["word"], told["hint"], chains, told["file"] != source)
+    return Fault(told["code"], *where, told["word"] or None, told["hint"], chains, told["file"] != source)
+
+
+def fault_of_row(fields: List[str], meanings: Dict[str, str]) -> Fault:
+    """A fault by the fields that the library told."""
+    text, line, column, code, place, word, hint, *chains = fields
+    calls = tuple(calls_of(chain) for chain in chains)
+    return Fault(code, place, meanings.get(code, ""), int(line), int(column), word or None, hint or None, calls, text == "pairs")
+
+
+def calls_of(chain: str) -> Tuple[str, ...]:
+    """The calls of a chain, each of which is two words: 'glyph H subr 4' are ('glyph H', 'subr 4')."""
+    words = chain.split(" ")
+    return tuple(f"{kind} {name}" for kind, name in zip(words[::2], words[1::2]))

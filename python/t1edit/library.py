@@ -8,6 +8,8 @@ import os
 import threading
 from typing import List, Optional, Tuple
 
+from .refusals import Stopped
+
 # The shared object is named by this variable.
 NAMED_BY = "T1EDIT_LIBRARY"
 VERSION = 1
@@ -18,14 +20,14 @@ FAULT, WANT = 1, 4
 
 
 class Handle(ctypes.Structure):
-    """A session of the library; two null pointers are none."""
+    """A session of the library; a null pointer is none."""
 
-    _fields_ = [("at", ctypes.c_void_p), ("source", ctypes.c_void_p)]
+    _fields_ = [("at", ctypes.c_void_p)]
 
 
-def named() -> Optional[str]:
-    """The shared object that sessions are to take, or None."""
-    return os.environ.get(NAMED_BY) or None
+def named(program: Optional[str] = None) -> Optional[str]:
+    """The shared object that stands in the place of the program, or None, as where a program is named."""
+    return None if program else os.environ.get(NAMED_BY) or None
 
 
 @functools.lru_cache(maxsize=None)
@@ -37,6 +39,7 @@ def loaded(path: str) -> ctypes.CDLL:
     for name, kinds in (("version", []), ("open", [*text, *text, handle, *room]), ("answer", [handle, *room])):
         getattr(library, f"t1edit_{name}").argtypes = kinds
     library.t1edit_perform.argtypes = [handle, *text, *text, *room]
+    library.t1edit_faults.argtypes = [*text, *text, *room]
     library.t1edit_close.argtypes = [handle]
     library.t1edit_close.restype = None
     if library.t1edit_version() != VERSION:
@@ -47,6 +50,19 @@ def loaded(path: str) -> ctypes.CDLL:
 def contents(path: str) -> bytes:
     with open(path, "rb") as file:
         return file.read()
+
+
+def rows_of_faults(path: str, source: bytes, pairs: bytes) -> List[List[str]]:
+    """The fields of each line that the library tells of a source's faults. Raises Stopped where memory runs out."""
+    library, length, room = loaded(path), ctypes.c_size_t(), ROOM
+    while True:
+        buffer = ctypes.create_string_buffer(room)
+        status = library.t1edit_faults(source, len(source), pairs, len(pairs), buffer, room, ctypes.byref(length))
+        if status == MEMORY:
+            raise Stopped("the library ended with want of memory", WANT)
+        if length.value <= room:
+            return [line.split("\t") for line in buffer.raw[: length.value].decode("ascii").split("\n")[:-1]]
+        room = length.value
 
 
 def cut(command: bytes) -> Tuple[bytes, bytes]:

@@ -102,7 +102,7 @@ class Session:
         with named(source) as path, named(kern) as pairs:
             assert path is not None
             options = [] if pairs is None else ["--kern", pairs]
-            shared = None if program else library.named()
+            shared = library.named(program)
             words = [self._program, "session", *options, path]
             self._pipes: Union[Pipes, library.Calls] = library.Calls(shared, path, pairs) if shared else Pipes(words)
             self._ending = None

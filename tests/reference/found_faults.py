@@ -202,6 +202,9 @@ def run_hint(run, code, word):
         return "no Subr %d" % run.key
     if code == "F37":
         return "" if word == b"div" else number_of(too_large(stack, word))
+    if code == "F41":
+        count = None if run.flex is None else len(run.flex[1])
+        return "" if count is None else "%d point%s recorded" % (count, "" if count == 1 else "s")
     if code == "F42":
         return "othersubr " + number_of(stack[-1])
     if code == "F44":

@@ -22,6 +22,7 @@ TEXTS = {
     "no-such-glyph": "a pair names a glyph that isn't there",
     "unused-subr": "no glyph's run enters the Subr",
     "font-box": "FontBBox isn't the box around the glyphs",
+    "wide-glyph": "the glyph reaches past 16000, which old interpreters may not take",
 }
 BRACE = re.compile(rb"[{}%]")
 # Commands that leave no value on the stack, by how many they take.
@@ -48,13 +49,15 @@ def notes(text):
 
 
 def pair_notes(text, pairs):
-    """The notes on a kerning file, whose pairs are to be of the source's glyphs."""
-    names = names_of(glyph_section(list(enumerate(lines(text), 1)))[1])
-    found = []
+    """The notes on a kerning file, whose pairs are to be of the source's glyphs; a source without their section has none."""
+    section, glyphs, _ = glyph_section(list(enumerate(lines(text), 1)))
+    if section is None:
+        return []
+    names, found = names_of(glyphs), []
     for number, line in enumerate(lines(pairs), 1):
-        places = token_places(line)
-        if len(places) >= 3 and tokens(line)[0] == b"KPX":
-            found += [(number, start + 1, "no-such-glyph") for start, end in places[1:3] if line[start:end] not in names]
+        these = [(start, line[start:end]) for start, end in token_places(line)]
+        if len(these) >= 3 and these[0][1] == b"KPX":
+            found += [(number, start + 1, "no-such-glyph") for start, name in these[1:3] if name not in names]
     return found
 
 
@@ -158,15 +161,24 @@ def first_brace(text):
     return found[0] if found else b""
 
 
+def has_open(line):
+    return b"{" in line.split(b"%")[0]
+
+
 def outside(numbered, opens):
-    """The lines that don't stand inside an entry, one that the nearest line with a brace has opened."""
+    """The lines that don't stand inside an entry, one that the nearest line with a brace has opened; one with { stands in none."""
     found, is_open = [], False
     for number, line in numbered:
-        if not is_open or first_brace(line) == b"{":
+        if not is_open or has_open(line):
             found.append((number, line))
         if first_brace(line) in (b"{", b"}"):
-            is_open = bool(opens(line)) and first_brace(line.split(b"{", 1)[1]) in (b"", b"%")
+            is_open = goes_on(line, opens)
     return found
+
+
+def goes_on(line, opens):
+    """Whether a line opens an entry, and has no brace behind the {."""
+    return bool(opens(line)) and first_brace(line.split(b"{", 1)[1]) in (b"", b"%")
 
 
 def array(front):
@@ -184,19 +196,19 @@ def is_lost(line, names):
 
 
 def subrs(front):
-    _, section, later = cut(front, is_subrs_line)
+    early, section, later = cut(front, is_subrs_line)
     if section is None:
-        return []
+        return [on(line, "plain-entry") for line in early if goes_on(line[1], opens_subr)]
     heads = outside(later, opens_subr)
     numbers = [subr_number(line) for _, line in heads]
     need = max((number + 1 for number in numbers if number is not None), default=0)
-    found = too_high(section, is_subrs_line(section[1]), need)
+    found = [on(section, "plain-entry")] if tokens(section[1])[-1:] == [b"{"] else []
+    found += too_high(section, is_subrs_line(section[1]), need)
     return found + [on(line, "plain-entry") for line in heads if is_plain_entry(line[1])]
 
 
 def is_plain_entry(line):
-    these = tokens(line)
-    return not opens_subr(line) and (these[:1] == [b"dup"] or these[-1:] == [b"{"])
+    return not opens_subr(line) and (tokens(line)[:1] == [b"dup"] or has_open(line))
 
 
 def strays(glyphs):

@@ -1,12 +1,18 @@
 -- What the calls answer that C makes.
-use Rattle.std.specs.Prelude.{◌≡◌, ℕ, List, [], ◌++◌, length, take, drop, Option, Some, None, Result, Ok, Err}
+use Rattle.std.specs.Prelude.{◌≡◌, ℕ, Bool, true, false, not, ◌==◌, ◌||◌, List, [], ◌∷◌, ◌++◌, length, take, drop, Option, Some, None, is_none, Result, Ok, Err}
+use Rattle.std.specs.List.{list_any}
 use Rattle.t1_frac.specs.declared.fault.Fault.{Fault}
 use Rattle.t1_disassemble.specs.declared.fault.FontFault.{FontFault}
 use Rattle.t1_commands.specs.AnswerTexts.{fault_text}
 use Rattle.t1_session.specs.State.{SessionState}
-use Rattle.t1_calls.specs.FontFaults.{font_fault_text}
+use Rattle.t1_fault_texts.specs.FontFaults.{font_fault_text}
+use Rattle.t1_calls.specs.Framing.{is_call}
 use Rattle.t1_calls.specs.Talking.{Turns}
 use Rattle.t1_c.specs.declared.kept.Kept.{Kept}
+
+-- profile: a status that a call may answer
+abbrev pub is_among : List ℕ → ℕ → Bool
+is_among statuses status = list_any (λ s. s == status) statuses
 
 -- profile: a buffer with a text written over its beginning, as far as there is room
 abbrev pub over : List ℕ → List ℕ → List ℕ
@@ -17,10 +23,15 @@ pub record Told (text old new : List ℕ) (told : ℕ) : Type 0 where
   pub bytes : new ≡ over text old
   pub count : told ≡ length text
 
--- profile: a session is open in a state
+-- profile: nothing is told: the buffer and the length are as they were
+pub record NothingTold (old new : List ℕ) (before told : ℕ) : Type 0 where
+  pub bytes : new ≡ old
+  pub count : told ≡ before
+
+-- profile: a session is open in a state, and has performed no command yet
 abbrev pub IsIn : Option Kept → SessionState → Type 0
 IsIn None state = ⊥
-IsIn (Some kept) state = kept.talk.state ≡ state
+IsIn (Some kept) state = (kept.talk.state ≡ state) × (kept.talk.answer ≡ [])
 
 -- profile: a session was opened on what a definition gives
 abbrev pub Opens : Result SessionState Fault → Option Kept → Type 0
@@ -41,17 +52,37 @@ IsTurned (Some was) (Some is) line body = Turns was.talk is.talk line body
 IsTurned (Some was) None line body = ⊥
 IsTurned None new line body = ⊥
 
--- profile: a call that tells a file by a number: the file at 0, the first fault at 1
-pub record Delivered (code : ℕ) (given : Result (List ℕ) Fault) (old new : List ℕ) (told : ℕ) : Type 0 where
-  pub done : code ≡ 0 → (file : List ℕ) × (given ≡ Ok file) × Told file old new told
-  pub refused : code ≡ 1 → Refuses given old new told
+-- profile: nothing can be performed: there is no session, or the texts aren't one command's
+abbrev pub is_misuse : Option Kept → List ℕ → List ℕ → Bool
+is_misuse held line body = is_none held || not (is_call line body)
+
+-- profile: a call that tells a file: the file at 0, the first fault at 1, and at 2 nothing, for want of memory
+pub record Delivered (status : ℕ) (given : Result (List ℕ) Fault) (old new : List ℕ) (before told : ℕ) : Type 0 where
+  pub done : status ≡ 0 → (file : List ℕ) × (given ≡ Ok file) × Told file old new told
+  pub refused : status ≡ 1 → Refuses given old new told
+  pub memory : status ≡ 2 → NothingTold old new before told
+  pub known : is_among (0 ∷ 1 ∷ 2 ∷ []) status ≡ true
 
 -- profile: the same, of the source of a font's file
-pub record DeliveredFont (code : ℕ) (given : Result (List ℕ) FontFault) (old new : List ℕ) (told : ℕ) : Type 0 where
-  pub done : code ≡ 0 → (file : List ℕ) × (given ≡ Ok file) × Told file old new told
-  pub refused : code ≡ 1 → (fault : FontFault) × (given ≡ Err fault) × Told (font_fault_text fault) old new told
+pub record DeliveredFont (status : ℕ) (given : Result (List ℕ) FontFault) (old new : List ℕ) (before told : ℕ) : Type 0 where
+  pub done : status ≡ 0 → (file : List ℕ) × (given ≡ Ok file) × Told file old new told
+  pub refused : status ≡ 1 → (fault : FontFault) × (given ≡ Err fault) × Told (font_fault_text fault) old new told
+  pub memory : status ≡ 2 → NothingTold old new before told
+  pub known : is_among (0 ∷ 1 ∷ 2 ∷ []) status ≡ true
 
--- profile: a call that judges: nothing to tell at 0, the first fault at 1
-pub record Judged (code : ℕ) (given : Result (Unit {0}) Fault) (old new : List ℕ) (told : ℕ) : Type 0 where
-  pub done : code ≡ 0 → given ≡ Ok tt
-  pub refused : code ≡ 1 → Refuses given old new told
+-- profile: a call that judges: nothing is told at 0, the first fault at 1, and nothing at 2, for want of memory
+pub record Judged (status : ℕ) (given : Result (Unit {0}) Fault) (old new : List ℕ) (before told : ℕ) : Type 0 where
+  pub passed : status ≡ 0 → given ≡ Ok tt
+  pub done : status ≡ 0 → NothingTold old new before told
+  pub refused : status ≡ 1 → Refuses given old new told
+  pub memory : status ≡ 2 → NothingTold old new before told
+  pub known : is_among (0 ∷ 1 ∷ 2 ∷ []) status ≡ true
+
+-- profile: a call that tells the lines of all faults: there are none at 0, some at 1, and at 2 nothing is told, for want of memory
+pub record Listed (status : ℕ) (lines old new : List ℕ) (before told : ℕ) : Type 0 where
+  pub none : status ≡ 0 → lines ≡ []
+  pub some : status ≡ 1 → (length lines == 0) ≡ false
+  pub done : status ≡ 0 → Told lines old new told
+  pub refused : status ≡ 1 → Told lines old new told
+  pub memory : status ≡ 2 → NothingTold old new before told
+  pub known : is_among (0 ∷ 1 ∷ 2 ∷ []) status ≡ true

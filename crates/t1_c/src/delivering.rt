@@ -1,16 +1,30 @@
 //! Files told in buffers of the caller's.
-ghost use Rattle.std.specs.Prelude.{List, ℕ, Result};
+ghost use Rattle.std.specs.Prelude.{◌≡◌, ◌≤◌, ◌-◌, ◌^◌, ℕ, List, pos, IfOk, IfSome, Result};
 ghost use Rattle.t1_frac.specs.declared.fault.Fault.{Fault};
 ghost use Rattle.t1_frac.specs.Outcome.{Gives};
 ghost use Rattle.t1_disassemble.specs.declared.fault.FontFault.{FontFault};
 ghost use Rattle.t1_disassemble.specs.Outcome.{Gives as GivesFont};
-ghost use Rattle.t1_c.specs.Calls.{Delivered, DeliveredFont, Judged};
+ghost use Rattle.t1_commands.specs.Blocks.{block_size};
+ghost use Rattle.t1_c.specs.Calls.{Delivered, DeliveredFont, Judged, Listed};
 
 use crate::status::{DONE, MEMORY, REFUSED};
-use crate::texts::{put, put_fault, put_font_fault};
-use std::alloc::Global;
+use crate::texts::{put, tell_fault, tell_font_fault};
+use std::alloc::{AllocError, Global};
 use t1_disassemble::FontRefusal;
 use t1_frac::Refusal;
+
+/// The length of segments, from 1 to 2147483647 bytes.
+pub fn segment_length(size: usize) -> Option<usize>
+    ensures value { result ≡ block_size (pos size) }
+    ensures some { IfSome result (λ segment. 1 ≤ segment) }
+    ensures short { IfSome result (λ segment. segment ≤ 2 ^ 31 - 1) }
+{
+    if 1 <= size && size <= 2_147_483_647 {
+        Some(size)
+    } else {
+        None
+    }
+}
 
 /// Tells a file, or the fault that refuses it.
 pub fn deliver(
@@ -20,18 +34,15 @@ pub fn deliver(
     length: &mut usize,
 ) -> u32
     ensures { (given : Result (List ℕ) Fault) → Gives (λ file. file.items) made given →
-        Delivered result given out.old out.new length.new }
+        Delivered result given out.old out.new length.old length.new }
 {
     match made {
         Ok(file) => {
             *length = put(&file, out);
             DONE
         }
-        Err(Refusal::Fault(fault)) => match put_fault(alloc, &fault, out) {
-            Ok(told) => {
-                *length = told;
-                REFUSED
-            }
+        Err(Refusal::Fault(fault)) => match tell_fault(alloc, &fault, out, length) {
+            Ok(()) => REFUSED,
             Err(_) => MEMORY,
         },
         Err(Refusal::Memory) => MEMORY,
@@ -46,18 +57,15 @@ pub fn deliver_source(
     length: &mut usize,
 ) -> u32
     ensures { (given : Result (List ℕ) FontFault) → GivesFont (λ file. file.items) made given →
-        DeliveredFont result given out.old out.new length.new }
+        DeliveredFont result given out.old out.new length.old length.new }
 {
     match made {
         Ok(source) => {
             *length = put(&source, out);
             DONE
         }
-        Err(FontRefusal::Fault(fault)) => match put_font_fault(alloc, &fault, out) {
-            Ok(told) => {
-                *length = told;
-                REFUSED
-            }
+        Err(FontRefusal::Fault(fault)) => match tell_font_fault(alloc, &fault, out, length) {
+            Ok(()) => REFUSED,
             Err(_) => MEMORY,
         },
         Err(FontRefusal::Memory) => MEMORY,
@@ -72,17 +80,28 @@ pub fn tell_judgement(
     length: &mut usize,
 ) -> u32
     ensures { (given : Result (Unit {0}) Fault) → Gives (λ _. tt) judged given →
-        Judged result given out.old out.new length.new }
+        Judged result given out.old out.new length.old length.new }
 {
     match judged {
         Ok(()) => DONE,
-        Err(Refusal::Fault(fault)) => match put_fault(alloc, &fault, out) {
-            Ok(told) => {
-                *length = told;
-                REFUSED
-            }
+        Err(Refusal::Fault(fault)) => match tell_fault(alloc, &fault, out, length) {
+            Ok(()) => REFUSED,
             Err(_) => MEMORY,
         },
         Err(Refusal::Memory) => MEMORY,
+    }
+}
+
+/// Tells the lines of faults: where there are none, nothing is refused.
+pub fn tell_faults(made: Result<Vec<u8>, AllocError>, out: &mut [u8], length: &mut usize) -> u32
+    ensures { (given : List ℕ) → IfOk made (λ text. text.items ≡ given) →
+        Listed result given out.old out.new length.old length.new }
+{
+    match made {
+        Ok(text) => {
+            *length = put(&text, out);
+            if text.is_empty() { DONE } else { REFUSED }
+        }
+        Err(_) => MEMORY,
     }
 }

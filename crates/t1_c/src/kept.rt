@@ -1,8 +1,8 @@
 //! What a handle holds.
 use t1_calls::Talk;
 
-/// A session. The bytes of its source stay as they are as long as it is there.
+/// A session.
 #[derive(Drop)]
 pub struct Kept {
-    pub talk: Talk<'static>,
+    pub talk: Talk,
 }

@@ -13,25 +13,29 @@ mod status;
 mod telling;
 mod texts;
 
-ghost use Rattle.std.specs.Prelude.{◌≡◌, true, None, is_some};
+ghost use Rattle.std.specs.Prelude.{◌≡◌, ◌∷◌, [], true, None, pos, is_some, IfSome};
 ghost use Rattle.t1_code.specs.Pfb.{whole_file};
+ghost use Rattle.t1_commands.specs.Blocks.{block_size};
 ghost use Rattle.t1_disassemble.specs.Disassembly.{disassembled};
 ghost use Rattle.t1_session.specs.Files.{assembled, assembled_pfa, metrics_file};
 ghost use Rattle.t1_session.specs.Machine.{scratch};
 ghost use Rattle.t1_calls.specs.Judging.{verdict};
-ghost use Rattle.t1_c.specs.Calls.{answer_in, Delivered, DeliveredFont, IsTurned, Judged, Opens};
-ghost use Rattle.t1_c.specs.Calls.{Refuses, Told};
+ghost use Rattle.t1_fault_texts.specs.Rows.{fault_rows};
+ghost use Rattle.t1_c.specs.Calls.{answer_in, is_among, is_misuse};
+ghost use Rattle.t1_c.specs.Calls.{Delivered, DeliveredFont, IsTurned, Judged, Listed};
+ghost use Rattle.t1_c.specs.Calls.{NothingTold, Opens, Refuses, Told};
 
-use crate::delivering::{deliver, deliver_source, tell_judgement};
+use crate::delivering::{deliver, deliver_source, segment_length, tell_faults, tell_judgement};
 use crate::handle::Handle;
 use crate::kept::Kept;
 use crate::status::{DONE, MEMORY, MISUSED, REFUSED};
 use crate::telling::{perform, tell_answer};
-use crate::texts::put_fault;
+use crate::texts::tell_fault;
 use std::alloc::Global;
 use std::mem;
 use t1_calls::{Talk, afm_of, blocks_of, check, pfa_of, pfb_of};
 use t1_disassemble::disassemble;
+use t1_fault_texts::fault_rows;
 use t1_frac::Refusal;
 
 /// The version of these calls.
@@ -45,12 +49,12 @@ pub extern "C" fn t1edit_version() -> u32
     VERSION
 }
 
-/// Opens a session on a source, whose bytes stay as they are until it is closed, and on its pairs;
-/// or tells the first fault. A session that is open there is closed first.
+/// Opens a session on a source and its pairs, of which nothing is read again once it is open; or
+/// tells the first fault. A session that is open there is closed first.
 #[unsafe(no_mangle)]
-pub extern "C" fn t1edit_open_on(
+pub extern "C" fn t1edit_open(
     alloc: Global,
-    source: &'static [u8],
+    source: &[u8],
     pairs: &[u8],
     at: &mut Handle,
     out: &mut [u8],
@@ -59,10 +63,12 @@ pub extern "C" fn t1edit_open_on(
     ensures done { result ≡ 0 → Opens (scratch source.now pairs.now) at.new.value }
     ensures refused { result ≡ 1 → Refuses (scratch source.now pairs.now) out.old out.new
         length.new }
-    ensures closed { result ≡ 1 → at.new.value ≡ None }
-    ensures memory { result ≡ 2 → at.new.value ≡ None }
+    ensures closed { is_among (1 ∷ 2 ∷ []) result ≡ true → at.new.value ≡ None }
+    ensures silent { is_among (0 ∷ 2 ∷ []) result ≡ true → NothingTold out.old out.new length.old
+        length.new }
+    ensures known { is_among (0 ∷ 1 ∷ 2 ∷ []) result ≡ true }
 {
-    t1edit_close_on(alloc, at);
+    t1edit_close(alloc, at);
     match Talk::open(alloc, source, pairs) {
         Ok(talk) => match Box::new(alloc, Kept { talk }) {
             Ok(kept) => {
@@ -71,11 +77,8 @@ pub extern "C" fn t1edit_open_on(
             }
             Err(_) => MEMORY,
         },
-        Err(Refusal::Fault(fault)) => match put_fault(alloc, &fault, out) {
-            Ok(told) => {
-                *length = told;
-                REFUSED
-            }
+        Err(Refusal::Fault(fault)) => match tell_fault(alloc, &fault, out, length) {
+            Ok(()) => REFUSED,
             Err(_) => MEMORY,
         },
         Err(Refusal::Memory) => MEMORY,
@@ -96,7 +99,11 @@ pub extern "C" fn t1edit_perform(
     ensures told { result ≡ 0 → Told (answer_in at.new.value) out.old out.new length.new }
     ensures memory { result ≡ 2 → at.new.value ≡ at.old.value }
     ensures untold { result ≡ 3 → IsTurned at.old.value at.new.value line.now body.now }
-    ensures misused { result ≡ 4 → at.new.value ≡ at.old.value }
+    ensures misused { result ≡ 4 → is_misuse at.old.value line.now body.now ≡ true }
+    ensures same { result ≡ 4 → at.new.value ≡ at.old.value }
+    ensures silent { is_among (2 ∷ 3 ∷ 4 ∷ []) result ≡ true → NothingTold out.old out.new
+        length.old length.new }
+    ensures known { is_among (0 ∷ 2 ∷ 3 ∷ 4 ∷ []) result ≡ true }
 {
     match mem::replace(at, Handle::none(alloc)).take() {
         None => MISUSED,
@@ -118,21 +125,28 @@ pub extern "C" fn t1edit_answer(
 ) -> u32
     ensures opened { result ≡ 0 → is_some at.old.value ≡ true }
     ensures told { result ≡ 0 → Told (answer_in at.old.value) out.old out.new length.new }
+    ensures misused { result ≡ 4 → at.old.value ≡ None }
     ensures same { at.new.value ≡ at.old.value }
+    ensures silent { is_among (2 ∷ 4 ∷ []) result ≡ true → NothingTold out.old out.new length.old
+        length.new }
+    ensures known { is_among (0 ∷ 2 ∷ 4 ∷ []) result ≡ true }
 {
     match mem::replace(at, Handle::none(alloc)).take() {
         None => MISUSED,
         Some(kept) => {
-            let status = tell_answer(&kept.talk, out, length);
+            let told = tell_answer(&kept.talk, out, length);
             *at = Handle::give(kept);
-            status
+            match told {
+                Ok(()) => DONE,
+                Err(_) => MEMORY,
+            }
         }
     }
 }
 
-/// Closes a session: its memory is given back, and its source isn't read again.
+/// Closes a session: its memory is given back.
 #[unsafe(no_mangle)]
-pub extern "C" fn t1edit_close_on(alloc: Global, at: &mut Handle)
+pub extern "C" fn t1edit_close(alloc: Global, at: &mut Handle)
     ensures { at.new.value ≡ None }
 {
     drop(mem::replace(at, Handle::none(alloc)).take());
@@ -146,7 +160,8 @@ pub extern "C" fn t1edit_assemble(
     out: &mut [u8],
     length: &mut usize,
 ) -> u32
-    ensures { Delivered result (assembled whole_file source.now) out.old out.new length.new }
+    ensures { Delivered result (assembled whole_file source.now) out.old out.new length.old
+        length.new }
 {
     deliver(alloc, pfb_of(alloc, source), out, length)
 }
@@ -160,12 +175,16 @@ pub extern "C" fn t1edit_assemble_blocks(
     out: &mut [u8],
     length: &mut usize,
 ) -> u32
-    ensures { Delivered result (assembled size source.now) out.old out.new length.new }
+    ensures done { IfSome (block_size (pos size)) (λ segment. Delivered result
+        (assembled segment source.now) out.old out.new length.old length.new) }
+    ensures misused { block_size (pos size) ≡ None → result ≡ 4 }
+    ensures silent { block_size (pos size) ≡ None → NothingTold out.old out.new length.old
+        length.new }
 {
-    if size < 1 || 2_147_483_647 < size {
-        return MISUSED;
+    match segment_length(size) {
+        Some(segment) => deliver(alloc, blocks_of(alloc, source, segment), out, length),
+        None => MISUSED,
     }
-    deliver(alloc, blocks_of(alloc, source, size), out, length)
 }
 
 /// Tells the PFA file of a source, or the source's first fault.
@@ -176,7 +195,8 @@ pub extern "C" fn t1edit_assemble_pfa(
     out: &mut [u8],
     length: &mut usize,
 ) -> u32
-    ensures { Delivered result (assembled_pfa source.now) out.old out.new length.new }
+    ensures { Delivered result (assembled_pfa source.now) out.old out.new length.old
+        length.new }
 {
     deliver(alloc, pfa_of(alloc, source), out, length)
 }
@@ -190,7 +210,8 @@ pub extern "C" fn t1edit_measure(
     out: &mut [u8],
     length: &mut usize,
 ) -> u32
-    ensures { Delivered result (metrics_file source.now pairs.now) out.old out.new length.new }
+    ensures { Delivered result (metrics_file source.now pairs.now) out.old out.new length.old
+        length.new }
 {
     deliver(alloc, afm_of(alloc, source, pairs), out, length)
 }
@@ -205,9 +226,25 @@ pub extern "C" fn t1edit_check(
     out: &mut [u8],
     length: &mut usize,
 ) -> u32
-    ensures { Judged result (verdict source.now pairs.now) out.old out.new length.new }
+    ensures { Judged result (verdict source.now pairs.now) out.old out.new length.old
+        length.new }
 {
     tell_judgement(alloc, check(alloc, source, pairs), out, length)
+}
+
+/// Tells every fault of a source and its pairs, a line each.
+#[unsafe(no_mangle)]
+pub extern "C" fn t1edit_faults(
+    alloc: Global,
+    source: &[u8],
+    pairs: &[u8],
+    out: &mut [u8],
+    length: &mut usize,
+) -> u32
+    ensures { Listed result (fault_rows source.now pairs.now) out.old out.new length.old
+        length.new }
+{
+    tell_faults(fault_rows(alloc, source, pairs), out, length)
 }
 
 /// Tells the readable source of a font's file, or the file's first fault.
@@ -218,7 +255,8 @@ pub extern "C" fn t1edit_disassemble(
     out: &mut [u8],
     length: &mut usize,
 ) -> u32
-    ensures { DeliveredFont result (disassembled font.now) out.old out.new length.new }
+    ensures { DeliveredFont result (disassembled font.now) out.old out.new length.old
+        length.new }
 {
     deliver_source(alloc, disassemble(alloc, font), out, length)
 }

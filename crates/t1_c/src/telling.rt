@@ -1,23 +1,22 @@
 //! A session's answers told in buffers of the caller's.
-ghost use Rattle.std.specs.Prelude.{◌≡◌};
+ghost use Rattle.std.specs.Prelude.{◌≡◌, ◌∷◌, [], true, false, OnErr, OnOk};
+ghost use Rattle.t1_calls.specs.Framing.{is_call};
 ghost use Rattle.t1_calls.specs.Talking.{Turns};
-ghost use Rattle.t1_c.specs.Calls.{Told};
+ghost use Rattle.t1_c.specs.Calls.{is_among, NothingTold, Told};
 
 use crate::status::{DONE, MEMORY, MISUSED, UNTOLD};
 use crate::texts::put;
+use std::alloc::AllocError;
 use t1_calls::{Talk, Unperformed};
 
-/// Tells the answer that a session keeps.
-pub fn tell_answer(talk: &Talk, out: &mut [u8], length: &mut usize) -> u32
-    ensures done { result ≡ 0 → Told talk.now.answer out.old out.new length.new }
+/// Tells the answer that a session keeps, where there is memory for it.
+pub fn tell_answer(talk: &Talk, out: &mut [u8], length: &mut usize) -> Result<(), AllocError>
+    ensures ok { OnOk result (Told talk.now.answer out.old out.new length.new) }
+    ensures err { OnErr result (NothingTold out.old out.new length.old length.new) }
 {
-    match talk.answer() {
-        Ok(answer) => {
-            *length = put(&answer, out);
-            DONE
-        }
-        Err(_) => MEMORY,
-    }
+    let answer = talk.answer()?;
+    *length = put(&answer, out);
+    Ok(())
 }
 
 /// Performs a command, and tells its answer.
@@ -26,14 +25,15 @@ pub fn perform(talk: &mut Talk, line: &[u8], body: &[u8], out: &mut [u8], length
     ensures told { result ≡ 0 → Told talk.new.answer out.old out.new length.new }
     ensures memory { result ≡ 2 → talk.new ≡ talk.old }
     ensures untold { result ≡ 3 → Turns talk.old talk.new line.now body.now }
-    ensures misused { result ≡ 4 → talk.new ≡ talk.old }
+    ensures misused { result ≡ 4 → is_call line.now body.now ≡ false }
+    ensures same { result ≡ 4 → talk.new ≡ talk.old }
+    ensures silent { is_among (2 ∷ 3 ∷ 4 ∷ []) result ≡ true → NothingTold out.old out.new
+        length.old length.new }
+    ensures known { is_among (0 ∷ 2 ∷ 3 ∷ 4 ∷ []) result ≡ true }
 {
     match talk.perform(line, body) {
-        Ok(()) => match talk.answer() {
-            Ok(answer) => {
-                *length = put(&answer, out);
-                DONE
-            }
+        Ok(()) => match tell_answer(talk, out, length) {
+            Ok(()) => DONE,
             Err(_) => UNTOLD,
         },
         Err(Unperformed::Misframed) => MISUSED,

@@ -1,12 +1,12 @@
 //! Texts in buffers of the caller's.
-ghost use Rattle.std.specs.Prelude.{◌≡◌, IfOk, OnErr};
+ghost use Rattle.std.specs.Prelude.{OnErr, OnOk};
 ghost use Rattle.t1_commands.specs.AnswerTexts.{fault_text};
-ghost use Rattle.t1_calls.specs.FontFaults.{font_fault_text};
-ghost use Rattle.t1_c.specs.Calls.{Told};
+ghost use Rattle.t1_fault_texts.specs.FontFaults.{font_fault_text};
+ghost use Rattle.t1_c.specs.Calls.{NothingTold, Told};
 
 use std::alloc::{AllocError, Global};
-use t1_calls::{fault_text, font_fault_text};
 use t1_disassemble::FontFault;
+use t1_fault_texts::{fault_text, font_fault_text};
 use t1_frac::Fault;
 
 /// Writes as much of a text as there is room for over the beginning of a buffer, and says how long
@@ -21,21 +21,32 @@ pub fn put(text: &[u8], out: &mut [u8]) -> usize
     text.len()
 }
 
-/// Writes the text of a fault over the beginning of a buffer, and says how long it is. Where memory
-/// runs out the buffer is as it was.
-pub fn put_fault(alloc: Global, fault: &Fault, out: &mut [u8]) -> Result<usize, AllocError>
-    ensures ok { IfOk result (λ told. Told (fault_text fault.now) out.old out.new told) }
-    ensures err { OnErr result (out.new ≡ out.old) }
+/// Tells the text of a fault, where there is memory for it.
+pub fn tell_fault(
+    alloc: Global,
+    fault: &Fault,
+    out: &mut [u8],
+    length: &mut usize,
+) -> Result<(), AllocError>
+    ensures ok { OnOk result (Told (fault_text fault.now) out.old out.new length.new) }
+    ensures err { OnErr result (NothingTold out.old out.new length.old length.new) }
 {
     let text = fault_text(alloc, fault)?;
-    Ok(put(&text, out))
+    *length = put(&text, out);
+    Ok(())
 }
 
 /// The same, of a fault of a font's file.
-pub fn put_font_fault(alloc: Global, fault: &FontFault, out: &mut [u8]) -> Result<usize, AllocError>
-    ensures ok { IfOk result (λ told. Told (font_fault_text fault.now) out.old out.new told) }
-    ensures err { OnErr result (out.new ≡ out.old) }
+pub fn tell_font_fault(
+    alloc: Global,
+    fault: &FontFault,
+    out: &mut [u8],
+    length: &mut usize,
+) -> Result<(), AllocError>
+    ensures ok { OnOk result (Told (font_fault_text fault.now) out.old out.new length.new) }
+    ensures err { OnErr result (NothingTold out.old out.new length.old length.new) }
 {
     let text = font_fault_text(alloc, fault)?;
-    Ok(put(&text, out))
+    *length = put(&text, out);
+    Ok(())
 }

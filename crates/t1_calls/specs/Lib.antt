@@ -1,4 +1,3 @@
-pub mod FontFaults
 pub mod Framing
 pub mod Judging
 pub mod Shown

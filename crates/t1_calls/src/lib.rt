@@ -3,20 +3,19 @@
 //!
 //! A [`Talk`] does what `serve` of `t1_session` does with the lines of an input, a command at a
 //! time, and keeps the answer to the last one. [`pfb_of`], [`blocks_of`], [`pfa_of`] and [`afm_of`]
-//! make the files of a source, and [`check`] judges it. [`fault_text`] and [`font_fault_text`] are
-//! faults as the program writes them.
+//! make the files of a source, and [`check`] judges it; [`laws`] says that it passes exactly where
+//! `t1_fault_texts` has no line of faults.
 //!
 //! All of it is for users, and for `t1_c`, which hands it to C.
 #![tactic(auto)]
 
-mod faults;
 mod files;
 mod framing;
+pub mod laws;
 mod performing;
 mod prints;
 mod talk;
 
-pub use faults::{fault_text, font_fault_text};
 pub use files::{afm_of, blocks_of, check, pfa_of, pfb_of};
 pub use framing::is_call;
 pub use talk::{Talk, Unperformed};

@@ -4,16 +4,16 @@ use std::marker::Model;
 use t1_commands::Answer;
 use t1_session::Session;
 
-/// A session, and the answer to its last command. It borrows the source's bytes, which are read as
-/// long as it lives.
+/// A session, and the answer to its last command. The texts of its source are its own, so that it
+/// borrows nothing of the bytes that it was opened on.
 #[derive(Drop)]
-pub struct Talk<'a> {
+pub struct Talk {
     alloc: Global,
-    session: Session<'a>,
+    session: Session<'static>,
     answer: Option<Answer>,
 }
 
-impl<'a> Model for Talk<'a> {
+impl Model for Talk {
     ghost use Rattle.t1_calls.specs.Talking.{kept_text, Spoken};
 
     ghost Value = { Spoken };
@@ -30,7 +30,7 @@ pub enum Unperformed {
     Memory,
 }
 
-ghost use Rattle.std.specs.Prelude.{◌≡◌, true, IfOk};
+ghost use Rattle.std.specs.Prelude.{◌≡◌, [], true, IfOk};
 ghost use Rattle.t1_frac.specs.Outcome.{Gives};
 ghost use Rattle.t1_frac.specs.Words.{words};
 ghost use Rattle.t1_commands.specs.AnswerTexts.{answer_text};
@@ -70,16 +70,18 @@ fn kept_text(alloc: Global, answer: &Option<Answer>) -> Result<Vec<u8>, AllocErr
     }
 }
 
-impl<'a> Talk<'a> {
+impl Talk {
     /// The session of the bytes of a source and of a kerning file, or the first fault: of reading
-    /// the source, of the pairs, of the source. No answer is kept yet.
+    /// the source, of the pairs, of the source. It has a copy of the source's texts, and no answer
+    /// is kept yet.
     #[tactic(auto, unfolding(t1_session::specs::Machine::scratch))]
-    pub fn open(alloc: Global, source: &'a [u8], pairs: &[u8]) -> Result<Talk<'a>, Refusal>
-        ensures { Gives (λ talk. talk.state) result (scratch source.now pairs.now) }
+    pub fn open(alloc: Global, source: &[u8], pairs: &[u8]) -> Result<Talk, Refusal>
+        ensures state { Gives (λ talk. talk.state) result (scratch source.now pairs.now) }
+        ensures answer { IfOk result (λ talk. talk.answer ≡ []) }
     {
         let source = read_source(alloc, source)?;
         let pairs = read_pairs(alloc, pairs)?;
-        let session = Session::open(alloc, source, pairs)?;
+        let session = Session::open(alloc, source.owned()?, pairs)?;
         Ok(Talk {
             alloc,
             session,

@@ -4,7 +4,6 @@ use Rattle.std.proofs.lemmas.Bool.{cases_Bool}
 use Rattle.std.proofs.lemmas.Bool.Decides.{nat_tests}
 use Rattle.std.specs.Prelude.{◌==◌, Result, Ok, Err, IsSome}
 use Rattle.std.specs.Result.{result_err}
-use Rattle.t1_frac.specs.Fraction.{Fraction}
 use Rattle.t1_frac.specs.declared.fault.Code.{Code}
 use Rattle.t1_code.specs.declared.command.Command.{Command}
 use Rattle.t1_run.specs.declared.outline.Composite.{Composite}
@@ -17,11 +16,12 @@ use Rattle.t1_run.specs.Step.{Next, Fault}
 use Rattle.t1_run.specs.Words.{step}
 use Rattle.t1_chain.specs.Details.{detail_of}
 use Rattle.t1_chain.specs.Failing.{Completed, Failed, Failure, Follower, act, call_within, called, called_at, composed, endings, failure_at, fails_at, go_on, words_from}
-use Rattle.t1_chain.specs.Machine.{Acts, MayEnter, asked_by, asked_of, ending_of, ending_or, refused_call, refused_control, seen}
+use Rattle.t1_chain.specs.Machine.{Acts, MayEnter, Notes, asked_by, asked_of, ending_of, ending_or, refused_call, refused_control, seen}
 use Rattle.t1_chain.specs.declared.ending.Asked.TheVariants.{Word, Subr, Over}
 use Rattle.t1_chain.specs.declared.ending.Ending.{Ending as EndingFields}
 use Rattle.t1_chain.specs.declared.ending.Ending.TheVariants as stops
 use Rattle.t1_chain.specs.declared.failure.Failure.{Failure as FailureFields}
+use Rattle.t1_chain.specs.declared.noted.Noted.{Noted}
 
 -- what is left of a body stops as the whole body does from where it began
 abbrev pub Left : FontBodies → ℕ → List Command → State → ℕ → List Command → State → Type 0
@@ -32,16 +32,18 @@ Left m levels body before word rest s = words_from m (call_within m levels) word
 pub acts-next : (m : FontBodies) (levels word : ℕ) (c : Command) (s s' : State) → step c s ≡ Next s' → Acts m levels word c Word s s'
 acts-next m levels word c s s' e = λ next. ap (act m (call_within m levels) (fails_at m word c s) word next) e
 
--- the failure at a word, by the stack before it
-failed-at : (m : FontBodies) (word : ℕ) (c : Command) (s : State) (stack : List Fraction) (code : Code) (failure : FailureFields) → stack ≡ s.stack
-    → seen failure ≡ failure_at word (detail_of m.glyphs code c stack) code → Failed (fails_at m word c s code) ≡ Failed (seen failure)
-failed-at m word c s stack code failure same e = ap Failed (sym (e ∙ ap (λ v. failure_at word (detail_of m.glyphs code c v) code) same))
+-- the failure at a word, by what was noted before it
+failed-at : (m : FontBodies) (word : ℕ) (c : Command) (s : State) (noted : Noted) (code : Code) (failure : FailureFields) → Notes noted s
+    → seen failure ≡ failure_at word (detail_of m.glyphs code c noted.stack.items noted.points) code → Failed (fails_at m word c s code) ≡ Failed (seen failure)
+failed-at m word c s noted code failure notes is =
+    ap Failed
+    (sym (is ∙ ap (λ v. failure_at word (detail_of m.glyphs code c v noted.points) code) notes.0 ∙ ap (λ v. failure_at word (detail_of m.glyphs code c s.stack v) code) notes.1))
 
-pub acts-failed : (m : FontBodies) (levels word : ℕ) (c : Command) (s s' : State) (stack : List Fraction) (code : Code) (failure : FailureFields)
-    → step c s ≡ Fault code → stack ≡ s.stack → seen failure ≡ failure_at word (detail_of m.glyphs code c stack) code
+pub acts-failed : (m : FontBodies) (levels word : ℕ) (c : Command) (s s' : State) (noted : Noted) (code : Code) (failure : FailureFields)
+    → step c s ≡ Fault code → Notes noted s → seen failure ≡ failure_at word (detail_of m.glyphs code c noted.stack.items noted.points) code
     → Acts m levels word c (Over (stops.Failed failure)) s s'
-acts-failed m levels word c s s' stack code failure e same is = λ next.
-    ap (act m (call_within m levels) (fails_at m word c s) word next) e ∙ failed-at m word c s stack code failure same is
+acts-failed m levels word c s s' noted code failure e notes is = λ next.
+    ap (act m (call_within m levels) (fails_at m word c s) word next) e ∙ failed-at m word c s noted code failure notes is
 
 above-none : (k : ℕ) → (suc k == 0) ≡ true → ⊥
 above-none k h = let e : suc k ≡ 0 = grind (arith, nat_tests) in absurd (omega (arith, e))
@@ -69,13 +71,13 @@ control-refused m levels word fails next controls.Back s code h = absurd (cc)
 control-refused m levels word fails next controls.End s code h = absurd (cc)
 control-refused m levels word fails next (controls.Compose a) s code h = parts-refused fails s (composite_of m.glyphs a) code h
 
-pub acts-refused : (m : FontBodies) (levels word : ℕ) (c : Command) (s s' : State) (stack : List Fraction) (control : Control) (code : Code) (failure : FailureFields)
-    → step c s ≡ asked_step control s' → refused_control m levels control ≡ Some code → stack ≡ s.stack
-    → seen failure ≡ failure_at word (detail_of m.glyphs code c stack) code → Acts m levels word c (Over (stops.Failed failure)) s s'
-acts-refused m levels word c s s' stack control code failure e refused same is = λ next.
+pub acts-refused : (m : FontBodies) (levels word : ℕ) (c : Command) (s s' : State) (noted : Noted) (control : Control) (code : Code) (failure : FailureFields)
+    → step c s ≡ asked_step control s' → refused_control m levels control ≡ Some code → Notes noted s
+    → seen failure ≡ failure_at word (detail_of m.glyphs code c noted.stack.items noted.points) code → Acts m levels word c (Over (stops.Failed failure)) s s'
+acts-refused m levels word c s s' noted control code failure e refused notes is = λ next.
     ap (act m (call_within m levels) (fails_at m word c s) word next) e
     ∙ control-refused m levels word (fails_at m word c s) next control s' code refused
-    ∙ failed-at m word c s stack code failure same is
+    ∙ failed-at m word c s noted code failure notes is
 
 parts-found : (fails : Code → Failure) (s : State) (r : Result Composite Code) → result_err r ≡ None → composed fails s r ≡ Completed s
 parts-found fails s (Ok c) h = refl

@@ -10,15 +10,16 @@ use Rattle.t1_run.specs.State.{State, initial}
 use Rattle.t1_run.specs.Step.{Step, Next, Call, Back, End, Compose, Fault}
 use Rattle.t1_run.specs.Words.{step}
 use Rattle.t1_run.specs.Run.{FontBodies, entering, composite_of}
-use Rattle.t1_chain.specs.Failing.{Ending, OutOfWords, Returned, Completed, Failed, Failure, Follower, Caller, LeadsLaw, LeadsTo, act, call_within, called, called_at, composed, endings, failure_at, failure_by, failure_in, fails_at, too_deep, unmeasured, words_from}
+use Rattle.t1_chain.specs.Failing.{Ending, OutOfWords, Returned, Completed, Failed, Failure, Follower, Caller, LeadsLaw, LeadsTo, LeadsToWord, act, call_within, called, called_at, composed, endings, failure_at, failure_by, failure_in, fails_at, too_deep, unmeasured, words_from}
+use Rattle.t1_chain.specs.declared.failure.Call.{Call as SubrCall}
 use Rattle.t1_chain.specs.declared.failure.Detail.TheVariants.{Nothing}
 
 -- how a body of so many words stops: at one of them, or where calls from there lead to
 abbrev Stands : FontBodies → ℕ → Ending → Type 0
 Stands m count (OutOfWords s) = Unit {0}
-Stands m count (Returned word s) = word ≤ count
+Stands m count (Returned word s) = word < count
 Stands m count (Completed s) = Unit {0}
-Stands m count (Failed f) = LeadsTo m count f.calls f.word
+Stands m count (Failed f) = LeadsToWord m count f.calls f.word
 
 -- so does the body of a Subr that is called
 abbrev StandsIn : FontBodies → ℕ → Result Ending Code → Type 0
@@ -47,7 +48,7 @@ act-stands : (m : FontBodies) (count word : ℕ) (caller : Caller) (fails : Code
     → (t : Step) → Stands m count (act m caller fails word next t)
 act-stands m count word caller fails next calls below own rest (Next s) = rest s
 act-stands m count word caller fails next calls below own rest (Call n s) = after-stands m count word n fails next below own rest (caller n s) (calls n s)
-act-stands m count word caller fails next calls below own rest (Back s) = omega (arith, below)
+act-stands m count word caller fails next calls below own rest (Back s) = below
 act-stands m count word caller fails next calls below own rest (End s) = tt
 act-stands m count word caller fails next calls below own rest (Compose a s) = composed-stands m count fails s own (composite_of m.glyphs a)
 act-stands m count word caller fails next calls below own rest (Fault code) = own code
@@ -58,8 +59,7 @@ words-stand m caller calls count word [] all s = tt
 words-stand m caller calls count word (c ∷ cs) all s =
     let below : word < count = omega (arith, all) in
     let left : word + 1 + length cs ≡ count = omega (arith, all) in
-    let within : word ≤ count = omega (arith, below) in
-    act-stands m count word caller (fails_at m word c s) (words_from m caller (word + 1) cs) calls below (λ code. within)
+    act-stands m count word caller (fails_at m word c s) (words_from m caller (word + 1) cs) calls below (λ code. below)
     (words-stand m caller calls count (word + 1) cs left) (step c s)
 
 called-stands : (m : FontBodies) (n : ℕ) (run : List Command → State → Result Ending Code)
@@ -77,14 +77,18 @@ calls-stand m (suc levels) n s =
 led : (m : FontBodies) (count : ℕ) (one f : Failure) → LeadsTo m count one.calls one.word → one ≡ f → LeadsTo m count f.calls f.word
 led m count one f h e = subst (λ (x : Failure). LeadsTo m count x.calls x.word) e h
 
+or-end : (m : FontBodies) (count : ℕ) (calls : List SubrCall) (word : ℕ) → LeadsToWord m count calls word → LeadsTo m count calls word
+or-end m count [] word h = omega (arith, h)
+or-end m count (call ∷ calls) word h = h
+
 from-ending : (m : FontBodies) (count : ℕ) (ending : Ending) (f : Failure) → Stands m count ending → failure_by count ending ≡ Some f → LeadsTo m count f.calls f.word
 from-ending m count (OutOfWords s) f h e = led m count (failure_at count Nothing F35) f (omega arith) (cc)
-from-ending m count (Returned word s) f h e = led m count (failure_at word Nothing F34) f h (cc)
+from-ending m count (Returned word s) f h e = led m count (failure_at word Nothing F34) f (omega (arith, h)) (cc)
 from-ending m count (Completed s) f h e = by s.metric e where
   by : (metric : Option Metric) → unmeasured count metric ≡ Some f → LeadsTo m count f.calls f.word
   by None e' = led m count (failure_at count Nothing F36) f (omega arith) (cc)
   by (Some metric) e' = absurd (cc)
-from-ending m count (Failed failure) f h e = led m count failure f h (cc)
+from-ending m count (Failed failure) f h e = led m count failure f (or-end m count failure.calls failure.word h) (cc)
 
 pub calls_lead : LeadsLaw
 unfolding failure_in

@@ -1,4 +1,4 @@
--- What a fault says beside its code, by the operand stack before the word that has it.
+-- What a fault says beside its code, by the run before the word that has it.
 use Rattle.std.specs.Prelude.{ℕ, ◌+◌, ◌-◌, if◌then◌else◌, List, [], ◌∷◌, length, Option, Some, None, is_none}
 use Rattle.std.specs.Int.RustNames.{unsigned_abs}
 use Rattle.std.specs.List.{find, slice_get}
@@ -6,13 +6,14 @@ use Rattle.std.specs.Option.{option_or}
 use Rattle.t1_frac.specs.Fraction.{Fraction}
 use Rattle.t1_frac.specs.Limits.{exceeds}
 use Rattle.t1_frac.specs.declared.fault.Code.{Code}
-use Rattle.t1_frac.specs.declared.fault.Code.TheVariants.{F30, F32, F37, F42, F44, F45}
+use Rattle.t1_frac.specs.declared.fault.Code.TheVariants.{F30, F32, F37, F41, F42, F44, F45}
 use Rattle.t1_code.specs.declared.command.Command.{Command}
 use Rattle.t1_code.specs.declared.command.Command.TheVariants.{Div, CallOtherSubr}
 use Rattle.t1_run.specs.Operands.{topmost, takes}
+use Rattle.t1_run.specs.State.{Flex}
 use Rattle.t1_run.specs.Run.{standard_glyph}
 use Rattle.t1_chain.specs.declared.failure.Detail.{Detail}
-use Rattle.t1_chain.specs.declared.failure.Detail.TheVariants.{Nothing, Number, Glyph, Values}
+use Rattle.t1_chain.specs.declared.failure.Detail.TheVariants.{Nothing, Number, Glyph, Values, Points}
 
 -- profile, faults: the number, where there is one
 abbrev pub number_of : Option Fraction → Detail
@@ -69,12 +70,23 @@ abbrev pub missing : (List ℕ → Option (List Command)) → Option (Fraction �
 missing glyphs None = Nothing
 missing glyphs (Some (base, accent)) = lacking glyphs (standard_glyph base.num) (standard_glyph accent.num)
 
--- profile, faults: what a fault of a command says, by the glyphs of the font and the stack before the command
-unfoldable pub detail_of : (List ℕ → Option (List Command)) → Code → Command → List Fraction → Detail
-detail_of glyphs F30 c stack = Values (length stack) (wanted c stack)
-detail_of glyphs F32 c stack = number_of (top_of stack)
-detail_of glyphs F37 c stack = number_of (too_large c stack)
-detail_of glyphs F42 c stack = number_of (top_of stack)
-detail_of glyphs F44 c stack = unnamed (both_of (topmost 2 stack))
-detail_of glyphs F45 c stack = missing glyphs (both_of (topmost 2 stack))
-detail_of glyphs code c stack = Nothing
+-- Type 1 Font Format, Chapter 8 (flex): how many points the open flex has recorded; none where no flex is open
+abbrev pub recorded_in : Option Flex → Option ℕ
+recorded_in None = None
+recorded_in (Some flex) = Some (length flex.recorded)
+
+-- profile, faults: these points, where a flex is open
+abbrev pub points_told : Option ℕ → Detail
+points_told None = Nothing
+points_told (Some n) = Points n
+
+-- profile, faults: what a fault of a command says, by the glyphs of the font, the stack before the command and the points of a flex
+unfoldable pub detail_of : (List ℕ → Option (List Command)) → Code → Command → List Fraction → Option ℕ → Detail
+detail_of glyphs F30 c stack points = Values (length stack) (wanted c stack)
+detail_of glyphs F32 c stack points = number_of (top_of stack)
+detail_of glyphs F37 c stack points = number_of (too_large c stack)
+detail_of glyphs F41 c stack points = points_told points
+detail_of glyphs F42 c stack points = number_of (top_of stack)
+detail_of glyphs F44 c stack points = unnamed (both_of (topmost 2 stack))
+detail_of glyphs F45 c stack points = missing glyphs (both_of (topmost 2 stack))
+detail_of glyphs code c stack points = Nothing

@@ -14,7 +14,7 @@ use Rattle.t1_run.specs.Run.{FontBodies, entering, composite_of, body_stop, outc
 use Rattle.t1_chain.specs.declared.failure.Call.{Call}
 use Rattle.t1_chain.specs.declared.failure.Detail.{Detail}
 use Rattle.t1_chain.specs.declared.failure.Detail.TheVariants.{Nothing}
-use Rattle.t1_chain.specs.Details.{detail_of}
+use Rattle.t1_chain.specs.Details.{detail_of, recorded_in}
 
 -- profile, faults: where and why a run fails
 pub record Failure : Type 0 where
@@ -80,7 +80,7 @@ act m caller fails word next (steps.Fault code) = Failed (fails code)
 
 -- profile, faults: the failure at this word, which is this command, from this state
 abbrev pub fails_at : FontBodies → ℕ → Command → State → Code → Failure
-fails_at m word c s code = failure_at word (detail_of m.glyphs code c s.stack) code
+fails_at m word c s code = failure_at word (detail_of m.glyphs code c s.stack (recorded_in s.flex)) code
 
 -- Type 1 Font Format, Chapter 6: the words one after another, the first of which is this word of its list
 abbrev pub words_from : FontBodies → Caller → ℕ → List Command → Follower
@@ -126,12 +126,17 @@ abbrev pub FailureLaw : Type 0
 FailureLaw = (m : FontBodies) (body : List Command) → option_map (λ (f : Failure). f.code) (failure_in m body) ≡ result_err (outcome_of (body_stop m body))
 
 -- profile, faults: from a body of so many words, by calls at its words and at those of Subrs that are there, to this word of the
--- last body, or to its end
+-- last body
+abbrev pub LeadsToWord : FontBodies → ℕ → List Call → ℕ → Type 0
+LeadsToWord m count [] word = word < count
+LeadsToWord m count (call ∷ calls) word =
+    (call.word < count) × ((body : List Command) × (m.subrs call.subr ≡ Some body) × LeadsToWord m (length body) calls word)
+
+-- profile, faults: the same, or to the end of the body itself
 abbrev pub LeadsTo : FontBodies → ℕ → List Call → ℕ → Type 0
 LeadsTo m count [] word = word ≤ count
-LeadsTo m count (call ∷ calls) word =
-    (call.word < count) × ((body : List Command) × (m.subrs call.subr ≡ Some body) × LeadsTo m (length body) calls word)
+LeadsTo m count (call ∷ calls) word = LeadsToWord m count (call ∷ calls) word
 
--- profile, faults: the calls of a failure lead to its word
+-- profile, faults: the calls of a failure lead to its word, which in a Subr is one of the Subr's words
 abbrev pub LeadsLaw : Type 0
 LeadsLaw = (m : FontBodies) (body : List Command) (f : Failure) → failure_in m body ≡ Some f → LeadsTo m (length body) f.calls f.word

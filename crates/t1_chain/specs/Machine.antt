@@ -12,11 +12,13 @@ use Rattle.t1_run.specs.State.{State}
 use Rattle.t1_run.specs.Step.{Step, Next}
 use Rattle.t1_run.specs.Words.{step}
 use Rattle.t1_chain.specs.Failing.{Failure, Ending, OutOfWords, Returned, Completed, Failed, Caller, Follower, act, call_within, called_at, fails_at}
+use Rattle.t1_chain.specs.Details.{recorded_in}
 use Rattle.t1_chain.specs.declared.failure.Failure.{Failure as FailureFields}
 use Rattle.t1_chain.specs.declared.ending.Asked.{Asked}
 use Rattle.t1_chain.specs.declared.ending.Asked.TheVariants.{Word, Subr, Over}
 use Rattle.t1_chain.specs.declared.ending.Ending.{Ending as EndingFields}
 use Rattle.t1_chain.specs.declared.ending.Ending.TheVariants as endings
+use Rattle.t1_chain.specs.declared.noted.Noted.{Noted}
 
 -- word: a failure as the definitions see it
 abbrev pub seen : FailureFields → Failure
@@ -49,6 +51,10 @@ abbrev pub refused_control : FontBodies → ℕ → Control → Option Code
 refused_control m levels (controls.Call n) = refused_call levels (m.subrs n)
 refused_control m levels (controls.Compose a) = result_err (composite_of m.glyphs a)
 refused_control m levels _ = None
+
+-- word: what is noted of this state
+abbrev pub Notes : Noted → State → Type 0
+Notes noted s = (noted.stack.items ≡ s.stack) × (noted.points ≡ recorded_in s.flex)
 
 -- word: what this word leaves to the run, where what it asks for has no fault
 abbrev pub asked_by : ℕ → Control → Asked

@@ -6,10 +6,11 @@ ghost use Rattle.t1_frac.specs.Limits.{exceeds};
 ghost use Rattle.t1_run.specs.Operands.{topmost as topmost_of};
 ghost use Rattle.t1_chain.specs.Details.{arguments_by, both_of, detail_of as detail_of_word};
 ghost use Rattle.t1_chain.specs.Details.{large_above as large_above_arguments, large_in, lacking};
-ghost use Rattle.t1_chain.specs.Details.{missing, number_of, too_large, top_of};
+ghost use Rattle.t1_chain.specs.Details.{missing, number_of, points_told, too_large, top_of};
 ghost use Rattle.t1_chain.specs.Details.{unnamed as unnamed_of, wanted as wanted_by};
 
 use crate::failure::Detail;
+use crate::noted::Noted;
 use std::alloc::{AllocError, Global};
 use t1_code::Command;
 use t1_frac::{Bytes, Code, Frac};
@@ -181,22 +182,36 @@ fn missing_part<B: Bodies>(
     }
 }
 
-/// What a fault of a command says beside its code, by the operand stack before the command.
+/// The points of a flex, where one is open.
+fn flex_points(points: Option<usize>) -> Detail
+    ensures { result ≡ points_told points }
+{
+    match points {
+        Some(points) => Detail::Points(points),
+        None => Detail::Nothing,
+    }
+}
+
+/// What a fault of a command says beside its code, by what was noted before the command.
 #[tactic(auto, unfolding(crate::specs::Details::detail_of))]
 pub fn detail_of<B: Bodies>(
     alloc: Global,
     bodies: &B,
     code: Code,
     command: Command,
-    stack: &[Frac],
+    noted: &Noted,
 ) -> Result<Detail, AllocError>
     ensures { IfOk result (λ detail.
-        detail ≡ detail_of_word (B.glyphs bodies.now) code command stack.now) }
+        detail
+        ≡ detail_of_word (B.glyphs bodies.now) code command noted.now.stack.items
+        noted.now.points) }
 {
+    let stack = noted.stack.as_slice();
     match code {
         Code::F30 => Ok(Detail::Values(stack.len(), wanted(command, stack))),
         Code::F32 | Code::F42 => Ok(number(top(stack))),
         Code::F37 => Ok(number(large_operand(command, stack))),
+        Code::F41 => Ok(flex_points(noted.points)),
         Code::F44 => Ok(unnamed(both(topmost(2, stack)))),
         Code::F45 => missing_part(alloc, bodies, both(topmost(2, stack))),
         _ => Ok(Detail::Nothing),

@@ -22,6 +22,8 @@ pub enum Detail {
     Glyph(Bytes),
     /// How many values there are, and how many are wanted, of F30.
     Values(usize, usize),
+    /// How many points the open flex has recorded, of F41 where a flex is open.
+    Points(usize),
     /// The line of the first entry with this number or name, of F9 and F10; no run has it.
     Line(u64),
 }

@@ -10,6 +10,7 @@ ghost use Rattle.t1_chain.specs.Machine.{ending_of, ending_or, seen};
 
 use crate::ending::{Asked, Ending};
 use crate::failure::{Call, Detail, Failure};
+use crate::noted::Noted;
 use crate::step::follow_word;
 use std::alloc::{AllocError, Global};
 use t1_code::Command;
@@ -58,12 +59,12 @@ fn follow<B: Bodies>(
         levels body.now (state_of state.old)
         ≡ ending_of ending (state_of state.new)) }
 {
-    let mut stack = Vec::new(alloc);
+    let mut noted = Noted::new(alloc);
     let mut next = 0;
     let mut rest = body;
     'words: while let Some((command, tail)) = rest.split_first() {
         let word = next;
-        let asked = follow_word(alloc, bodies, levels, word, *command, &mut stack, state)?;
+        let asked = follow_word(alloc, bodies, levels, word, *command, &mut noted, state)?;
         next += 1;
         rest = tail;
         match asked {

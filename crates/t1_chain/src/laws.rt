@@ -8,7 +8,7 @@ pub fn failures_are_faults()
 {}
 
 /// The calls of a failure are at words of the bodies, enter Subrs that are there, and lead to the
-/// body that has the failure's word.
+/// body that has the failure's word; a glyph's own body alone may fail past its last word.
 pub fn calls_lead_there()
     ensures { LeadsLaw }
 {}

@@ -11,6 +11,7 @@ mod ending;
 mod failure;
 mod following;
 pub mod laws;
+mod noted;
 mod step;
 
 pub use failure::{Call, Detail, Failure};

@@ -8,17 +8,18 @@ ghost use Rattle.t1_run.specs.Machine.{state_of, MakesStep};
 ghost use Rattle.t1_run.specs.Run.{font};
 ghost use Rattle.t1_run.specs.Words.{step as step_of};
 ghost use Rattle.t1_run.specs.declared.outline.Composite.{Composite as CompositeOf};
-ghost use Rattle.t1_chain.specs.Details.{detail_of as detail_of_word};
+ghost use Rattle.t1_chain.specs.Details.{detail_of as detail_of_word, recorded_in};
 ghost use Rattle.t1_chain.specs.Failing.{failure_at as failure_at_word};
 ghost use Rattle.t1_chain.specs.Machine.{asked_by, asking, refused_call, refused_control, seen};
-ghost use Rattle.t1_chain.specs.Machine.{Acts, MayEnter};
+ghost use Rattle.t1_chain.specs.Machine.{Acts, MayEnter, Notes};
 
 use crate::detail::detail_of;
 use crate::ending::{Asked, Ending};
 use crate::failure::Failure;
+use crate::noted::Noted;
 use std::alloc::{AllocError, Global};
 use t1_code::Command;
-use t1_frac::{Code, Frac, Place, Refusal};
+use t1_frac::{Code, Place, Refusal};
 use t1_run::{Bodies, Composite, Control, Halt, State, find_parts};
 
 /// The step of a command: what it asks for, where it asks for more than the next word.
@@ -41,20 +42,21 @@ fn take_step(state: &mut State, command: Command) -> Result<Option<Control>, Hal
     }
 }
 
-/// The failure at a word of a body, by the operand stack before it.
+/// The failure at a word of a body, by what was noted before it.
 fn failure_at<B: Bodies>(
     alloc: Global,
     bodies: &B,
     word: usize,
     command: Command,
-    stack: &[Frac],
+    noted: &Noted,
     code: Code,
 ) -> Result<Failure, AllocError>
     ensures { IfOk result (λ failure.
         seen failure ≡ failure_at_word word
-        (detail_of_word (B.glyphs bodies.now) code command stack.now) code) }
+        (detail_of_word (B.glyphs bodies.now) code command noted.now.stack.items
+        noted.now.points) code) }
 {
-    let detail = detail_of(alloc, bodies, code, command, stack)?;
+    let detail = detail_of(alloc, bodies, code, command, noted)?;
     Ok(Failure {
         code,
         calls: Vec::new(alloc),
@@ -118,23 +120,34 @@ fn asked(word: usize, control: Control) -> Asked
     }
 }
 
-/// Notes the operand stack in the place of another.
-fn note_stack(stack: &mut Vec<Frac>, state: &State) -> Result<(), AllocError>
-    ensures { OnOk result (stack.new.items ≡ (state_of state.now).stack) }
+/// How many points the open flex has recorded.
+fn recorded_points(state: &State) -> Option<usize>
+    ensures { result ≡ recorded_in (state_of state.now).flex }
 {
-    stack.clear();
-    stack.extend_from_slice(state.operands.as_slice())
+    match &state.flex {
+        Some(_before) => Some(state.recorded.len()),
+        None => None,
+    }
 }
 
-/// What a word of a body asks of the run, where so many Subrs more may be active. The vector is
-/// memory for the operand stack before the word.
+/// Notes a run before a word, in the place of what was noted.
+fn note(noted: &mut Noted, state: &State) -> Result<(), AllocError>
+    ensures { OnOk result (Notes noted.new (state_of state.now)) }
+{
+    noted.points = recorded_points(state);
+    noted.stack.clear();
+    noted.stack.extend_from_slice(state.operands.as_slice())
+}
+
+/// What a word of a body asks of the run, where so many Subrs more may be active. What was noted
+/// before is overwritten.
 pub fn follow_word<B: Bodies>(
     alloc: Global,
     bodies: &B,
     levels: u8,
     word: usize,
     command: Command,
-    stack: &mut Vec<Frac>,
+    noted: &mut Noted,
     state: &mut State,
 ) -> Result<Asked, AllocError>
     ensures acts { IfOk result (λ asked.
@@ -142,18 +155,18 @@ pub fn follow_word<B: Bodies>(
         (state_of state.old) (state_of state.new)) }
     ensures entered { IfOk result (λ asked. MayEnter levels (B.subrs bodies.now) asked) }
 {
-    note_stack(stack, state)?;
+    note(noted, state)?;
     let control = match take_step(state, command) {
         Ok(None) => return Ok(Asked::Word),
         Ok(Some(control)) => control,
         Err(Halt::Memory) => return Err(AllocError),
         Err(Halt::Fault(code)) => {
-            let failure = failure_at(alloc, bodies, word, command, stack, code)?;
+            let failure = failure_at(alloc, bodies, word, command, noted, code)?;
             return Ok(Asked::Over(Ending::Failed(failure)));
         }
     };
     if let Some(code) = control_fault(alloc, bodies, levels, &control)? {
-        let failure = failure_at(alloc, bodies, word, command, stack, code)?;
+        let failure = failure_at(alloc, bodies, word, command, noted, code)?;
         return Ok(Asked::Over(Ending::Failed(failure)));
     }
     Ok(asked(word, control))

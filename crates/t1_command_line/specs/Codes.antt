@@ -39,7 +39,7 @@ disassembling = (
 abbrev pub note_codes : List ℕ × List (List ℕ)
 note_codes = (
   codes "Notes on a source, by t1edit notes",
-  codes "byte-order-mark" ∷ codes "first-line" ∷ codes "encoded-name" ∷ codes "count" ∷ codes "plain-entry" ∷ codes "no-notdef" ∷ codes "no-entry" ∷ codes "after-end" ∷ codes "values-left" ∷ codes "wide-coordinate" ∷ codes "negative-width" ∷ codes "open-path" ∷ codes "unused-subr" ∷ codes "font-box" ∷ [],
+  codes "byte-order-mark" ∷ codes "first-line" ∷ codes "encoded-name" ∷ codes "count" ∷ codes "plain-entry" ∷ codes "no-notdef" ∷ codes "no-entry" ∷ codes "after-end" ∷ codes "values-left" ∷ codes "wide-coordinate" ∷ codes "negative-width" ∷ codes "open-path" ∷ codes "no-such-glyph" ∷ codes "unused-subr" ∷ codes "font-box" ∷ codes "wide-glyph" ∷ [],
 )
 
 -- profile: the rules of a session's commands

@@ -84,9 +84,9 @@ check_shape = taking (codes "check") (kern_rule ∷ as_font ∷ sources ∷ [])
 abbrev pub faults : Shape
 faults = taking (codes "faults") (json ∷ kern_rule ∷ as_font ∷ sources ∷ [])
 
--- profile: notes, which takes whether there must be none, and sources or fonts
+-- profile: notes, which takes whether there must be none, kerning, and sources or fonts
 abbrev pub notes_shape : Shape
-notes_shape = taking (codes "notes") (strict ∷ as_font ∷ sources ∷ [])
+notes_shape = taking (codes "notes") (strict ∷ kern_rule ∷ as_font ∷ sources ∷ [])
 
 -- profile: session, which takes kerning, and the source or a font
 abbrev pub session : Shape

@@ -181,7 +181,7 @@ fn code<'a>(alloc: Global) -> Arg<'a>
 {
     Arg::new(alloc, "CODE")
         .help(
-            "A code as F37 or D3, a rule as E4, or an exit status as 3; without it, all are listed",
+            "A code as F37 or D3, a note as no-entry, a rule as E4, or an exit status as 3; without it, all are listed",
         )
         .action(ArgAction::Set)
 }
@@ -305,6 +305,7 @@ fn notes<'a>(alloc: Global) -> Result<Command<'a>, AllocError>
         CODES,
     )
     .arg(strict(alloc))?
+    .arg(kern(alloc, KERN))?
     .arg(as_font(alloc, EACH_AS_FONT))?
     .arg(sources(alloc))
 }
@@ -330,7 +331,7 @@ fn explain<'a>(alloc: Global) -> Result<Command<'a>, AllocError>
     named(
         alloc,
         "explain",
-        "Says what a code, a rule or an exit status means, and what to do",
+        "Says what a code, a note, a rule or an exit status means, and what to do",
         "Example: t1edit explain F38",
         CODES,
     )

@@ -1,8 +1,8 @@
 -- A source has no fault that is found exactly where check passes.
-use Rattle.std.proofs.Common.{◌≡◌, ◌∙◌, ℕ, Bool, true, false, cond, ◌||◌, List, [], ◌∷◌, ◌++◌, length, map, Option, None, Some, Result, Ok, Err, refl, sym, ap, subst, inl, inr}
-use Rattle.std.specs.Prelude.{flat_map, is_none, option_map}
-use Rattle.std.specs.List.{list_any, AllByRecursion}
-use Rattle.std.specs.Option.{option_and_then}
+use Rattle.std.proofs.Common.{◌≡◌, ◌∙◌, ℕ, Bool, true, false, cond, ◌||◌, ◌<◌, List, [], ◌∷◌, ◌++◌, length, map, Option, None, Some, Result, Ok, Err, refl, sym, ap, subst, inl, inr, arith}
+use Rattle.std.specs.Prelude.{flat_map, option_map}
+use Rattle.std.specs.List.{list_any, range_with_len, AllByRecursion}
+use Rattle.std.specs.Option.{option_and_then, option_to_list}
 use Rattle.std.specs.Str.{bytes_eq}
 use Rattle.std.proofs.lemmas.Bool.{cases_Bool}
 use Rattle.t1_frac.specs.Outcome.{fault_at, reported_at, Refuses, ◌>>=◌}
@@ -37,16 +37,15 @@ use Rattle.t1_font.proofs.Measuring.{all-refused, all-reported, own-none}
 use Rattle.t1_font.proofs.MeasuringTurns.{runs-own}
 use Rattle.t1_chain.specs.Failing.{Failure, LeadsTo, failure_in}
 use Rattle.t1_chain.proofs.LeadingLaws.{calls_lead}
-use Rattle.t1_faults.specs.declared.run_fault.RunFault.{RunFault}
-use Rattle.t1_faults.specs.Entries.{Entry}
-use Rattle.t1_faults.specs.Failing.{Failures, failures_in, is_faulty_subr, missing_subr, passes, told}
+use Rattle.t1_faults.specs.Entries.{Entry, placed_words}
+use Rattle.t1_faults.specs.Failing.{failures_in, is_faulty_subr, is_some_and, missing_subr, told}
 use Rattle.t1_faults.specs.Found.{code_of}
-use Rattle.t1_faults.specs.Met.{last_entered, met_after, met_in, met_outside, met_with}
+use Rattle.t1_faults.specs.Met.{FailedRun, failed_runs, faults_at, last_entered, met_in, own_fault, run_fault}
 use Rattle.t1_faults.specs.Reading.{reading_fault}
-use Rattle.t1_faults.specs.Judging.{OwnRuns, checked, entries_in, entry_faults, faults_by, faults_of, faults_read, fault_of, file_faults, join_faults, source_faults}
+use Rattle.t1_faults.specs.Judging.{OwnRuns, checked, entries_in, entry_faults, faults_among, faults_of, faults_read, fault_of, file_faults, join_faults, source_faults}
 use Rattle.t1_faults.proofs.EntryLaws.{read_entries}
 use Rattle.t1_faults.proofs.FailureLaws.{runs_told}
-use Rattle.t1_faults.proofs.MetLaws.{both, glyph_there, last_there, met_some, nothing_met, one_of, subr_there}
+use Rattle.t1_faults.proofs.MetLaws.{HasMet, IsSubr, both, glyph_there, last_there, met_at_word, met_there, nothing_met, one_of, own_met, run_of, run_there, subr_there}
 use Rattle.t1_faults.proofs.SoundLaws.{bodies_fine, both_none, entries_fine, none_joined, items_sound, joins_fine, joins_sound}
 use Rattle.t1_faults.proofs.TakenLaws.{AreOf}
 
@@ -141,7 +140,7 @@ passes_check s font file glyphs = rw (file, glyphs) refl
 
 same_told : (faulty : ℕ → Bool) (o : Option Failure) (f : Failure) → option_and_then (told faulty) o ≡ Some f → o ≡ Some f
 same_told faulty None f e = absurd (cc)
-same_told faulty (Some x) f e = by (passes faulty (missing_subr x)) e where
+same_told faulty (Some x) f e = by (is_some_and faulty (missing_subr x)) e where
   by : (b : Bool) → cond b None (Some x) ≡ Some f → Some x ≡ Some f
   by true e' = absurd (cc)
   by false e' = e'
@@ -154,43 +153,45 @@ leads items g f e = by (glyph_to_run items g) e where
   by None h = absurd (cc)
   by (Some body) h = (length body, calls_lead (font_to_run items) body f (same_told (λ n. list_any (is_faulty_subr n) items) (failure_in (font_to_run items) body) f h))
 
-pub outside : (f : Failure) → last_entered f.calls ≡ None → met_outside (Some f) ≡ met_with [] f ∷ []
-outside f last = ap (λ (o : Option ℕ). cond (is_none o) (met_with [] f ∷ []) []) last
+-- nothing was met in an entry
+abbrev MetNothing : List FailedRun → Entry → Type 0
+MetNothing failed e = met_in (own_fault failed) (faults_at failed) e.place (length (placed_words e)) ≡ []
 
 -- where nothing was met in any entry, no glyph's run fails
-never_fails : (items : List Item) (es : List Entry) → AreOf items es
-    → AllByRecursion (λ e. met_in (failures_in items) (λ n. met_after [] (failures_in items) n es) e.place ≡ []) es
+never_fails : (items : List Item) (es : List Entry) → AreOf items es → AllByRecursion (MetNothing (failed_runs (failures_in items) es)) es
     → (g : List ℕ) → list_any (bytes_eq g) (glyph_names items) ≡ true → failures_in items g ≡ None
 never_fails items es are none g there = by (failures_in items g) refl where
   met : (f : Failure) → failures_in items g ≡ Some f → (o : Option ℕ) → last_entered f.calls ≡ o → ⊥
   met f e None last =
-      let F = failures_in items in
-      let subrs : ℕ → List RunFault = λ n. met_after [] F n es in
-      let here = one_of (λ x. (x.place ≡ places.Glyph g) × (met_in F subrs x.place ≡ [])) es
-      (both (λ x. x.place ≡ places.Glyph g) (λ x. met_in F subrs x.place ≡ []) es (glyph_there items es g are there) none) in
-      let some : met_with [] f ∷ [] ≡ [] = sym (outside f last) ∙ ap met_outside (sym e) ∙ ap (met_in F subrs) (sym here.1.0) ∙ here.1.1 in
+      let failed = failed_runs (failures_in items) es in
+      let here = one_of (λ x. (x.place ≡ places.Glyph g) × MetNothing failed x) es (both (λ x. x.place ≡ places.Glyph g) (MetNothing failed) es (glyph_there items es g are there) none) in
+      let count = length (placed_words here.0) in
+      let own : option_to_list (own_fault failed g) ≡ [] = sym (ap (λ place. met_in (own_fault failed) (faults_at failed) place count) here.1.0) ∙ here.1.1 in
+      let some : run_fault [] f ∷ [] ≡ [] = sym (ap option_to_list (own_met (failures_in items) g f es e last (glyph_there items es g are there))) ∙ own in
       absurd (cc)
   met f e (Some n) last =
-      let F = failures_in items in
-      let subrs : ℕ → List RunFault = λ n. met_after [] F n es in
+      let failed = failed_runs (failures_in items) es in
       let lead = leads items g f e in
       let body = last_there (font_to_run items) lead.0 f.calls f.word n lead.1 last in
-      let here = one_of (λ x. (x.place ≡ places.Subr n) × (met_in F subrs x.place ≡ [])) es
-      (both (λ x. x.place ≡ places.Subr n) (λ x. met_in F subrs x.place ≡ []) es (subr_there items es n body.0 are body.1) none) in
-      met_some F n es g f e last (glyph_there items es g are there) (ap (met_in F subrs) (sym here.1.0) ∙ here.1.1)
+      let here = one_of (λ x. IsSubr n body.0 x × MetNothing failed x) es (both (IsSubr n body.0) (MetNothing failed) es (subr_there items es n body.0 are body.1) none) in
+      let count = length (placed_words here.0) in
+      let inside : f.word < count = omega (arith, body.2, here.1.0.1) in
+      let run = run_there (failures_in items) g f e es (glyph_there items es g are there) in
+      let some = met_at_word f.code g (faults_at failed n) count f.word inside (met_there (run_of g f) n failed run last) in
+      let nothing : flat_map (faults_at failed n) (range_with_len 0 count) ≡ [] = sym (ap (λ place. met_in (own_fault failed) (faults_at failed) place count) here.1.0.0) ∙ here.1.1 in
+      subst (HasMet f.code g) nothing some
 
   by : (o : Option Failure) → failures_in items g ≡ o → failures_in items g ≡ None
   by None e = e
   by (Some f) e = absurd (met f e (last_entered f.calls) refl)
 
-found_none_of : (s : SourceParts) (es : List Entry) → AreOf s.items es → faults_by (failures_in s.items) (own (font_to_run s.items)) s es ≡ [] → source_check s ≡ Ok tt
+found_none_of : (s : SourceParts) (es : List Entry) → AreOf s.items es → faults_among s es ≡ [] → source_check s ≡ Ok tt
 found_none_of s es are none =
     let run = own (font_to_run s.items) in
-    let F = failures_in s.items in
-    let subrs : ℕ → List RunFault = λ n. met_after [] F n es in
-    let first = both_none (flat_map (entry_faults F subrs) es) (file_faults (bodies_check s.items) (file_check s) ++ flat_map (join_faults run) es) none in
+    let failed = failed_runs (failures_in s.items) es in
+    let first = both_none (flat_map (entry_faults (own_fault failed) (faults_at failed)) es) (file_faults (bodies_check s.items) (file_check s) ++ flat_map (join_faults run) es) none in
     let second = both_none (file_faults (bodies_check s.items) (file_check s)) (flat_map (join_faults run) es) first.1 in
-    let sound = items_sound F subrs s.items es are first.0 in
+    let sound = items_sound (own_fault failed) (faults_at failed) s.items es are first.0 in
     let fine : (g : List ℕ) → fault_of (run g) ≡ None = λ g. elim (cases_Bool (list_any (bytes_eq g) (glyph_names s.items))) [
       | inl there ↦ runs_told s.items sound.0 g ∙ ap (option_map (λ (f : Failure). f.code)) (never_fails s.items es are sound.1 g there)
       | inr not_there ↦ absent s.items g not_there
@@ -237,13 +238,7 @@ never_told : (o : Option Failure) → option_map (λ (f : Failure). f.code) o �
 never_told None e = refl
 never_told (Some f) e = absurd (cc)
 
-nothing_in : (F : Failures) → ((g : List ℕ) → F g ≡ None) → (es : List Entry) (place : Place) → met_in F (λ n. met_after [] F n es) place ≡ []
-nothing_in F none es places.Nowhere = refl
-nothing_in F none es (places.Line n) = refl
-nothing_in F none es (places.Subr n) = nothing_met F none [] n es
-nothing_in F none es (places.Glyph g) = ap met_outside (none g)
-
-pub none_found_of : (s : SourceParts) (es : List Entry) → AreOf s.items es → source_check s ≡ Ok tt → faults_by (failures_in s.items) (own (font_to_run s.items)) s es ≡ []
+pub none_found_of : (s : SourceParts) (es : List Entry) → AreOf s.items es → source_check s ≡ Ok tt → faults_among s es ≡ []
 unfolding measured_source
 none_found_of s es are passed =
     let run = own (font_to_run s.items) in
@@ -258,8 +253,9 @@ none_found_of s es are passed =
       | inr not_there ↦ absent s.items g not_there
     ] in
     let none : (g : List ℕ) → F g ≡ None = λ g. never_told (F g) (sym (runs_told s.items bodies g) ∙ fine g) in
-    none_joined (flat_map (entry_faults F (λ n. met_after [] F n es)) es) (file_faults (bodies_check s.items) (file_check s) ++ flat_map (join_faults run) es)
-    (entries_fine F (λ n. met_after [] F n es) es (bodies_fine s.items es are bodies) (nothing_in F none es))
+    let failed = failed_runs F es in
+    none_joined (flat_map (entry_faults (own_fault failed) (faults_at failed)) es) (file_faults (bodies_check s.items) (file_check s) ++ flat_map (join_faults run) es)
+    (entries_fine (own_fault failed) (faults_at failed) es (bodies_fine s.items es are bodies) (nothing_met F none es))
     (none_joined (file_faults (bodies_check s.items) (file_check s)) (flat_map (join_faults run) es)
     (no_file_fault (bodies_check s.items) (file_check s) whole) (joins_fine run s.items es are each))
 

@@ -16,7 +16,7 @@ use Rattle.t1_font.specs.ToRun.{font_to_run}
 use Rattle.t1_font.proofs.Measuring.{first-ok, next-ok, same-function}
 use Rattle.t1_chain.specs.Failing.{Failure, failure_in}
 use Rattle.t1_chain.proofs.FailingLaws.{failures_told}
-use Rattle.t1_faults.specs.Failing.{failure_at, failures_in, is_faulty_subr, missing_subr, passes, told, told_by}
+use Rattle.t1_faults.specs.Failing.{failure_at, failures_in, is_faulty_subr, is_some_and, missing_subr, told, told_by}
 use Rattle.t1_faults.specs.Found.{code_of}
 use Rattle.t1_faults.specs.Judging.{OwnRuns, fault_of}
 use Rattle.t1_faults.proofs.SoundLaws.{words_there}
@@ -44,7 +44,7 @@ no_failure run m g same h =
 
 -- ---- all of it is told, where the words of no Subr have a fault
 
-passed : (faulty : ℕ → Bool) → ((n : ℕ) → faulty n ≡ false) → (o : Option ℕ) → passes faulty o ≡ false
+passed : (faulty : ℕ → Bool) → ((n : ℕ) → faulty n ≡ false) → (o : Option ℕ) → is_some_and faulty o ≡ false
 passed faulty none None = refl
 passed faulty none (Some n) = none n
 

@@ -13,10 +13,10 @@ use Rattle.t1_faults.specs.declared.found.FoundFault.{FoundFault}
 use Rattle.t1_faults.specs.declared.placed.PlacedWord.{PlacedWord}
 use Rattle.t1_faults.specs.declared.run_fault.RunFault.{RunFault}
 use Rattle.t1_faults.specs.Entries.{Entry, placed_words}
-use Rattle.t1_faults.specs.Failing.{Failures, failures_in}
+use Rattle.t1_faults.specs.Failing.{failures_in}
 use Rattle.t1_faults.specs.Found.{at_entry, at_place, body_faults, in_entry, length_faults, word_faults}
-use Rattle.t1_faults.specs.Judging.{OwnRuns, entry_faults, join_fault, join_faults, or_if_none, run_faults}
-use Rattle.t1_faults.specs.Met.{met_after, met_in}
+use Rattle.t1_faults.specs.Judging.{OwnRuns, entry_faults, join_fault, join_faults, or_else, run_faults}
+use Rattle.t1_faults.specs.Met.{failed_runs, faults_at, met_in, own_fault}
 use Rattle.t1_faults.specs.Telling.{TellsWord}
 use Rattle.std.specs.Prelude.{ok_or}
 use Rattle.std.specs.List.{position}
@@ -59,7 +59,7 @@ one_tells : (all : List (List ℕ)) (e : Entry) (code : Option Code) → AllByRe
 one_tells all e None = tt
 one_tells all e (Some code) = (tt, tt)
 
-either_tell : (all : List (List ℕ)) (xs ys : List FoundFault) → AllByRecursion (TellsWord all) xs → AllByRecursion (TellsWord all) ys → AllByRecursion (TellsWord all) (or_if_none xs ys)
+either_tell : (all : List (List ℕ)) (xs ys : List FoundFault) → AllByRecursion (TellsWord all) xs → AllByRecursion (TellsWord all) ys → AllByRecursion (TellsWord all) (or_else xs ys)
 either_tell all [] ys h k = k
 either_tell all (x ∷ xs) ys h k = h
 
@@ -73,13 +73,13 @@ runs_tell : (all : List (List ℕ)) (e : Entry) (ws : List PlacedWord) → AllBy
 runs_tell all e ws h [] = tt
 runs_tell all e ws h (f ∷ fs) = (place_tells all e ws h f f.word, runs_tell all e ws h fs)
 
-entries_tell : (all : List (List ℕ)) (F : Failures) (subrs : ℕ → List RunFault) (es : List Entry) → AllByRecursion (WordsStand all) es
-    → AllByRecursion (TellsWord all) (flat_map (entry_faults F subrs) es)
-entries_tell all F subrs [] h = tt
-entries_tell all F subrs (e ∷ es) h =
-    all_append (TellsWord all) (entry_faults F subrs e) (flat_map (entry_faults F subrs) es)
-    (either_tell all (body_faults e) (run_faults F subrs e) (body_tells all e h.0) (runs_tell all e (placed_words e) h.0 (met_in F subrs e.place)))
-    (entries_tell all F subrs es h.1)
+entries_tell : (all : List (List ℕ)) (in_glyph : List ℕ → Option RunFault) (in_subr : ℕ → ℕ → List RunFault) (es : List Entry) → AllByRecursion (WordsStand all) es
+    → AllByRecursion (TellsWord all) (flat_map (entry_faults in_glyph in_subr) es)
+entries_tell all in_glyph in_subr [] h = tt
+entries_tell all in_glyph in_subr (e ∷ es) h =
+    all_append (TellsWord all) (entry_faults in_glyph in_subr e) (flat_map (entry_faults in_glyph in_subr) es)
+    (either_tell all (body_faults e) (run_faults in_glyph in_subr e) (body_tells all e h.0) (runs_tell all e (placed_words e) h.0 (met_in in_glyph in_subr e.place (length (placed_words e)))))
+    (entries_tell all in_glyph in_subr es h.1)
 
 joins_tell : (all : List (List ℕ)) (run : OwnRuns) (es : List Entry) → AllByRecursion (TellsWord all) (flat_map (join_faults run) es)
 joins_tell all run [] = tt
@@ -126,10 +126,10 @@ found_of : (ls : List (List ℕ)) (s : SourceParts) → AllByRecursion (WordsSta
 found_of ls s h =
     let run = own (font_to_run s.items) in
     let es = entries_in (parts_of ls) s in
-    let F = failures_in s.items in
-    let subrs : ℕ → List RunFault = λ n. met_after [] F n es in
+    let failed = failed_runs (failures_in s.items) es in
+    let mine = flat_map (entry_faults (own_fault failed) (faults_at failed)) es in
     let file = file_faults (bodies_check s.items) (file_check s) in
-    all_append (TellsWord ls) (flat_map (entry_faults F subrs) es) (file ++ flat_map (join_faults run) es) (entries_tell ls F subrs es h)
+    all_append (TellsWord ls) mine (file ++ flat_map (join_faults run) es) (entries_tell ls (own_fault failed) (faults_at failed) es h)
     (all_append (TellsWord ls) file (flat_map (join_faults run) es) (file_tells ls (bodies_check s.items) (file_check s)) (joins_tell ls run es))
 
 -- the source has the word of each fault that is found at its line and column

@@ -1,10 +1,10 @@
-pub mod AmongLaws
 pub mod CheckLaws
 pub mod ColumnLaws
 pub mod EntryLaws
 pub mod FailureLaws
 pub mod FoundLaws
 pub mod JudgingLaws
+pub mod KeptLaws
 pub mod LoopLaws
 pub mod MetLaws
 pub mod PlacedLaws

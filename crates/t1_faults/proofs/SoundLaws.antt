@@ -24,9 +24,8 @@ use Rattle.t1_faults.specs.declared.found.FoundFault.{FoundFault}
 use Rattle.t1_faults.specs.declared.placed.PlacedWord.{PlacedWord}
 use Rattle.t1_faults.specs.declared.run_fault.RunFault.{RunFault}
 use Rattle.t1_faults.specs.Entries.{Entry, placed_words}
-use Rattle.t1_faults.specs.Failing.{Failures}
 use Rattle.t1_faults.specs.Found.{at_entry, at_word, body_faults, code_of, in_entry, length_faults, met_faults, word_faults}
-use Rattle.t1_faults.specs.Judging.{OwnRuns, entry_faults, fault_of, join_fault, join_faults, or_if_none, run_faults, sound_parts, sound_run, sound_within}
+use Rattle.t1_faults.specs.Judging.{OwnRuns, entry_faults, fault_of, join_fault, join_faults, or_else, run_faults, sound_parts, sound_run, sound_within}
 use Rattle.t1_faults.specs.Met.{met_in}
 use Rattle.t1_faults.proofs.TakenLaws.{AreOf}
 
@@ -46,7 +45,7 @@ none_listed f (Some x) e = absurd (cc)
 nothing_listed : {X Y : Type 0} (f : X → Y) (o : Option X) → o ≡ None → option_to_list (option_map f o) ≡ []
 nothing_listed f o e = ap (λ x. option_to_list (option_map f x)) e
 
-no_others : (xs ys : List FoundFault) → or_if_none xs ys ≡ [] → (xs ≡ []) × (ys ≡ [])
+no_others : (xs ys : List FoundFault) → or_else xs ys ≡ [] → (xs ≡ []) × (ys ≡ [])
 no_others [] ys e = (refl, e)
 no_others (x ∷ xs) ys e = absurd (cc)
 
@@ -126,26 +125,26 @@ none_mapped f [] e = refl
 none_mapped f (x ∷ xs) e = absurd (cc)
 
 -- where entries have no fault of their own, all bodies compile, and runs met nothing
-pub items_sound : (F : Failures) (subrs : ℕ → List RunFault) (items : List Item) (es : List Entry) → AreOf items es → flat_map (entry_faults F subrs) es ≡ []
-    → (bodies_check items ≡ Ok tt) × AllByRecursion (λ e. met_in F subrs e.place ≡ []) es
-items_sound F subrs [] [] are none = (refl, tt)
-items_sound F subrs [] (e ∷ es) are none = absurd are
-items_sound F subrs (Plain l ∷ items) es are none = items_sound F subrs items es are none
-items_sound F subrs (Section before n after ∷ items) es are none = items_sound F subrs items es are none
-items_sound F subrs (Subr n words closing ∷ items) [] are none = absurd are
-items_sound F subrs (Subr n words closing ∷ items) (e ∷ es) are none =
-    let parts = both_none (entry_faults F subrs e) (flat_map (entry_faults F subrs) es) none in
-    let own = no_others (body_faults e) (run_faults F subrs e) parts.0 in
+pub items_sound : (in_glyph : List ℕ → Option RunFault) (in_subr : ℕ → ℕ → List RunFault) (items : List Item) (es : List Entry) → AreOf items es → flat_map (entry_faults in_glyph in_subr) es ≡ []
+    → (bodies_check items ≡ Ok tt) × AllByRecursion (λ e. met_in in_glyph in_subr e.place (length (placed_words e)) ≡ []) es
+items_sound in_glyph in_subr [] [] are none = (refl, tt)
+items_sound in_glyph in_subr [] (e ∷ es) are none = absurd are
+items_sound in_glyph in_subr (Plain l ∷ items) es are none = items_sound in_glyph in_subr items es are none
+items_sound in_glyph in_subr (Section before n after ∷ items) es are none = items_sound in_glyph in_subr items es are none
+items_sound in_glyph in_subr (Subr n words closing ∷ items) [] are none = absurd are
+items_sound in_glyph in_subr (Subr n words closing ∷ items) (e ∷ es) are none =
+    let parts = both_none (entry_faults in_glyph in_subr e) (flat_map (entry_faults in_glyph in_subr) es) none in
+    let own = no_others (body_faults e) (run_faults in_glyph in_subr e) parts.0 in
     let read = body_sound e words are.1 own.0 in
-    let s = items_sound F subrs items es are.2 parts.1 in
-    (rw (words_pass (places.Subr n) words read.0 read.1) s.0, (none_mapped (in_entry e (placed_words e)) (met_in F subrs e.place) own.1, s.1))
-items_sound F subrs (Glyph name words closing ∷ items) [] are none = absurd are
-items_sound F subrs (Glyph name words closing ∷ items) (e ∷ es) are none =
-    let parts = both_none (entry_faults F subrs e) (flat_map (entry_faults F subrs) es) none in
-    let own = no_others (body_faults e) (run_faults F subrs e) parts.0 in
+    let s = items_sound in_glyph in_subr items es are.2 parts.1 in
+    (rw (words_pass (places.Subr n) words read.0 read.1) s.0, (none_mapped (in_entry e (placed_words e)) (met_in in_glyph in_subr e.place (length (placed_words e))) own.1, s.1))
+items_sound in_glyph in_subr (Glyph name words closing ∷ items) [] are none = absurd are
+items_sound in_glyph in_subr (Glyph name words closing ∷ items) (e ∷ es) are none =
+    let parts = both_none (entry_faults in_glyph in_subr e) (flat_map (entry_faults in_glyph in_subr) es) none in
+    let own = no_others (body_faults e) (run_faults in_glyph in_subr e) parts.0 in
     let read = body_sound e words are.1 own.0 in
-    let s = items_sound F subrs items es are.2 parts.1 in
-    (rw (words_pass (places.Glyph name) words read.0 read.1) s.0, (none_mapped (in_entry e (placed_words e)) (met_in F subrs e.place) own.1, s.1))
+    let s = items_sound in_glyph in_subr items es are.2 parts.1 in
+    (rw (words_pass (places.Glyph name) words read.0 read.1) s.0, (none_mapped (in_entry e (placed_words e)) (met_in in_glyph in_subr e.place (length (placed_words e))) own.1, s.1))
 
 or_second : (a b : Bool) → b ≡ true → (a || b) ≡ true
 or_second true b h = refl
@@ -171,13 +170,13 @@ bodies_fine (Glyph name words closing ∷ items) (e ∷ es) are checked =
     (body_fine e words read.0 are.1 read.1, bodies_fine items es are.2 (next-ok (words_check (places.Glyph name) words) (bodies_check items) tt checked))
 
 -- entries whose bodies have no fault and in which runs met nothing have no fault of their own
-pub entries_fine : (F : Failures) (subrs : ℕ → List RunFault) (es : List Entry) → AllByRecursion (λ e. body_faults e ≡ []) es → ((place : Place) → met_in F subrs place ≡ [])
-    → flat_map (entry_faults F subrs) es ≡ []
-entries_fine F subrs [] bodies none = refl
-entries_fine F subrs (e ∷ es) bodies none =
-    none_joined (entry_faults F subrs e) (flat_map (entry_faults F subrs) es)
-    (ap (λ fs. or_if_none fs (run_faults F subrs e)) bodies.0 ∙ ap (met_faults e) (none e.place))
-    (entries_fine F subrs es bodies.1 none)
+pub entries_fine : (in_glyph : List ℕ → Option RunFault) (in_subr : ℕ → ℕ → List RunFault) (es : List Entry) → AllByRecursion (λ e. body_faults e ≡ []) es → ((place : Place) (count : ℕ) → met_in in_glyph in_subr place count ≡ [])
+    → flat_map (entry_faults in_glyph in_subr) es ≡ []
+entries_fine in_glyph in_subr [] bodies none = refl
+entries_fine in_glyph in_subr (e ∷ es) bodies none =
+    none_joined (entry_faults in_glyph in_subr e) (flat_map (entry_faults in_glyph in_subr) es)
+    (ap (λ fs. or_else fs (run_faults in_glyph in_subr e)) bodies.0 ∙ ap (met_faults e) (none e.place (length (placed_words e))))
+    (entries_fine in_glyph in_subr es bodies.1 none)
 
 -- ---- joins
 

@@ -1,7 +1,7 @@
 -- What check reports is told, or stands on what is told.
-use Rattle.std.proofs.Common.{◌≡◌, ◌∙◌, ℕ, zero, suc, Bool, true, false, cond, ◌||◌, ◌⊎◌, List, [], ◌∷◌, ◌++◌, length, map, Option, None, Some, Result, Ok, Err, refl, sym, ap, subst, inl, inr}
+use Rattle.std.proofs.Common.{◌≡◌, ◌∙◌, ℕ, zero, suc, Bool, true, false, cond, ◌||◌, ◌<◌, ◌⊎◌, List, [], ◌∷◌, ◌++◌, length, map, Option, None, Some, Result, Ok, Err, refl, sym, ap, subst, inl, inr, arith}
 use Rattle.std.specs.Prelude.{nat_lt, flat_map, option_map, slice_get}
-use Rattle.std.specs.List.{list_any}
+use Rattle.std.specs.List.{list_any, range_with_len}
 use Rattle.std.specs.Option.{option_to_list}
 use Rattle.std.specs.Str.{bytes_eq}
 use Rattle.std.proofs.lemmas.Bool.{cases_Bool}
@@ -40,16 +40,16 @@ use Rattle.t1_faults.specs.declared.found.FoundFault.{FoundFault}
 use Rattle.t1_faults.specs.declared.placed.PlacedWord.{PlacedWord}
 use Rattle.t1_faults.specs.declared.run_fault.RunFault.{RunFault}
 use Rattle.t1_faults.specs.Entries.{Entry, placed_words}
-use Rattle.t1_faults.specs.Failing.{Failures, failures_in}
+use Rattle.t1_faults.specs.Failing.{failures_in}
 use Rattle.t1_faults.specs.Found.{at_entry, at_place, body_faults, code_of, in_entry, length_faults, met_faults, word_faults}
-use Rattle.t1_faults.specs.Met.{last_entered, met_after, met_in, met_outside, met_with}
-use Rattle.t1_faults.specs.Judging.{OwnRuns, checked, entries_in, entry_faults, fault_of, faults_by, faults_read, file_faults, join_fault, join_faults, or_if_none, run_faults, sound_parts, sound_run, sound_within, source_faults}
+use Rattle.t1_faults.specs.Met.{FailedRun, failed_runs, faults_at, last_entered, met_in, own_fault, run_fault}
+use Rattle.t1_faults.specs.Judging.{OwnRuns, checked, entries_in, entry_faults, fault_of, faults_among, faults_read, file_faults, join_fault, join_faults, or_else, run_faults, sound_parts, sound_run, sound_within, source_faults}
 use Rattle.t1_faults.specs.Reading.{reading_fault}
 use Rattle.t1_faults.specs.Telling.{HasChain, IsAnswered, IsMet, IsTold, StandsOn, runs_read}
-use Rattle.t1_faults.proofs.CheckLaws.{absent, leads, outside}
+use Rattle.t1_faults.proofs.CheckLaws.{absent, leads}
 use Rattle.t1_faults.proofs.EntryLaws.{read_entries}
 use Rattle.t1_faults.proofs.FailureLaws.{runs_told}
-use Rattle.t1_faults.proofs.MetLaws.{Has, HasMet, both, glyph_there, last_there, met_there, subr_there}
+use Rattle.t1_faults.proofs.MetLaws.{Has, HasMet, IsSubr, both, glyph_there, last_there, met_at_word, met_there, own_met, run_of, run_there, subr_there}
 use Rattle.t1_faults.proofs.SoundLaws.{bodies_fine, long_as}
 use Rattle.t1_faults.proofs.TakenLaws.{AreOf}
 
@@ -62,7 +62,7 @@ told_right : (code : Code) (place : Place) (xs ys : List FoundFault) → IsTold 
 told_right code place [] ys h = h
 told_right code place (x ∷ xs) ys h = inr (told_right code place xs ys h)
 
-told_first : (code : Code) (place : Place) (xs ys : List FoundFault) → IsTold code place xs → IsTold code place (or_if_none xs ys)
+told_first : (code : Code) (place : Place) (xs ys : List FoundFault) → IsTold code place xs → IsTold code place (or_else xs ys)
 told_first code place [] ys h = absurd h
 told_first code place (x ∷ xs) ys h = h
 
@@ -105,35 +105,35 @@ words_fault place ws (Ok cs) h = inl (rw h refl)
 words_fault place ws (Err code) h = inr (code, h, rw h refl)
 
 -- the first fault of bodies is that of an entry, or of one after it
-entry_told : (F : Failures) (subrs : ℕ → List RunFault) (x : Entry) (es : List Entry) (fault : Fault) (place : Place) (words : List (List ℕ)) (next : Result (Unit {0}) Fault)
+entry_told : (in_glyph : List ℕ → Option RunFault) (in_subr : ℕ → ℕ → List RunFault) (x : Entry) (es : List Entry) (fault : Fault) (place : Place) (words : List (List ℕ)) (next : Result (Unit {0}) Fault)
     → x.place ≡ place → map (λ w. w.word) (placed_words x) ≡ words → ◌≡◌ {A = Result (Unit {0}) Fault} (words_check place words >>= λ _. next) (Err fault)
     → (words_check place words ≡ Ok tt) ⊎ ((code : Code) × (commands words ≡ Err code) × (words_check place words ≡ Err (fault_at place code)))
-    → (next ≡ Err fault → IsTold fault.code fault.place (flat_map (entry_faults F subrs) es))
-    → IsTold fault.code fault.place (entry_faults F subrs x ++ flat_map (entry_faults F subrs) es)
-entry_told F subrs x es fault place words next stands is e (inl passed) later =
+    → (next ≡ Err fault → IsTold fault.code fault.place (flat_map (entry_faults in_glyph in_subr) es))
+    → IsTold fault.code fault.place (entry_faults in_glyph in_subr x ++ flat_map (entry_faults in_glyph in_subr) es)
+entry_told in_glyph in_subr x es fault place words next stands is e (inl passed) later =
     let left : next ≡ Err fault = rw passed at e in
-    told_right fault.code fault.place (entry_faults F subrs x) (flat_map (entry_faults F subrs) es) (later left)
-entry_told F subrs x es fault place words next stands is e (inr w) later =
+    told_right fault.code fault.place (entry_faults in_glyph in_subr x) (flat_map (entry_faults in_glyph in_subr) es) (later left)
+entry_told in_glyph in_subr x es fault place words next stands is e (inr w) later =
     let first : ◌≡◌ {A = Result (Unit {0}) Fault} (Err (fault_at place w.0)) (Err fault) = rw w.2 at e in
     let same : fault_at place w.0 ≡ fault = cc in
     let here : IsTold w.0 x.place (body_faults x) = body_told x words w.0 is w.1 in
-    let there = told_left w.0 x.place (entry_faults F subrs x) (flat_map (entry_faults F subrs) es) (told_first w.0 x.place (body_faults x) (run_faults F subrs x) here) in
-    let placed = subst (λ p. IsTold w.0 p (entry_faults F subrs x ++ flat_map (entry_faults F subrs) es)) stands there in
-    subst (λ (f : Fault). IsTold f.code f.place (entry_faults F subrs x ++ flat_map (entry_faults F subrs) es)) same placed
+    let there = told_left w.0 x.place (entry_faults in_glyph in_subr x) (flat_map (entry_faults in_glyph in_subr) es) (told_first w.0 x.place (body_faults x) (run_faults in_glyph in_subr x) here) in
+    let placed = subst (λ p. IsTold w.0 p (entry_faults in_glyph in_subr x ++ flat_map (entry_faults in_glyph in_subr) es)) stands there in
+    subst (λ (f : Fault). IsTold f.code f.place (entry_faults in_glyph in_subr x ++ flat_map (entry_faults in_glyph in_subr) es)) same placed
 
-bodies_told : (F : Failures) (subrs : ℕ → List RunFault) (items : List Item) (es : List Entry) (fault : Fault) → AreOf items es → bodies_check items ≡ Err fault
-    → IsTold fault.code fault.place (flat_map (entry_faults F subrs) es)
-bodies_told F subrs [] es fault are e = absurd (cc)
-bodies_told F subrs (Plain l ∷ items) es fault are e = bodies_told F subrs items es fault are e
-bodies_told F subrs (Section before n after ∷ items) es fault are e = bodies_told F subrs items es fault are e
-bodies_told F subrs (Subr n words closing ∷ items) [] fault are e = absurd are
-bodies_told F subrs (Subr n words closing ∷ items) (x ∷ es) fault are e =
-    entry_told F subrs x es fault (places.Subr n) words (bodies_check items) are.0 are.1 e (words_fault (places.Subr n) words (commands words) refl)
-    (λ later. bodies_told F subrs items es fault are.2 later)
-bodies_told F subrs (Glyph g words closing ∷ items) [] fault are e = absurd are
-bodies_told F subrs (Glyph g words closing ∷ items) (x ∷ es) fault are e =
-    entry_told F subrs x es fault (places.Glyph g) words (bodies_check items) are.0 are.1 e (words_fault (places.Glyph g) words (commands words) refl)
-    (λ later. bodies_told F subrs items es fault are.2 later)
+bodies_told : (in_glyph : List ℕ → Option RunFault) (in_subr : ℕ → ℕ → List RunFault) (items : List Item) (es : List Entry) (fault : Fault) → AreOf items es → bodies_check items ≡ Err fault
+    → IsTold fault.code fault.place (flat_map (entry_faults in_glyph in_subr) es)
+bodies_told in_glyph in_subr [] es fault are e = absurd (cc)
+bodies_told in_glyph in_subr (Plain l ∷ items) es fault are e = bodies_told in_glyph in_subr items es fault are e
+bodies_told in_glyph in_subr (Section before n after ∷ items) es fault are e = bodies_told in_glyph in_subr items es fault are e
+bodies_told in_glyph in_subr (Subr n words closing ∷ items) [] fault are e = absurd are
+bodies_told in_glyph in_subr (Subr n words closing ∷ items) (x ∷ es) fault are e =
+    entry_told in_glyph in_subr x es fault (places.Subr n) words (bodies_check items) are.0 are.1 e (words_fault (places.Subr n) words (commands words) refl)
+    (λ later. bodies_told in_glyph in_subr items es fault are.2 later)
+bodies_told in_glyph in_subr (Glyph g words closing ∷ items) [] fault are e = absurd are
+bodies_told in_glyph in_subr (Glyph g words closing ∷ items) (x ∷ es) fault are e =
+    entry_told in_glyph in_subr x es fault (places.Glyph g) words (bodies_check items) are.0 are.1 e (words_fault (places.Glyph g) words (commands words) refl)
+    (λ later. bodies_told in_glyph in_subr items es fault are.2 later)
 
 -- ---- a run
 
@@ -183,39 +183,51 @@ met_told code p e ws (f ∷ fs) (inl h) =
     inl (at_code e (slice_get ws f.word) f ∙ h.0, subst (HasChain p) (sym (at_chains e (slice_get ws f.word) f)) h.1)
 met_told code p e ws (f ∷ fs) (inr h) = inr (met_told code p e ws fs h)
 
+-- the faults of an entry, where these runs fail
+abbrev faults_with : List FailedRun → Entry → List FoundFault
+faults_with failed = entry_faults (own_fault failed) (faults_at failed)
+
+-- where the body has none, they are those that runs met
+met_listed : (failed : List FailedRun) (x : Entry) (place : Place) → body_faults x ≡ [] → x.place ≡ place
+    → faults_with failed x ≡ met_faults x (met_in (own_fault failed) (faults_at failed) place (length (placed_words x)))
+met_listed failed x place sound stands =
+    ap (λ fs. or_else fs (run_faults (own_fault failed) (faults_at failed) x)) sound
+    ∙ ap (λ q. met_faults x (met_in (own_fault failed) (faults_at failed) q (length (placed_words x)))) stands
+
 -- where no body has a fault, that of a glyph's own run is told
 run_told : (items : List Item) (es : List Entry) (p : List ℕ) (code : Code) → AreOf items es → bodies_check items ≡ Ok tt → list_any (bytes_eq p) (glyph_names items) ≡ true
     → own (font_to_run items) p ≡ Some (Err code)
-    → IsToldOf code p (flat_map (entry_faults (failures_in items) (λ n. met_after [] (failures_in items) n es)) es)
+    → IsToldOf code p (flat_map (faults_with (failed_runs (failures_in items) es)) es)
 run_told items es p code are checked there fails =
     by (failures_in items p) refl (sym (runs_told items checked p) ∙ ap fault_of fails)
   where
     found : (f : Failure) → failures_in items p ≡ Some f → f.code ≡ code → (o : Option ℕ) → last_entered f.calls ≡ o
-        → IsToldOf code p (flat_map (entry_faults (failures_in items) (λ n. met_after [] (failures_in items) n es)) es)
+        → IsToldOf code p (flat_map (faults_with (failed_runs (failures_in items) es)) es)
     found f e same None last =
-        let F = failures_in items in
-        let subrs : ℕ → List RunFault = λ n. met_after [] F n es in
-        of_entries code p (entry_faults F subrs) (λ x. (x.place ≡ places.Glyph p) × (body_faults x ≡ [])) es
+        let failed = failed_runs (failures_in items) es in
+        let mine = faults_with failed in
+        of_entries code p mine (λ x. (x.place ≡ places.Glyph p) × (body_faults x ≡ [])) es
         (both (λ x. x.place ≡ places.Glyph p) (λ x. body_faults x ≡ []) es (glyph_there items es p are there) (bodies_fine items es are checked)) (λ x. λ h.
-        let met : met_in F subrs x.place ≡ met_with [] f ∷ [] = ap (met_in F subrs) h.0 ∙ ap met_outside e ∙ outside f last in
-        let listed : entry_faults F subrs x ≡ in_entry x (placed_words x) (met_with [] f) ∷ [] =
-        ap (λ fs. or_if_none fs (run_faults F subrs x)) h.1 ∙ ap (met_faults x) met in
+        let listed : mine x ≡ in_entry x (placed_words x) (run_fault [] f) ∷ [] =
+        met_listed failed x (places.Glyph p) h.1 h.0 ∙ ap (λ o. met_faults x (option_to_list o)) (own_met (failures_in items) p f es e last (glyph_there items es p are there)) in
         let w = slice_get (placed_words x) f.word in
-        inl (subst (IsTold code (places.Glyph p)) (sym listed) (inl (at_code x w (met_with [] f) ∙ same, at_own_place x w (met_with [] f) ∙ h.0))))
+        inl (subst (IsTold code (places.Glyph p)) (sym listed) (inl (at_code x w (run_fault [] f) ∙ same, at_own_place x w (run_fault [] f) ∙ h.0))))
     found f e same (Some n) last =
-        let F = failures_in items in
-        let subrs : ℕ → List RunFault = λ n. met_after [] F n es in
+        let failed = failed_runs (failures_in items) es in
+        let mine = faults_with failed in
         let lead = leads items p f e in
         let body = last_there (font_to_run items) lead.0 f.calls f.word n lead.1 last in
-        of_entries code p (entry_faults F subrs) (λ x. (x.place ≡ places.Subr n) × (body_faults x ≡ [])) es
-        (both (λ x. x.place ≡ places.Subr n) (λ x. body_faults x ≡ []) es (subr_there items es n body.0 are body.1) (bodies_fine items es are checked)) (λ x. λ h.
-        let listed : entry_faults F subrs x ≡ met_faults x (met_after [] F n es) =
-        ap (λ fs. or_if_none fs (run_faults F subrs x)) h.1 ∙ ap (λ place. met_faults x (met_in F subrs place)) h.0 in
-        let met = met_told f.code p x (placed_words x) (met_after [] F n es) (met_there F n p f e last [] es (glyph_there items es p are there)) in
-        inr (subst (IsMet code p) (sym listed) (subst (λ c. IsMet c p (met_faults x (met_after [] F n es))) same met)))
+        of_entries code p mine (λ x. IsSubr n body.0 x × (body_faults x ≡ [])) es
+        (both (IsSubr n body.0) (λ x. body_faults x ≡ []) es (subr_there items es n body.0 are body.1) (bodies_fine items es are checked)) (λ x. λ h.
+        let met = flat_map (faults_at failed n) (range_with_len 0 (length (placed_words x))) in
+        let listed : mine x ≡ met_faults x met = met_listed failed x (places.Subr n) h.1 h.0.0 in
+        let inside : f.word < length (placed_words x) = omega (arith, body.2, h.0.1) in
+        let run = run_there (failures_in items) p f e es (glyph_there items es p are there) in
+        let there = met_at_word f.code p (faults_at failed n) (length (placed_words x)) f.word inside (met_there (run_of p f) n failed run last) in
+        inr (subst (IsMet code p) (sym listed) (subst (λ c. IsMet c p (met_faults x met)) same (met_told f.code p x (placed_words x) met there))))
 
     by : (o : Option Failure) → failures_in items p ≡ o → option_map (λ (f : Failure). f.code) (failures_in items p) ≡ Some code
-        → IsToldOf code p (flat_map (entry_faults (failures_in items) (λ n. met_after [] (failures_in items) n es)) es)
+        → IsToldOf code p (flat_map (faults_with (failed_runs (failures_in items) es)) es)
     by None e told = let none : None ≡ Some code = sym (ap (option_map (λ (f : Failure). f.code)) e) ∙ told in absurd (cc)
     by (Some f) e told =
         let some : Some f.code ≡ Some code = sym (ap (option_map (λ (f : Failure). f.code)) e) ∙ told in
@@ -340,11 +352,11 @@ is_glyph_of items p code e =
     ]
 
 glyph_answered : (s : SourceParts) (es : List Entry) (fault : Fault) → AreOf s.items es → bodies_check s.items ≡ Ok tt → measured s.items ≡ Err fault
-    → IsAnswered (own (font_to_run s.items)) (faults_by (failures_in s.items) (own (font_to_run s.items)) s es) fault
+    → IsAnswered (own (font_to_run s.items)) (faults_among s es) fault
 glyph_answered s es fault are bodies e =
     let run = own (font_to_run s.items) in
-    let F = failures_in s.items in
-    let mine = flat_map (entry_faults F (λ n. met_after [] F n es)) es in
+    let failed = failed_runs (failures_in s.items) es in
+    let mine = flat_map (entry_faults (own_fault failed) (faults_at failed)) es in
     let file = file_faults (bodies_check s.items) (file_check s) in
     let joins = flat_map (join_faults run) es in
     let w = measured_first s.items fault bodies e in
@@ -352,7 +364,7 @@ glyph_answered s es fault are bodies e =
       | inl sound ↦
           let told = join_told run s.items es w.0 w.1 are w.2 sound w.4 in
           let all = told_right w.1 (places.Glyph w.0) mine (file ++ joins) (told_right w.1 (places.Glyph w.0) file joins told) in
-          inl (subst (λ (f : Fault). IsTold f.code f.place (faults_by F run s es)) w.3 all)
+          inl (subst (λ (f : Fault). IsTold f.code f.place (faults_among s es)) w.3 all)
       | inr not_sound ↦
           let u = unsound run 4 w.0 not_sound in
           let told = run_told s.items es u.0 u.1 are bodies (is_glyph_of s.items u.0 u.1 u.3) u.3 in
@@ -360,13 +372,13 @@ glyph_answered s es fault are bodies e =
     ]
 
 source_answered : (s : SourceParts) (es : List Entry) (fault : Fault) → AreOf s.items es → source_check s ≡ Err fault
-    → IsAnswered (own (font_to_run s.items)) (faults_by (failures_in s.items) (own (font_to_run s.items)) s es) fault
+    → IsAnswered (own (font_to_run s.items)) (faults_among s es) fault
 unfolding measured_source
 source_answered s es fault are e = bodies (bodies_check s.items) refl where
-  file : (r : Result (Unit {0}) Fault) → bodies_check s.items ≡ Ok tt → file_check s ≡ r → IsAnswered (own (font_to_run s.items)) (faults_by (failures_in s.items) (own (font_to_run s.items)) s es) fault
+  file : (r : Result (Unit {0}) Fault) → bodies_check s.items ≡ Ok tt → file_check s ≡ r → IsAnswered (own (font_to_run s.items)) (faults_among s es) fault
   file (Ok u) sound h = glyphs (measured s.items) refl
     where
-      glyphs : (m : Result MeasuredFont Fault) → measured s.items ≡ m → IsAnswered (own (font_to_run s.items)) (faults_by (failures_in s.items) (own (font_to_run s.items)) s es) fault
+      glyphs : (m : Result MeasuredFont Fault) → measured s.items ≡ m → IsAnswered (own (font_to_run s.items)) (faults_among s es) fault
       glyphs (Ok font) k = let none : ◌≡◌ {A = Result (Unit {0}) Fault} (Ok tt) (Err fault) = rw (h, k) at e in absurd (cc)
       glyphs (Err other) k =
           let first : ◌≡◌ {A = Result (Unit {0}) Fault} (Err other) (Err fault) = rw (h, k) at e in
@@ -378,21 +390,20 @@ source_answered s es fault are e = bodies (bodies_check s.items) refl where
       let run = own (font_to_run s.items) in
       let one : IsTold fault.code fault.place (file_faults (Ok tt) (Err fault)) = inl (refl, refl) in
       let told = subst (λ r. IsTold fault.code fault.place (file_faults r (file_check s))) (sym sound) (subst (λ r. IsTold fault.code fault.place (file_faults (Ok tt) r)) (sym (h ∙ ap Err same)) one) in
-      let F = failures_in s.items in
-      inl (told_right fault.code fault.place (flat_map (entry_faults F (λ n. met_after [] F n es)) es) (file_faults (bodies_check s.items) (file_check s) ++ flat_map (join_faults run) es)
+      let failed = failed_runs (failures_in s.items) es in
+      inl (told_right fault.code fault.place (flat_map (entry_faults (own_fault failed) (faults_at failed)) es) (file_faults (bodies_check s.items) (file_check s) ++ flat_map (join_faults run) es)
       (told_left fault.code fault.place (file_faults (bodies_check s.items) (file_check s)) (flat_map (join_faults run) es) told))
 
-  bodies : (r : Result (Unit {0}) Fault) → bodies_check s.items ≡ r → IsAnswered (own (font_to_run s.items)) (faults_by (failures_in s.items) (own (font_to_run s.items)) s es) fault
+  bodies : (r : Result (Unit {0}) Fault) → bodies_check s.items ≡ r → IsAnswered (own (font_to_run s.items)) (faults_among s es) fault
   bodies (Ok u) h = file (file_check s) h refl
   bodies (Err other) h =
       let early = body_fault_reported s other h in
       let first : ◌≡◌ {A = Result (Unit {0}) Fault} (Err other) (Err fault) = rw early at e in
       let same : other ≡ fault = cc in
       let run = own (font_to_run s.items) in
-      let F = failures_in s.items in
-      let subrs : ℕ → List RunFault = λ n. met_after [] F n es in
-      inl (told_left fault.code fault.place (flat_map (entry_faults F subrs) es) (file_faults (bodies_check s.items) (file_check s) ++ flat_map (join_faults run) es)
-      (bodies_told F subrs s.items es fault are (h ∙ ap Err same)))
+      let failed = failed_runs (failures_in s.items) es in
+      inl (told_left fault.code fault.place (flat_map (entry_faults (own_fault failed) (faults_at failed)) es) (file_faults (bodies_check s.items) (file_check s) ++ flat_map (join_faults run) es)
+      (bodies_told (own_fault failed) (faults_at failed) s.items es fault are (h ∙ ap Err same)))
 
 -- what check reports of some bytes is told, or is a glyph's that stands on one of which a fault is told
 pub answered : (bytes : List ℕ) (fault : Fault) → checked bytes ≡ Err fault → IsAnswered (runs_read (reads bytes)) (source_faults bytes) fault

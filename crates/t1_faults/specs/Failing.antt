@@ -42,9 +42,9 @@ abbrev pub missing_subr : Failure → Option ℕ
 missing_subr failure = if is_missing_subr failure.code then subr_told failure.detail else None
 
 -- profile, faults: whether there is a number and it passes a test
-abbrev pub passes : (ℕ → Bool) → Option ℕ → Bool
-passes test None = false
-passes test (Some n) = test n
+abbrev pub is_some_and : (ℕ → Bool) → Option ℕ → Bool
+is_some_and test None = false
+is_some_and test (Some n) = test n
 
 -- profile, faults: whether an item is the Subr of this number, and its words have a fault
 abbrev pub is_faulty_subr : ℕ → Item → Bool
@@ -53,7 +53,7 @@ is_faulty_subr n _ = false
 
 -- profile, faults: a Subr whose words have a fault isn't there for a run; the faults of its words are told in place of that
 abbrev pub told : (ℕ → Bool) → Failure → Option Failure
-told faulty failure = if passes faulty (missing_subr failure) then None else Some failure
+told faulty failure = if is_some_and faulty (missing_subr failure) then None else Some failure
 
 -- profile, faults: the same, of those that are told
 abbrev pub told_by : (ℕ → Bool) → FontBodies → Failures

@@ -1,13 +1,20 @@
 -- The runs of the glyphs of a source, as the code holds them.
-use Rattle.std.specs.Prelude.{ℕ, nat_eq, nat_lt, Bool, ◌||◌, List, [], Option, None, Some}
+use Rattle.std.specs.Prelude.{ℕ, nat_eq, Bool, ◌&&◌, List, [], ◌∷◌, ◌++◌, Option, None, Some}
 use Rattle.std.specs.List.{list_any}
 use Rattle.std.specs.Map.{lookup}
+use Rattle.std.specs.Str.{bytes_eq}
 use Rattle.std.specs.declared.vec.Vec.{Vec}
+use denote.Enum.Bare.{sameb}
+use Rattle.t1_frac.specs.contracts.fault.Code.{the_type}
+use Rattle.t1_frac.specs.declared.fault.Code.{Code}
 use Rattle.t1_font.specs.Bodies.{plain_bodies}
+use Rattle.t1_chain.specs.Machine.{seen}
+use Rattle.t1_faults.specs.declared.call_chains.CallChain.{CallChain}
+use Rattle.t1_faults.specs.declared.failed_run.FailedRun.{FailedRun as FailedFields}
 use Rattle.t1_faults.specs.declared.glyph_runs.GlyphRuns.{GlyphRuns}
 use Rattle.t1_faults.specs.declared.run_fault.RunFault.{RunFault}
 use Rattle.t1_faults.specs.Failing.{Failures, told_by}
-use Rattle.t1_faults.specs.Met.{is_same}
+use Rattle.t1_faults.specs.Met.{FailedRun}
 
 -- word: a number is among these
 abbrev pub has_number : List ℕ → ℕ → Bool
@@ -21,15 +28,31 @@ is_faulty runs = has_number runs.faulty.keys
 abbrev pub failures_of : GlyphRuns → Failures
 failures_of runs = told_by (is_faulty runs) (plain_bodies runs.bodies)
 
+-- word: a failed run as the definitions see it
+abbrev pub seen_run : FailedFields → FailedRun
+seen_run run = record { glyph = run.glyph; failure = seen run.failure }
+
+-- word: the fault that is kept for a glyph's own body
+abbrev pub own_kept : {A : Type 0} → List (Vec ℕ A × RunFault) → List ℕ → Option RunFault
+own_kept entries g = lookup (λ name. bytes_eq g name.items) entries
+
 -- word: the faults that are kept, none where there are none
 abbrev pub faults_kept : {A : Type 0} → Option (Vec RunFault A) → List RunFault
 faults_kept None = []
 faults_kept (Some faults) = faults.items
 
--- word: the faults that are kept of the Subr of this number
-abbrev pub met_at : {A : Type 0} → List (ℕ × Vec RunFault A) → ℕ → List RunFault
-met_at entries n = faults_kept (lookup (nat_eq n) entries)
+-- word: whether a fault has this code
+abbrev pub has_code : Code → RunFault → Bool
+has_code code fault = sameb the_type fault.code code
 
--- word: a fault goes no further than to another one of its body: before it, or into it
-abbrev pub goes_before : RunFault → RunFault → Bool
-goes_before f x = nat_lt f.word x.word || is_same f x
+-- word: a fault with one chain more
+abbrev pub with_chain : CallChain → RunFault → RunFault
+with_chain chain fault = record fault { chains = fault.chains ++ chain ∷ [] }
+
+-- word: whether a key is this word of this Subr
+abbrev pub is_at : ℕ → ℕ → ℕ × ℕ → Bool
+is_at n word key = nat_eq n key.0 && nat_eq word key.1
+
+-- word: the faults that are kept for this word of this Subr
+abbrev pub kept_at : {A : Type 0} → List ((ℕ × ℕ) × Vec RunFault A) → ℕ → ℕ → List RunFault
+kept_at entries n word = faults_kept (lookup (is_at n word) entries)

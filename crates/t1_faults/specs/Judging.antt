@@ -17,10 +17,10 @@ use Rattle.t1_font.specs.Bodies.{bodies_check}
 use Rattle.t1_font.specs.MeasuredGlyphs.{glyph_metrics_at}
 use Rattle.t1_font.specs.SourceChecks.{source_check}
 use Rattle.t1_font.specs.ToRun.{font_to_run}
-use Rattle.t1_faults.specs.Entries.{Entry, entries_from}
-use Rattle.t1_faults.specs.Failing.{Failures, failures_in}
+use Rattle.t1_faults.specs.Entries.{Entry, entries_from, placed_words}
+use Rattle.t1_faults.specs.Failing.{failures_in}
 use Rattle.t1_faults.specs.Found.{at_entry, body_faults, code_of, met_faults}
-use Rattle.t1_faults.specs.Met.{met_after, met_in}
+use Rattle.t1_faults.specs.Met.{FailedRun, failed_runs, faults_at, met_in, own_fault}
 use Rattle.t1_faults.specs.Reading.{at_front, reading_fault}
 use Rattle.t1_faults.specs.declared.found.FoundFault.{FoundFault}
 use Rattle.t1_faults.specs.declared.run_fault.RunFault.{RunFault}
@@ -34,18 +34,18 @@ abbrev pub fault_of : Option (Result Drawing Code) → Option Code
 fault_of None = None
 fault_of (Some run) = code_of run
 
--- profile, faults: the first faults, or the second ones where there is none
-abbrev pub or_if_none : List FoundFault → List FoundFault → List FoundFault
-or_if_none [] second = second
-or_if_none (fault ∷ faults) second = fault ∷ faults
+-- profile, faults: these faults, or else others where there are none
+abbrev pub or_else : List FoundFault → List FoundFault → List FoundFault
+or_else [] others = others
+or_else (fault ∷ faults) others = fault ∷ faults
 
--- profile, faults: the faults that runs met in an entry: a glyph's own run in its body, all runs in a Subr, which has these
-abbrev pub run_faults : Failures → (ℕ → List RunFault) → Entry → List FoundFault
-run_faults failures subrs e = met_faults e (met_in failures subrs e.place)
+-- profile, faults: the faults that runs met in an entry, by those in the own bodies of glyphs and those at the words of Subrs
+abbrev pub run_faults : (List ℕ → Option RunFault) → (ℕ → ℕ → List RunFault) → Entry → List FoundFault
+run_faults in_glyph in_subr e = met_faults e (met_in in_glyph in_subr e.place (length (placed_words e)))
 
--- profile, faults: an entry's own faults: those of its body's words, or if there is none those of runs
-abbrev pub entry_faults : Failures → (ℕ → List RunFault) → Entry → List FoundFault
-entry_faults failures subrs e = or_if_none (body_faults e) (run_faults failures subrs e)
+-- profile, faults: an entry's own faults: those of its body's words, or else those of runs
+abbrev pub entry_faults : (List ℕ → Option RunFault) → (ℕ → ℕ → List RunFault) → Entry → List FoundFault
+entry_faults in_glyph in_subr e = or_else (body_faults e) (run_faults in_glyph in_subr e)
 
 -- profile, faults: F23 of a source whose bodies have no fault, at the front of the source
 abbrev pub file_faults : Result (Unit {0}) Fault → Result (Unit {0}) Fault → List FoundFault
@@ -78,11 +78,11 @@ join_fault run place = None
 abbrev pub join_faults : OwnRuns → Entry → List FoundFault
 join_faults run e = option_to_list (option_map (at_entry e) (join_fault run e.place))
 
--- profile, faults: every fault of a source by its entries and the runs of its glyphs: the entries' own faults, F23, and those of
--- joins
-abbrev pub faults_by : Failures → OwnRuns → SourceParts → List Entry → List FoundFault
-faults_by failures run s entries =
-    flat_map (entry_faults failures (λ n. met_after [] failures n entries)) entries
+-- profile, faults: every fault of a source by its entries and the runs of its glyphs, of which these fail: the entries' own faults,
+-- F23, and those of joins
+abbrev pub faults_by : List FailedRun → OwnRuns → SourceParts → List Entry → List FoundFault
+faults_by failed run s entries =
+    flat_map (entry_faults (own_fault failed) (faults_at failed)) entries
     ++ (file_faults (bodies_check s.items) (file_check s) ++ flat_map (join_faults run) entries)
 
 -- profile, places: the entries of a source in its lines, of which these are the parts; none where the lines have no parts
@@ -90,9 +90,13 @@ abbrev pub entries_in : Result Parts Fault → SourceParts → List Entry
 entries_in (Ok parts) s = entries_from (length s.clear + 1) (take (length parts.private - 1) parts.private) s.items
 entries_in (Err fault) s = []
 
+-- profile, faults: every fault of a source that has these entries
+abbrev pub faults_among : SourceParts → List Entry → List FoundFault
+faults_among s entries = faults_by (failed_runs (failures_in s.items) entries) (own (font_to_run s.items)) s entries
+
 -- profile, faults: every fault of a source that was read of these lines
 abbrev pub faults_of : List (List ℕ) → SourceParts → List FoundFault
-faults_of ls s = faults_by (failures_in s.items) (own (font_to_run s.items)) s (entries_in (parts_of ls) s)
+faults_of ls s = faults_among s (entries_in (parts_of ls) s)
 
 -- profile, faults: every fault of a source that was read of these lines, or the one fault of reading them
 abbrev pub faults_read : List (List ℕ) → Result SourceParts Fault → List FoundFault

@@ -1,75 +1,89 @@
 -- The faults that runs meet, each in the body where it stands.
-use Rattle.std.specs.Prelude.{ℕ, Bool, nat_eq, nat_lt, is_none, ◌-◌, ◌&&◌, ◌==◌, if◌then◌else◌, Option, None, Some, List, [], ◌∷◌, ◌++◌, length, map, option_map, slice_get}
+use Rattle.std.specs.Prelude.{ℕ, Bool, nat_eq, not, is_none, ◌-◌, ◌&&◌, Option, None, Some, List, [], ◌∷◌, length, map, filter_map, flat_map, option_map, slice_get}
+use Rattle.std.specs.List.{filter, find, range_with_len}
+use Rattle.std.specs.Option.{option_to_list}
+use Rattle.std.specs.Str.{bytes_eq}
 use denote.Enum.Bare.{sameb}
 use Rattle.t1_frac.specs.contracts.fault.Code.{the_type}
+use Rattle.t1_frac.specs.declared.fault.Code.{Code}
 use Rattle.t1_frac.specs.declared.fault.Place.{Place}
 use Rattle.t1_frac.specs.declared.fault.Place.TheVariants as places
 use Rattle.t1_chain.specs.declared.failure.Call.{Call}
 use Rattle.t1_chain.specs.Failing.{Failure}
-use Rattle.t1_faults.specs.declared.chains.Chain.{Chain}
+use Rattle.t1_faults.specs.declared.call_chains.CallChain.{CallChain}
 use Rattle.t1_faults.specs.declared.run_fault.RunFault.{RunFault}
 use Rattle.t1_faults.specs.Entries.{Entry}
-use Rattle.t1_faults.specs.Failing.{Failures, passes}
+use Rattle.t1_faults.specs.Failing.{Failures}
+use Rattle.t1_faults.specs.Openings.{is_number}
+
+-- profile, faults: a glyph whose run fails, and where and why
+pub record FailedRun : Type 0 where
+  pub glyph : List ℕ
+  pub failure : Failure
+
+-- profile, faults: the run of an entry, where it is a glyph's and fails
+abbrev pub failed_run : Failures → Place → Option FailedRun
+failed_run failures (places.Glyph g) = option_map (λ failure. record { glyph = g; failure = failure }) (failures g)
+failed_run failures place = None
+
+-- profile, faults: the runs of these entries that fail, in their order
+abbrev pub failed_runs : Failures → List Entry → List FailedRun
+failed_runs failures es = filter_map (λ e. failed_run failures e.place) es
 
 -- profile, faults: the Subr that the last of these calls entered
 abbrev pub last_entered : List Call → Option ℕ
 last_entered calls = option_map (λ call. call.subr) (slice_get calls (length calls - 1))
 
--- profile, faults: a glyph whose run fails, and the Subrs that it had entered, in turn
-abbrev pub chain_of : List ℕ → Failure → Chain
-chain_of g failure = record { glyph = g; subrs = map (λ call. call.subr) failure.calls }
-
--- profile, faults: the fault that a run met, with these chains
-abbrev pub met_with : List Chain → Failure → RunFault
-met_with chains failure = record { word = failure.word; code = failure.code; detail = failure.detail; chains = chains }
+-- profile, faults: the fault of a run that fails so, with these chains
+abbrev pub run_fault : List CallChain → Failure → RunFault
+run_fault chains failure = record { word = failure.word; code = failure.code; detail = failure.detail; chains = chains }
 
 -- ---- in a glyph's own body
 
--- profile, faults: the fault that a run met in the glyph's own body
-abbrev pub met_outside : Option Failure → List RunFault
-met_outside None = []
-met_outside (Some failure) = if is_none (last_entered failure.calls) then met_with [] failure ∷ [] else []
+-- profile, faults: whether this is the run of this glyph, and it fails in the glyph's own body
+abbrev pub fails_in_glyph : List ℕ → FailedRun → Bool
+fails_in_glyph g run = bytes_eq g run.glyph && is_none (last_entered run.failure.calls)
+
+-- profile, faults: the fault that the run of this glyph met in the glyph's own body
+abbrev pub own_fault : List FailedRun → List ℕ → Option RunFault
+own_fault runs g = option_map (λ run. run_fault [] run.failure) (find (fails_in_glyph g) runs)
 
 -- ---- in a Subr
 
--- profile, faults: the fault that the run of this glyph met in the Subr of this number
-abbrev pub met_inside : ℕ → List ℕ → Option Failure → Option RunFault
-met_inside n g None = None
-met_inside n g (Some failure) =
-    if passes (nat_eq n) (last_entered failure.calls) then Some (met_with (chain_of g failure ∷ []) failure) else None
+-- profile, faults: a glyph whose run fails, and the Subrs that it had entered, in turn
+abbrev pub chain_of : FailedRun → CallChain
+chain_of run = record { glyph = run.glyph; subrs = map (λ call. call.subr) run.failure.calls }
 
--- profile, faults: the same of the run of an entry, which a glyph has
-abbrev pub met_by : Failures → ℕ → Place → Option RunFault
-met_by failures n (places.Glyph g) = met_inside n g (failures g)
-met_by failures n place = None
+-- profile, faults: whether a run fails in this Subr, at this word
+abbrev pub fails_at : ℕ → ℕ → FailedRun → Bool
+fails_at n word run = is_number n (last_entered run.failure.calls) && nat_eq word run.failure.word
 
--- profile, faults: two faults of one body are one, where they stand at one word and have one code
-abbrev pub is_same : RunFault → RunFault → Bool
-is_same f x = f.word == x.word && sameb the_type f.code x.code
+-- profile, faults: whether two runs fail by one code
+abbrev pub have_one_code : FailedRun → FailedRun → Bool
+have_one_code run other = sameb the_type run.failure.code other.failure.code
 
--- profile, faults: a fault that was met again, with the chains of both
-abbrev pub met_again : RunFault → RunFault → RunFault
-met_again f x = record x { chains = x.chains ++ f.chains }
+-- profile, faults: of some runs the first one that fails by each code
+abbrev pub first_by_code : List FailedRun → List FailedRun
+first_by_code [] = []
+first_by_code (run ∷ runs) = run ∷ filter (λ other. not (have_one_code run other)) (first_by_code runs)
 
--- profile, faults: a fault among others of its body, in the order of the words; where it is one of them, its chains go there
-abbrev pub among : RunFault → List RunFault → List RunFault
-among f [] = f ∷ []
-among f (x ∷ xs) = if nat_lt f.word x.word then f ∷ x ∷ xs else (if is_same f x then met_again f x ∷ xs else x ∷ among f xs)
+-- profile, faults: the fault of one of some runs, with the chains of all that fail by its code
+abbrev pub shared_fault : List FailedRun → FailedRun → RunFault
+shared_fault runs run = run_fault (map chain_of (filter (have_one_code run) runs)) run.failure
 
--- profile, faults: the same, where a fault was met
-abbrev pub with_met : Option RunFault → List RunFault → List RunFault
-with_met None found = found
-with_met (Some f) found = among f found
+-- profile, faults: the faults that some runs met at one word: one for each code
+abbrev pub faults_by_code : List FailedRun → List RunFault
+faults_by_code runs = map (shared_fault runs) (first_by_code runs)
 
--- profile, faults: the faults that the runs of these entries met in the Subr of this number, after those found before
-abbrev pub met_after : List RunFault → Failures → ℕ → List Entry → List RunFault
-met_after found failures n [] = found
-met_after found failures n (e ∷ es) = met_after (with_met (met_by failures n e.place) found) failures n es
+-- profile, faults: the faults that runs met in this Subr, at this word
+abbrev pub faults_at : List FailedRun → ℕ → ℕ → List RunFault
+faults_at runs n word = faults_by_code (filter (fails_at n word) runs)
 
 -- ---- in an entry
 
--- profile, faults: the faults that runs met in an entry: a glyph's own run in its body, all runs in a Subr
-abbrev pub met_in : Failures → (ℕ → List RunFault) → Place → List RunFault
-met_in failures subrs (places.Glyph g) = met_outside (failures g)
-met_in failures subrs (places.Subr n) = subrs n
-met_in failures subrs place = []
+-- profile, faults: the faults that runs met in an entry of so many words: a glyph's own run in its body, all runs in a Subr, word by
+-- word
+abbrev pub met_in : (List ℕ → Option RunFault) → (ℕ → ℕ → List RunFault) → Place → ℕ → List RunFault
+met_in in_glyph in_subr (places.Glyph g) count = option_to_list (in_glyph g)
+met_in in_glyph in_subr (places.Subr n) count = flat_map (in_subr n) (range_with_len 0 count)
+met_in in_glyph in_subr place count = []

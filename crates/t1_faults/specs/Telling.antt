@@ -10,7 +10,7 @@ use Rattle.t1_run.specs.Run.{Drawing, own}
 use Rattle.t1_font.specs.ToRun.{font_to_run}
 use Rattle.t1_faults.specs.Judging.{OwnRuns}
 use Rattle.t1_faults.specs.Placed.{HasAt}
-use Rattle.t1_faults.specs.declared.chains.Chain.{Chain}
+use Rattle.t1_faults.specs.declared.call_chains.CallChain.{CallChain}
 use Rattle.t1_faults.specs.declared.found.FoundFault.{FoundFault}
 
 -- profile, faults: one of the faults has this code and this place
@@ -26,7 +26,7 @@ StandsOn run (suc depth) g p =
     ⊎ ((d : Drawing) × (c : Composite) × (run g ≡ Some (Ok d)) × (d.composite ≡ Some c) × (StandsOn run depth c.base p ⊎ StandsOn run depth c.accent p))
 
 -- profile, faults: one of these chains is of this glyph
-abbrev pub HasChain : List ℕ → List Chain → Type 0
+abbrev pub HasChain : List ℕ → List CallChain → Type 0
 HasChain g [] = ⊥
 HasChain g (chain ∷ chains) = (chain.glyph ≡ g) ⊎ HasChain g chains
 

@@ -1,18 +1,16 @@
 //! The faults of an entry, each at its word.
 
-ghost use Rattle.std.specs.Prelude.{◌≡◌, ◌++◌, ◌∷◌, [], All, IfOk, OnOk, length};
+ghost use Rattle.std.specs.Prelude.{◌≡◌, ◌++◌, ◌∷◌, [], All, IfOk, OnOk};
 ghost use Rattle.std.specs.Option.{option_to_list};
 ghost use Rattle.t1_frac.specs.Words.{words};
 ghost use Rattle.t1_code.specs.Words.{command_of_word};
 ghost use Rattle.t1_faults.specs.Entries.{entry_of};
-ghost use Rattle.t1_faults.specs.Found.{at_entry, at_word, body_faults, code_of, in_entry};
-ghost use Rattle.t1_faults.specs.Found.{length_faults, met_faults, word_fault, word_faults};
+ghost use Rattle.t1_faults.specs.Found.{at_entry, at_word, body_faults, code_of};
+ghost use Rattle.t1_faults.specs.Found.{length_faults, word_fault, word_faults};
 
-use crate::chains::Chains;
+use crate::call_chains::CallChains;
 use crate::entry_text::EntryText;
-use crate::met::copied_detail;
 use crate::placed::PlacedWord;
-use crate::run_fault::RunFault;
 use std::alloc::{AllocError, Global};
 use t1_chain::Detail;
 use t1_code::{Command, compile_onto};
@@ -34,7 +32,7 @@ pub struct FoundFault<'a> {
     pub detail: Detail,
     /// Of a fault that runs met in a Subr: each glyph that met it, in the order of the source.
     /// Else none.
-    pub chains: Chains,
+    pub chains: CallChains,
 }
 
 /// The most words of a body.
@@ -67,12 +65,12 @@ pub(crate) fn at_entry<'a>(
         column: blank_len(entry.line) + 1,
         word: None,
         detail: Detail::Nothing,
-        chains: Chains::new(alloc),
+        chains: CallChains::new(alloc),
     })
 }
 
 /// A fault of a word, at the word.
-fn at_word<'a>(
+pub(crate) fn at_word<'a>(
     alloc: Global,
     place: &Place,
     word: &PlacedWord<'a>,
@@ -87,7 +85,7 @@ fn at_word<'a>(
         column: word.column,
         word: Some(word.word.copied(alloc)?),
         detail: Detail::Nothing,
-        chains: Chains::new(alloc),
+        chains: CallChains::new(alloc),
     })
 }
 
@@ -170,46 +168,4 @@ pub(crate) fn push_body_faults<'a>(
     let placed = entry.words(alloc)?;
     push_length_fault(alloc, found, entry, &placed)?;
     push_word_faults(alloc, found, &entry.place, &placed)
-}
-
-/// A fault that runs met in an entry of these words: at its word, or at the entry as a whole where
-/// no word is at fault.
-fn in_entry<'a>(
-    alloc: Global,
-    entry: &EntryText,
-    placed: &[PlacedWord<'a>],
-    fault: &RunFault,
-) -> Result<FoundFault<'a>, AllocError>
-    ensures { IfOk result (λ found. found ≡ in_entry (entry_of entry.now) placed.now fault.now) }
-{
-    let found = match placed.get(fault.word) {
-        None => at_entry(alloc, entry, fault.code)?,
-        Some(word) => at_word(alloc, &entry.place, word, fault.code)?,
-    };
-    Ok(FoundFault {
-        code: found.code,
-        place: found.place,
-        line: found.line,
-        column: found.column,
-        word: found.word,
-        detail: copied_detail(alloc, &fault.detail)?,
-        chains: fault.chains.copied(alloc)?,
-    })
-}
-
-/// Adds faults that runs met in an entry.
-pub(crate) fn push_met_faults<'a>(
-    alloc: Global,
-    found: &mut Vec<FoundFault<'a>>,
-    entry: &EntryText<'a>,
-    faults: &[RunFault],
-) -> Result<(), AllocError>
-    ensures { OnOk result (found.new.items
-        ≡ found.old.items ++ met_faults (entry_of entry.now) faults.now) }
-{
-    let placed = entry.words(alloc)?;
-    for fault in faults {
-        found.push(in_entry(alloc, entry, &placed, fault)?)?;
-    }
-    Ok(())
 }

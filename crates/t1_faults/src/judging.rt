@@ -9,91 +9,58 @@ ghost use Rattle.t1_font.specs.Assembly.{file_check};
 ghost use Rattle.t1_font.specs.Bodies.{bodies_check};
 ghost use Rattle.t1_font.specs.Runs.{drawing_in};
 ghost use Rattle.t1_faults.specs.Entries.{entry_of};
-ghost use Rattle.t1_faults.specs.GlyphRuns.{failures_of, met_at};
+ghost use Rattle.t1_faults.specs.GlyphRuns.{kept_at, own_kept};
 ghost use Rattle.t1_faults.specs.Judging.{entries_in, entry_faults, faults_of, file_faults};
-ghost use Rattle.t1_faults.specs.Judging.{join_faults, run_faults, source_faults};
+ghost use Rattle.t1_faults.specs.Judging.{join_faults, source_faults};
 ghost use Rattle.t1_faults.specs.Reading.{fault_in};
 
 use crate::entry::entries_of;
 use crate::entry_text::EntryText;
-use crate::found::{FoundFault, at_entry, push_body_faults, push_met_faults};
-use crate::glyph_runs::GlyphRuns;
+use crate::failing::failed_runs;
+use crate::found::{FoundFault, at_entry, push_body_faults};
 use crate::joins::join_fault;
-use crate::met::{met_in_subrs, met_outside};
+use crate::met::{MetFaults, met_faults};
+use crate::met_at_words::push_run_faults;
 use crate::reading::{at_front, reading_fault};
-use crate::run_fault::RunFault;
 use crate::to_run::glyph_runs;
-use indexmap::IndexMap;
 use std::alloc::{AllocError, Global};
 use t1_font::{Runs, checked_bodies, compiled, measured_glyphs};
-use t1_frac::{Fault, Place, Refusal};
+use t1_frac::{Fault, Refusal};
 use t1_parts::parts_of;
 use t1_source::{Source, read_source};
-
-/// The faults that runs met in a Subr.
-fn met_of(met: &IndexMap<u16, Vec<RunFault>>, subr: u16) -> &[RunFault]
-    ensures { result.now ≡ met_at met.now.entries subr }
-{
-    match met.get(&subr) {
-        None => &[],
-        Some(faults) => faults.as_slice(),
-    }
-}
-
-/// Adds the faults that runs met in an entry: a glyph's own run in its body, all runs in a Subr.
-fn push_run_faults<'a>(
-    alloc: Global,
-    found: &mut Vec<FoundFault<'a>>,
-    runs: &GlyphRuns,
-    met: &IndexMap<u16, Vec<RunFault>>,
-    entry: &EntryText<'a>,
-) -> Result<(), AllocError>
-    ensures { OnOk result (found.new.items ≡ found.old.items
-        ++ run_faults (failures_of runs.now) (met_at met.now.entries) (entry_of entry.now)) }
-{
-    match &entry.place {
-        Place::Subr(number) => push_met_faults(alloc, found, entry, met_of(met, *number)),
-        Place::Glyph(name) => {
-            let faults = met_outside(alloc, runs, name.as_slice())?;
-            push_met_faults(alloc, found, entry, &faults)
-        }
-        _ => Ok(()),
-    }
-}
 
 /// Adds an entry's own faults: those of its body's words, or if there is none those of runs.
 fn push_entry_faults<'a>(
     alloc: Global,
     found: &mut Vec<FoundFault<'a>>,
-    runs: &GlyphRuns,
-    met: &IndexMap<u16, Vec<RunFault>>,
+    met: &MetFaults,
     entry: &EntryText<'a>,
 ) -> Result<(), AllocError>
     ensures { OnOk result (found.new.items ≡ found.old.items
-        ++ entry_faults (failures_of runs.now) (met_at met.now.entries) (entry_of entry.now)) }
+        ++ entry_faults (own_kept met.now.own.entries) (kept_at met.now.in_subrs.entries)
+        (entry_of entry.now)) }
 {
     let before = found.len();
     push_body_faults(alloc, found, entry)?;
     if found.len() > before {
         return Ok(());
     }
-    push_run_faults(alloc, found, runs, met, entry)
+    push_run_faults(alloc, found, met, entry)
 }
 
 /// Adds the own faults of all entries, in their order.
 fn push_own_faults<'a>(
     alloc: Global,
     found: &mut Vec<FoundFault<'a>>,
-    runs: &GlyphRuns,
-    met: &IndexMap<u16, Vec<RunFault>>,
+    met: &MetFaults,
     entries: &[EntryText<'a>],
 ) -> Result<(), AllocError>
     ensures { OnOk result (found.new.items ≡ found.old.items ++ flat_map
-        (entry_faults (failures_of runs.now) (met_at met.now.entries))
+        (entry_faults (own_kept met.now.own.entries) (kept_at met.now.in_subrs.entries))
         (map entry_of entries.now)) }
 {
     for entry in entries {
-        push_entry_faults(alloc, found, runs, met, entry)?;
+        push_entry_faults(alloc, found, met, entry)?;
     }
     Ok(())
 }
@@ -201,9 +168,10 @@ fn faults_of_source<'a>(
 {
     let entries = source_entries(alloc, bytes, source)?;
     let runs = glyph_runs(alloc, source.items())?;
-    let met = met_in_subrs(alloc, &runs, &entries)?;
+    let failed = failed_runs(alloc, &runs, &entries)?;
+    let met = met_faults(alloc, &failed)?;
     let mut found = Vec::new(alloc);
-    push_own_faults(alloc, &mut found, &runs, &met, &entries)?;
+    push_own_faults(alloc, &mut found, &met, &entries)?;
     push_file_fault(alloc, &mut found, source)?;
     push_join_faults(alloc, &mut found, &runs.runs, &entries)?;
     Ok(found)

@@ -2,14 +2,15 @@
 //!
 //! [`source_faults`] gives the list, of which each [`FoundFault`] has its code, its place, its
 //! line and its column, the word that stands there, what it says beside its code
-//! (`t1_chain::Detail`), and the [`Chains`] of calls through which runs met it in a Subr. [`laws`]
-//! says what the list has to do with what `check` reports. Where a source has no fault, the list
-//! costs what `check` costs.
+//! (`t1_chain::Detail`), and the [`CallChains`] of calls through which runs met it in a Subr.
+//! [`laws`] says what the list has to do with what `check` reports. Where a source has no fault,
+//! the list costs what `check` costs.
 #![tactic(auto)]
 
-mod chains;
+mod call_chains;
 mod entry;
 mod entry_text;
+mod failed_run;
 mod failing;
 mod found;
 mod glyph_runs;
@@ -18,13 +19,14 @@ mod joins;
 mod judging;
 pub mod laws;
 mod met;
+mod met_at_words;
 mod opening;
 mod placed;
 mod reading;
 mod run_fault;
 mod to_run;
 
-pub use chains::{Chain, Chains};
+pub use call_chains::{CallChain, CallChains};
 pub use found::FoundFault;
 pub use hint::hint_of;
 pub use judging::source_faults;

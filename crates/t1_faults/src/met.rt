@@ -1,24 +1,25 @@
 //! The faults that runs meet, each in the body where it stands.
 
-ghost use Rattle.std.specs.Prelude.{◌≡◌, ◌≤◌, ◌∷◌, ◌++◌, [], ℕ, None, Some, IfOk, OnOk};
-ghost use Rattle.std.specs.Prelude.{length, map, nat_eq, if◌then◌else◌};
+ghost use Rattle.std.specs.Prelude.{◌≡◌, ◌≤◌, ◌∷◌, ◌++◌, [], ℕ, List, None, Some, IfOk};
+ghost use Rattle.std.specs.Prelude.{OnOk, length, map, if◌then◌else◌};
 ghost use Rattle.std.specs.List.{position_or_len};
+ghost use Rattle.std.specs.Option.{option_or};
+ghost use Rattle.std.specs.Str.{bytes_eq};
 ghost use Rattle.t1_chain.specs.Machine.{seen};
-ghost use Rattle.t1_faults.specs.Entries.{entry_of};
-ghost use Rattle.t1_faults.specs.GlyphRuns.{failures_of, goes_before, met_at};
-ghost use Rattle.t1_faults.specs.Met.{among, chain_of, is_same, last_entered, met_after, met_again};
-ghost use Rattle.t1_faults.specs.Met.{met_by, met_inside, met_outside, met_with, with_met};
+ghost use Rattle.t1_faults.specs.GlyphRuns.{has_code, is_at, kept_at, own_kept, seen_run};
+ghost use Rattle.t1_faults.specs.GlyphRuns.{with_chain};
+ghost use Rattle.t1_faults.specs.Met.{FailedRun as FailedRunOf, chain_of, fails_in_glyph};
+ghost use Rattle.t1_faults.specs.Met.{faults_at, faults_by_code, last_entered, own_fault};
+ghost use Rattle.t1_faults.specs.Met.{run_fault};
 
-use crate::chains::{Chain, Chains};
-use crate::entry_text::EntryText;
-use crate::failing::told_failure;
-use crate::glyph_runs::GlyphRuns;
+use crate::call_chains::{CallChain, CallChains};
+use crate::failed_run::FailedRun;
 use crate::run_fault::RunFault;
 use indexmap::IndexMap;
 use std::alloc::{AllocError, Global};
 use t1_chain::{Call, Detail, Failure};
 use t1_font::SubrNumbers;
-use t1_frac::{Bytes, Place};
+use t1_frac::{Bytes, Code};
 
 /// A copy of what a fault says beside its code.
 pub(crate) fn copied_detail(alloc: Global, detail: &Detail) -> Result<Detail, AllocError>
@@ -29,6 +30,7 @@ pub(crate) fn copied_detail(alloc: Global, detail: &Detail) -> Result<Detail, Al
         Detail::Number(number) => Ok(Detail::Number(*number)),
         Detail::Glyph(name) => Ok(Detail::Glyph(Bytes::copied(alloc, name.as_slice())?)),
         Detail::Values(there, wanted) => Ok(Detail::Values(*there, *wanted)),
+        Detail::Points(recorded) => Ok(Detail::Points(*recorded)),
         Detail::Line(number) => Ok(Detail::Line(*number)),
     }
 }
@@ -55,19 +57,19 @@ fn entered(alloc: Global, calls: &[Call]) -> Result<Vec<u16>, AllocError>
 }
 
 /// A glyph whose run fails, and the Subrs that it had entered.
-fn chain_of(alloc: Global, name: &[u8], failure: &Failure) -> Result<Chain, AllocError>
-    ensures { IfOk result (λ chain. chain ≡ chain_of name.now (seen failure.now)) }
+fn chain_of(alloc: Global, run: &FailedRun) -> Result<CallChain, AllocError>
+    ensures { IfOk result (λ chain. chain ≡ chain_of (seen_run run.now)) }
 {
-    let subrs = entered(alloc, failure.calls.as_slice())?;
-    Ok(Chain {
-        glyph: Bytes::copied(alloc, name)?,
+    let subrs = entered(alloc, run.failure.calls.as_slice())?;
+    Ok(CallChain {
+        glyph: Bytes::copied(alloc, run.glyph.as_slice())?,
         subrs: SubrNumbers::copied(alloc, subrs.as_slice())?,
     })
 }
 
-/// The fault that a run met, with these chains.
-fn met_with(alloc: Global, chains: Chains, failure: &Failure) -> Result<RunFault, AllocError>
-    ensures { IfOk result (λ fault. fault ≡ met_with chains (seen failure.now)) }
+/// The fault of a run that fails so, with these chains.
+fn run_fault(alloc: Global, chains: CallChains, failure: &Failure) -> Result<RunFault, AllocError>
+    ensures { IfOk result (λ fault. fault ≡ run_fault chains (seen failure.now)) }
 {
     Ok(RunFault {
         word: failure.word,
@@ -77,71 +79,76 @@ fn met_with(alloc: Global, chains: Chains, failure: &Failure) -> Result<RunFault
     })
 }
 
-/// The fault that the run of a glyph met in a Subr, with its chain.
-fn met_in_subr(alloc: Global, name: &[u8], failure: &Failure) -> Result<RunFault, AllocError>
-    ensures { IfOk result (λ fault.
-        fault ≡ met_with (chain_of name.now (seen failure.now) ∷ []) (seen failure.now)) }
-{
-    let mut chains = Chains::new(alloc);
-    chains.push(chain_of(alloc, name, failure)?)?;
-    met_with(alloc, chains, failure)
-}
-
-/// Adds the fault that a run met in the glyph's own body, where it failed there.
-fn push_outside(
+/// Keeps the fault of a run that fails so for a glyph that has none.
+fn keep_own(
     alloc: Global,
-    faults: &mut Vec<RunFault>,
+    faults: &mut IndexMap<Vec<u8>, RunFault>,
+    name: &[u8],
     failure: &Failure,
 ) -> Result<(), AllocError>
-    ensures { OnOk result (faults.new.items
-        ≡ faults.old.items ++ met_outside (Some (seen failure.now))) }
+    ensures { OnOk result ((g : List ℕ) → own_kept faults.new.entries g
+        ≡ option_or
+        (own_kept faults.old.entries g)
+        (if bytes_eq g name.now then Some (run_fault [] (seen failure.now)) else None)) }
 {
-    if last_entered(failure).is_some() {
+    let fault = run_fault(alloc, CallChains::new(alloc), failure)?;
+    if faults.contains_key(name) {
         return Ok(());
     }
-    faults.push(met_with(alloc, Chains::new(alloc), failure)?)?;
+    faults.insert(Vec::from_slice(alloc, name)?, fault)?;
     Ok(())
 }
 
-/// The fault that the run of a glyph met in its own body, where it is told.
-pub(crate) fn met_outside(
+/// Keeps the fault of a run that fails in the glyph's own body.
+fn add_own_fault(
     alloc: Global,
-    runs: &GlyphRuns,
-    name: &[u8],
-) -> Result<Vec<RunFault>, AllocError>
-    ensures { IfOk result (λ faults. faults.items ≡ met_outside (failures_of runs.now name.now)) }
+    faults: &mut IndexMap<Vec<u8>, RunFault>,
+    run: &FailedRun,
+) -> Result<(), AllocError>
+    ensures { OnOk result ((g : List ℕ) → own_kept faults.new.entries g
+        ≡ option_or
+        (own_kept faults.old.entries g)
+        (if fails_in_glyph g (seen_run run.now)
+        then Some (run_fault [] (seen run.now.failure)) else None)) }
 {
-    let mut faults = Vec::new(alloc);
-    let Some(failure) = told_failure(alloc, runs, name)? else {
-        return Ok(faults);
-    };
-    push_outside(alloc, &mut faults, &failure)?;
+    if last_entered(&run.failure).is_some() {
+        return Ok(());
+    }
+    keep_own(alloc, faults, run.glyph.as_slice(), &run.failure)?;
+    Ok(())
+}
+
+/// The faults of runs that fail in the glyphs' own bodies, by the glyphs' names.
+fn own_faults(
+    alloc: Global,
+    failed: &[FailedRun],
+) -> Result<IndexMap<Vec<u8>, RunFault>, AllocError>
+    ensures { IfOk result (λ faults. (g : List ℕ) →
+        own_kept faults.entries g ≡ own_fault (map seen_run failed.now) g) }
+{
+    let mut faults = IndexMap::new(alloc);
+    for run in failed {
+        add_own_fault(alloc, &mut faults, run)?;
+    }
     Ok(faults)
 }
 
-/// Whether two faults of one body are one.
-fn is_same(left: &RunFault, right: &RunFault) -> bool
-    ensures { result ≡ is_same left.now right.now }
+/// Whether a fault has this code.
+fn has_code(code: Code, fault: &RunFault) -> bool
+    ensures { result ≡ has_code code fault.now }
 {
-    left.word == right.word && left.code == right.code
+    fault.code == code
 }
 
-/// Whether a fault goes no further than to another one of its body: before it, or into it.
-fn goes_before(fault: &RunFault, other: &RunFault) -> bool
-    ensures { result ≡ goes_before fault.now other.now }
-{
-    fault.word < other.word || is_same(fault, other)
-}
-
-/// Where a fault goes among those of its body.
-fn place_among(faults: &[RunFault], fault: &RunFault) -> usize
+/// Which fault has this code, or how many there are.
+fn place_of_code(code: Code, faults: &[RunFault]) -> usize
     ensures within { result ≤ length faults.now }
-    ensures value { result ≡ position_or_len (goes_before fault.now) faults.now }
+    ensures value { result ≡ position_or_len (has_code code) faults.now }
 {
     let mut at = 0;
     let mut rest = faults;
-    while let Some((other, after)) = rest.split_first() {
-        if goes_before(fault, other) {
+    while let Some((fault, after)) = rest.split_first() {
+        if has_code(code, fault) {
             return at;
         }
         at += 1;
@@ -150,132 +157,141 @@ fn place_among(faults: &[RunFault], fault: &RunFault) -> usize
     at
 }
 
-/// Adds the chains of a fault to those of the same fault.
-fn add_chains(found: &mut RunFault, fault: RunFault) -> Result<(), AllocError>
-    ensures { OnOk result (found.new ≡ met_again fault found.old) }
+/// The fault of a run that fails in a Subr, with its chain.
+fn first_fault(alloc: Global, run: &FailedRun) -> Result<RunFault, AllocError>
+    ensures { IfOk result (λ fault.
+        fault ≡ run_fault (chain_of (seen_run run.now) ∷ []) (seen run.now.failure)) }
 {
-    found.chains.append(fault.chains)
+    let mut chains = CallChains::new(alloc);
+    chains.push(chain_of(alloc, run)?)?;
+    run_fault(alloc, chains, &run.failure)
 }
 
-/// Adds a fault to those of its body, in the order of the words; where it is one of them, its
-/// chains alone.
-fn add_fault(faults: &mut Vec<RunFault>, fault: RunFault) -> Result<(), AllocError>
-    ensures { OnOk result (faults.new.items ≡ among fault faults.old.items) }
+/// Adds a chain to those of a fault.
+fn add_chain(fault: &mut RunFault, chain: CallChain) -> Result<(), AllocError>
+    ensures { OnOk result (fault.new ≡ with_chain chain fault.old) }
 {
-    let at = place_among(faults, &fault);
-    if at < faults.len() && is_same(&fault, &faults[at]) {
-        add_chains(&mut faults[at], fault)?;
+    fault.chains.push(chain)
+}
+
+/// Adds a run to those that fail at a word of a Subr, of which these are the faults: its chain, or
+/// a fault where none has its code.
+fn add_run(alloc: Global, faults: &mut Vec<RunFault>, run: &FailedRun) -> Result<(), AllocError>
+    ensures { OnOk result ((runs : List FailedRunOf) →
+        faults.old.items ≡ faults_by_code runs →
+        faults.new.items ≡ faults_by_code (runs ++ seen_run run.now ∷ [])) }
+{
+    let at = place_of_code(run.failure.code, faults);
+    if at < faults.len() {
+        let chain = chain_of(alloc, run)?;
+        add_chain(&mut faults[at], chain)?;
         return Ok(());
     }
-    faults.insert(at, fault)?;
+    faults.push(first_fault(alloc, run)?)?;
     Ok(())
 }
 
-/// Takes out the faults that are kept of a Subr.
-fn taken(alloc: Global, met: &mut IndexMap<u16, Vec<RunFault>>, subr: u16) -> Vec<RunFault>
-    ensures taken { result.items ≡ met_at met.old.entries subr }
-    ensures others { (n : ℕ) →
-        met_at met.new.entries n ≡ (if nat_eq subr n then [] else met_at met.old.entries n) }
+/// Takes out the faults that are kept for a word of a Subr.
+fn taken(
+    alloc: Global,
+    met: &mut IndexMap<(u16, usize), Vec<RunFault>>,
+    subr: u16,
+    word: usize,
+) -> Vec<RunFault>
+    ensures taken { result.items ≡ kept_at met.old.entries subr word }
+    ensures others { (n k : ℕ) → kept_at met.new.entries n k
+        ≡ (if is_at n k (subr, word) then [] else kept_at met.old.entries n k) }
 {
-    match met.swap_remove(&subr) {
+    match met.swap_remove(&(subr, word)) {
         Some(faults) => faults,
         None => Vec::new(alloc),
     }
 }
 
-/// Keeps the faults of a Subr, in the place of those before.
+/// Keeps the faults of a word of a Subr, in the place of those before.
 fn keep(
-    met: &mut IndexMap<u16, Vec<RunFault>>,
+    met: &mut IndexMap<(u16, usize), Vec<RunFault>>,
     subr: u16,
+    word: usize,
     faults: Vec<RunFault>,
 ) -> Result<(), AllocError>
-    ensures { OnOk result ((n : ℕ) → met_at met.new.entries n
-        ≡ (if nat_eq n subr then faults.items else met_at met.old.entries n)) }
+    ensures { OnOk result ((n k : ℕ) → kept_at met.new.entries n k
+        ≡ (if is_at n k (subr, word) then faults.items else kept_at met.old.entries n k)) }
 {
-    met.insert(subr, faults)?;
+    met.insert((subr, word), faults)?;
     Ok(())
 }
 
-/// Adds a fault that a run met in a Subr.
-fn add_met(
+/// Adds a run that fails at a word of a Subr to those that are kept.
+fn add_at(
     alloc: Global,
-    met: &mut IndexMap<u16, Vec<RunFault>>,
+    met: &mut IndexMap<(u16, usize), Vec<RunFault>>,
     subr: u16,
-    fault: RunFault,
+    run: &FailedRun,
 ) -> Result<(), AllocError>
-    ensures { OnOk result ((n : ℕ) → met_at met.new.entries n
-        ≡ with_met (if nat_eq n subr then Some fault else None) (met_at met.old.entries n)) }
+    ensures { OnOk result ((n k : ℕ) (runs : List FailedRunOf) →
+        kept_at met.old.entries n k ≡ faults_by_code runs →
+        kept_at met.new.entries n k
+        ≡ faults_by_code
+        (if is_at n k (subr, run.now.failure.word) then runs ++ seen_run run.now ∷ [] else runs)) }
 {
-    let mut faults = taken(alloc, met, subr);
-    add_fault(&mut faults, fault)?;
-    keep(met, subr, faults)?;
+    let word = run.failure.word;
+    let mut faults = taken(alloc, met, subr, word);
+    add_run(alloc, &mut faults, run)?;
+    keep(met, subr, word, faults)?;
     Ok(())
 }
 
-/// Adds what the run of a glyph that fails so met in a Subr.
-fn add_failure(
+/// Adds a run to those that are kept, where it fails in a Subr.
+fn add_in_subr(
     alloc: Global,
-    met: &mut IndexMap<u16, Vec<RunFault>>,
-    name: &[u8],
-    failure: &Failure,
+    met: &mut IndexMap<(u16, usize), Vec<RunFault>>,
+    run: &FailedRun,
 ) -> Result<(), AllocError>
-    ensures { OnOk result ((n : ℕ) → met_at met.new.entries n
-        ≡ with_met (met_inside n name.now (Some (seen failure.now))) (met_at met.old.entries n)) }
+    ensures { OnOk result ((n k : ℕ) (runs : List FailedRunOf) →
+        kept_at met.old.entries n k ≡ faults_at runs n k →
+        kept_at met.new.entries n k ≡ faults_at (runs ++ seen_run run.now ∷ []) n k) }
 {
-    let Some(subr) = last_entered(failure) else {
+    let Some(subr) = last_entered(&run.failure) else {
         return Ok(());
     };
-    let fault = met_in_subr(alloc, name, failure)?;
-    add_met(alloc, met, subr, fault)?;
+    add_at(alloc, met, subr, run)?;
     Ok(())
 }
 
-/// Adds what the run of a glyph met in a Subr, where it is told.
-fn add_met_by_glyph(
+/// The faults of runs that fail in Subrs, by the numbers of the Subrs and of their words.
+fn faults_in_subrs(
     alloc: Global,
-    met: &mut IndexMap<u16, Vec<RunFault>>,
-    runs: &GlyphRuns,
-    name: &[u8],
-) -> Result<(), AllocError>
-    ensures { OnOk result ((n : ℕ) → met_at met.new.entries n
-        ≡ with_met
-        (met_inside n name.now (failures_of runs.now name.now))
-        (met_at met.old.entries n)) }
-{
-    match told_failure(alloc, runs, name)? {
-        None => Ok(()),
-        Some(failure) => add_failure(alloc, met, name, &failure),
-    }
-}
-
-/// Adds what the run of an entry met in a Subr, where it is a glyph's.
-fn add_met_by(
-    alloc: Global,
-    met: &mut IndexMap<u16, Vec<RunFault>>,
-    runs: &GlyphRuns,
-    place: &Place,
-) -> Result<(), AllocError>
-    ensures { OnOk result ((n : ℕ) → met_at met.new.entries n
-        ≡ with_met (met_by (failures_of runs.now) n place.now) (met_at met.old.entries n)) }
-{
-    match place {
-        Place::Glyph(name) => add_met_by_glyph(alloc, met, runs, name.as_slice()),
-        _ => Ok(()),
-    }
-}
-
-/// The faults that the runs of entries met in Subrs, by the numbers of the Subrs.
-pub(crate) fn met_in_subrs(
-    alloc: Global,
-    runs: &GlyphRuns,
-    entries: &[EntryText],
-) -> Result<IndexMap<u16, Vec<RunFault>>, AllocError>
-    ensures { IfOk result (λ met. (n : ℕ) → met_at met.entries n
-        ≡ met_after [] (failures_of runs.now) n (map entry_of entries.now)) }
+    failed: &[FailedRun],
+) -> Result<IndexMap<(u16, usize), Vec<RunFault>>, AllocError>
+    ensures { IfOk result (λ met. (n k : ℕ) →
+        kept_at met.entries n k ≡ faults_at (map seen_run failed.now) n k) }
 {
     let mut met = IndexMap::new(alloc);
-    for entry in entries {
-        add_met_by(alloc, &mut met, runs, &entry.place)?;
+    for run in failed {
+        add_in_subr(alloc, &mut met, run)?;
     }
     Ok(met)
+}
+
+/// The faults that runs met.
+#[derive(Drop)]
+pub(crate) struct MetFaults {
+    /// In the own bodies of glyphs, by the glyphs' names.
+    pub own: IndexMap<Vec<u8>, RunFault>,
+    /// In Subrs, by their numbers and the numbers of their words, from 0.
+    pub in_subrs: IndexMap<(u16, usize), Vec<RunFault>>,
+}
+
+/// The faults that these runs met.
+pub(crate) fn met_faults(alloc: Global, failed: &[FailedRun]) -> Result<MetFaults, AllocError>
+    ensures own { IfOk result (λ met. (g : List ℕ) →
+        own_kept met.own.entries g ≡ own_fault (map seen_run failed.now) g) }
+    ensures in_subrs { IfOk result (λ met. (n k : ℕ) →
+        kept_at met.in_subrs.entries n k ≡ faults_at (map seen_run failed.now) n k) }
+{
+    Ok(MetFaults {
+        own: own_faults(alloc, failed)?,
+        in_subrs: faults_in_subrs(alloc, failed)?,
+    })
 }

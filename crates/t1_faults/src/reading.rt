@@ -5,7 +5,7 @@ ghost use Rattle.std.specs.List.{slice_index_or};
 ghost use Rattle.t1_text.specs.Lines.{lines};
 ghost use Rattle.t1_faults.specs.Reading.{at_front, on_line, reading_fault};
 
-use crate::chains::Chains;
+use crate::call_chains::CallChains;
 use crate::found::FoundFault;
 use crate::opening::detail_on;
 use std::alloc::Global;
@@ -44,7 +44,7 @@ fn on_line(alloc: Global, bytes: &[u8], code: Code, number: u64) -> FoundFault<'
         column: blank_len(line) + 1,
         word: Some(SourceText::borrowed(trimmed(line))),
         detail: detail_on(bytes, code, line),
-        chains: Chains::new(alloc),
+        chains: CallChains::new(alloc),
     }
 }
 
@@ -59,7 +59,7 @@ pub(crate) fn at_front<'a>(alloc: Global, code: Code, place: Place) -> FoundFaul
         column: 1,
         word: None,
         detail: Detail::Nothing,
-        chains: Chains::new(alloc),
+        chains: CallChains::new(alloc),
     }
 }
 

@@ -1,6 +1,6 @@
 //! A fault that runs met.
 
-use crate::chains::Chains;
+use crate::call_chains::CallChains;
 use t1_chain::Detail;
 use t1_frac::Code;
 
@@ -11,5 +11,5 @@ pub(crate) struct RunFault {
     pub word: usize,
     pub code: Code,
     pub detail: Detail,
-    pub chains: Chains,
+    pub chains: CallChains,
 }

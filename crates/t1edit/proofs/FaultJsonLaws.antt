@@ -8,9 +8,9 @@ use Rattle.serde_json.specs.Data.{Data, number, unsigned, string, Members, membe
 use Rattle.serde_json.specs.View.{items_of}
 use Rattle.serde_json.specs.Written.{has_float, items_have_float, members_have_float}
 use Rattle.t1_commands.specs.AnswerTexts.{code_name, place_text}
-use Rattle.t1_faults.specs.declared.chains.Chain.{Chain}
+use Rattle.t1_faults.specs.declared.call_chains.CallChain.{CallChain}
 use Rattle.t1_faults.specs.declared.found.FoundFault.{FoundFault}
-use Rattle.t1edit.specs.FaultHints.{hint}
+use Rattle.t1_fault_texts.specs.Hints.{hint}
 use Rattle.t1edit.specs.FaultJson.{chain_data, chains_data, fault_data, place_data, subr_data, text_data, text_or_null, word_data}
 
 of_text : (bytes : List ℕ) → has_float (text_or_null bytes) ≡ false
@@ -29,7 +29,7 @@ of_subrs : (subrs : List ℕ) → items_have_float (items_of (map subr_data subr
 of_subrs [] = refl
 of_subrs (n ∷ subrs) = of_subrs subrs
 
-of_chains : (chains : List Chain) → items_have_float (items_of (map chain_data chains)) ≡ false
+of_chains : (chains : List CallChain) → items_have_float (items_of (map chain_data chains)) ≡ false
 of_chains [] = refl
 of_chains (chain ∷ chains) = both (has_float (chain_data chain)) _ (of_subrs chain.subrs) (of_chains chains)
 

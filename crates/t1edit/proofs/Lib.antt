@@ -1,6 +1,7 @@
 mod FaultJsonLaws
 mod InTurn
 mod Lines
+mod NumberedLaws
 mod ReportsInTurn
 mod ShownLaws
 mod Sources

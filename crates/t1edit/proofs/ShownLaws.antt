@@ -7,7 +7,7 @@ use Rattle.std.proofs.lemmas.Str.Ascii.{IsAscii-cons, IsAscii-nil}
 use Rattle.hex.specs.Hex.{encode_lower, lower_digits}
 use Rattle.hex.proofs.HexLemmas.{IsAscii-encode_with}
 use Rattle.t1_frac.specs.Ascii.{space}
-use Rattle.t1edit.specs.Shown.{shown, shown_byte}
+use Rattle.t1_fault_texts.specs.Shown.{shown, shown_byte}
 
 ascii_digits : IsAscii lower_digits
 ascii_digits =

@@ -6,10 +6,10 @@ use Rattle.serde_json.specs.Written.{compact_text}
 use Rattle.t1_frac.specs.declared.fault.Place.{Place}
 use Rattle.t1_frac.specs.declared.fault.Place.TheVariants.{Subr, Glyph}
 use Rattle.t1_commands.specs.AnswerTexts.{code_name, place_text}
-use Rattle.t1_faults.specs.declared.chains.Chain.{Chain}
+use Rattle.t1_faults.specs.declared.call_chains.CallChain.{CallChain}
 use Rattle.t1_faults.specs.declared.found.FoundFault.{FoundFault}
-use Rattle.t1edit.specs.FaultHints.{hint}
-use Rattle.t1edit.specs.Shown.{shown}
+use Rattle.t1_fault_texts.specs.Hints.{hint}
+use Rattle.t1_fault_texts.specs.Shown.{shown}
 
 -- profile, faults: bytes as a string, as they are shown
 abbrev pub text_data : List ℕ → Data
@@ -34,11 +34,11 @@ abbrev pub subr_data : ℕ → Data
 subr_data n = place_data (Subr n)
 
 -- profile, faults: a glyph and the Subrs that it calls in turn
-abbrev pub chain_data : Chain → Data
+abbrev pub chain_data : CallChain → Data
 chain_data chain = array (item (place_data (Glyph chain.glyph)) (items_of (map subr_data chain.subrs)))
 
 -- profile, faults: all such chains
-abbrev pub chains_data : List Chain → Data
+abbrev pub chains_data : List CallChain → Data
 chains_data chains = array (items_of (map chain_data chains))
 
 -- profile, faults: members with where a fault stands

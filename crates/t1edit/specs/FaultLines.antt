@@ -7,10 +7,10 @@ use Rattle.t1_frac.specs.declared.fault.Place.TheVariants.{Nowhere}
 use Rattle.t1_commands.specs.AnswerTexts.{code_name, place_text}
 use Rattle.t1_command_line.specs.Topics.{meaning}
 use Rattle.t1_command_line.specs.declared.topic.Section.{Section}
-use Rattle.t1_faults.specs.declared.chains.Chain.{Chain}
+use Rattle.t1_faults.specs.declared.call_chains.CallChain.{CallChain}
 use Rattle.t1_faults.specs.declared.found.FoundFault.{FoundFault}
-use Rattle.t1edit.specs.FaultHints.{hint}
-use Rattle.t1edit.specs.Shown.{shown}
+use Rattle.t1_fault_texts.specs.Hints.{hint}
+use Rattle.t1_fault_texts.specs.Shown.{shown}
 
 -- profile, faults: where a fault stands, in the form that editors read
 abbrev pub position_text : List ℕ → FoundFault → List ℕ
@@ -62,7 +62,7 @@ abbrev pub call_text : ℕ → List ℕ
 call_text n = codes ", subr " ++ decimal n
 
 -- profile, faults: the line of a glyph that met a fault in a Subr, and of the calls on the way
-abbrev pub chain_line : Chain → List ℕ
+abbrev pub chain_line : CallChain → List ℕ
 chain_line chain = codes "    in glyph " ++ (chain.glyph ++ (flat_map call_text chain.subrs ++ codes "\n"))
 
 -- profile, faults: all lines of a fault

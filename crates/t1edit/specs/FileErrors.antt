@@ -5,7 +5,7 @@ use Rattle.t1_disassemble.specs.declared.fault.FontRefusal.{FontRefusal}
 use Rattle.t1_disassemble.specs.declared.fault.FontRefusal.TheVariants as refusals
 use Rattle.t1_session.specs.declared.error.ServeError.{ServeError}
 use Rattle.t1_session.specs.declared.error.ServeError.TheVariants.{Load, Read, Write, Memory}
-use Rattle.t1edit.specs.FontFaults.{font_fault_text}
+use Rattle.t1_fault_texts.specs.FontFaults.{font_fault_text}
 use Rattle.t1edit.specs.declared.file_error.FileError.{FileError}
 use Rattle.t1edit.specs.declared.file_error.FileError.TheVariants.{Served, Font}
 

@@ -1,11 +1,9 @@
 -- The faults of sources and of kerning files.
-use Rattle.std.specs.Prelude.{ℕ, Bool, true, false, not, ◌==◌, Result, Ok, Err, List, [], ◌∷◌, length}
-use Rattle.t1_frac.specs.declared.fault.Fault.{Fault}
+use Rattle.std.specs.Prelude.{ℕ, Bool, true, false, not, ◌==◌, List, length}
 use Rattle.t1_text.specs.Lines.{lines}
-use Rattle.t1_pairs.specs.Kerning.{pairs}
 use Rattle.t1_command_line.specs.declared.topic.Section.{Section}
+use Rattle.t1_fault_texts.specs.Finding.{pairs_faults}
 use Rattle.t1_faults.specs.Judging.{source_faults}
-use Rattle.t1_faults.specs.Reading.{reading_fault}
 use Rattle.t1_faults.specs.declared.found.FoundFault.{FoundFault}
 use Rattle.t1edit.specs.FaultJson.{faults_json}
 use Rattle.t1edit.specs.FaultLines.{faults_lines}
@@ -18,15 +16,6 @@ use Rattle.t1edit.specs.declared.finding.Sought.TheVariants as sought
 abbrev pub layout_of : Bool → Layout
 layout_of true = layouts.Json
 layout_of false = layouts.Lines
-
--- profile, faults: the fault of reading pairs, where they have one
-abbrev pub first_fault : {X : Type 0} → List (List ℕ) → Result X Fault → List FoundFault
-first_fault ls (Ok read) = []
-first_fault ls (Err fault) = reading_fault ls fault ∷ []
-
--- profile, faults: the fault of a kerning file, where it has one
-abbrev pub pairs_faults : List ℕ → List FoundFault
-pairs_faults bytes = first_fault (lines bytes) (pairs bytes)
 
 -- profile, faults: what is sought in a text: every fault of a source, or that of a kerning file
 abbrev pub faults_in : Sought → List ℕ → List FoundFault

@@ -2,17 +2,14 @@ pub mod Assembling
 pub mod Checking
 pub mod Disassembling
 pub mod Explaining
-pub mod FaultHints
 pub mod FaultJson
 pub mod FaultLines
 pub mod FileErrors
 pub mod Finding
-pub mod FontFaults
 pub mod Noting
 pub mod Reading
 pub mod Reporting
 pub mod Several
-pub mod Shown
 pub mod Sources
 pub mod Status
 pub mod Writing

@@ -4,17 +4,15 @@ ghost use Rattle.serde_json.specs.Data.{put as put_into, string};
 ghost use Rattle.serde_json.specs.View.{members_view, view};
 ghost use Rattle.serde_json.specs.Written.{compact_text};
 ghost use Rattle.t1_commands.specs.AnswerTexts.{code_name as code_of};
-ghost use Rattle.t1edit.specs.FaultHints.{hint};
+ghost use Rattle.t1_fault_texts.specs.Hints.{hint};
 ghost use Rattle.t1edit.specs.FaultJson.{chain_data, chains_data, fault_data, fault_json};
 ghost use Rattle.t1edit.specs.FaultJson.{faults_json, place_data, subr_data, text_data};
 ghost use Rattle.t1edit.specs.FaultJson.{text_or_null, with_fault, with_position, word_data};
 
-use crate::fault_hint::hint_on;
-use crate::fault_name::{code_name, push_place};
-use crate::shown_bytes::push_shown;
 use serde_json::{Map, Value, put};
 use std::alloc::{AllocError, Global};
-use t1_faults::{Chain, FoundFault};
+use t1_fault_texts::{code_name, hint_on, push_place, push_shown};
+use t1_faults::{CallChain, FoundFault};
 use t1_frac::{Bytes, Code, Place, SourceText};
 
 /// Bytes as a string, as they are shown.
@@ -82,7 +80,7 @@ fn push_subrs(alloc: Global, list: &mut Vec<Value>, subrs: &[u16]) -> Result<(),
 }
 
 /// A glyph, and the Subrs that it calls in turn.
-fn chain_value(alloc: Global, chain: &Chain) -> Result<Value, AllocError>
+fn chain_value(alloc: Global, chain: &CallChain) -> Result<Value, AllocError>
     ensures { IfOk result (λ value. view value ≡ chain_data chain.now) }
 {
     let glyph = Place::Glyph(Bytes::copied(alloc, chain.glyph.as_slice())?);
@@ -93,7 +91,7 @@ fn chain_value(alloc: Global, chain: &Chain) -> Result<Value, AllocError>
 }
 
 /// Adds chains of calls.
-fn push_chains(alloc: Global, list: &mut Vec<Value>, chains: &[Chain]) -> Result<(), AllocError>
+fn push_chains(alloc: Global, list: &mut Vec<Value>, chains: &[CallChain]) -> Result<(), AllocError>
     ensures { OnOk result (map view list.new.items ≡ map view list.old.items ++ map chain_data
         chains.now) }
 {
@@ -104,7 +102,7 @@ fn push_chains(alloc: Global, list: &mut Vec<Value>, chains: &[Chain]) -> Result
 }
 
 /// All chains of calls.
-fn chains_value(alloc: Global, chains: &[Chain]) -> Result<Value, AllocError>
+fn chains_value(alloc: Global, chains: &[CallChain]) -> Result<Value, AllocError>
     ensures { IfOk result (λ value. view value ≡ chains_data chains.now) }
 {
     let mut list = Vec::new(alloc);

@@ -5,14 +5,12 @@ ghost use Rattle.t1edit.specs.FaultLines.{after_colon, call_text, chain_line, ex
 ghost use Rattle.t1edit.specs.FaultLines.{faults_lines, head_line, in_brackets, marked_line, marks};
 ghost use Rattle.t1edit.specs.FaultLines.{position_text, short_line, title_text, under};
 
-use crate::fault_hint::hint_on;
-use crate::fault_name::{code_name, push_place};
-use crate::numbered_lines::{lines_of, numbered_line};
-use crate::shown_bytes::push_shown;
+use crate::numbered_lines::NumberedLines;
 use itoa::Buffer;
 use std::alloc::{AllocError, Global};
 use t1_command_line::{Section, meaning};
-use t1_faults::{Chain, FoundFault};
+use t1_fault_texts::{code_name, hint_on, push_place, push_shown};
+use t1_faults::{CallChain, FoundFault};
 use t1_frac::{Place, SourceText};
 
 /// The longest line that is shown.
@@ -179,16 +177,17 @@ fn push_short(
 /// Adds the line of a fault with marks under its word; nothing where it stands nowhere.
 fn push_excerpt(
     text: &mut Vec<u8>,
-    lines: &[SourceText<'_>],
+    lines: &mut NumberedLines<'_>,
     fault: &FoundFault<'_>,
 ) -> Result<(), AllocError>
-    ensures { OnOk result (text.new.items ≡ text.old.items ++ excerpt fault.now.place lines.now
-        fault.now) }
+    ensures text { OnOk result (text.new.items
+        ≡ text.old.items ++ excerpt fault.now.place lines.old fault.now) }
+    ensures lines { lines.new ≡ lines.old }
 {
     match &fault.place {
         Place::Nowhere => Ok(()),
         _ => {
-            let line = numbered_line(lines, fault.line);
+            let line = lines.line(fault.line);
             push_short(text, line, fault.column, &fault.word)
         }
     }
@@ -207,7 +206,7 @@ fn push_calls(text: &mut Vec<u8>, subrs: &[u16]) -> Result<(), AllocError>
 }
 
 /// Adds the line of a glyph that met a fault in a Subr: `    in glyph H, subr 4, subr 9`.
-fn push_chain(text: &mut Vec<u8>, chain: &Chain) -> Result<(), AllocError>
+fn push_chain(text: &mut Vec<u8>, chain: &CallChain) -> Result<(), AllocError>
     ensures { OnOk result (text.new.items ≡ text.old.items ++ chain_line chain.now) }
 {
     text.extend_from_slice(b"    in glyph ")?;
@@ -218,7 +217,7 @@ fn push_chain(text: &mut Vec<u8>, chain: &Chain) -> Result<(), AllocError>
 }
 
 /// Adds the lines of the glyphs that met a fault in a Subr.
-fn push_chains(text: &mut Vec<u8>, chains: &[Chain]) -> Result<(), AllocError>
+fn push_chains(text: &mut Vec<u8>, chains: &[CallChain]) -> Result<(), AllocError>
     ensures { OnOk result (text.new.items ≡ text.old.items ++ flat_map chain_line chains.now) }
 {
     for chain in chains {
@@ -233,33 +232,16 @@ fn push_fault(
     text: &mut Vec<u8>,
     path: &[u8],
     sections: &[Section],
-    lines: &[SourceText<'_>],
+    lines: &mut NumberedLines<'_>,
     fault: &FoundFault<'_>,
 ) -> Result<(), AllocError>
-    ensures { OnOk result (text.new.items ≡ text.old.items ++ fault_lines path.now sections.now
-        lines.now fault.now) }
+    ensures text { OnOk result (text.new.items
+        ≡ text.old.items ++ fault_lines path.now sections.now lines.old fault.now) }
+    ensures lines { lines.new ≡ lines.old }
 {
     push_head(alloc, text, path, sections, fault)?;
     push_excerpt(text, lines, fault)?;
     push_chains(text, fault.chains.as_slice())
-}
-
-/// Adds all lines of some faults, of a file that has these lines.
-fn push_faults(
-    alloc: Global,
-    text: &mut Vec<u8>,
-    path: &[u8],
-    sections: &[Section],
-    lines: &[SourceText<'_>],
-    faults: &[FoundFault<'_>],
-) -> Result<(), AllocError>
-    ensures { OnOk result (text.new.items ≡ text.old.items ++ faults_lines path.now sections.now
-        lines.now faults.now) }
-{
-    for fault in faults {
-        push_fault(alloc, text, path, sections, lines, fault)?;
-    }
-    Ok(())
 }
 
 /// All lines of the faults of a file of this name and these bytes.
@@ -273,11 +255,10 @@ pub fn faults_lines(
     ensures { IfOk result (λ text. text.items ≡ faults_lines path.now sections.now
         (lines source.now) faults.now) }
 {
+    let mut lines = NumberedLines::of(source);
     let mut text = Vec::new(alloc);
-    if faults.is_empty() {
-        return Ok(text);
+    for fault in faults {
+        push_fault(alloc, &mut text, path, sections, &mut lines, fault)?;
     }
-    let lines = lines_of(alloc, source)?;
-    push_faults(alloc, &mut text, path, sections, &lines, faults)?;
     Ok(text)
 }

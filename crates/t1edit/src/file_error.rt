@@ -4,11 +4,11 @@ ghost use Rattle.t1_code.specs.Counted.{Writes};
 ghost use Rattle.t1edit.specs.FileErrors.{file_error_text, served, status_of_file};
 ghost use Rattle.t1edit.specs.Status.{line_with};
 
-use crate::font_fault::put_font_fault;
 use crate::status::{FAULT, report, status_of};
 use std::io::{self, Write};
 use t1_code::Counted;
 use t1_disassemble::{FontFault, FontRefusal};
+use t1_fault_texts::put_font_fault;
 use t1_session::ServeError;
 
 /// Why a call over the bytes of a file stops before its end.
@@ -55,7 +55,7 @@ pub fn put_file_error<W: Write>(
 {
     match error {
         FileError::Served(error) => report(front, error, writer),
-        FileError::Font(fault) => put_font_fault(front, fault, writer),
+        FileError::Font(fault) => put_font_fault(writer, front, fault, b"\n"),
     }
 }
 

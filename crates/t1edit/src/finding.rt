@@ -1,16 +1,14 @@
 //! The faults of sources and of kerning files.
-ghost use Rattle.std.specs.Prelude.{◌≡◌, ◌∷◌, [], IfOk};
+ghost use Rattle.std.specs.Prelude.{◌≡◌, IfOk};
 ghost use Rattle.t1edit.specs.Finding.{faults_in, faults_on, has_faults, laid_out, layout_of};
-ghost use Rattle.t1edit.specs.Finding.{pairs_faults};
 
 use crate::fault_json::faults_json;
 use crate::fault_lines::faults_lines;
 use crate::reporting::{Report, Told};
 use std::alloc::{AllocError, Global};
 use t1_command_line::Section;
-use t1_faults::{FoundFault, reading_fault, source_faults};
-use t1_frac::Refusal;
-use t1_pairs::read_pairs;
+use t1_fault_texts::pairs_faults;
+use t1_faults::{FoundFault, source_faults};
 
 /// How faults are laid out.
 #[derive(Clone, Copy, Debug, PartialEq, Eq)]
@@ -35,26 +33,6 @@ pub enum Sought {
     Source,
     /// The fault of a kerning file.
     Pairs,
-}
-
-/// A list of one fault.
-fn one_fault<'a>(alloc: Global, fault: FoundFault<'a>) -> Result<Vec<FoundFault<'a>>, AllocError>
-    ensures { IfOk result (λ found. found.items ≡ fault.entry ∷ []) }
-{
-    let mut found = Vec::new(alloc);
-    found.push(fault)?;
-    Ok(found)
-}
-
-/// The fault of a kerning file, where it has one.
-fn pairs_faults(alloc: Global, bytes: &[u8]) -> Result<Vec<FoundFault<'_>>, AllocError>
-    ensures { IfOk result (λ found. found.items ≡ pairs_faults bytes.now) }
-{
-    match read_pairs(alloc, bytes) {
-        Ok(_) => Ok(Vec::new(alloc)),
-        Err(Refusal::Fault(fault)) => one_fault(alloc, reading_fault(alloc, bytes, fault)),
-        Err(Refusal::Memory) => Err(AllocError),
-    }
 }
 
 /// The faults of a file, of the kind that is sought.

@@ -6,16 +6,14 @@ mod checking;
 mod disassembling;
 mod draft;
 mod explaining;
-mod fault_hint;
 mod fault_json;
 mod fault_lines;
-mod fault_name;
 mod file_error;
 mod finding;
-mod font_fault;
 mod identity;
 mod input;
 mod kind;
+mod line;
 mod links;
 mod measuring;
 mod noting;
@@ -25,7 +23,6 @@ mod overwriting;
 mod reporting;
 mod serving;
 mod several;
-mod shown_bytes;
 mod status;
 mod unopened;
 
@@ -242,14 +239,20 @@ fn faults(rt: &HostRuntime, matches: &ArgMatches<'_>) -> Result<(), Stop> {
     told(report(rt, &of_sources, asked_kind(matches), true, sources).max(worst))
 }
 
-/// Writes the notes on sources.
+/// Writes the notes on sources, and on a kerning file where one is named.
 fn notes(rt: &HostRuntime, matches: &ArgMatches<'_>) -> Result<(), Stop> {
     let Some(sources) = matches.get_strs("SOURCE") else {
         return Ok(());
     };
-    refuse_input_twice(sources, None)?;
+    let kern = matches.get_str("kern");
+    refuse_input_twice(sources, kern)?;
+    let pairs = pairs_of(rt, kern)?;
+    let notes = Notes {
+        kern: kern.unwrap_or(""),
+        pairs: &pairs,
+    };
     let is_strict = matches.get_flag("strict");
-    told(report(rt, &Notes, asked_kind(matches), is_strict, sources))
+    told(report(rt, &notes, asked_kind(matches), is_strict, sources))
 }
 
 /// Serves the commands of standard input on a source.

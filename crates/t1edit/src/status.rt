@@ -7,7 +7,7 @@ ghost use Rattle.t1edit.specs.Status.{status_of_misuse, status_of_stop, status_o
 ghost use Rattle.t1edit.specs.Status.{IsWritten, ReportsStop, ReportsRun};
 
 use crate::file_error::{FileError, put_file_error, status_of_file};
-use crate::font_fault::put_line;
+use crate::line::put_line;
 use crate::unopened::Unopened;
 use std::io::{self, Write};
 use t1_code::Counted;

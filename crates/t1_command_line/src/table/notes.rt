@@ -66,8 +66,10 @@ const SECTION: Section = Section {
                 \treturn\n\
                 \t} NP\n\
                 \n\
-                It begins with 'dup' or ends in '{'. Only 'dup N {' on one line opens a Subr; other lines are\n\
-                kept as they stand, and aren't encrypted as charstrings, so the font may not open.\n\
+                It begins with 'dup' or has a '{', also behind the closing line of the entry before; or it opens\n\
+                a Subr, and no line '/Subrs N array' stands in the text. Only 'dup N {' on one line opens a Subr;\n\
+                other lines are kept as they stand, and aren't encrypted as charstrings, so the font may not\n\
+                open.\n\
                 \n\
                 What to do: put 'dup', the number and '{' on one line.\n",
             note: "",
@@ -180,6 +182,19 @@ const SECTION: Section = Section {
             note: "",
         },
         Topic {
+            code: "no-such-glyph",
+            meaning: "a pair of a kerning file names a glyph that isn't there",
+            lead: NOTE_EXAMPLE,
+            text: "\tKPX nosuch A -74\n\
+                \n\
+                It is told of the file that --kern names, where no glyph before the line 'end' of the source\n\
+                has the name. The AFM file leaves out a pair of a glyph that isn't there, and nothing else says\n\
+                so. A source without a section of glyphs has no such note.\n\
+                \n\
+                What to do: mend the name, add the glyph, or take the pair out.\n",
+            note: "",
+        },
+        Topic {
             code: "unused-subr",
             meaning: "no glyph's run enters the Subr",
             lead: NOTE_EXAMPLE,
@@ -187,11 +202,11 @@ const SECTION: Section = Section {
                 \treturn\n\
                 \t} NP\n\
                 \n\
-                Subrs 0 to 4 are there for flex and hint replacement, and have no such note. It is told of a\n\
-                source without a fault alone.\n\
+                Subrs 0 to 4 are there for flex and hint replacement, and have no such note. Of Subrs that\n\
+                follow one another the first has the note. It is told of a source without a fault alone.\n\
                 \n\
-                What to do: take the Subr out, or empty it where others have higher numbers; or look for the\n\
-                call that was lost.\n",
+                What to do: look for a call that was lost, or whose number is wrong. Otherwise the Subr does no\n\
+                harm: take it out where no Subr has a higher number.\n",
             note: "",
         },
         Topic {
@@ -204,6 +219,25 @@ const SECTION: Section = Section {
                 zeros say nothing, and have no such note. It is told of a source without a fault alone.\n\
                 \n\
                 What to do: write the numbers of the AFM file's FontBBox.\n",
+            note: "",
+        },
+        Topic {
+            code: "wide-glyph",
+            meaning: "a glyph reaches past 16000",
+            lead: NOTE_EXAMPLE,
+            text: "\t/A {\n\
+                \t10 600 hsbw\n\
+                \t9000 vmoveto\n\
+                \t9000 vlineto\n\
+                \tclosepath\n\
+                \tendchar\n\
+                \t} ND\n\
+                \n\
+                Points up to 1048576 are taken here, in either direction; old interpreters may not take one past\n\
+                16000. The note stands on the line that opens the glyph. It is told of a source without a fault\n\
+                alone.\n\
+                \n\
+                What to do: look for a value with a digit too many.\n",
             note: "",
         },
     ],

@@ -10,8 +10,8 @@ returns-in-Some-clause-acts g c =
     let m = font (g.B.Bodies.subrs c.args.bodies.now) (g.B.Bodies.glyphs c.args.bodies.now) in
     let before = state_of c.args.state.now in
     let after = state_of c.take_step.new.state in
-    acts-refused m c.args.levels c.args.word c.args.command before after c.deref-in-Some.result.now c.in-Ok-Some.control c.in-Some.code c.in_ok-failure.failure
+    acts-refused m c.args.levels c.args.word c.args.command before after c.note.new.noted c.in-Ok-Some.control c.in-Some.code c.in_ok-failure.failure
     (c.in-Ok-Some.ensures ∙ ap (λ o. asking o after) c.in-Ok-Some.field-0-is)
     (sym c.in_ok-code.ensures ∙ c.in-Some.is)
-    (c.deref-in-Some.ensures.value ∙ c.in_ok-note_stack.ensures)
+    c.in_ok-note.ensures
     c.in_ok-failure.ensures

@@ -1,4 +1,4 @@
-use Rattle.std.proofs.Common.{◌∙◌, ◌++◌, [], ap, map}
+use Rattle.std.proofs.Common.{◌∙◌, ◌++◌, ap, map}
 use Rattle.std.specs.Prelude.{flat_map}
 use Rattle.t1_text.specs.Lines.{lines}
 use Rattle.t1_parts.specs.Parts.{parts_of}
@@ -7,18 +7,23 @@ use Rattle.t1_font.specs.Runs.{drawing_in}
 use Rattle.t1_font.specs.ToRun.{font_to_run}
 use Rattle.t1_faults.specs.Entries.{entry_of}
 use Rattle.t1_faults.specs.Failing.{failures_in}
-use Rattle.t1_faults.specs.GlyphRuns.{failures_of, met_at}
+use Rattle.t1_faults.specs.GlyphRuns.{failures_of, kept_at, own_kept, seen_run}
 use Rattle.t1_faults.specs.Judging.{entries_in, entry_faults, join_faults}
-use Rattle.t1_faults.specs.Met.{met_after}
+use Rattle.t1_faults.specs.Met.{failed_runs, faults_at, own_fault}
 use Rattle.t1_faults.proofs.JudgingLaws.{all_found}
 use Rattle.t1_faults.proofs.judging.faults_of_source.Goals as goal
 
 pub returns : goal.returns
 returns c =
     let runs = c.in_ok-runs.runs in
-    all_found (failures_of runs) (failures_in c.args.source.now.items) (drawing_in runs.runs) (own (font_to_run c.args.source.now.items)) (met_at c.in_ok-met.met.entries) c.args.source.now
-    (map entry_of c.in_ok-entries.entries.items) (entries_in (parts_of (lines c.args.bytes.now)) c.args.source.now) c.new-found.result.items c.push_own_faults.new.found.items c.push_file_fault.new.found.items c.push_join_faults.new.found.items
-    (c.in_ok-runs.ensures.failures ∙ ap failures_in c.items.ensures) (c.in_ok-runs.ensures.runs ∙ ap (λ is. own (font_to_run is)) c.items.ensures) c.in_ok-entries.ensures (λ n. c.in_ok-met.ensures n ∙ ap (λ es. met_after [] (failures_of runs) n (map entry_of es)) c.deref.ensures.value) c.new-found.ensures.items
-    (c.in_ok-push_own_faults.ensures ∙ ap (λ es. c.new-found.result.items ++ flat_map (entry_faults (failures_of runs) (met_at c.in_ok-met.met.entries)) (map entry_of es)) c.deref-2.ensures.value)
+    let own_of = own_kept c.in_ok-met.met.own.entries in
+    let met_at = kept_at c.in_ok-met.met.in_subrs.entries in
+    all_found (failures_of runs) (drawing_in runs.runs) (map seen_run c.in_ok-failed.failed.items) own_of met_at c.args.source.now (map entry_of c.in_ok-entries.entries.items)
+    (entries_in (parts_of (lines c.args.bytes.now)) c.args.source.now) c.new-found.result.items c.push_own_faults.new.found.items c.push_file_fault.new.found.items c.push_join_faults.new.found.items
+    (c.in_ok-runs.ensures.failures ∙ ap failures_in c.items.ensures) (c.in_ok-runs.ensures.runs ∙ ap (λ is. own (font_to_run is)) c.items.ensures)
+    (c.in_ok-failed.ensures ∙ ap (λ es. failed_runs (failures_of runs) (map entry_of es)) c.deref.ensures.value) c.in_ok-entries.ensures
+    (λ g. c.in_ok-met.ensures.own g ∙ ap (λ rs. own_fault (map seen_run rs) g) c.deref-2.ensures.value)
+    (λ n k. c.in_ok-met.ensures.in_subrs n k ∙ ap (λ rs. faults_at (map seen_run rs) n k) c.deref-2.ensures.value) c.new-found.ensures.items
+    (c.in_ok-push_own_faults.ensures ∙ ap (λ es. c.new-found.result.items ++ flat_map (entry_faults own_of met_at) (map entry_of es)) c.deref-3.ensures.value)
     c.in_ok-push_file_fault.ensures
-    (c.in_ok-push_join_faults.ensures ∙ ap (λ es. c.push_file_fault.new.found.items ++ flat_map (join_faults (drawing_in runs.runs)) (map entry_of es)) c.deref-3.ensures.value)
+    (c.in_ok-push_join_faults.ensures ∙ ap (λ es. c.push_file_fault.new.found.items ++ flat_map (join_faults (drawing_in runs.runs)) (map entry_of es)) c.deref-4.ensures.value)

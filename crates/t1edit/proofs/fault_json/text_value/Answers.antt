@@ -1,6 +1,6 @@
 use Rattle.std.proofs.Common.{◌≡◌, ◌∙◌, ap, rules}
 use Rattle.serde_json.specs.Data.{string}
-use Rattle.t1edit.specs.Shown.{shown}
+use Rattle.t1_fault_texts.specs.Shown.{shown}
 use Rattle.t1edit.proofs.ShownLaws.{shown_is_utf8}
 use Rattle.t1edit.proofs.fault_json.text_value.Goals as goal
 

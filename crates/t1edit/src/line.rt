@@ -1,0 +1,32 @@
+//! A line that is written.
+ghost use Rattle.std.specs.Prelude.{◌≡◌};
+ghost use Rattle.t1_code.specs.Counted.{Writes};
+ghost use Rattle.t1_code.specs.Parts.{slices_bytes};
+ghost use Rattle.t1edit.specs.Status.{line_with};
+
+use std::io::{self, Write};
+use t1_code::{Chunk, Counted, put_slices};
+
+/// Writes slices, one after another, by way of a chunk: one call of the writer takes up to 4,096
+/// bytes of them.
+fn write_slices<W: Write>(writer: &mut Counted<W>, slices: &[&[u8]]) -> io::Result<()>
+    ensures { Writes W.contents writer.old writer.new (slices_bytes slices.now) result }
+{
+    let mut chunk = Chunk::new();
+    put_slices(writer, &mut chunk, slices)?;
+    chunk.send(writer)
+}
+
+/// A line that holds a text after what begins it, in slices.
+fn line_slices<'a>(front: &'a [u8], text: &'a [u8]) -> [&'a [u8]; 3]
+    ensures { slices_bytes result ≡ line_with front.now text.now }
+{
+    [front, text, b"\n"]
+}
+
+/// Writes a line that holds a text after what begins it. It takes no memory.
+pub fn put_line<W: Write>(front: &[u8], text: &[u8], writer: &mut Counted<W>) -> io::Result<()>
+    ensures { Writes W.contents writer.old writer.new (line_with front.now text.now) result }
+{
+    write_slices(writer, &line_slices(front, text))
+}
