@@ -1,0 +1,2 @@
+#include <stddef.h>
+#define memcpy __builtin_memcpy
