@@ -34,11 +34,11 @@ fn outcome(performed: Result<(), Cause>) -> Result<&'static str, Stop> {
 }
 
 /// Performs the step of a line, and writes what became of it and how many runs there were by then.
-fn count_step<W: Write>(
+fn count_step(
     alloc: Global,
     session: &mut Session,
     line: &[u8],
-    out: &mut W,
+    out: &mut Vec<u8>,
 ) -> Result<(), Stop> {
     let step = step_of(alloc, line)?;
     let outcome = outcome(perform(session, step))?;
@@ -49,11 +49,11 @@ fn count_step<W: Write>(
 
 /// Opens a session on a source without pairs, performs the steps of a script, and writes the count
 /// of runs after the opening and after each step.
-pub fn count_runs<W: Write>(
+pub fn count_runs(
     alloc: Global,
     source: &[u8],
     script: &[u8],
-    out: &mut W,
+    out: &mut Vec<u8>,
 ) -> Result<(), Stop> {
     let source = read_source(alloc, source)?;
     let mut session = Session::open(alloc, source, read_pairs(alloc, b"")?)?;

@@ -10,7 +10,6 @@ use crate::script::{Step, step_of};
 use crate::stop::Stop;
 use crate::trying::{WANTED, put_text};
 use std::alloc::Global;
-use std::io::Write;
 use t1_code::{Counted, OutError};
 use t1_commands::{Answer, Print, answer_of, put_answer};
 use t1_frac::Refusal;
@@ -31,11 +30,7 @@ const PRINTS: [(&str, Print); 7] = [
 ];
 
 /// Writes a print by its public call, in blocks of 40 bytes where it is in blocks.
-fn put_print<W: Write>(
-    session: &Session,
-    print: Print,
-    out: &mut Counted<W>,
-) -> Result<(), OutError> {
+fn put_print(session: &Session, print: Print, out: &mut Counted<Vec<u8>>) -> Result<(), OutError> {
     match print {
         Print::Source => session.print_source(out),
         Print::Kern => session.print_kern(out),
@@ -58,15 +53,15 @@ fn print_of(alloc: Global, session: &Session, print: Print) -> Result<Vec<u8>, S
 }
 
 /// Writes a text that a query found, or that there is none.
-fn put_found<W: Write>(name: &str, found: Option<Vec<u8>>, out: &mut W) -> Result<(), Stop> {
+fn put_found(name: &str, found: Option<Vec<u8>>, out: &mut Vec<u8>) -> Result<(), Stop> {
     match found {
         Some(text) => put_text(name, &text, out),
-        None => Ok(out.write_all(b"refused E1\n")?),
+        None => Ok(out.extend_from_slice(b"refused E1\n")?),
     }
 }
 
 /// Writes what a session shows of one glyph, of one Subr and of its encoding.
-fn put_shows<W: Write>(session: &Session, out: &mut W) -> Result<(), Stop> {
+fn put_shows(session: &Session, out: &mut Vec<u8>) -> Result<(), Stop> {
     put_found("show glyph acute", session.show_glyph(b"acute")?, out)?;
     put_found("show subr 4", session.show_subr(4)?, out)?;
     put_found("show metrics acute", session.show_metrics(b"acute")?, out)?;
@@ -74,7 +69,7 @@ fn put_shows<W: Write>(session: &Session, out: &mut W) -> Result<(), Stop> {
 }
 
 /// Writes all prints of a session, and what it shows.
-fn put_prints<W: Write>(alloc: Global, session: &Session, out: &mut W) -> Result<(), Stop> {
+fn put_prints(alloc: Global, session: &Session, out: &mut Vec<u8>) -> Result<(), Stop> {
     for (name, print) in &PRINTS {
         put_text(name, &print_of(alloc, session, *print)?, out)?;
     }
@@ -94,15 +89,15 @@ fn opened<'a>(
 }
 
 /// The same, read and opened again where memory ran out in the opening.
-fn session_of<'a, W: Write>(
+fn session_of<'a>(
     alloc: Global,
     source: &'a [u8],
     pairs: &[u8],
-    out: &mut W,
+    out: &mut Vec<u8>,
 ) -> Result<Session<'a>, Stop> {
     match opened(alloc, source, pairs)? {
         Err(Refusal::Memory) => {
-            out.write_all(WANTED)?;
+            out.extend_from_slice(WANTED)?;
             Ok(opened(alloc, source, pairs)??)
         }
         opened => Ok(opened?),
@@ -120,18 +115,18 @@ fn taken(session: &mut Session, edit: Edit) -> Result<(), Cause>
 }
 
 /// The same. Where memory ran out all is printed, and the edit that came back is tried again.
-fn edited<W: Write>(
+fn edited(
     alloc: Global,
     session: &mut Session,
     edit: Edit,
-    out: &mut W,
+    out: &mut Vec<u8>,
 ) -> Result<Result<(), Cause>, Stop>
     ensures { IfOk result
         (λ taken. TakesOrDrops session.old.state (commands.Edit edit) taken session.new.state) }
 {
     match session.try_apply(edit) {
         Err((Cause::Memory, edit)) => {
-            out.write_all(WANTED)?;
+            out.extend_from_slice(WANTED)?;
             put_prints(alloc, session, out)?;
             Ok(taken(session, edit))
         }
@@ -141,11 +136,11 @@ fn edited<W: Write>(
 }
 
 /// Performs a step, an edit as above.
-fn performed<W: Write>(
+fn performed(
     alloc: Global,
     session: &mut Session,
     step: Step,
-    out: &mut W,
+    out: &mut Vec<u8>,
 ) -> Result<Result<(), Cause>, Stop>
     ensures { IfOk result (λ taken. Performs step session.old.state taken session.new.state) }
 {
@@ -167,26 +162,26 @@ fn text_of(alloc: Global, answer: &Answer) -> Result<Vec<u8>, Stop> {
 }
 
 /// Performs the step of a line, and writes what a session answers to it, and all prints.
-fn try_step<W: Write>(
+fn try_step(
     alloc: Global,
     session: &mut Session,
     line: &[u8],
-    out: &mut W,
+    out: &mut Vec<u8>,
 ) -> Result<(), Stop> {
     let step = step_of(alloc, line)?;
     let answer = answer_of(performed(alloc, session, step, out)?)?;
-    out.write_all(&text_of(alloc, &answer)?)?;
+    out.extend_from_slice(&text_of(alloc, &answer)?)?;
     put_prints(alloc, session, out)
 }
 
 /// Opens a session on a source and its pairs, performs the steps of a script, and writes all prints
 /// after the opening and after each step, after its answer.
-pub fn try_editing<W: Write>(
+pub fn try_editing(
     alloc: Global,
     source: &[u8],
     pairs: &[u8],
     script: &[u8],
-    out: &mut W,
+    out: &mut Vec<u8>,
 ) -> Result<(), Stop> {
     let mut session = session_of(alloc, source, pairs, out)?;
     put_prints(alloc, &session, out)?;

@@ -6,7 +6,8 @@
 //!
 //! With `read`, `run` or `edit` it makes these calls by themselves, each again where memory ran
 //! out: it reads a source, runs one glyph, or opens a session with pairs and takes the edits of the
-//! script, and writes what came of it and all prints.
+//! script, and writes what came of it and all prints. All of it is written at the end, also where a
+//! call stopped the program.
 #![tactic(auto)]
 
 mod counting;
@@ -19,7 +20,7 @@ use counting::count_runs;
 use editing::try_editing;
 use std::env;
 use std::fs::File;
-use std::io::{ErrorKind, Read};
+use std::io::{ErrorKind, Read, Write};
 use std::process::ExitCode;
 use stop::{Stop, report};
 use trying::{try_reading, try_running};
@@ -67,33 +68,33 @@ fn read_script(rt: &HostRuntime) -> Result<Vec<u8>, Stop> {
 }
 
 /// Counts the runs of a session on a source.
-fn count(rt: &HostRuntime, source: &str) -> Result<(), Stop> {
+fn count(rt: &HostRuntime, source: &str, out: &mut Vec<u8>) -> Result<(), Stop> {
     let source = read_file(rt, source)?;
     let script = read_script(rt)?;
-    count_runs(rt.alloc(), &source, &script, &mut rt.stdout())
+    count_runs(rt.alloc(), &source, &script, out)
 }
 
 /// Edits a session on a source and a kerning file.
-fn edit(rt: &HostRuntime, source: &str, pairs: &str) -> Result<(), Stop> {
+fn edit(rt: &HostRuntime, source: &str, pairs: &str, out: &mut Vec<u8>) -> Result<(), Stop> {
     let source = read_file(rt, source)?;
     let pairs = read_file(rt, pairs)?;
     let script = read_script(rt)?;
-    try_editing(rt.alloc(), &source, &pairs, &script, &mut rt.stdout())
+    try_editing(rt.alloc(), &source, &pairs, &script, out)
 }
 
-fn perform(rt: &HostRuntime, task: Task<'_>) -> Result<(), Stop> {
+fn perform(rt: &HostRuntime, task: Task<'_>, out: &mut Vec<u8>) -> Result<(), Stop> {
     match task {
-        Task::Count(source) => count(rt, source),
-        Task::Read(source) => try_reading(rt.alloc(), &read_file(rt, source)?, &mut rt.stdout()),
+        Task::Count(source) => count(rt, source, out),
+        Task::Read(source) => try_reading(rt.alloc(), &read_file(rt, source)?, out),
         Task::Run(source, glyph) => {
             let source = read_file(rt, source)?;
-            try_running(rt.alloc(), &source, glyph.as_bytes(), &mut rt.stdout())
+            try_running(rt.alloc(), &source, glyph.as_bytes(), out)
         }
-        Task::Edit(source, pairs) => edit(rt, source, pairs),
+        Task::Edit(source, pairs) => edit(rt, source, pairs, out),
     }
 }
 
-fn run(rt: &HostRuntime) -> Result<(), Stop> {
+fn run(rt: &HostRuntime, out: &mut Vec<u8>) -> Result<(), Stop> {
     let args = match env::args(rt) {
         Ok(args) => args,
         Err(error) if error.kind() == ErrorKind::OutOfMemory => return Err(Stop::Memory),
@@ -101,13 +102,21 @@ fn run(rt: &HostRuntime) -> Result<(), Stop> {
     };
     let words = args.collect::<Vec<String>>(rt.alloc())?;
     match task_of(&words) {
-        Some(task) => perform(rt, task),
+        Some(task) => perform(rt, task, out),
         None => Err(Stop::Usage),
     }
 }
 
+/// The same, with what was to be written by then.
+fn run_and_write(rt: &HostRuntime) -> Result<(), Stop> {
+    let mut out = Vec::new(rt.alloc());
+    let ended = run(rt, &mut out);
+    rt.stdout().write_all(&out)?;
+    ended
+}
+
 fn main(rt: HostRuntime) -> ExitCode {
-    match run(&rt) {
+    match run_and_write(&rt) {
         Ok(()) => ExitCode::SUCCESS,
         Err(stop) => {
             report(stop, &mut rt.stderr());

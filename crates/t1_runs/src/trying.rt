@@ -13,23 +13,19 @@ use t1_source::{Source, read_source};
 pub const WANTED: &[u8] = b"wanted memory\n";
 
 /// Writes a text after its name and its length, and a line end.
-pub fn put_text<W: Write>(name: &str, text: &[u8], out: &mut W) -> Result<(), Stop> {
+pub fn put_text(name: &str, text: &[u8], out: &mut Vec<u8>) -> Result<(), Stop> {
     let length = text.len();
     write!(out, "{name} {length}\n")?;
-    out.write_all(text)?;
-    out.write_all(b"\n")?;
+    out.extend_from_slice(text)?;
+    out.extend_from_slice(b"\n")?;
     Ok(())
 }
 
 /// The source of some bytes, read again where memory ran out.
-fn source_of<'a, W: Write>(
-    alloc: Global,
-    bytes: &'a [u8],
-    out: &mut W,
-) -> Result<Source<'a>, Stop> {
+fn source_of<'a>(alloc: Global, bytes: &'a [u8], out: &mut Vec<u8>) -> Result<Source<'a>, Stop> {
     match read_source(alloc, bytes) {
         Err(Refusal::Memory) => {
-            out.write_all(WANTED)?;
+            out.extend_from_slice(WANTED)?;
             Ok(read_source(alloc, bytes)?)
         }
         read => Ok(read?),
@@ -37,25 +33,25 @@ fn source_of<'a, W: Write>(
 }
 
 /// Reads a source, and writes its text.
-pub fn try_reading<W: Write>(alloc: Global, bytes: &[u8], out: &mut W) -> Result<(), Stop> {
+pub fn try_reading(alloc: Global, bytes: &[u8], out: &mut Vec<u8>) -> Result<(), Stop> {
     let source = source_of(alloc, bytes, out)?;
     put_text("source", &source.text()?, out)
 }
 
 /// The run of a glyph, made again where memory ran out.
-fn run_of<W: Write>(
+fn run_of(
     alloc: Global,
     bodies: &Plain,
     name: &[u8],
     meter: &mut Meter,
-    out: &mut W,
+    out: &mut Vec<u8>,
 ) -> Result<Run, Stop> {
     if !bodies.has_glyph(name) {
         return Err(Stop::NoGlyph);
     }
     match run(alloc, bodies, name, meter) {
         Err(Refusal::Memory) => {
-            out.write_all(WANTED)?;
+            out.extend_from_slice(WANTED)?;
             Ok(run(alloc, bodies, name, meter)?)
         }
         made => Ok(made?),
@@ -63,7 +59,7 @@ fn run_of<W: Write>(
 }
 
 /// Writes what a run drew.
-fn put_run<W: Write>(run: &Run, out: &mut W) -> Result<(), Stop> {
+fn put_run(run: &Run, out: &mut Vec<u8>) -> Result<(), Stop> {
     let (width, bearing) = (run.width(), run.side_bearing());
     write!(out, "width {width:?}, bearing {bearing:?}\n")?;
     for segment in run.segments() {
@@ -75,11 +71,11 @@ fn put_run<W: Write>(run: &Run, out: &mut W) -> Result<(), Stop> {
 }
 
 /// Runs a glyph of a source, and writes what it drew and how many runs were made.
-pub fn try_running<W: Write>(
+pub fn try_running(
     alloc: Global,
     bytes: &[u8],
     name: &[u8],
-    out: &mut W,
+    out: &mut Vec<u8>,
 ) -> Result<(), Stop> {
     let source = read_source(alloc, bytes)?;
     let bodies = checked_bodies(alloc, &source)?;

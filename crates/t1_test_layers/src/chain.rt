@@ -1,9 +1,9 @@
-//! Where runs fail: the words, the calls on the way, and what the faults say, as the standard's
-//! rules give them by hand.
+//! Where runs fail: the words and the calls on the way, as the standard's rules give them by hand.
+//! tests/faults shows what the faults say beside.
 use indexmap::IndexMap;
 use std::alloc::Global;
 use std::test::Fail;
-use t1_chain::{Detail, Failure, failure_of};
+use t1_chain::{Failure, failure_of};
 use t1_code::{Body, compile};
 use t1_frac::{Code, Words};
 use t1_run::Plain;
@@ -46,21 +46,20 @@ fn way(alloc: Global, failure: &Failure) -> Result<Vec<usize>, Fail> {
 }
 
 #[test]
-fn fails_in_a_subr_of_a_subr(rt: HostRuntime) -> Result<(), Fail> {
+fn tells_the_way_to_each_failure(rt: HostRuntime) -> Result<(), Fail> {
     let alloc = rt.alloc();
-    let failure = failure(alloc, "10 600 hsbw 4 callsubr endchar")?;
-    let way = way(alloc, &failure)?;
-    assert!(rt; way.as_slice() == [4, 4, 4, 9, 1].as_slice());
-    assert!(rt; failure.code == Code::F30 && matches!(failure.detail, Detail::Values(1, 2)));
-    Ok(())
-}
-
-#[test]
-fn lacks_an_accent(rt: HostRuntime) -> Result<(), Fail> {
-    let failure = failure(rt.alloc(), "10 600 hsbw 93 170 214 65 194 seac")?;
-    let Detail::Glyph(name) = &failure.detail else {
-        return Err(Fail::new("no glyph"));
-    };
-    assert!(rt; failure.word == 8 && name.as_slice() == b"acute".as_slice());
+    let failures: [(&str, Code, &[usize]); 2] = [
+        (
+            "10 600 hsbw 4 callsubr endchar",
+            Code::F30,
+            &[4, 4, 4, 9, 1],
+        ),
+        ("10 600 hsbw 93 170 214 65 194 seac", Code::F45, &[8]),
+    ];
+    for (words, code, expected) in failures {
+        let failure = failure(alloc, words)?;
+        assert!(rt; failure.code == code);
+        assert!(rt; way(alloc, &failure)?.as_slice() == expected);
+    }
     Ok(())
 }
