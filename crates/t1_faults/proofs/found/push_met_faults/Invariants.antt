@@ -1,8 +1,0 @@
-use Rattle.std.proofs.Common.{◌≡◌, ◌++◌, map, take}
-use Rattle.t1_faults.specs.Entries.{entry_of, placed_words}
-use Rattle.t1_faults.specs.Found.{in_entry}
-use Rattle.t1_faults.proofs.found.push_met_faults.Given as goal
-
--- the faults so far
-abbrev pub invariant-loop-fault : goal.invariant-loop-fault
-invariant-loop-fault l = l.found.items ≡ l.fn.found.items ++ map (in_entry (entry_of l.entry) (placed_words (entry_of l.entry))) (take l.fault-index l.faults)
