@@ -6,10 +6,16 @@ use crate::script::{Step, step_of};
 use crate::stop::Stop;
 use std::alloc::Global;
 use std::io::Write;
-use t1_pairs::read_pairs;
+use t1_frac::Refusal;
+use t1_pairs::{Pairs, read_pairs};
 use t1_session::Session;
-use t1_source::{Cause, read_source};
+use t1_source::{Cause, Source, read_source};
 use t1_text::first_line;
+
+/// Opens a session on what was read.
+pub fn open<'a>(alloc: Global, source: Source<'a>, pairs: Pairs) -> Result<Session<'a>, Refusal> {
+    Session::open(alloc, source, pairs)
+}
 
 /// Performs a step.
 pub fn perform(session: &mut Session, step: Step) -> Result<(), Cause>
@@ -56,7 +62,7 @@ pub fn count_runs(
     out: &mut Vec<u8>,
 ) -> Result<(), Stop> {
     let source = read_source(alloc, source)?;
-    let mut session = Session::open(alloc, source, read_pairs(alloc, b"")?)?;
+    let mut session = open(alloc, source, read_pairs(alloc, b"")?)?;
     let runs = session.runs();
     write!(out, "{runs} opened\n")?;
     let mut rest = script;

@@ -1,11 +1,10 @@
 //! A session with pairs, opened and edited by its public calls. Each is tried again where memory
 //! ran out, an edit by the one that came back.
 
-ghost use Rattle.std.specs.Prelude.{IfOk};
 ghost use Rattle.t1_commands.specs.declared.command.Command.TheVariants as commands;
 ghost use Rattle.t1_session.specs.Outcomes.{TakesOrDrops};
-ghost use Rattle.t1_runs.specs.Steps.{Performs};
 
+use crate::counting::open;
 use crate::script::{Step, step_of};
 use crate::stop::Stop;
 use crate::trying::{WANTED, put_text};
@@ -60,12 +59,32 @@ fn put_found(name: &str, found: Option<Vec<u8>>, out: &mut Vec<u8>) -> Result<()
     }
 }
 
+/// Writes what a session shows of one glyph.
+fn put_glyph(session: &Session, out: &mut Vec<u8>) -> Result<(), Stop> {
+    put_found("show glyph acute", session.show_glyph(b"acute")?, out)
+}
+
+/// Writes what a session shows of one Subr.
+fn put_subr(session: &Session, out: &mut Vec<u8>) -> Result<(), Stop> {
+    put_found("show subr 4", session.show_subr(4)?, out)
+}
+
+/// Writes what a session shows of one glyph's metrics.
+fn put_metrics(session: &Session, out: &mut Vec<u8>) -> Result<(), Stop> {
+    put_found("show metrics acute", session.show_metrics(b"acute")?, out)
+}
+
+/// Writes what a session shows of its encoding.
+fn put_encoding(session: &Session, out: &mut Vec<u8>) -> Result<(), Stop> {
+    put_text("show encoding", &session.show_encoding()?, out)
+}
+
 /// Writes what a session shows of one glyph, of one Subr and of its encoding.
 fn put_shows(session: &Session, out: &mut Vec<u8>) -> Result<(), Stop> {
-    put_found("show glyph acute", session.show_glyph(b"acute")?, out)?;
-    put_found("show subr 4", session.show_subr(4)?, out)?;
-    put_found("show metrics acute", session.show_metrics(b"acute")?, out)?;
-    put_text("show encoding", &session.show_encoding()?, out)
+    put_glyph(session, out)?;
+    put_subr(session, out)?;
+    put_metrics(session, out)?;
+    put_encoding(session, out)
 }
 
 /// Writes all prints of a session, and what it shows.
@@ -85,7 +104,7 @@ fn opened<'a>(
 ) -> Result<Result<Session<'a>, Refusal>, Refusal> {
     let source = read_source(alloc, source)?;
     let pairs = read_pairs(alloc, pairs)?;
-    Ok(Session::open(alloc, source, pairs))
+    Ok(open(alloc, source, pairs))
 }
 
 /// The same, read and opened again where memory ran out in the opening.
@@ -114,17 +133,19 @@ fn taken(session: &mut Session, edit: Edit) -> Result<(), Cause>
     }
 }
 
-/// The same. Where memory ran out all is printed, and the edit that came back is tried again.
+/// Takes an edit, or says why it was refused, with the edit.
+fn tried(session: &mut Session, edit: Edit) -> Result<(), (Cause, Edit)> {
+    session.try_apply(edit)
+}
+
+/// Takes an edit. Where memory ran out all is printed, and the edit that came back is tried again.
 fn edited(
     alloc: Global,
     session: &mut Session,
     edit: Edit,
     out: &mut Vec<u8>,
-) -> Result<Result<(), Cause>, Stop>
-    ensures { IfOk result
-        (λ taken. TakesOrDrops session.old.state (commands.Edit edit) taken session.new.state) }
-{
-    match session.try_apply(edit) {
+) -> Result<Result<(), Cause>, Stop> {
+    match tried(session, edit) {
         Err((Cause::Memory, edit)) => {
             out.extend_from_slice(WANTED)?;
             put_prints(alloc, session, out)?;
@@ -141,9 +162,7 @@ fn performed(
     session: &mut Session,
     step: Step,
     out: &mut Vec<u8>,
-) -> Result<Result<(), Cause>, Stop>
-    ensures { IfOk result (λ taken. Performs step session.old.state taken session.new.state) }
-{
+) -> Result<Result<(), Cause>, Stop> {
     match step {
         Step::Edit(edit) => edited(alloc, session, edit, out),
         Step::Begin => Ok(session.begin()),
