@@ -34,7 +34,7 @@ static bool exchange(struct session *s, const char *text) {
     while (!text || *text) {
         if (s->taken == s->held) s->taken = s->held = 0;
         size_t room = s->held < s->room ? s->room : 2 * s->room + 65536;
-        char *grown = realloc(s->text, room);
+        char *grown = room > s->room ? realloc(s->text, room) : s->text;
         if (!grown) return fails(s, "out of memory: the session is out of step, and can only be closed");
         s->text = grown, s->room = room;
         char *line = s->text + s->taken, *end = text ? NULL : memchr(line, '\n', s->held - s->taken);
