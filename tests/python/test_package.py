@@ -2,7 +2,6 @@
 
 import ast
 import glob
-import importlib.util
 import inspect
 import os
 import re
@@ -22,10 +21,17 @@ def text(path):
     return data(path).decode("utf-8")
 
 
+def python_with(*names):
+    """A Python that has these modules, this one or Debian's."""
+    script = f"import importlib.util; exit(not all(map(importlib.util.find_spec, {names})))"
+    pythons = filter(os.path.exists, (sys.executable, "/usr/bin/python3"))
+    return next((it for it in pythons if subprocess.run([it, "-c", script]).returncode == 0), None)
+
+
 class Package(Room):
-    def python(self, *words, **environment):
+    def python(self, *words, python=sys.executable, **environment):
         environment = {**os.environ, **environment}
-        return subprocess.run([sys.executable, "-B", *words], cwd=self.room, env=environment, capture_output=True, text=True)
+        return subprocess.run([python, "-B", *words], cwd=self.room, env=environment, capture_output=True, text=True)
 
     def test_syntax_of_python_3_9(self):
         for path in glob.glob(os.path.join(PACKAGE, "t1edit", "*.py")):
@@ -73,14 +79,14 @@ class Package(Room):
             self.assertEqual((ran.returncode, ran.stderr), (0, ""), script)
 
     def test_installed(self):
-        lacking = [it for it in ("pip", "setuptools", "wheel") if importlib.util.find_spec(it) is None]
-        if lacking:
-            self.skipTest(f"this Python has no {' and no '.join(lacking)}")
+        python = python_with("pip", "setuptools", "wheel")
+        if python is None:
+            self.skipTest("no Python has pip, setuptools and wheel")
         shutil.copytree(PACKAGE, self.path("copy"))
         options = ["--no-index", "--no-build-isolation", "--no-deps", "--target", "installed"]
-        ran = self.python("-m", "pip", "install", "-q", *options, "./copy")
+        ran = self.python("-m", "pip", "install", "-q", *options, "./copy", python=python)
         self.assertEqual(ran.returncode, 0, ran.stderr)
         self.assertTrue(os.path.exists(self.path("installed/t1edit/py.typed")))
         script = "import t1edit, sys; print(t1edit.__file__, len(t1edit.Font(sys.argv[1]).glyphs))"
-        ran = self.python("-c", script, DEMO, PYTHONPATH=self.path("installed"))
+        ran = self.python("-c", script, DEMO, python=python, PYTHONPATH=self.path("installed"))
         self.assertEqual(ran.stdout, f"{self.path('installed/t1edit/__init__.py')} 6\n", ran.stderr)
