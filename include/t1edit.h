@@ -2,11 +2,16 @@
  *
  * A source is the readable form of a font that t1disasm writes (docs/SOURCE.md), pairs are the bytes of a kerning file: the KPX
  * lines of an AFM file, of length 0 where there is none. A text is given as a pointer, which isn't null, and a length; bytes are
- * as they are in a file, and no byte 0 ends one. docs/LIBRARY.md says what the caller owes.
+ * as they are in a file, and no byte 0 ends one.
  *
  * What a call tells goes into a buffer of the caller's: as many of its bytes as there is room for, in out, and how many it has,
  * in *len. Where *len is greater than room, the answer of a session is told again by t1edit_answer; any other call is made
  * again. out isn't null, also where room is 0. Where nothing is told, *len stays as it was.
+ *
+ * The caller owes, and nothing checks: that no pointer is null and each leads to so many bytes; that out, len and the session
+ * are its own during a call, and no two of them overlap; that one call at a time is made on a session; and that malloc, realloc
+ * and free are one allocator's, which aligns a block to each power of two up to 16 that divides its size. docs/LIBRARY.md says
+ * more of it, and what is proved.
  */
 #ifndef T1EDIT_H
 #define T1EDIT_H
@@ -18,7 +23,7 @@
 extern "C" {
 #endif
 
-/* The version of these calls, which t1edit_version gives. */
+/* The version of these calls. */
 #define T1EDIT_VERSION 1
 
 /* What a call answers. */
@@ -45,6 +50,7 @@ typedef struct t1edit_session {
     void *at;
 } t1edit_session;
 
+/* Tells the version of the library's calls, which is T1EDIT_VERSION where they are those of this header. */
 uint32_t t1edit_version(void);
 
 /* Opens a session on a source and its pairs, or tells the first fault: of reading the source, of the pairs, of a body, or of a

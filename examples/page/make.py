@@ -6,9 +6,9 @@ usage: examples/page/make.py [--unproved | --page-only] [FOLDER]
 Writes t1edit.html to FOLDER, which is examples/page/out where none is given, and beside it the WebAssembly module that is in it,
 t1edit.wasm, and what is known of that, t1edit.json. It takes three steps:
 
-1. The module of the library for C, as the toolchain hands it to its compiler: `rt lib` proves crates/t1_c and has it compiled, and
-   here a script stands in the compiler's place, which keeps the module and then compiles it. That takes some minutes once the
-   crates below are proved. With --unproved the module is that of tools/quick-build, in a minute or two and without a proof.
+1. The module of the library for C, as the toolchain hands it to its compiler once it has proved crates/t1_c: tools/prove-library
+   keeps it. That takes some minutes once the crates below are proved, by rt ci too. With --unproved the module is that of
+   tools/quick-build, in a minute or two and without a proof.
 2. That module is compiled for wasm64, which takes a minute, and linked with the C of library/ and with the heap in libc/.
    The toolchain lowered it for x86-64, and names that processor in its layout, its features and its stack probes; these are taken
    out. Nothing proves that the module means the same there. The toolchain's own way, a crate for wasm64, refuses all that takes
@@ -49,11 +49,6 @@ STACK = 8 << 20
 FLAGS = "-mcpu=lime1 -O3 -ffunction-sections -fdata-sections --no-default-config -no-canonical-prefixes".split()
 LLVM_FLAGS = "-expand-div-rem-bits=64 -expand-fp-convert-bits=64 -trap-unreachable -sink-common-insts=false".split()
 C_FLAGS = "-std=c11 -Wall -Wextra -Wpedantic -Werror -ffreestanding -nostdinc".split()
-# Stands in the compiler's place: it keeps the module that is to be compiled.
-KEEPER = """#!/bin/sh
-for word; do case $word in *.bc) cp "$word" "{module}";; esac; done
-exec "{kit}/toolchain/bin/clang" "$@"
-"""
 
 
 def stop(why):
@@ -103,21 +98,14 @@ def quick_build():
 
 def proved_module(quick, room):
     """The module of the proved library, and the last line of its proof."""
-    kept = f"{room}/proved.bc"
-    quick.stand_in_kit(room, kept)
-    for name, real in (("bin/rattle", "rattle"), ("toolchain/bin/ld.lld", "ld.lld"), ("toolchain/bin/llvm-ar", "llvm-ar")):
-        os.remove(f"{room}/kit/{name}")
-        os.symlink(f"{quick.KIT}/{name}", f"{room}/kit/{name}")
-    quick.write_script(f"{room}/kit/toolchain/bin/clang", KEEPER.format(module=kept, kit=quick.KIT))
-    said = run(f"{room}/kit/bin/rt", "lib", cwd=f"{TOP}/crates/{CRATE}")
-    proofs = [line for line in said.splitlines() if "logic=proved" in line]
-    if not proofs or not os.path.exists(kept):
-        stop(f"rt lib has proved nothing:\n{said}")
-    words = [quick.CLANG, f"--target={quick.TARGET}", "-x", "ir", kept, "-S", "-emit-llvm", "-o", f"{room}/library.ll"]
-    run(*words)
-    if MARK not in text(f"{room}/library.ll"):
+    kept, module = f"{room}/proved.bc", f"{room}/library.ll"
+    proved = subprocess.run([f"{TOP}/tools/prove-library", "--module", kept], stdout=subprocess.PIPE, text=True)
+    if proved.returncode:
+        stop("the library isn't proved, as it says above")
+    run(quick.CLANG, f"--target={quick.TARGET}", "-x", "ir", kept, "-S", "-emit-llvm", "-o", module)
+    if MARK not in text(module):
         stop("the module that the compiler was handed hasn't the mark of what is proved")
-    return f"{room}/library.ll", proofs[-1].strip()
+    return module, proved.stdout.splitlines()[-1]
 
 
 def unproved_module(quick, room):
