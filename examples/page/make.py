@@ -65,6 +65,10 @@ def data(path):
         return file.read()
 
 
+def sum_of(path):
+    return hashlib.sha256(data(path)).hexdigest()
+
+
 def write(path, content):
     with open(path, "w", encoding="utf-8") as file:
         file.write(content)
@@ -97,7 +101,7 @@ def quick_build():
 
 
 def proved_module(quick, room):
-    """The module of the proved library, and the last line of its proof."""
+    """The module of the proved library as text, the sum of its bytes as they were handed over, and the last line of its proof."""
     kept, module = f"{room}/proved.bc", f"{room}/library.ll"
     proved = subprocess.run([f"{TOP}/tools/prove-library", "--module", kept], stdout=subprocess.PIPE, text=True)
     if proved.returncode:
@@ -105,14 +109,14 @@ def proved_module(quick, room):
     run(quick.CLANG, f"--target={quick.TARGET}", "-x", "ir", kept, "-S", "-emit-llvm", "-o", module)
     if MARK not in text(module):
         stop("the module that the compiler was handed hasn't the mark of what is proved")
-    return module, proved.stdout.splitlines()[-1]
+    return module, sum_of(kept), proved.stdout.splitlines()[-1]
 
 
 def unproved_module(quick, room):
-    """The module that tools/quick-build makes of the same sources."""
+    """The same of the module that tools/quick-build makes of the same sources, without a proof."""
     module = quick.without_checks(quick.lowered(CRATE, room), room)
     quick.handed_out(module)
-    return module, None
+    return module, sum_of(module), None
 
 
 # 2. WebAssembly.
@@ -162,9 +166,13 @@ def linked(quick, module, room):
         objects.append(made)
     archive = f"{room}/library.a"
     run(f"{quick.KIT}/toolchain/bin/llvm-ar", "rcsD", archive, *objects)
-    words = ["--target", WASM, "--toolchain", f"{quick.KIT}/toolchain", "--stack", str(STACK), "-o", f"{room}/t1edit.wasm", archive]
+    made = f"{room}/t1edit.wasm"
+    words = ["--target", WASM, "--toolchain", f"{quick.KIT}/toolchain", "--stack", str(STACK), "-o", made, archive]
     run(f"{quick.KIT}/bin/rattle-link", *words)
-    return f"{room}/t1edit.wasm"
+    lacking = [name for name in calls() if name.encode() not in data(made)]
+    if lacking:
+        stop(f"the module hands out no {', '.join(lacking)}")
+    return made
 
 
 def sources():
@@ -195,8 +203,8 @@ def make_wasm(wasm, known, is_proved):
     """Makes the WebAssembly module, and writes what is known of it."""
     quick, begun = quick_build(), time.time()
     with tempfile.TemporaryDirectory(prefix="t1edit-page-") as room:
-        module, proof = (proved_module if is_proved else unproved_module)(quick, room)
-        facts = {"proof": proof, "commit": commit(), "kit": quick.KNOWN_KIT, "module": hashlib.sha256(data(module)).hexdigest()}
+        module, handed, proof = (proved_module if is_proved else unproved_module)(quick, room)
+        facts = {"proof": proof, "commit": commit(), "kit": quick.KNOWN_KIT, "module": handed}
         made = linked(quick, module, room)
         # as old as the sources that were read: a file that changed meanwhile is newer
         os.utime(made, (begun, begun))
