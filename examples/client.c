@@ -81,7 +81,7 @@ static bool session_open(struct session *s, const char *source, const char *kern
     const char *program = getenv("T1EDIT") ? getenv("T1EDIT") : "t1edit";
     int ends[2] = {-1, -1}, process = socketpair(AF_UNIX, SOCK_STREAM | SOCK_CLOEXEC, 0, ends) ? -1 : fork();
     if (process == 0 && dup2(ends[1], 0) == 0 && dup2(ends[1], 1) == 1 && dup2(ends[1], 2) == 2)
-        execlp(program, program, "session", source, kern ? "--kern" : NULL, kern, NULL);
+        execlp(program, program, "session", "--kern", kern ? kern : "/dev/null", "--", source, NULL);
     if (process == 0) perror(program), _exit(127);
     *s = (struct session){.process = process, .end = ends[0], .why = strerror(errno)};
     close(ends[1]);
