@@ -10,6 +10,7 @@ pub mod FrontLaws
 pub mod Fronts
 pub mod ItemLaws
 pub mod KindLaws
+pub mod KnownWordLaws
 pub mod Openings
 pub mod PieceLaws
 pub mod Pieces

@@ -6,6 +6,7 @@ pub mod Digits
 pub mod Disassembly
 pub mod Front
 pub mod Kinds
+pub mod KnownWords
 pub mod Laws
 pub mod Layouts
 pub mod Lent

@@ -1,6 +1,6 @@
 //! The words of charstrings.
 ghost use Rattle.std.specs.Prelude.{◌≡◌, [], ◌+◌, ◌++◌, ◌≤◌, length, OnOk, IfOk, IfSome};
-ghost use Rattle.std.specs.Prelude.{MatchResult};
+ghost use Rattle.std.specs.Prelude.{MatchResult, take};
 ghost use Rattle.std.specs.Prelude.{Ok, Err, true, false, option_map, nat_eq};
 ghost use Rattle.std.specs.Fmt.{signed_decimal};
 ghost use Rattle.std.specs.Map.{lookup};
@@ -15,12 +15,13 @@ ghost use Rattle.t1_disassemble.specs.declared.fault.FontPlace.TheVariants.{Nowh
 
 use crate::cipher::decipher_charstring;
 use crate::fault::{FontCode, FontRefusal};
-use crate::word_buffer::WordBuffer;
+use crate::known_word::{KnownWord, known_word};
+use crate::waiting::{ROOM, make_room, put_blank, put_byte, put_bytes, put_number};
 use std::alloc::AllocError;
 
 /// The word of a command of one byte.
 #[tactic(auto, unfolding(t1_frac::specs::Numbers::is_number_word))]
-fn one_byte_word(byte: u8) -> Option<&'static [u8]>
+pub(crate) fn one_byte_word(byte: u8) -> Option<&'static [u8]>
     ensures value { option_map (λ word. word.now) result ≡ lookup (nat_eq byte) one_byte_words }
     ensures operator { IfSome result (λ word. is_number_word word.now ≡ false) }
     ensures short { IfSome result (λ word. length word.now ≤ 15) }
@@ -174,28 +175,34 @@ fn number(first: u8, rest: &[u8]) -> Result<(i32, &[u8]), FontCode>
     long(rest)
 }
 
-/// Puts a word that isn't a number, and the end of its line, after other words.
+/// Puts a word that isn't a number, and the end of its line, after words that wait, and answers how
+/// many bytes wait then.
 #[inline(always)]
-fn keep_operator(buffer: &mut WordBuffer, is_open: bool, word: &[u8])
+fn put_operator(bytes: &mut [u8; ROOM], len: usize, is_open: bool, word: &[u8]) -> usize
     requires operator { is_number_word word.now ≡ false }
-    requires room { length buffer.old + length word.now + 2 ≤ 256 }
-    ensures { buffer.new ≡ with_word buffer.old is_open word.now }
+    requires room { len + length word.now + 2 ≤ 256 }
+    ensures size { length bytes.new ≡ 256 }
+    ensures end { result ≤ 256 }
+    ensures front { take result bytes.new ≡ with_word (take len bytes.old) is_open word.now }
 {
-    buffer.push(if is_open { b' ' } else { b'\t' });
-    buffer.keep(word);
-    buffer.push(b'\n');
+    let at = put_blank(bytes, len, is_open);
+    let end = put_bytes(bytes, at, word);
+    put_byte(bytes, end, b'\n')
 }
 
-/// Puts a number after other words.
+/// Puts a number after words that wait, and answers how many bytes wait then.
 #[inline(always)]
 #[tactic(auto, using(crate::proofs::Reading::number_is_word))]
-fn keep_number(buffer: &mut WordBuffer, is_open: bool, number: i32)
-    requires { length buffer.old + 12 ≤ 256 }
-    ensures text { buffer.new ≡ with_word buffer.old is_open (signed_decimal number) }
+fn put_number_word(bytes: &mut [u8; ROOM], len: usize, is_open: bool, number: i32) -> usize
+    requires { len + 12 ≤ 256 }
+    ensures size { length bytes.new ≡ 256 }
+    ensures end { result ≤ 256 }
+    ensures front { take result bytes.new
+        ≡ with_word (take len bytes.old) is_open (signed_decimal number) }
     ensures number { is_number_word (signed_decimal number) ≡ true }
 {
-    buffer.push(if is_open { b' ' } else { b'\t' });
-    buffer.push_number(number);
+    let at = put_blank(bytes, len, is_open);
+    put_number(bytes, at, number)
 }
 
 /// Ends a line that is open.
@@ -208,73 +215,109 @@ fn end_line(text: &mut Vec<u8>, is_open: bool) -> Result<(), AllocError>
     Ok(())
 }
 
-/// Puts the word that a charstring begins with after other words, and answers whether its line is
-/// still open, and the bytes after it.
+/// Puts the word that a charstring begins with after words that wait, and answers how many bytes
+/// wait then, whether the word's line is still open, and the bytes after the word.
 #[inline(always)]
 #[tactic(auto, unfolding(crate::specs::Words::word_at))]
-fn keep_first<'a>(
-    buffer: &mut WordBuffer,
+fn put_any<'a>(
+    bytes: &mut [u8; ROOM],
+    len: usize,
     is_open: bool,
     first: u8,
     rest: &'a [u8],
-) -> Result<(bool, &'a [u8]), FontCode>
-    requires { length buffer.old + 24 ≤ 256 }
+) -> Result<(usize, bool, &'a [u8]), FontCode>
+    requires { len + 24 ≤ 256 }
     ensures value { MatchResult
         result
-        (λ found. put_first buffer.old is_open first rest.now
-        ≡ Ok (buffer.new, found.0, found.1.now))
-        (λ code. put_first buffer.old is_open first rest.now ≡ Err code) }
-    ensures shorter { IfOk result (λ found. length found.1.now ≤ length rest.now) }
+        (λ found. put_first (take len bytes.old) is_open first rest.now
+        ≡ Ok (take found.0 bytes.new, found.1, found.2.now))
+        (λ code. put_first (take len bytes.old) is_open first rest.now ≡ Err code) }
+    ensures within { IfOk result (λ found. found.0 ≤ 256) }
+    ensures shorter { IfOk result (λ found. length found.2.now ≤ length rest.now) }
+    ensures size { length bytes.new ≡ 256 }
 {
     if first < 32 {
         let (word, after) = operator(first, rest)?;
-        keep_operator(buffer, is_open, word);
-        return Ok((false, after));
+        return Ok((put_operator(bytes, len, is_open, word), false, after));
     }
     let (number, after) = number(first, rest)?;
-    keep_number(buffer, is_open, number);
-    Ok((true, after))
+    Ok((put_number_word(bytes, len, is_open, number), true, after))
 }
 
-/// The same, with the words that wait and what stands before them in the text.
+/// The same. A word that is known by its first byte is put there without a choice that depends on
+/// it.
 #[inline(always)]
-#[tactic(auto, using(crate::proofs::Reading::behind_ok, crate::proofs::Reading::behind_err))]
-fn push_first<'a>(
-    text: &mut Vec<u8>,
-    buffer: &mut WordBuffer,
+fn put_word<'a>(
+    known: &[KnownWord],
+    bytes: &mut [u8; ROOM],
+    len: usize,
     is_open: bool,
     first: u8,
     rest: &'a [u8],
-) -> Result<(bool, &'a [u8]), FontRefusal>
+) -> Result<(usize, bool, &'a [u8]), FontCode>
+    requires { len + 24 ≤ 256 }
+    ensures value { MatchResult
+        result
+        (λ found. put_first (take len bytes.old) is_open first rest.now
+        ≡ Ok (take found.0 bytes.new, found.1, found.2.now))
+        (λ code. put_first (take len bytes.old) is_open first rest.now ≡ Err code) }
+    ensures within { IfOk result (λ found. found.0 ≤ 256) }
+    ensures shorter { IfOk result (λ found. length found.2.now ≤ length rest.now) }
+    ensures size { length bytes.new ≡ 256 }
+{
+    if let Some(word) = known_word(known, first) {
+        let (end, opened) = word.put(bytes, len, is_open);
+        return Ok((end, opened, rest));
+    }
+    put_any(bytes, len, is_open, first, rest)
+}
+
+/// The same, with what stands before the words in the text.
+#[inline(always)]
+#[tactic(auto, using(crate::proofs::Reading::behind_ok, crate::proofs::Reading::behind_err))]
+fn push_first<'a>(
+    known: &[KnownWord],
+    text: &mut Vec<u8>,
+    bytes: &mut [u8; ROOM],
+    len: usize,
+    is_open: bool,
+    first: u8,
+    rest: &'a [u8],
+) -> Result<(usize, bool, &'a [u8]), FontRefusal>
+    requires { len ≤ 256 }
     ensures value { Gives
-        (λ found. (text.new.items ++ buffer.new, found.0, found.1.now))
+        (λ found. (text.new.items ++ take found.0 bytes.new, found.1, found.2.now))
         result
         (reported_at Nowhere
-        (put_first (text.old.items ++ buffer.old) is_open first rest.now)) }
-    ensures shorter { IfOk result (λ found. length found.1.now ≤ length rest.now) }
+        (put_first (text.old.items ++ take len bytes.old) is_open first rest.now)) }
+    ensures within { IfOk result (λ found. found.0 ≤ 256) }
+    ensures shorter { IfOk result (λ found. length found.2.now ≤ length rest.now) }
+    ensures size { length bytes.new ≡ 256 }
 {
-    buffer.make_room(text)?;
-    Ok(keep_first(buffer, is_open, first, rest)?)
+    let left = make_room(text, bytes, len)?;
+    Ok(put_word(known, bytes, left, is_open, first, rest)?)
 }
 
 /// Adds the lines of a charstring's words. At a fault and where memory runs out some of them may
 /// stand there.
 #[tactic(auto, using(crate::proofs::Reading::push_more, crate::proofs::Reading::push_none))]
-fn push_words(text: &mut Vec<u8>, code: &[u8]) -> Result<(), FontRefusal>
+fn push_words(known: &[KnownWord], text: &mut Vec<u8>, code: &[u8]) -> Result<(), FontRefusal>
     ensures { Gives
         (λ _. text.new.items)
         result
         (reported_at Nowhere (words_onto text.old.items false (words_of code.now))) }
 {
-    let mut buffer = WordBuffer::new();
+    let mut bytes = [0; ROOM];
+    let mut len = 0;
     let mut is_open = false;
     let mut rest = code;
     while let Some((first, after)) = rest.split_first() {
-        let (opened, left) = push_first(text, &mut buffer, is_open, *first, after)?;
+        let (end, opened, left) = push_first(known, text, &mut bytes, len, is_open, *first, after)?;
+        len = end;
         is_open = opened;
         rest = left;
     }
-    buffer.send(text)?;
+    text.extend_from_slice(bytes.split_at(len).0)?;
     end_line(text, is_open)?;
     Ok(())
 }
@@ -282,7 +325,8 @@ fn push_words(text: &mut Vec<u8>, code: &[u8]) -> Result<(), FontRefusal>
 /// Adds the lines of an encrypted charstring's words to a text; the buffer's memory serves all
 /// charstrings of a font. At a fault and where memory runs out some of the lines may stand there.
 #[tactic(auto, unfolding(crate::specs::Words::words_of_encrypted))]
-pub fn push_encrypted(
+pub(crate) fn push_encrypted(
+    known: &[KnownWord],
     text: &mut Vec<u8>,
     buffer: &mut Vec<u8>,
     lead: u8,
@@ -299,5 +343,5 @@ pub fn push_encrypted(
         return Err(FontRefusal::from(FontCode::D6));
     }
     decipher_charstring(buffer, bytes)?;
-    push_words(text, buffer.split_at(lead).1)
+    push_words(known, text, buffer.split_at(lead).1)
 }

@@ -8,14 +8,14 @@ mod disassembly;
 mod fault;
 mod front;
 mod kinds;
+mod known_word;
 pub mod laws;
 mod layouts;
 mod opening;
 mod private;
 mod segments;
 mod settings;
-mod word_buffer;
+mod waiting;
 
-pub use charstring::push_encrypted;
 pub use disassembly::disassemble;
 pub use fault::{FontCode, FontFault, FontPlace, FontRefusal};

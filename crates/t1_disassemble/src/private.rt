@@ -22,6 +22,7 @@ ghost use Rattle.t1_disassemble.specs.WordsOnto.{words_onto};
 use crate::charstring::push_encrypted;
 use crate::fault::{FontCode, FontFault, FontPlace, FontRefusal};
 use crate::front::{line_len, line_len_after, past};
+use crate::known_word::{KnownWord, known_words};
 use crate::layouts::{are_one, is_closefile};
 use crate::opening::{Opening, first_opening};
 use std::alloc::{AllocError, Global};
@@ -109,6 +110,7 @@ fn at_entry(alloc: Global, opening: &Opening, refusal: FontRefusal) -> FontRefus
 /// Adds the words of an entry's charstring.
 fn push_charstring(
     alloc: Global,
+    known: &[KnownWord],
     text: &mut Vec<u8>,
     buffer: &mut Vec<u8>,
     lead: u8,
@@ -121,7 +123,7 @@ fn push_charstring(
         (reported_at (Entry (opening_of opening.now).name) (words_onto text.old.items false
         (words_of_encrypted lead bytes.now))) }
 {
-    match push_encrypted(text, buffer, lead, bytes) {
+    match push_encrypted(known, text, buffer, lead, bytes) {
         Ok(()) => Ok(()),
         Err(refusal) => Err(at_entry(alloc, opening, refusal)),
     }
@@ -159,6 +161,7 @@ fn after_end(bytes: &[u8]) -> &[u8]
 /// it.
 fn push_entry<'a>(
     alloc: Global,
+    known: &[KnownWord],
     text: &mut Vec<u8>,
     buffer: &mut Vec<u8>,
     lead: u8,
@@ -178,7 +181,7 @@ fn push_entry<'a>(
     }
     let (charstring, rest) = bytes.split_at(opening.count);
     push_head(text, opening)?;
-    push_charstring(alloc, text, buffer, lead, opening, charstring)?;
+    push_charstring(alloc, known, text, buffer, lead, opening, charstring)?;
     Ok(rest)
 }
 
@@ -255,6 +258,7 @@ fn push_whole_line<'a>(
 #[tactic(auto, unfolding(crate::specs::PiecesOnto::read_onto), using(crate::proofs::Pieces::shorter_after, crate::proofs::Pieces::dropped_twice))]
 fn push_piece<'a>(
     alloc: Global,
+    known: &[KnownWord],
     text: &mut Vec<u8>,
     buffer: &mut Vec<u8>,
     settings: &Settings,
@@ -279,7 +283,7 @@ fn push_piece<'a>(
     };
     push_front(text, waits, up_to(bytes, opening.at))?;
     let data = past(bytes, opening.end + 1);
-    let rest = push_entry(alloc, text, buffer, settings.lead, &opening, data)?;
+    let rest = push_entry(alloc, known, text, buffer, settings.lead, &opening, data)?;
     Ok(Piece {
         rest,
         end: line_len_after(end, bytes.len() - rest.len(), bytes),
@@ -303,12 +307,13 @@ pub(crate) fn push_private<'a>(
         (private_onto settings.now.operator.now settings.now.lead text.old.items false bytes.now) }
     ensures within { IfOk result (λ rest. length rest.now ≤ length bytes.now) }
 {
+    let known = known_words(alloc)?;
     let mut buffer = Vec::new(alloc);
     let mut waits = false;
     let mut end = line_len(bytes);
     let mut rest = bytes;
     loop {
-        let piece = push_piece(alloc, text, &mut buffer, settings, waits, end, rest)?;
+        let piece = push_piece(alloc, &known, text, &mut buffer, settings, waits, end, rest)?;
         rest = piece.rest;
         if piece.is_last {
             return Ok(rest);
