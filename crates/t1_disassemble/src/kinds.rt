@@ -1,6 +1,7 @@
 //! Fonts of kinds that aren't read.
 ghost use Rattle.std.specs.Prelude.{◌≡◌, ◌<◌, ◌≤◌, ◌||◌, Ok, Err, if◌then◌else◌, List, ℕ};
-ghost use Rattle.std.specs.Prelude.{[], ◌∷◌, filter, length, IfSome, MatchOption, MatchResult};
+ghost use Rattle.std.specs.Prelude.{[], ◌∷◌, ◌^◌, false, None, filter, length, IfSome, MatchOption};
+ghost use Rattle.std.specs.Prelude.{MatchResult};
 ghost use Rattle.std.specs.List.{prefix_len};
 ghost use Rattle.t1_text.specs.Lines.{lines};
 ghost use Rattle.t1_parts.specs.Sections.{subrs_line, glyphs_line};
@@ -11,7 +12,7 @@ ghost use Rattle.t1_disassemble.specs.Kinds.{single_sections};
 use crate::fault::{FontCode, FontFault, FontPlace};
 use crate::settings::{is_glyphs_line, is_subrs_line, text_place};
 use memchr::memchr;
-use t1_text::{first_line, last_line_start};
+use t1_text::{first_line, last_line_start, next_place};
 
 /// Bytes that hold a text are refused where it first stands.
 fn check_without(text: &[u8], code: FontCode, bytes: &[u8]) -> Result<(), FontFault>
@@ -62,6 +63,33 @@ fn glyphs_count(line: &[u8]) -> usize
     1
 }
 
+/// Whether a line has three tokens, without which it is no section line.
+fn has_three_tokens(line: &[u8]) -> bool
+    requires { length line.now < 2 ^ 63 }
+    ensures subrs { result ≡ false → subrs_line line.now ≡ None }
+    ensures glyphs { result ≡ false → glyphs_line line.now ≡ None }
+{
+    let Some((at, token, after)) = next_place(0, line) else {
+        return false;
+    };
+    let Some((at, token, after)) = next_place(at + token.len(), after) else {
+        return false;
+    };
+    next_place(at + token.len(), after).is_some()
+}
+
+/// How many Subrs lines and how many CharStrings lines of a source a line is.
+fn counts(line: &[u8]) -> (usize, usize)
+    requires { length line.now < 2 ^ 63 }
+    ensures subrs { result.0 ≡ (if is_line_of subrs_line line.now then 1 else 0) }
+    ensures glyphs { result.1 ≡ (if is_line_of glyphs_line line.now then 1 else 0) }
+{
+    if !has_three_tokens(line) {
+        return (0, 0);
+    }
+    (subrs_count(line), glyphs_count(line))
+}
+
 /// How many bytes stand before the first slash.
 fn slash_place(bytes: &[u8]) -> usize
     ensures within { result ≤ length bytes.now }
@@ -104,8 +132,9 @@ fn has_second(text: &[u8]) -> bool
     let mut glyphs = 0;
     let mut rest = text;
     while let Some((line, after)) = next_slashed(rest) {
-        subrs += subrs_count(line);
-        glyphs += glyphs_count(line);
+        let (some_subrs, some_glyphs) = counts(line);
+        subrs += some_subrs;
+        glyphs += some_glyphs;
         rest = after;
     }
     1 < subrs || 1 < glyphs

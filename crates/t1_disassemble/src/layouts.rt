@@ -48,7 +48,10 @@ pub(crate) fn are_one(buffer: &mut Vec<u8>, line: &[u8], next: &[u8]) -> Result<
     ensures joined { IfOk result
         (λ one. one ≡ true → buffer.new.items ≡ one_line line.now next.now) }
 {
-    if is_border(line) || !begins_border(line) || is_border(next) {
+    if !begins_border(line) {
+        return Ok(false);
+    }
+    if is_border(line) || is_border(next) {
         return Ok(false);
     }
     join_lines(buffer, line, next)?;

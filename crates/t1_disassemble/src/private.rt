@@ -292,6 +292,9 @@ fn push_piece<'a>(
     })
 }
 
+/// About how many times as long as a font's private text its lines are in the source.
+const LENGTHS: usize = 4;
+
 /// Adds the lines of the private text, through the one that closes the encrypted part, and answers
 /// the bytes after it. At a fault and where memory runs out some of the lines may stand there.
 #[tactic(auto, using(crate::proofs::Pieces::private_more))]
@@ -308,6 +311,7 @@ pub(crate) fn push_private<'a>(
     ensures within { IfOk result (λ rest. length rest.now ≤ length bytes.now) }
 {
     let known = known_words(alloc)?;
+    text.reserve(bytes.len().saturating_mul(LENGTHS))?;
     let mut buffer = Vec::new(alloc);
     let mut waits = false;
     let mut end = line_len(bytes);

@@ -10,8 +10,8 @@ loop-line-preserved c =
     let line = c.in-Some.line.now in
     let after = c.in-Some.after.now in
     record {
-      subrs = counted_more subrs_line c.loop-line.subrs c.subrs_count-subrs.result _ line (lines c.loop-line.rest.now) (lines after) c.in-Some.ensures.subrs c.subrs_count-subrs.ensures i.subrs;
-      glyphs = counted_more glyphs_line c.loop-line.glyphs c.glyphs_count-glyphs.result _ line (lines c.loop-line.rest.now) (lines after) c.in-Some.ensures.glyphs c.glyphs_count-glyphs.ensures i.glyphs;
-      few = few_more subrs_line c.loop-line.subrs c.subrs_count-subrs.result (length c.loop-line.rest.now) (length after) (length c.args.text.now) line c.subrs_count-subrs.ensures c.in-Some.ensures.shorter i.few;
-      fewer = few_more glyphs_line c.loop-line.glyphs c.glyphs_count-glyphs.result (length c.loop-line.rest.now) (length after) (length c.args.text.now) line c.glyphs_count-glyphs.ensures c.in-Some.ensures.shorter i.fewer;
+      subrs = counted_more subrs_line c.loop-line.subrs c.counts-some_subrs.result.0 _ line (lines c.loop-line.rest.now) (lines after) c.in-Some.ensures.subrs c.counts-some_subrs.ensures.subrs i.subrs;
+      glyphs = counted_more glyphs_line c.loop-line.glyphs c.counts-some_subrs.result.1 _ line (lines c.loop-line.rest.now) (lines after) c.in-Some.ensures.glyphs c.counts-some_subrs.ensures.glyphs i.glyphs;
+      few = few_more subrs_line c.loop-line.subrs c.counts-some_subrs.result.0 (length c.loop-line.rest.now) (length after) (length c.args.text.now) line c.counts-some_subrs.ensures.subrs c.in-Some.ensures.shorter i.few;
+      fewer = few_more glyphs_line c.loop-line.glyphs c.counts-some_subrs.result.1 (length c.loop-line.rest.now) (length after) (length c.args.text.now) line c.counts-some_subrs.ensures.glyphs c.in-Some.ensures.shorter i.fewer;
     }
