@@ -31,10 +31,10 @@ deciphered-append key (x ∷ xs) ys = ap (λ l. bit_xor x (key / 256) ∷ l) (de
 
 -- ---- the next key, of the one that stands there and of the one before it
 
-pub key_from : (key next c : ℕ) → next ≡ (key * 52845 + 22719) % 65536 → (next + c * 52845) % 65536 ≡ next_key key c
+pub key_from : (key next c : ℕ) → next ≡ (key * 52845 + 33965) % 65536 → (next + (c * 52845 + 54290)) % 65536 ≡ next_key key c
 key_from key next c h = omega (arith, h)
 
-pub next_from : (key c : ℕ) → ((key + c) * 39529 + 54290) % 65536 ≡ (next_key key c * 52845 + 22719) % 65536
+pub next_from : (key c : ℕ) → (key + c) * 39529 % 65536 ≡ (next_key key c * 52845 + 33965) % 65536
 next_from key c = omega arith
 
 drop_zeros : (lead : ℕ) (plain : List ℕ) → drop lead (replicate lead 0 ++ plain) ≡ plain

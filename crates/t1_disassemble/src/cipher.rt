@@ -15,8 +15,8 @@ const EEXEC_KEY: u16 = 55_665;
 /// Decrypts bytes one after another, with a key that each cipher byte changes. Contracts see the
 /// key.
 ///
-/// What a key adds to the next one is kept beside it. It follows from the key before it, so that
-/// two bytes wait for one product.
+/// What a key adds to the next one is kept beside it, less 54,290. It follows from the key before
+/// it, so that two bytes wait for one product.
 #[derive(Drop)]
 struct Cipher {
     key: u16,
@@ -30,7 +30,7 @@ impl Model for Cipher {
 
     ghost view = { λ d. d.key };
 
-    ghost invariant = { λ d. d.next ≡ (d.key * 52845 + 22719) % 65536 };
+    ghost invariant = { λ d. d.next ≡ (d.key * 52845 + 33965) % 65536 };
 }
 
 impl Cipher {
@@ -40,13 +40,14 @@ impl Cipher {
     {
         Cipher {
             key,
-            next: ((u32::from(key) * 52_845 + 22_719) % 65_536) as u16,
+            next: ((u32::from(key) * 52_845 + 33_965) % 65_536) as u16,
         }
     }
 
     /// The plain byte of a cipher byte. The key's factor is squared here: the next key adds
     /// `(key + cipher) * 52_845 * 52_845 + 22_719 * 52_846` to the one after it, of which the low
-    /// 16 bits count.
+    /// 16 bits count. Those of the second product are 54,290, which isn't added to what is waited
+    /// for.
     #[inline(always)]
     #[tactic(auto, using(crate::proofs::Deciphering::key_from, crate::proofs::Deciphering::next_from))]
     fn byte(&mut self, cipher: u8) -> u8
@@ -55,8 +56,8 @@ impl Cipher {
     {
         let code = u32::from(cipher);
         let plain = cipher ^ (self.key / 256) as u8;
-        let key = (u32::from(self.next) + code * 52_845) % 65_536;
-        let next = ((u32::from(self.key) + code) * 39_529 + 54_290) % 65_536;
+        let key = (u32::from(self.next) + (code * 52_845 + 54_290)) % 65_536;
+        let next = (u32::from(self.key) + code) * 39_529 % 65_536;
         *self = Cipher {
             key: key as u16,
             next: next as u16,
