@@ -8,6 +8,8 @@ pub mod DigitValues
 pub mod FlatFileLaws
 pub mod FrontLaws
 pub mod Fronts
+pub mod InPlaceLaws
+pub mod InPlaceSources
 pub mod ItemLaws
 pub mod KindLaws
 pub mod KnownWordLaws

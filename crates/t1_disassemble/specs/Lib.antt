@@ -5,6 +5,7 @@ pub mod Decipher
 pub mod Digits
 pub mod Disassembly
 pub mod Front
+pub mod InPlace
 pub mod Kinds
 pub mod KnownWords
 pub mod Laws

@@ -21,11 +21,17 @@ use crate::fault::{FontCode, FontFault, FontPlace, FontRefusal};
 use crate::front::{after_eexec, is_space, past, past_line, past_spaces};
 use crate::kinds::{check_kind, check_sections};
 use crate::private::{Settings, push_private};
-use crate::segments::{LentParts, Parts, has_segments, segmented_parts};
+use crate::segments::{LentParts, Parts, front_lens, has_segments, segmented_parts, text_left};
 use crate::settings::{leading_bytes, reading_operator};
 use std::alloc::{AllocError, Global};
 use t1_parts::{push_line, push_lines, tail_of};
 use t1_text::first_line;
+
+/// How many bytes stand before those of a segment.
+const HEAD_LEN: usize = 6;
+
+/// How many bytes of heads stand before those of a file's second segment.
+const HEADS_LEN: usize = 12;
 
 /// How many bytes stand in front of the private text.
 const EEXEC_LEAD: usize = 4;
@@ -409,4 +415,22 @@ pub fn disassemble(alloc: Global, file: &[u8]) -> Result<Vec<u8>, FontRefusal>
     }
     let mut none = Vec::new(alloc);
     source_of_parts(alloc, file, &mut none, file.split_at(0).0)
+}
+
+/// The same, where the file's memory may change: of a file whose second segment alone is binary it
+/// takes no copy of the encrypted part. Of the file nothing is known afterwards.
+#[tactic(auto, unfolding(crate::specs::Disassembly::disassembled, crate::specs::SegmentsRead::font_parts))]
+pub fn disassemble_in_place(alloc: Global, file: &mut [u8]) -> Result<Vec<u8>, FontRefusal>
+    ensures { Gives (λ text. text.items) result (disassembled file.old) }
+{
+    let Some((text_len, binary_len)) = front_lens(file) else {
+        return disassemble(alloc, file);
+    };
+    let behind = file.split_at(HEADS_LEN + text_len + binary_len).1;
+    let Some(tail) = text_left(alloc, file.len(), behind)? else {
+        return disassemble(alloc, file);
+    };
+    let (front, back) = file.split_at_mut(HEADS_LEN + text_len);
+    let clear = past(front.split_at(HEAD_LEN + text_len).0, HEAD_LEN);
+    source_of_parts(alloc, clear, back.split_at_mut(binary_len).0, &tail)
 }

@@ -1,6 +1,6 @@
 //! Words of charstrings that are known by the byte that they begin with.
-ghost use Rattle.std.specs.Prelude.{◌≡◌, ◌<◌, ◌≤◌, ◌+◌, ◌==◌, ◌-ℤ◌, pos, true, false, ℕ, List, Some, Ok};
-ghost use Rattle.std.specs.Prelude.{length, take, nat_eq, IfSome};
+ghost use Rattle.std.specs.Prelude.{◌≡◌, ◌<◌, ◌≤◌, ◌+◌, ◌==◌, ◌-ℤ◌, pos, true, false, ℕ};
+ghost use Rattle.std.specs.Prelude.{length, take, nat_eq, IfSome, List, Some, Ok};
 ghost use Rattle.std.specs.Map.{lookup};
 ghost use Rattle.t1_frac.specs.Numbers.{is_number_word};
 ghost use Rattle.t1_disassemble.specs.KnownWords.{IsKnown};

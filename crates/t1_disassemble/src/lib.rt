@@ -17,5 +17,5 @@ mod segments;
 mod settings;
 mod waiting;
 
-pub use disassembly::disassemble;
+pub use disassembly::{disassemble, disassemble_in_place};
 pub use fault::{FontCode, FontFault, FontPlace, FontRefusal};

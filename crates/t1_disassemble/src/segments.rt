@@ -1,8 +1,9 @@
 //! The segments of a file, and the parts of a font that they hold.
 ghost use Rattle.std.specs.Prelude.{◌≡◌, ◌+◌, ◌-◌, ◌≤◌, ◌<◌, length, option_map, IfOk, IfSome};
-ghost use Rattle.std.specs.Prelude.{MatchResult, OnOk, Ok, Err, [], ◌++◌};
+ghost use Rattle.std.specs.Prelude.{MatchResult, OnOk, Ok, Err, ℕ, List, [], ◌++◌};
 ghost use Rattle.t1_text.specs.Lines.{begins_with};
 ghost use Rattle.t1_code.specs.Pfb.{marker};
+ghost use Rattle.t1_disassemble.specs.InPlace.{IsFront, GivesTail, tailless};
 ghost use Rattle.t1_disassemble.specs.Outcome.{Gives, fault_at};
 ghost use Rattle.t1_disassemble.specs.declared.fault.FontPlace.TheVariants.{Byte};
 ghost use Rattle.t1_disassemble.specs.SegmentsRead.{segment_after, typed_segment, segment_at};
@@ -190,6 +191,54 @@ pub(crate) fn segmented_parts(alloc: Global, bytes: &[u8]) -> Result<Parts, Font
             return Ok(parts);
         };
         parts.put(found)?;
+        rest = found.after;
+    }
+}
+
+/// How many bytes the first segment of a file has and how many the second, where these are one of
+/// text and one of binary data.
+#[tactic(auto, using(crate::proofs::InPlaceLaws::front_found))]
+pub(crate) fn front_lens(file: &[u8]) -> Option<(usize, usize)>
+    ensures { IfSome result (λ lens. IsFront lens.0 lens.1 file.now) }
+{
+    let Ok(Some(text)) = next_segment(file) else {
+        return None;
+    };
+    if text.kind != ASCII {
+        return None;
+    }
+    let Ok(Some(binary)) = next_segment(text.after) else {
+        return None;
+    };
+    if binary.kind != BINARY || binary.bytes.is_empty() {
+        return None;
+    }
+    Some((text.bytes.len(), binary.bytes.len()))
+}
+
+/// The text of the segments that are left of a file of so many bytes, where none of them is binary.
+#[tactic(auto, using(crate::proofs::InPlaceLaws::tail_ends, crate::proofs::InPlaceLaws::tail_fails))]
+pub(crate) fn text_left(
+    alloc: Global,
+    total: usize,
+    bytes: &[u8],
+) -> Result<Option<Vec<u8>>, FontRefusal>
+    requires { length bytes.now ≤ total }
+    ensures { (clear coded : List ℕ)
+        → 0 < length coded
+        → GivesTail (λ tail. tail.items) clear coded result
+        (parts_onto (tailless clear coded) (segments_of total bytes.now)) }
+{
+    let mut tail = Vec::new(alloc);
+    let mut rest = bytes;
+    loop {
+        let Some(found) = placed_segment(total, rest)? else {
+            return Ok(Some(tail));
+        };
+        if found.kind == BINARY {
+            return Ok(None);
+        }
+        tail.extend_from_slice(found.bytes)?;
         rest = found.after;
     }
 }

@@ -5,7 +5,7 @@ ghost use Rattle.t1edit.specs.Sources.{GivesSource, kind_of, source_in};
 
 use crate::file_error::FileError;
 use std::alloc::Global;
-use t1_disassemble::disassemble;
+use t1_disassemble::disassemble_in_place;
 
 /// What a file is that is named as the source.
 #[derive(Clone, Copy, Debug, PartialEq, Eq)]
@@ -30,6 +30,9 @@ pub fn source_in(alloc: Global, kind: Kind, file: Vec<u8>) -> Result<Vec<u8>, Fi
 {
     match kind {
         Kind::Source => Ok(file),
-        Kind::Font => Ok(disassemble(alloc, &file)?),
+        Kind::Font => {
+            let mut file = file;
+            Ok(disassemble_in_place(alloc, &mut file)?)
+        }
     }
 }
