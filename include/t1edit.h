@@ -109,6 +109,8 @@ uint32_t t1edit_check(const uint8_t *source, size_t source_len, const uint8_t *p
  *     5  the place: "glyph A", "subr 7", "line 90", or no bytes
  *     6  the word that stands there, or no bytes where no word is at fault
  *     7  what more is known: "hlineto?", "no Subr 9", "1 value, 2 wanted", or no bytes
+ *     8  the composites that stand on a glyph which this fault is the first to name, in the order of the source, with a space
+ *        between two of them: "Aacute Agrave", or no bytes
  *
  * and then, of a fault that runs met in a Subr, a field for each glyph that met it: the glyph, and the Subrs that its run had
  * entered, in turn, as "glyph H subr 4 subr 9"; no name has a space in it. A byte that isn't printed, spaces aside, is told as

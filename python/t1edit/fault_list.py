@@ -17,15 +17,16 @@ from .refusals import Stopped
 class Fault:
     """A fault of a source or of its kerning file.
 
-    code     'F38'; explain(code) tells more
-    place    'glyph A', 'subr 7', 'line 5', or '' where there is none
-    text     what the code means: 'division by zero'
-    line     the line, from 1
-    column   the column, in bytes, from 1
-    word     what stands there, bytes that can't be seen as '\\xa0'; None where no word is at fault
-    hint     what more is known: 'rlineto?', 'no Subr 9', '1 value, 2 wanted'; None where nothing is
-    chains   of a fault in a Subr how each glyph came there: ('glyph H', 'subr 4', 'subr 9')
-    in_kern  whether it is the kerning file's
+    code        'F38'; explain(code) tells more
+    place       'glyph A', 'subr 7', 'line 5', or '' where there is none
+    text        what the code means: 'division by zero'
+    line        the line, from 1
+    column      the column, in bytes, from 1
+    word        what stands there, bytes that can't be seen as '\\xa0'; None where no word is at fault
+    hint        what more is known: 'rlineto?', 'no Subr 9', '1 value, 2 wanted'; None where nothing is
+    chains      of a fault in a Subr how each glyph came there: ('glyph H', 'subr 4', 'subr 9')
+    composites  the composites on the glyphs that the fault is the first to name, and so has too: ('Aacute', 'Agrave')
+    in_kern     whether it is the kerning file's
     """
 
     code: str
@@ -37,6 +38,7 @@ class Fault:
     hint: Optional[str] = None
     chains: Tuple[Tuple[str, ...], ...] = ()
     in_kern: bool = False
+    composites: Tuple[str, ...] = ()
 
     def __str__(self) -> str:
         said = f"{self.line}:{self.column}: {self.code} {self.place}".rstrip() + f": {self.text}"
@@ -76,14 +78,15 @@ def fault_of_object(told: Dict[str, Any], meanings: Dict[str, str], source: str)
     """A fault by an object that the program wrote."""
     chains = tuple(tuple(calls) for calls in told["chain"])
     where = told["place"] or "", meanings.get(told["code"], ""), told["line"], told["column"]
-    return Fault(told["code"], *where, told["word"] or None, told["hint"], chains, told["file"] != source)
+    return Fault(told["code"], *where, told["word"] or None, told["hint"], chains, told["file"] != source, tuple(told["composites"]))
 
 
 def fault_of_row(fields: List[str], meanings: Dict[str, str]) -> Fault:
     """A fault by the fields that the library told."""
-    text, line, column, code, place, word, hint, *chains = fields
+    text, line, column, code, place, word, hint, composites, *chains = fields
+    where = place, meanings.get(code, ""), int(line), int(column)
     calls = tuple(calls_of(chain) for chain in chains)
-    return Fault(code, place, meanings.get(code, ""), int(line), int(column), word or None, hint or None, calls, text == "pairs")
+    return Fault(code, *where, word or None, hint or None, calls, text == "pairs", tuple(composites.split()))
 
 
 def calls_of(chain: str) -> Tuple[str, ...]:

@@ -21,8 +21,8 @@ class Lists(Room):
         self.assertEqual(
             found,
             [
-                Fault("F38", "subr 4", "division by zero", 35, 8, "div", None, calls),
-                Fault("F20", "glyph A", "an unknown word", 50, 6, "hlinto", "hlineto?"),
+                Fault("F38", "subr 4", "division by zero", 35, 8, "div", None, calls, composites=("Aacute",)),
+                Fault("F20", "glyph A", "an unknown word", 50, 6, "hlinto", "hlineto?", composites=("Aacute",)),
             ],
         )
         self.assertEqual(str(found[0]), "35:8: F38 subr 4: division by zero: div")

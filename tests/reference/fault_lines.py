@@ -53,6 +53,7 @@ def fault_text(path, text, found):
     for fault in found:
         told += head(path, fault) + excerpt(all_lines, fault)
         told += b"".join(b"    in " + ", ".join(chain(*it)).encode() + b"\n" for it in fault.chains)
+        told += b"    composites on it: " + b", ".join(fault.composites) + b"\n" if fault.composites else b""
     return told
 
 
@@ -64,6 +65,7 @@ def fault_json(path, _text, found):
         it["place"] = seen(fault.place) if fault.place else None
         it["word"] = seen(fault.word) if fault.word is not None else None
         it["chain"] = [chain(*calls) for calls in fault.chains]
+        it["composites"] = [seen(name) for name in fault.composites]
         told += json.dumps(it, separators=(",", ":"), sort_keys=True, ensure_ascii=False) + "\n"
     return told.encode()
 

@@ -17,7 +17,8 @@ MOST_EDITS = 2
 class Found:
     """A fault: its code, its place as check tells it, its line and column from 1, the bytes that stand there where a word is at
     fault, a hint, and, where it stands in a Subr, the chains of calls through which it was met: of each the glyph's name, and the
-    Subrs in turn. A fault that is nowhere has no place; those of a source as a whole stand at its front."""
+    Subrs in turn. With it are told the composites on glyphs that it is the first to name. A fault that is nowhere has no place;
+    those of a source as a whole stand at its front."""
 
     code: str
     place: bytes
@@ -26,6 +27,11 @@ class Found:
     word: bytes = None
     hint: str = ""
     chains: list = field(default_factory=list)
+    composites: list = field(default_factory=list)
+
+    def glyphs(self):
+        """The glyphs that it names: the one in whose entry it stands, or those whose runs met it in a Subr."""
+        return {self.place[6:]} if self.place.startswith(b"glyph ") else {name for name, _ in self.chains}
 
 
 @dataclass(frozen=True)
@@ -297,6 +303,28 @@ class Joins(Font):
         return None
 
 
+# The composites on glyphs that have faults
+
+def parts_of(name, runs):
+    """The glyphs on which a composite stands whose own run has no fault, and those on which these stand, nested so deep."""
+    found, level = set(), {name}
+    for _ in range(DEEPEST):
+        composites = [runs[it].composite for it in level if it in runs and runs[it].composite]
+        level = {part for it in composites for part in (it.base, it.accent)}
+        found |= level
+    return found
+
+
+def tell_composites(found, names, runs):
+    """Gives each fault the composites on the glyphs with faults that no fault before it names."""
+    under = {name: parts_of(name, runs) for name in names}
+    left = set(names) - set(runs)
+    for fault in found:
+        glyphs = fault.glyphs() & left
+        left -= glyphs
+        fault.composites = [name for name in names if under[name] & glyphs]
+
+
 # All of a source
 
 def is_too_long(source):
@@ -321,4 +349,5 @@ def found_faults(text):
         code = None if placed.entry.is_subr() else joins.code(placed.entry.key)
         if code:
             found.append(placed.fault(code))
+    tell_composites(found, [placed.entry.key for placed in entries if not placed.entry.is_subr()], runs)
     return found

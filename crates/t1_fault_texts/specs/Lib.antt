@@ -1,5 +1,6 @@
 pub mod Finding
 pub mod FontFaults
 pub mod Hints
+pub mod Names
 pub mod Rows
 pub mod Shown

@@ -8,6 +8,7 @@ use Rattle.t1_faults.specs.declared.call_chains.CallChain.{CallChain}
 use Rattle.t1_faults.specs.declared.found.FoundFault.{FoundFault}
 use Rattle.t1_fault_texts.specs.Finding.{pairs_faults}
 use Rattle.t1_fault_texts.specs.Hints.{hint}
+use Rattle.t1_fault_texts.specs.Names.{listed}
 use Rattle.t1_fault_texts.specs.Shown.{shown}
 
 -- profile, rows of faults: a field after a tab, its bytes as they are shown, so that no tab and no line end is in it
@@ -47,9 +48,14 @@ position_fields fault = number_field fault.line ++ number_field fault.column
 abbrev pub fault_fields : FoundFault → List ℕ
 fault_fields fault = field (code_name fault.code) ++ (field (place_words fault.place) ++ (field (word_or_nothing fault.word) ++ field (hint fault)))
 
+-- profile, rows of faults: the composites that are told with a fault, with a space between each two; nothing where there are none
+abbrev pub composites_field : FoundFault → List ℕ
+composites_field fault = field (listed (codes " ") fault.composites)
+
 -- profile, rows of faults: the line of a fault, which begins with the name of the text that has it
 abbrev pub row : List ℕ → FoundFault → List ℕ
-row name fault = name ++ (position_fields fault ++ (fault_fields fault ++ (flat_map chain_field fault.chains ++ codes "\n")))
+row name fault =
+    name ++ (position_fields fault ++ (fault_fields fault ++ (composites_field fault ++ (flat_map chain_field fault.chains ++ codes "\n"))))
 
 -- profile, rows of faults: the lines of faults of one text
 abbrev pub rows : List ℕ → List FoundFault → List ℕ

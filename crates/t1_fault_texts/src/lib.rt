@@ -3,13 +3,14 @@
 //! [`fault_text`] is a fault of a source, of its pairs or of a run by its code and its place,
 //! [`font_fault_text`] one of a font's file, and [`put_font_fault`] writes this. [`fault_rows`]
 //! has every fault of a source and its pairs, a line each. What such lines are made of is for
-//! other layouts too: [`code_name`], [`push_place`], [`hint_on`], [`push_shown`].
+//! other layouts too: [`code_name`], [`push_place`], [`push_names`], [`hint_on`], [`push_shown`].
 #![tactic(auto)]
 
 mod finding;
 mod font_fault;
 mod hint;
 mod name;
+mod names;
 mod rows;
 mod shown_bytes;
 
@@ -17,5 +18,6 @@ pub use finding::pairs_faults;
 pub use font_fault::{font_fault_text, put_font_fault};
 pub use hint::hint_on;
 pub use name::{code_name, fault_text, push_place};
+pub use names::push_names;
 pub use rows::fault_rows;
 pub use shown_bytes::push_shown;

@@ -1,17 +1,19 @@
 //! Every fault of a source and its pairs in a text, a line each.
-ghost use Rattle.std.specs.Prelude.{◌≡◌, ◌++◌, flat_map, IfOk, OnOk};
-ghost use Rattle.t1_fault_texts.specs.Rows.{chain_field, chain_words, entered, fault_fields};
-ghost use Rattle.t1_fault_texts.specs.Rows.{fault_rows, field, place_words, position_fields};
-ghost use Rattle.t1_fault_texts.specs.Rows.{row, rows, word_or_nothing};
+ghost use Rattle.std.specs.Prelude.{◌≡◌, ◌++◌, codes, flat_map, IfOk, OnOk};
+ghost use Rattle.t1_fault_texts.specs.Names.{listed};
+ghost use Rattle.t1_fault_texts.specs.Rows.{chain_field, chain_words, composites_field, entered};
+ghost use Rattle.t1_fault_texts.specs.Rows.{fault_fields, fault_rows, field, place_words};
+ghost use Rattle.t1_fault_texts.specs.Rows.{position_fields, row, rows, word_or_nothing};
 
 use crate::finding::pairs_faults;
 use crate::hint::hint_on;
 use crate::name::{code_name, push_place};
+use crate::names::push_names;
 use crate::shown_bytes::push_shown;
 use itoa::Buffer;
 use std::alloc::{AllocError, Global};
 use t1_faults::{CallChain, FoundFault, source_faults};
-use t1_frac::{Place, SourceText};
+use t1_frac::{Bytes, Place, SourceText};
 
 /// Adds a field after a tab, its bytes as they are shown.
 fn push_field(alloc: Global, text: &mut Vec<u8>, bytes: &[u8]) -> Result<(), AllocError>
@@ -101,6 +103,30 @@ fn push_fault(alloc: Global, text: &mut Vec<u8>, fault: &FoundFault<'_>) -> Resu
     push_field(alloc, text, &hint_on(alloc, fault)?)
 }
 
+/// Names with a space between each two.
+fn spaced_names(alloc: Global, names: &[Bytes]) -> Result<Vec<u8>, AllocError>
+    ensures { IfOk result (λ text. text.items ≡ listed (codes " ") names.now) }
+{
+    let mut text = Vec::new(alloc);
+    push_names(&mut text, b" ", names)?;
+    Ok(text)
+}
+
+/// Adds the composites that are told with a fault as a field.
+fn push_composites(
+    alloc: Global,
+    text: &mut Vec<u8>,
+    fault: &FoundFault<'_>,
+) -> Result<(), AllocError>
+    ensures { OnOk result (text.new.items ≡ text.old.items ++ composites_field fault.now) }
+{
+    push_field(
+        alloc,
+        text,
+        &spaced_names(alloc, fault.composites.as_slice())?,
+    )
+}
+
 /// Adds the line of a fault, which begins with the name of the text that has it.
 fn push_row(
     alloc: Global,
@@ -113,6 +139,7 @@ fn push_row(
     text.extend_from_slice(name)?;
     push_position(text, fault)?;
     push_fault(alloc, text, fault)?;
+    push_composites(alloc, text, fault)?;
     push_chains(alloc, text, fault.chains.as_slice())?;
     text.extend_from_slice(b"\n")?;
     Ok(())
@@ -135,9 +162,10 @@ fn push_rows(
 
 /// The fault of a source's pairs, where they have one, and then every fault of the source, a line
 /// each, with a tab between its fields: `pairs` or `source`, the line and the column, the code, the
-/// place, the word, what is said beside them, and then, of a fault that runs met in a Subr, a field
-/// for each glyph that met it, with the Subrs that its run had entered: `glyph H subr 4 subr 9`.
-/// Bytes are shown as `push_shown` has them.
+/// place, the word, what is said beside them, the composites that are told with it, as `Aacute
+/// Agrave`, and then, of a fault that runs met in a Subr, a field for each glyph that met it, with
+/// the Subrs that its run had entered: `glyph H subr 4 subr 9`. Bytes are shown as `push_shown` has
+/// them.
 #[tactic(auto, unfolding(crate::specs::Rows::fault_rows))]
 pub fn fault_rows(alloc: Global, source: &[u8], pairs: &[u8]) -> Result<Vec<u8>, AllocError>
     ensures { IfOk result (λ text. text.items ≡ fault_rows source.now pairs.now) }

@@ -42,7 +42,9 @@ use Rattle.t1_faults.specs.Failing.{failures_in, is_faulty_subr, is_some_and, mi
 use Rattle.t1_faults.specs.Found.{code_of}
 use Rattle.t1_faults.specs.Met.{FailedRun, failed_runs, faults_at, last_entered, met_in, own_fault, run_fault}
 use Rattle.t1_faults.specs.Reading.{reading_fault}
-use Rattle.t1_faults.specs.Judging.{OwnRuns, checked, entries_in, entry_faults, faults_among, faults_of, faults_read, fault_of, file_faults, join_faults, source_faults}
+use Rattle.t1_faults.specs.Composites.{OwnRuns, composites_on, first_naming, with_composites}
+use Rattle.t1_faults.specs.Judging.{checked, entries_in, entry_faults, faults_alone, faults_among, faults_of, faults_read, fault_of, file_faults, join_faults, source_faults}
+use Rattle.t1_faults.proofs.CompositeLaws.{none_still}
 use Rattle.t1_faults.proofs.EntryLaws.{read_entries}
 use Rattle.t1_faults.proofs.FailureLaws.{runs_told}
 use Rattle.t1_faults.proofs.MetLaws.{HasMet, IsSubr, both, glyph_there, last_there, met_at_word, met_there, nothing_met, one_of, own_met, run_of, run_there, subr_there}
@@ -185,7 +187,7 @@ never_fails items es are none g there = by (failures_in items g) refl where
   by None e = e
   by (Some f) e = absurd (met f e (last_entered f.calls) refl)
 
-found_none_of : (s : SourceParts) (es : List Entry) → AreOf s.items es → faults_among s es ≡ [] → source_check s ≡ Ok tt
+found_none_of : (s : SourceParts) (es : List Entry) → AreOf s.items es → faults_alone s es ≡ [] → source_check s ≡ Ok tt
 found_none_of s es are none =
     let run = own (font_to_run s.items) in
     let failed = failed_runs (failures_in s.items) es in
@@ -206,8 +208,11 @@ pub found_none : (bytes : List ℕ) → source_faults bytes ≡ [] → checked b
 found_none bytes none = by (reads bytes) refl where
   by : (r : Result SourceParts Fault) → reads bytes ≡ r → checked bytes ≡ Ok tt
   by (Ok s) e =
-      let listed : faults_of (lines bytes) s ≡ [] = ap (faults_read (lines bytes)) (sym e) ∙ none in
-      ap (λ r. r >>= source_check) e ∙ found_none_of s (entries_in (parts_of (lines bytes)) s) (read_entries bytes s e) listed
+      let es = entries_in (parts_of (lines bytes)) s in
+      let run = own (font_to_run s.items) in
+      let listed : faults_among s es ≡ [] = ap (faults_read (lines bytes)) (sym e) ∙ none in
+      let alone = none_still (composites_on (first_naming 0 (faults_alone s es)) run (glyph_names s.items)) 0 (faults_alone s es) listed in
+      ap (λ r. r >>= source_check) e ∙ found_none_of s es (read_entries bytes s e) alone
   by (Err fault) e = let some : reading_fault (lines bytes) fault ∷ [] ≡ [] = ap (faults_read (lines bytes)) (sym e) ∙ none in absurd (cc)
 
 -- ---- and the other way round
@@ -238,9 +243,9 @@ never_told : (o : Option Failure) → option_map (λ (f : Failure). f.code) o �
 never_told None e = refl
 never_told (Some f) e = absurd (cc)
 
-pub none_found_of : (s : SourceParts) (es : List Entry) → AreOf s.items es → source_check s ≡ Ok tt → faults_among s es ≡ []
+none_alone : (s : SourceParts) (es : List Entry) → AreOf s.items es → source_check s ≡ Ok tt → faults_alone s es ≡ []
 unfolding measured_source
-none_found_of s es are passed =
+none_alone s es are passed =
     let run = own (font_to_run s.items) in
     let F = failures_in s.items in
     let font = bind_ok (file_check s >>= λ fine. measured s.items) (λ (m : MeasuredFont). Ok tt) tt passed in
@@ -258,6 +263,9 @@ none_found_of s es are passed =
     (entries_fine (own_fault failed) (faults_at failed) es (bodies_fine s.items es are bodies) (nothing_met F none es))
     (none_joined (file_faults (bodies_check s.items) (file_check s)) (flat_map (join_faults run) es)
     (no_file_fault (bodies_check s.items) (file_check s) whole) (joins_fine run s.items es are each))
+
+pub none_found_of : (s : SourceParts) (es : List Entry) → AreOf s.items es → source_check s ≡ Ok tt → faults_among s es ≡ []
+none_found_of s es are passed = ap (with_composites (own (font_to_run s.items)) (glyph_names s.items)) (none_alone s es are passed)
 
 -- in a source that passes, nothing is found
 pub none_where_sound : (bytes : List ℕ) (s : SourceParts) (font : MeasuredFont) → reads bytes ≡ Ok s → measured_source s ≡ Ok font → [] ≡ faults_of (lines bytes) s

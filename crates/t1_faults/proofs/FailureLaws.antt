@@ -18,7 +18,8 @@ use Rattle.t1_chain.specs.Failing.{Failure, failure_in}
 use Rattle.t1_chain.proofs.FailingLaws.{failures_told}
 use Rattle.t1_faults.specs.Failing.{failure_at, failures_in, is_faulty_subr, is_some_and, missing_subr, told, told_by}
 use Rattle.t1_faults.specs.Found.{code_of}
-use Rattle.t1_faults.specs.Judging.{OwnRuns, fault_of}
+use Rattle.t1_faults.specs.Composites.{OwnRuns}
+use Rattle.t1_faults.specs.Judging.{fault_of}
 use Rattle.t1_faults.proofs.SoundLaws.{words_there}
 
 code_as : {X : Type 0} (r : Result X Code) → code_of r ≡ result_err r

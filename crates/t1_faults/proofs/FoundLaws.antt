@@ -15,7 +15,8 @@ use Rattle.t1_faults.specs.declared.run_fault.RunFault.{RunFault}
 use Rattle.t1_faults.specs.Entries.{Entry, placed_words}
 use Rattle.t1_faults.specs.Failing.{failures_in}
 use Rattle.t1_faults.specs.Found.{at_entry, at_place, body_faults, in_entry, length_faults, word_faults}
-use Rattle.t1_faults.specs.Judging.{OwnRuns, entry_faults, join_fault, join_faults, or_else, run_faults}
+use Rattle.t1_faults.specs.Composites.{OwnRuns, composites_on, first_naming}
+use Rattle.t1_faults.specs.Judging.{entry_faults, join_fault, join_faults, or_else, run_faults}
 use Rattle.t1_faults.specs.Met.{failed_runs, faults_at, met_in, own_fault}
 use Rattle.t1_faults.specs.Telling.{TellsWord}
 use Rattle.std.specs.Prelude.{ok_or}
@@ -33,8 +34,10 @@ use Rattle.t1_source.proofs.WellFormedSourceLaws.{taken_apart, TakenApart}
 use Rattle.t1_run.specs.Run.{own}
 use Rattle.t1_font.specs.Assembly.{file_check}
 use Rattle.t1_font.specs.Bodies.{bodies_check}
+use Rattle.t1_font.specs.Glyphs.{glyph_names}
 use Rattle.t1_font.specs.ToRun.{font_to_run}
-use Rattle.t1_faults.specs.Judging.{entries_in, faults_of, faults_read, file_faults, source_faults}
+use Rattle.t1_faults.specs.Judging.{entries_in, faults_alone, faults_of, faults_read, file_faults, source_faults}
+use Rattle.t1_faults.proofs.CompositeLaws.{words_still}
 use Rattle.t1_faults.proofs.PlacedLaws.{all_append}
 use Rattle.t1_faults.proofs.StandingLaws.{Stands, WordsStand, entries_stand}
 
@@ -129,8 +132,9 @@ found_of ls s h =
     let failed = failed_runs (failures_in s.items) es in
     let mine = flat_map (entry_faults (own_fault failed) (faults_at failed)) es in
     let file = file_faults (bodies_check s.items) (file_check s) in
-    all_append (TellsWord ls) mine (file ++ flat_map (join_faults run) es) (entries_tell ls (own_fault failed) (faults_at failed) es h)
-    (all_append (TellsWord ls) file (flat_map (join_faults run) es) (file_tells ls (bodies_check s.items) (file_check s)) (joins_tell ls run es))
+    words_still ls (composites_on (first_naming 0 (faults_alone s es)) run (glyph_names s.items)) 0 (faults_alone s es)
+    (all_append (TellsWord ls) mine (file ++ flat_map (join_faults run) es) (entries_tell ls (own_fault failed) (faults_at failed) es h)
+    (all_append (TellsWord ls) file (flat_map (join_faults run) es) (file_tells ls (bodies_check s.items) (file_check s)) (joins_tell ls run es)))
 
 -- the source has the word of each fault that is found at its line and column
 pub words_there : (bytes : List ℕ) (s : SourceParts) → reads bytes ≡ Ok s → AllByRecursion (TellsWord (lines bytes)) (source_faults bytes)

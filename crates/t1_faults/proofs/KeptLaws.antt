@@ -299,7 +299,7 @@ in_no_subr n k r runs old last is =
     is ∙ ap (λ (o : Option ℕ). faults_by_code (cond (is_number n o && nat_eq k r.failure.word) (filter (fails_at n k) runs ++ r ∷ []) (filter (fails_at n k) runs))) (sym last)
     ∙ sym (at_more runs r n k)
 
-same_turned : (n s : ℕ) → nat_eq s n ≡ nat_eq n s
+pub same_turned : (n s : ℕ) → nat_eq s n ≡ nat_eq n s
 same_turned n s = elim (cases_Bool (nat_eq n s)) [
   | inl same ↦
       let e : n ≡ s = numbers_tell.same n s same in

@@ -1,5 +1,6 @@
 pub mod CheckLaws
 pub mod ColumnLaws
+pub mod CompositeLaws
 pub mod EntryLaws
 pub mod FailureLaws
 pub mod FoundLaws
@@ -11,6 +12,7 @@ pub mod PlacedLaws
 pub mod ReadingLaws
 pub mod SoundLaws
 pub mod StandingLaws
+pub mod StandingOnLaws
 pub mod TakenLaws
 pub mod TellingLaws
 pub mod ToRunLaws

@@ -25,7 +25,8 @@ use Rattle.t1_faults.specs.declared.placed.PlacedWord.{PlacedWord}
 use Rattle.t1_faults.specs.declared.run_fault.RunFault.{RunFault}
 use Rattle.t1_faults.specs.Entries.{Entry, placed_words}
 use Rattle.t1_faults.specs.Found.{at_entry, at_word, body_faults, code_of, in_entry, length_faults, met_faults, word_faults}
-use Rattle.t1_faults.specs.Judging.{OwnRuns, entry_faults, fault_of, join_fault, join_faults, or_else, run_faults, sound_parts, sound_run, sound_within}
+use Rattle.t1_faults.specs.Composites.{OwnRuns}
+use Rattle.t1_faults.specs.Judging.{entry_faults, fault_of, join_fault, join_faults, or_else, run_faults, sound_parts, sound_run, sound_within}
 use Rattle.t1_faults.specs.Met.{met_in}
 use Rattle.t1_faults.proofs.TakenLaws.{AreOf}
 

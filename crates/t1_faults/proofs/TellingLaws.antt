@@ -43,14 +43,17 @@ use Rattle.t1_faults.specs.Entries.{Entry, placed_words}
 use Rattle.t1_faults.specs.Failing.{failures_in}
 use Rattle.t1_faults.specs.Found.{at_entry, at_place, body_faults, code_of, in_entry, length_faults, met_faults, word_faults}
 use Rattle.t1_faults.specs.Met.{FailedRun, failed_runs, faults_at, last_entered, met_in, own_fault, run_fault}
-use Rattle.t1_faults.specs.Judging.{OwnRuns, checked, entries_in, entry_faults, fault_of, faults_among, faults_read, file_faults, join_fault, join_faults, or_else, run_faults, sound_parts, sound_run, sound_within, source_faults}
-use Rattle.t1_faults.specs.Reading.{reading_fault}
-use Rattle.t1_faults.specs.Telling.{HasChain, IsAnswered, IsMet, IsTold, StandsOn, runs_read}
+use Rattle.t1_faults.specs.Composites.{OwnRuns, composites_on, first_naming}
+use Rattle.t1_faults.specs.Judging.{checked, entries_in, entry_faults, fault_of, faults_alone, faults_among, faults_read, file_faults, join_fault, join_faults, or_else, run_faults, sound_parts, sound_run, sound_within, source_faults}
+use Rattle.t1_faults.specs.Reading.{placed_reading, reading_fault}
+use Rattle.t1_faults.specs.Telling.{HasChain, IsAnswered, IsMet, IsNamed, IsTold, StandsOn, runs_read}
 use Rattle.t1_faults.proofs.CheckLaws.{absent, leads}
+use Rattle.t1_faults.proofs.CompositeLaws.{answered_still}
 use Rattle.t1_faults.proofs.EntryLaws.{read_entries}
 use Rattle.t1_faults.proofs.FailureLaws.{runs_told}
 use Rattle.t1_faults.proofs.MetLaws.{Has, HasMet, IsSubr, both, glyph_there, last_there, met_at_word, met_there, own_met, run_of, run_there, subr_there}
 use Rattle.t1_faults.proofs.SoundLaws.{bodies_fine, long_as}
+use Rattle.t1_faults.proofs.StandingOnLaws.{named_on, named_told, naming}
 use Rattle.t1_faults.proofs.TakenLaws.{AreOf}
 
 told_left : (code : Code) (place : Place) (xs ys : List FoundFault) → IsTold code place xs → IsTold code place (xs ++ ys)
@@ -352,7 +355,7 @@ is_glyph_of items p code e =
     ]
 
 glyph_answered : (s : SourceParts) (es : List Entry) (fault : Fault) → AreOf s.items es → bodies_check s.items ≡ Ok tt → measured s.items ≡ Err fault
-    → IsAnswered (own (font_to_run s.items)) (faults_among s es) fault
+    → IsAnswered (own (font_to_run s.items)) (faults_alone s es) fault
 glyph_answered s es fault are bodies e =
     let run = own (font_to_run s.items) in
     let failed = failed_runs (failures_in s.items) es in
@@ -364,26 +367,28 @@ glyph_answered s es fault are bodies e =
       | inl sound ↦
           let told = join_told run s.items es w.0 w.1 are w.2 sound w.4 in
           let all = told_right w.1 (places.Glyph w.0) mine (file ++ joins) (told_right w.1 (places.Glyph w.0) file joins told) in
-          inl (subst (λ (f : Fault). IsTold f.code f.place (faults_among s es)) w.3 all)
+          inl (subst (λ (f : Fault). IsTold f.code f.place (faults_alone s es)) w.3 all)
       | inr not_sound ↦
           let u = unsound run 4 w.0 not_sound in
           let told = run_told s.items es u.0 u.1 are bodies (is_glyph_of s.items u.0 u.1 u.3) u.3 in
           inr (w.0, u.0, u.1, sym (ap (λ (f : Fault). f.place) w.3), u.2, of_left u.1 u.0 mine (file ++ joins) told)
     ]
 
-source_answered : (s : SourceParts) (es : List Entry) (fault : Fault) → AreOf s.items es → source_check s ≡ Err fault
-    → IsAnswered (own (font_to_run s.items)) (faults_among s es) fault
+-- the fault that check reports is told, or it is the first that measuring finds
+told_or_measured : (s : SourceParts) (es : List Entry) (fault : Fault) → AreOf s.items es → source_check s ≡ Err fault
+    → IsTold fault.code fault.place (faults_alone s es) ⊎ ((bodies_check s.items ≡ Ok tt) × (measured s.items ≡ Err fault))
 unfolding measured_source
-source_answered s es fault are e = bodies (bodies_check s.items) refl where
-  file : (r : Result (Unit {0}) Fault) → bodies_check s.items ≡ Ok tt → file_check s ≡ r → IsAnswered (own (font_to_run s.items)) (faults_among s es) fault
+told_or_measured s es fault are e = bodies (bodies_check s.items) refl where
+  file : (r : Result (Unit {0}) Fault) → bodies_check s.items ≡ Ok tt → file_check s ≡ r
+      → IsTold fault.code fault.place (faults_alone s es) ⊎ ((bodies_check s.items ≡ Ok tt) × (measured s.items ≡ Err fault))
   file (Ok u) sound h = glyphs (measured s.items) refl
     where
-      glyphs : (m : Result MeasuredFont Fault) → measured s.items ≡ m → IsAnswered (own (font_to_run s.items)) (faults_among s es) fault
+      glyphs : (m : Result MeasuredFont Fault) → measured s.items ≡ m → IsTold fault.code fault.place (faults_alone s es) ⊎ ((bodies_check s.items ≡ Ok tt) × (measured s.items ≡ Err fault))
       glyphs (Ok font) k = let none : ◌≡◌ {A = Result (Unit {0}) Fault} (Ok tt) (Err fault) = rw (h, k) at e in absurd (cc)
       glyphs (Err other) k =
           let first : ◌≡◌ {A = Result (Unit {0}) Fault} (Err other) (Err fault) = rw (h, k) at e in
           let same : other ≡ fault = cc in
-          glyph_answered s es fault are sound (k ∙ ap Err same)
+          inr (sound, k ∙ ap Err same)
   file (Err other) sound h =
       let first : ◌≡◌ {A = Result (Unit {0}) Fault} (Err other) (Err fault) = rw h at e in
       let same : other ≡ fault = cc in
@@ -394,7 +399,7 @@ source_answered s es fault are e = bodies (bodies_check s.items) refl where
       inl (told_right fault.code fault.place (flat_map (entry_faults (own_fault failed) (faults_at failed)) es) (file_faults (bodies_check s.items) (file_check s) ++ flat_map (join_faults run) es)
       (told_left fault.code fault.place (file_faults (bodies_check s.items) (file_check s)) (flat_map (join_faults run) es) told))
 
-  bodies : (r : Result (Unit {0}) Fault) → bodies_check s.items ≡ r → IsAnswered (own (font_to_run s.items)) (faults_among s es) fault
+  bodies : (r : Result (Unit {0}) Fault) → bodies_check s.items ≡ r → IsTold fault.code fault.place (faults_alone s es) ⊎ ((bodies_check s.items ≡ Ok tt) × (measured s.items ≡ Err fault))
   bodies (Ok u) h = file (file_check s) h refl
   bodies (Err other) h =
       let early = body_fault_reported s other h in
@@ -404,6 +409,20 @@ source_answered s es fault are e = bodies (bodies_check s.items) refl where
       let failed = failed_runs (failures_in s.items) es in
       inl (told_left fault.code fault.place (flat_map (entry_faults (own_fault failed) (faults_at failed)) es) (file_faults (bodies_check s.items) (file_check s) ++ flat_map (join_faults run) es)
       (bodies_told (own_fault failed) (faults_at failed) s.items es fault are (h ∙ ap Err same)))
+
+source_answered : (s : SourceParts) (es : List Entry) (fault : Fault) → AreOf s.items es → source_check s ≡ Err fault
+    → IsAnswered (own (font_to_run s.items)) (faults_alone s es) fault
+source_answered s es fault are e = elim (told_or_measured s es fault are e) [
+  | inl told ↦ inl told
+  | inr first ↦ glyph_answered s es fault are first.0 first.1
+]
+
+-- so it is with the composites
+told_with_composites : (s : SourceParts) (es : List Entry) (fault : Fault) → IsAnswered (own (font_to_run s.items)) (faults_alone s es) fault
+    → IsAnswered (own (font_to_run s.items)) (faults_among s es) fault
+told_with_composites s es fault h =
+    let run = own (font_to_run s.items) in
+    answered_still run (composites_on (first_naming 0 (faults_alone s es)) run (glyph_names s.items)) 0 (faults_alone s es) fault h
 
 -- what check reports of some bytes is told, or is a glyph's that stands on one of which a fault is told
 pub answered : (bytes : List ℕ) (fault : Fault) → checked bytes ≡ Err fault → IsAnswered (runs_read (reads bytes)) (source_faults bytes) fault
@@ -418,9 +437,63 @@ answered bytes fault e = by (reads bytes) refl where
   by (Ok s) h =
       let judged : source_check s ≡ Err fault = ap (λ r. r >>= source_check) (sym h) ∙ e in
       subst (λ r. IsAnswered (runs_read r) (faults_read (lines bytes) r) fault) (sym h)
-      (source_answered s (entries_in (parts_of (lines bytes)) s) fault (read_entries bytes s h) judged)
+      (told_with_composites s (entries_in (parts_of (lines bytes)) s) fault (source_answered s (entries_in (parts_of (lines bytes)) s) fault (read_entries bytes s h) judged))
   by (Err other) h =
       let first : ◌≡◌ {A = Result (Unit {0}) Fault} (Err other) (Err fault) = ap (λ r. r >>= source_check) (sym h) ∙ e in
       let same : other ≡ fault = cc in
       subst (λ r. IsAnswered (runs_read r) (faults_read (lines bytes) r) fault) (sym (h ∙ ap Err same))
       (inl (reading fault fault.place refl))
+
+-- ---- the glyph of the fault that check reports is named
+
+glyph_named : (s : SourceParts) (es : List Entry) (fault : Fault) (g : List ℕ) → AreOf s.items es → bodies_check s.items ≡ Ok tt → measured s.items ≡ Err fault
+    → fault.place ≡ places.Glyph g → IsNamed g (faults_among s es)
+glyph_named s es fault g are bodies e at =
+    let run = own (font_to_run s.items) in
+    let failed = failed_runs (failures_in s.items) es in
+    let mine = flat_map (entry_faults (own_fault failed) (faults_at failed)) es in
+    let file = file_faults (bodies_check s.items) (file_check s) in
+    let joins = flat_map (join_faults run) es in
+    let w = measured_first s.items fault bodies e in
+    let places_same : places.Glyph w.0 ≡ places.Glyph g = ap (λ (f : Fault). f.place) w.3 ∙ at in
+    let glyph : w.0 ≡ g = cc in
+    subst (λ x. IsNamed x (faults_among s es)) glyph
+    (elim (cases_Bool (sound_within run 4 w.0)) [
+      | inl sound ↦
+          let told = join_told run s.items es w.0 w.1 are w.2 sound w.4 in
+          let all = told_right w.1 (places.Glyph w.0) mine (file ++ joins) (told_right w.1 (places.Glyph w.0) file joins told) in
+          named_told run (glyph_names s.items) (faults_alone s es) w.1 w.0 all
+      | inr not_sound ↦
+          let u = unsound run 4 w.0 not_sound in
+          let told = run_told s.items es u.0 u.1 are bodies (is_glyph_of s.items u.0 u.1 u.3) u.3 in
+          named_on run (glyph_names s.items) (faults_alone s es) w.0 u.0 u.1 w.2 u.2 u.3 (naming u.1 u.0 (faults_alone s es) (of_left u.1 u.0 mine (file ++ joins) told))
+    ])
+
+source_named : (s : SourceParts) (es : List Entry) (fault : Fault) (g : List ℕ) → AreOf s.items es → source_check s ≡ Err fault → fault.place ≡ places.Glyph g → IsNamed g (faults_among s es)
+source_named s es fault g are e at = elim (told_or_measured s es fault are e) [
+  | inl told ↦
+      named_told (own (font_to_run s.items)) (glyph_names s.items) (faults_alone s es) fault.code g (subst (λ place. IsTold fault.code place (faults_alone s es)) at told)
+  | inr first ↦ glyph_named s es fault g are first.0 first.1 at
+]
+
+-- where check reports a fault at a glyph, a fault names it or has it among its composites
+pub glyph_is_named : (bytes : List ℕ) (fault : Fault) (g : List ℕ) → checked bytes ≡ Err fault → fault.place ≡ places.Glyph g → IsNamed g (source_faults bytes)
+glyph_is_named bytes fault g e at = by (reads bytes) refl where
+  reading : (f : Fault) (place : Place) → place ≡ places.Glyph g → IsNamed g (placed_reading (lines bytes) f.code place ∷ [])
+  reading f places.Nowhere h = absurd (cc)
+  reading f (places.Line n) h = absurd (cc)
+  reading f (places.Subr n) h = absurd (cc)
+  reading f (places.Glyph x) h =
+      let same : x ≡ g = cc in
+      let here : bytes_eq g x ≡ true = ap (bytes_eq g) same ∙ bytes_self g in
+      inl (ap (λ b. b || false) here)
+
+  by : (r : Result SourceParts Fault) → reads bytes ≡ r → IsNamed g (source_faults bytes)
+  by (Ok s) h =
+      let judged : source_check s ≡ Err fault = ap (λ r. r >>= source_check) (sym h) ∙ e in
+      subst (λ r. IsNamed g (faults_read (lines bytes) r)) (sym h)
+      (source_named s (entries_in (parts_of (lines bytes)) s) fault g (read_entries bytes s h) judged at)
+  by (Err other) h =
+      let first : ◌≡◌ {A = Result (Unit {0}) Fault} (Err other) (Err fault) = ap (λ r. r >>= source_check) (sym h) ∙ e in
+      let same : other ≡ fault = cc in
+      subst (λ r. IsNamed g (faults_read (lines bytes) r)) (sym (h ∙ ap Err same)) (reading fault fault.place at)

@@ -27,6 +27,7 @@ at_entry e code = record {
   word = None;
   detail = Nothing;
   chains = [];
+  composites = [];
 }
 
 -- profile, faults: a fault of a word of this entry, at the word
@@ -39,6 +40,7 @@ at_word place w code = record {
   word = Some w.word;
   detail = Nothing;
   chains = [];
+  composites = [];
 }
 
 -- profile, faults: the fault of a word, where it is no number and no command

@@ -56,3 +56,16 @@ is_at n word key = nat_eq n key.0 && nat_eq word key.1
 -- word: the faults that are kept for this word of this Subr
 abbrev pub kept_at : {A : Type 0} → List ((ℕ × ℕ) × Vec RunFault A) → ℕ → ℕ → List RunFault
 kept_at entries n word = faults_kept (lookup (is_at n word) entries)
+
+-- word: the number that is kept for a glyph
+abbrev pub number_kept : {A : Type 0} → List (Vec ℕ A × ℕ) → List ℕ → Option ℕ
+number_kept entries g = lookup (λ name. bytes_eq g name.items) entries
+
+-- word: the names that are kept, none where there are none
+abbrev pub names_kept : Option (List (List ℕ)) → List (List ℕ)
+names_kept None = []
+names_kept (Some names) = names
+
+-- word: the composites that are kept for the fault of this number
+abbrev pub composites_kept : List (ℕ × List (List ℕ)) → ℕ → List (List ℕ)
+composites_kept entries n = names_kept (lookup (nat_eq n) entries)

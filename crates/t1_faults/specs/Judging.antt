@@ -14,9 +14,11 @@ use Rattle.t1_run.specs.declared.outline.Composite.{Composite}
 use Rattle.t1_run.specs.Run.{Drawing, own}
 use Rattle.t1_font.specs.Assembly.{file_check}
 use Rattle.t1_font.specs.Bodies.{bodies_check}
+use Rattle.t1_font.specs.Glyphs.{glyph_names}
 use Rattle.t1_font.specs.MeasuredGlyphs.{glyph_metrics_at}
 use Rattle.t1_font.specs.SourceChecks.{source_check}
 use Rattle.t1_font.specs.ToRun.{font_to_run}
+use Rattle.t1_faults.specs.Composites.{OwnRuns, with_composites}
 use Rattle.t1_faults.specs.Entries.{Entry, entries_from, placed_words}
 use Rattle.t1_faults.specs.Failing.{failures_in}
 use Rattle.t1_faults.specs.Found.{at_entry, body_faults, code_of, met_faults}
@@ -24,10 +26,6 @@ use Rattle.t1_faults.specs.Met.{FailedRun, failed_runs, faults_at, met_in, own_f
 use Rattle.t1_faults.specs.Reading.{at_front, reading_fault}
 use Rattle.t1_faults.specs.declared.found.FoundFault.{FoundFault}
 use Rattle.t1_faults.specs.declared.run_fault.RunFault.{RunFault}
-
--- profile, faults: what runs of glyphs' own bodies draw, or their first faults, by the glyphs' names
-abbrev pub OwnRuns : Type 0
-OwnRuns = List ℕ → Option (Result Drawing Code)
 
 -- profile, faults: the first fault of a run, where there is a run and it has one
 abbrev pub fault_of : Option (Result Drawing Code) → Option Code
@@ -90,9 +88,13 @@ abbrev pub entries_in : Result Parts Fault → SourceParts → List Entry
 entries_in (Ok parts) s = entries_from (length s.clear + 1) (take (length parts.private - 1) parts.private) s.items
 entries_in (Err fault) s = []
 
+-- profile, faults: every fault of a source that has these entries, without the composites on the glyphs that it names
+abbrev pub faults_alone : SourceParts → List Entry → List FoundFault
+faults_alone s entries = faults_by (failed_runs (failures_in s.items) entries) (own (font_to_run s.items)) s entries
+
 -- profile, faults: every fault of a source that has these entries
 abbrev pub faults_among : SourceParts → List Entry → List FoundFault
-faults_among s entries = faults_by (failed_runs (failures_in s.items) entries) (own (font_to_run s.items)) s entries
+faults_among s entries = with_composites (own (font_to_run s.items)) (glyph_names s.items) (faults_alone s entries)
 
 -- profile, faults: every fault of a source that was read of these lines
 abbrev pub faults_of : List (List ℕ) → SourceParts → List FoundFault

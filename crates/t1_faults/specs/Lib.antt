@@ -1,3 +1,4 @@
+pub mod Composites
 pub mod Entries
 pub mod Failing
 pub mod Found

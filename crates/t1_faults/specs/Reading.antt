@@ -23,6 +23,7 @@ on_line ls code number =
       word = Some (trimmed l);
       detail = detail_on ls code l;
       chains = [];
+      composites = [];
     }
 
 -- profile, faults: a fault of the source as a whole, at its front
@@ -35,6 +36,7 @@ at_front code place = record {
   word = None;
   detail = Nothing;
   chains = [];
+  composites = [];
 }
 
 -- profile, faults: a fault of reading these lines, where it stands

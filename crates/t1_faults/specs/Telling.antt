@@ -1,5 +1,7 @@
 -- What `check` reports is among the faults that are found, or stands on one of them.
-use Rattle.std.specs.Prelude.{◌≡◌, ℕ, zero, suc, ◌⊎◌, None, Some, Result, Ok, Err, IfSome, List, [], ◌∷◌}
+use Rattle.std.specs.Prelude.{◌≡◌, ℕ, zero, suc, true, ◌⊎◌, None, Some, Result, Ok, Err, IfSome, List, [], ◌∷◌}
+use Rattle.std.specs.List.{AllByRecursion, list_any}
+use Rattle.std.specs.Str.{bytes_eq}
 use Rattle.t1_frac.specs.declared.fault.Code.{Code}
 use Rattle.t1_frac.specs.declared.fault.Fault.{Fault}
 use Rattle.t1_frac.specs.declared.fault.Place.{Place}
@@ -8,7 +10,7 @@ use Rattle.t1_parts.specs.SourceParts.{SourceParts}
 use Rattle.t1_run.specs.declared.outline.Composite.{Composite}
 use Rattle.t1_run.specs.Run.{Drawing, own}
 use Rattle.t1_font.specs.ToRun.{font_to_run}
-use Rattle.t1_faults.specs.Judging.{OwnRuns}
+use Rattle.t1_faults.specs.Composites.{OwnRuns, names_glyph}
 use Rattle.t1_faults.specs.Placed.{HasAt}
 use Rattle.t1_faults.specs.declared.call_chains.CallChain.{CallChain}
 use Rattle.t1_faults.specs.declared.found.FoundFault.{FoundFault}
@@ -50,3 +52,12 @@ runs_read (Err fault) = λ g. None
 -- profile, places: these lines have the word of a fault at its line and column, where it has a word
 abbrev pub TellsWord : List (List ℕ) → FoundFault → Type 0
 TellsWord ls fault = IfSome fault.word (HasAt ls fault.line fault.column)
+
+-- profile, faults: each composite that is told with a fault stands on a glyph that the fault names
+abbrev pub TellsComposites : OwnRuns → FoundFault → Type 0
+TellsComposites run fault = AllByRecursion (λ g. (p : List ℕ) × StandsOn run 4 g p × (names_glyph p fault ≡ true)) fault.composites
+
+-- profile, faults: one of the faults names this glyph, or has it among its composites
+abbrev pub IsNamed : List ℕ → List FoundFault → Type 0
+IsNamed g [] = ⊥
+IsNamed g (fault ∷ faults) = (names_glyph g fault ≡ true) ⊎ ((list_any (bytes_eq g) fault.composites ≡ true) ⊎ IsNamed g faults)

@@ -10,6 +10,7 @@ ghost use Rattle.t1_faults.specs.Found.{length_faults, word_fault, word_faults};
 
 use crate::call_chains::CallChains;
 use crate::entry_text::EntryText;
+use crate::glyph_names::GlyphNames;
 use crate::placed::PlacedWord;
 use std::alloc::{AllocError, Global};
 use t1_chain::Detail;
@@ -33,6 +34,10 @@ pub struct FoundFault<'a> {
     /// Of a fault that runs met in a Subr: each glyph that met it, in the order of the source.
     /// Else none.
     pub chains: CallChains,
+    /// The composites, in the order of the source, that stand on glyphs which have a fault of their
+    /// own and which this fault is the first to name: as the glyph in whose entry it stands, or as
+    /// one of those that met it.
+    pub composites: GlyphNames,
 }
 
 /// The most words of a body.
@@ -66,6 +71,7 @@ pub(crate) fn at_entry<'a>(
         word: None,
         detail: Detail::Nothing,
         chains: CallChains::new(alloc),
+        composites: GlyphNames::new(alloc),
     })
 }
 
@@ -86,6 +92,7 @@ pub(crate) fn at_word<'a>(
         word: Some(word.word.copied(alloc)?),
         detail: Detail::Nothing,
         chains: CallChains::new(alloc),
+        composites: GlyphNames::new(alloc),
     })
 }
 

@@ -14,6 +14,7 @@ ghost use Rattle.t1_faults.specs.Judging.{entries_in, entry_faults, faults_of, f
 ghost use Rattle.t1_faults.specs.Judging.{join_faults, source_faults};
 ghost use Rattle.t1_faults.specs.Reading.{fault_in};
 
+use crate::composites::tell_composites;
 use crate::entry::entries_of;
 use crate::entry_text::EntryText;
 use crate::failing::failed_runs;
@@ -174,6 +175,7 @@ fn faults_of_source<'a>(
     push_own_faults(alloc, &mut found, &met, &entries)?;
     push_file_fault(alloc, &mut found, source)?;
     push_join_faults(alloc, &mut found, &runs.runs, &entries)?;
+    tell_composites(alloc, &mut found, &runs.runs, source.items())?;
     Ok(found)
 }
 

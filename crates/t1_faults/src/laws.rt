@@ -3,11 +3,13 @@
 ghost use Rattle.std.specs.Prelude.{◌≡◌, ℕ, List, [], Ok, Err};
 ghost use Rattle.std.specs.List.{AllByRecursion};
 ghost use Rattle.t1_frac.specs.declared.fault.Fault.{Fault};
+ghost use Rattle.t1_frac.specs.declared.fault.Place.TheVariants.{Glyph};
 ghost use Rattle.t1_text.specs.Lines.{lines};
 ghost use Rattle.t1_parts.specs.Reading.{reads};
 ghost use Rattle.t1_parts.specs.SourceParts.{SourceParts};
 ghost use Rattle.t1_faults.specs.Judging.{checked, source_faults};
-ghost use Rattle.t1_faults.specs.Telling.{IsAnswered, TellsWord, runs_read};
+ghost use Rattle.t1_faults.specs.Telling.{IsAnswered, IsNamed, TellsComposites, TellsWord};
+ghost use Rattle.t1_faults.specs.Telling.{runs_read};
 
 /// Where no fault is found, `check` passes.
 pub fn check_passes_where_none()
@@ -30,4 +32,17 @@ pub fn reported_fault_is_found()
 pub fn words_stand_there()
     ensures { (bytes : List ℕ) (s : SourceParts) → reads bytes ≡ Ok s →
         AllByRecursion (TellsWord (lines bytes)) (source_faults bytes) }
+{}
+
+/// Each composite that is told with a fault stands on a glyph that the fault names.
+pub fn composites_stand_there()
+    ensures { (bytes : List ℕ) →
+        AllByRecursion (TellsComposites (runs_read (reads bytes))) (source_faults bytes) }
+{}
+
+/// Where `check` reports a fault at a glyph, one of the faults that are found names the glyph, or
+/// has it among its composites.
+pub fn reported_glyph_is_named()
+    ensures { (bytes : List ℕ) (fault : Fault) (g : List ℕ) → checked bytes ≡ Err fault →
+        fault.place ≡ Glyph g → IsNamed g (source_faults bytes) }
 {}

@@ -2,17 +2,20 @@
 //!
 //! [`source_faults`] gives the list, of which each [`FoundFault`] has its code, its place, its
 //! line and its column, the word that stands there, what it says beside its code
-//! (`t1_chain::Detail`), and the [`CallChains`] of calls through which runs met it in a Subr.
+//! (`t1_chain::Detail`), the [`CallChains`] of calls through which runs met it in a Subr, and the
+//! [`GlyphNames`] of the composites that stand on the glyphs that it names.
 //! [`laws`] says what the list has to do with what `check` reports. Where a source has no fault,
 //! the list costs what `check` costs.
 #![tactic(auto)]
 
 mod call_chains;
+mod composites;
 mod entry;
 mod entry_text;
 mod failed_run;
 mod failing;
 mod found;
+mod glyph_names;
 mod glyph_runs;
 mod hint;
 mod joins;
@@ -28,6 +31,7 @@ mod to_run;
 
 pub use call_chains::{CallChain, CallChains};
 pub use found::FoundFault;
+pub use glyph_names::GlyphNames;
 pub use hint::hint_of;
 pub use judging::source_faults;
 pub use reading::reading_fault;

@@ -39,6 +39,7 @@ fn in_entry<'a>(
         word: found.word,
         detail: copied_detail(alloc, &fault.detail)?,
         chains: fault.chains.copied(alloc)?,
+        composites: found.composites,
     })
 }
 

@@ -7,6 +7,7 @@ ghost use Rattle.t1_faults.specs.Reading.{at_front, on_line, reading_fault};
 
 use crate::call_chains::CallChains;
 use crate::found::FoundFault;
+use crate::glyph_names::GlyphNames;
 use crate::opening::detail_on;
 use std::alloc::Global;
 use t1_chain::Detail;
@@ -45,6 +46,7 @@ fn on_line(alloc: Global, bytes: &[u8], code: Code, number: u64) -> FoundFault<'
         word: Some(SourceText::borrowed(trimmed(line))),
         detail: detail_on(bytes, code, line),
         chains: CallChains::new(alloc),
+        composites: GlyphNames::new(alloc),
     }
 }
 
@@ -60,6 +62,7 @@ pub(crate) fn at_front<'a>(alloc: Global, code: Code, place: Place) -> FoundFaul
         word: None,
         detail: Detail::Nothing,
         chains: CallChains::new(alloc),
+        composites: GlyphNames::new(alloc),
     }
 }
 

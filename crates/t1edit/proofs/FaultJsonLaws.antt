@@ -11,7 +11,7 @@ use Rattle.t1_commands.specs.AnswerTexts.{code_name, place_text}
 use Rattle.t1_faults.specs.declared.call_chains.CallChain.{CallChain}
 use Rattle.t1_faults.specs.declared.found.FoundFault.{FoundFault}
 use Rattle.t1_fault_texts.specs.Hints.{hint}
-use Rattle.t1edit.specs.FaultJson.{chain_data, chains_data, fault_data, place_data, subr_data, text_data, text_or_null, word_data}
+use Rattle.t1edit.specs.FaultJson.{chain_data, chains_data, fault_data, names_data, place_data, subr_data, text_data, text_or_null, word_data}
 
 of_text : (bytes : List ℕ) → has_float (text_or_null bytes) ≡ false
 of_text [] = refl
@@ -32,6 +32,10 @@ of_subrs (n ∷ subrs) = of_subrs subrs
 of_chains : (chains : List CallChain) → items_have_float (items_of (map chain_data chains)) ≡ false
 of_chains [] = refl
 of_chains (chain ∷ chains) = both (has_float (chain_data chain)) _ (of_subrs chain.subrs) (of_chains chains)
+
+of_names : (names : List (List ℕ)) → items_have_float (items_of (map text_data names)) ≡ false
+of_names [] = refl
+of_names (name ∷ names) = of_names names
 
 by_order : (o : Ordering) (a b c : Members) → members_have_float a ≡ false → members_have_float b ≡ false → members_have_float c ≡ false
     → members_have_float (match_ordering o a b c) ≡ false
@@ -78,6 +82,9 @@ with_word path fault = put (codes "word") (word_data fault.word) (with_code path
 abbrev with_hint : List ℕ → FoundFault → Members
 with_hint path fault = put (codes "hint") (text_or_null (hint fault)) (with_word path fault)
 
+abbrev with_chain : List ℕ → FoundFault → Members
+with_chain path fault = put (codes "chain") (chains_data fault.chains) (with_hint path fault)
+
 -- no fault has a number that isn't whole
 pub no_float : (path : List ℕ) (fault : FoundFault) → has_float (fault_data path fault) ≡ false
 unfolding fault_data
@@ -90,4 +97,5 @@ no_float path fault =
     let code : members_have_float (with_code path fault) ≡ false = with_one (codes "code") (text_data (code_name fault.code)) (with_place path fault) refl place in
     let word : members_have_float (with_word path fault) ≡ false = with_one (codes "word") (word_data fault.word) (with_code path fault) (of_word fault.word) code in
     let hinted : members_have_float (with_hint path fault) ≡ false = with_one (codes "hint") (text_or_null (hint fault)) (with_word path fault) (of_text (hint fault)) word in
-    with_one (codes "chain") (chains_data fault.chains) (with_hint path fault) (of_chains fault.chains) hinted
+    let chained : members_have_float (with_chain path fault) ≡ false = with_one (codes "chain") (chains_data fault.chains) (with_hint path fault) (of_chains fault.chains) hinted in
+    with_one (codes "composites") (names_data fault.composites) (with_chain path fault) (of_names fault.composites) chained

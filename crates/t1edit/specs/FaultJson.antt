@@ -41,6 +41,10 @@ chain_data chain = array (item (place_data (Glyph chain.glyph)) (items_of (map s
 abbrev pub chains_data : List CallChain → Data
 chains_data chains = array (items_of (map chain_data chains))
 
+-- profile, faults: names of glyphs
+abbrev pub names_data : List (List ℕ) → Data
+names_data names = array (items_of (map text_data names))
+
 -- profile, faults: members with where a fault stands
 abbrev pub with_position : FoundFault → Members → Members
 with_position fault members =
@@ -49,8 +53,9 @@ with_position fault members =
 -- profile, faults: members with what a fault is
 abbrev pub with_fault : FoundFault → Members → Members
 with_fault fault members =
-    put (codes "chain") (chains_data fault.chains)
-    (put (codes "hint") (text_or_null (hint fault)) (put (codes "word") (word_data fault.word) (put (codes "code") (text_data (code_name fault.code)) members)))
+    put (codes "composites") (names_data fault.composites)
+    (put (codes "chain") (chains_data fault.chains)
+    (put (codes "hint") (text_or_null (hint fault)) (put (codes "word") (word_data fault.word) (put (codes "code") (text_data (code_name fault.code)) members))))
 
 -- profile, faults: a fault of a file of this name
 unfoldable pub fault_data : List ℕ → FoundFault → Data

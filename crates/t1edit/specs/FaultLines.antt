@@ -10,6 +10,7 @@ use Rattle.t1_command_line.specs.declared.topic.Section.{Section}
 use Rattle.t1_faults.specs.declared.call_chains.CallChain.{CallChain}
 use Rattle.t1_faults.specs.declared.found.FoundFault.{FoundFault}
 use Rattle.t1_fault_texts.specs.Hints.{hint}
+use Rattle.t1_fault_texts.specs.Names.{listed}
 use Rattle.t1_fault_texts.specs.Shown.{shown}
 
 -- profile, faults: where a fault stands, in the form that editors read
@@ -65,9 +66,15 @@ call_text n = codes ", subr " ++ decimal n
 abbrev pub chain_line : CallChain → List ℕ
 chain_line chain = codes "    in glyph " ++ (chain.glyph ++ (flat_map call_text chain.subrs ++ codes "\n"))
 
+-- profile, faults: the line of the composites that are told with a fault, where there are some
+abbrev pub composites_line : List (List ℕ) → List ℕ
+composites_line [] = []
+composites_line (name ∷ names) = codes "    composites on it: " ++ (listed (codes ", ") (name ∷ names) ++ codes "\n")
+
 -- profile, faults: all lines of a fault
 abbrev pub fault_lines : List ℕ → List Section → List (List ℕ) → FoundFault → List ℕ
-fault_lines path sections ls fault = head_line path sections fault ++ (excerpt fault.place ls fault ++ flat_map chain_line fault.chains)
+fault_lines path sections ls fault =
+    head_line path sections fault ++ (excerpt fault.place ls fault ++ (flat_map chain_line fault.chains ++ composites_line fault.composites))
 
 -- profile, faults: all lines of the faults of a file that has these lines
 abbrev pub faults_lines : List ℕ → List Section → List (List ℕ) → List FoundFault → List ℕ

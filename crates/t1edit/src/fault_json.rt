@@ -6,8 +6,9 @@ ghost use Rattle.serde_json.specs.Written.{compact_text};
 ghost use Rattle.t1_commands.specs.AnswerTexts.{code_name as code_of};
 ghost use Rattle.t1_fault_texts.specs.Hints.{hint};
 ghost use Rattle.t1edit.specs.FaultJson.{chain_data, chains_data, fault_data, fault_json};
-ghost use Rattle.t1edit.specs.FaultJson.{faults_json, place_data, subr_data, text_data};
-ghost use Rattle.t1edit.specs.FaultJson.{text_or_null, with_fault, with_position, word_data};
+ghost use Rattle.t1edit.specs.FaultJson.{faults_json, names_data, place_data, subr_data};
+ghost use Rattle.t1edit.specs.FaultJson.{text_data, text_or_null, with_fault, with_position};
+ghost use Rattle.t1edit.specs.FaultJson.{word_data};
 
 use serde_json::{Map, Value, put};
 use std::alloc::{AllocError, Global};
@@ -110,6 +111,26 @@ fn chains_value(alloc: Global, chains: &[CallChain]) -> Result<Value, AllocError
     Ok(Value::from(list))
 }
 
+/// Adds names as strings.
+fn push_names(alloc: Global, list: &mut Vec<Value>, names: &[Bytes]) -> Result<(), AllocError>
+    ensures { OnOk result (map view list.new.items ≡ map view list.old.items ++ map text_data
+        names.now) }
+{
+    for name in names {
+        serde_json::push(list, text_value(alloc, name.as_slice())?)?;
+    }
+    Ok(())
+}
+
+/// Names of glyphs.
+fn names_value(alloc: Global, names: &[Bytes]) -> Result<Value, AllocError>
+    ensures { IfOk result (λ value. view value ≡ names_data names.now) }
+{
+    let mut list = Vec::new(alloc);
+    push_names(alloc, &mut list, names)?;
+    Ok(Value::from(list))
+}
+
 /// Adds where a fault stands.
 fn put_position(
     alloc: Global,
@@ -141,6 +162,12 @@ fn put_fault(
         alloc,
         "chain",
         chains_value(alloc, fault.chains.as_slice())?,
+    )?;
+    put(
+        object,
+        alloc,
+        "composites",
+        names_value(alloc, fault.composites.as_slice())?,
     )
 }
 

@@ -1,17 +1,18 @@
 //! The faults of a file as lines, which people and editors read.
 ghost use Rattle.std.specs.Prelude.{◌≡◌, ◌++◌, codes, flat_map, map, take, IfOk, OnOk};
 ghost use Rattle.t1_text.specs.Lines.{lines};
-ghost use Rattle.t1edit.specs.FaultLines.{after_colon, call_text, chain_line, excerpt, fault_lines};
-ghost use Rattle.t1edit.specs.FaultLines.{faults_lines, head_line, in_brackets, marked_line, marks};
-ghost use Rattle.t1edit.specs.FaultLines.{position_text, short_line, title_text, under};
+ghost use Rattle.t1edit.specs.FaultLines.{after_colon, call_text, chain_line, composites_line};
+ghost use Rattle.t1edit.specs.FaultLines.{excerpt, fault_lines, faults_lines, head_line};
+ghost use Rattle.t1edit.specs.FaultLines.{in_brackets, marked_line, marks, position_text};
+ghost use Rattle.t1edit.specs.FaultLines.{short_line, title_text, under};
 
 use crate::numbered_lines::NumberedLines;
 use itoa::Buffer;
 use std::alloc::{AllocError, Global};
 use t1_command_line::{Section, meaning};
-use t1_fault_texts::{code_name, hint_on, push_place, push_shown};
+use t1_fault_texts::{code_name, hint_on, push_names, push_place, push_shown};
 use t1_faults::{CallChain, FoundFault};
-use t1_frac::{Place, SourceText};
+use t1_frac::{Bytes, Place, SourceText};
 
 /// The longest line that is shown.
 const LONGEST_LINE: usize = 1_000;
@@ -226,6 +227,19 @@ fn push_chains(text: &mut Vec<u8>, chains: &[CallChain]) -> Result<(), AllocErro
     Ok(())
 }
 
+/// Adds the line of the composites that are told with a fault, where there are some.
+fn push_composites(text: &mut Vec<u8>, names: &[Bytes]) -> Result<(), AllocError>
+    ensures { OnOk result (text.new.items ≡ text.old.items ++ composites_line names.now) }
+{
+    if names.is_empty() {
+        return Ok(());
+    }
+    text.extend_from_slice(b"    composites on it: ")?;
+    push_names(text, b", ", names)?;
+    text.extend_from_slice(b"\n")?;
+    Ok(())
+}
+
 /// Adds all lines of a fault.
 fn push_fault(
     alloc: Global,
@@ -241,7 +255,8 @@ fn push_fault(
 {
     push_head(alloc, text, path, sections, fault)?;
     push_excerpt(text, lines, fault)?;
-    push_chains(text, fault.chains.as_slice())
+    push_chains(text, fault.chains.as_slice())?;
+    push_composites(text, fault.composites.as_slice())
 }
 
 /// All lines of the faults of a file of this name and these bytes.
