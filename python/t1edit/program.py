@@ -76,8 +76,8 @@ def titles(program: str) -> Dict[str, str]:
 
 
 def unreadable(stopped: Stopped, paths: Sequence[Optional[str]]) -> Exception:
-    """Why a file can't be read, where that has stopped the program, which says neither which nor why."""
-    if stopped.text.endswith(": read failed"):
+    """Why a file can't be read, where that has stopped the program, in the words of Python."""
+    if re.search(r": read failed(: |$)", stopped.text):
         for path in filter(None, paths):
             try:
                 if not stat.S_ISFIFO(os.stat(path).st_mode):

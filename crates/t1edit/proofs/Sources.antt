@@ -9,7 +9,7 @@ use Rattle.t1_session.specs.declared.error.ServeError.TheVariants as errors
 use Rattle.t1edit.specs.FileErrors.{served}
 use Rattle.t1edit.specs.Sources.{LacksSource, OnSource}
 use Rattle.t1edit.specs.declared.file_error.FileError.{FileError}
-use Rattle.t1edit.specs.declared.file_error.FileError.TheVariants.{Served, Font}
+use Rattle.t1edit.specs.declared.file_error.FileError.TheVariants.{Served, Unread, Font}
 
 -- where there is no source nothing has changed, whatever the call does over one without memory
 pub without_source : {S T : Type 0} (given : Result (List ℕ) FontFault) (error : FileError) (s : S) (does : List ℕ → Result T ServeError → Type 0) → LacksSource error given
@@ -19,11 +19,13 @@ without_source (Ok source) (Served errors.Memory) s does lacks memory = memory s
 without_source (Ok source) (Served (errors.Load fault)) s does lacks memory = absurd lacks
 without_source (Ok source) (Served errors.Read) s does lacks memory = absurd lacks
 without_source (Ok source) (Served errors.Write) s does lacks memory = absurd lacks
+without_source (Ok source) (Unread words) s does lacks memory = absurd lacks
 without_source (Err fault) (Font told) s does lacks memory = (refl, cc)
 without_source (Err fault) (Served errors.Memory) s does lacks memory = (refl, tt)
 without_source (Err fault) (Served (errors.Load other)) s does lacks memory = absurd lacks
 without_source (Err fault) (Served errors.Read) s does lacks memory = absurd lacks
 without_source (Err fault) (Served errors.Write) s does lacks memory = absurd lacks
+without_source (Err fault) (Unread words) s does lacks memory = absurd lacks
 
 -- what a call over a source does is what the one over its file does
 pub on_source : {S T : Type 0} (given : Result (List ℕ) FontFault) (source : List ℕ) (old new : S) (does : List ℕ → Result T ServeError → Type 0) (answer : Result T ServeError)

@@ -1,5 +1,5 @@
 -- Why a call over the bytes of a file stops, and how that is told.
-use Rattle.std.specs.Prelude.{ℕ, List, Result, Ok, Err, codes}
+use Rattle.std.specs.Prelude.{ℕ, List, ◌++◌, Result, Ok, Err, codes}
 use Rattle.t1_commands.specs.AnswerTexts.{fault_text}
 use Rattle.t1_disassemble.specs.declared.fault.FontRefusal.{FontRefusal}
 use Rattle.t1_disassemble.specs.declared.fault.FontRefusal.TheVariants as refusals
@@ -7,7 +7,7 @@ use Rattle.t1_session.specs.declared.error.ServeError.{ServeError}
 use Rattle.t1_session.specs.declared.error.ServeError.TheVariants.{Load, Read, Write, Memory}
 use Rattle.t1_fault_texts.specs.FontFaults.{font_fault_text}
 use Rattle.t1edit.specs.declared.file_error.FileError.{FileError}
-use Rattle.t1edit.specs.declared.file_error.FileError.TheVariants.{Served, Font}
+use Rattle.t1edit.specs.declared.file_error.FileError.TheVariants.{Served, Unread, Font}
 
 -- profile: the fault of a font's file, or want of memory
 abbrev pub told_of_font : FontRefusal → FileError
@@ -36,9 +36,11 @@ status_of Memory = 4
 -- profile: an error of a file in words
 abbrev pub file_error_text : FileError → List ℕ
 file_error_text (Served error) = error_text error
+file_error_text (Unread words) = codes "read failed: " ++ words
 file_error_text (Font fault) = font_fault_text fault
 
 -- profile: the status of an error of a file: 1 for a font's file that has a fault
 abbrev pub status_of_file : FileError → ℕ
 status_of_file (Served error) = status_of error
+status_of_file (Unread words) = 3
 status_of_file (Font fault) = 1

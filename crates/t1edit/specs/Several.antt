@@ -2,19 +2,20 @@
 use Rattle.std.specs.Prelude.{◌≡◌, ◌⊎◌, ◌++◌, ℕ, max, List, [], ◌∷◌, Option, Result, Ok, Err, codes}
 use Rattle.std.specs.Borrow.{Bor}
 use Rattle.t1_code.specs.Counted.{Tally}
-use Rattle.t1_session.specs.declared.error.ServeError.{ServeError}
 use Rattle.t1edit.specs.Checking.{JudgesFile}
 use Rattle.t1edit.specs.FileErrors.{file_error_text, status_of_file}
+use Rattle.t1edit.specs.Reading.{error_of}
 use Rattle.t1edit.specs.Sources.{source_in}
 use Rattle.t1edit.specs.Status.{IsWritten, line_with}
 use Rattle.t1edit.specs.declared.file_error.FileError.{FileError}
 use Rattle.t1edit.specs.declared.file_error.FileError.TheVariants.{Served}
 use Rattle.t1edit.specs.declared.kind.Kind.{Kind}
+use Rattle.t1edit.specs.declared.unread.Unread.{Unread}
 
 -- profile: what becomes of a file: why it can't be read, or what judging its source with the kerning answers
-abbrev pub Becomes : {F : Type 0} → (F → List ℕ → List ℕ → Type 0) → (F → List ℕ → ServeError → Type 0) → F → Kind → List ℕ → List ℕ → Result (Unit {0}) FileError → Type 0
+abbrev pub Becomes : {F : Type 0} → (F → List ℕ → List ℕ → Type 0) → (F → List ℕ → Unread → Type 0) → F → Kind → List ℕ → List ℕ → Result (Unit {0}) FileError → Type 0
 Becomes holds fails files kind kerning path answer =
-    ((error : ServeError) × fails files path error × (answer ≡ Err (Served error)))
+    ((unread : Unread) × fails files path unread × (answer ≡ Err (Served (error_of unread))))
     ⊎ ((file : List ℕ) × holds files path file × JudgesFile (source_in kind file) kerning answer)
 
 -- profile: each answer is what becomes of its file, in the order of the files

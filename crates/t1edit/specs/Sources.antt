@@ -5,7 +5,7 @@ use Rattle.t1_disassemble.specs.declared.fault.FontFault.{FontFault}
 use Rattle.t1_session.specs.declared.error.ServeError.{ServeError}
 use Rattle.t1_session.specs.declared.error.ServeError.TheVariants as errors
 use Rattle.t1edit.specs.declared.file_error.FileError.{FileError}
-use Rattle.t1edit.specs.declared.file_error.FileError.TheVariants.{Served, Font}
+use Rattle.t1edit.specs.declared.file_error.FileError.TheVariants.{Served, Unread, Font}
 use Rattle.t1edit.specs.declared.kind.Kind.{Kind}
 use Rattle.t1edit.specs.declared.kind.Kind.TheVariants as kinds
 
@@ -26,6 +26,7 @@ LacksSource (Served errors.Memory) given = Unit {0}
 LacksSource (Served (errors.Load fault)) given = ⊥
 LacksSource (Served errors.Read) given = ⊥
 LacksSource (Served errors.Write) given = ⊥
+LacksSource (Unread words) given = ⊥
 
 -- word: a call answers the source that the definition gives, or why there is none
 abbrev pub GivesSource : {X : Type 0} → (X → List ℕ) → Result X FileError → Result (List ℕ) FontFault → Type 0
@@ -36,6 +37,7 @@ GivesSource view (Err error) given = LacksSource error given
 abbrev pub AnswersAs : {T : Type 0} → (Result T ServeError → Type 0) → Result T FileError → Type 0
 AnswersAs does (Ok done) = does (Ok done)
 AnswersAs does (Err (Served error)) = does (Err error)
+AnswersAs does (Err (Unread words)) = ⊥
 AnswersAs does (Err (Font fault)) = ⊥
 
 -- profile: a call tells this fault of a font, or want of memory
@@ -46,6 +48,7 @@ TellsFontFault fault (Err (Served errors.Memory)) = Unit {0}
 TellsFontFault fault (Err (Served (errors.Load other))) = ⊥
 TellsFontFault fault (Err (Served errors.Read)) = ⊥
 TellsFontFault fault (Err (Served errors.Write)) = ⊥
+TellsFontFault fault (Err (Unread words)) = ⊥
 
 -- profile: a call over a file does what it does over the source of that file; where a font has a fault, that is told, and
 -- nothing is read or written

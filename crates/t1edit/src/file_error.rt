@@ -4,11 +4,13 @@ ghost use Rattle.t1_code.specs.Counted.{Writes};
 ghost use Rattle.t1edit.specs.FileErrors.{file_error_text, served, status_of_file};
 ghost use Rattle.t1edit.specs.Status.{line_with};
 
-use crate::status::{FAULT, report, status_of};
+use crate::line::put_text_line;
+use crate::status::{FAILED, FAULT, report, status_of};
 use std::io::{self, Write};
 use t1_code::Counted;
 use t1_disassemble::{FontFault, FontRefusal};
 use t1_fault_texts::put_font_fault;
+use t1_frac::Bytes;
 use t1_session::ServeError;
 
 /// Why a call over the bytes of a file stops before its end.
@@ -16,6 +18,8 @@ use t1_session::ServeError;
 pub enum FileError {
     /// A fault of the source or the pairs, a read or a write that failed, or want of memory.
     Served(ServeError),
+    /// A file can't be read, for this reason, where reasons are told.
+    Unread(Bytes),
     /// The file of a font has a fault.
     Font(FontFault),
 }
@@ -55,6 +59,9 @@ pub fn put_file_error<W: Write>(
 {
     match error {
         FileError::Served(error) => report(front, error, writer),
+        FileError::Unread(words) => {
+            put_text_line(front, b"read failed: ", words.as_slice(), writer)
+        }
         FileError::Font(fault) => put_font_fault(writer, front, fault, b"\n"),
     }
 }
@@ -65,6 +72,7 @@ pub fn status_of_file(error: &FileError) -> u8
 {
     match error {
         FileError::Served(error) => status_of(error),
+        FileError::Unread(_) => FAILED,
         FileError::Font(_) => FAULT,
     }
 }

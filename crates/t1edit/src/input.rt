@@ -1,9 +1,11 @@
 //! What the program reads: files, or standard input in their place, read whole.
 ghost use Rattle.std.specs.Prelude.{◌≡◌, Err, IfOk, IfErr};
+ghost use Rattle.std.specs.declared.io.Error.{Error as ErrorOf};
 ghost use Rattle.std.specs.Io.KnownBytes.{Consumes, IsAtEnd};
 ghost use Rattle.t1_code.specs.Counted.{one_more};
 ghost use Rattle.t1edit.specs.Reading.{FailsToRead};
 
+use crate::unread::{Unread, error_of};
 use std::alloc::Global;
 use std::fs::{File, OpenFile};
 use std::io::Read;
@@ -34,15 +36,14 @@ fn read_whole<R: Read>(
     alloc: Global,
     reader: &mut Counted<R>,
     room: usize,
-) -> Result<Vec<u8>, ServeError>
+) -> Result<Vec<u8>, Unread>
     ensures ok { IfOk result
         (λ bytes.
         Consumes (R.remaining reader.old.inner) (R.remaining reader.new.inner)
         bytes.items) }
     ensures at_end { IfOk result (λ _. IsAtEnd (R.remaining reader.new.inner)) }
-    ensures errors { IfErr result FailsToRead }
-    ensures memory { result ≡ Err ServeError.Memory → reader.new.failures ≡ reader.old.failures }
-    ensures read_failed { result ≡ Err ServeError.Read
+    ensures memory { result ≡ Err Unread.Memory → reader.new.failures ≡ reader.old.failures }
+    ensures read_failed { (error : ErrorOf) → result ≡ Err (Unread.Refused error)
         → reader.new.failures ≡ one_more reader.old.failures }
 {
     let mut bytes = Vec::with_capacity(alloc, room)?;
@@ -50,7 +51,7 @@ fn read_whole<R: Read>(
     'pieces: loop {
         let count = match reader.take(&mut buffer) {
             Ok(count) => count,
-            Err(_) => return Err(ServeError::Read),
+            Err(error) => return Err(Unread::Refused(error)),
         };
         if count == 0 {
             return Ok(bytes);
@@ -59,10 +60,8 @@ fn read_whole<R: Read>(
     }
 }
 
-/// The bytes of a file, or of standard input where the path is `-`.
-pub fn read_input(rt: &HostRuntime, path: &str) -> Result<Vec<u8>, ServeError>
-    ensures { IfErr result FailsToRead }
-{
+/// The bytes of a file, or of standard input where the path is `-`; or why it can't be read.
+pub fn read_file(rt: &HostRuntime, path: &str) -> Result<Vec<u8>, Unread> {
     if is_standard_input(path) {
         return read_whole(rt.alloc(), &mut Counted::new(rt.stdin()), 0);
     }
@@ -71,6 +70,16 @@ pub fn read_input(rt: &HostRuntime, path: &str) -> Result<Vec<u8>, ServeError>
             let room = stated_len(&file);
             read_whole(rt.alloc(), &mut Counted::new(file), room)
         }
-        Err(_) => Err(ServeError::Read),
+        Err(error) => Err(Unread::Refused(error)),
+    }
+}
+
+/// The same, without the reason.
+pub fn read_input(rt: &HostRuntime, path: &str) -> Result<Vec<u8>, ServeError>
+    ensures { IfErr result FailsToRead }
+{
+    match read_file(rt, path) {
+        Ok(bytes) => Ok(bytes),
+        Err(unread) => Err(error_of(&unread)),
     }
 }

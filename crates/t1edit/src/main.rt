@@ -25,6 +25,7 @@ mod serving;
 mod several;
 mod status;
 mod unopened;
+mod unread;
 
 use assembling::{assemble_file, form_of};
 use checking::check_file;
@@ -34,7 +35,7 @@ use disassembling::disassemble_to;
 use explaining::explain;
 use file_error::FileError;
 use finding::{Faults, Sought, layout_of};
-use input::{is_standard_input, read_input};
+use input::{is_standard_input, read_file, read_input};
 use kind::{Kind, kind_of};
 use measuring::measure_file;
 use noting::Notes;
@@ -42,13 +43,14 @@ use output::{Ended, Output};
 use overwriting::{refuse_over_font, refuse_over_input};
 use reporting::{Report, report_files};
 use serving::serve_file;
-use several::check_files;
+use several::{check_files, tell};
 use status::{Misuse, Stop, run_ending, told};
 use std::process::ExitCode;
 use std::{env, io};
 use t1_code::Counted;
 use t1_command_line::{all_sections, command};
 use t1_session::ServeError;
+use unread::with_reason;
 
 /// The paths that the command line gives: of the source, and of the kerning file where it names
 /// one.
@@ -239,6 +241,21 @@ fn faults(rt: &HostRuntime, matches: &ArgMatches<'_>) -> Result<(), Stop> {
     told(report(rt, &of_sources, asked_kind(matches), true, sources).max(worst))
 }
 
+/// The bytes of the kerning file; no pairs where no file is named. Where it can't be read, that is
+/// told by its name and with the reason.
+fn told_pairs(rt: &HostRuntime, kern: Option<&str>) -> Result<Vec<u8>, Stop> {
+    let Some(path) = kern else {
+        return Ok(Vec::new(rt.alloc()));
+    };
+    match read_file(rt, path) {
+        Ok(pairs) => Ok(pairs),
+        Err(unread) => {
+            let answer = Err(with_reason(rt.alloc(), &unread));
+            Err(Stop::Told(tell(path, &answer, &mut Counted::new(rt.stderr()))))
+        }
+    }
+}
+
 /// Writes the notes on sources, and on a kerning file where one is named.
 fn notes(rt: &HostRuntime, matches: &ArgMatches<'_>) -> Result<(), Stop> {
     let Some(sources) = matches.get_strs("SOURCE") else {
@@ -246,7 +263,7 @@ fn notes(rt: &HostRuntime, matches: &ArgMatches<'_>) -> Result<(), Stop> {
     };
     let kern = matches.get_str("kern");
     refuse_input_twice(sources, kern)?;
-    let pairs = pairs_of(rt, kern)?;
+    let pairs = told_pairs(rt, kern)?;
     let notes = Notes {
         kern: kern.unwrap_or(""),
         pairs: &pairs,

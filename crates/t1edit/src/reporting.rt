@@ -8,6 +8,7 @@ use crate::file_error::{FileError, served};
 use crate::kind::{Kind, source_in};
 use crate::several::{Files, tell};
 use crate::status::FAULT;
+use crate::unread::with_reason;
 use std::alloc::{AllocError, Global};
 use std::io::Write;
 use t1_code::Counted;
@@ -84,7 +85,7 @@ fn report_path<F: Files, R: Report, W: Write>(
 {
     let file = match files.read(path) {
         Ok(file) => file,
-        Err(error) => return Err(FileError::Served(error)),
+        Err(unread) => return Err(with_reason(alloc, &unread)),
     };
     report_on(alloc, report, kind, path, file, out)
 }

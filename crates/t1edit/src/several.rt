@@ -8,40 +8,38 @@ ghost use Rattle.t1edit.specs.Status.{line_with};
 
 use crate::checking::check_file;
 use crate::file_error::{FileError, put_file_error, status_of_file};
-use crate::input::read_input;
+use crate::input::read_file;
 use crate::kind::Kind;
+use crate::unread::{Unread, error_of};
 use std::alloc::Global;
 use std::io::{self, Write};
 use t1_code::Counted;
-use t1_session::ServeError;
 
 /// Where files are read by their paths.
 pub trait Files {
     ghost use Rattle.std.specs.Prelude.{ℕ, List, IfErr, IfOk};
-    ghost use Rattle.t1_session.specs.declared.error.ServeError.{ServeError};
+    ghost use Rattle.t1edit.specs.declared.unread.Unread.{Unread};
 
     /// What a file may have.
     ghost holds: { Self → List ℕ → List ℕ → Type 0 };
 
     /// Why a file may not be read.
-    ghost fails: { Self → List ℕ → ServeError → Type 0 };
+    ghost fails: { Self → List ℕ → Unread → Type 0 };
 
     /// The bytes of the file at a path.
-    fn read(&self, path: &str) -> Result<Vec<u8>, ServeError>
+    fn read(&self, path: &str) -> Result<Vec<u8>, Unread>
         ensures bytes { IfOk result (λ bytes. holds self.now path.now bytes.items) }
-        ensures error { IfErr result (λ error. fails self.now path.now error) };
+        ensures unread { IfErr result (λ unread. fails self.now path.now unread) };
 }
 
 /// The files of the system, of which nothing is known.
 impl Files for HostRuntime {
-    ghost use Rattle.t1edit.specs.Reading.{FailsToRead};
-
     ghost holds = { λ _ _ _. Unit {0} };
 
-    ghost fails = { λ _ _ error. FailsToRead error };
+    ghost fails = { λ _ _ _. Unit {0} };
 
-    fn read(&self, path: &str) -> Result<Vec<u8>, ServeError> {
-        read_input(self, path)
+    fn read(&self, path: &str) -> Result<Vec<u8>, Unread> {
+        read_file(self, path)
     }
 }
 
@@ -57,7 +55,7 @@ fn check_path<F: Files>(
 {
     let file = match files.read(path) {
         Ok(file) => file,
-        Err(error) => return Err(FileError::Served(error)),
+        Err(unread) => return Err(FileError::Served(error_of(&unread))),
     };
     check_file(alloc, kind, file, pairs)
 }

@@ -18,6 +18,9 @@ use t1_session::ServeError;
 /// The status of a fault.
 pub const FAULT: u8 = 1;
 
+/// The status of a read or a write that failed.
+pub const FAILED: u8 = 3;
+
 /// What each line begins with that isn't of one file of several.
 const NAME: &[u8] = b"t1edit: ";
 
@@ -155,7 +158,7 @@ pub fn status_of(error: &ServeError) -> u8
 {
     match error {
         ServeError::Load(_) => FAULT,
-        ServeError::Read | ServeError::Write => 3,
+        ServeError::Read | ServeError::Write => FAILED,
         ServeError::Memory => 4,
     }
 }
