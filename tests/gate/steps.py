@@ -41,6 +41,7 @@ BESIDE = [
     "tests/completions",
     "tests/disassemble",
     "tests/notes",
+    "tests/each-fault",
     "tests/mistakes/run",
     "tests/editors",
     "tests/damaged",
