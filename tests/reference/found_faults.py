@@ -207,7 +207,7 @@ def run_hint(run, code, word):
     if code == "F32":
         return "no Subr %d" % run.key
     if code == "F37":
-        return "" if word == b"div" else number_of(too_large(stack, word))
+        return number_of(stack[-2] / stack[-1] if word == b"div" else too_large(stack, word))
     if code == "F41":
         count = None if run.flex is None else len(run.flex[1])
         return "" if count is None else "%d point%s recorded" % (count, "" if count == 1 else "s")

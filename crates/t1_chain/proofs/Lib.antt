@@ -1,3 +1,4 @@
 pub mod FailingLaws
 pub mod FollowingLaws
 pub mod LeadingLaws
+mod ProductLaws

@@ -1,9 +1,9 @@
 -- What a fault says beside its code, by the run before the word that has it.
-use Rattle.std.specs.Prelude.{ℕ, ◌+◌, ◌-◌, if◌then◌else◌, List, [], ◌∷◌, length, Option, Some, None, is_none}
+use Rattle.std.specs.Prelude.{ℕ, ◌+◌, ◌-◌, ◌==◌, if◌then◌else◌, List, [], ◌∷◌, length, Option, Some, None, is_none}
 use Rattle.std.specs.Int.RustNames.{unsigned_abs}
 use Rattle.std.specs.List.{find, slice_get}
 use Rattle.std.specs.Option.{option_or}
-use Rattle.t1_frac.specs.Fraction.{Fraction}
+use Rattle.t1_frac.specs.Fraction.{Fraction, lowest, over}
 use Rattle.t1_frac.specs.Limits.{exceeds}
 use Rattle.t1_frac.specs.declared.fault.Code.{Code}
 use Rattle.t1_frac.specs.declared.fault.Code.TheVariants.{F30, F32, F37, F41, F42, F44, F45}
@@ -13,7 +13,7 @@ use Rattle.t1_run.specs.Operands.{topmost, takes}
 use Rattle.t1_run.specs.State.{Flex}
 use Rattle.t1_run.specs.Run.{standard_glyph}
 use Rattle.t1_chain.specs.declared.failure.Detail.{Detail}
-use Rattle.t1_chain.specs.declared.failure.Detail.TheVariants.{Nothing, Number, Glyph, Values, Points}
+use Rattle.t1_chain.specs.declared.failure.Detail.TheVariants.{Nothing, Number, Quotient, Glyph, Values, Points}
 
 -- profile, faults: the number, where there is one
 abbrev pub number_of : Option Fraction → Detail
@@ -48,12 +48,25 @@ abbrev pub large_above : Option (Fraction × Fraction) → Option Fraction
 large_above None = None
 large_above (Some (count, number)) = large_in (number ∷ count ∷ [])
 
--- profile, order of faults: the first operand past 32000 of a command; div looks at its quotient alone
+-- profile, order of faults: the first operand past 32000 of a command
 abbrev pub too_large : Command → List Fraction → Option Fraction
-too_large Div stack = None
 too_large CallOtherSubr stack =
     option_or (large_above (both_of (topmost 2 stack))) (large_in (topmost (wanted CallOtherSubr stack) stack))
 too_large c stack = large_in (topmost (takes c) stack)
+
+-- profile, fractions: a quotient of whatever size
+abbrev pub quotient_told : Fraction → Detail
+quotient_told q = Quotient q.num q.den
+
+-- Type 1 Font Format, Chapter 6 (div): the quotient of two values, in lowest terms; none by 0
+abbrev pub quotient_of : Option (Fraction × Fraction) → Detail
+quotient_of None = Nothing
+quotient_of (Some (a, b)) = if unsigned_abs b.num == 0 then Nothing else quotient_told (lowest (over a b))
+
+-- profile, limits: what of a command is too large: an operand past 32000; of div, whose operands have no limit, the quotient
+abbrev pub large_told : Command → List Fraction → Detail
+large_told Div stack = quotient_of (both_of (topmost 2 stack))
+large_told c stack = number_of (too_large c stack)
 
 -- Type 1 Font Format, Chapter 6 (seac): the code of the base, or of the accent, that has no name
 abbrev pub unnamed : Option (Fraction × Fraction) → Detail
@@ -84,7 +97,7 @@ points_told (Some n) = Points n
 unfoldable pub detail_of : (List ℕ → Option (List Command)) → Code → Command → List Fraction → Option ℕ → Detail
 detail_of glyphs F30 c stack points = Values (length stack) (wanted c stack)
 detail_of glyphs F32 c stack points = number_of (top_of stack)
-detail_of glyphs F37 c stack points = number_of (too_large c stack)
+detail_of glyphs F37 c stack points = large_told c stack
 detail_of glyphs F41 c stack points = points_told points
 detail_of glyphs F42 c stack points = number_of (top_of stack)
 detail_of glyphs F44 c stack points = unnamed (both_of (topmost 2 stack))

@@ -6,11 +6,13 @@ ghost use Rattle.t1_frac.specs.Limits.{exceeds};
 ghost use Rattle.t1_run.specs.Operands.{topmost as topmost_of};
 ghost use Rattle.t1_chain.specs.Details.{arguments_by, both_of, detail_of as detail_of_word};
 ghost use Rattle.t1_chain.specs.Details.{large_above as large_above_arguments, large_in, lacking};
-ghost use Rattle.t1_chain.specs.Details.{missing, number_of, points_told, too_large, top_of};
+ghost use Rattle.t1_chain.specs.Details.{large_told, missing, number_of, points_told};
+ghost use Rattle.t1_chain.specs.Details.{quotient_of, too_large, top_of};
 ghost use Rattle.t1_chain.specs.Details.{unnamed as unnamed_of, wanted as wanted_by};
 
 use crate::failure::Detail;
 use crate::noted::Noted;
+use crate::quotient::quotient_terms;
 use std::alloc::{AllocError, Global};
 use t1_code::Command;
 use t1_frac::{Bytes, Code, Frac};
@@ -96,7 +98,6 @@ fn large_operand(command: Command, values: &[Frac]) -> Option<Frac>
     ensures { result ≡ too_large command values.now }
 {
     match command {
-        Command::Div => None,
         Command::CallOtherSubr => {
             let arguments = topmost(wanted(command, values), values);
             large_above(both(topmost(2, values))).or(first_large(arguments).copied())
@@ -112,6 +113,30 @@ fn number(value: Option<Frac>) -> Detail
     match value {
         Some(value) => Detail::Number(value),
         None => Detail::Nothing,
+    }
+}
+
+/// The quotient of two values; none by 0.
+fn quotient(values: Option<(Frac, Frac)>) -> Detail
+    ensures { result ≡ quotient_of values }
+{
+    let Some((dividend, divisor)) = values else {
+        return Detail::Nothing;
+    };
+    if divisor.num() == 0 {
+        return Detail::Nothing;
+    }
+    let (num, den) = quotient_terms(&dividend, &divisor);
+    Detail::Quotient(num, den)
+}
+
+/// What of a command is too large: an operand past 32000 in size; of div its quotient.
+fn large(command: Command, values: &[Frac]) -> Detail
+    ensures { result ≡ large_told command values.now }
+{
+    match command {
+        Command::Div => quotient(both(topmost(2, values))),
+        _ => number(large_operand(command, values)),
     }
 }
 
@@ -210,7 +235,7 @@ pub fn detail_of<B: Bodies>(
     match code {
         Code::F30 => Ok(Detail::Values(stack.len(), wanted(command, stack))),
         Code::F32 | Code::F42 => Ok(number(top(stack))),
-        Code::F37 => Ok(number(large_operand(command, stack))),
+        Code::F37 => Ok(large(command, stack)),
         Code::F41 => Ok(flex_points(noted.points)),
         Code::F44 => Ok(unnamed(both(topmost(2, stack)))),
         Code::F45 => missing_part(alloc, bodies, both(topmost(2, stack))),

@@ -18,6 +18,9 @@ pub enum Detail {
     /// The value that is refused: of F32 the number of the Subr, of F37 the operand, of F42 the
     /// number of the othersubr, of F44 the code without a name.
     Number(Frac),
+    /// The quotient that is refused, of F37 at a div: its numerator and denominator in lowest
+    /// terms, which are past the limits of a value.
+    Quotient(i128, u128),
     /// The glyph that the font lacks, of F45.
     Glyph(Bytes),
     /// How many values there are, and how many are wanted, of F30.

@@ -12,6 +12,7 @@ mod failure;
 mod following;
 pub mod laws;
 mod noted;
+mod quotient;
 mod step;
 
 pub use failure::{Call, Detail, Failure};

@@ -36,6 +36,7 @@ value_front code = []
 abbrev pub detail_text : Code → Detail → List ℕ
 detail_text code details.Nothing = []
 detail_text code (details.Number value) = value_front code ++ value_text value
+detail_text code (details.Quotient num den) = value_text (record { num = num; den = den })
 detail_text code (details.Glyph name) = codes "no glyph " ++ name
 detail_text code (details.Values there wanted) = wanted_text there wanted
 detail_text code (details.Points n) = points_text n

@@ -40,6 +40,22 @@ fn push_value(text: &mut Vec<u8>, value: &Frac) -> Result<(), AllocError>
     Ok(())
 }
 
+/// Adds a quotient: a whole number, or a numerator and a denominator.
+fn push_quotient(text: &mut Vec<u8>, num: i128, den: u128) -> Result<(), AllocError>
+    ensures { OnOk result (text.new.items
+        ≡ text.old.items ++ value_text (record { num = num; den = den })) }
+{
+    let mut digits = Buffer::new();
+    text.extend_from_slice(digits.format(num).as_bytes())?;
+    if den == 1 {
+        return Ok(());
+    }
+    let mut digits = Buffer::new();
+    text.extend_from_slice(b"/")?;
+    text.extend_from_slice(digits.format(den).as_bytes())?;
+    Ok(())
+}
+
 /// What the value is that has a fault of this code.
 fn value_front(code: Code) -> &'static [u8]
     ensures { result.now ≡ value_front code }
@@ -94,6 +110,7 @@ fn push_detail(text: &mut Vec<u8>, code: Code, detail: &Detail) -> Result<(), Al
             text.extend_from_slice(value_front(code))?;
             push_value(text, value)
         }
+        Detail::Quotient(num, den) => push_quotient(text, *num, *den),
         Detail::Glyph(name) => {
             text.extend_from_slice(b"no glyph ")?;
             text.extend_from_slice(name.as_slice())?;

@@ -28,6 +28,7 @@ pub(crate) fn copied_detail(alloc: Global, detail: &Detail) -> Result<Detail, Al
     match detail {
         Detail::Nothing => Ok(Detail::Nothing),
         Detail::Number(number) => Ok(Detail::Number(*number)),
+        Detail::Quotient(num, den) => Ok(Detail::Quotient(*num, *den)),
         Detail::Glyph(name) => Ok(Detail::Glyph(Bytes::copied(alloc, name.as_slice())?)),
         Detail::Values(there, wanted) => Ok(Detail::Values(*there, *wanted)),
         Detail::Points(recorded) => Ok(Detail::Points(*recorded)),
