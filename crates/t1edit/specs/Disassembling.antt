@@ -19,3 +19,4 @@ DeliversSource contents old new given (Err (stops.Told status)) = ⊥
 DeliversSource contents old new given (Err (stops.Misused misuse)) = ⊥
 DeliversSource contents old new given (Err (stops.Failed (files.Served (errors.Load fault)))) = ⊥
 DeliversSource contents old new given (Err (stops.Failed (files.Served errors.Read))) = ⊥
+DeliversSource contents old new given (Err (stops.Failed (files.Unread words))) = ⊥

@@ -25,5 +25,6 @@ Explains contents old new given (Err (stops.Misused misuses.OutputOverSource)) =
 Explains contents old new given (Err (stops.Misused misuses.OutputOverPairs)) = ⊥
 Explains contents old new given (Err (stops.Misused misuses.OutputOverFont)) = ⊥
 Explains contents old new given (Err (stops.Failed (files.Font fault))) = ⊥
+Explains contents old new given (Err (stops.Failed (files.Unread words))) = ⊥
 Explains contents old new given (Err (stops.Failed (files.Served (errors.Load fault)))) = ⊥
 Explains contents old new given (Err (stops.Failed (files.Served errors.Read))) = ⊥

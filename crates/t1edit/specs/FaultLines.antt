@@ -66,10 +66,18 @@ call_text n = codes ", subr " ++ decimal n
 abbrev pub chain_line : CallChain → List ℕ
 chain_line chain = codes "    in glyph " ++ (chain.glyph ++ (flat_map call_text chain.subrs ++ codes "\n"))
 
+-- profile, faults: what stands before composites
+unfoldable pub composites_head : List ℕ
+composites_head = codes "    composites on it: "
+
+-- profile, faults: the line of composites that are listed so, where there are some
+abbrev pub listed_line : List ℕ → List ℕ
+listed_line [] = []
+listed_line (c ∷ rest) = composites_head ++ (c ∷ rest ++ codes "\n")
+
 -- profile, faults: the line of the composites that are told with a fault, where there are some
 abbrev pub composites_line : List (List ℕ) → List ℕ
-composites_line [] = []
-composites_line (name ∷ names) = codes "    composites on it: " ++ (listed (codes ", ") (name ∷ names) ++ codes "\n")
+composites_line names = listed_line (listed (codes ", ") names)
 
 -- profile, faults: all lines of a fault
 abbrev pub fault_lines : List ℕ → List Section → List (List ℕ) → FoundFault → List ℕ

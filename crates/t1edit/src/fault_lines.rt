@@ -1,10 +1,11 @@
 //! The faults of a file as lines, which people and editors read.
 ghost use Rattle.std.specs.Prelude.{◌≡◌, ◌++◌, codes, flat_map, map, take, IfOk, OnOk};
 ghost use Rattle.t1_text.specs.Lines.{lines};
-ghost use Rattle.t1edit.specs.FaultLines.{after_colon, call_text, chain_line, composites_line};
+ghost use Rattle.t1edit.specs.FaultLines.{after_colon, call_text, chain_line};
+ghost use Rattle.t1edit.specs.FaultLines.{composites_head as head_of_composites, composites_line};
 ghost use Rattle.t1edit.specs.FaultLines.{excerpt, fault_lines, faults_lines, head_line};
-ghost use Rattle.t1edit.specs.FaultLines.{in_brackets, marked_line, marks, position_text};
-ghost use Rattle.t1edit.specs.FaultLines.{short_line, title_text, under};
+ghost use Rattle.t1edit.specs.FaultLines.{in_brackets, listed_line, marked_line, marks};
+ghost use Rattle.t1edit.specs.FaultLines.{position_text, short_line, title_text, under};
 
 use crate::numbered_lines::NumberedLines;
 use itoa::Buffer;
@@ -227,17 +228,34 @@ fn push_chains(text: &mut Vec<u8>, chains: &[CallChain]) -> Result<(), AllocErro
     Ok(())
 }
 
-/// Adds the line of the composites that are told with a fault, where there are some.
-fn push_composites(text: &mut Vec<u8>, names: &[Bytes]) -> Result<(), AllocError>
-    ensures { OnOk result (text.new.items ≡ text.old.items ++ composites_line names.now) }
+/// What stands before composites.
+#[tactic(auto, unfolding(crate::specs::FaultLines::composites_head))]
+fn composites_head() -> &'static [u8]
+    ensures { result.now ≡ head_of_composites }
 {
-    if names.is_empty() {
+    b"    composites on it: "
+}
+
+/// Adds the line of composites that are listed so, where there are some.
+fn push_listed(text: &mut Vec<u8>, composites: &[u8]) -> Result<(), AllocError>
+    ensures { OnOk result (text.new.items ≡ text.old.items ++ listed_line composites.now) }
+{
+    if composites.is_empty() {
         return Ok(());
     }
-    text.extend_from_slice(b"    composites on it: ")?;
-    push_names(text, b", ", names)?;
+    text.extend_from_slice(composites_head())?;
+    text.extend_from_slice(composites)?;
     text.extend_from_slice(b"\n")?;
     Ok(())
+}
+
+/// Adds the line of the composites that are told with a fault, where there are some.
+fn push_composites(alloc: Global, text: &mut Vec<u8>, names: &[Bytes]) -> Result<(), AllocError>
+    ensures { OnOk result (text.new.items ≡ text.old.items ++ composites_line names.now) }
+{
+    let mut composites = Vec::new(alloc);
+    push_names(&mut composites, b", ", names)?;
+    push_listed(text, &composites)
 }
 
 /// Adds all lines of a fault.
@@ -256,7 +274,7 @@ fn push_fault(
     push_head(alloc, text, path, sections, fault)?;
     push_excerpt(text, lines, fault)?;
     push_chains(text, fault.chains.as_slice())?;
-    push_composites(text, fault.composites.as_slice())
+    push_composites(alloc, text, fault.composites.as_slice())
 }
 
 /// All lines of the faults of a file of this name and these bytes.
