@@ -97,6 +97,7 @@ class Edit:
             at = text.find(old)
             found.add(function_at(file, text, at) if at >= 0 and file.startswith("src/") else None)
         self.functions = set() if None in found else found
+        self.names = {it.name for it in self.functions}
 
     def make(self, folder):
         """Makes it in a copy of the crate; false where a text isn't there once."""
