@@ -25,6 +25,12 @@ def edits_of(crate):
         yield from (Edit(crate, os.path.join(folder, it)) for it in sorted(os.listdir(folder)) if it.endswith(".edit"))
 
 
+def wrong_bodies():
+    """The edits of the table of wrong bodies that must never come back, of either place: 'CRATE/NAME'."""
+    with open(os.path.join(TOP, "tests", "edits", "README.md"), encoding="utf-8") as page:
+        return set(re.findall(r"`(t1\w+/\w+)`", page.read()))
+
+
 def pairs_of(text):
     """The changes of an edit: for each the file, the old text and the new one."""
     pairs, file, old = [], None, None
