@@ -5,7 +5,7 @@ use t1_frac::{Bytes, Fault};
 use thiserror::Error;
 
 /// One edit. Names and bodies are bytes; a body is cut into words, without its comments.
-#[derive(Debug, Drop)]
+#[derive(Drop)]
 pub enum Edit {
     /// A name and a body.
     ReplaceGlyph(Bytes, Bytes),

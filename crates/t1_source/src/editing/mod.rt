@@ -103,15 +103,23 @@ impl<'a> Source<'a> {
         ensures still { takes_room change.entry ≡ false → IsOk result }
     {
         match change {
-            Change::PutItem(at, item) => self.put_item(at, item)?,
-            Change::InsertItem(at, item) => self.insert_item(at, item)?,
-            Change::RemoveItem(at) => self.remove_item(at)?,
-            Change::PutClear(lines) => self.put_clear(lines),
-            Change::PutPair(at, pair) => pairs.put(at, pair),
-            Change::InsertPair(at, pair) => pairs.insert(at, pair)?,
-            Change::RemovePair(at) => pairs.remove(at),
+            Change::PutItem(at, item) => self.put_item(at, item),
+            Change::InsertItem(at, item) => self.insert_item(at, item),
+            Change::RemoveItem(at) => self.remove_item(at),
+            Change::PutClear(lines) => {
+                self.put_clear(lines);
+                Ok(())
+            }
+            Change::PutPair(at, pair) => {
+                pairs.put(at, pair);
+                Ok(())
+            }
+            Change::InsertPair(at, pair) => pairs.insert(at, pair),
+            Change::RemovePair(at) => {
+                pairs.remove(at);
+                Ok(())
+            }
         }
-        Ok(())
     }
 
     /// Copies of the source and the pairs.
