@@ -1,6 +1,8 @@
 //! What the command line looks like.
-ghost use Rattle.std.specs.Prelude.{◌≡◌, ◌∷◌, [], codes, map, true, false, IfOk};
-ghost use Rattle.clap.specs.Words.{App, Shape, app_of, new_app, rule_of, with_subcommand};
+ghost use Rattle.std.specs.Prelude.{◌≡◌, ◌∷◌, [], codes, map, true, false, IfOk, Some};
+ghost use Rattle.clap.specs.Words.{App, Rule, Shape, app_of, new_app, new_rule, rule_of};
+ghost use Rattle.clap.specs.Words.{with_rule, with_subcommand};
+ghost use Rattle.clap.specs.declared.builder.action.ArgAction.TheVariants.{SetTrue};
 ghost use Rattle.t1_command_line.specs.CommandLine.{without_commands, program, program_alone};
 ghost use Rattle.t1_command_line.specs.CommandLine.{source as source_rule, sources as sources_rule};
 ghost use Rattle.t1_command_line.specs.CommandLine.{as_font as as_font_rule, font_rule};
@@ -54,15 +56,26 @@ fn sources<'a>(alloc: Global) -> Arg<'a>
         .action(ArgAction::Append)
 }
 
+/// An option that takes no value, by its name.
+fn flag<'a>(alloc: Global, name: &'a str, help: &'a str) -> Arg<'a>
+    ensures rule { rule_of result ≡ record (new_rule name.entry.now) {
+      long = Some name.entry.now;
+      action = Some SetTrue;
+    } }
+    ensures local { result.global ≡ false }
+{
+    Arg::new(alloc, name)
+        .long(name)
+        .help(help)
+        .action(ArgAction::SetTrue)
+}
+
 /// The option that says of the source that it is a font's file.
 fn as_font<'a>(alloc: Global, help: &'a str) -> Arg<'a>
     ensures rule { rule_of result ≡ as_font_rule }
     ensures local { result.global ≡ false }
 {
-    Arg::new(alloc, "font")
-        .long("font")
-        .help(help)
-        .action(ArgAction::SetTrue)
+    flag(alloc, "font", help)
 }
 
 /// The help of that option.
@@ -107,10 +120,11 @@ fn json<'a>(alloc: Global) -> Arg<'a>
     ensures rule { rule_of result ≡ json_rule }
     ensures local { result.global ≡ false }
 {
-    Arg::new(alloc, "json")
-        .long("json")
-        .help("Writes each fault as an object of JSON, on a line of its own")
-        .action(ArgAction::SetTrue)
+    flag(
+        alloc,
+        "json",
+        "Writes each fault as an object of JSON, on a line of its own",
+    )
 }
 
 /// The option that lets notes end the program with a status of their own.
@@ -118,10 +132,7 @@ fn strict<'a>(alloc: Global) -> Arg<'a>
     ensures rule { rule_of result ≡ strict_rule }
     ensures local { result.global ≡ false }
 {
-    Arg::new(alloc, "strict")
-        .long("strict")
-        .help("Ends with status 1 where there are notes")
-        .action(ArgAction::SetTrue)
+    flag(alloc, "strict", "Ends with status 1 where there are notes")
 }
 
 /// The option that names a file for the output.
@@ -167,11 +178,12 @@ fn pfa<'a>(alloc: Global) -> Arg<'a>
     ensures rule { rule_of result ≡ pfa_rule }
     ensures local { result.global ≡ false }
 {
-    Arg::new(alloc, "pfa")
-        .short('a')
-        .long("pfa")
-        .help("Writes the PFA file, whose encrypted part is hexadecimal")
-        .action(ArgAction::SetTrue)
+    flag(
+        alloc,
+        "pfa",
+        "Writes the PFA file, whose encrypted part is hexadecimal",
+    )
+    .short('a')
 }
 
 /// The argument that names what is to be explained.
@@ -216,127 +228,152 @@ fn named<'a>(
         .after_long_help(last)
 }
 
+/// A command with one argument more, where the command could be made.
+fn with_arg<'a>(
+    command: Result<Command<'a>, AllocError>,
+    arg: Arg<'a>,
+) -> Result<Command<'a>, AllocError>
+    ensures { (before : App) (rule : Rule) → IfOk command.entry (λ c. app_of c ≡ before)
+        → rule_of arg.entry ≡ rule → arg.entry.global ≡ false
+        → IfOk result (λ r. app_of r ≡ with_rule before rule) }
+{
+    command?.arg(arg)
+}
+
+/// A command that takes a source or a font besides, and an output.
+fn of_source<'a>(
+    alloc: Global,
+    command: Result<Command<'a>, AllocError>,
+) -> Result<Command<'a>, AllocError>
+    ensures { (before : App) → IfOk command.entry (λ c. app_of c ≡ before) → IfOk result (λ r.
+        app_of r ≡ with_rule (with_rule (with_rule before as_font_rule) output_rule) source_rule) }
+{
+    let or_font = with_arg(command, as_font(alloc, AS_FONT));
+    let with_output = with_arg(or_font, output(alloc));
+    with_arg(with_output, source(alloc, SOURCE))
+}
+
+/// A command that takes kerning besides, and sources or fonts.
+fn of_sources<'a>(
+    alloc: Global,
+    command: Result<Command<'a>, AllocError>,
+) -> Result<Command<'a>, AllocError>
+    ensures { (before : App) → IfOk command.entry (λ c. app_of c ≡ before) → IfOk result (λ r.
+        app_of r ≡ with_rule (with_rule (with_rule before kern_rule) as_font_rule) sources_rule) }
+{
+    let with_kern = with_arg(command, kern(alloc, KERN));
+    let or_fonts = with_arg(with_kern, as_font(alloc, EACH_AS_FONT));
+    with_arg(or_fonts, sources(alloc))
+}
+
 fn assemble<'a>(alloc: Global) -> Result<Command<'a>, AllocError>
     ensures { IfOk result (λ command. app_of command ≡ without_commands assemble_shape) }
 {
-    named(
+    let blocks = block(alloc)?;
+    let command = named(
         alloc,
         "assemble",
         "Writes the PFB or the PFA file of a source",
         "Example: t1edit assemble -o font.pfb font.t1",
         CODES,
-    )
-    .arg(block(alloc)?)?
-    .arg(pfa(alloc))?
-    .arg(as_font(alloc, AS_FONT))?
-    .arg(output(alloc))?
-    .arg(source(alloc, SOURCE))
+    );
+    let with_blocks = with_arg(Ok(command), blocks);
+    of_source(alloc, with_arg(with_blocks, pfa(alloc)))
 }
 
 fn disassemble<'a>(alloc: Global) -> Result<Command<'a>, AllocError>
     ensures { IfOk result (λ command. app_of command ≡ without_commands disassemble_shape) }
 {
-    named(
+    let command = named(
         alloc,
         "disassemble",
         "Writes the source of a font's PFB, PFA or raw file",
         "Example: t1edit disassemble -o font.t1 font.pfb",
         CODES,
-    )
-    .arg(output(alloc))?
-    .arg(font(alloc))
+    );
+    let with_output = with_arg(Ok(command), output(alloc));
+    with_arg(with_output, font(alloc))
 }
 
 fn measure<'a>(alloc: Global) -> Result<Command<'a>, AllocError>
     ensures { IfOk result (λ command. app_of command ≡ without_commands measure_shape) }
 {
-    named(
+    let command = named(
         alloc,
         "measure",
         "Runs every glyph and writes the AFM file of a source",
         "Example: t1edit measure --kern old.afm -o font.afm font.t1",
         CODES,
-    )
-    .arg(kern(alloc, KERN))?
-    .arg(as_font(alloc, AS_FONT))?
-    .arg(output(alloc))?
-    .arg(source(alloc, SOURCE))
+    );
+    of_source(alloc, with_arg(Ok(command), kern(alloc, KERN)))
 }
 
 fn check<'a>(alloc: Global) -> Result<Command<'a>, AllocError>
     ensures { IfOk result (λ command. app_of command ≡ without_commands check_shape) }
 {
-    named(
+    let command = named(
         alloc,
         "check",
         "Judges sources as measure does, and writes nothing",
         "Example: t1edit check font.t1",
         CODES,
-    )
-    .arg(kern(alloc, KERN))?
-    .arg(as_font(alloc, EACH_AS_FONT))?
-    .arg(sources(alloc))
+    );
+    of_sources(alloc, Ok(command))
 }
 
 fn faults<'a>(alloc: Global) -> Result<Command<'a>, AllocError>
     ensures { IfOk result (λ command. app_of command ≡ without_commands faults_shape) }
 {
-    named(
+    let command = named(
         alloc,
         "faults",
         "Writes every fault of sources, each with its line, its column and its word",
         "Example: t1edit faults font.t1",
         CODES,
-    )
-    .arg(json(alloc))?
-    .arg(kern(alloc, KERN))?
-    .arg(as_font(alloc, EACH_AS_FONT))?
-    .arg(sources(alloc))
+    );
+    of_sources(alloc, with_arg(Ok(command), json(alloc)))
 }
 
 fn notes<'a>(alloc: Global) -> Result<Command<'a>, AllocError>
     ensures { IfOk result (λ command. app_of command ≡ without_commands notes_shape) }
 {
-    named(
+    let command = named(
         alloc,
         "notes",
         "Writes what is no fault in sources and is most likely a mistake",
         "Example: t1edit notes font.t1",
         CODES,
-    )
-    .arg(strict(alloc))?
-    .arg(kern(alloc, KERN))?
-    .arg(as_font(alloc, EACH_AS_FONT))?
-    .arg(sources(alloc))
+    );
+    of_sources(alloc, with_arg(Ok(command), strict(alloc)))
 }
 
 fn session<'a>(alloc: Global) -> Result<Command<'a>, AllocError>
     ensures { IfOk result (λ command. app_of command ≡ without_commands session_shape) }
 {
-    named(
+    let command = named(
         alloc,
         "session",
         "Edits and prints a source by commands from standard input",
         "Example: t1edit session font.t1 < commands > answers",
         SESSION,
-    )
-    .arg(kern(alloc, KERN_FILE))?
-    .arg(as_font(alloc, AS_FONT))?
-    .arg(source(alloc, SOURCE_FILE))
+    );
+    let with_kern = with_arg(Ok(command), kern(alloc, KERN_FILE));
+    let or_font = with_arg(with_kern, as_font(alloc, AS_FONT));
+    with_arg(or_font, source(alloc, SOURCE_FILE))
 }
 
 fn explain<'a>(alloc: Global) -> Result<Command<'a>, AllocError>
     ensures { IfOk result (λ command. app_of command ≡ without_commands explain_shape) }
 {
-    named(
+    let command = named(
         alloc,
         "explain",
         "Says what a code, a note, a rule or an exit status means, and what to do",
         "Example: t1edit explain F38",
         CODES,
-    )
-    .arg(code(alloc))?
-    .arg(place(alloc))
+    );
+    let with_code = with_arg(Ok(command), code(alloc));
+    with_arg(with_code, place(alloc))
 }
 
 /// The program with one command more, where both could be made.

@@ -1,30 +1,6 @@
-use Rattle.std.proofs.Common.{ap₂, codes, ◌≡◌, ◌∙◌}
-use Rattle.std.proofs.lemmas.Result.{IfOk-weaker}
-use Rattle.clap.specs.Words.{App, app_of, new_app, with_rule}
-use Rattle.t1_command_line.specs.CommandLine.{as_font, block_rule, output, pfa_rule}
 use Rattle.t1_command_line.proofs.command_line.assemble.Goals as goal
-
--- the command with its first arguments
-abbrev with_block : App
-with_block = with_rule (new_app (codes "assemble")) block_rule
-
-abbrev with_pfa : App
-with_pfa = with_rule with_block pfa_rule
-
-abbrev with_as_font : App
-with_as_font = with_rule with_pfa as_font
-
-abbrev with_output : App
-with_output = with_rule with_as_font output
 
 pub returns : goal.returns
 returns c =
-    let first : app_of c.in_ok-arg.field-0 ≡ with_block =
-    c.in_ok-arg.ensures.shape c.in_ok-block.ensures.local ∙ ap₂ with_rule c.named.ensures c.in_ok-block.ensures.rule in
-    let second : app_of c.in_ok-arg-2.field-0 ≡ with_pfa =
-    c.in_ok-arg-2.ensures.shape c.pfa.ensures.local ∙ ap₂ with_rule first c.pfa.ensures.rule in
-    let third : app_of c.in_ok-arg-3.field-0 ≡ with_as_font =
-    c.in_ok-arg-3.ensures.shape c.as_font.ensures.local ∙ ap₂ with_rule second c.as_font.ensures.rule in
-    let fourth : app_of c.in_ok-arg-4.field-0 ≡ with_output =
-    c.in_ok-arg-4.ensures.shape c.output.ensures.local ∙ ap₂ with_rule third c.output.ensures.rule in
-    IfOk-weaker c.arg-5.result _ _ (λ _ h. h.shape c.source.ensures.local ∙ ap₂ with_rule fourth c.source.ensures.rule) c.arg-5.ensures
+    c.of_source.ensures _
+    (c.with_arg.ensures _ _ (c.with_arg-with_blocks.ensures _ _ c.named-command.ensures c.in_ok-blocks.ensures.rule c.in_ok-blocks.ensures.local) c.pfa.ensures.rule c.pfa.ensures.local)
