@@ -15,6 +15,7 @@ pub mod NumberedLaws
 pub mod OpeningLaws
 pub mod PartLaws
 pub mod PieceLaws
+pub mod PlaceLaws
 pub mod PlainRunLaws
 pub mod ReadingRows
 pub mod Rows

@@ -3,7 +3,7 @@
 ghost use Rattle.std.specs.Prelude.{◌≡◌, ◌≤◌, ◌+◌, ◌==◌, ◌∷◌, ℕ, List, length, drop, IfOk, IfSome};
 ghost use Rattle.std.specs.Prelude.{option_map};
 ghost use Rattle.std.specs.List.{after_first, list_any, position_or_len};
-ghost use Rattle.t1_frac.specs.Ascii.{open_brace, percent};
+ghost use Rattle.t1_frac.specs.Ascii.{open_brace};
 ghost use Rattle.t1_text.specs.Lines.{lines};
 ghost use Rattle.t1_text.specs.Tokens.{uncommented};
 ghost use Rattle.t1_text.specs.Delimiters.{is_brace};
@@ -11,6 +11,7 @@ ghost use Rattle.t1_parts.specs.Entries.{has_brace, body_of, opened_body};
 ghost use Rattle.t1_parts.specs.Pieces.{AreLinesAfter};
 
 use crate::piece::{Piece, piece_of};
+use memchr::{memchr, memchr2};
 use std::alloc::{AllocError, Global};
 use t1_frac::{OwnedWords, SourceText, Words};
 use t1_text::line_ends;
@@ -23,26 +24,26 @@ pub struct EntryBody<'a> {
     pub more: usize,
 }
 
+/// Where a byte first stands on a line, or the line's length.
+fn place_or_len(byte: u8, line: &[u8]) -> usize
+    ensures within { result ≤ length line.now }
+    ensures value { result ≡ position_or_len (λ c. c == byte) line.now }
+{
+    memchr(byte, line).unwrap_or(line.len())
+}
+
 /// A line without its comment.
 pub fn uncommented(line: &[u8]) -> &[u8]
     ensures { result.now ≡ uncommented line.now }
 {
-    line.split_at(comment_start(line)).0
+    line.split_at(place_or_len(b'%', line)).0
 }
 
-/// Where the comment of a line begins, or its length.
-fn comment_start(line: &[u8]) -> usize
-    ensures within { result ≤ length line.now }
-    ensures value { result ≡ position_or_len (λ c. c == percent) line.now }
+/// Whether a line has a brace.
+fn has_any_brace(line: &[u8]) -> bool
+    ensures { result ≡ list_any is_brace line.now }
 {
-    line.iter().take_while(|byte| **byte != b'%').count()
-}
-
-/// Whether a byte is a brace.
-fn is_brace(byte: u8) -> bool
-    ensures { result ≡ is_brace byte }
-{
-    byte == b'{' || byte == b'}'
+    memchr2(b'{', b'}', line).is_some()
 }
 
 /// Whether a line has a brace outside its comment.
@@ -50,13 +51,6 @@ pub fn has_brace(line: &[u8]) -> bool
     ensures { result ≡ has_brace line.now }
 {
     has_any_brace(uncommented(line))
-}
-
-/// Whether a line has a brace.
-fn has_any_brace(line: &[u8]) -> bool
-    ensures { result ≡ list_any is_brace line.now }
-{
-    line.iter().any(|byte| is_brace(*byte))
 }
 
 /// The body at the front of some bytes, of which the first piece has a comment after it, with words
@@ -108,21 +102,13 @@ pub fn body_of(alloc: Global, bytes: &[u8]) -> Result<Option<(EntryBody<'_>, &[u
     }
 }
 
-/// Where the first `{` of a line stands, or its length.
-fn opening_start(line: &[u8]) -> usize
-    ensures within { result ≤ length line.now }
-    ensures value { result ≡ position_or_len (λ c. c == open_brace) line.now }
-{
-    line.iter().take_while(|byte| **byte != b'{').count()
-}
-
 /// Where the part of a line begins that stands after its first `{`.
 #[tactic(auto, using(crate::proofs::OpeningLaws::past_brace, crate::proofs::OpeningLaws::past_line))]
 fn opening_end(line: &[u8]) -> usize
     ensures within { result ≤ length line.now }
     ensures value { drop result line.now ≡ after_first (λ c. c == open_brace) line.now }
 {
-    let start = opening_start(line);
+    let start = place_or_len(b'{', line);
     if start < line.len() { start + 1 } else { start }
 }
 

@@ -62,17 +62,6 @@ fn is_array(line: &[u8]) -> bool
     is_decimal(size) && same(array, b"array")
 }
 
-/// How many lines stand before the first one that opens the encoding.
-fn encoding_start(clear: &[Bytes]) -> usize
-    ensures within { result ≤ length clear.now }
-    ensures value { result ≡ position_or_len opens_encoding clear.now }
-{
-    clear
-        .iter()
-        .take_while(|line| !opens_encoding(line.as_slice()))
-        .count()
-}
-
 /// Where the first line stands that opens the encoding.
 pub fn encoding_at(clear: &[Bytes]) -> Option<usize>
     ensures value { result ≡ position opens_encoding clear.now }
@@ -81,6 +70,14 @@ pub fn encoding_at(clear: &[Bytes]) -> Option<usize>
     clear
         .iter()
         .position(|line| opens_encoding(line.as_slice()))
+}
+
+/// How many lines stand before the first one that opens the encoding.
+fn encoding_start(clear: &[Bytes]) -> usize
+    ensures within { result ≤ length clear.now }
+    ensures value { result ≡ position_or_len opens_encoding clear.now }
+{
+    encoding_at(clear).unwrap_or(clear.len())
 }
 
 /// How many lines stand before the first one that ends an array.
@@ -98,7 +95,7 @@ fn array_end(later: &[Bytes]) -> usize
 fn has_end(later: &[Bytes]) -> bool
     ensures { result ≡ list_any ends_array later.now }
 {
-    later.iter().any(|line| ends_array(line.as_slice()))
+    array_end(later) < later.len()
 }
 
 /// How many of the later lines are those of the array that a line opens.

@@ -6,6 +6,7 @@ ghost use Rattle.t1_text.specs.Lines.{lines};
 ghost use Rattle.t1_parts.specs.Sections.{is_subrs_line, is_glyphs_line};
 ghost use Rattle.t1_parts.specs.Entries.{glyph_name, has_numbered, is_subr, is_glyph};
 ghost use Rattle.std.specs.List.{find};
+ghost use Rattle.t1_parts.specs.declared.stretch.Stretch.TheVariants as kinds;
 ghost use Rattle.t1_parts.specs.Gathered.{KeepsNames, KeepsNumbers};
 ghost use Rattle.t1_parts.specs.LenIV.{says_lead};
 ghost use Rattle.t1_parts.specs.NumberedStretches.{numbered_in, numbered_lines};
@@ -116,8 +117,33 @@ fn push_numbered<'a>(
     ensures stretch { OnOk result
         (stretches.new.items ≡ stretches.old.items ++ stretch.entry ∷ []) }
 {
-    numbers.push(number)?;
     stretches.push(stretch)?;
+    numbers.push(number)?;
+    Ok(())
+}
+
+/// Adds an item, with the number of its first line and its name where it is a glyph, and keeps what
+/// later lines ask of it.
+fn push_item<'a>(
+    numbers: &mut Vec<u64>,
+    stretches: &mut Vec<Stretch<'a>>,
+    subrs: &mut BTreeSet<u16>,
+    glyphs: &mut IndexSet<&'a [u8]>,
+    number: u64,
+    item: Item<'a>,
+    name: Option<&'a [u8]>,
+) -> Result<(), AllocError>
+    ensures number { OnOk result (numbers.new.items ≡ numbers.old.items ++ number ∷ []) }
+    ensures stretch { OnOk result
+        (stretches.new.items ≡ stretches.old.items ++ kinds.One item.entry ∷ []) }
+    ensures subrs { OnOk result (KeepsNumbers subrs.old.keys subrs.new.keys item.entry) }
+    ensures glyphs { OnOk result
+        (KeepsNames glyphs.old.keys glyphs.new.keys (option_map (λ n. n.now) name.entry)) }
+{
+    let kept = keep_number(subrs, &item);
+    push_numbered(numbers, stretches, number, Stretch::One(item))?;
+    kept?;
+    keep_name(glyphs, name)?;
     Ok(())
 }
 
@@ -270,9 +296,15 @@ impl<'a> Gathered<'a> {
         } = self;
         let has_subrs_line = has_subrs_line | is_subrs_line(&item);
         let has_glyphs_line = has_glyphs_line | is_glyphs_line(&item);
-        keep_number(&mut subrs, &item)?;
-        keep_name(&mut glyphs, name)?;
-        push_numbered(&mut numbers, &mut stretches, number, Stretch::One(item))?;
+        push_item(
+            &mut numbers,
+            &mut stretches,
+            &mut subrs,
+            &mut glyphs,
+            number,
+            item,
+            name,
+        )?;
         Ok(Gathered {
             numbers,
             stretches,

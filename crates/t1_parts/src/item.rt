@@ -1,13 +1,14 @@
 //! What the private part of a source is made of.
 
 ghost use Rattle.std.specs.Prelude.{◌≡◌, IfOk};
+ghost use Rattle.t1_parts.specs.declared.item.Item.TheVariants as kinds;
 
 use std::alloc::{AllocError, Global};
 use t1_frac::{OwnedWords, SourceText, Words};
 
 /// One item of the private part; its texts stand in the source that was read, or in memory of their
 /// own.
-#[derive(Debug, Drop)]
+#[derive(Drop)]
 pub enum Item<'a> {
     /// A line that is kept as it stands.
     Plain(SourceText<'a>),
@@ -42,6 +43,46 @@ fn copied_body<'a>(
     Ok((words, closing.copied(alloc)?))
 }
 
+/// A copy of a section line.
+fn copied_section<'a>(
+    alloc: Global,
+    before: &SourceText<'a>,
+    count: u64,
+    after: &SourceText<'a>,
+) -> Result<Item<'a>, AllocError>
+    ensures { IfOk result (λ copy. copy ≡ kinds.Section before.now count after.now) }
+{
+    let before = before.copied(alloc)?;
+    Ok(Item::Section(before, count, after.copied(alloc)?))
+}
+
+/// A copy of a Subr.
+fn copied_subr<'a>(
+    alloc: Global,
+    number: u16,
+    words: &Words<'a>,
+    closing: &SourceText<'a>,
+) -> Result<Item<'a>, AllocError>
+    ensures { IfOk result (λ copy. copy ≡ kinds.Subr number words.now closing.now) }
+{
+    let (words, closing) = copied_body(alloc, words, closing)?;
+    Ok(Item::Subr(number, words, closing))
+}
+
+/// A copy of a glyph.
+fn copied_glyph<'a>(
+    alloc: Global,
+    name: &SourceText<'a>,
+    words: &Words<'a>,
+    closing: &SourceText<'a>,
+) -> Result<Item<'a>, AllocError>
+    ensures { IfOk result (λ copy. copy ≡ kinds.Glyph name.now words.now closing.now) }
+{
+    let name = name.copied(alloc)?;
+    let (words, closing) = copied_body(alloc, words, closing)?;
+    Ok(Item::Glyph(name, words, closing))
+}
+
 /// A copy of a text, in memory of its own.
 fn owned_text(alloc: Global, text: &SourceText) -> Result<SourceText<'static>, AllocError>
     ensures { IfOk result (λ owned. owned ≡ text.now) }
@@ -71,6 +112,46 @@ fn owned_body(
     Ok((words, owned_text(alloc, closing)?))
 }
 
+/// A copy of a section line that borrows nothing.
+fn owned_section(
+    alloc: Global,
+    before: &SourceText,
+    count: u64,
+    after: &SourceText,
+) -> Result<Item<'static>, AllocError>
+    ensures { IfOk result (λ owned. owned ≡ kinds.Section before.now count after.now) }
+{
+    let before = owned_text(alloc, before)?;
+    Ok(Item::Section(before, count, owned_text(alloc, after)?))
+}
+
+/// A copy of a Subr that borrows nothing.
+fn owned_subr(
+    alloc: Global,
+    number: u16,
+    words: &Words,
+    closing: &SourceText,
+) -> Result<Item<'static>, AllocError>
+    ensures { IfOk result (λ owned. owned ≡ kinds.Subr number words.now closing.now) }
+{
+    let (words, closing) = owned_body(alloc, words, closing)?;
+    Ok(Item::Subr(number, words, closing))
+}
+
+/// A copy of a glyph that borrows nothing.
+fn owned_glyph(
+    alloc: Global,
+    name: &SourceText,
+    words: &Words,
+    closing: &SourceText,
+) -> Result<Item<'static>, AllocError>
+    ensures { IfOk result (λ owned. owned ≡ kinds.Glyph name.now words.now closing.now) }
+{
+    let name = owned_text(alloc, name)?;
+    let (words, closing) = owned_body(alloc, words, closing)?;
+    Ok(Item::Glyph(name, words, closing))
+}
+
 impl<'a> Item<'a> {
     /// A copy. It takes no memory where the texts stand in a source.
     pub fn copied(&self, alloc: Global) -> Result<Item<'a>, AllocError>
@@ -78,19 +159,9 @@ impl<'a> Item<'a> {
     {
         match self {
             Item::Plain(line) => Ok(Item::Plain(line.copied(alloc)?)),
-            Item::Section(before, count, after) => {
-                let before = before.copied(alloc)?;
-                Ok(Item::Section(before, *count, after.copied(alloc)?))
-            }
-            Item::Subr(number, words, closing) => {
-                let (words, closing) = copied_body(alloc, words, closing)?;
-                Ok(Item::Subr(*number, words, closing))
-            }
-            Item::Glyph(name, words, closing) => {
-                let name = name.copied(alloc)?;
-                let (words, closing) = copied_body(alloc, words, closing)?;
-                Ok(Item::Glyph(name, words, closing))
-            }
+            Item::Section(before, count, after) => copied_section(alloc, before, *count, after),
+            Item::Subr(number, words, closing) => copied_subr(alloc, *number, words, closing),
+            Item::Glyph(name, words, closing) => copied_glyph(alloc, name, words, closing),
         }
     }
 
@@ -100,19 +171,9 @@ impl<'a> Item<'a> {
     {
         match self {
             Item::Plain(line) => Ok(Item::Plain(owned_text(alloc, line)?)),
-            Item::Section(before, count, after) => {
-                let before = owned_text(alloc, before)?;
-                Ok(Item::Section(before, *count, owned_text(alloc, after)?))
-            }
-            Item::Subr(number, words, closing) => {
-                let (words, closing) = owned_body(alloc, words, closing)?;
-                Ok(Item::Subr(*number, words, closing))
-            }
-            Item::Glyph(name, words, closing) => {
-                let name = owned_text(alloc, name)?;
-                let (words, closing) = owned_body(alloc, words, closing)?;
-                Ok(Item::Glyph(name, words, closing))
-            }
+            Item::Section(before, count, after) => owned_section(alloc, before, *count, after),
+            Item::Subr(number, words, closing) => owned_subr(alloc, *number, words, closing),
+            Item::Glyph(name, words, closing) => owned_glyph(alloc, name, words, closing),
         }
     }
 }

@@ -12,7 +12,7 @@ ghost use Rattle.t1_parts.specs.LenIV.{lead_among, says_lead};
 
 use crate::item::Item;
 use crate::item_ref::ItemRef;
-use crate::items_iter::{ItemsIter, item_before, items_between};
+use crate::items_iter::{ItemsIter, item_before, items_among, items_between};
 use crate::len_iv::{lead_of, says_lead};
 use crate::stretch::Stretch;
 use crate::stretches::{
@@ -25,7 +25,7 @@ use std::marker::Model;
 /// The items of a private part. Plain lines that follow one another may stand together, as the
 /// bytes that were read; where none do, the item of a place is found at once. Their lenIV is kept.
 /// Contracts see the list of the items, with an item for each plain line.
-#[derive(Debug, Drop)]
+#[derive(Drop)]
 pub struct Items<'a> {
     stretches: Vec<Stretch<'a>>,
     len: usize,
@@ -56,6 +56,14 @@ fn says_either(old: &ItemRef, new: &Item) -> bool
     old.says_lead() || says_lead(new)
 }
 
+/// The lenIV of some stretches, which have so many items.
+fn lead_in(stretches: &[Stretch], len: usize) -> u8
+    requires { len ≡ length (items_in stretches.now) }
+    ensures { result ≡ lead_among (items_in stretches.now) }
+{
+    lead_of(items_among(stretches, len))
+}
+
 /// The lenIV of some stretches after an edit: the one before it, where nothing that was put in or
 /// taken out says lenIV.
 fn lead_after(stretches: &[Stretch], len: usize, lead: u8, is_said: bool) -> u8
@@ -64,7 +72,7 @@ fn lead_after(stretches: &[Stretch], len: usize, lead: u8, is_said: bool) -> u8
     ensures { result ≡ lead_among (items_in stretches.now) }
 {
     if is_said {
-        return lead_of(items_between(b"", stretches, b"", len));
+        return lead_in(stretches, len);
     }
     lead
 }
@@ -94,7 +102,7 @@ impl<'a> Items<'a> {
         let Some(len) = item_count(stretches.as_slice(), are_single) else {
             return Err(AllocError);
         };
-        let lead = lead_of(items_between(b"", stretches.as_slice(), b"", len));
+        let lead = lead_in(stretches.as_slice(), len);
         Ok(Items {
             stretches,
             len,
@@ -125,7 +133,7 @@ impl<'a> Items<'a> {
         ensures items { result ≡ self.now }
         ensures within { length self.now < 2 ^ 64 }
     {
-        items_between(b"", self.stretches.as_slice(), b"", self.len)
+        items_among(self.stretches.as_slice(), self.len)
     }
 
     /// The items before a place, and those from it on.
@@ -138,16 +146,10 @@ impl<'a> Items<'a> {
         let (index, offset) = place_of(stretches, at, self.are_single);
         let (before, from) = stretches.split_at(index);
         if index == stretches.len() {
-            return (
-                items_between(b"", before, b"", at),
-                items_between(b"", from, b"", self.len - at),
-            );
+            return (items_among(before, at), items_among(from, self.len - at));
         }
         let Some((front, back)) = stretches[index].cut(offset) else {
-            return (
-                items_between(b"", before, b"", at),
-                items_between(b"", from, b"", self.len - at),
-            );
+            return (items_among(before, at), items_among(from, self.len - at));
         };
         let after = stretches.split_at(index + 1).1;
         (
@@ -160,7 +162,7 @@ impl<'a> Items<'a> {
     pub fn none(&self) -> ItemsIter<'_, 'a>
         ensures { result ≡ [] }
     {
-        items_between(b"", self.stretches.as_slice().split_at(0).0, b"", 0)
+        items_among(self.stretches.as_slice().split_at(0).0, 0)
     }
 
     /// An item that stands elsewhere, alone.
@@ -223,6 +225,7 @@ impl<'a> Items<'a> {
         ensures err { OnErr result (self.new ≡ self.old) }
     {
         let Some(len) = self.len.checked_add(stretch.len()) else {
+            drop(stretch);
             return Err(AllocError);
         };
         let are_single = stay_single(self.are_single, &stretch);
@@ -249,10 +252,17 @@ impl<'a> Items<'a> {
         ensures err { OnErr result (self.new ≡ self.old) }
     {
         let Some(len) = self.len.checked_add(1) else {
+            drop(item);
             return Err(AllocError);
         };
         let is_said = says_lead(&item);
-        let index = cut_before(&mut self.stretches, at, self.are_single)?;
+        let index = match cut_before(&mut self.stretches, at, self.are_single) {
+            Ok(index) => index,
+            Err(error) => {
+                drop(item);
+                return Err(error);
+            }
+        };
         insert_stretch(&mut self.stretches, index, Stretch::One(item))?;
         self.len = len;
         self.lead = lead_after(self.stretches.as_slice(), len, self.lead, is_said);
@@ -285,7 +295,13 @@ impl<'a> Items<'a> {
         ensures still { StandsAloneAt self.old at → IsOk result }
     {
         let is_said = says_either(&self.item(at), &item);
-        let index = cut_before(&mut self.stretches, at, self.are_single)?;
+        let index = match cut_before(&mut self.stretches, at, self.are_single) {
+            Ok(index) => index,
+            Err(error) => {
+                drop(item);
+                return Err(error);
+            }
+        };
         put_first(&mut self.stretches, index, item)?;
         self.lead = lead_after(self.stretches.as_slice(), self.len, self.lead, is_said);
         Ok(())

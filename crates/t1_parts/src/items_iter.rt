@@ -151,6 +151,14 @@ pub(crate) fn items_between<'i, 'a>(
     }
 }
 
+/// The items of some stretches, which are so many.
+pub(crate) fn items_among<'i, 'a>(stretches: &'i [Stretch<'a>], len: usize) -> ItemsIter<'i, 'a>
+    requires { len ≡ length (items_in stretches.now) }
+    ensures { result ≡ items_in stretches.now }
+{
+    items_between(b"", stretches, b"", len)
+}
+
 /// An item that stands elsewhere, alone, before none of some stretches.
 pub(crate) fn item_before<'i, 'a>(item: &'i Item<'a>, none: &'i [Stretch<'a>]) -> ItemsIter<'i, 'a>
     requires { length none.now ≡ 0 }

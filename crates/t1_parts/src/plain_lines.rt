@@ -11,7 +11,7 @@ use t1_text::first_line;
 
 /// One or more whole lines as they were read, with their ends, and how many they are. None of them
 /// says lenIV. Contracts see the list of the lines.
-#[derive(Debug, Drop)]
+#[derive(Drop)]
 pub(crate) struct PlainLines<'a> {
     bytes: &'a [u8],
     count: usize,

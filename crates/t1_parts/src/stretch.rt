@@ -18,7 +18,7 @@ use crate::plain_lines::PlainLines;
 use std::alloc::{AllocError, Global};
 
 /// An item, or plain lines that follow one another.
-#[derive(Debug, Drop)]
+#[derive(Drop)]
 pub(crate) enum Stretch<'a> {
     /// One item.
     One(Item<'a>),

@@ -9,6 +9,7 @@ ghost use Rattle.t1_parts.specs.Items.{StandsAloneAt, IsPlace};
 use crate::item::Item;
 use crate::stretch::Stretch;
 use std::alloc::{AllocError, Global};
+use std::mem;
 
 /// Copies of some stretches.
 pub(crate) fn copied_stretches<'a>(
@@ -95,7 +96,7 @@ fn put_stretch<'a>(stretches: &mut Vec<Stretch<'a>>, index: usize, stretch: Stre
     requires { index < length stretches.old.items }
     ensures { stretches.new.items ≡ slice_set stretches.old.items index stretch.entry }
 {
-    stretches[index] = stretch;
+    drop(mem::replace(&mut stretches[index], stretch));
 }
 
 /// Puts a stretch in. Where memory runs out, nothing has changed.
@@ -118,7 +119,7 @@ fn remove_stretch(stretches: &mut Vec<Stretch>, index: usize)
     requires { index < length stretches.old.items }
     ensures { stretches.new.items ≡ remove stretches.old.items index }
 {
-    let _stretch = stretches.remove(index);
+    drop(stretches.remove(index));
 }
 
 /// Cuts the stretch in which the item of a place stands, so that it is the first of its stretch,

@@ -11,11 +11,11 @@ pub invariant_of-result : goal.invariant_of-result
 invariant_of-result c =
     let old = c.self.inside in
     let items = numbered_in old.numbers.items old.stretches.items in
-    rw (c.in_ok-push_numbered.ensures.number, c.in_ok-push_numbered.ensures.stretch, with_one old.numbers.items old.stretches.items c.args.number c.args.item c.self.invariant.4) (
+    rw (c.in_ok-push_item.ensures.number, c.in_ok-push_item.ensures.stretch, with_one old.numbers.items old.stretches.items c.args.number c.args.item c.self.invariant.4) (
       or_more is_subrs_line items c.args.number c.args.item _ _ c.self.invariant.0 c.is_subrs_line.ensures,
       or_more is_glyphs_line items c.args.number c.args.item _ _ c.self.invariant.1 c.is_glyphs_line.ensures,
-      c.in_ok-keep_number.ensures items c.args.number c.self.invariant.2,
-      c.in_ok-keep_name.ensures items c.args.number c.args.item c.requires c.self.invariant.3,
+      c.in_ok-push_item.ensures.subrs items c.args.number c.self.invariant.2,
+      c.in_ok-push_item.ensures.glyphs items c.args.number c.args.item c.requires c.self.invariant.3,
       same_pushed old.numbers.items old.stretches.items c.args.number (One c.args.item) c.self.invariant.4,
       λ on. single_pushed old.stretches.items (One c.args.item) (c.self.invariant.5 on) refl,
     )
@@ -23,5 +23,5 @@ invariant_of-result c =
 pub returns : goal.returns
 returns c =
     let old = c.self.inside in
-    rw (c.in_ok-push_numbered.ensures.number, c.in_ok-push_numbered.ensures.stretch, with_one old.numbers.items old.stretches.items c.args.number c.args.item c.self.invariant.4)
+    rw (c.in_ok-push_item.ensures.number, c.in_ok-push_item.ensures.stretch, with_one old.numbers.items old.stretches.items c.args.number c.args.item c.self.invariant.4)
     (ap (λ t. t ++ (c.args.number, c.args.item) ∷ []) c.self.view_is)

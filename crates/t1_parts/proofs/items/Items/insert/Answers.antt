@@ -11,18 +11,18 @@ use Rattle.t1_parts.proofs.items.Items.insert.Goals as goal
 
 pub invariant_of-self-2 : goal.invariant_of-self-2
 invariant_of-self-2 c =
-    let made = inserted c.args.at c.in_ok-index.index c.self.inside.stretches.items c.cut_before.new.stretches.items c.insert_stretch.new.stretches.items (One c.args.item) c.args.item c.cut_before.ensures.same c.in_ok-index.ensures.within c.in_ok-index.ensures.before refl c.in_ok-insert_stretch.ensures.ok in
+    let made = inserted c.args.at c.in-Ok.index c.self.inside.stretches.items c.cut_before.new.stretches.items c.insert_stretch.new.stretches.items (One c.args.item) c.args.item c.cut_before.ensures.same c.in-Ok.ensures.within c.in-Ok.ensures.before refl c.in_ok-insert_stretch.ensures.ok in
     let view = ap length c.self.view_is in
     let more = length-insert (items_in c.self.inside.stretches.items) c.args.at c.args.item (omega (arith, view, c.requires)) in
     let size = ap length made in (
       omega (arith, size, more, c.self.invariant.0, c.in-Some.ensures),
-      λ on. subst AreSingle (sym c.in_ok-insert_stretch.ensures.ok) (single_inserted c.in_ok-index.index c.cut_before.new.stretches.items (One c.args.item) (c.cut_before.ensures.single (c.self.invariant.1 on)) refl),
+      λ on. subst AreSingle (sym c.in_ok-insert_stretch.ensures.ok) (single_inserted c.in-Ok.index c.cut_before.new.stretches.items (One c.args.item) (c.cut_before.ensures.single (c.self.invariant.1 on)) refl),
       c.lead_after-self-inside.ensures ∙ ap (λ xs. lead_among (items_in xs)) c.as_slice.ensures.value,
     )
 
 pub lead_after-self-inside-requires-clause-len : goal.lead_after-self-inside-requires-clause-len
 lead_after-self-inside-requires-clause-len c =
-    let made = inserted c.args.at c.in_ok-index.index c.self.inside.stretches.items c.cut_before.new.stretches.items c.insert_stretch.new.stretches.items (One c.args.item) c.args.item c.cut_before.ensures.same c.in_ok-index.ensures.within c.in_ok-index.ensures.before refl c.in_ok-insert_stretch.ensures.ok in
+    let made = inserted c.args.at c.in-Ok.index c.self.inside.stretches.items c.cut_before.new.stretches.items c.insert_stretch.new.stretches.items (One c.args.item) c.args.item c.cut_before.ensures.same c.in-Ok.ensures.within c.in-Ok.ensures.before refl c.in_ok-insert_stretch.ensures.ok in
     let view = ap length c.self.view_is in
     let more = length-insert (items_in c.self.inside.stretches.items) c.args.at c.args.item (omega (arith, view, c.requires)) in
     let size = ap length (ap items_in c.as_slice.ensures.value ∙ made) in
@@ -30,10 +30,10 @@ lead_after-self-inside-requires-clause-len c =
 
 pub lead_after-self-inside-requires-clause-same : goal.lead_after-self-inside-requires-clause-same
 lead_after-self-inside-requires-clause-same c silent =
-    let made = inserted c.args.at c.in_ok-index.index c.self.inside.stretches.items c.cut_before.new.stretches.items c.insert_stretch.new.stretches.items (One c.args.item) c.args.item c.cut_before.ensures.same c.in_ok-index.ensures.within c.in_ok-index.ensures.before refl c.in_ok-insert_stretch.ensures.ok in
+    let made = inserted c.args.at c.in-Ok.index c.self.inside.stretches.items c.cut_before.new.stretches.items c.insert_stretch.new.stretches.items (One c.args.item) c.args.item c.cut_before.ensures.same c.in-Ok.ensures.within c.in-Ok.ensures.before refl c.in_ok-insert_stretch.ensures.ok in
     lead_inserted c.self.inside.lead c.args.at (items_in c.self.inside.stretches.items) (items_in c.as_slice.result.now) c.args.item c.self.invariant.2 (sym c.says_lead-is_said.ensures ∙ silent) (ap items_in c.as_slice.ensures.value ∙ made)
 
 pub returns-clause-ok : goal.returns-clause-ok
 returns-clause-ok c =
-    inserted c.args.at c.in_ok-index.index c.self.inside.stretches.items c.cut_before.new.stretches.items c.insert_stretch.new.stretches.items (One c.args.item) c.args.item c.cut_before.ensures.same c.in_ok-index.ensures.within c.in_ok-index.ensures.before refl c.in_ok-insert_stretch.ensures.ok
+    inserted c.args.at c.in-Ok.index c.self.inside.stretches.items c.cut_before.new.stretches.items c.insert_stretch.new.stretches.items (One c.args.item) c.args.item c.cut_before.ensures.same c.in-Ok.ensures.within c.in-Ok.ensures.before refl c.in_ok-insert_stretch.ensures.ok
     ∙ ap (λ xs. insert xs c.args.at c.args.item) c.self.view_is

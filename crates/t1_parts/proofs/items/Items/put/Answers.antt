@@ -13,7 +13,7 @@ use Rattle.t1_parts.proofs.items.Items.put.Goals as goal
 pub invariant_of-self-2 : goal.invariant_of-self-2
 invariant_of-self-2 c =
     let view = ap length c.self.view_is in
-    let size = ap length (replaced c.args.at c.in_ok-index.index c.self.inside.stretches.items c.cut_before.new.stretches.items c.put_first.new.stretches.items c.args.item c.cut_before.ensures.same c.in_ok-index.ensures.before (omega (arith, view, c.requires)) c.in_ok-put_first.ensures.ok) in
+    let size = ap length (replaced c.args.at c.in-Ok.index c.self.inside.stretches.items c.cut_before.new.stretches.items c.put_first.new.stretches.items c.args.item c.cut_before.ensures.same c.in-Ok.ensures.before (omega (arith, view, c.requires)) c.in_ok-put_first.ensures.ok) in
     let same = length_set c.args.at (items_in c.self.inside.stretches.items) c.args.item in (
       omega (arith, size, same, c.self.invariant.0),
       λ on. c.in_ok-put_first.ensures.single (c.cut_before.ensures.single (c.self.invariant.1 on)),
@@ -23,7 +23,7 @@ invariant_of-self-2 c =
 pub lead_after-self-inside-requires-clause-len : goal.lead_after-self-inside-requires-clause-len
 lead_after-self-inside-requires-clause-len c =
     let view = ap length c.self.view_is in
-    let made = replaced c.args.at c.in_ok-index.index c.self.inside.stretches.items c.cut_before.new.stretches.items c.put_first.new.stretches.items c.args.item c.cut_before.ensures.same c.in_ok-index.ensures.before (omega (arith, view, c.requires)) c.in_ok-put_first.ensures.ok in
+    let made = replaced c.args.at c.in-Ok.index c.self.inside.stretches.items c.cut_before.new.stretches.items c.put_first.new.stretches.items c.args.item c.cut_before.ensures.same c.in-Ok.ensures.before (omega (arith, view, c.requires)) c.in_ok-put_first.ensures.ok in
     let size = ap length (ap items_in c.as_slice.ensures.value ∙ made) in
     let same = length_set c.args.at (items_in c.self.inside.stretches.items) c.args.item in
     omega (arith, size, same, c.self.invariant.0)
@@ -33,7 +33,7 @@ lead_after-self-inside-requires-clause-same c silent =
     let items = items_in c.self.inside.stretches.items in
     let d = Plain [] in
     let view = ap length c.self.view_is in
-    let made = replaced c.args.at c.in_ok-index.index c.self.inside.stretches.items c.cut_before.new.stretches.items c.put_first.new.stretches.items c.args.item c.cut_before.ensures.same c.in_ok-index.ensures.before (omega (arith, view, c.requires)) c.in_ok-put_first.ensures.ok in
+    let made = replaced c.args.at c.in-Ok.index c.self.inside.stretches.items c.cut_before.new.stretches.items c.put_first.new.stretches.items c.args.item c.cut_before.ensures.same c.in-Ok.ensures.before (omega (arith, view, c.requires)) c.in_ok-put_first.ensures.ok in
     let there : slice_index_or items c.args.at d ≡ item_of c.item.result = ap (λ xs. slice_index_or xs c.args.at d) c.self.view_is ∙ c.item.ensures d in
     let off = or_parts (says_lead (item_of c.item.result)) (says_lead c.args.item) (sym c.says_either-is_said.ensures ∙ silent) in
     lead_set c.self.inside.lead c.args.at items (items_in c.as_slice.result.now) d c.args.item c.self.invariant.2 (ap says_lead there ∙ off.0) off.1 (ap items_in c.as_slice.ensures.value ∙ made)
@@ -41,10 +41,10 @@ lead_after-self-inside-requires-clause-same c silent =
 pub returns-clause-ok : goal.returns-clause-ok
 returns-clause-ok c =
     let view = ap length c.self.view_is in
-    replaced c.args.at c.in_ok-index.index c.self.inside.stretches.items c.cut_before.new.stretches.items c.put_first.new.stretches.items c.args.item c.cut_before.ensures.same c.in_ok-index.ensures.before (omega (arith, view, c.requires)) c.in_ok-put_first.ensures.ok
+    replaced c.args.at c.in-Ok.index c.self.inside.stretches.items c.cut_before.new.stretches.items c.put_first.new.stretches.items c.args.item c.cut_before.ensures.same c.in-Ok.ensures.before (omega (arith, view, c.requires)) c.in_ok-put_first.ensures.ok
     ∙ ap (λ xs. slice_set xs c.args.at c.args.item) c.self.view_is
 
 pub returns-in_err-put_first-clause-still : goal.returns-in_err-put_first-clause-still
 returns-in_err-put_first-clause-still c alone =
-    let p = err_from_is_err_and c.from_residual-in_err-put_first.result c.from_residual-in_err-put_first.ensures.1 in
-    rw p.1 (c.in_err-put_first.ensures.still (alone_past c.args.at c.in_ok-index.index c.self.inside.stretches.items c.cut_before.new.stretches.items c.cut_before.ensures.same c.in_ok-index.ensures.before (subst (λ xs. StandsAloneAt xs c.args.at) (sym c.self.view_is) alone)))
+    let p = err_from_is_err_and c.from_residual.result c.from_residual.ensures.1 in
+    rw p.1 (c.in_err-put_first.ensures.still (alone_past c.args.at c.in-Ok.index c.self.inside.stretches.items c.cut_before.new.stretches.items c.cut_before.ensures.same c.in-Ok.ensures.before (subst (λ xs. StandsAloneAt xs c.args.at) (sym c.self.view_is) alone)))

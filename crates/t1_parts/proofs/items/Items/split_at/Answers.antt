@@ -7,20 +7,20 @@ use Rattle.t1_parts.proofs.items.Items.split_at.Goals as goal
 
 pub returns-clause-front : goal.returns-clause-front
 returns-clause-front c =
-    c.items_between-2.ensures
+    c.items_between.ensures
     ∙ split_front c.args.at c.as_slice-stretches.result.now c.split_at.result.0.now c.place_of-index.result c.index-stretches-index.result (line_items (lines c.as_bytes.result.now)) c.place_of-index.ensures c.if-index-stretches.false c.index-stretches-index.is c.split_at.ensures.front (ap line_items c.as_bytes.ensures.lines ∙ c.in-Some.ensures.0)
     ∙ ap (λ ss. take c.args.at (items_in ss)) c.as_slice-stretches.ensures.value
     ∙ ap (take c.args.at) c.self.view_is
 
 pub returns-clause-back : goal.returns-clause-back
 returns-clause-back c =
-    c.items_between-3.ensures
+    c.items_between-2.ensures
     ∙ split_back c.args.at c.as_slice-stretches.result.now c.split_at-2.result.1.now c.place_of-index.result c.index-stretches-index.result (line_items (lines c.as_bytes-2.result.now)) c.place_of-index.ensures c.if-index-stretches.false c.index-stretches-index.is c.split_at-2.ensures.back (ap line_items c.as_bytes-2.ensures.lines ∙ c.in-Some.ensures.1)
     ∙ ap (λ ss. drop c.args.at (items_in ss)) c.as_slice-stretches.ensures.value
     ∙ ap (drop c.args.at) c.self.view_is
 
-pub items_between-requires-3-clause-len : goal.items_between-requires-3-clause-len
-items_between-requires-3-clause-len c =
+pub items_between-requires-2-clause-len : goal.items_between-requires-2-clause-len
+items_between-requires-2-clause-len c =
     let whole = split_back c.args.at c.as_slice-stretches.result.now c.split_at-2.result.1.now c.place_of-index.result c.index-stretches-index.result (line_items (lines c.as_bytes-2.result.now)) c.place_of-index.ensures c.if-index-stretches.false c.index-stretches-index.is c.split_at-2.ensures.back (ap line_items c.as_bytes-2.ensures.lines ∙ c.in-Some.ensures.1) in
     let same = ap length (whole ∙ ap (λ ss. drop c.args.at (items_in ss)) c.as_slice-stretches.ensures.value) in
     let left = length-drop c.args.at (items_in c.self.inside.stretches.items) in
