@@ -33,6 +33,7 @@ BESIDE = [
     "tests/random --faults --count 150",
     "tests/random --all-changes",
     "tests/session-api",
+    "tests/short-writes",
     "tests/t1asm",
     "tests/run",
     "tests/gate-times --try",

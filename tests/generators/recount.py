@@ -12,11 +12,12 @@ from stale import edited_keys, font_after, stale
 
 SECONDS = 60
 NO_STEP = (b"refused E7", b"refused E8")
-ACCEPTED, RULE, FAULT = b"accepted", b"refused by a rule", b"refused for a fault"
+ACCEPTED, RULE, FAULT = "accepted", "refused by a rule", "refused for a fault"
+IN_BATCH = b"in a batch: "
 
 
 def ending(answer):
-    """What t1_runs calls an answer of the session."""
+    """What comes of a command with this answer."""
     if answer == b"ok":
         return ACCEPTED
     return FAULT if answer.startswith(b"refused F") else RULE
@@ -38,7 +39,8 @@ class Recount:
         self.script.append(b" ".join([*words, *body_words(body)]) + b"\n")
         before, end = self.model.state(), ending(answer)
         self.model.answer(words, body, False)
-        self.wanted.append((end, len(stale(self.font, self.judged_keys(words, end), self.model.source))))
+        told = (IN_BATCH if self.model.batch is not None else b"") + answer
+        self.wanted.append((end, told, len(stale(self.font, self.judged_keys(words, end), self.model.source))))
         if end == FAULT:
             self.model.restore((before[0], before[1], None))
         elif self.model.source != before[0]:
@@ -61,21 +63,21 @@ class Recount:
 
     def line(self):
         """How many runs there are to be compared."""
-        runs = [count for end, count in self.wanted if end == ACCEPTED]
+        runs = [count for end, _, count in self.wanted if end == ACCEPTED]
         return f"runs after the opening {sum(runs)}, by one edit or commit up to {max(runs, default=0)}"
 
     def differences(self, program, path):
-        """Where t1_runs counts other runs for the script on the source at this path."""
+        """Where t1_runs counts other runs, or answers otherwise, for the script on the source at this path."""
         ran = subprocess.run([program, path], input=b"".join(self.script), capture_output=True, timeout=SECONDS)
         lines = [line.partition(b" ") for line in ran.stdout.splitlines()]
         if ran.returncode or len(lines) != 1 + len(self.wanted):
             return [f"t1_runs ended with status {ran.returncode} after {len(lines)} lines: {ran.stderr!r}"]
         counts, ends = [int(line[0]) for line in lines], [line[2] for line in lines]
         found = self.found + ([f"{counts[0]} runs at the opening"] if counts[0] != self.glyphs else [])
-        for at, (end, runs) in enumerate(self.wanted):
+        for at, (end, told, runs) in enumerate(self.wanted):
             made = counts[at + 1] - counts[at]
-            if ends[at + 1] != end:
-                found.append(f"t1_runs: {self.script[at][:60]!r} is {ends[at + 1]!r}, and not {end!r}")
+            if ends[at + 1] != told:
+                found.append(f"t1_runs: {self.script[at][:60]!r} is {ends[at + 1]!r}, and not {told!r}")
             elif not (runs if end == ACCEPTED else 0) <= made <= (0 if end == RULE else runs):
-                found.append(f"{self.script[at][:60]!r}, {end.decode()}, makes {made} runs, and not {runs}")
+                found.append(f"{self.script[at][:60]!r}, {end}, makes {made} runs, and not {runs}")
         return found

@@ -1,11 +1,12 @@
 //! Why the program ends before its work is done.
 
 use std::alloc::{AllocError, AllocFailed};
-use std::io::{self, ErrorKind, Write};
+use std::io::{self, ErrorKind, Stderr, Write};
+use t1_code::OutError;
 use t1_frac::Refusal;
 
 /// Why the program ends before its work is done.
-#[derive(Clone, Copy, Debug, PartialEq, Eq)]
+#[derive(Clone, Copy)]
 pub enum Stop {
     /// The arguments are none of the usage.
     Usage,
@@ -13,9 +14,7 @@ pub enum Stop {
     Failed,
     /// The source has a fault.
     Fault,
-    /// The source has no such glyph.
-    NoGlyph,
-    /// A line of the script is no step.
+    /// A line of the script is no command that is performed.
     NoStep,
     Memory,
 }
@@ -23,12 +22,9 @@ pub enum Stop {
 impl Stop {
     fn line(self) -> &'static [u8] {
         match self {
-            Stop::Usage => {
-                b"usage: t1_runs SOURCE < SCRIPT | read SOURCE | run SOURCE GLYPH | edit SOURCE PAIRS < SCRIPT\n"
-            }
+            Stop::Usage => b"usage: t1_runs [serve] SOURCE < SCRIPT\n",
             Stop::Failed => b"t1_runs: a read or a write failed\n",
             Stop::Fault => b"t1_runs: the source has a fault\n",
-            Stop::NoGlyph => b"t1_runs: the source has no such glyph\n",
             Stop::NoStep => b"t1_runs: a line of the script is no step\n",
             Stop::Memory => b"t1_runs: out of memory\n",
         }
@@ -36,7 +32,7 @@ impl Stop {
 }
 
 /// Writes why the program ends.
-pub fn report<W: Write>(stop: Stop, writer: &mut W) {
+pub fn report(stop: Stop, writer: &mut Stderr) {
     let _written = writer.write_all(stop.line());
 }
 
@@ -58,6 +54,16 @@ impl From<AllocError> for Stop {
 impl<T: Drop> From<AllocFailed<T>> for Stop {
     fn from(_error: AllocFailed<T>) -> Stop {
         Stop::Memory
+    }
+}
+
+impl From<OutError> for Stop {
+    fn from(error: OutError) -> Stop {
+        match error {
+            OutError::Fault(_) => Stop::Fault,
+            OutError::Write => Stop::Failed,
+            OutError::Memory => Stop::Memory,
+        }
     }
 }
 

@@ -1,5 +1,5 @@
 use Rattle.std.proofs.Common.{length}
-use Rattle.t1_runs.proofs.counting.count_runs.Given as goal
+use Rattle.t1_runs.proofs.performing.perform_lines.Given as goal
 
 abbrev pub invariant-loop-rest : goal.invariant-loop-rest
 invariant-loop-rest l = Unit {0}
