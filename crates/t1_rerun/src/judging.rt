@@ -3,14 +3,16 @@ ghost use Rattle.std.specs.Prelude.{◌≡◌, true, All, IsSome, IfOk, List, �
 ghost use Rattle.std.specs.List.{AllByRecursion};
 ghost use Rattle.t1_frac.specs.Outcome.{Gives};
 ghost use Rattle.t1_parts.specs.SourceParts.{SourceParts};
-ghost use Rattle.t1_run.specs.Run.{font};
+ghost use Rattle.t1_run.specs.Run.{font, FontBodies};
+ghost use Rattle.t1_run.specs.Touched.{AreStale};
 ghost use Rattle.t1_font.specs.MeasuredGlyphs.{glyph_metrics_among};
 ghost use Rattle.t1_font.specs.Runs.{own_among, drawing_in, run_kept, AreTraced, Counts};
 ghost use Rattle.t1_font.specs.Runs.{IsNumberedAfter};
 ghost use Rattle.t1_font.specs.SourceChecks.{source_check};
 ghost use Rattle.t1_cache.specs.Edited.{stale};
 ghost use Rattle.t1_cache.specs.Kept.{keep_traces};
-ghost use Rattle.t1_cache.specs.Laws.{fault_check};
+ghost use Rattle.t1_cache.specs.Laws.{fault_check, AreDistinct};
+ghost use Rattle.t1_cache.specs.Tables.{AreTables};
 ghost use Rattle.t1_cache.specs.Users.{has_name, key_of};
 ghost use Rattle.t1_rerun.specs.Newest.{judged_in, newest, newest_among, FirstIn};
 ghost use Rattle.t1_rerun.specs.Renewals.{IsLater, IsRenewal};
@@ -133,6 +135,49 @@ fn judged<'a, B: StoredBodies, O: GlyphOrder>(
     Ok((runs, metrics))
 }
 
+/// Runs the stale glyphs that were found, each once, and measures them by the newest runs: what is
+/// new of the edited font, or its first fault.
+fn rerun_found<B: StoredBodies, O: GlyphOrder>(
+    alloc: Global,
+    records: &Records,
+    bodies: &B,
+    order: &O,
+    edits: &[Named],
+    found: &IndexSet<&[u8]>,
+    meter: &mut Meter,
+) -> Result<Renewal, Refusal>
+    requires traced { keep_traces records.now ≡ true }
+    requires once { AreDistinct (map (λ name. name.now) found.now.keys) }
+    requires stale { (m : FontBodies)
+        → AreTables m records.now
+        → AreStale m (map key_of edits.now) (has_name (λ name. name.now) found.now.keys) }
+    ensures checked { (old new : SourceParts)
+        → IsEdit edits.now old new records.now (font (B.subrs bodies.now) (B.glyphs bodies.now))
+        (O.ordered order.now)
+        → Gives (λ _. tt) result (source_check new) }
+    ensures renewal { (old new : SourceParts)
+        → IsEdit edits.now old new records.now (font (B.subrs bodies.now) (B.glyphs bodies.now))
+        (O.ordered order.now)
+        → IfOk result (IsRenewal (map key_of edits.now) old new) }
+    ensures later { IfOk result
+        (λ renewal. AllByRecursion (IsLater meter.old) renewal.reruns.items) }
+    ensures counted { (old new : SourceParts)
+        → IsEdit edits.now old new records.now (font (B.subrs bodies.now) (B.glyphs bodies.now))
+        (O.ordered order.now)
+        → Counts (length (stale old (map key_of edits.now) new)) meter.old meter.new result }
+{
+    let stale = there_among(alloc, bodies, found.as_slice())?;
+    let (mut runs, metrics) = judged(alloc, records, bodies, &stale, found, order, meter)?;
+    Ok(renewal_of(
+        alloc,
+        records,
+        found.as_slice(),
+        &stale,
+        &mut runs,
+        &metrics,
+    )?)
+}
+
 /// Runs the glyphs that edits make stale, each once, and measures them by the newest runs: what is
 /// new of the edited font, or its first fault. The bodies and the order of the glyphs are those of
 /// the edited font; the order is asked for only where a glyph has a fault. The meter counts each
@@ -162,7 +207,5 @@ pub fn rerun<B: StoredBodies, O: GlyphOrder>(
         → Counts (length (stale old (map key_of edits.now) new)) meter.old meter.new result }
 {
     let found = found(alloc, records, edits)?;
-    let stale = there_among(alloc, bodies, found.as_slice())?;
-    let (runs, metrics) = judged(alloc, records, bodies, &stale, &found, order, meter)?;
-    Ok(renewal_of(alloc, records, found.as_slice(), &stale, runs, &metrics)?)
+    rerun_found(alloc, records, bodies, order, edits, &found, meter)
 }

@@ -1,11 +1,14 @@
 //! The records of a source from scratch.
-ghost use Rattle.std.specs.Prelude.{◌≡◌, [], ℕ, List, None, false, IfOk, OnOk, is_some, map};
+ghost use Rattle.std.specs.Prelude.{◌≡◌, [], ℕ, List, None, Ok, false, IfOk, OnOk, is_some, map};
 ghost use Rattle.std.specs.Prelude.{if◌then◌else◌};
 ghost use Rattle.std.specs.List.{AllByRecursion, list_any};
 ghost use Rattle.std.specs.Str.{bytes_eq};
 ghost use Rattle.t1_frac.specs.Outcome.{Gives};
-ghost use Rattle.t1_run.specs.Run.{Key, Subr, Glyph, body_at};
-ghost use Rattle.t1_font.specs.Bodies.{glyph_body_kept, plain_bodies, subr_body_kept, SameBodies};
+ghost use Rattle.t1_run.specs.Run.{Key, Subr, Glyph, body_at, font};
+ghost use Rattle.t1_font.specs.Assembly.{file_check};
+ghost use Rattle.t1_font.specs.Bodies.{bodies as bodies_of, bodies_check, glyph_body_kept};
+ghost use Rattle.t1_font.specs.Bodies.{plain_bodies, subr_body_kept, SameBodies};
+ghost use Rattle.t1_font.specs.Glyphs.{glyph_names};
 ghost use Rattle.t1_font.specs.Runs.{Counts};
 ghost use Rattle.t1_font.specs.SourceChecks.{source_check};
 ghost use Rattle.t1_cache.specs.Bodies.{record_bodies};
@@ -13,8 +16,8 @@ ghost use Rattle.t1_cache.specs.Laws.{AreDistinct};
 ghost use Rattle.t1_cache.specs.Renewed.{kept_of};
 ghost use Rattle.t1_cache.specs.Tables.{AreTables};
 ghost use Rattle.t1_cache.specs.Users.{lists};
-ghost use Rattle.t1_rerun.specs.Opened.{measured_names, opening_runs, AreMeasured, IsRecorded};
-ghost use Rattle.t1_rerun.specs.Opened.{IsRunAfter};
+ghost use Rattle.t1_rerun.specs.Opened.{measured_names, opening_runs, AreMeasured, AreUnused};
+ghost use Rattle.t1_rerun.specs.Opened.{IsRecorded, IsRunAfter};
 ghost use Rattle.t1_rerun.specs.Renewals.{HasRun};
 ghost use Rattle.t1_rerun.specs.Right.{IsRight};
 
@@ -111,6 +114,49 @@ fn insert_glyphs(
     Ok(())
 }
 
+/// Puts in the records of all entries, of which none has one, without users. It takes out the
+/// bodies and the runs of the glyphs.
+fn insert_entries(
+    alloc: Global,
+    records: &mut Records,
+    subrs: IndexMap<u16, Body>,
+    glyphs: &mut IndexMap<Vec<u8>, Body>,
+    runs: &mut Runs,
+    metrics: &[GlyphMetrics],
+) -> Result<(), AllocError>
+    requires no_subrs { records.old.subrs.entries ≡ [] }
+    requires no_glyphs { records.old.glyphs.entries ≡ [] }
+    requires measured { AreMeasured
+        (font (subr_body_kept subrs.entries) (glyph_body_kept glyphs.old.entries)) runs.old
+        metrics.now }
+    ensures { OnOk result
+        (AreUnused (font (subr_body_kept subrs.entries) (glyph_body_kept glyphs.old.entries))
+        runs.old metrics.now records.new) }
+{
+    insert_subrs(alloc, records, subrs)?;
+    insert_glyphs(alloc, records, glyphs, runs, metrics)?;
+    Ok(())
+}
+
+/// Puts in the records of bodies, whose glyphs were run and measured, where there are none, without
+/// users.
+fn insert_bodies(
+    alloc: Global,
+    records: &mut Records,
+    bodies: Plain,
+    runs: Runs,
+    metrics: &[GlyphMetrics],
+) -> Result<(), AllocError>
+    requires no_subrs { records.old.subrs.entries ≡ [] }
+    requires no_glyphs { records.old.glyphs.entries ≡ [] }
+    requires measured { AreMeasured (plain_bodies bodies) runs metrics.now }
+    ensures { OnOk result (AreUnused (plain_bodies bodies) runs.entry metrics.now records.new) }
+{
+    let Plain { subrs, mut glyphs } = bodies;
+    let mut runs = runs;
+    insert_entries(alloc, records, subrs, &mut glyphs, &mut runs, metrics)
+}
+
 /// The records of bodies, whose glyphs were run and measured, without users.
 fn unused_records(
     alloc: Global,
@@ -119,26 +165,13 @@ fn unused_records(
     metrics: &[GlyphMetrics],
 ) -> Result<Records, AllocError>
     requires { AreMeasured (plain_bodies bodies) runs metrics.now }
-    ensures compiled { IfOk result
-        (λ records. SameBodies (record_bodies records) (plain_bodies bodies)) }
-    ensures users { IfOk result (λ records. (k : Key) (u : List ℕ) → lists records k u ≡ false) }
-    ensures order { IfOk result
-        (λ records.
-        map (λ k. k.name) (map kept_of records.glyphs.entries)
-        ≡ measured_names metrics.now) }
-    ensures each { IfOk result
-        (λ records.
-        AllByRecursion (IsRecorded runs.entry metrics.now)
-        (map kept_of records.glyphs.entries)) }
+    ensures { IfOk result (AreUnused (plain_bodies bodies) runs.entry metrics.now) }
 {
     let mut records = Records {
         subrs: IndexMap::new(alloc),
         glyphs: IndexMap::new(alloc),
     };
-    let Plain { subrs, mut glyphs } = bodies;
-    let mut runs = runs;
-    insert_subrs(alloc, &mut records, subrs)?;
-    insert_glyphs(alloc, &mut records, &mut glyphs, &mut runs, metrics)?;
+    insert_bodies(alloc, &mut records, bodies, runs, metrics)?;
     Ok(records)
 }
 
@@ -172,6 +205,32 @@ fn records_of(
     Ok(records)
 }
 
+/// The records of a source whose file has no fault, by the bodies and the names of its glyphs, or
+/// the first fault of a glyph. Each glyph is run once, and the meter counts it.
+fn records_by(
+    alloc: Global,
+    source: &Source,
+    bodies: Plain,
+    names: &[&[u8]],
+    meter: &mut Meter,
+) -> Result<Records, Refusal>
+    requires file { file_check source.now ≡ Ok tt }
+    requires no_fault { bodies_check source.now.items ≡ Ok tt }
+    requires bodies { SameBodies (plain_bodies bodies) (bodies_of source.now.items) }
+    requires names { map (λ name. name.now) names.now ≡ glyph_names source.now.items }
+    ensures checked { Gives (λ _. tt) result (source_check source.now) }
+    ensures right { IfOk result (IsRight source.now) }
+    ensures later { IfOk result
+        (λ records.
+        AllByRecursion (IsRunAfter meter.old) (map kept_of records.glyphs.entries)) }
+    ensures counted { Counts (opening_runs source.now) meter.old meter.new result }
+{
+    text_of_source_read(source);
+    let runs = runs_of(alloc, &bodies, names, meter)?;
+    let metrics = glyph_metrics_of(alloc, &runs, names)?;
+    Ok(records_of(alloc, bodies, names, runs, &metrics)?)
+}
+
 /// The records of a source, or its first fault: of a body, F23, or of a glyph, in the order of the
 /// source. Each glyph is run once, and the meter counts it.
 pub fn opened_records(alloc: Global, source: &Source, meter: &mut Meter) -> Result<Records, Refusal>
@@ -182,10 +241,7 @@ pub fn opened_records(alloc: Global, source: &Source, meter: &mut Meter) -> Resu
         AllByRecursion (IsRunAfter meter.old) (map kept_of records.glyphs.entries)) }
     ensures counted { Counts (opening_runs source.now) meter.old meter.new result }
 {
-    text_of_source_read(source);
-    let bodies = checked_bodies(alloc, source)?;
     let names = glyph_names(alloc, source.items())?;
-    let runs = runs_of(alloc, &bodies, &names, meter)?;
-    let metrics = glyph_metrics_of(alloc, &runs, &names)?;
-    Ok(records_of(alloc, bodies, &names, runs, &metrics)?)
+    let bodies = checked_bodies(alloc, source)?;
+    records_by(alloc, source, bodies, &names, meter)
 }

@@ -24,19 +24,20 @@ pub struct Renewal {
 }
 
 /// What is new of the glyphs that were found: the runs and boxes of those that were measured, and
-/// the users that the glyphs leave by the records and join by the runs.
+/// the users that the glyphs leave by the records and join by the runs. The runs of the former are
+/// taken out.
 pub fn renewal_of(
     alloc: Global,
     records: &Records,
     found: &[&[u8]],
     stale: &[&[u8]],
-    runs: Runs,
+    runs: &mut Runs,
     metrics: &[GlyphMetrics],
 ) -> Result<Renewal, AllocError>
-    requires { AllByRecursion (HasRun runs) metrics.now }
+    requires { AllByRecursion (HasRun runs.old) metrics.now }
     ensures each { IfOk result
         (λ renewal.
-        AllByRecursion (IsMeasuredRerun runs.entry metrics.now) renewal.reruns.items) }
+        AllByRecursion (IsMeasuredRerun runs.old metrics.now) renewal.reruns.items) }
     ensures names { IfOk result
         (λ renewal.
         (g : List ℕ)
@@ -53,12 +54,11 @@ pub fn renewal_of(
         (k : Key) (u : List ℕ)
         → has_pair renewal.joins.items k u
         ≡ (has_name (λ name. name.now) stale.now u && is_user k
-        (drawing_in runs.entry u))) }
+        (drawing_in runs.old u))) }
 {
     let leaves = leaves_of(alloc, records, found)?;
-    let joins = joins_of(alloc, &runs, stale)?;
-    let mut left = runs;
-    let reruns = reruns_of(alloc, &mut left, metrics)?;
+    let joins = joins_of(alloc, runs, stale)?;
+    let reruns = reruns_of(alloc, runs, metrics)?;
     Ok(Renewal {
         reruns,
         leaves,
