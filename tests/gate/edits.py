@@ -55,8 +55,10 @@ class Function:
 
     def __init__(self, file, line, module, owner, is_of_trait, name):
         self.file, self.line, self.module, self.owner, self.name = file, line, module, owner, name
+        self.is_of_trait = is_of_trait
+        # a method is named after the module of its type, which may be another one, so that its path is the end of that name;
         # the functions of a trait have no short name: their module has
-        self.path = module if is_of_trait else "::".join(it for it in (module, owner, name) if it)
+        self.path = module if is_of_trait else f"{owner}::{name}" if owner else "::".join(it for it in (module, name) if it)
 
     def __eq__(self, other):
         return (self.file, self.line) == (other.file, other.line)
@@ -66,7 +68,9 @@ class Function:
 
     def is_called(self, path):
         """Whether the prover calls it so, by its path below the crate."""
-        return path.startswith(self.module) and path.endswith(f"::{self.name}") and self.owner in path or path == self.name
+        if self.is_of_trait:
+            return path.startswith(self.module) and path.endswith(f"::{self.name}") and self.owner in path
+        return path == self.path or bool(self.owner) and path.endswith(f"::{self.path}")
 
 
 def function_at(file, text, at):
