@@ -1,5 +1,7 @@
 //! What was refused last, and what is told of it.
 ghost use Rattle.std.specs.Prelude.{◌≡◌, List, Ok, IfOk, map};
+ghost use Rattle.t1_frac.specs.Outcome.{Gives, Refuses};
+ghost use Rattle.t1_parts.specs.SourceParts.{SourceParts};
 ghost use Rattle.t1_pairs.specs.declared.pairs.Pair.{Pair};
 ghost use Rattle.t1_source.specs.Changes.{changed};
 ghost use Rattle.t1_source.specs.Editing.{edited};
@@ -16,7 +18,7 @@ use std::alloc::{AllocError, Global};
 use std::mem;
 use t1_commands::push_rule;
 use t1_frac::{Fault, Refusal};
-use t1_held::{Edits, Held, prepare_edits};
+use t1_held::{Edits, Held, ReadyHeld, prepare_edits};
 use t1_pairs::Pairs;
 use t1_refusal::{body_fault_text, refusal_text, run_fault_text};
 use t1_rerun::{change_alone, change_of_edit, edited_bodies};
@@ -44,8 +46,58 @@ fn rule_line(alloc: Global, rule: Rule) -> Result<Vec<u8>, AllocError>
     Ok(text)
 }
 
-/// The first fault of the source that a prepared edit makes: the glyphs that the edit makes stale
-/// are run for it, and not counted. What is held stays.
+/// Judges the source that a prepared edit makes: the glyphs that the edit makes stale are run for
+/// it, and not counted. What is held stays.
+fn judged_edit(
+    alloc: Global,
+    source: &Source,
+    pairs: &Pairs,
+    held: &mut Held,
+    edit: &Edit,
+    change: &Change,
+) -> Result<ReadyHeld, Refusal>
+    requires { IsPreparedEdit source.now pairs.now edit.now change.now held.old }
+    ensures checked { Gives (λ _. tt) result
+        (source_check (changed change.now source.now pairs.now).0) }
+    ensures held { IsHeld source.now held.new }
+    ensures kept { map kept_of held.new.records.glyphs.entries
+        ≡ map kept_of held.old.records.glyphs.entries }
+{
+    let edits = Edits::One {
+        source,
+        pairs,
+        edit,
+        change,
+    };
+    let mut meter = Meter::new();
+    prepare_edits(alloc, held, edits, &mut meter)
+}
+
+/// The fault that a source is refused for.
+fn told_fault(refusal: Refusal) -> Result<Option<Fault>, AllocError>
+    ensures { (made : SourceParts)
+        → Refuses refusal (source_check made)
+        → IfOk result (λ fault. fault ≡ fault_of (source_check made)) }
+{
+    match refusal {
+        Refusal::Fault(fault) => Ok(Some(fault)),
+        Refusal::Memory => Err(AllocError),
+    }
+}
+
+/// The fault that a source was refused for, where it was.
+fn found_fault(judged: Result<ReadyHeld, Refusal>) -> Result<Option<Fault>, AllocError>
+    ensures { (made : SourceParts)
+        → Gives (λ _. tt) judged (source_check made)
+        → IfOk result (λ fault. fault ≡ fault_of (source_check made)) }
+{
+    match judged.err() {
+        None => Ok(None),
+        Some(refusal) => told_fault(refusal),
+    }
+}
+
+/// The first fault of the source that a prepared edit makes. What is held stays.
 fn prepared_fault(
     alloc: Global,
     source: &Source,
@@ -61,18 +113,8 @@ fn prepared_fault(
     ensures kept { map kept_of held.new.records.glyphs.entries
         ≡ map kept_of held.old.records.glyphs.entries }
 {
-    let edits = Edits::One {
-        source,
-        pairs,
-        edit,
-        change,
-    };
-    let mut meter = Meter::new();
-    match prepare_edits(alloc, held, edits, &mut meter) {
-        Ok(_ready) => Ok(None),
-        Err(Refusal::Fault(fault)) => Ok(Some(fault)),
-        Err(Refusal::Memory) => Err(AllocError),
-    }
+    let judged = judged_edit(alloc, source, pairs, held, edit, change);
+    found_fault(judged)
 }
 
 /// The same of an edit that is to be prepared.
