@@ -1,6 +1,6 @@
 //! What was refused last, and what is told of it.
-ghost use Rattle.std.specs.Prelude.{◌≡◌, List, Ok, IfOk, map};
-ghost use Rattle.t1_frac.specs.Outcome.{Gives, Refuses};
+ghost use Rattle.std.specs.Prelude.{◌≡◌, List, Ok, IfOk, MatchOption, map};
+ghost use Rattle.t1_frac.specs.Outcome.{Refuses};
 ghost use Rattle.t1_parts.specs.SourceParts.{SourceParts};
 ghost use Rattle.t1_pairs.specs.declared.pairs.Pair.{Pair};
 ghost use Rattle.t1_source.specs.Changes.{changed};
@@ -18,7 +18,7 @@ use std::alloc::{AllocError, Global};
 use std::mem;
 use t1_commands::push_rule;
 use t1_frac::{Fault, Refusal};
-use t1_held::{Edits, Held, ReadyHeld, prepare_edits};
+use t1_held::{Edits, Held, prepare_edits};
 use t1_pairs::Pairs;
 use t1_refusal::{body_fault_text, refusal_text, run_fault_text};
 use t1_rerun::{change_alone, change_of_edit, edited_bodies};
@@ -46,8 +46,8 @@ fn rule_line(alloc: Global, rule: Rule) -> Result<Vec<u8>, AllocError>
     Ok(text)
 }
 
-/// Judges the source that a prepared edit makes: the glyphs that the edit makes stale are run for
-/// it, and not counted. What is held stays.
+/// Why the source that a prepared edit makes is refused, where it is: the glyphs that the edit makes
+/// stale are run for it, and not counted. What is held stays.
 fn judged_edit(
     alloc: Global,
     source: &Source,
@@ -55,10 +55,12 @@ fn judged_edit(
     held: &mut Held,
     edit: &Edit,
     change: &Change,
-) -> Result<ReadyHeld, Refusal>
+) -> Option<Refusal>
     requires { IsPreparedEdit source.now pairs.now edit.now change.now held.old }
-    ensures checked { Gives (λ _. tt) result
-        (source_check (changed change.now source.now pairs.now).0) }
+    ensures checked { MatchOption result
+        (source_check (changed change.now source.now pairs.now).0 ≡ Ok tt)
+        (λ refusal.
+        Refuses refusal (source_check (changed change.now source.now pairs.now).0)) }
     ensures held { IsHeld source.now held.new }
     ensures kept { map kept_of held.new.records.glyphs.entries
         ≡ map kept_of held.old.records.glyphs.entries }
@@ -70,7 +72,7 @@ fn judged_edit(
         change,
     };
     let mut meter = Meter::new();
-    prepare_edits(alloc, held, edits, &mut meter)
+    prepare_edits(alloc, held, edits, &mut meter).err()
 }
 
 /// The fault that a source is refused for.
@@ -82,18 +84,6 @@ fn told_fault(refusal: Refusal) -> Result<Option<Fault>, AllocError>
     match refusal {
         Refusal::Fault(fault) => Ok(Some(fault)),
         Refusal::Memory => Err(AllocError),
-    }
-}
-
-/// The fault that a source was refused for, where it was.
-fn found_fault(judged: Result<ReadyHeld, Refusal>) -> Result<Option<Fault>, AllocError>
-    ensures { (made : SourceParts)
-        → Gives (λ _. tt) judged (source_check made)
-        → IfOk result (λ fault. fault ≡ fault_of (source_check made)) }
-{
-    match judged.err() {
-        None => Ok(None),
-        Some(refusal) => told_fault(refusal),
     }
 }
 
@@ -113,8 +103,10 @@ fn prepared_fault(
     ensures kept { map kept_of held.new.records.glyphs.entries
         ≡ map kept_of held.old.records.glyphs.entries }
 {
-    let judged = judged_edit(alloc, source, pairs, held, edit, change);
-    found_fault(judged)
+    match judged_edit(alloc, source, pairs, held, edit, change) {
+        None => Ok(None),
+        Some(refusal) => told_fault(refusal),
+    }
 }
 
 /// The same of an edit that is to be prepared.
