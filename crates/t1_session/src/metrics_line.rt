@@ -63,6 +63,39 @@ fn push_code(line: &mut Vec<u8>, code: Option<u8>) -> Result<(), AllocError>
     push_slices(line, &[b"C ", digits, b" ;"])
 }
 
+/// Adds the name of a glyph and the sides of its box, which are these.
+fn push_name_and_sides(
+    line: &mut Vec<u8>,
+    glyph: &CharMetric,
+    left: &str,
+    bottom: &str,
+    right: &str,
+    top: &str,
+) -> Result<(), AllocError>
+    requires left { left.now ≡ signed_decimal glyph.now.bbox.left }
+    requires bottom { bottom.now ≡ signed_decimal glyph.now.bbox.bottom }
+    requires right { right.now ≡ signed_decimal glyph.now.bbox.right }
+    requires top { top.now ≡ signed_decimal glyph.now.bbox.top }
+    ensures { OnOk result (line.new.items ≡ line.old.items ++ rest_text (after_width glyph.now)) }
+{
+    push_slices(
+        line,
+        &[
+            b" ; N ",
+            glyph.name.as_slice(),
+            b" ; B ",
+            left.as_bytes(),
+            b" ",
+            bottom.as_bytes(),
+            b" ",
+            right.as_bytes(),
+            b" ",
+            top.as_bytes(),
+            b" ;\n",
+        ],
+    )
+}
+
 /// Adds what stands after the width of a glyph: its name and its box.
 fn push_name_and_box(line: &mut Vec<u8>, glyph: &CharMetric) -> Result<(), AllocError>
     ensures { OnOk result (line.new.items ≡ line.old.items ++ rest_text (after_width glyph.now)) }
@@ -71,21 +104,13 @@ fn push_name_and_box(line: &mut Vec<u8>, glyph: &CharMetric) -> Result<(), Alloc
     let mut bottom = Buffer::new();
     let mut right = Buffer::new();
     let mut top = Buffer::new();
-    push_slices(
+    push_name_and_sides(
         line,
-        &[
-            b" ; N ",
-            glyph.name.as_slice(),
-            b" ; B ",
-            left.format(glyph.bbox.left).as_bytes(),
-            b" ",
-            bottom.format(glyph.bbox.bottom).as_bytes(),
-            b" ",
-            right.format(glyph.bbox.right).as_bytes(),
-            b" ",
-            top.format(glyph.bbox.top).as_bytes(),
-            b" ;\n",
-        ],
+        glyph,
+        left.format(glyph.bbox.left),
+        bottom.format(glyph.bbox.bottom),
+        right.format(glyph.bbox.right),
+        top.format(glyph.bbox.top),
     )
 }
 

@@ -1,5 +1,7 @@
 //! What was refused last, and what is told of it.
-ghost use Rattle.std.specs.Prelude.{◌≡◌, List, Ok, IfOk, map};
+ghost use Rattle.std.specs.Prelude.{◌≡◌, List, Ok, IfOk, MatchOption, map};
+ghost use Rattle.t1_frac.specs.Outcome.{Refuses};
+ghost use Rattle.t1_parts.specs.SourceParts.{SourceParts};
 ghost use Rattle.t1_pairs.specs.declared.pairs.Pair.{Pair};
 ghost use Rattle.t1_source.specs.Changes.{changed};
 ghost use Rattle.t1_source.specs.Editing.{edited};
@@ -44,8 +46,48 @@ fn rule_line(alloc: Global, rule: Rule) -> Result<Vec<u8>, AllocError>
     Ok(text)
 }
 
-/// The first fault of the source that a prepared edit makes: the glyphs that the edit makes stale
-/// are run for it, and not counted. What is held stays.
+/// Why the source that a prepared edit makes is refused, where it is: the glyphs that the edit makes
+/// stale are run for it, and not counted. What is held stays.
+fn judged_edit(
+    alloc: Global,
+    source: &Source,
+    pairs: &Pairs,
+    held: &mut Held,
+    edit: &Edit,
+    change: &Change,
+) -> Option<Refusal>
+    requires { IsPreparedEdit source.now pairs.now edit.now change.now held.old }
+    ensures checked { MatchOption result
+        (source_check (changed change.now source.now pairs.now).0 ≡ Ok tt)
+        (λ refusal.
+        Refuses refusal (source_check (changed change.now source.now pairs.now).0)) }
+    ensures held { IsHeld source.now held.new }
+    ensures kept { map kept_of held.new.records.glyphs.entries
+        ≡ map kept_of held.old.records.glyphs.entries }
+{
+    let edits = Edits::One {
+        source,
+        pairs,
+        edit,
+        change,
+    };
+    let mut meter = Meter::new();
+    prepare_edits(alloc, held, edits, &mut meter).err()
+}
+
+/// The fault that a source is refused for.
+fn told_fault(refusal: Refusal) -> Result<Option<Fault>, AllocError>
+    ensures { (made : SourceParts)
+        → Refuses refusal (source_check made)
+        → IfOk result (λ fault. fault ≡ fault_of (source_check made)) }
+{
+    match refusal {
+        Refusal::Fault(fault) => Ok(Some(fault)),
+        Refusal::Memory => Err(AllocError),
+    }
+}
+
+/// The first fault of the source that a prepared edit makes. What is held stays.
 fn prepared_fault(
     alloc: Global,
     source: &Source,
@@ -61,17 +103,9 @@ fn prepared_fault(
     ensures kept { map kept_of held.new.records.glyphs.entries
         ≡ map kept_of held.old.records.glyphs.entries }
 {
-    let edits = Edits::One {
-        source,
-        pairs,
-        edit,
-        change,
-    };
-    let mut meter = Meter::new();
-    match prepare_edits(alloc, held, edits, &mut meter) {
-        Ok(_ready) => Ok(None),
-        Err(Refusal::Fault(fault)) => Ok(Some(fault)),
-        Err(Refusal::Memory) => Err(AllocError),
+    match judged_edit(alloc, source, pairs, held, edit, change) {
+        None => Ok(None),
+        Some(refusal) => told_fault(refusal),
     }
 }
 
