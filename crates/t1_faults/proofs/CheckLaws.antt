@@ -42,7 +42,7 @@ use Rattle.t1_faults.specs.Failing.{failures_in, is_faulty_subr, is_some_and, mi
 use Rattle.t1_faults.specs.Found.{code_of}
 use Rattle.t1_faults.specs.Met.{FailedRun, failed_runs, faults_at, last_entered, met_in, own_fault, run_fault}
 use Rattle.t1_faults.specs.Reading.{reading_fault}
-use Rattle.t1_faults.specs.Composites.{OwnRuns, composites_on, first_naming, with_composites}
+use Rattle.t1_faults.specs.Composites.{OwnRuns, composites_of, with_composites}
 use Rattle.t1_faults.specs.Judging.{checked, entries_in, entry_faults, faults_alone, faults_among, faults_of, faults_read, fault_of, file_faults, join_faults, source_faults}
 use Rattle.t1_faults.proofs.CompositeLaws.{none_still}
 use Rattle.t1_faults.proofs.EntryLaws.{read_entries}
@@ -211,7 +211,7 @@ found_none bytes none = by (reads bytes) refl where
       let es = entries_in (parts_of (lines bytes)) s in
       let run = own (font_to_run s.items) in
       let listed : faults_among s es ≡ [] = ap (faults_read (lines bytes)) (sym e) ∙ none in
-      let alone = none_still (composites_on (first_naming 0 (faults_alone s es)) run (glyph_names s.items)) 0 (faults_alone s es) listed in
+      let alone = none_still (composites_of run (glyph_names s.items)) [] (faults_alone s es) listed in
       ap (λ r. r >>= source_check) e ∙ found_none_of s es (read_entries bytes s e) alone
   by (Err fault) e = let some : reading_fault (lines bytes) fault ∷ [] ≡ [] = ap (faults_read (lines bytes)) (sym e) ∙ none in absurd (cc)
 

@@ -15,7 +15,7 @@ use Rattle.t1_faults.specs.declared.run_fault.RunFault.{RunFault}
 use Rattle.t1_faults.specs.Entries.{Entry, placed_words}
 use Rattle.t1_faults.specs.Failing.{failures_in}
 use Rattle.t1_faults.specs.Found.{at_entry, at_place, body_faults, in_entry, length_faults, word_faults}
-use Rattle.t1_faults.specs.Composites.{OwnRuns, composites_on, first_naming}
+use Rattle.t1_faults.specs.Composites.{OwnRuns, composites_of}
 use Rattle.t1_faults.specs.Judging.{entry_faults, join_fault, join_faults, or_else, run_faults}
 use Rattle.t1_faults.specs.Met.{failed_runs, faults_at, met_in, own_fault}
 use Rattle.t1_faults.specs.Telling.{TellsWord}
@@ -132,7 +132,7 @@ found_of ls s h =
     let failed = failed_runs (failures_in s.items) es in
     let mine = flat_map (entry_faults (own_fault failed) (faults_at failed)) es in
     let file = file_faults (bodies_check s.items) (file_check s) in
-    words_still ls (composites_on (first_naming 0 (faults_alone s es)) run (glyph_names s.items)) 0 (faults_alone s es)
+    words_still ls (composites_of run (glyph_names s.items)) [] (faults_alone s es)
     (all_append (TellsWord ls) mine (file ++ flat_map (join_faults run) es) (entries_tell ls (own_fault failed) (faults_at failed) es h)
     (all_append (TellsWord ls) file (flat_map (join_faults run) es) (file_tells ls (bodies_check s.items) (file_check s)) (joins_tell ls run es)))
 

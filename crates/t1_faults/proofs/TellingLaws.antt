@@ -43,7 +43,7 @@ use Rattle.t1_faults.specs.Entries.{Entry, placed_words}
 use Rattle.t1_faults.specs.Failing.{failures_in}
 use Rattle.t1_faults.specs.Found.{at_entry, at_place, body_faults, code_of, in_entry, length_faults, met_faults, word_faults}
 use Rattle.t1_faults.specs.Met.{FailedRun, failed_runs, faults_at, last_entered, met_in, own_fault, run_fault}
-use Rattle.t1_faults.specs.Composites.{OwnRuns, composites_on, first_naming}
+use Rattle.t1_faults.specs.Composites.{OwnRuns, composites_of}
 use Rattle.t1_faults.specs.Judging.{checked, entries_in, entry_faults, fault_of, faults_alone, faults_among, faults_read, file_faults, join_fault, join_faults, or_else, run_faults, sound_parts, sound_run, sound_within, source_faults}
 use Rattle.t1_faults.specs.Reading.{placed_reading, reading_fault}
 use Rattle.t1_faults.specs.Telling.{HasChain, IsAnswered, IsMet, IsNamed, IsTold, StandsOn, runs_read}
@@ -422,7 +422,7 @@ told_with_composites : (s : SourceParts) (es : List Entry) (fault : Fault) → I
     → IsAnswered (own (font_to_run s.items)) (faults_among s es) fault
 told_with_composites s es fault h =
     let run = own (font_to_run s.items) in
-    answered_still run (composites_on (first_naming 0 (faults_alone s es)) run (glyph_names s.items)) 0 (faults_alone s es) fault h
+    answered_still run (composites_of run (glyph_names s.items)) [] (faults_alone s es) fault h
 
 -- what check reports of some bytes is told, or is a glyph's that stands on one of which a fault is told
 pub answered : (bytes : List ℕ) (fault : Fault) → checked bytes ≡ Err fault → IsAnswered (runs_read (reads bytes)) (source_faults bytes) fault

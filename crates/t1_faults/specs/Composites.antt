@@ -1,7 +1,6 @@
 -- The composites that stand on the glyphs that faults name.
-use Rattle.std.specs.Prelude.{ℕ, zero, suc, nat_eq, Bool, false, ◌+◌, ◌||◌, if◌then◌else◌, Option, None, Some, Result, Ok, Err, List, [], ◌∷◌, ◌++◌}
+use Rattle.std.specs.Prelude.{ℕ, zero, suc, Bool, false, not, ◌&&◌, ◌||◌, Option, None, Some, Result, Ok, Err, List, [], ◌∷◌, ◌++◌}
 use Rattle.std.specs.List.{filter, list_any}
-use Rattle.std.specs.Option.{option_to_list}
 use Rattle.std.specs.Str.{bytes_eq}
 use Rattle.t1_frac.specs.declared.fault.Code.{Code}
 use Rattle.t1_frac.specs.declared.fault.Place.{Place}
@@ -30,32 +29,27 @@ is_chain_of g chain = bytes_eq g chain.glyph
 abbrev pub names_glyph : List ℕ → FoundFault → Bool
 names_glyph g fault = is_entry_of g fault.place || list_any (is_chain_of g) fault.chains
 
--- profile, faults: the number of the first of these faults that names this glyph; the first of them all has the number n
-abbrev pub first_naming : ℕ → List FoundFault → List ℕ → Option ℕ
-first_naming n [] g = None
-first_naming n (fault ∷ faults) g = if names_glyph g fault then Some n else first_naming (n + 1) faults g
+-- profile, faults: whether a fault is the first that names this glyph: it does, and none of those before it does
+abbrev pub is_first_naming : List FoundFault → FoundFault → List ℕ → Bool
+is_first_naming before fault g = names_glyph g fault && not (list_any (names_glyph g) before)
 
--- ---- the composites on them
-
--- profile, faults: the numbers of faults by the names of glyphs
-abbrev pub Numbers : Type 0
-Numbers = List ℕ → Option ℕ
+-- ---- the glyphs with faults under a composite
 
 -- profile, faults: what is found of both parts, where there are parts
-abbrev pub found_of_parts : (List ℕ → List ℕ) → Option Composite → List ℕ
+abbrev pub found_of_parts : (List ℕ → List (List ℕ)) → Option Composite → List (List ℕ)
 found_of_parts part None = []
 found_of_parts part (Some c) = part c.base ++ part c.accent
 
--- profile, faults: the number of a glyph whose own run has a fault, else what is found of the parts that the run found
-abbrev pub found_of_run : Numbers → (List ℕ → List ℕ) → List ℕ → Option (Result Drawing Code) → List ℕ
-found_of_run numbers part g None = []
-found_of_run numbers part g (Some (Err code)) = option_to_list (numbers g)
-found_of_run numbers part g (Some (Ok d)) = found_of_parts part d.composite
+-- profile, faults: a glyph whose own run has a fault, else what is found of the parts that the run found
+abbrev pub faulty_of_run : (List ℕ → List (List ℕ)) → List ℕ → Option (Result Drawing Code) → List (List ℕ)
+faulty_of_run part g None = []
+faulty_of_run part g (Some (Err code)) = g ∷ []
+faulty_of_run part g (Some (Ok d)) = found_of_parts part d.composite
 
--- profile, faults: the numbers of the glyphs with faults that a glyph is or stands on, where parts may nest so deep
-abbrev pub found_within : Numbers → OwnRuns → ℕ → List ℕ → List ℕ
-found_within numbers run zero g = found_of_run numbers (λ part. []) g (run g)
-found_within numbers run (suc depth) g = found_of_run numbers (found_within numbers run depth) g (run g)
+-- profile, faults: the glyphs whose own runs have faults, of a glyph and those on which it stands, where parts may nest so deep
+abbrev pub faulty_within : OwnRuns → ℕ → List ℕ → List (List ℕ)
+faulty_within run zero g = faulty_of_run (λ part. []) g (run g)
+faulty_within run (suc depth) g = faulty_of_run (faulty_within run depth) g (run g)
 
 -- profile, faults: the composite that a run found that has no fault
 abbrev pub composite_in : Option (Result Drawing Code) → Option Composite
@@ -63,24 +57,26 @@ composite_in None = None
 composite_in (Some (Err code)) = None
 composite_in (Some (Ok d)) = d.composite
 
--- Type 1 Font Format, Chapter 6 (seac): the numbers of the glyphs with faults that a composite stands on, which may nest four deep
-abbrev pub numbers_under : Numbers → OwnRuns → List ℕ → List ℕ
-numbers_under numbers run g = found_of_parts (found_within numbers run 3) (composite_in (run g))
+-- Type 1 Font Format, Chapter 6 (seac): the glyphs whose own runs have faults on which a composite stands; parts may nest four deep
+abbrev pub faulty_under : OwnRuns → List ℕ → List (List ℕ)
+faulty_under run g = found_of_parts (faulty_within run 3) (composite_in (run g))
 
--- profile, faults: the composites among these glyphs that stand on a glyph of this number
-abbrev pub composites_on : Numbers → OwnRuns → List (List ℕ) → ℕ → List (List ℕ)
-composites_on numbers run glyphs n = filter (λ g. list_any (nat_eq n) (numbers_under numbers run g)) glyphs
+-- ---- the composites of each fault
+
+-- profile, faults: those of these glyphs that stand on a glyph with a fault that this fault is the first to name
+abbrev pub composites_of : OwnRuns → List (List ℕ) → List FoundFault → FoundFault → List (List ℕ)
+composites_of run glyphs before fault = filter (λ g. list_any (is_first_naming before fault) (faulty_under run g)) glyphs
 
 -- profile, faults: a fault with these composites
 abbrev pub with_names : List (List ℕ) → FoundFault → FoundFault
 with_names names fault = record fault { composites = names }
 
--- profile, faults: these faults, of which the first has the number n, each with the composites of its number
-abbrev pub each_with : (ℕ → List (List ℕ)) → ℕ → List FoundFault → List FoundFault
-each_with composites n [] = []
-each_with composites n (fault ∷ faults) = with_names (composites n) fault ∷ each_with composites (n + 1) faults
+-- profile, faults: faults that stand after these others, each with its composites, by the faults before it
+abbrev pub each_with : (List FoundFault → FoundFault → List (List ℕ)) → List FoundFault → List FoundFault → List FoundFault
+each_with composites before [] = []
+each_with composites before (fault ∷ faults) = with_names (composites before fault) fault ∷ each_with composites (before ++ fault ∷ []) faults
 
 -- profile, faults: each composite is told with the first fault that names a glyph with a fault on which it stands, once for each such
 -- fault, in the order of these glyphs
 abbrev pub with_composites : OwnRuns → List (List ℕ) → List FoundFault → List FoundFault
-with_composites run glyphs faults = each_with (composites_on (first_naming 0 faults) run glyphs) 0 faults
+with_composites run glyphs faults = each_with (composites_of run glyphs) [] faults

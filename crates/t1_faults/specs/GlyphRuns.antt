@@ -1,6 +1,6 @@
 -- The runs of the glyphs of a source, as the code holds them.
-use Rattle.std.specs.Prelude.{ℕ, nat_eq, Bool, ◌&&◌, List, [], ◌∷◌, ◌++◌, Option, None, Some}
-use Rattle.std.specs.List.{list_any}
+use Rattle.std.specs.Prelude.{ℕ, ◌+◌, nat_eq, Bool, ◌&&◌, if◌then◌else◌, List, [], ◌∷◌, ◌++◌, filter_map, Option, None, Some}
+use Rattle.std.specs.List.{filter, list_any}
 use Rattle.std.specs.Map.{lookup}
 use Rattle.std.specs.Str.{bytes_eq}
 use Rattle.std.specs.declared.vec.Vec.{Vec}
@@ -10,9 +10,11 @@ use Rattle.t1_frac.specs.declared.fault.Code.{Code}
 use Rattle.t1_font.specs.Bodies.{plain_bodies}
 use Rattle.t1_chain.specs.Machine.{seen}
 use Rattle.t1_faults.specs.declared.call_chains.CallChain.{CallChain}
+use Rattle.t1_faults.specs.declared.found.FoundFault.{FoundFault}
 use Rattle.t1_faults.specs.declared.failed_run.FailedRun.{FailedRun as FailedFields}
 use Rattle.t1_faults.specs.declared.glyph_runs.GlyphRuns.{GlyphRuns}
 use Rattle.t1_faults.specs.declared.run_fault.RunFault.{RunFault}
+use Rattle.t1_faults.specs.Composites.{OwnRuns, faulty_under, names_glyph, with_names}
 use Rattle.t1_faults.specs.Failing.{Failures, told_by}
 use Rattle.t1_faults.specs.Met.{FailedRun}
 
@@ -69,3 +71,17 @@ names_kept (Some names) = names
 -- word: the composites that are kept for the fault of this number
 abbrev pub composites_kept : List (ℕ × List (List ℕ)) → ℕ → List (List ℕ)
 composites_kept entries n = names_kept (lookup (nat_eq n) entries)
+
+-- word: the number of the first of these faults that names a glyph; the first of them all has the number n
+abbrev pub first_naming : ℕ → List FoundFault → List ℕ → Option ℕ
+first_naming n [] g = None
+first_naming n (fault ∷ faults) g = if names_glyph g fault then Some n else first_naming (n + 1) faults g
+
+-- word: the composites among these glyphs that stand on a glyph with a fault and this number
+abbrev pub composites_on : (List ℕ → Option ℕ) → OwnRuns → List (List ℕ) → ℕ → List (List ℕ)
+composites_on numbers run glyphs n = filter (λ g. has_number (filter_map numbers (faulty_under run g)) n) glyphs
+
+-- word: these faults, of which the first has the number n, each with the composites of its number
+abbrev pub each_numbered : (ℕ → List (List ℕ)) → ℕ → List FoundFault → List FoundFault
+each_numbered composites n [] = []
+each_numbered composites n (fault ∷ faults) = with_names (composites n) fault ∷ each_numbered composites (n + 1) faults

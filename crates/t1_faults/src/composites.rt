@@ -1,16 +1,16 @@
 //! The composites that stand on the glyphs that faults name.
 
 ghost use Rattle.std.specs.Prelude.{◌≡◌, ◌++◌, ◌∷◌, [], ℕ, List, None, Some, IfOk, OnOk};
-ghost use Rattle.std.specs.Prelude.{◌||◌, if◌then◌else◌, map, nat_eq};
+ghost use Rattle.std.specs.Prelude.{◌||◌, if◌then◌else◌, filter_map, map, nat_eq};
 ghost use Rattle.std.specs.List.{list_any};
 ghost use Rattle.std.specs.Option.{option_or, option_to_list};
 ghost use Rattle.std.specs.Str.{bytes_eq};
 ghost use Rattle.t1_font.specs.Glyphs.{glyph_names as names_of_glyphs};
 ghost use Rattle.t1_font.specs.Runs.{drawing_in};
-ghost use Rattle.t1_faults.specs.Composites.{composites_on, each_with, first_naming};
-ghost use Rattle.t1_faults.specs.Composites.{found_within, is_chain_of, is_entry_of, names_glyph};
-ghost use Rattle.t1_faults.specs.Composites.{numbers_under, with_composites, with_names};
-ghost use Rattle.t1_faults.specs.GlyphRuns.{composites_kept, has_number, number_kept};
+ghost use Rattle.t1_faults.specs.Composites.{faulty_under, faulty_within, is_chain_of};
+ghost use Rattle.t1_faults.specs.Composites.{is_entry_of, names_glyph, with_composites, with_names};
+ghost use Rattle.t1_faults.specs.GlyphRuns.{composites_kept, composites_on, each_numbered};
+ghost use Rattle.t1_faults.specs.GlyphRuns.{first_naming, has_number, number_kept};
 
 use crate::call_chains::CallChain;
 use crate::found::FoundFault;
@@ -140,7 +140,8 @@ fn push_found(
 ) -> Result<(), AllocError>
     ensures { OnOk result (under.new.items
         ≡ under.old.items
-        ++ found_within (number_kept numbers.now.entries) (drawing_in runs.now) depth name.now) }
+        ++ filter_map (number_kept numbers.now.entries)
+        (faulty_within (drawing_in runs.now) depth name.now)) }
 {
     let run = match runs.get(name) {
         None => return Ok(()),
@@ -167,7 +168,8 @@ fn push_under(
 ) -> Result<(), AllocError>
     ensures { OnOk result (under.new.items
         ≡ under.old.items
-        ++ numbers_under (number_kept numbers.now.entries) (drawing_in runs.now) name.now) }
+        ++ filter_map (number_kept numbers.now.entries)
+        (faulty_under (drawing_in runs.now) name.now)) }
 {
     let run = match runs.get(name) {
         None => return Ok(()),
@@ -190,7 +192,8 @@ fn numbers_under(
     name: &[u8],
 ) -> Result<Vec<usize>, AllocError>
     ensures { IfOk result (λ under. under.items
-        ≡ numbers_under (number_kept numbers.now.entries) (drawing_in runs.now) name.now) }
+        ≡ filter_map (number_kept numbers.now.entries)
+        (faulty_under (drawing_in runs.now) name.now)) }
 {
     let mut under = Vec::new(alloc);
     push_under(&mut under, runs, numbers, name)?;
@@ -332,13 +335,45 @@ fn give_each(
     composites: &IndexMap<usize, GlyphNames>,
 ) -> Result<(), AllocError>
     ensures { OnOk result (found.new.items
-        ≡ each_with (composites_kept composites.now.entries) 0 found.old.items) }
+        ≡ each_numbered (composites_kept composites.now.entries) 0 found.old.items) }
 {
     for number in 0..found.len() {
         let names = names_of(alloc, composites, number)?;
         give(&mut found[number], names);
     }
     Ok(())
+}
+
+/// The composites among the glyphs of a source, for each number that is kept for a glyph on which
+/// they stand.
+fn composites_among(
+    alloc: Global,
+    runs: &Runs,
+    numbers: &IndexMap<Vec<u8>, usize>,
+    items: &Items,
+) -> Result<IndexMap<usize, GlyphNames>, AllocError>
+    ensures { IfOk result (λ composites. (n : ℕ) → composites_kept composites.entries n
+        ≡ composites_on (number_kept numbers.now.entries) (drawing_in runs.now)
+        (names_of_glyphs items.now) n) }
+{
+    let glyphs = glyph_names(alloc, items)?;
+    composites_on(alloc, runs, numbers, &glyphs)
+}
+
+/// The composites of a source, for the number of each fault that is the first to name a glyph with
+/// a fault on which they stand.
+fn numbered_composites(
+    alloc: Global,
+    found: &[FoundFault<'_>],
+    runs: &Runs,
+    items: &Items,
+) -> Result<IndexMap<usize, GlyphNames>, AllocError>
+    ensures { IfOk result (λ composites. (n : ℕ) → composites_kept composites.entries n
+        ≡ composites_on (first_naming 0 found.now) (drawing_in runs.now)
+        (names_of_glyphs items.now) n) }
+{
+    let numbers = first_naming(alloc, found)?;
+    composites_among(alloc, runs, &numbers, items)
 }
 
 /// Gives faults the composites that stand on the glyphs that they name, each of which has a fault:
@@ -352,9 +387,7 @@ pub(crate) fn tell_composites(
     ensures { OnOk result (found.new.items
         ≡ with_composites (drawing_in runs.now) (names_of_glyphs items.now) found.old.items) }
 {
-    let numbers = first_naming(alloc, found)?;
-    let glyphs = glyph_names(alloc, items)?;
-    let composites = composites_on(alloc, runs, &numbers, &glyphs)?;
+    let composites = numbered_composites(alloc, found, runs, items)?;
     give_each(alloc, found, &composites)?;
     Ok(())
 }

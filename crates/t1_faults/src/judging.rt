@@ -1,17 +1,20 @@
 //! Every fault of a source, each where it stands.
 
-ghost use Rattle.std.specs.Prelude.{◌≡◌, ◌++◌, ◌∷◌, [], Ok, flat_map, is_ok, map};
+ghost use Rattle.std.specs.Prelude.{◌≡◌, ◌++◌, ◌∷◌, [], ℕ, List, Ok, flat_map, is_ok, map};
 ghost use Rattle.std.specs.Prelude.{IfOk, OnOk};
 ghost use Rattle.t1_text.specs.Lines.{lines};
 ghost use Rattle.t1_parts.specs.Parts.{parts_of};
 ghost use Rattle.t1_parts.specs.Reading.{reads};
 ghost use Rattle.t1_font.specs.Assembly.{file_check};
 ghost use Rattle.t1_font.specs.Bodies.{bodies_check};
+ghost use Rattle.t1_font.specs.Glyphs.{glyph_names};
 ghost use Rattle.t1_font.specs.Runs.{drawing_in};
+ghost use Rattle.t1_faults.specs.Composites.{with_composites};
 ghost use Rattle.t1_faults.specs.Entries.{entry_of};
-ghost use Rattle.t1_faults.specs.GlyphRuns.{kept_at, own_kept};
-ghost use Rattle.t1_faults.specs.Judging.{entries_in, entry_faults, faults_of, file_faults};
-ghost use Rattle.t1_faults.specs.Judging.{join_faults, source_faults};
+ghost use Rattle.t1_faults.specs.GlyphRuns.{failures_of, kept_at, own_kept};
+ghost use Rattle.t1_faults.specs.Judging.{entries_in, entry_faults, faults_among, faults_by};
+ghost use Rattle.t1_faults.specs.Judging.{faults_of, file_faults, join_faults, source_faults};
+ghost use Rattle.t1_faults.specs.Met.{failed_runs, faults_at, own_fault};
 ghost use Rattle.t1_faults.specs.Reading.{fault_in};
 
 use crate::composites::tell_composites;
@@ -19,6 +22,7 @@ use crate::entry::entries_of;
 use crate::entry_text::EntryText;
 use crate::failing::failed_runs;
 use crate::found::{FoundFault, at_entry, push_body_faults};
+use crate::glyph_runs::GlyphRuns;
 use crate::joins::join_fault;
 use crate::met::{MetFaults, met_faults};
 use crate::met_at_words::push_run_faults;
@@ -159,6 +163,70 @@ fn source_entries<'a>(
     }
 }
 
+/// The faults that runs met of some entries.
+fn met_of_entries(
+    alloc: Global,
+    runs: &GlyphRuns,
+    entries: &[EntryText],
+) -> Result<MetFaults, AllocError>
+    ensures own { IfOk result (λ met. (g : List ℕ) → own_kept met.own.entries g
+        ≡ own_fault (failed_runs (failures_of runs.now) (map entry_of entries.now)) g) }
+    ensures in_subrs { IfOk result (λ met. (n k : ℕ) → kept_at met.in_subrs.entries n k
+        ≡ faults_at (failed_runs (failures_of runs.now) (map entry_of entries.now)) n k) }
+{
+    let failed = failed_runs(alloc, runs, entries)?;
+    met_faults(alloc, &failed)
+}
+
+/// Every fault of a source that has these entries and runs, without composites.
+fn faults_alone<'a>(
+    alloc: Global,
+    source: &Source,
+    runs: &GlyphRuns,
+    entries: &[EntryText<'a>],
+) -> Result<Vec<FoundFault<'a>>, AllocError>
+    ensures { IfOk result (λ found. found.items
+        ≡ faults_by (failed_runs (failures_of runs.now) (map entry_of entries.now))
+        (drawing_in runs.now.runs) source.now (map entry_of entries.now)) }
+{
+    let met = met_of_entries(alloc, runs, entries)?;
+    let mut found = Vec::new(alloc);
+    push_own_faults(alloc, &mut found, &met, entries)?;
+    push_file_fault(alloc, &mut found, source)?;
+    push_join_faults(alloc, &mut found, &runs.runs, entries)?;
+    Ok(found)
+}
+
+/// Every fault of a source that has these entries and runs.
+fn faults_by_runs<'a>(
+    alloc: Global,
+    source: &Source,
+    runs: &GlyphRuns,
+    entries: &[EntryText<'a>],
+) -> Result<Vec<FoundFault<'a>>, AllocError>
+    ensures { IfOk result (λ found. found.items
+        ≡ with_composites (drawing_in runs.now.runs) (glyph_names source.now.items)
+        (faults_by (failed_runs (failures_of runs.now) (map entry_of entries.now))
+        (drawing_in runs.now.runs) source.now (map entry_of entries.now))) }
+{
+    let mut found = faults_alone(alloc, source, runs, entries)?;
+    tell_composites(alloc, &mut found, &runs.runs, source.items())?;
+    Ok(found)
+}
+
+/// Every fault of a source that has these entries.
+fn faults_among<'a>(
+    alloc: Global,
+    source: &Source,
+    entries: &[EntryText<'a>],
+) -> Result<Vec<FoundFault<'a>>, AllocError>
+    ensures { IfOk result (λ found.
+        found.items ≡ faults_among source.now (map entry_of entries.now)) }
+{
+    let runs = glyph_runs(alloc, source.items())?;
+    faults_by_runs(alloc, source, &runs, entries)
+}
+
 /// Every fault of a source that was read of some bytes.
 fn faults_of_source<'a>(
     alloc: Global,
@@ -168,15 +236,7 @@ fn faults_of_source<'a>(
     ensures { IfOk result (λ found. found.items ≡ faults_of (lines bytes.now) source.now) }
 {
     let entries = source_entries(alloc, bytes, source)?;
-    let runs = glyph_runs(alloc, source.items())?;
-    let failed = failed_runs(alloc, &runs, &entries)?;
-    let met = met_faults(alloc, &failed)?;
-    let mut found = Vec::new(alloc);
-    push_own_faults(alloc, &mut found, &met, &entries)?;
-    push_file_fault(alloc, &mut found, source)?;
-    push_join_faults(alloc, &mut found, &runs.runs, &entries)?;
-    tell_composites(alloc, &mut found, &runs.runs, source.items())?;
-    Ok(found)
+    faults_among(alloc, source, &entries)
 }
 
 /// The same; a source that `check` passes has none, and nothing is looked for in it.

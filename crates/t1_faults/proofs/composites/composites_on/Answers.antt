@@ -1,8 +1,7 @@
 use Rattle.std.proofs.Common.{◌∙◌, ◌++◌, [], ◌+◌, map, drop, get_or, refl, sym, ap, arith}
 use Rattle.std.proofs.lemmas.List.{append-nil, drop_all, drop_more}
 use Rattle.t1_font.specs.Runs.{drawing_in}
-use Rattle.t1_faults.specs.Composites.{composites_on}
-use Rattle.t1_faults.specs.GlyphRuns.{composites_kept, number_kept}
+use Rattle.t1_faults.specs.GlyphRuns.{composites_kept, composites_on, number_kept}
 use Rattle.t1_faults.proofs.CompositeLaws.{glyph_next}
 use Rattle.t1_faults.proofs.composites.composites_on.Goals as goal
 

@@ -1,7 +1,6 @@
 use Rattle.std.proofs.Common.{◌≡◌, ◌++◌, ℕ, drop, map}
 use Rattle.t1_font.specs.Runs.{drawing_in}
-use Rattle.t1_faults.specs.Composites.{composites_on}
-use Rattle.t1_faults.specs.GlyphRuns.{composites_kept, number_kept}
+use Rattle.t1_faults.specs.GlyphRuns.{composites_kept, composites_on, number_kept}
 use Rattle.t1_faults.proofs.composites.composites_on.Given as goal
 
 -- what is kept so far, and the composites among the glyphs that are left

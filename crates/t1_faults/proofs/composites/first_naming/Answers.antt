@@ -2,8 +2,7 @@ use Rattle.std.proofs.Common.{◌∙◌, sym, ap, arith}
 use Rattle.std.specs.Option.{option_or}
 use Rattle.std.proofs.lemmas.List.{drop_all}
 use Rattle.t1_font.proofs.Compiling.{or-none}
-use Rattle.t1_faults.specs.Composites.{first_naming}
-use Rattle.t1_faults.specs.GlyphRuns.{number_kept}
+use Rattle.t1_faults.specs.GlyphRuns.{first_naming, number_kept}
 use Rattle.t1_faults.proofs.CompositeLaws.{naming_next}
 use Rattle.t1_faults.proofs.composites.first_naming.Goals as goal
 

@@ -1,7 +1,6 @@
 use Rattle.std.proofs.Common.{◌≡◌, ℕ, List, drop}
 use Rattle.std.specs.Option.{option_or}
-use Rattle.t1_faults.specs.Composites.{first_naming}
-use Rattle.t1_faults.specs.GlyphRuns.{number_kept}
+use Rattle.t1_faults.specs.GlyphRuns.{first_naming, number_kept}
 use Rattle.t1_faults.proofs.composites.first_naming.Given as goal
 
 -- what is kept so far, and of the faults that are left
