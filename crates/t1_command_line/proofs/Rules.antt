@@ -1,5 +1,6 @@
 -- What the steps of an argument's building make of its rule.
-use Rattle.std.proofs.Common.{ℕ, Some}
+use Rattle.std.proofs.Common.{ℕ, List, Some}
+use Rattle.std.specs.Borrow.{Bor}
 use Rattle.std.specs.Prelude.{Bool, true}
 use Rattle.clap.specs.Words.{Rule, Text}
 use Rattle.clap.specs.declared.builder.arg.Arg.{Arg}
@@ -23,3 +24,10 @@ when_required rule = record rule { required = true }
 -- whether the commands below take the argument too
 abbrev pub is_global : Arg → Bool
 is_global arg = arg.global
+
+-- what a conflict with another argument is added to
+abbrev pub exclusive : Arg → Bool
+exclusive arg = arg.exclusive
+
+abbrev pub conflicts : Arg → List (Bor (List ℕ))
+conflicts arg = arg.conflicts.items

@@ -2,7 +2,7 @@
 ghost use Rattle.std.specs.Prelude.{◌≡◌, ◌∷◌, [], codes, map, true, false, IfOk, Some};
 ghost use Rattle.clap.specs.Words.{App, Rule, Shape, app_of, new_app, new_rule, rule_of};
 ghost use Rattle.clap.specs.Words.{with_rule, with_subcommand};
-ghost use Rattle.clap.specs.declared.builder.action.ArgAction.TheVariants.{SetTrue};
+ghost use Rattle.clap.specs.declared.builder.action.ArgAction.TheVariants.{Set, SetTrue};
 ghost use Rattle.t1_command_line.specs.CommandLine.{without_commands, program, program_alone};
 ghost use Rattle.t1_command_line.specs.CommandLine.{source as source_rule, sources as sources_rule};
 ghost use Rattle.t1_command_line.specs.CommandLine.{as_font as as_font_rule, font_rule};
@@ -56,6 +56,23 @@ fn sources<'a>(alloc: Global) -> Arg<'a>
         .action(ArgAction::Append)
 }
 
+/// An option that takes a value, by its name and that of its value.
+fn valued<'a>(alloc: Global, name: &'a str, value: &'a str, help: &'a str) -> Arg<'a>
+    ensures rule { rule_of result ≡ record (new_rule name.entry.now) {
+      long = Some name.entry.now;
+      action = Some Set;
+      value_names = 1;
+    } }
+    ensures free { (result.exclusive ≡ false) × (result.conflicts.items ≡ []) }
+    ensures local { result.global ≡ false }
+{
+    Arg::new(alloc, name)
+        .long(name)
+        .value_name(value)
+        .help(help)
+        .action(ArgAction::Set)
+}
+
 /// An option that takes no value, by its name.
 fn flag<'a>(alloc: Global, name: &'a str, help: &'a str) -> Arg<'a>
     ensures rule { rule_of result ≡ record (new_rule name.entry.now) {
@@ -101,11 +118,7 @@ fn kern<'a>(alloc: Global, help: &'a str) -> Arg<'a>
     ensures rule { rule_of result ≡ kern_rule }
     ensures local { result.global ≡ false }
 {
-    Arg::new(alloc, "kern")
-        .long("kern")
-        .value_name("FILE")
-        .help(help)
-        .action(ArgAction::Set)
+    valued(alloc, "kern", "FILE", help)
 }
 
 /// The help of a kerning file that may be standard input.
@@ -140,12 +153,13 @@ fn output<'a>(alloc: Global) -> Arg<'a>
     ensures rule { rule_of result ≡ output_rule }
     ensures local { result.global ≡ false }
 {
-    Arg::new(alloc, "output")
-        .short('o')
-        .long("output")
-        .value_name("FILE")
-        .help("Writes to this file, whole or not at all; - for standard output")
-        .action(ArgAction::Set)
+    valued(
+        alloc,
+        "output",
+        "FILE",
+        "Writes to this file, whole or not at all; - for standard output",
+    )
+    .short('o')
 }
 
 /// The option that cuts a PFB file into blocks, before it conflicts with another.
@@ -154,12 +168,13 @@ fn block_alone<'a>(alloc: Global) -> Arg<'a>
     ensures free { (result.exclusive ≡ false) × (result.conflicts.items ≡ []) }
     ensures local { result.global ≡ false }
 {
-    Arg::new(alloc, "block")
-        .short('l')
-        .long("block")
-        .value_name("N")
-        .help("Cuts each part of the PFB file into segments of N bytes, from 1 to 2147483647")
-        .action(ArgAction::Set)
+    valued(
+        alloc,
+        "block",
+        "N",
+        "Cuts each part of the PFB file into segments of N bytes, from 1 to 2147483647",
+    )
+    .short('l')
 }
 
 /// The option that cuts a PFB file into blocks.
