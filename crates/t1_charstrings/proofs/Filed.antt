@@ -27,6 +27,11 @@ pub kept_file : (form : List ℕ → List ℕ → List ℕ → Result (List ℕ)
 kept_file form s c o items text clear trailer well kept operator_is items_are text_is clear_is trailer_is =
     rw (private s c o items text well kept operator_is items_are text_is, clear_is, trailer_is) refl
 
+-- the same, by what stands in the place of two of its parts
+pub outer_parts : (form : List ℕ → List ℕ → List ℕ → Result (List ℕ) Fault) (s : SourceParts) (text clear trailer : List ℕ)
+    → clear ≡ joined s.clear → trailer ≡ trailer_text s.tail → form (joined s.clear) text (trailer_text s.tail) ≡ form clear text trailer
+outer_parts form s text clear trailer clear_is trailer_is = rw (clear_is, trailer_is) refl
+
 -- how long the private text is
 pub kept_len : (s : SourceParts) (c : Charstrings) (o : List ℕ) (items : List Item) (len : ℕ) → IsWellFormed s → AreEncrypted s c
     → o ≡ operator s → items ≡ s.items → len ≡ min (length (kept_text c o items)) (2 ^ 64 - 1) → IsPrivateLen s len

@@ -1,17 +1,37 @@
 //! All charstrings of a source that edits make, encrypted anew.
-ghost use Rattle.std.specs.Prelude.{IfOk};
+ghost use Rattle.std.specs.Prelude.{◌≡◌, IfOk};
 ghost use Rattle.t1_frac.specs.Outcome.{Gives};
 ghost use Rattle.t1_source.specs.WellFormed.{IsWellFormed};
+ghost use Rattle.t1_parts.specs.Counts.{raised};
 ghost use Rattle.t1_font.specs.Assembly.{file_check};
-ghost use Rattle.t1_charstrings.specs.Made.{made_of, IsMadeByEdits};
+ghost use Rattle.t1_font.specs.Lengths.{IsPrivateLen};
+ghost use Rattle.t1_charstrings.specs.Kept.{AreEncrypted};
+ghost use Rattle.t1_charstrings.specs.Made.{made_items, made_of, IsMadeByEdits};
 ghost use Rattle.t1_charstrings.specs.Ready.{IsReadyLines};
 
 use crate::entries::Charstrings;
 use crate::made::Made;
+use crate::made_items::MadeItems;
 use crate::settling::{ReadyCharstrings, ReadyLines};
 use std::alloc::Global;
 use t1_font::check_parts;
 use t1_frac::Refusal;
+
+/// How long the private text of a source that edits make is, whose items and charstrings these are;
+/// or F23 where a part of its PFB file is too long or a raised count has too many digits.
+fn len_anew(made: &Made, items: &MadeItems, charstrings: &Charstrings) -> Result<usize, Refusal>
+    requires well { IsWellFormed (made_of made.now) }
+    requires items { raised (made_items items.now) ≡ (made_of made.now).items }
+    requires kept { AreEncrypted (made_of made.now) charstrings.now }
+    ensures judged { Gives (λ _. tt) result (file_check (made_of made.now)) }
+    ensures len { IfOk result (IsPrivateLen (made_of made.now)) }
+{
+    let needed = items.needed()?;
+    let len = items.raised_len(charstrings, &needed);
+    check_parts(made.clear(), len, made.tail())?;
+    items.check_raised(&needed)?;
+    Ok(len)
+}
 
 /// The charstrings of a source that edits make, all encrypted anew, and the length of its private
 /// text; or the first fault of the source. Nothing of a source is changed or copied. Settled, the
@@ -24,10 +44,7 @@ pub(crate) fn prepare_anew(alloc: Global, made: &Made) -> Result<ReadyLines, Ref
 {
     let items = made.items();
     let charstrings = items.charstrings(alloc)?;
-    let needed = items.needed()?;
-    let len = items.raised_len(&charstrings, &needed);
-    check_parts(made.clear(), len, made.tail())?;
-    items.check_raised(&needed)?;
+    let len = len_anew(made, &items, &charstrings)?;
     Ok(ReadyLines {
         charstrings: ReadyCharstrings::All(charstrings),
         len,

@@ -1,6 +1,7 @@
 //! The files of a source, with the charstrings that are kept.
 ghost use Rattle.std.specs.List.{flat_map};
-ghost use Rattle.t1_font.specs.Assembly.{file_in};
+ghost use Rattle.t1_text.specs.Lines.{joined};
+ghost use Rattle.t1_font.specs.Assembly.{file_in, trailer_text};
 ghost use Rattle.t1_code.specs.Parts.{piece_text, Prints};
 ghost use Rattle.t1_source.specs.WellFormed.{IsWellFormed};
 ghost use Rattle.t1_charstrings.specs.Kept.{AreEncrypted};
@@ -32,6 +33,25 @@ pub(crate) fn write_parts<F: FileForm, W: Write>(
     write_file(form, &parts, out)
 }
 
+/// Writes the file of a source in a form, by the pieces of its private text: the whole file at
+/// `Ok`, a beginning of it at `Write`. A fault is F23; nothing is written then, nor where memory
+/// runs out.
+fn write_pieces<F: FileForm, W: Write>(
+    alloc: Global,
+    source: &Source,
+    form: &F,
+    pieces: &[Piece],
+    out: &mut Counted<W>,
+) -> Result<(), OutError>
+    ensures { Prints W.contents out.old out.new
+        (F.file form.now (joined source.now.clear) (flat_map piece_text pieces.now)
+        (trailer_text source.now.tail)) result }
+{
+    let clear = clear_text(alloc, source.clear())?;
+    let trailer = trailer(alloc, source.tail())?;
+    write_parts(form, &clear, pieces, &trailer, out)
+}
+
 /// Writes the file of a source in a form, with the charstrings that are kept: nothing is compiled
 /// or encrypted but the whole by eexec, and no file is made in memory. The whole file at `Ok`, a
 /// beginning of it at `Write`; nothing is written at F23, nor where memory runs out.
@@ -48,7 +68,5 @@ pub fn write_kept_file<F: FileForm, W: Write>(
 {
     let lines = lines_of(alloc, charstrings, source.operator(), source.items())?;
     let pieces = pieces_of(alloc, &lines)?;
-    let clear = clear_text(alloc, source.clear())?;
-    let trailer = trailer(alloc, source.tail())?;
-    write_parts(form, &clear, &pieces, &trailer, out)
+    write_pieces(alloc, source, form, &pieces, out)
 }

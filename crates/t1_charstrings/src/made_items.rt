@@ -1,13 +1,14 @@
 //! The items of a source that edits make, while they stand in the one that is edited.
-ghost use Rattle.std.specs.Prelude.{◌≡◌, ◌<◌, ◌≤◌, ◌^◌, ◌-◌, IfOk, length, map, min};
+ghost use Rattle.std.specs.Prelude.{◌≡◌, ◌<◌, ◌≤◌, ◌^◌, ◌-◌, IfOk, OnOk, length, map, min, None};
 ghost use Rattle.std.specs.List.{insert, list_any, remove, slice_set};
 ghost use Rattle.t1_frac.specs.Outcome.{Gives};
 ghost use Rattle.t1_parts.specs.Counts.{glyphs_needed, raised_item, subrs_needed};
 ghost use Rattle.t1_parts.specs.ItemRefs.{item_of};
 ghost use Rattle.t1_parts.specs.LenIV.{lead_among, says_lead};
 ghost use Rattle.t1_parts.specs.Operator.{operator_among, reads_strings};
+ghost use Rattle.t1_run.specs.Run.{Key};
 ghost use Rattle.t1_font.specs.Bodies.{bodies, bodies_check};
-ghost use Rattle.t1_charstrings.specs.Kept.{Encrypt};
+ghost use Rattle.t1_charstrings.specs.Kept.{kept_at, Encrypt};
 ghost use Rattle.t1_charstrings.specs.Lines.{kept_text};
 ghost use Rattle.t1_charstrings.specs.Made.{made_items};
 ghost use Rattle.t1_charstrings.specs.Raising.{raised_check};
@@ -172,6 +173,19 @@ impl<'e, 'a> MadeItems<'e, 'a> {
         Ok(Needed { subrs, glyphs })
     }
 
+    /// Adds the charstrings of the items, encrypted with so many leading bytes, to none; or answers
+    /// the first fault of a body, at its entry.
+    fn add_to(&self, alloc: Global, lead: u8, charstrings: &mut Charstrings) -> Result<(), Refusal>
+        requires { (k : Key) → kept_at charstrings.old k ≡ None }
+        ensures checked { Gives (λ x. x) result (bodies_check (made_items self.now)) }
+        ensures kept { OnOk result (Encrypt lead (bodies (made_items self.now)) charstrings.new) }
+    {
+        add_items(alloc, lead, charstrings, &self.before)?;
+        add_items(alloc, lead, charstrings, &self.put)?;
+        add_items(alloc, lead, charstrings, &self.after)?;
+        Ok(())
+    }
+
     /// The charstrings of the items, encrypted by their lenIV, or the first fault of a body, at its
     /// entry.
     pub(crate) fn charstrings(&self, alloc: Global) -> Result<Charstrings, Refusal>
@@ -181,9 +195,7 @@ impl<'e, 'a> MadeItems<'e, 'a> {
     {
         let lead = self.lead();
         let mut charstrings = no_charstrings(alloc);
-        add_items(alloc, lead, &mut charstrings, &self.before)?;
-        add_items(alloc, lead, &mut charstrings, &self.put)?;
-        add_items(alloc, lead, &mut charstrings, &self.after)?;
+        self.add_to(alloc, lead, &mut charstrings)?;
         Ok(charstrings)
     }
 

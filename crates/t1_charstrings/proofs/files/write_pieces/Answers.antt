@@ -1,0 +1,14 @@
+use Rattle.std.proofs.Common.{ap, ◌∙◌}
+use Rattle.std.specs.List.{flat_map}
+use Rattle.t1_text.specs.Lines.{joined}
+use Rattle.t1_code.specs.Parts.{piece_text}
+use Rattle.t1_font.specs.Assembly.{trailer_text}
+use Rattle.t1_charstrings.proofs.Filed.{outer_parts}
+use Rattle.t1_charstrings.proofs.files.write_pieces.Goals as goal
+
+pub returns : goal.returns
+returns g c =
+    let same = outer_parts (g.F.FileForm.file c.args.form.now) c.args.source.now (flat_map piece_text c.args.pieces.now) c.deref.result.now c.deref-2.result.now
+    (c.deref.ensures.value ∙ c.in_ok-clear.ensures ∙ ap joined c.clear.ensures)
+    (c.deref-2.ensures.value ∙ c.in_ok-trailer.ensures ∙ ap trailer_text c.tail.ensures) in
+    rw same c.write_parts.ensures
