@@ -1,7 +1,7 @@
 -- Bodies kept by number and by name, the first of each.
 use Rattle.std.proofs.Common.{◌≡◌, ℕ, ◌+◌, ◌<◌, suc, Bool, true, false, cond, List, [], ◌∷◌, ◌++◌, length, get_or, drop, drop-cons, add-one, refl, sym, ap, ◌∙◌, Option, Some, None, is_some}
 use Rattle.std.specs.Map.{lookup}
-use Rattle.std.specs.Prelude.{Result, Ok, Err}
+use Rattle.std.specs.Prelude.{Result, Ok, Err, OnOk}
 use Rattle.std.specs.Option.{option_or}
 use Rattle.std.specs.Result.{result_ok}
 use Rattle.t1_frac.specs.declared.fault.Code.{Code}
@@ -45,3 +45,8 @@ item-first xs i x h e = rw (add-one, drop-cons xs i x) (ap (λ y. y ∷ drop (su
 pub reported-ok : {X : Type 0} (place : Place) (r : Result X Code) (x : X) → reported_at place r ≡ Ok x → result_ok r ≡ Some x
 reported-ok place (Ok y) x e = cc
 reported-ok place (Err code) x e = absurd (cc)
+
+-- what holds anyway holds after a value
+pub on_ok : {X E P : Type 0} (r : Result X E) → P → OnOk r P
+on_ok (Ok x) p = p
+on_ok (Err e) p = tt

@@ -16,3 +16,8 @@ pub source_parts : (form : List ℕ → List ℕ → List ℕ → Result (List �
 source_parts form source l o items private clear trailer lead_is operator_is items_are text clear_is trailer_is =
     let known : private_text (lead source) (operator source) source.items ≡ Ok private = rw (← lead_is, ← operator_is, ← items_are) text in
     rw (known, clear_is, trailer_is) refl
+
+-- the file of its parts, by what stands in the place of two of them
+pub outer_parts : (form : List ℕ → List ℕ → List ℕ → Result (List ℕ) Fault) (source : SourceParts) (private clear trailer : List ℕ)
+    → clear ≡ joined source.clear → trailer ≡ trailer_text source.tail → form (joined source.clear) private (trailer_text source.tail) ≡ form clear private trailer
+outer_parts form source private clear trailer clear_is trailer_is = rw (clear_is, trailer_is) refl

@@ -60,6 +60,24 @@ fn write_parts<F: FileForm, W: Write>(
     write_file(form, &parts, out)
 }
 
+/// Writes the file of a source in a form, by its private text: the whole file at `Ok`, a beginning
+/// of it at `Write`. A fault is F23; nothing is written then, nor where memory runs out.
+fn write_private<F: FileForm, W: Write>(
+    alloc: Global,
+    source: &Source,
+    form: &F,
+    private: &[u8],
+    out: &mut Counted<W>,
+) -> Result<(), OutError>
+    ensures { Prints W.contents out.old out.new
+        (F.file form.now (joined source.now.clear) private.now (trailer_text source.now.tail))
+        result }
+{
+    let clear = clear_text(alloc, source.clear())?;
+    let trailer = trailer(alloc, source.tail())?;
+    write_parts(form, &clear, private, &trailer, out)
+}
+
 /// Writes the file of a source in a form: the whole file at `Ok`, a beginning of it at `Write`. A
 /// fault is the first of the bodies, at its entry, else F23; nothing is written then, nor where
 /// memory runs out.
@@ -72,9 +90,7 @@ fn write_source<F: FileForm, W: Write>(
     ensures { Prints W.contents out.old out.new (file_in (F.file form.now) source.now) result }
 {
     let private = private_text_of(alloc, source.lead(), source.operator(), source.items())?;
-    let clear = clear_text(alloc, source.clear())?;
-    let trailer = trailer(alloc, source.tail())?;
-    write_parts(form, &clear, &private, &trailer, out)
+    write_private(alloc, source, form, &private, out)
 }
 
 /// Writes the PFB file of a source in segments of so many bytes, [`WHOLE_PARTS`] for one a part:

@@ -50,12 +50,15 @@ pub fn metrics<'a>(
     ensures { IfOk result (λ metrics. metrics ≡ metrics_of source.now pairs.now glyphs.now) }
 {
     let metrics = glyphs.metrics();
+    let chars = char_metrics(alloc, source, metrics)?;
+    let pairs = kern_metrics(alloc, metrics, pairs.list())?;
+    let composites = composite_metrics(alloc, metrics)?;
     Ok(Metrics {
         header: header(source),
         standard: source.standard(),
         font_box: glyphs.font_box(),
-        chars: char_metrics(alloc, source, metrics)?,
-        pairs: kern_metrics(alloc, metrics, pairs.list())?,
-        composites: composite_metrics(alloc, metrics)?,
+        chars,
+        pairs,
+        composites,
     })
 }

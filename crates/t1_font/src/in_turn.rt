@@ -93,6 +93,27 @@ fn row_by<'a>(
     }
 }
 
+/// Keeps the run of a glyph, where it stays.
+fn keep_staying<'a>(
+    standard: &StandardNames,
+    runs: &mut Runs<'a>,
+    name: &'a [u8],
+    kept: Result<KeptRun, Code>,
+) -> Result<(), AllocError>
+    requires { IsTracedAs name.now (Some kept) }
+    ensures { OnOk result
+        ((g : List ℕ)
+        → run_kept runs.new g
+        ≡ (if bytes_eq g name.now && may_be_part name.now (Some (drawing_kept kept)) then Some
+        kept else run_kept runs.old g)) }
+{
+    if !is_staying(standard, name, &kept) {
+        return Ok(());
+    }
+    runs.keep(name, kept)?;
+    Ok(())
+}
+
 /// What is reported of a glyph by its run, which is kept where it stays.
 fn row_of<'a>(
     alloc: Global,
@@ -112,9 +133,7 @@ fn row_of<'a>(
         kept else run_kept runs.old g)) }
 {
     let row = row_by(alloc, name, &kept)?;
-    if is_staying(standard, name, &kept) {
-        runs.keep(name, kept)?;
-    }
+    keep_staying(standard, runs, name, kept)?;
     Ok(row)
 }
 

@@ -1,0 +1,12 @@
+use Rattle.std.proofs.Common.{ap, ◌∙◌}
+use Rattle.t1_text.specs.Lines.{joined}
+use Rattle.t1_font.specs.Assembly.{trailer_text}
+use Rattle.t1_font.proofs.Filing.{outer_parts}
+use Rattle.t1_font.proofs.assembly.write_private.Goals as goal
+
+pub returns : goal.returns
+returns g c =
+    let same = outer_parts (g.F.FileForm.file c.args.form.now) c.args.source.now c.args.private.now c.deref.result.now c.deref-2.result.now
+    (c.deref.ensures.value ∙ c.in_ok-clear.ensures ∙ ap joined c.clear.ensures)
+    (c.deref-2.ensures.value ∙ c.in_ok-trailer.ensures ∙ ap trailer_text c.tail.ensures) in
+    rw same c.write_parts.ensures
