@@ -254,10 +254,16 @@ pub fn keep<'a>(
     ensures { kept.new ≡ refused_after faulty.entry kept.old answered.now }
 {
     match answered {
-        Ok(()) => put(kept, None),
-        Err(Cause::Rule(rule)) => put(kept, Some(Refused::Rule(*rule))),
+        Ok(()) => {
+            drop(faulty);
+            put(kept, None);
+        }
+        Err(Cause::Rule(rule)) => {
+            drop(faulty);
+            put(kept, Some(Refused::Rule(*rule)));
+        }
         Err(Cause::Fault(_)) => put(kept, faulty),
-        Err(Cause::Memory) => {}
+        Err(Cause::Memory) => drop(faulty),
     }
 }
 
@@ -265,5 +271,5 @@ pub fn keep<'a>(
 fn put<'a>(kept: &mut Option<Refused<'a>>, refused: Option<Refused<'a>>)
     ensures { kept.new ≡ refused.entry }
 {
-    let _before = mem::replace(kept, refused);
+    drop(mem::replace(kept, refused));
 }
