@@ -46,8 +46,8 @@ fn rule_line(alloc: Global, rule: Rule) -> Result<Vec<u8>, AllocError>
     Ok(text)
 }
 
-/// Why the source that a prepared edit makes is refused, where it is: the glyphs that the edit makes
-/// stale are run for it, and not counted. What is held stays.
+/// Why the source that a prepared edit makes is refused, where it is: the glyphs that the edit
+/// makes stale are run for it, and not counted. What is held stays.
 fn judged_edit(
     alloc: Global,
     source: &Source,
