@@ -154,10 +154,10 @@ class Steps:
         """All steps that need no program."""
         self.beside(OF_SOURCES)
 
-    def of_programs(self, programs):
-        """All steps on the programs, which stand where these environment variables say."""
+    def of_programs(self, programs, *others):
+        """All steps on the programs, which stand where these environment variables say, and these others beside them."""
         environment = {**os.environ, **programs}
-        self.beside(BESIDE, environment)
+        self.beside([*others, *BESIDE], environment)
         for command in ALONE:
             self.one(command, environment)
 
