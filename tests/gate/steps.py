@@ -21,7 +21,6 @@ BESIDE = [
     "tests/random --runs --count 100",
     "tests/outlines",
     "tests/documents",
-    "tests/pages",
     "tests/clients",
     "tests/python/run",
     "tests/random --measure --count 300",
@@ -51,7 +50,7 @@ BESIDE = [
 ]
 # What is held of the sources alone.
 OF_SOURCES = ["tests/edits/check", "tests/believed", "tests/places"]
-ALONE = ["tests/hostile --quick"]
+ALONE = ["tests/pages", "tests/hostile --quick"]
 
 
 class Stopped(Exception):
@@ -154,10 +153,10 @@ class Steps:
         """All steps that need no program."""
         self.beside(OF_SOURCES)
 
-    def of_programs(self, programs, *others):
-        """All steps on the programs, which stand where these environment variables say, and these others beside them."""
+    def of_programs(self, programs):
+        """All steps on the programs, which stand where these environment variables say."""
         environment = {**os.environ, **programs}
-        self.beside([*others, *BESIDE], environment)
+        self.beside(BESIDE, environment)
         for command in ALONE:
             self.one(command, environment)
 
