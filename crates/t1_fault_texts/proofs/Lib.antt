@@ -1,1 +1,2 @@
+mod PairsLaws
 mod Texts

@@ -4,11 +4,13 @@
 //! [`font_fault_text`] one of a font's file, and [`put_font_fault`] writes this. [`fault_rows`]
 //! has every fault of a source and its pairs, a line each. What such lines are made of is for
 //! other layouts too: [`code_name`], [`push_place`], [`push_names`], [`hint_on`], [`push_shown`].
+//! [`laws`] says where the fault of a kerning file stands.
 #![tactic(auto)]
 
 mod finding;
 mod font_fault;
 mod hint;
+pub mod laws;
 mod name;
 mod names;
 mod rows;

@@ -6,6 +6,7 @@ pub mod FailureLaws
 pub mod FoundLaws
 pub mod JudgingLaws
 pub mod KeptLaws
+pub mod LineLaws
 pub mod LoopLaws
 pub mod MetLaws
 pub mod PlacedLaws
