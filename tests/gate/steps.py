@@ -12,7 +12,7 @@ from gate.skips import NOT_INSTALLED, closing
 
 TOP = os.path.dirname(os.path.dirname(os.path.dirname(os.path.abspath(__file__))))
 CLOSING = re.compile(r"(\d+) passed, (\d+) failed(?:, (\d+) skipped)?(?: \(.*\))?")
-# What is to be seen of a program, the longest first, and what shows times and so runs by itself.
+# What is to be seen of a program, the longest first.
 BESIDE = [
     "tests/library --count 50",
     "tests/alloc-failures --every 25",
@@ -51,7 +51,8 @@ BESIDE = [
 ]
 # What is held of the sources alone.
 OF_SOURCES = ["tests/edits/check", "tests/believed", "tests/places"]
-ALONE = ["tests/pages", "tests/hostile --quick"]
+# What judges a time, and so runs by itself.
+ALONE = ["tests/pages --times"]
 
 
 class Stopped(Exception):
@@ -129,7 +130,8 @@ class Steps:
         self.stop_at_failure()
 
     def beside(self, commands, environment=None):
-        """Runs steps side by side, one a processor; each is shown once it has ended. Where one fails, no other is begun."""
+        """Runs steps side by side, three for two processors, since many wait for what they start or for a clock; each is shown once
+        it has ended. Where one fails, no other is begun."""
         left, taking = list(commands), threading.Lock()
 
         def lane():
@@ -143,7 +145,7 @@ class Steps:
                     self.add(step)
                     self.say(step.head(), *step.lines, *step.end())
 
-        lanes = [threading.Thread(target=lane) for _ in range(len(os.sched_getaffinity(0)))]
+        lanes = [threading.Thread(target=lane) for _ in range(len(os.sched_getaffinity(0)) * 3 // 2)]
         for it in lanes:
             it.start()
         for it in lanes:
@@ -154,10 +156,10 @@ class Steps:
         """All steps that need no program."""
         self.beside(OF_SOURCES)
 
-    def of_programs(self, programs):
-        """All steps on the programs, which stand where these environment variables say."""
+    def of_programs(self, programs, others=()):
+        """All steps on the programs, which stand where these environment variables say, and others beside them."""
         environment = {**os.environ, **programs}
-        self.beside(BESIDE, environment)
+        self.beside([*BESIDE, *others], environment)
         for command in ALONE:
             self.one(command, environment)
 
@@ -182,12 +184,14 @@ class Steps:
 PROGRAMS = {"T1EDIT": "t1edit", "T1RUNS": "t1_runs"}
 # where ./t1edit has its own, too
 QUICK = os.path.join(TOP, "out", "quick")
+# The library's archive, as tools/prove-library leaves it, and the quick one.
+PROVED_ARCHIVE, QUICK_ARCHIVE = os.path.join(TOP, "crates", "t1_c", "out", "libt1_c.a"), os.path.join(QUICK, "libt1_c.a")
 UNKNOWN_KIT = 3
 
 
 def is_current(program):
-    """Whether a program is there and no source is newer; a folder is newer that lost one."""
-    if not os.access(program, os.X_OK):
+    """Whether a program or an archive is there and no source is newer; a folder is newer that lost one."""
+    if not os.path.exists(program):
         return False
     made = os.stat(program).st_mtime
     crates = os.path.join(TOP, "crates")
@@ -198,28 +202,39 @@ def is_current(program):
     return os.stat(os.path.join(TOP, "crates.txt")).st_mtime <= made
 
 
-def quick_programs(steps):
-    """Makes the quick programs where they aren't there, and says where they are; nothing where this kit makes none."""
+def on_quick_programs(steps):
+    """The steps of the sources, and all steps on the quick programs. Where these aren't there they are made first, once the sources have
+    passed; none is on a kit that makes none."""
     found = {variable: os.environ.get(variable) or os.path.join(QUICK, crate) for variable, crate in PROGRAMS.items()}
-    lacking = [it for it in PROGRAMS if not os.environ.get(it) and not is_current(found[it])]
+    lacking = {PROGRAMS[it]: found[it] for it in PROGRAMS if not os.environ.get(it) and not is_current(found[it])}
+    if not any([os.environ.get("T1C"), is_current(PROVED_ARCHIVE), is_current(QUICK_ARCHIVE)]):
+        lacking["t1_c"] = QUICK_ARCHIVE
     if lacking:
-        os.makedirs(QUICK, exist_ok=True)
-        began = time.monotonic()
-        names = " and ".join(PROGRAMS[it] for it in lacking)
-        steps.say(f"== {clock()} tools/quick-build: makes {names} without a proof, in some minutes")
-        made = {it: quick_build(PROGRAMS[it], found[it]) for it in lacking}
-        logs = {it: child.communicate()[0] for it, child in made.items()}
-        steps.say(f"-- {clock()} tools/quick-build: {(time.monotonic() - began) / 60:.1f} minutes")
-        for it, child in made.items():
-            if child.returncode == UNKNOWN_KIT:
-                steps.skip(f"skipped on this machine: the steps on a quick program: {logs[it].strip()}")
-                return None
-            if child.returncode:
-                steps.say(logs[it].rstrip(), f"{PROGRAMS[it]} could not be made")
-                steps.failed += 1
-                steps.lost.append("tools/quick-build")
-        steps.stop_at_failure()
-    return found
+        steps.of_sources()
+        if not make(steps, lacking):
+            return
+    steps.say(f"the steps on {found['T1EDIT']}")
+    steps.of_programs(found, () if lacking else OF_SOURCES)
+
+
+def make(steps, lacking):
+    """Makes quick programs, by their crates; false where this kit makes none."""
+    os.makedirs(QUICK, exist_ok=True)
+    began = time.monotonic()
+    steps.say(f"== {clock()} tools/quick-build: makes {', '.join(lacking)} without a proof, in some minutes")
+    made = {crate: quick_build(crate, program) for crate, program in lacking.items()}
+    logs = {crate: child.communicate()[0] for crate, child in made.items()}
+    steps.say(f"-- {clock()} tools/quick-build: {(time.monotonic() - began) / 60:.1f} minutes")
+    for crate, child in made.items():
+        if child.returncode == UNKNOWN_KIT:
+            steps.skip(f"skipped on this machine: the steps on a quick program: {logs[crate].strip()}")
+            return False
+        if child.returncode:
+            steps.say(logs[crate].rstrip(), f"{crate} could not be made")
+            steps.failed += 1
+            steps.lost.append("tools/quick-build")
+    steps.stop_at_failure()
+    return True
 
 
 def quick_build(crate, program):
