@@ -1,6 +1,8 @@
 # Independent implementation that computes the tests' expected values; no part of the product.
 """Words to commands to bytes, the cipher, and the standard encoding."""
 
+import functools
+
 from faults import Fault
 from source import is_number_word
 
@@ -43,6 +45,7 @@ def compiled(words):
     return [command(word) for word in words]
 
 
+@functools.lru_cache(maxsize=100000)
 def command(word):
     if is_number_word(word):
         value = int(word)
@@ -74,6 +77,7 @@ CHARSTRING_KEY = 4330
 EEXEC_KEY = 55665
 
 
+@functools.lru_cache(maxsize=2000)
 def cipher(key, plain):
     found = bytearray()
     for byte in plain:

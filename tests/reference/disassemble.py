@@ -4,6 +4,7 @@
 usage: disassemble.py FONT > SOURCE
 """
 
+import functools
 import re
 import sys
 from dataclasses import dataclass
@@ -112,6 +113,7 @@ def bytes_of_digits(coded):
     return bytes.fromhex(digits[: len(digits) // 2 * 2].decode())
 
 
+@functools.lru_cache(maxsize=20000)
 def decrypted(key, lead, bytes_):
     plain = bytearray()
     for byte in bytes_:

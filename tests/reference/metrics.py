@@ -1,6 +1,7 @@
 # Independent implementation that computes the tests' expected values; no part of the product.
 """Boxes, the AFM and the usage table."""
 
+import functools
 import math
 from fractions import Fraction
 
@@ -16,22 +17,24 @@ WEIGHTS = [
 ]
 
 
-def along(segment, axis):
-    """The coordinates, times PIECES ** 3, of both ends of a line or of the 65 points of a curve."""
-    values = [point[axis] for point in segment]
-    if all(value.denominator == 1 for value in values):
-        values = [value.numerator for value in values]
+@functools.lru_cache(maxsize=100000)
+def reach(values):
+    """The least and the greatest coordinate, times PIECES ** 3, of both ends of a line or of the 65 points of a curve."""
+    scale = math.lcm(*(value.denominator for value in values))
+    values = [value.numerator * (scale // value.denominator) for value in values]
     if len(values) == 2:
-        return [value * PIECES**3 for value in values]
-    return [sum(weight * value for weight, value in zip(weights, values)) for weights in WEIGHTS]
+        values = [value * PIECES**3 for value in values]
+    else:
+        values = [sum(weight * value for weight, value in zip(weights, values)) for weights in WEIGHTS]
+    return Fraction(min(values), scale), Fraction(max(values), scale)
 
 
 def box(segments):
     if not segments:
         return ZERO
-    found = [[value for segment in segments for value in along(segment, axis)] for axis in (0, 1)]
-    low = [math.floor(min(values) / Fraction(PIECES**3)) for values in found]
-    high = [math.ceil(max(values) / Fraction(PIECES**3)) for values in found]
+    found = [[reach(tuple(point[axis] for point in segment)) for segment in segments] for axis in (0, 1)]
+    low = [math.floor(min(least for least, _ in reached) / PIECES**3) for reached in found]
+    high = [math.ceil(max(most for _, most in reached) / PIECES**3) for reached in found]
     return (*low, *high)
 
 

@@ -1,6 +1,8 @@
 # Independent implementation that computes the tests' expected values; no part of the product.
 """The PFB and the PFA of a source."""
 
+import functools
+
 from charstrings import EEXEC_KEY, cipher, code, compiled, encrypted
 from faults import Fault
 from source import Entry, joined, printed
@@ -20,17 +22,22 @@ def assembly_fault(source):
     return None if is_small or all(len(part) <= LARGEST for part in parts(source)) else Fault("F23")
 
 
+@functools.lru_cache(maxsize=20000)
+def encrypted_code(lead, words):
+    return encrypted(lead, code(compiled(words)))
+
+
 def parts(source):
     """The clear text, the encrypted private text, and the trailer."""
     lead, operator, private = source.lead(), source.operator(), bytearray(4)
     for item in source.items:
         if isinstance(item, Entry):
-            charstring = encrypted(lead, code(compiled(item.words)))
+            charstring = encrypted_code(lead, item.words)
             private += b"%s %d %s %s" % (item.head(), len(charstring), operator, charstring)
             private += (b" " + item.closing if item.closing else b"") + b"\n"
         else:
             private += joined(printed(item))
-    return joined(source.clear), cipher(EEXEC_KEY, private), (b"0" * 64 + b"\n") * 8 + joined(source.tail)
+    return joined(source.clear), cipher(EEXEC_KEY, bytes(private)), (b"0" * 64 + b"\n") * 8 + joined(source.tail)
 
 
 def pfb(source, block=LARGEST):
