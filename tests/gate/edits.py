@@ -7,6 +7,7 @@ import re
 TOP = os.path.dirname(os.path.dirname(os.path.dirname(os.path.abspath(__file__))))
 FUNCTION = re.compile(r"(\s*)(?:pub(?:\(\w+\))? )?(?:const )?(?:unsafe )?(?:extern \"C\" )?fn (\w+)")
 IMPL = re.compile(r"impl(?:<.*?>)? (?:(?:.*) for )?(\w+)")
+CYCLE = re.compile(r"\s*#\[cycle\((\w+)\)\]")
 OTHER_ITEM = re.compile(r"(?:pub(?:\(\w+\))? )?(?:const|static|struct|enum|type|use|mod|trait|macro_rules)\b")
 
 
@@ -53,8 +54,10 @@ def pairs_of(text):
 class Function:
     """A function of a crate, by its file and its line there."""
 
-    def __init__(self, file, line, module, owner, is_of_trait, name):
+    def __init__(self, file, line, module, owner, is_of_trait, name, cycle):
         self.file, self.line, self.module, self.owner, self.name = file, line, module, owner, name
+        # where the answers stand of functions that call each other: those of one cycle stand together
+        self.answers = "::".join(it for it in (module, cycle) if it) if cycle else None
         self.is_of_trait = is_of_trait
         # a method is named after the module of its type, which may be another one, so that its path is the end of that name;
         # the functions of a trait have no short name: their module has
@@ -93,7 +96,17 @@ def function_at(file, text, at):
     module = "::".join(parts[:-1] if parts[-1] in ("lib", "main", "mod") else parts)
     above = next((it for it in reversed(lines[:head]) if indent and IMPL.match(it)), "")
     owner = IMPL.match(above).group(1) if above else ""
-    return Function(file, head, module, owner, " for " in above, name)
+    return Function(file, head, module, owner, " for " in above, name, cycle_of(lines, head))
+
+
+def cycle_of(lines, head):
+    """The cycle of functions that a function names among its attributes; None where it names none."""
+    at = head - 1
+    while at >= 0 and lines[at].strip().startswith("#["):
+        if found := CYCLE.match(lines[at]):
+            return found.group(1)
+        at -= 1
+    return None
 
 
 class Edit:
@@ -110,7 +123,8 @@ class Edit:
             at = text.find(old)
             found.add(function_at(file, text, at) if at >= 0 and file.startswith("src/") else None)
         self.functions = set() if None in found else found
-        self.names = {it.name for it in self.functions}
+        # by which the prover's lines tell edits apart: of a cycle there is one text of answers
+        self.names = {it.answers or it.name for it in self.functions}
 
     def make(self, folder):
         """Makes it in a copy of the crate; false where a text isn't there once."""
