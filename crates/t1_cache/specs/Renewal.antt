@@ -23,7 +23,8 @@ use Rattle.t1_cache.specs.declared.records.Rerun.{Rerun}
 use Rattle.t1_cache.specs.Renewed.{Kept, with_reruns}
 use Rattle.t1_cache.specs.Users.{has_name}
 
--- word: a record has the own run of its glyph, with its trace unless it can't be a part, and the box of its outline
+-- profile: a record of a glyph from scratch: what its own run draws, with the trace of it unless the glyph can't be a part, and
+-- the box of its outline
 pub record IsFromScratch (m : FontBodies) (k : Kept) : Type 0 where
   pub segments : List Segment
   pub run : own m k.name ≡ Some (Ok k.run.drawing)

@@ -17,7 +17,7 @@ use Rattle.t1_commands.specs.Answering as told
 use Rattle.t1_commands.specs.Answers.{answer_to, answers}
 use Rattle.t1_commands.specs.Commands.{Makes, body_command, input_commands, is_edit_or_query, is_wordless, line_command, takes_body}
 use Rattle.t1_session.specs.Conversation.{Performs}
-use Rattle.t1_session.specs.Machine.{after_want, machine, may_want_memory, outcome, perform, printed, shown}
+use Rattle.t1_session.specs.Machine.{after_want, machine, may_want_memory, outcome, perform, printed, shown_answer}
 use Rattle.t1_session.specs.Outcomes.{Takes}
 use Rattle.t1_session.specs.State.{SessionState}
 use Rattle.t1_calls.specs.Framing.{call_commands, framed, is_call}
@@ -43,7 +43,7 @@ print_answered s print (Ok answer) h = (h, refl)
 print_answered s print (Err e) h = (refl, refl)
 
 -- nor does a query
-pub show_answered : {E : Type 0} (s : SessionState) (show : Show) (r : Result Answer E) → IfOk r (λ answer. answer ≡ shown s show) → IsAnswered s s (commands.Show show) r
+pub show_answered : {E : Type 0} (s : SessionState) (show : Show) (r : Result Answer E) → IfOk r (λ answer. answer ≡ shown_answer s show) → IsAnswered s s (commands.Show show) r
 unfolding perform outcome
 show_answered s show (Ok answer) h = (h, refl)
 show_answered s show (Err e) h = (refl, refl)

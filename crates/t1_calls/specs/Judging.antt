@@ -1,16 +1,9 @@
--- A source that is judged.
-use Rattle.std.specs.Prelude.{ℕ, List, Result, Ok, Err}
-use Rattle.t1_frac.specs.declared.fault.Fault.{Fault}
+-- What calls that judge answer where measuring answers.
+use Rattle.std.specs.Prelude.{Result, Ok, Err}
 use Rattle.t1_frac.specs.declared.fault.Refusal.{Refusal}
 use Rattle.t1_frac.specs.declared.fault.Refusal.TheVariants as refusals
-use Rattle.t1_frac.specs.Outcome.{◌>>=◌}
 use Rattle.t1_session.specs.declared.error.ServeError.{ServeError}
 use Rattle.t1_session.specs.declared.error.ServeError.TheVariants as errors
-use Rattle.t1_session.specs.Files.{metrics_file}
-
--- profile: a source and its pairs pass where they have an AFM file, and are refused by the fault that measuring them reports
-abbrev pub verdict : List ℕ → List ℕ → Result (Unit {0}) Fault
-verdict source kerning = metrics_file source kerning >>= λ file. Ok tt
 
 -- word: the refusal of a call that writes to memory, where a write fails for want of it alone
 abbrev pub refused_by : ServeError → Refusal

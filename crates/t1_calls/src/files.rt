@@ -2,8 +2,8 @@
 ghost use Rattle.std.specs.Prelude.{◌≡◌, ◌≤◌, ◌-◌, ◌^◌};
 ghost use Rattle.t1_code.specs.Pfb.{whole_file};
 ghost use Rattle.t1_frac.specs.Outcome.{Gives};
-ghost use Rattle.t1_session.specs.Files.{assembled, assembled_pfa, metrics_file};
-ghost use Rattle.t1_calls.specs.Judging.{judged_by, refused_by, verdict};
+ghost use Rattle.t1_session.specs.Files.{assembled, assembled_pfa, metrics_file, verdict};
+ghost use Rattle.t1_calls.specs.Judging.{judged_by, refused_by};
 
 use std::alloc::Global;
 use std::io;

@@ -3,7 +3,7 @@ ghost use Rattle.std.specs.Prelude.{◌≡◌, ◌≤◌, ◌-◌, ◌^◌, Ok, 
 ghost use Rattle.t1_code.specs.Parts.{Prints};
 ghost use Rattle.t1_commands.specs.Blocks.{block_size};
 ghost use Rattle.t1_session.specs.Machine.{blocks_answer, file_answer, found_answer};
-ghost use Rattle.t1_session.specs.Machine.{printed, shown};
+ghost use Rattle.t1_session.specs.Machine.{printed, shown_answer};
 ghost use Rattle.t1_calls.specs.Shown.{file_of};
 
 use std::alloc::{AllocError, Global};
@@ -107,7 +107,7 @@ fn found_answer(found: Option<Vec<u8>>) -> Answer
 
 /// What a query is answered.
 pub fn show_answer(session: &mut Session, show: &Show) -> Result<Answer, AllocError>
-    ensures shown { IfOk result (λ answer. answer ≡ shown session.old.state show.now) }
+    ensures shown { IfOk result (λ answer. answer ≡ shown_answer session.old.state show.now) }
     ensures same { session.new.state ≡ session.old.state }
 {
     match show {

@@ -6,7 +6,7 @@ use Rattle.t1_frac.specs.Numbers.{decimal_value}
 use Rattle.t1_text.specs.Lines.{lines}
 use Rattle.t1_text.specs.Names.{decimal_of, up_to}
 use Rattle.t1_text.specs.Tokens.{first_is, first_token, last_is, places_from, tokens}
-use Rattle.t1_parts.specs.Encoding.{slot_of_tokens}
+use Rattle.t1_parts.specs.Encoding.{ends_array, slot_of_tokens}
 use Rattle.t1_parts.specs.Entries.{opens_subr}
 use Rattle.t1_parts.specs.Sections.{count_between}
 use Rattle.t1_notes.specs.declared.line.Line.{Line}
@@ -42,10 +42,6 @@ opening_notes text = if is_font text then [] else record { kind = opening_kind t
 -- Type 1 Font Format, Chapter 2: a line that holds `/Encoding` N `array`
 abbrev pub opens_array : List ℕ → Bool
 opens_array l = is_some (count_between (codes "/Encoding") (codes "array") (places_from 0 l))
-
--- profile, encoding: whether a line ends an encoding array
-abbrev pub ends_array : List ℕ → Bool
-ends_array l = last_is (codes "def") (tokens l)
 
 -- profile, notes: the lines of the encoding array
 abbrev pub array_lines : List Line → List Line

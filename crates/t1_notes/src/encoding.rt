@@ -2,7 +2,8 @@
 
 ghost use Rattle.std.specs.Prelude.{◌≡◌, ◌++◌, ◌≤◌, length, OnOk};
 ghost use Rattle.std.specs.List.{position_or_len};
-ghost use Rattle.t1_notes.specs.Notes.{opens_array, ends_array, array_lines, is_lost};
+ghost use Rattle.t1_parts.specs.Encoding.{ends_array};
+ghost use Rattle.t1_notes.specs.Notes.{opens_array, array_lines, is_lost};
 ghost use Rattle.t1_notes.specs.Notes.{encoding_notes};
 ghost use Rattle.t1_notes.specs.GlyphNames.{has_name};
 

@@ -14,7 +14,7 @@ use Rattle.t1_commands.specs.AnswerTexts.{answer_text}
 use Rattle.t1_commands.specs.Answers.{answers, answer_to}
 use Rattle.t1_session.specs.Machine.{machine}
 use Rattle.t1_session.specs.State.{SessionState}
-use Rattle.t1_session.specs.Conversation.{Conversation, commands_from, input_after, is_unbroken, Performs, Goes, Grows, IsQuiet, AnswersCommand, LineGoes, EndsCommandLine, IsBodyLine, EndsLine, Answered, StopsForMemory, Feeds, AnswersTheEnd}
+use Rattle.t1_session.specs.Conversation.{Conversation, commands_from, input_after, is_unbroken, Performs, Goes, Grows, IsQuiet, AnswersCommand, LineGoes, EndsCommandLine, IsBodyLine, EndsLine, Answered, StopsForRoom, Feeds, AnswersTheEnd}
 use Rattle.t1_session.specs.LineEnds.{ends_line, ends_in_return}
 use Rattle.t1_session.proofs.Flushing.{flushes-none, flushes-append, flushes-fails}
 use Rattle.t1_session.proofs.LineLaws.{finished_lines-line, finished_lines-unbroken, finished_lines-last, last_line, unified-byte, unified-end, is_unbroken-push}
@@ -181,7 +181,7 @@ module _ {W : Type 0} (contents : W → Option (List ℕ)) where
 
   -- memory was wanted for the first byte
   pub stopped_at_once : (c : Conversation) (sink : Tally W) (b : ℕ) → is_unbroken c.line ≡ true → commands_from c (b ∷ []) false ≡ [] → Grows c b
-      → StopsForMemory contents c sink sink (b ∷ [])
+      → StopsForRoom contents c sink sink (b ∷ [])
   stopped_at_once c sink b h alone grows = record {
     front = [];
     byte = b;

@@ -40,8 +40,9 @@ use Rattle.std.specs.declared.vec.Vec.{Vec}
 use Rattle.t1_commands.specs.AnswerTexts.{answer_text, data_of}
 use Rattle.t1_session.specs.Files.{assembled, assembled_pfa}
 use Rattle.t1_session.specs.FromScratch.{asked, blocks_from_scratch, pfa_from_scratch, texts_of, from_scratch, pfb_from_scratch, metrics_from_scratch, metrics_line_from_scratch, outline_from_scratch, uses_from_scratch}
-use Rattle.t1_session.specs.Machine.{alone, file_answer, judged, printed}
-use Rattle.t1_session.specs.Outcomes.{AnswersNoFault, Finds, Took, refused_source}
+use Rattle.t1_session.specs.Machine.{without_batch, file_answer, judged, printed}
+use Rattle.t1_session.specs.Outcomes.{AnswersNoFault, Finds, refused_source}
+use Rattle.t1_session.specs.Unnoted.{Took}
 use Rattle.t1_session.specs.Queries.{metrics_line}
 use Rattle.t1_held.specs.Batch.{Draft}
 use Rattle.t1_cache.specs.declared.records.GlyphRecord.{GlyphRecord}
@@ -62,7 +63,7 @@ check_refused s fault e = ap (λ (r : Result MeasuredFont Fault). r >>= λ metri
 -- ---- a source judged
 
 -- without a batch a state is alone
-pub stays_alone : (s : SessionState) → s.batch ≡ None → s ≡ alone s
+pub stays_alone : (s : SessionState) → s.batch ≡ None → s ≡ without_batch s
 stays_alone s none = ap (λ (b : Option Draft). record s { batch = b }) none
 
 -- ---- its file

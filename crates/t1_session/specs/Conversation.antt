@@ -141,7 +141,7 @@ Grows c b = (is_line_end b ≡ false) ⊎ ((ends_line c.after_return b ≡ true)
 
 -- word: memory was wanted for a byte of the piece that makes longer what is kept, and finishes no command; those before
 -- it were answered
-pub record StopsForMemory {W : Type 0} (contents : W → Option (List ℕ)) (old : Conversation) (before after : Tally W) (piece : List ℕ) : Type 0 where
+pub record StopsForRoom {W : Type 0} (contents : W → Option (List ℕ)) (old : Conversation) (before after : Tally W) (piece : List ℕ) : Type 0 where
   pub front : List ℕ
   pub byte : ℕ
   pub rest : List ℕ
@@ -165,7 +165,7 @@ pub record StopsForWrite {W : Type 0} (contents : W → Option (List ℕ)) (old 
 -- word: what a call leaves that takes a piece of input
 abbrev pub Feeds : {W T : Type 0} → (W → Option (List ℕ)) → Conversation → Conversation → Tally W → Tally W → List ℕ → Result T ServeError → Type 0
 Feeds contents old new before after piece (Ok done) = Answered contents old new before after piece
-Feeds contents old new before after piece (Err errors.Memory) = StopsForMemory contents old before after piece
+Feeds contents old new before after piece (Err errors.Memory) = StopsForRoom contents old before after piece
 Feeds contents old new before after piece (Err errors.Write) = StopsForWrite contents old before after piece
 Feeds contents old new before after piece (Err errors.Read) = ⊥
 Feeds contents old new before after piece (Err (errors.Load fault)) = ⊥

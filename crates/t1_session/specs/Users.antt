@@ -19,14 +19,14 @@ pub record UserTable : Type 0 where
   pub glyphs : List (List ℕ × List (List ℕ))
 
 -- profile: the names that a record lists
-abbrev pub listed : List (Vec ℕ Global) → List (List ℕ)
-listed names = map (λ name. name.items) names
+abbrev pub names_listed : List (Vec ℕ Global) → List (List ℕ)
+names_listed names = map (λ name. name.items) names
 
 -- profile: the table that records keep
 abbrev pub user_table : Records → UserTable
 user_table r = record {
-  subrs = map (λ (e : ℕ × SubrRecord). (e.0, listed e.1.users.keys)) r.subrs.entries;
-  glyphs = map (λ (e : Vec ℕ Global × GlyphRecord). (e.0.items, listed e.1.users.keys)) r.glyphs.entries;
+  subrs = map (λ (e : ℕ × SubrRecord). (e.0, names_listed e.1.users.keys)) r.subrs.entries;
+  glyphs = map (λ (e : Vec ℕ Global × GlyphRecord). (e.0.items, names_listed e.1.users.keys)) r.glyphs.entries;
 }
 
 -- profile: the row of a Subr or a glyph, where it has one

@@ -10,9 +10,11 @@ ghost use Rattle.t1_refusal.specs.Telling.{fault_lines, fault_of, refusal_text};
 ghost use Rattle.t1_cache.specs.Renewed.{kept_of};
 ghost use Rattle.t1_held.specs.Edits.{IsPreparedEdit};
 ghost use Rattle.t1_held.specs.Held.{IsHeld};
-ghost use Rattle.t1_session.specs.Outcomes.{faulty_batch, refused_source};
-ghost use Rattle.t1_session.specs.Refusing.{edited_lines, refused_after, refused_text, rule_line};
-ghost use Rattle.t1_session.specs.Refusing.{fault_of_edited, IsEditOfHeld};
+ghost use Rattle.t1_session.specs.Outcomes.{refused_source};
+ghost use Rattle.t1_session.specs.Unnoted.{faulty_batch};
+ghost use Rattle.t1_session.specs.Refusing.{edited_lines, refused_text, rule_line};
+ghost use Rattle.t1_session.specs.KeptRefusals.{refused_after};
+ghost use Rattle.t1_session.specs.KeptRefusals.{fault_of_edited, IsEditOfHeld};
 
 use std::alloc::{AllocError, Global};
 use std::mem;

@@ -5,9 +5,8 @@ use Rattle.t1_frac.specs.declared.fault.Refusal.TheVariants as refusals
 use Rattle.t1_session.specs.declared.error.ServeError.{ServeError}
 use Rattle.t1_session.specs.declared.error.ServeError.TheVariants as errors
 use Rattle.t1_frac.specs.declared.fault.Fault.{Fault}
-use Rattle.t1_frac.specs.Outcome.{◌>>=◌}
-use Rattle.t1_session.specs.Delivery.{reported_by_refusal}
-use Rattle.t1_session.specs.Files.{metrics_file}
+use Rattle.t1_session.specs.LiftedErrors.{reported_by_refusal}
+use Rattle.t1_session.specs.Files.{verdict}
 use Rattle.t1_disassemble.specs.declared.fault.FontFault.{FontFault}
 use Rattle.t1edit.specs.Sources.{AnswersAs, TellsFontFault}
 use Rattle.t1edit.specs.declared.file_error.FileError.{FileError}
@@ -19,10 +18,6 @@ judged_by (Err errors.Write) = Ok tt
 judged_by (Err (errors.Load fault)) = Err (refusals.Fault fault)
 judged_by (Err errors.Read) = Err refusals.Memory
 judged_by (Err errors.Memory) = Err refusals.Memory
-
--- profile: a source and its pairs pass where they have an AFM file, and are refused by the fault that measuring them reports
-abbrev pub verdict : List ℕ → List ℕ → Result (Unit {0}) Fault
-verdict source kerning = metrics_file source kerning >>= λ file. Ok tt
 
 -- word: what judging answers, as a call over whole files does
 abbrev pub reported : {T : Type 0} → Result T Refusal → Result T ServeError

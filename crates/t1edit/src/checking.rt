@@ -1,7 +1,8 @@
 //! Judging a font without writing its metrics.
 ghost use Rattle.std.specs.Prelude.{◌≡◌};
 ghost use Rattle.t1_frac.specs.Outcome.{Gives};
-ghost use Rattle.t1edit.specs.Checking.{JudgesFile, judged_by, reported, verdict};
+ghost use Rattle.t1_session.specs.Files.{verdict};
+ghost use Rattle.t1edit.specs.Checking.{JudgesFile, judged_by, reported};
 ghost use Rattle.t1edit.specs.Sources.{source_in as source_in_file};
 
 use crate::file_error::{FileError, served};

@@ -17,14 +17,8 @@ returns-in-Err-clause-runs c =
 pub returns-in-Err-clause-took : goal.returns-in-Err-clause-took
 returns-in-Err-clause-took c = search rules
 
-pub returns-in-Err-clause-right : goal.returns-in-Err-clause-right
-returns-in-Err-clause-right c = search rules
-
 pub returns-clause-took : goal.returns-clause-took
 returns-clause-took c = search rules
-
-pub returns-clause-right : goal.returns-clause-right
-returns-clause-right c = search rules
 
 pub returns-clause-runs : goal.returns-clause-runs
 returns-clause-runs c = search rules
