@@ -8,7 +8,8 @@ use Rattle.std.proofs.lemmas.List.Folds.{list_any-append}
 use Rattle.std.proofs.lemmas.List.Sums.{sum_by-append}
 use Rattle.t1_run.specs.Run.{Key, key_eq}
 use Rattle.t1_cache.specs.declared.records.Named.{Named}
-use Rattle.t1_cache.specs.Users.{key_of, Pairs, UserSet, HasUserRoom, wanted, has_pair}
+use Rattle.t1_cache.specs.Users.{Pairs, UserSet, HasUserRoom, wanted, has_pair}
+use Rattle.t1_cache.specs.EditKeys.{key_of}
 
 pub less-room : (a b : ℕ) (r : Option UserSet) → a ≤ b → HasUserRoom b r → HasUserRoom a r
 less-room a b None h had = omega (arith, h, had)

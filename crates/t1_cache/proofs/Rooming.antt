@@ -16,7 +16,8 @@ use Rattle.t1_cache.specs.declared.records.Named.{Named}
 use Rattle.t1_cache.specs.declared.records.Records.{Records}
 use Rattle.t1_cache.specs.Bodies.{record_bodies}
 use Rattle.t1_cache.specs.Room.{IsRoomier, MayJoin, RoomLaw}
-use Rattle.t1_cache.specs.Users.{has_pair, key_of, HasUserRoom, Pairs, UserSet, users_at, wanted}
+use Rattle.t1_cache.specs.Users.{has_pair, HasUserRoom, Pairs, UserSet, users_at, wanted}
+use Rattle.t1_cache.specs.EditKeys.{key_of}
 use Rattle.t1_font.proofs.Keys.{key-same}
 use Rattle.t1_font.proofs.Lookups.{Distinguishes, bytes_tell, inserted-at}
 use Rattle.t1_cache.proofs.Putting.{at, users-put}

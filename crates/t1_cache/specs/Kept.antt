@@ -10,7 +10,8 @@ use Rattle.t1_font.specs.Bodies.{bodies}
 use Rattle.t1_font.specs.Glyphs.{Glyph as Reported, glyph_names}
 use Rattle.t1_font.specs.SourceChecks.{source_glyphs}
 use Rattle.t1_cache.specs.declared.records.Records.{Records}
-use Rattle.t1_cache.specs.Renewed.{Kept, kept_of, recorded_run}
+use Rattle.t1_cache.specs.Renewed.{recorded_run}
+use Rattle.t1_cache.specs.Recorded.{Kept, kept_of}
 
 -- word: a record, its serial aside
 pub record Shown : Type 0 where

@@ -1,41 +1,26 @@
 -- The records of an edited font.
-use Rattle.std.specs.Prelude.{◌≡◌, ◌⊎◌, ℕ, true, false, not, List, [], ◌∷◌, ◌++◌, filter, map, Option, Some, Ok}
+use Rattle.std.specs.Prelude.{◌≡◌, ℕ, true, false, not, List, ◌∷◌, ◌++◌, filter, map, Option, Ok}
 use Rattle.std.specs.List.{AllByRecursion, list_any}
 use Rattle.std.specs.Str.{bytes_eq}
 use Rattle.t1_parts.specs.SourceParts.{SourceParts}
-use Rattle.t1_run.specs.declared.outline.Segment.{Segment}
-use Rattle.t1_run.specs.Run.{FontBodies, Key, own}
-use Rattle.t1_extent.specs.Kept.{TracedRun, traces}
+use Rattle.t1_run.specs.Run.{Key}
+use Rattle.t1_extent.specs.Kept.{TracedRun}
 use Rattle.t1_source.specs.declared.edit.Edit.{Edit}
 use Rattle.t1_source.specs.declared.edit.Edit.TheVariants.{AddGlyph, RemoveGlyph}
 use Rattle.t1_pairs.specs.declared.pairs.Pair.{Pair}
 use Rattle.t1_source.specs.Editing.{edited}
 use Rattle.t1_source.specs.WellFormed.{IsWellFormed}
 use Rattle.t1_afm.specs.declared.bbox.BBox.{BBox}
-use Rattle.t1_run.specs.Composite.{outline}
-use Rattle.t1_afm.specs.Box.{drawn_box}
 use Rattle.t1_font.specs.Bodies.{bodies}
 use Rattle.t1_font.specs.Glyphs.{Glyph as Reported, glyph_names}
 use Rattle.t1_font.specs.SourceChecks.{source_glyphs}
-use Rattle.t1_cache.specs.Edited.{IsEditedAt, is_stale, named}
+use Rattle.t1_cache.specs.Edited.{IsEditedAt, is_stale}
+use Rattle.t1_cache.specs.EditKeys.{named}
 use Rattle.t1_cache.specs.Kept.{KeepsAll}
 use Rattle.t1_cache.specs.declared.records.Rerun.{Rerun}
-use Rattle.t1_cache.specs.Renewed.{Kept, with_reruns}
+use Rattle.t1_cache.specs.Renewed.{with_reruns}
+use Rattle.t1_cache.specs.Recorded.{Kept, IsFromScratch, IsOneOf}
 use Rattle.t1_cache.specs.Users.{has_name}
-
--- profile: a record of a glyph from scratch: what its own run draws, with the trace of it unless the glyph can't be a part, and
--- the box of its outline
-pub record IsFromScratch (m : FontBodies) (k : Kept) : Type 0 where
-  pub segments : List Segment
-  pub run : own m k.name ≡ Some (Ok k.run.drawing)
-  pub trace : traces k.name k.run ≡ true
-  pub draws : outline m k.name ≡ Ok segments
-  pub box : k.box ≡ drawn_box segments
-
--- profile: a record is one of these
-abbrev pub IsOneOf : List Kept → Kept → Type 0
-IsOneOf [] k = ⊥
-IsOneOf (x ∷ xs) k = (x ≡ k) ⊎ IsOneOf xs k
 
 -- word: a record of a stale glyph is from scratch, and another is one that was kept
 pub record IsRenewed (keys : List Key) (old new : SourceParts) (kept : List Kept) (k : Kept) : Type 0 where

@@ -15,7 +15,7 @@ use Rattle.t1_cache.specs.declared.records.GlyphRecord.{GlyphRecord}
 use Rattle.t1_cache.specs.declared.records.SubrRecord.{SubrRecord}
 use Rattle.t1_cache.specs.declared.records.Records.{Records}
 use Rattle.t1_cache.specs.declared.records.Named.{Named}
-use Rattle.t1_cache.specs.declared.records.Named.TheVariants as named
+use Rattle.t1_cache.specs.EditKeys.{key_of}
 
 -- word: a name is among these
 abbrev pub has_name : {K : Type 0} → (K → List ℕ) → List K → List ℕ → Bool
@@ -89,11 +89,6 @@ abbrev pub rest_of : Records → Rest
 rest_of r = record { subrs = map subr_rest r.subrs.entries; glyphs = map glyph_rest r.glyphs.entries }
 
 -- ---- users that leave and join
-
--- profile: the key of the Subr or the glyph that is named
-abbrev pub key_of : Named → Key
-key_of (named.Subr n) = Subr n
-key_of (named.Glyph g) = Glyph g
 
 -- word: the glyph of a key is among these names
 abbrev pub is_key_among : List (Vec ℕ Global) → Key → Bool

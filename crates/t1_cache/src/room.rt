@@ -5,7 +5,8 @@ ghost use Rattle.std.specs.Str.{bytes_eq};
 ghost use Rattle.indexmap.specs.IndexSet.{spare};
 ghost use Rattle.t1_run.specs.Run.{Key, key_eq};
 ghost use Rattle.t1_cache.specs.Room.{count_at, glyph_count, subr_count, IsRoomier, MayJoin};
-ghost use Rattle.t1_cache.specs.Users.{glyph_rest, glyph_users, key_of, lists, rest_of, subr_rest};
+ghost use Rattle.t1_cache.specs.Users.{glyph_rest, glyph_users, lists, rest_of, subr_rest};
+ghost use Rattle.t1_cache.specs.EditKeys.{key_of};
 ghost use Rattle.t1_cache.specs.Users.{subr_users, users_at, wanted};
 
 use crate::records::{GlyphRecord, Named, Names, Records, SubrRecord};

@@ -4,7 +4,8 @@ ghost use Rattle.std.specs.Prelude.{if◌then◌else◌};
 ghost use Rattle.std.specs.Str.{bytes_eq};
 ghost use Rattle.indexmap.specs.IndexSet.{spare};
 ghost use Rattle.t1_run.specs.Run.{Key, key_eq};
-ghost use Rattle.t1_cache.specs.Users.{among, glyph_rest, glyph_users, has_name, has_pair, key_of};
+ghost use Rattle.t1_cache.specs.Users.{among, glyph_rest, glyph_users, has_name, has_pair};
+ghost use Rattle.t1_cache.specs.EditKeys.{key_of};
 ghost use Rattle.t1_cache.specs.Users.{lists, rest_of, subr_rest, subr_users, users_at, wanted};
 ghost use Rattle.t1_cache.specs.Users.{HasUserRoom};
 

@@ -15,7 +15,8 @@ use Rattle.t1_commands.specs.declared.show.Show.{Show}
 use Rattle.t1_commands.specs.AnswerTexts.{answer_text}
 use Rattle.t1_commands.specs.Answering as told
 use Rattle.t1_commands.specs.Answers.{answer_to, answers}
-use Rattle.t1_commands.specs.Commands.{Makes, body_command, input_commands, is_edit_or_query, is_wordless, line_command, takes_body}
+use Rattle.t1_commands.specs.Commands.{body_command, input_commands, is_wordless, line_command, takes_body}
+use Rattle.t1_commands.specs.MadeCommands.{Makes, is_edit_or_query}
 use Rattle.t1_session.specs.Conversation.{Performs}
 use Rattle.t1_session.specs.Machine.{after_want, machine, may_want_memory, outcome, perform, printed, shown_answer}
 use Rattle.t1_session.specs.Outcomes.{Takes}

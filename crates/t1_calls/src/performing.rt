@@ -1,5 +1,5 @@
 //! Commands performed on a session, each with its answer in memory.
-ghost use Rattle.t1_commands.specs.Commands.{Makes};
+ghost use Rattle.t1_commands.specs.MadeCommands.{Makes};
 ghost use Rattle.t1_calls.specs.Talking.{IsAnswered, Step};
 
 use crate::prints::{print_answer, show_answer};

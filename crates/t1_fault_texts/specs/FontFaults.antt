@@ -1,5 +1,5 @@
 -- How a fault of a font's file is written.
-use Rattle.std.specs.Prelude.{ℕ, Bool, false, ◌==◌, ◌++◌, List, [], ◌∷◌, drop, codes, decimal, if◌then◌else◌}
+use Rattle.std.specs.Prelude.{ℕ, Bool, false, ◌==◌, ◌++◌, List, ◌∷◌, drop, codes, decimal, if◌then◌else◌}
 use Rattle.t1_disassemble.specs.declared.fault.FontCode.{FontCode}
 use Rattle.t1_disassemble.specs.declared.fault.FontCode.TheVariants.{D1, D2, D3, D4, D5, D6, D7, D8, D9, D10, D11, D12, D13}
 use Rattle.t1_disassemble.specs.declared.fault.FontFault.{FontFault}
@@ -36,12 +36,6 @@ abbrev pub font_place_text : FontPlace → List ℕ
 font_place_text Nowhere = []
 font_place_text (Byte n) = codes " byte " ++ decimal n
 font_place_text (Entry entry) = font_entry_text entry
-
--- word: the number that stands in a place
-abbrev pub font_place_number : FontPlace → ℕ
-font_place_number Nowhere = 0
-font_place_number (Byte n) = n
-font_place_number (Entry entry) = 0
 
 -- profile: a fault by its code and place
 unfoldable pub font_fault_text : FontFault → List ℕ

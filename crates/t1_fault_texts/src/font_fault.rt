@@ -3,7 +3,8 @@ ghost use Rattle.std.specs.Prelude.{◌≡◌, ◌++◌, decimal, drop, IfOk};
 ghost use Rattle.t1_code.specs.Counted.{Writes};
 ghost use Rattle.t1_code.specs.Parts.{slices_bytes};
 ghost use Rattle.t1_fault_texts.specs.FontFaults.{font_code_name, font_entry_text};
-ghost use Rattle.t1_fault_texts.specs.FontFaults.{font_fault_text, font_place_number};
+ghost use Rattle.t1_fault_texts.specs.FontFaults.{font_fault_text};
+ghost use Rattle.t1_fault_texts.specs.FontPlaces.{font_place_number};
 ghost use Rattle.t1_fault_texts.specs.FontFaults.{font_place_text, is_glyph};
 
 use itoa::Buffer;

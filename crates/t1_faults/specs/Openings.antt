@@ -1,5 +1,5 @@
 -- The first entry of a number or of a name.
-use Rattle.std.specs.Prelude.{ℕ, Bool, false, nat_eq, is_some, ◌+◌, ◌&&◌, ◌||◌, if◌then◌else◌, Option, None, Some, List, [], ◌∷◌, option_map}
+use Rattle.std.specs.Prelude.{ℕ, Bool, false, nat_eq, is_some, ◌+◌, ◌&&◌, ◌||◌, if◌then◌else◌, Option, None, Some, List, ◌∷◌, option_map}
 use Rattle.std.specs.Option.{option_and_then}
 use Rattle.std.specs.Str.{bytes_eq}
 use Rattle.t1_frac.specs.declared.fault.Code.{Code}
@@ -11,8 +11,6 @@ use Rattle.t1_parts.specs.Sections.{glyphs_line, subrs_line}
 use Rattle.t1_run.specs.Run.{Key, Subr, Glyph}
 use Rattle.t1_chain.specs.declared.failure.Detail.{Detail}
 use Rattle.t1_chain.specs.declared.failure.Detail.TheVariants.{Line, Nothing}
-use Rattle.t1_faults.specs.declared.opening.Opened.{Opened}
-use Rattle.t1_faults.specs.declared.opening.Opened.TheVariants as opened
 
 -- profile, entries: the number of the Subr that a line opens
 abbrev pub subr_opened : List ℕ → Option ℕ
@@ -63,8 +61,3 @@ line_told (Some n) = Line n
 -- profile, faults: what a fault on this line says beside its code: of an entry that is there twice, the line of the first one
 abbrev pub detail_on : List (List ℕ) → Code → List ℕ → Detail
 detail_on ls code l = line_told (option_and_then (λ key. first_opening key false 1 ls) (key_opened code l))
-
--- word: the key that the code has found
-abbrev pub key_of : Opened → Key
-key_of (opened.Subr n) = Subr n
-key_of (opened.Glyph g) = Glyph g.now

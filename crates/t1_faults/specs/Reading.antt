@@ -1,5 +1,5 @@
 -- The fault of reading a source, where it stands.
-use Rattle.std.specs.Prelude.{ℕ, ◌+◌, ◌-◌, None, Some, Option, Result, Ok, Err, List, []}
+use Rattle.std.specs.Prelude.{ℕ, ◌+◌, ◌-◌, None, Some, List}
 use Rattle.std.specs.List.{prefix_len, slice_index_or}
 use Rattle.t1_frac.specs.Words.{is_blank}
 use Rattle.t1_frac.specs.declared.fault.Code.{Code}
@@ -47,8 +47,3 @@ placed_reading ls code place = at_front code place
 -- profile, faults: the same of a fault with its place
 abbrev pub reading_fault : List (List ℕ) → Fault → FoundFault
 reading_fault ls fault = placed_reading ls fault.code fault.place
-
--- word, faults: the fault that a check finds, where it finds one
-abbrev pub fault_in : Result (Unit {0}) Fault → Option Fault
-fault_in (Ok sound) = None
-fault_in (Err fault) = Some fault

@@ -4,7 +4,8 @@ ghost use Rattle.std.specs.Prelude.{◌≡◌, ◌<◌, ◌+◌, ◌^◌, ◌++�
 ghost use Rattle.t1_text.specs.Lines.{lines};
 ghost use Rattle.t1_parts.specs.ItemRefs.{item_of};
 ghost use Rattle.t1_parts.specs.declared.item.Item.{Item as ItemOf};
-ghost use Rattle.t1_faults.specs.Entries.{entry_of, entries_from, place_in, placed_words};
+ghost use Rattle.t1_faults.specs.Entries.{entries_from, place_in, placed_words};
+ghost use Rattle.t1_faults.specs.CodeForms.{entry_of};
 
 use crate::entry_text::EntryText;
 use crate::placed::{PlacedWord, push_opened_words};

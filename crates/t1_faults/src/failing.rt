@@ -5,7 +5,7 @@ ghost use Rattle.std.specs.Option.{option_to_list};
 ghost use Rattle.t1_font.specs.Bodies.{plain_bodies};
 ghost use Rattle.t1_font.specs.Runs.{drawing_in};
 ghost use Rattle.t1_chain.specs.Machine.{seen};
-ghost use Rattle.t1_faults.specs.Entries.{entry_of};
+ghost use Rattle.t1_faults.specs.CodeForms.{entry_of};
 ghost use Rattle.t1_faults.specs.Failing.{failure_at, is_missing_subr, missing_subr, natural};
 ghost use Rattle.t1_faults.specs.Failing.{is_some_and, subr_told};
 ghost use Rattle.t1_faults.specs.GlyphRuns.{failures_of, is_faulty, seen_run};

@@ -4,7 +4,7 @@ ghost use Rattle.std.specs.Prelude.{◌≡◌, ◌++◌, ◌∷◌, [], All, IfO
 ghost use Rattle.std.specs.Option.{option_to_list};
 ghost use Rattle.t1_frac.specs.Words.{words};
 ghost use Rattle.t1_code.specs.Words.{command_of_word};
-ghost use Rattle.t1_faults.specs.Entries.{entry_of};
+ghost use Rattle.t1_faults.specs.CodeForms.{entry_of};
 ghost use Rattle.t1_faults.specs.Found.{at_entry, at_word, body_faults, code_of};
 ghost use Rattle.t1_faults.specs.Found.{length_faults, word_fault, word_faults};
 

@@ -10,12 +10,11 @@ ghost use Rattle.t1_font.specs.Bodies.{bodies_check};
 ghost use Rattle.t1_font.specs.Glyphs.{glyph_names};
 ghost use Rattle.t1_font.specs.Runs.{drawing_in};
 ghost use Rattle.t1_faults.specs.Composites.{with_composites};
-ghost use Rattle.t1_faults.specs.Entries.{entry_of};
+ghost use Rattle.t1_faults.specs.CodeForms.{entry_of, fault_in};
 ghost use Rattle.t1_faults.specs.GlyphRuns.{failures_of, kept_at, own_kept};
 ghost use Rattle.t1_faults.specs.Judging.{entries_in, entry_faults, faults_among, faults_by};
 ghost use Rattle.t1_faults.specs.Judging.{faults_of, file_faults, join_faults, source_faults};
 ghost use Rattle.t1_faults.specs.Met.{failed_runs, faults_at, own_fault};
-ghost use Rattle.t1_faults.specs.Reading.{fault_in};
 
 use crate::composites::tell_composites;
 use crate::entry::entries_of;

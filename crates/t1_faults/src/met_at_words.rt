@@ -3,7 +3,7 @@
 ghost use Rattle.std.specs.Prelude.{◌≡◌, ◌++◌, IfOk, OnOk, flat_map, length, map};
 ghost use Rattle.std.specs.List.{range_with_len};
 ghost use Rattle.std.specs.Option.{option_copied, option_to_list};
-ghost use Rattle.t1_faults.specs.Entries.{entry_of};
+ghost use Rattle.t1_faults.specs.CodeForms.{entry_of};
 ghost use Rattle.t1_faults.specs.Found.{in_entry};
 ghost use Rattle.t1_faults.specs.GlyphRuns.{kept_at, own_kept};
 ghost use Rattle.t1_faults.specs.Judging.{run_faults};

@@ -3,7 +3,8 @@
 ghost use Rattle.std.specs.Prelude.{◌≡◌, false, option_map};
 ghost use Rattle.t1_text.specs.Lines.{lines};
 ghost use Rattle.t1_faults.specs.Openings.{begins_section, detail_on, first_opening, glyph_opened};
-ghost use Rattle.t1_faults.specs.Openings.{is_named, is_number, key_of, key_opened, line_told};
+ghost use Rattle.t1_faults.specs.Openings.{is_named, is_number, key_opened, line_told};
+ghost use Rattle.t1_faults.specs.CodeForms.{key_of};
 ghost use Rattle.t1_faults.specs.Openings.{opens, subr_opened};
 
 use t1_chain::Detail;

@@ -14,7 +14,7 @@ use Rattle.t1_charstrings.specs.declared.edited.EditedEntries.{EditedEntries}
 use Rattle.t1_charstrings.specs.Batch.{gone_key, is_gone, AreEdits, AreFresh, AreGone}
 use Rattle.t1_charstrings.specs.Entries.{KeptCharstring, encrypted}
 use Rattle.t1_charstrings.specs.Kept.{kept_at}
-use Rattle.t1_cache.specs.Users.{key_of}
+use Rattle.t1_cache.specs.EditKeys.{key_of}
 use Rattle.t1_font.proofs.Keys.{key-same}
 use Rattle.t1_rerun.specs.declared.entry_change.EntryChange.{EntryChange}
 use Rattle.t1_rerun.specs.Settled.{changed_keys, AreDistinctKeys, HasBody}
@@ -26,12 +26,12 @@ use Rattle.t1_pairs.specs.declared.pairs.Pair.{Pair}
 use Rattle.t1_font.specs.Assembly.{file_check}
 use Rattle.t1_charstrings.specs.Kept.{AreEncrypted}
 use Rattle.t1_cache.specs.Edited.{stale, IsEditedAt}
-use Rattle.t1_cache.specs.Renewed.{Kept as KeptGlyph}
+use Rattle.t1_cache.specs.Recorded.{Kept as KeptGlyph}
 use Rattle.t1_cache.proofs.Distinct.{names_distinct}
 use Rattle.t1_rerun.specs.Opened.{runs_where}
 use Rattle.t1_rerun.specs.Renewing.{IsRunWhereStale}
 use Rattle.t1_rerun.proofs.ChangedBodies.{change-first}
-use Rattle.t1_held.specs.Batch.{AreBatchChanges}
+use Rattle.t1_held.specs.Drafting.{AreBatchChanges}
 use Rattle.t1_held.specs.Members.{HaveSameKeys}
 use Rattle.t1_held.proofs.Members.{same_stale, same_stale_glyphs}
 use Rattle.t1_held.specs.declared.held.Held.{Held}

@@ -31,7 +31,8 @@ use Rattle.t1_charstrings.specs.Kept.{AreEncrypted, Encrypt}
 use Rattle.t1_font.specs.Lengths.{IsPrivateLen}
 use Rattle.t1_cache.specs.declared.records.Records.{Records}
 use Rattle.t1_charstrings.specs.Made.{IsPreparedByEdits}
-use Rattle.t1_cache.specs.Edited.{named, IsEditedAt}
+use Rattle.t1_cache.specs.Edited.{IsEditedAt}
+use Rattle.t1_cache.specs.EditKeys.{named}
 use Rattle.t1_cache.proofs.Distinct.{names_distinct}
 use Rattle.t1_rerun.specs.declared.entry_change.EntryChange.{EntryChange}
 use Rattle.t1_rerun.specs.EntryChanges.{IsChanged, IsMadeByEdit}

@@ -5,7 +5,7 @@ ghost use Rattle.t1_parts.specs.LenIV.{lead};
 ghost use Rattle.t1_run.specs.Run.{Key};
 ghost use Rattle.t1_charstrings.specs.Batch.{gone_key};
 ghost use Rattle.t1_charstrings.specs.Kept.{kept_at};
-ghost use Rattle.t1_cache.specs.Users.{key_of};
+ghost use Rattle.t1_cache.specs.EditKeys.{key_of};
 ghost use Rattle.t1_held.specs.Entries.{fresh_in, fresh_one, gone_keys};
 
 use std::alloc::{AllocError, Global};

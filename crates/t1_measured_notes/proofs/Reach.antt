@@ -4,7 +4,7 @@ use Rattle.std.specs.Borrow.{Bor}
 use Rattle.std.specs.Str.{bytes_eq}
 use Rattle.std.proofs.Math.Bool.{or_assoc}
 use Rattle.t1_font.specs.declared.glyph_metrics.GlyphMetrics.{GlyphMetrics}
-use Rattle.t1_notes.specs.GlyphNames.{has_name}
+use Rattle.t1_notes.specs.Tables.{has_name}
 use Rattle.t1_measured_notes.specs.MeasuredNotes.{is_wide, is_wide_box}
 
 -- the names so far and those of the glyphs that are left, after one more glyph

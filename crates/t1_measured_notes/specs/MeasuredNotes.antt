@@ -1,5 +1,5 @@
 -- The notes that stand on runs of the glyphs.
-use Rattle.std.specs.Prelude.{ℕ, Bool, false, not, ◌-◌, ◌||◌, ◌&&◌, nat_eq, nat_lt, ℤ, pos, negsuc, int_le, List, [], ◌∷◌, ◌++◌, codes, Option, Some, None, Result, Ok, Err}
+use Rattle.std.specs.Prelude.{ℕ, Bool, false, not, ◌-◌, ◌||◌, ◌&&◌, nat_eq, nat_lt, ℤ, pos, negsuc, int_le, List, ◌∷◌, ◌++◌, codes, Option, Some, None, Result, Ok, Err}
 use Rattle.std.specs.List.{list_all, list_any}
 use Rattle.std.specs.Str.{bytes_eq}
 use Rattle.t1_frac.specs.Numbers.{is_number_word}
@@ -70,11 +70,6 @@ unused_note entered follows l = note_where (is_unused entered l.text && not foll
 abbrev pub unused_among : (ℕ → Bool) → List Line → List Note
 unused_among entered heads = told (λ before l. unused_note entered (follows_unused entered before) l) [] heads
 
--- word, notes: the same notes, by whether the line before opens such a Subr
-abbrev pub unused_by_line : (ℕ → Bool) → Bool → List Line → List Note
-unused_by_line entered follows [] = []
-unused_by_line entered follows (l ∷ ls) = unused_note entered follows l ++ unused_by_line entered (is_unused entered l.text) ls
-
 -- profile, notes: such lines among those of the section of the Subrs
 abbrev pub unused_notes : (ℕ → Bool) → List Line → List Note
 unused_notes entered ls = unused_among entered (heads Subrs (past (is_section Subrs) ls))
@@ -118,7 +113,3 @@ measured_notes text = sound_notes (numbered 1 (lines text)) (reads text >>= λ s
 -- profile, notes: all notes on a text, in the order of their places
 unfoldable pub all_notes : List ℕ → List Note
 all_notes text = merged (notes_of text) (measured_notes text)
-
--- word, notes: whether a number is among some
-abbrev pub has_number : List ℕ → ℕ → Bool
-has_number numbers n = list_any (nat_eq n) numbers

@@ -7,7 +7,8 @@ ghost use Rattle.t1_font.specs.SourceChecks.{measured_source};
 ghost use Rattle.t1_notes.specs.LineSections.{is_section};
 ghost use Rattle.t1_notes.specs.NumberedLines.{before};
 ghost use Rattle.t1_notes.specs.declared.sections.Section.TheVariants.{Glyphs};
-ghost use Rattle.t1_measured_notes.specs.MeasuredNotes.{has_number, is_entered, font_notes};
+ghost use Rattle.t1_measured_notes.specs.MeasuredNotes.{is_entered, font_notes};
+ghost use Rattle.t1_measured_notes.specs.UnusedByLine.{has_number};
 ghost use Rattle.t1_measured_notes.specs.MeasuredNotes.{is_wide, wide_notes, sound_notes};
 ghost use Rattle.t1_measured_notes.specs.MeasuredNotes.{measured_notes, all_notes};
 

@@ -3,7 +3,8 @@
 ghost use Rattle.std.specs.Prelude.{◌≡◌, ◌++◌, ◌||◌, ◌&&◌, ℕ, List, IfOk, OnOk};
 ghost use Rattle.std.specs.Str.{bytes_eq};
 ghost use Rattle.t1_notes.specs.declared.note.NoteKind.TheVariants.{WideGlyph};
-ghost use Rattle.t1_notes.specs.GlyphNames.{has_name, opened_name};
+ghost use Rattle.t1_notes.specs.GlyphNames.{opened_name};
+ghost use Rattle.t1_notes.specs.Tables.{has_name};
 ghost use Rattle.t1_notes.specs.Notes.{noted};
 ghost use Rattle.t1_measured_notes.specs.MeasuredNotes.{is_wide_side, is_wide_box, is_wide};
 ghost use Rattle.t1_measured_notes.specs.MeasuredNotes.{is_named, wide_notes};

@@ -10,7 +10,8 @@ use Rattle.std.proofs.lemmas.Slice.Eq.{bytes_eq-Decides}
 use Rattle.indexmap.specs.IndexSet.{insert_key as put_in}
 use Rattle.t1_notes.specs.declared.line.Line.{Line}
 use Rattle.t1_text.specs.Tokens.{is_token}
-use Rattle.t1_notes.specs.GlyphNames.{has_glyph, has_name, opened_name}
+use Rattle.t1_notes.specs.GlyphNames.{has_glyph, opened_name}
+use Rattle.t1_notes.specs.Tables.{has_name}
 use Rattle.t1_notes.specs.Notes.{glyph_parts_notes}
 use Rattle.t1_notes.specs.PairNotes.{lines_notes}
 

@@ -18,9 +18,11 @@ use Rattle.t1_notes.specs.declared.note.Note.{Note}
 use Rattle.t1_notes.specs.declared.sections.Section.{Section}
 use Rattle.t1_notes.specs.BodyWords.{numbers_before, is_open, ends_path_at, is_past, nearest_is_below_zero, command_notes, token_notes, body_notes}
 use Rattle.t1_notes.specs.CommandWords.{passes}
-use Rattle.t1_notes.specs.Heads.{head_of, heads, heads_by_line, is_entry_open}
+use Rattle.t1_notes.specs.Heads.{head_of, heads, is_entry_open}
+use Rattle.t1_notes.specs.HeadsByLine.{heads_by_line}
 use Rattle.t1_notes.specs.Kept.{kept_of, kept_after, kept_notes, kept_through, notes_by_line, notes_by_place, one_more, open_after}
-use Rattle.t1_notes.specs.Notes.{follows_stray, stray_note, stray_notes, strays_by_line}
+use Rattle.t1_notes.specs.Notes.{follows_stray, stray_note, stray_notes}
+use Rattle.t1_notes.specs.StraysByLine.{strays_by_line}
 use Rattle.t1_notes.specs.PlacedTokens.{PlacedToken, placed_token, placed_tokens}
 use Rattle.t1_notes.specs.Told.{told}
 

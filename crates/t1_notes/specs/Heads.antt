@@ -1,5 +1,5 @@
 -- The lines of a section that don't stand inside an entry.
-use Rattle.std.specs.Prelude.{ℕ, Bool, false, not, ◌&&◌, ◌==◌, if◌then◌else◌, List, [], ◌∷◌, ◌++◌, drop}
+use Rattle.std.specs.Prelude.{ℕ, Bool, false, not, ◌&&◌, ◌==◌, if◌then◌else◌, List, ◌∷◌, drop}
 use Rattle.std.specs.List.{list_any, position_or_len}
 use Rattle.t1_frac.specs.Ascii.{open_brace}
 use Rattle.t1_parts.specs.Entries.{has_brace}
@@ -33,12 +33,3 @@ head_of in_entry l = if in_entry && not (has_open l.text) then [] else l ∷ []
 -- profile, notes: the lines of a section without those inside its entries
 abbrev pub heads : Section → List Line → List Line
 heads section ls = told (λ before l. head_of (is_entry_open section before) l) [] ls
-
--- word, notes: whether an entry is open after a line
-abbrev pub entry_open_after : Section → Bool → List ℕ → Bool
-entry_open_after section in_entry l = if has_brace l then goes_on section l else in_entry
-
--- word, notes: the same lines, by whether an entry is open before them
-abbrev pub heads_by_line : Section → Bool → List Line → List Line
-heads_by_line section in_entry [] = []
-heads_by_line section in_entry (l ∷ ls) = head_of in_entry l ++ heads_by_line section (entry_open_after section in_entry l.text) ls

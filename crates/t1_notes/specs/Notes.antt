@@ -1,5 +1,5 @@
 -- The notes on a text: what is no fault and is most likely a mistake.
-use Rattle.std.specs.Prelude.{ℕ, Bool, false, not, ◌+◌, ◌||◌, ◌&&◌, ◌==◌, nat_le, max, if◌then◌else◌, Option, Some, None, is_none, is_some, List, [], ◌∷◌, ◌++◌, codes, filter_map, count_by}
+use Rattle.std.specs.Prelude.{ℕ, Bool, false, not, ◌+◌, ◌||◌, ◌&&◌, ◌==◌, nat_le, max, if◌then◌else◌, Option, Some, None, is_none, is_some, List, ◌∷◌, ◌++◌, codes, filter_map, count_by}
 use Rattle.std.specs.List.{starts_with}
 use Rattle.std.specs.Str.{bytes_eq}
 use Rattle.t1_frac.specs.Numbers.{decimal_value}
@@ -146,15 +146,6 @@ stray_note follows l = note_where (is_stray l.text && not follows) (note_on NoEn
 -- profile, notes: the lines that belong to no glyph: the first of those that follow one another
 abbrev pub stray_notes : List Line → List Note
 stray_notes heads = told (λ before l. stray_note (follows_stray before) l) [] heads
-
--- word, notes: whether a stray line is the nearest one after a line
-abbrev pub stray_after : Bool → List ℕ → Bool
-stray_after follows l = if is_bare l then follows else is_stray l
-
--- word, notes: the same notes, by whether the nearest line before is stray
-abbrev pub strays_by_line : Bool → List Line → List Note
-strays_by_line follows [] = []
-strays_by_line follows (l ∷ ls) = stray_note follows l ++ strays_by_line (stray_after follows l.text) ls
 
 -- profile, notes: the glyphs after the line that ends the glyphs
 abbrev pub late_notes : List Line → List Note

@@ -5,7 +5,7 @@ ghost use Rattle.std.specs.List.{position_or_len};
 ghost use Rattle.t1_parts.specs.Encoding.{ends_array};
 ghost use Rattle.t1_notes.specs.Notes.{opens_array, array_lines, is_lost};
 ghost use Rattle.t1_notes.specs.Notes.{encoding_notes};
-ghost use Rattle.t1_notes.specs.GlyphNames.{has_name};
+ghost use Rattle.t1_notes.specs.Tables.{has_name};
 
 use crate::line::{Line, past};
 use crate::names::is_among;

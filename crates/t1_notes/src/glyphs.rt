@@ -2,8 +2,9 @@
 
 ghost use Rattle.std.specs.Prelude.{◌≡◌, ◌++◌, ◌≤◌, length, OnOk};
 ghost use Rattle.std.specs.List.{position_or_len};
-ghost use Rattle.t1_notes.specs.GlyphNames.{has_name};
-ghost use Rattle.t1_notes.specs.Notes.{is_end, is_bare, is_stray, stray_after, stray_note};
+ghost use Rattle.t1_notes.specs.Tables.{has_name};
+ghost use Rattle.t1_notes.specs.Notes.{is_end, is_bare, is_stray, stray_note};
+ghost use Rattle.t1_notes.specs.StraysByLine.{stray_after};
 ghost use Rattle.t1_notes.specs.Notes.{stray_notes, late_notes, notdef_notes, glyph_notes};
 
 use crate::bodies::push_where;

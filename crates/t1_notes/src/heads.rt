@@ -3,7 +3,8 @@
 ghost use Rattle.std.specs.Prelude.{◌≡◌, ◌++◌, ◌==◌, ◌≤◌, length, IfOk, OnOk};
 ghost use Rattle.std.specs.List.{list_any, position_or_len};
 ghost use Rattle.t1_frac.specs.Ascii.{open_brace};
-ghost use Rattle.t1_notes.specs.Heads.{after_brace, has_open, goes_on, head_of, entry_open_after};
+ghost use Rattle.t1_notes.specs.Heads.{after_brace, has_open, goes_on, head_of};
+ghost use Rattle.t1_notes.specs.HeadsByLine.{entry_open_after};
 ghost use Rattle.t1_notes.specs.Heads.{heads};
 
 use crate::line::Line;

@@ -3,7 +3,8 @@
 ghost use Rattle.std.specs.Prelude.{◌≡◌, ◌||◌, ℕ, List, option_map, IfOk, OnOk};
 ghost use Rattle.std.specs.Str.{bytes_eq};
 ghost use Rattle.t1_text.specs.Tokens.{is_token};
-ghost use Rattle.t1_notes.specs.GlyphNames.{opened_name, has_glyph, has_name};
+ghost use Rattle.t1_notes.specs.GlyphNames.{opened_name, has_glyph};
+ghost use Rattle.t1_notes.specs.Tables.{has_name};
 
 use crate::line::Line;
 use indexmap::IndexSet;

@@ -2,7 +2,8 @@
 
 ghost use Rattle.std.specs.Prelude.{◌≡◌, ◌++◌, IfOk, OnOk};
 ghost use Rattle.t1_notes.specs.declared.sections.Section.TheVariants.{Glyphs};
-ghost use Rattle.t1_notes.specs.GlyphNames.{has_glyph, has_name};
+ghost use Rattle.t1_notes.specs.GlyphNames.{has_glyph};
+ghost use Rattle.t1_notes.specs.Tables.{has_name};
 ghost use Rattle.t1_notes.specs.BodyWords.{body_notes};
 ghost use Rattle.t1_notes.specs.Heads.{heads};
 ghost use Rattle.t1_notes.specs.LineSections.{is_section};

@@ -16,7 +16,8 @@ use Rattle.t1_run.specs.Run.{FontBodies, Drawing, NumberedRun, font, own, own_of
 use Rattle.t1_run.specs.Run as keys
 use Rattle.t1_font.specs.Bodies.{SameBodies}
 use Rattle.t1_refusal.specs.declared.met.FailedRun.{FailedRun}
-use Rattle.t1_refusal.specs.Met.{GlyphFailure, failed, met_in_parts, met_within, parts_of, seen_of}
+use Rattle.t1_refusal.specs.Met.{GlyphFailure, failed, met_in_parts, met_within, parts_of}
+use Rattle.t1_refusal.specs.Bodies.{seen_of}
 
 -- ---- a glyph itself
 

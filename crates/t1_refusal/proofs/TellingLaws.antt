@@ -16,8 +16,9 @@ use Rattle.t1_font.specs.Bodies.{SameBodies, bodies, bodies_check}
 use Rattle.t1_font.specs.MeasuredGlyphs.{MeasuredFont}
 use Rattle.t1_font.specs.SourceChecks.{measured_source, source_check}
 use Rattle.t1_refusal.specs.declared.met.FailedRun.{FailedRun}
-use Rattle.t1_refusal.specs.Met.{met_within, seen_of}
-use Rattle.t1_refusal.specs.Telling.{fault_lines, fault_of, glyph_lines, is_of_word, lines_of, met_lines, place_lines, refusal_text, run_lines, word_lines, HasFaultyBody}
+use Rattle.t1_refusal.specs.Met.{met_within}
+use Rattle.t1_refusal.specs.Bodies.{seen_of, HasFaultyBody}
+use Rattle.t1_refusal.specs.Telling.{fault_lines, fault_of, glyph_lines, is_of_word, lines_of, met_lines, place_lines, refusal_text, run_lines, word_lines}
 use Rattle.t1_refusal.proofs.MetLaws.{met_same}
 
 pub fault_of_passed : (s : SourceParts) (font : MeasuredFont) → measured_source s ≡ Ok font → ◌≡◌ {A = Option Fault} None (fault_of (source_check s))

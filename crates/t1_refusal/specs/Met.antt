@@ -5,17 +5,11 @@ use Rattle.t1_frac.specs.declared.fault.Code.{Code}
 use Rattle.t1_run.specs.declared.outline.Composite.{Composite}
 use Rattle.t1_run.specs.Run.{FontBodies, Drawing, own}
 use Rattle.t1_chain.specs.Failing.{Failure, failure_in}
-use Rattle.t1_chain.specs.Machine.{seen}
-use Rattle.t1_refusal.specs.declared.met.FailedRun.{FailedRun}
 
 -- profile, refusals: a glyph whose own run fails, and where it fails
 pub record GlyphFailure : Type 0 where
   pub glyph : List ℕ
   pub failure : Failure
-
--- word, refusals: the same, as the code holds it
-abbrev pub seen_of : FailedRun → GlyphFailure
-seen_of f = record { glyph = f.glyph; failure = seen f.failure }
 
 -- profile, refusals: where the own run of a glyph of a font fails
 abbrev pub failed : FontBodies → List ℕ → Option GlyphFailure

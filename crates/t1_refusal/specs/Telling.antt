@@ -1,5 +1,5 @@
 -- What is told of a source that is refused.
-use Rattle.std.specs.Prelude.{◌≡◌, ℕ, ◌+◌, ◌-◌, Bool, true, false, is_ok, if◌then◌else◌, List, [], ◌∷◌, ◌++◌, length, flat_map, Option, Some, None, option_map, Result, Ok, Err, codes, decimal}
+use Rattle.std.specs.Prelude.{ℕ, ◌+◌, ◌-◌, Bool, true, false, is_ok, if◌then◌else◌, List, ◌∷◌, ◌++◌, length, flat_map, Option, Some, None, option_map, Result, Ok, Err, codes, decimal}
 use Rattle.std.specs.List.{slice_get}
 use Rattle.t1_frac.specs.Ascii.{line_feed, space}
 use Rattle.t1_frac.specs.declared.fault.Code.{Code}
@@ -12,8 +12,7 @@ use Rattle.t1_parts.specs.SourceParts.{SourceParts}
 use Rattle.t1_code.specs.Words.{command_of_word}
 use Rattle.t1_commands.specs.AnswerTexts.{fault_text}
 use Rattle.t1_chain.specs.declared.failure.Call.{Call}
-use Rattle.t1_run.specs.Run.{FontBodies}
-use Rattle.t1_font.specs.Bodies.{bodies, bodies_check, SameBodies}
+use Rattle.t1_font.specs.Bodies.{bodies, bodies_check}
 use Rattle.t1_font.specs.SourceChecks.{source_check}
 use Rattle.t1_refusal.specs.Entries.{glyph_named, place_words, subr_of, words_of}
 use Rattle.t1_refusal.specs.Met.{GlyphFailure, met_within}
@@ -72,14 +71,6 @@ abbrev pub run_lines : List Item → Result (Unit {0}) Fault → Option GlyphFai
 run_lines items (Err fault) met = []
 run_lines items (Ok sound) None = []
 run_lines items (Ok sound) (Some met) = met_lines items met
-
--- word, refusals: a font with the bodies of these items, which have no fault
-abbrev pub AreBodiesOf : FontBodies → List Item → Type 0
-AreBodiesOf m items = (bodies_check items ≡ Ok tt) × SameBodies m (bodies items)
-
--- word, refusals: some body has a fault
-abbrev pub HasFaultyBody : List Item → Type 0
-HasFaultyBody items = (fault : Fault) × (bodies_check items ≡ Err fault)
 
 -- profile, refusals: the same, of the glyph of this name and the parts that it stands on, which nest four deep
 unfoldable pub glyph_lines : List Item → List ℕ → List ℕ

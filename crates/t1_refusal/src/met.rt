@@ -1,7 +1,8 @@
 //! The glyph whose own run fails, among a glyph and the parts that it stands on.
 ghost use Rattle.std.specs.Prelude.{◌≡◌, option_map, IfOk};
 ghost use Rattle.t1_run.specs.Run.{font, own};
-ghost use Rattle.t1_refusal.specs.Met.{failed, met_within, parts_of, seen_of};
+ghost use Rattle.t1_refusal.specs.Met.{failed, met_within, parts_of};
+ghost use Rattle.t1_refusal.specs.Bodies.{seen_of};
 
 use std::alloc::{AllocError, Global};
 use t1_chain::{Failure, failure_of};

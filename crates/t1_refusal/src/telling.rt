@@ -3,8 +3,8 @@ ghost use Rattle.std.specs.Prelude.{◌≡◌, ◌++◌, IfOk, OnOk};
 ghost use Rattle.t1_run.specs.Run.{font};
 ghost use Rattle.t1_font.specs.SourceChecks.{source_check};
 ghost use Rattle.t1_refusal.specs.Telling.{fault_lines, fault_of, glyph_lines, is_of_word};
-ghost use Rattle.t1_refusal.specs.Telling.{place_lines, refusal_text, word_lines, AreBodiesOf};
-ghost use Rattle.t1_refusal.specs.Telling.{HasFaultyBody};
+ghost use Rattle.t1_refusal.specs.Telling.{place_lines, refusal_text, word_lines};
+ghost use Rattle.t1_refusal.specs.Bodies.{AreBodiesOf, HasFaultyBody};
 
 use crate::entries::place_words;
 use crate::met::met_within;

@@ -23,7 +23,8 @@ use Rattle.t1_cache.specs.Bodies.{glyph_body, record_bodies}
 use Rattle.t1_cache.specs.Changed.{SetsBody}
 use Rattle.t1_cache.specs.Joins.{AreLeaves}
 use Rattle.t1_cache.specs.Laws.{AreDistinct}
-use Rattle.t1_cache.specs.Renewed.{kept, kept_of}
+use Rattle.t1_cache.specs.Renewed.{kept}
+use Rattle.t1_cache.specs.Recorded.{kept_of}
 use Rattle.t1_cache.specs.Room.{MayJoin}
 use Rattle.t1_cache.specs.Tables.{AreTables}
 use Rattle.t1_cache.specs.Users.{has_name, has_pair, lists, rest_of, users_at, wanted, HasUserRoom, Pairs}

@@ -21,7 +21,7 @@ use Rattle.t1_cache.specs.declared.records.Named.{Named}
 use Rattle.t1_cache.specs.declared.records.Records.{Records}
 use Rattle.t1_cache.specs.Bodies.{record_bodies}
 use Rattle.t1_cache.specs.Edited.{IsEditedAt}
-use Rattle.t1_cache.specs.Users.{key_of}
+use Rattle.t1_cache.specs.EditKeys.{key_of}
 use Rattle.t1_font.proofs.Keys.{key-itself, key-same}
 use Rattle.t1_cache.proofs.Distinct.{names_distinct}
 use Rattle.t1_cache.specs.Laws.{AreDistinct}

@@ -20,10 +20,12 @@ use Rattle.t1_cache.specs.declared.records.Named.TheVariants as named
 use Rattle.t1_cache.specs.declared.records.Records.{Records}
 use Rattle.t1_cache.specs.declared.records.Rerun.{Rerun}
 use Rattle.t1_cache.specs.Bodies.{record_bodies}
-use Rattle.t1_cache.specs.Renewal.{IsOneOf, kept_by}
-use Rattle.t1_cache.specs.Renewed.{Kept, kept, kept_of, rerun_of, reruns_by_name, with_rerun, with_reruns}
+use Rattle.t1_cache.specs.Renewal.{kept_by}
+use Rattle.t1_cache.specs.Recorded.{IsOneOf, Kept, kept_of}
+use Rattle.t1_cache.specs.Renewed.{kept, rerun_of, reruns_by_name, with_rerun, with_reruns}
 use Rattle.t1_cache.specs.Room.{MayJoin}
-use Rattle.t1_cache.specs.Users.{among, has_pair, key_of, lists, rest_of, users_at, wanted, HasUserRoom}
+use Rattle.t1_cache.specs.Users.{among, has_pair, lists, rest_of, users_at, wanted, HasUserRoom}
+use Rattle.t1_cache.specs.EditKeys.{key_of}
 use Rattle.t1_font.proofs.Keys.{key-itself, key-same, at-same, same-at}
 use Rattle.t1_cache.proofs.Changing.{rest_same}
 use Rattle.t1_cache.proofs.Judging.{unnamed}

@@ -32,13 +32,13 @@ use Rattle.t1_font.proofs.Measuring.{keeps-own, names-there, KeepsOwn, outline-i
 use Rattle.t1_cache.specs.declared.records.Records.{Records}
 use Rattle.t1_cache.specs.Bodies.{record_bodies}
 use Rattle.t1_cache.specs.Laws.{fault_check, AreDistinct}
-use Rattle.t1_cache.specs.Renewal.{IsFromScratch}
-use Rattle.t1_cache.specs.Renewed.{Kept, kept_of}
+use Rattle.t1_cache.specs.Recorded.{IsFromScratch, Kept, kept_of}
 use Rattle.t1_cache.specs.Tables.{AreTables}
 use Rattle.t1_cache.proofs.Distinct.{names_distinct}
 use Rattle.t1_cache.proofs.Renewing.{shown-all}
 use Rattle.t1_cache.proofs.Lists.{all-weaken, all-at}
-use Rattle.t1_rerun.specs.Opened.{measured_names, opening_runs, runs_where, AreMeasured, IsRecorded, IsRunAfter}
+use Rattle.t1_rerun.specs.Opened.{measured_names, opening_runs, runs_where, AreMeasured, IsRecorded}
+use Rattle.t1_rerun.specs.RunNumbers.{IsRunAfter}
 use Rattle.t1_rerun.specs.Renewals.{HasRun}
 use Rattle.t1_rerun.specs.Right.{IsRight}
 use Rattle.t1_rerun.proofs.Steps.{same-twice}

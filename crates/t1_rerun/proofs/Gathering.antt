@@ -35,8 +35,9 @@ use Rattle.t1_cache.specs.declared.records.Records.{Records}
 use Rattle.t1_cache.specs.Edited.{IsEditedAt, stale}
 use Rattle.t1_cache.specs.Kept.{without_serial, shown_from}
 use Rattle.t1_cache.specs.Laws.{fault_check}
-use Rattle.t1_cache.specs.Renewal.{IsFromScratch, kept_by}
-use Rattle.t1_cache.specs.Renewed.{kept_of, recorded_run}
+use Rattle.t1_cache.specs.Renewal.{kept_by}
+use Rattle.t1_cache.specs.Recorded.{IsFromScratch, kept_of}
+use Rattle.t1_cache.specs.Renewed.{recorded_run}
 use Rattle.t1_cache.proofs.Judging.{first_fault_stale}
 use Rattle.t1_cache.proofs.Renewing.{glyphs-of}
 use Rattle.t1_rerun.specs.Newest.{newest_among}

@@ -10,8 +10,10 @@ use Rattle.t1_run.specs.Run.{Key, Subr, Glyph, body_at, key_eq}
 use Rattle.t1_run.specs.Touched.{is_key_of}
 use Rattle.t1_cache.specs.declared.records.Records.{Records}
 use Rattle.t1_cache.specs.Bodies.{record_bodies}
-use Rattle.t1_cache.specs.Renewed.{Kept, kept, kept_of}
-use Rattle.t1_cache.specs.Users.{has_name, is_key_among, key_of, users_at}
+use Rattle.t1_cache.specs.Renewed.{kept}
+use Rattle.t1_cache.specs.Recorded.{Kept, kept_of}
+use Rattle.t1_cache.specs.Users.{has_name, is_key_among, users_at}
+use Rattle.t1_cache.specs.EditKeys.{key_of}
 use Rattle.t1_cache.proofs.Filtering.{filter-all, filter-both, filter-same}
 use Rattle.t1_font.proofs.Lookups.{bytes_tell, bytes-turned}
 use Rattle.t1_font.proofs.Keys.{glyph-key}

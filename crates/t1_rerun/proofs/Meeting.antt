@@ -22,7 +22,8 @@ use Rattle.t1_font.proofs.Measuring.{own-none}
 use Rattle.t1_cache.specs.declared.records.Records.{Records}
 use Rattle.t1_cache.specs.Edited.{IsEditedAt, is_stale, stale}
 use Rattle.t1_cache.specs.Kept.{without_serial, shown_from}
-use Rattle.t1_cache.specs.Renewed.{kept_of, recorded_run}
+use Rattle.t1_cache.specs.Renewed.{recorded_run}
+use Rattle.t1_cache.specs.Recorded.{kept_of}
 use Rattle.t1_cache.proofs.Drawing.{all_draw}
 use Rattle.t1_cache.proofs.Newest.{found as at-glyph, newest_drawn, not-key}
 use Rattle.t1_cache.proofs.Recorded.{runs_recorded}

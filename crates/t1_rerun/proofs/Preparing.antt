@@ -22,8 +22,10 @@ use Rattle.t1_cache.specs.declared.records.Rerun.{Rerun}
 use Rattle.t1_cache.specs.Bodies.{glyph_body, record_bodies, subr_body}
 use Rattle.t1_cache.specs.Changed.{AreSameRecords}
 use Rattle.t1_cache.specs.Kept.{KeepsAll}
-use Rattle.t1_cache.specs.Renewed.{kept_of, rerun_of, reruns_by_name}
-use Rattle.t1_cache.specs.Users.{among, glyph_users, key_of, subr_users, users_at}
+use Rattle.t1_cache.specs.Renewed.{rerun_of, reruns_by_name}
+use Rattle.t1_cache.specs.Recorded.{kept_of}
+use Rattle.t1_cache.specs.Users.{among, glyph_users, subr_users, users_at}
+use Rattle.t1_cache.specs.EditKeys.{key_of}
 use Rattle.t1_rerun.specs.declared.entry_change.EntryChange.{EntryChange}
 use Rattle.t1_rerun.specs.declared.settling.steps.Step.{Step}
 use Rattle.t1_rerun.specs.declared.settling.steps.Step.TheVariants as steps

@@ -22,9 +22,11 @@ use Rattle.t1_cache.specs.declared.records.Named.{Named}
 use Rattle.t1_cache.specs.declared.records.Records.{Records}
 use Rattle.t1_cache.specs.declared.records.Rerun.{Rerun}
 use Rattle.t1_cache.specs.Edited.{stale}
-use Rattle.t1_cache.specs.Renewal.{IsFromScratch, kept_by}
+use Rattle.t1_cache.specs.Renewal.{kept_by}
+use Rattle.t1_cache.specs.Recorded.{IsFromScratch}
 use Rattle.t1_cache.specs.Renewed.{recorded_run}
-use Rattle.t1_cache.specs.Users.{has_name, has_pair, key_of}
+use Rattle.t1_cache.specs.Users.{has_name, has_pair}
+use Rattle.t1_cache.specs.EditKeys.{key_of}
 use Rattle.t1_rerun.specs.declared.renewal.Renewal.{Renewal}
 use Rattle.t1_rerun.specs.Newest.{newest_among}
 use Rattle.t1_rerun.specs.Renewals.{rerun_names, IsLater, IsRenewal, IsMeasuredRerun}

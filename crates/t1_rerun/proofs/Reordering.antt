@@ -36,7 +36,8 @@ use Rattle.t1_cache.specs.declared.records.Rerun.{Rerun}
 use Rattle.t1_cache.specs.Edited.{stale}
 use Rattle.t1_cache.specs.Laws.{AreDistinct}
 use Rattle.t1_cache.specs.Renewed.{recorded_run}
-use Rattle.t1_cache.specs.Users.{has_name, has_pair, key_of}
+use Rattle.t1_cache.specs.Users.{has_name, has_pair}
+use Rattle.t1_cache.specs.EditKeys.{key_of}
 use Rattle.t1_cache.proofs.Counting.{found_count}
 use Rattle.t1_cache.proofs.Lists.{all-weaken, all-at}
 use Rattle.t1_font.proofs.Lookups.{bytes_tell}

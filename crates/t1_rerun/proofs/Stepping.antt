@@ -19,9 +19,11 @@ use Rattle.t1_cache.specs.declared.records.Named.{Named}
 use Rattle.t1_cache.specs.declared.records.Named.TheVariants as named
 use Rattle.t1_cache.specs.declared.records.Records.{Records}
 use Rattle.t1_cache.specs.Bodies.{record_bodies}
-use Rattle.t1_cache.specs.Renewed.{Kept, kept}
+use Rattle.t1_cache.specs.Renewed.{kept}
+use Rattle.t1_cache.specs.Recorded.{Kept}
 use Rattle.t1_cache.specs.Room.{MayJoin}
-use Rattle.t1_cache.specs.Users.{among, has_name, key_of, users_of, UserSet}
+use Rattle.t1_cache.specs.Users.{among, has_name, users_of, UserSet}
+use Rattle.t1_cache.specs.EditKeys.{key_of}
 use Rattle.t1_font.proofs.Keys.{key-same, glyph-key}
 use Rattle.t1_cache.proofs.Lists.{all-weaken, all-last}
 use Rattle.t1_cache.proofs.Filtering.{filter-all, filter-both}

@@ -13,7 +13,8 @@ use Rattle.t1_font.specs.Runs.{NamedRun as KeptRun, run_kept, counted}
 use Rattle.t1_cache.specs.declared.records.Rerun.{Rerun}
 use Rattle.t1_cache.specs.Edited.{stale}
 use Rattle.t1_cache.specs.Joins.{AreLeaves}
-use Rattle.t1_cache.specs.Renewal.{kept_by, IsFromScratch}
+use Rattle.t1_cache.specs.Renewal.{kept_by}
+use Rattle.t1_cache.specs.Recorded.{IsFromScratch}
 use Rattle.t1_run.specs.Touched.{AreStale}
 use Rattle.t1_rerun.specs.declared.renewal.Renewal.{Renewal}
 

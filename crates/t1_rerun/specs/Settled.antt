@@ -16,10 +16,12 @@ use Rattle.t1_cache.specs.declared.records.Rerun.{Rerun}
 use Rattle.t1_cache.specs.Bodies.{record_bodies}
 use Rattle.t1_cache.specs.Edited.{is_stale, IsEditedAt}
 use Rattle.t1_cache.specs.Laws.{AreDistinct}
-use Rattle.t1_cache.specs.Renewal.{IsOneOf, kept_by}
-use Rattle.t1_cache.specs.Renewed.{Kept, kept_of, reruns_by_name}
+use Rattle.t1_cache.specs.Renewal.{kept_by}
+use Rattle.t1_cache.specs.Recorded.{IsOneOf, Kept, kept_of}
+use Rattle.t1_cache.specs.Renewed.{reruns_by_name}
 use Rattle.t1_cache.specs.Room.{MayJoin}
-use Rattle.t1_cache.specs.Users.{key_of, lists, users_at, wanted}
+use Rattle.t1_cache.specs.Users.{lists, users_at, wanted}
+use Rattle.t1_cache.specs.EditKeys.{key_of}
 use Rattle.t1_rerun.specs.declared.renewal.Renewal.{Renewal}
 use Rattle.t1_rerun.specs.declared.entry_change.EntryChange.{EntryChange}
 use Rattle.t1_rerun.specs.declared.settling.Ready.{Ready}

@@ -13,11 +13,12 @@ ghost use Rattle.t1_font.specs.Runs.{Counts};
 ghost use Rattle.t1_font.specs.SourceChecks.{source_check};
 ghost use Rattle.t1_cache.specs.Bodies.{record_bodies};
 ghost use Rattle.t1_cache.specs.Laws.{AreDistinct};
-ghost use Rattle.t1_cache.specs.Renewed.{kept_of};
+ghost use Rattle.t1_cache.specs.Recorded.{kept_of};
 ghost use Rattle.t1_cache.specs.Tables.{AreTables};
 ghost use Rattle.t1_cache.specs.Users.{lists};
 ghost use Rattle.t1_rerun.specs.Opened.{measured_names, opening_runs, AreMeasured, AreUnused};
-ghost use Rattle.t1_rerun.specs.Opened.{IsRecorded, IsRunAfter};
+ghost use Rattle.t1_rerun.specs.Opened.{IsRecorded};
+ghost use Rattle.t1_rerun.specs.RunNumbers.{IsRunAfter};
 ghost use Rattle.t1_rerun.specs.Renewals.{HasRun};
 ghost use Rattle.t1_rerun.specs.Right.{IsRight};
 

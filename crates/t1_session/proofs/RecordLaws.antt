@@ -4,7 +4,7 @@ use Rattle.t1_parts.specs.SourceParts.{SourceParts}
 use Rattle.t1_font.specs.Bodies.{bodies}
 use Rattle.t1_font.specs.Glyphs.{glyph_names}
 use Rattle.t1_cache.specs.declared.records.Records.{Records}
-use Rattle.t1_cache.specs.Renewed.{kept_of}
+use Rattle.t1_cache.specs.Recorded.{kept_of}
 use Rattle.t1_cache.proofs.Renewing.{glyphs-of, names_kept, scratch-all}
 use Rattle.t1_rerun.specs.Right.{IsRight}
 use Rattle.t1_held.proofs.HeldLaws.{right_checked}

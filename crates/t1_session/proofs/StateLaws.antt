@@ -37,7 +37,8 @@ use Rattle.t1_commands.specs.declared.answer.Answer.TheVariants.{Data}
 use Rattle.t1_commands.specs.declared.print.Print.TheVariants as prints
 use Rattle.std.specs.declared.alloc.Global.{Global}
 use Rattle.std.specs.declared.vec.Vec.{Vec}
-use Rattle.t1_commands.specs.AnswerTexts.{answer_text, data_of}
+use Rattle.t1_commands.specs.AnswerTexts.{answer_text}
+use Rattle.t1_commands.specs.AnswerParts.{data_of}
 use Rattle.t1_session.specs.Files.{assembled, assembled_pfa}
 use Rattle.t1_session.specs.FromScratch.{asked, blocks_from_scratch, pfa_from_scratch, texts_of, from_scratch, pfb_from_scratch, metrics_from_scratch, metrics_line_from_scratch, outline_from_scratch, uses_from_scratch}
 use Rattle.t1_session.specs.Machine.{without_batch, file_answer, judged, printed}
@@ -47,7 +48,8 @@ use Rattle.t1_session.specs.Queries.{metrics_line}
 use Rattle.t1_held.specs.Batch.{Draft}
 use Rattle.t1_cache.specs.declared.records.GlyphRecord.{GlyphRecord}
 use Rattle.t1_cache.specs.Kept.{KeepsAll}
-use Rattle.t1_cache.specs.Renewed.{kept_of, record_of}
+use Rattle.t1_cache.specs.Renewed.{record_of}
+use Rattle.t1_cache.specs.Recorded.{kept_of}
 use Rattle.t1_session.specs.RecordedLines.{recorded_line}
 use Rattle.t1_session.specs.State.{SessionState}
 use Rattle.t1_session.proofs.MetricsLineLaws.{line_recorded}

@@ -8,6 +8,7 @@ pub mod KeptRefusals
 pub mod LiftedErrors
 pub mod LineEnds
 pub mod Machine
+pub mod OpenBatch
 pub mod Outcomes
 pub mod Queries
 pub mod Readable

@@ -5,8 +5,7 @@ use Rattle.t1_parts.specs.SourceParts.{SourceParts}
 use Rattle.t1_font.specs.Bodies.{bodies}
 use Rattle.t1_font.specs.Glyphs.{glyph_names}
 use Rattle.t1_font.specs.SourceChecks.{source_check}
-use Rattle.t1_cache.specs.Renewal.{IsFromScratch}
-use Rattle.t1_cache.specs.Renewed.{Kept}
+use Rattle.t1_cache.specs.Recorded.{IsFromScratch, Kept}
 
 -- profile: the source has no fault, and there is a record of each of its glyphs, in the order of their entries, from scratch
 pub record AreFromScratch (s : SourceParts) (records : List Kept) : Type 0 where

@@ -7,7 +7,7 @@ ghost use Rattle.t1_source.specs.Changes.{changed};
 ghost use Rattle.t1_source.specs.Editing.{edited};
 ghost use Rattle.t1_font.specs.SourceChecks.{source_check};
 ghost use Rattle.t1_refusal.specs.Telling.{fault_lines, fault_of, refusal_text};
-ghost use Rattle.t1_cache.specs.Renewed.{kept_of};
+ghost use Rattle.t1_cache.specs.Recorded.{kept_of};
 ghost use Rattle.t1_held.specs.Edits.{IsPreparedEdit};
 ghost use Rattle.t1_held.specs.Held.{IsHeld};
 ghost use Rattle.t1_session.specs.Outcomes.{refused_source};

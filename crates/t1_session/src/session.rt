@@ -24,9 +24,10 @@ pub struct Session<'a> {
 
 impl<'a> Model for Session<'a> {
     ghost use Rattle.std.specs.Prelude.{map};
-    ghost use Rattle.t1_cache.specs.Renewed.{kept_of};
+    ghost use Rattle.t1_cache.specs.Recorded.{kept_of};
     ghost use Rattle.t1_held.specs.Held.{IsHeld};
-    ghost use Rattle.t1_session.specs.State.{IsOpenOn, SessionView};
+    ghost use Rattle.t1_session.specs.State.{SessionView};
+    ghost use Rattle.t1_session.specs.OpenBatch.{IsOpenOn};
     ghost use Rattle.t1_session.specs.Users.{user_table};
 
     ghost Value = { SessionView };
@@ -53,8 +54,9 @@ ghost use Rattle.t1_code.specs.Parts.{Prints};
 ghost use Rattle.t1_font.specs.Glyphs.{glyph_names};
 ghost use Rattle.t1_font.specs.Runs.{counted};
 ghost use Rattle.t1_font.specs.SourceChecks.{measured_source, source_check};
-ghost use Rattle.t1_cache.specs.Edited.{named};
-ghost use Rattle.t1_held.specs.Batch.{entry_edit, keys, IsEditedBy};
+ghost use Rattle.t1_cache.specs.EditKeys.{named};
+ghost use Rattle.t1_held.specs.Batch.{entry_edit, keys};
+ghost use Rattle.t1_held.specs.Drafting.{IsEditedBy};
 ghost use Rattle.t1_commands.specs.declared.command.Command.TheVariants as commands;
 ghost use Rattle.t1_commands.specs.declared.print.Print.TheVariants as prints;
 ghost use Rattle.t1_session.specs.FromScratch.{blocks_from_scratch, encoding_from_scratch};

@@ -5,7 +5,6 @@ use Rattle.t1_frac.specs.declared.fault.Refusal.TheVariants as refusals
 use Rattle.t1_session.specs.declared.error.ServeError.{ServeError}
 use Rattle.t1_session.specs.declared.error.ServeError.TheVariants as errors
 use Rattle.t1_frac.specs.declared.fault.Fault.{Fault}
-use Rattle.t1_session.specs.LiftedErrors.{reported_by_refusal}
 use Rattle.t1_session.specs.Files.{verdict}
 use Rattle.t1_disassemble.specs.declared.fault.FontFault.{FontFault}
 use Rattle.t1edit.specs.Sources.{AnswersAs, TellsFontFault}
@@ -18,11 +17,6 @@ judged_by (Err errors.Write) = Ok tt
 judged_by (Err (errors.Load fault)) = Err (refusals.Fault fault)
 judged_by (Err errors.Read) = Err refusals.Memory
 judged_by (Err errors.Memory) = Err refusals.Memory
-
--- word: what judging answers, as a call over whole files does
-abbrev pub reported : {T : Type 0} → Result T Refusal → Result T ServeError
-reported (Ok done) = Ok done
-reported (Err refused) = Err (reported_by_refusal refused)
 
 -- profile: what is judged passes where the verdict is so, and is refused by its fault, unless memory ran out
 abbrev pub Judges : {T : Type 0} → Result (Unit {0}) Fault → Result T ServeError → Type 0

@@ -9,7 +9,7 @@ use Rattle.t1edit.specs.declared.output.Destination.TheVariants as destinations
 use Rattle.t1edit.specs.declared.output.Ended.{Ended}
 use Rattle.t1edit.specs.declared.output.Ended.TheVariants as endings
 use Rattle.t1edit.specs.declared.output.Output.{Output}
-use Rattle.t1edit.specs.Status.{stop_of_serving}
+use Rattle.t1edit.specs.Stopping.{stop_of_serving}
 use Rattle.t1edit.specs.declared.status.Stop.{Stop}
 use Rattle.t1edit.specs.declared.unopened.Unopened.{Unopened}
 use Rattle.t1edit.specs.declared.unopened.Unopened.TheVariants as unopened

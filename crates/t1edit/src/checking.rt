@@ -2,7 +2,8 @@
 ghost use Rattle.std.specs.Prelude.{◌≡◌};
 ghost use Rattle.t1_frac.specs.Outcome.{Gives};
 ghost use Rattle.t1_session.specs.Files.{verdict};
-ghost use Rattle.t1edit.specs.Checking.{JudgesFile, judged_by, reported};
+ghost use Rattle.t1edit.specs.Checking.{JudgesFile, judged_by};
+ghost use Rattle.t1edit.specs.Stopping.{reported};
 ghost use Rattle.t1edit.specs.Sources.{source_in as source_in_file};
 
 use crate::file_error::{FileError, served};

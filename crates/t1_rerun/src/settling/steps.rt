@@ -3,8 +3,9 @@ ghost use Rattle.std.specs.Prelude.{◌≡◌, ◌<◌, ◌≤◌, None, filter,
 ghost use Rattle.indexmap.specs.IndexMap.{spare};
 ghost use Rattle.t1_run.specs.Touched.{is_key_of};
 ghost use Rattle.t1_cache.specs.Changed.{PutsBody, SetsBody, SetsUsers, UsesUp};
-ghost use Rattle.t1_cache.specs.Renewed.{kept_of};
-ghost use Rattle.t1_cache.specs.Users.{key_of, users_at};
+ghost use Rattle.t1_cache.specs.Recorded.{kept_of};
+ghost use Rattle.t1_cache.specs.Users.{users_at};
+ghost use Rattle.t1_cache.specs.EditKeys.{key_of};
 ghost use Rattle.t1_run.specs.Run.{Key};
 ghost use Rattle.t1_rerun.specs.Steps.{after, after_all, seen, AreTakenOut};
 

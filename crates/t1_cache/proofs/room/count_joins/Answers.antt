@@ -2,7 +2,8 @@ use Rattle.std.proofs.Common.{Vec, Global, ◌∙◌, ◌+◌, ap, arith, cond, 
 use Rattle.std.proofs.lemmas.List.{take_all}
 use Rattle.t1_cache.specs.declared.records.Named.{Named}
 use Rattle.t1_run.specs.Run.{key_eq}
-use Rattle.t1_cache.specs.Users.{key_of, wanted}
+use Rattle.t1_cache.specs.Users.{wanted}
+use Rattle.t1_cache.specs.EditKeys.{key_of}
 use Rattle.t1_cache.proofs.Rooming.{wanted-more}
 use Rattle.t1_cache.proofs.room.count_joins.Goals as goal
 

@@ -3,7 +3,8 @@ use Rattle.std.proofs.lemmas.List.{take_all}
 use Rattle.t1_run.specs.Run.{Key, key_eq}
 use Rattle.t1_cache.specs.declared.records.Named.{Named}
 use Rattle.t1_cache.specs.Room.{MayJoin}
-use Rattle.t1_cache.specs.Users.{key_of, users_at, wanted}
+use Rattle.t1_cache.specs.Users.{users_at, wanted}
+use Rattle.t1_cache.specs.EditKeys.{key_of}
 use Rattle.t1_cache.proofs.Rooming.{room-more, roomier-twice, wanted-more}
 use Rattle.t1_cache.proofs.room.make_room.Goals as goal
 

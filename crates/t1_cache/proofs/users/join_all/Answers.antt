@@ -1,7 +1,8 @@
 use Rattle.std.proofs.Common.{Vec, Global, ℕ, ◌≡◌, ◌+◌, cond, ap, sym, subst, ◌∙◌, arith}
 use Rattle.std.specs.Prelude.{◌||◌}
 use Rattle.t1_cache.specs.declared.records.Named.{Named}
-use Rattle.t1_cache.specs.Users.{has_pair, key_of, lists, users_at, wanted, HasUserRoom}
+use Rattle.t1_cache.specs.Users.{has_pair, lists, users_at, wanted, HasUserRoom}
+use Rattle.t1_cache.specs.EditKeys.{key_of}
 use Rattle.t1_font.proofs.Keys.{key-itself}
 use Rattle.t1_cache.proofs.Adding.{less-room, wanted-last, joined-last}
 use Rattle.t1_cache.proofs.users.join_all.Goals as goal

@@ -1,6 +1,7 @@
 use Rattle.std.proofs.Common.{◌≡◌, ◌<◌, ◌+◌, ◌^◌, ◌++◌, length, map}
 use Rattle.t1_text.specs.Lines.{lines}
-use Rattle.t1_faults.specs.Entries.{entry_of, entries_from}
+use Rattle.t1_faults.specs.Entries.{entries_from}
+use Rattle.t1_faults.specs.CodeForms.{entry_of}
 use Rattle.t1_faults.proofs.entry.entries_of.Given as goal
 
 -- the entries so far, and those of the items and lines that are left

@@ -2,7 +2,8 @@ use Rattle.std.proofs.Common.{◌≡◌, ◌∙◌, ◌+◌, ◌++◌, map, Some
 use Rattle.t1_text.specs.Lines.{lines}
 use Rattle.t1_parts.specs.Entries.{opened_body}
 use Rattle.t1_parts.specs.ItemRefs.{item_of}
-use Rattle.t1_faults.specs.Entries.{entry_of, entries_from, place_in}
+use Rattle.t1_faults.specs.Entries.{entries_from, place_in}
+use Rattle.t1_faults.specs.CodeForms.{entry_of}
 use Rattle.t1_faults.proofs.LoopLaws.{entry_on, opened_none, opened_rest, opened_size}
 use Rattle.t1_faults.proofs.PlacedLaws.{map_append}
 use Rattle.t1_faults.proofs.entry.push_entry.Goals as goal

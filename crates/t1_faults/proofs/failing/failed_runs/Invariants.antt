@@ -1,5 +1,5 @@
 use Rattle.std.proofs.Common.{◌≡◌, map, take}
-use Rattle.t1_faults.specs.Entries.{entry_of}
+use Rattle.t1_faults.specs.CodeForms.{entry_of}
 use Rattle.t1_faults.specs.GlyphRuns.{failures_of, seen_run}
 use Rattle.t1_faults.specs.Met.{failed_runs}
 use Rattle.t1_faults.proofs.failing.failed_runs.Given as goal

@@ -2,7 +2,7 @@ use Rattle.std.proofs.Common.{◌≡◌, ◌∙◌, ◌∷◌, [], List, sym, su
 use Rattle.std.specs.List.{All}
 use Rattle.t1_frac.specs.Words.{words}
 use Rattle.t1_faults.specs.declared.placed.PlacedWord.{PlacedWord}
-use Rattle.t1_faults.specs.Entries.{entry_of}
+use Rattle.t1_faults.specs.CodeForms.{entry_of}
 use Rattle.t1_faults.proofs.PlacedLaws.{opened_single}
 use Rattle.t1_faults.proofs.found.push_body_faults.Goals as goal
 

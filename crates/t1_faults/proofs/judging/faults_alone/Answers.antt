@@ -1,6 +1,6 @@
 use Rattle.std.proofs.Common.{map}
 use Rattle.t1_font.specs.Runs.{drawing_in}
-use Rattle.t1_faults.specs.Entries.{entry_of}
+use Rattle.t1_faults.specs.CodeForms.{entry_of}
 use Rattle.t1_faults.specs.GlyphRuns.{failures_of, kept_at, own_kept}
 use Rattle.t1_faults.specs.Met.{failed_runs}
 use Rattle.t1_faults.proofs.JudgingLaws.{found_by}

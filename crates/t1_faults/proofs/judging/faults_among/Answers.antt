@@ -5,7 +5,7 @@ use Rattle.t1_font.specs.Glyphs.{glyph_names}
 use Rattle.t1_font.specs.Runs.{drawing_in}
 use Rattle.t1_font.specs.ToRun.{font_to_run}
 use Rattle.t1_faults.specs.Composites.{with_composites}
-use Rattle.t1_faults.specs.Entries.{entry_of}
+use Rattle.t1_faults.specs.CodeForms.{entry_of}
 use Rattle.t1_faults.specs.Failing.{failures_in}
 use Rattle.t1_faults.specs.GlyphRuns.{failures_of}
 use Rattle.t1_faults.specs.Judging.{faults_by}

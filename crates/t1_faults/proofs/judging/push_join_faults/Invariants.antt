@@ -1,7 +1,7 @@
 use Rattle.std.proofs.Common.{◌≡◌, ◌++◌, map, take}
 use Rattle.std.specs.Prelude.{flat_map}
 use Rattle.t1_font.specs.Runs.{drawing_in}
-use Rattle.t1_faults.specs.Entries.{entry_of}
+use Rattle.t1_faults.specs.CodeForms.{entry_of}
 use Rattle.t1_faults.specs.Judging.{join_faults}
 use Rattle.t1_faults.proofs.judging.push_join_faults.Given as goal
 

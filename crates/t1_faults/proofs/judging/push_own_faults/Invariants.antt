@@ -1,6 +1,6 @@
 use Rattle.std.proofs.Common.{◌≡◌, ◌++◌, map, take}
 use Rattle.std.specs.Prelude.{flat_map}
-use Rattle.t1_faults.specs.Entries.{entry_of}
+use Rattle.t1_faults.specs.CodeForms.{entry_of}
 use Rattle.t1_faults.specs.GlyphRuns.{kept_at, own_kept}
 use Rattle.t1_faults.specs.Judging.{entry_faults}
 use Rattle.t1_faults.proofs.judging.push_own_faults.Given as goal

@@ -1,5 +1,5 @@
 use Rattle.std.proofs.Common.{◌∙◌, ◌++◌, ap, map}
-use Rattle.t1_faults.specs.Entries.{entry_of}
+use Rattle.t1_faults.specs.CodeForms.{entry_of}
 use Rattle.t1_faults.specs.Found.{in_entry}
 use Rattle.t1_faults.specs.GlyphRuns.{kept_at}
 use Rattle.t1_faults.proofs.KeptLaws.{words_pushed}

@@ -1,7 +1,7 @@
 use Rattle.std.proofs.Common.{◌≡◌, ◌++◌, map}
 use Rattle.std.specs.Prelude.{flat_map}
 use Rattle.std.specs.List.{range_with_len}
-use Rattle.t1_faults.specs.Entries.{entry_of}
+use Rattle.t1_faults.specs.CodeForms.{entry_of}
 use Rattle.t1_faults.specs.Found.{in_entry}
 use Rattle.t1_faults.specs.GlyphRuns.{kept_at}
 use Rattle.t1_faults.proofs.met_at_words.push_subr_faults.Given as goal

@@ -1,6 +1,7 @@
 use Rattle.std.proofs.Common.{◌≡◌, ◌+◌, false, length}
 use Rattle.t1_text.specs.Lines.{lines}
-use Rattle.t1_faults.specs.Openings.{first_opening, key_of}
+use Rattle.t1_faults.specs.Openings.{first_opening}
+use Rattle.t1_faults.specs.CodeForms.{key_of}
 use Rattle.t1_faults.proofs.opening.first_opening.Given as goal
 
 -- the first line from here on is the first of all

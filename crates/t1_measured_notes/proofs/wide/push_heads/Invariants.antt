@@ -1,6 +1,7 @@
 use Rattle.std.proofs.Common.{◌≡◌, ◌++◌, drop}
 use Rattle.t1_notes.specs.declared.note.NoteKind.TheVariants.{WideGlyph}
-use Rattle.t1_notes.specs.GlyphNames.{has_name, opened_name}
+use Rattle.t1_notes.specs.GlyphNames.{opened_name}
+use Rattle.t1_notes.specs.Tables.{has_name}
 use Rattle.t1_notes.specs.Notes.{noted}
 use Rattle.t1_measured_notes.specs.MeasuredNotes.{is_named}
 use Rattle.t1_measured_notes.proofs.wide.push_heads.Given as goal

@@ -1,5 +1,5 @@
 use Rattle.std.proofs.Common.{◌≡◌, ◌||◌, ℕ, List, drop}
-use Rattle.t1_notes.specs.GlyphNames.{has_name}
+use Rattle.t1_notes.specs.Tables.{has_name}
 use Rattle.t1_measured_notes.specs.MeasuredNotes.{is_wide}
 use Rattle.t1_measured_notes.proofs.wide.wide_names.Given as goal
 

@@ -1,6 +1,6 @@
 use Rattle.std.proofs.Common.{◌≡◌, ◌++◌, drop}
 use Rattle.t1_notes.specs.declared.note.NoteKind.TheVariants.{EncodedName}
-use Rattle.t1_notes.specs.GlyphNames.{has_name}
+use Rattle.t1_notes.specs.Tables.{has_name}
 use Rattle.t1_notes.specs.Notes.{is_lost, noted}
 use Rattle.t1_notes.proofs.encoding.push_encoding.Given as goal
 

@@ -1,6 +1,7 @@
 use Rattle.std.proofs.Common.{◌∙◌, ◌+◌, ◌||◌, suc, ap, sym, ◌∷◌, drop, drop-cons, add-one, drop_of_length-le}
 use Rattle.t1_text.specs.Tokens.{is_token}
-use Rattle.t1_notes.specs.GlyphNames.{has_name, opened_name}
+use Rattle.t1_notes.specs.GlyphNames.{opened_name}
+use Rattle.t1_notes.specs.Tables.{has_name}
 use Rattle.t1_notes.proofs.Naming.{names_kept, names_whole}
 use Rattle.t1_notes.proofs.names.glyph_names.Goals as goal
 

@@ -1,5 +1,6 @@
 use Rattle.std.proofs.Common.{◌≡◌, ◌||◌, ℕ, List, drop}
-use Rattle.t1_notes.specs.GlyphNames.{has_glyph, has_name}
+use Rattle.t1_notes.specs.GlyphNames.{has_glyph}
+use Rattle.t1_notes.specs.Tables.{has_name}
 use Rattle.t1_notes.proofs.names.glyph_names.Given as goal
 
 -- the names so far, and those of the lines that are left

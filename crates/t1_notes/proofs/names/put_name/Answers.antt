@@ -1,5 +1,5 @@
 use Rattle.std.proofs.Common.{◌∙◌, ap}
-use Rattle.t1_notes.specs.GlyphNames.{has_name}
+use Rattle.t1_notes.specs.Tables.{has_name}
 use Rattle.t1_notes.proofs.Naming.{name_put}
 use Rattle.t1_notes.proofs.names.put_name.Goals as goal
 

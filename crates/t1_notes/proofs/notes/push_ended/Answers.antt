@@ -1,6 +1,7 @@
 use Rattle.std.proofs.Common.{◌++◌, ◌∙◌, ap}
 use Rattle.std.proofs.lemmas.Result.{on_ok_weaker}
-use Rattle.t1_notes.specs.GlyphNames.{has_glyph, has_name}
+use Rattle.t1_notes.specs.GlyphNames.{has_glyph}
+use Rattle.t1_notes.specs.Tables.{has_name}
 use Rattle.t1_notes.proofs.Naming.{same_parts}
 use Rattle.t1_notes.proofs.notes.push_ended.Goals as goal
 

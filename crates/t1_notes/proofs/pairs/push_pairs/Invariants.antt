@@ -1,5 +1,5 @@
 use Rattle.std.proofs.Common.{◌≡◌, ◌++◌, drop}
-use Rattle.t1_notes.specs.GlyphNames.{has_name}
+use Rattle.t1_notes.specs.Tables.{has_name}
 use Rattle.t1_notes.specs.PairNotes.{lines_notes}
 use Rattle.t1_notes.proofs.pairs.push_pairs.Given as goal
 

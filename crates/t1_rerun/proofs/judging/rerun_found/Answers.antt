@@ -7,7 +7,8 @@ use Rattle.t1_cache.specs.Renewed.{recorded_run}
 use Rattle.std.proofs.lemmas.Result.{err_from_is_err_and}
 use Rattle.t1_run.specs.Run.{font}
 use Rattle.t1_font.specs.Bodies.{bodies}
-use Rattle.t1_cache.specs.Users.{has_name, key_of}
+use Rattle.t1_cache.specs.Users.{has_name}
+use Rattle.t1_cache.specs.EditKeys.{key_of}
 use Rattle.t1_cache.specs.Edited.{stale}
 use Rattle.std.specs.List.{AllByRecursion, list_any}
 use Rattle.t1_rerun.specs.Renewals.{HasRun, IsMeasuredRerun}

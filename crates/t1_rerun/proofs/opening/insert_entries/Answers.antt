@@ -5,7 +5,7 @@ use Rattle.t1_font.specs.Bodies.{glyph_body_kept, subr_body_kept}
 use Rattle.t1_font.proofs.Keys.{at-key}
 use Rattle.t1_cache.specs.declared.records.Records.{Records}
 use Rattle.t1_cache.specs.Bodies.{record_bodies, subr_body}
-use Rattle.t1_cache.specs.Renewed.{kept_of}
+use Rattle.t1_cache.specs.Recorded.{kept_of}
 use Rattle.t1_cache.specs.Users.{among, glyph_users, lists, subr_users}
 use Rattle.t1_rerun.proofs.opening.insert_entries.Goals as goal
 

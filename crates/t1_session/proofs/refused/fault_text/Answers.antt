@@ -1,6 +1,7 @@
 use Rattle.std.proofs.Common.{◌≡◌, ◌∙◌, subst, sym}
 use Rattle.std.specs.Prelude.{IfOk}
-use Rattle.t1_refusal.specs.Telling.{fault_lines, AreBodiesOf, HasFaultyBody}
+use Rattle.t1_refusal.specs.Telling.{fault_lines}
+use Rattle.t1_refusal.specs.Bodies.{AreBodiesOf, HasFaultyBody}
 use Rattle.t1_rerun.specs.Changing.{edited_font}
 use Rattle.t1_session.proofs.EditedBodyLaws.{faulty_body, same_bodies}
 use Rattle.t1_session.proofs.refused.fault_text.Goals as goal

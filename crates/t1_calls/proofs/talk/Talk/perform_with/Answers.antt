@@ -1,7 +1,8 @@
 use Rattle.std.proofs.Common.{◌∙◌, ℕ, List, subst}
 use Rattle.t1_frac.specs.Words.{words}
 use Rattle.t1_text.specs.Lines.{joined, lines}
-use Rattle.t1_commands.specs.Commands.{Makes, body_command}
+use Rattle.t1_commands.specs.Commands.{body_command}
+use Rattle.t1_commands.specs.MadeCommands.{Makes}
 use Rattle.t1_calls.specs.Talking.{Spoken, Step}
 use Rattle.t1_calls.proofs.PerformingLaws.{spoken_with}
 use Rattle.t1_calls.proofs.talk.Talk.perform_with.Goals as goal

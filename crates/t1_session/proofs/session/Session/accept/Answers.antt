@@ -1,5 +1,5 @@
 use Rattle.std.proofs.Common.{ap, map, rules, sym}
-use Rattle.t1_cache.specs.Renewed.{kept_of}
+use Rattle.t1_cache.specs.Recorded.{kept_of}
 use Rattle.t1_held.specs.Batch.{entry_edit, keys}
 use Rattle.t1_held.specs.declared.held.ReadyHeld.{ReadyHeld}
 use Rattle.t1_session.proofs.RefusalLaws.{batch_faulty}

@@ -2,7 +2,7 @@ use Rattle.std.proofs.Common.{◌≡◌, Err, None, Ok, ap, map, rules, subst, s
 use Rattle.std.proofs.lemmas.Result.{err_from_is_err_and}
 use Rattle.t1_font.specs.Runs.{counted, Counts}
 use Rattle.t1_font.specs.SourceChecks.{source_check}
-use Rattle.t1_cache.specs.Renewed.{kept_of}
+use Rattle.t1_cache.specs.Recorded.{kept_of}
 use Rattle.t1_held.specs.declared.held.ReadyHeld.{ReadyHeld}
 use Rattle.t1_source.specs.declared.edit.Cause.{Cause}
 use Rattle.t1_source.specs.Changes.{changed, Serves}
