@@ -51,10 +51,10 @@ RerunsLaw =
     → KeepsAll new (with_reruns reruns before)
 
 -- word: the records after an edit, before any glyph is run again: a new glyph has some run and box, and is the last one
-abbrev pub kept_after : Edit → TracedRun → Option BBox → List Kept → List Kept
-kept_after (AddGlyph g body) run box kept = kept ++ record { name = g; run = run; box = box } ∷ []
-kept_after (RemoveGlyph g) run box kept = filter (λ k. not (bytes_eq g k.name)) kept
-kept_after _ run box kept = kept
+abbrev pub records_after : Edit → TracedRun → Option BBox → List Kept → List Kept
+records_after (AddGlyph g body) run box kept = kept ++ record { name = g; run = run; box = box } ∷ []
+records_after (RemoveGlyph g) run box kept = filter (λ k. not (bytes_eq g k.name)) kept
+records_after _ run box kept = kept
 
 -- word: records stand in the order of the edited source, and each that is fresh is one of those kept
 pub record AreInPlace (keys : List Key) (old new : SourceParts) (kept before : List Kept) : Type 0 where
@@ -65,11 +65,11 @@ pub record AreInPlace (keys : List Key) (old new : SourceParts) (kept before : L
 abbrev pub KeptAfterLaw : Type 0
 KeptAfterLaw =
     (s : SourceParts) (k : List Pair) (edit : Edit) (made : SourceParts) (ps : List Pair) → IsWellFormed s → edited s k edit ≡ Ok (made, ps)
-    → (kept : List Kept) → KeepsAll s kept → (run : TracedRun) (box : Option BBox) → AreInPlace (named edit) s made kept (kept_after edit run box kept)
+    → (kept : List Kept) → KeepsAll s kept → (run : TracedRun) (box : Option BBox) → AreInPlace (named edit) s made kept (records_after edit run box kept)
 
 -- word: after one edit more they are in place at the keys of all edits
 abbrev pub KeptTurnLaw : Type 0
 KeptTurnLaw =
     (keys : List Key) (old s : SourceParts) (k : List Pair) (edit : Edit) (made : SourceParts) (ps : List Pair) → IsWellFormed s → edited s k edit ≡ Ok (made, ps)
     → (kept before : List Kept) → AreInPlace keys old s kept before → (run : TracedRun) (box : Option BBox)
-    → AreInPlace (keys ++ named edit) old made kept (kept_after edit run box before)
+    → AreInPlace (keys ++ named edit) old made kept (records_after edit run box before)

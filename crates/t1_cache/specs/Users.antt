@@ -100,8 +100,8 @@ abbrev pub Pairs : Type 0
 Pairs = List (Named × Vec ℕ Global)
 
 -- word: how many of these pairs are of this key
-abbrev pub wanted : Pairs → Key → ℕ
-wanted pairs k = count_by (λ p. key_eq k (key_of p.0)) pairs
+abbrev pub pairs_of_key : Pairs → Key → ℕ
+pairs_of_key pairs k = count_by (λ p. key_eq k (key_of p.0)) pairs
 
 -- word: whether one of these pairs is of this key and this glyph
 abbrev pub has_pair : Pairs → Key → List ℕ → Bool

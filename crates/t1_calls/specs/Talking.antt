@@ -18,17 +18,17 @@ pub record Spoken : Type 0 where
   pub answer : List ℕ
 
 -- profile: the text of the answer that is kept: none before the first command, nor for a line without words
-abbrev pub kept_text : Option Answer → List ℕ
-kept_text None = []
-kept_text (Some answer) = answer_text answer
+abbrev pub kept_answer_text : Option Answer → List ℕ
+kept_answer_text None = []
+kept_answer_text (Some answer) = answer_text answer
 
 -- word: a command was performed and answered; or it met want of memory, and left what that leaves
-abbrev pub IsAnswered : {E : Type 0} → SessionState → SessionState → Command → Result Answer E → Type 0
-IsAnswered old new command (Ok answer) = (answer ≡ (perform old command).answer) × (new ≡ (perform old command).next)
-IsAnswered old new command (Err e) = (may_want_memory old command ≡ true) × (new ≡ after_want old command)
+abbrev pub IsCallAnswered : {E : Type 0} → SessionState → SessionState → Command → Result Answer E → Type 0
+IsCallAnswered old new command (Ok answer) = (answer ≡ (perform old command).answer) × (new ≡ (perform old command).next)
+IsCallAnswered old new command (Err e) = (may_want_memory old command ≡ true) × (new ≡ after_want old command)
 
 -- word: the answer to one command, marked or not as one that met want of memory
-pub record Step (old new : SessionState) (command : Command) (answer : Answer) : Type 0 where
+pub record IsAnswerTo (old new : SessionState) (command : Command) (answer : Answer) : Type 0 where
   pub mark : Bool
   pub is : answer ≡ (answer_to machine old command mark).answer
   pub next : new ≡ (answer_to machine old command mark).next

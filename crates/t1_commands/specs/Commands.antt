@@ -15,7 +15,7 @@ use Rattle.t1_commands.specs.declared.command.Command.{Command}
 use Rattle.t1_commands.specs.declared.command.Command.TheVariants as commands
 
 -- profile, session commands: a command whose body is being read: the line that opened it, and its body so far
-pub record Opening : Type 0 where
+pub record OpenCommand : Type 0 where
   pub heading : List ℕ
   pub body : List ℕ
 
@@ -184,7 +184,7 @@ alone line = if is_wordless line then [] else line_command line ∷ []
 
 -- profile, session commands: the commands of the lines, where the body of an opened one comes first; once the input has
 -- ended, a body that it leaves open makes a command too
-abbrev pub commands_of : Bool → Option Opening → List (List ℕ) → List Command
+abbrev pub commands_of : Bool → Option OpenCommand → List (List ℕ) → List Command
 commands_of ended None [] = []
 commands_of ended (Some o) [] = if ended then open_command (words o.heading) ∷ [] else []
 commands_of ended None (line ∷ lines) =

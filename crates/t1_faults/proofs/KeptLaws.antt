@@ -16,12 +16,12 @@ use Rattle.t1_frac.specs.contracts.fault.Code.{the_type}
 use Rattle.t1_frac.specs.declared.fault.Code.{Code}
 use Rattle.t1_font.proofs.Lookups.{numbers_tell}
 use Rattle.t1_chain.specs.Failing.{Failure}
-use Rattle.t1_chain.specs.Machine.{seen}
+use Rattle.t1_chain.specs.Machine.{failure_seen}
 use Rattle.t1_faults.specs.declared.failed_run.FailedRun.{FailedRun as FailedFields}
 use Rattle.t1_faults.specs.declared.run_fault.RunFault.{RunFault}
-use Rattle.t1_faults.specs.GlyphRuns.{faults_kept, has_code, is_at, seen_run, with_chain}
-use Rattle.t1_faults.specs.Met.{FailedRun, chain_of, fails_at, fails_in_glyph, faults_at, faults_by_code, first_by_code, have_one_code, last_entered, own_fault, run_fault, shared_fault}
-use Rattle.t1_faults.specs.Openings.{is_number}
+use Rattle.t1_faults.specs.GlyphRuns.{faults_kept, has_fault_code, is_at, seen_run, with_chain}
+use Rattle.t1_faults.specs.Met.{FailedRun, chain_of, fails_at_word, fails_in_glyph, faults_at, faults_by_code, first_by_code, have_one_code, last_entered, own_fault, run_fault, shared_fault}
+use Rattle.t1_faults.specs.Openings.{is_this_number}
 use Rattle.t1_faults.proofs.MetLaws.{one_code, words_more}
 
 -- ---- one run more
@@ -48,10 +48,10 @@ own_more runs r g = ap (option_map own_of) (find-append (fails_in_glyph g) runs 
   by (Some x) b = refl
 
 pub own_next : (runs : List FailedFields) (i : ℕ) (x : FailedFields) (g : List ℕ) (old new : Option RunFault) → i < length runs → x ≡ get_or runs i x
-    → new ≡ option_or old (cond (fails_in_glyph g (seen_run x)) (Some (run_fault [] (seen x.failure))) None)
+    → new ≡ option_or old (cond (fails_in_glyph g (seen_run x)) (Some (run_fault [] (failure_seen x.failure))) None)
     → old ≡ own_fault (map seen_run (take i runs)) g → new ≡ own_fault (map seen_run (take (i + 1) runs)) g
 own_next runs i x g old new h is put done =
-    put ∙ ap (λ o. option_or o (cond (fails_in_glyph g (seen_run x)) (Some (run_fault [] (seen x.failure))) None)) done
+    put ∙ ap (λ o. option_or o (cond (fails_in_glyph g (seen_run x)) (Some (run_fault [] (failure_seen x.failure))) None)) done
     ∙ sym (own_more (map seen_run (take i runs)) (seen_run x) g) ∙ ap (λ rs. own_fault rs g) (sym (seen_more runs i x h is))
 
 or_none : {X : Type 0} (o : Option X) → o ≡ option_or o None
@@ -189,21 +189,21 @@ own_chain r runs h =
     ∙ ap (λ l. with_chain (chain_of r) (run_fault (map chain_of l) r.failure)) (none_kept r runs h)
 
 -- past the last fault there is none of the code
-no_place : (runs xs : List FailedRun) (r : FailedRun) → length (map (shared_fault runs) xs) ≤ position_or_len (has_code r.failure.code) (map (shared_fault runs) xs) → is_among r xs ≡ false
+no_place : (runs xs : List FailedRun) (r : FailedRun) → length (map (shared_fault runs) xs) ≤ position_or_len (has_fault_code r.failure.code) (map (shared_fault runs) xs) → is_among r xs ≡ false
 no_place runs [] r h = refl
 no_place runs (x ∷ xs) r h = by (λ k. no_place runs xs r k) (have_one_code x r) h where
-  by : (length (map (shared_fault runs) xs) ≤ position_or_len (has_code r.failure.code) (map (shared_fault runs) xs) → is_among r xs ≡ false) → (b : Bool) → suc (length (map (shared_fault runs) xs)) ≤ cond (not b) (1 + position_or_len (has_code r.failure.code) (map (shared_fault runs) xs)) 0 → (b || is_among r xs) ≡ false
+  by : (length (map (shared_fault runs) xs) ≤ position_or_len (has_fault_code r.failure.code) (map (shared_fault runs) xs) → is_among r xs ≡ false) → (b : Bool) → suc (length (map (shared_fault runs) xs)) ≤ cond (not b) (1 + position_or_len (has_fault_code r.failure.code) (map (shared_fault runs) xs)) 0 → (b || is_among r xs) ≡ false
   by below true k = absurd (omega (arith, k))
   by below false k = below (omega (arith, k))
 
 -- a run of another code has a fault more
-pub fault_more : (r : FailedRun) (runs : List FailedRun) (found : List RunFault) (k : ℕ) → found ≡ faults_by_code runs → k ≡ position_or_len (has_code r.failure.code) found → length found ≤ k
+pub fault_more : (r : FailedRun) (runs : List FailedRun) (found : List RunFault) (k : ℕ) → found ≡ faults_by_code runs → k ≡ position_or_len (has_fault_code r.failure.code) found → length found ≤ k
     → found ++ run_fault (chain_of r ∷ []) r.failure ∷ [] ≡ faults_by_code (runs ++ r ∷ [])
 fault_more r runs found k is there past =
     let whole = map (shared_fault runs) (first_by_code runs) in
     let size : length found ≡ length whole = ap length is in
-    let place : k ≡ position_or_len (has_code r.failure.code) whole = there ∙ ap (position_or_len (has_code r.failure.code)) is in
-    let beyond : length whole ≤ position_or_len (has_code r.failure.code) whole = omega (arith, size, place, past) in
+    let place : k ≡ position_or_len (has_fault_code r.failure.code) whole = there ∙ ap (position_or_len (has_fault_code r.failure.code)) is in
+    let beyond : length whole ≤ position_or_len (has_fault_code r.failure.code) whole = omega (arith, size, place, past) in
     let none : is_among r (first_by_code runs) ≡ false = no_place runs (first_by_code runs) r beyond in
     let fresh : is_among r runs ≡ false = sym (among_first runs r) ∙ none in
     ap (λ l. l ++ run_fault (chain_of r ∷ []) r.failure ∷ []) (is ∙ sym (others_stay runs r (first_by_code runs) (none_among r (first_by_code runs) none)))
@@ -224,7 +224,7 @@ others_differ r x (y ∷ ys) e h = (by (have_one_code y r) refl, others_differ r
   by false f = f
 
 -- its chain goes to the fault
-chain_put : (r : FailedRun) (runs xs : List FailedRun) (k : ℕ) (d : RunFault) → Apart xs → k ≡ position_or_len (has_code r.failure.code) (map (shared_fault runs) xs)
+chain_put : (r : FailedRun) (runs xs : List FailedRun) (k : ℕ) (d : RunFault) → Apart xs → k ≡ position_or_len (has_fault_code r.failure.code) (map (shared_fault runs) xs)
     → k < length (map (shared_fault runs) xs)
     → set (map (shared_fault runs) xs) k (with_chain (chain_of r) (get_or (map (shared_fault runs) xs) k d)) ≡ map (shared_fault (runs ++ r ∷ [])) xs
 chain_put r runs [] k d apart place within = absurd (omega (arith, within))
@@ -234,18 +234,18 @@ chain_put r runs (x ∷ xs) zero d apart place within =
           let first = shared_more runs r x ∙ ap (λ b. cond b (with_chain (chain_of r) (shared_fault runs x)) (shared_fault runs x)) same in
           ap (λ f. f ∷ map (shared_fault runs) xs) (sym first) ∙ ap (λ fs. shared_fault (runs ++ r ∷ []) x ∷ fs) (sym (others_stay runs r xs (others_differ r x xs same apart.0)))
       | inr other ↦
-          let rest = position_or_len (has_code r.failure.code) (map (shared_fault runs) xs) in
+          let rest = position_or_len (has_fault_code r.failure.code) (map (shared_fault runs) xs) in
           let never : 0 ≡ 1 + rest = place ∙ ap (λ b. cond (not b) (1 + rest) 0) other in
           absurd (omega (arith, never))
     ]
 chain_put r runs (x ∷ xs) (suc k) d apart place within =
     elim (cases_Bool (have_one_code x r)) [
       | inl same ↦
-          let rest = position_or_len (has_code r.failure.code) (map (shared_fault runs) xs) in
+          let rest = position_or_len (has_fault_code r.failure.code) (map (shared_fault runs) xs) in
           let never : suc k ≡ 0 = place ∙ ap (λ b. cond (not b) (1 + rest) 0) same in
           absurd (omega (arith, never))
       | inr other ↦
-          let rest = position_or_len (has_code r.failure.code) (map (shared_fault runs) xs) in
+          let rest = position_or_len (has_fault_code r.failure.code) (map (shared_fault runs) xs) in
           let more : suc k ≡ 1 + rest = place ∙ ap (λ b. cond (not b) (1 + rest) 0) other in
           let left : k ≡ rest = omega (arith, more) in
           let first = shared_more runs r x ∙ ap (λ b. cond b (with_chain (chain_of r) (shared_fault runs x)) (shared_fault runs x)) other in
@@ -253,24 +253,24 @@ chain_put r runs (x ∷ xs) (suc k) d apart place within =
           ∙ ap (λ f. f ∷ map (shared_fault (runs ++ r ∷ [])) xs) (sym first)
     ]
 
-found_among : (r : FailedRun) (all xs : List FailedRun) (k : ℕ) → k ≡ position_or_len (has_code r.failure.code) (map (shared_fault all) xs) → k < length (map (shared_fault all) xs) → is_among r xs ≡ true
+found_among : (r : FailedRun) (all xs : List FailedRun) (k : ℕ) → k ≡ position_or_len (has_fault_code r.failure.code) (map (shared_fault all) xs) → k < length (map (shared_fault all) xs) → is_among r xs ≡ true
 found_among r all [] k e h = absurd (omega (arith, h))
 found_among r all (x ∷ xs) k e h =
-    by (λ f. found_among r all xs (position_or_len (has_code r.failure.code) (map (shared_fault all) xs)) refl f) (have_one_code x r) e
+    by (λ f. found_among r all xs (position_or_len (has_fault_code r.failure.code) (map (shared_fault all) xs)) refl f) (have_one_code x r) e
   where
-    by : (position_or_len (has_code r.failure.code) (map (shared_fault all) xs) < length (map (shared_fault all) xs) → is_among r xs ≡ true) → (b : Bool)
-        → k ≡ cond (not b) (1 + position_or_len (has_code r.failure.code) (map (shared_fault all) xs)) 0 → (b || is_among r xs) ≡ true
+    by : (position_or_len (has_fault_code r.failure.code) (map (shared_fault all) xs) < length (map (shared_fault all) xs) → is_among r xs ≡ true) → (b : Bool)
+        → k ≡ cond (not b) (1 + position_or_len (has_fault_code r.failure.code) (map (shared_fault all) xs)) 0 → (b || is_among r xs) ≡ true
     by below true f = refl
     by below false f = below (omega (arith, f, h))
 
 -- nothing is new but that chain
 pub chain_more : (r : FailedRun) (runs : List FailedRun) (found : List RunFault) (k : ℕ) (old new : RunFault) → found ≡ faults_by_code runs
-    → k ≡ position_or_len (has_code r.failure.code) found → k < length found → old ≡ get_or found k old → new ≡ with_chain (chain_of r) old
+    → k ≡ position_or_len (has_fault_code r.failure.code) found → k < length found → old ≡ get_or found k old → new ≡ with_chain (chain_of r) old
     → set found k new ≡ faults_by_code (runs ++ r ∷ [])
 chain_more r runs found k old new is place within there put =
     let whole = map (shared_fault runs) (first_by_code runs) in
     let size : length found ≡ length whole = ap length is in
-    let spot : k ≡ position_or_len (has_code r.failure.code) whole = place ∙ ap (position_or_len (has_code r.failure.code)) is in
+    let spot : k ≡ position_or_len (has_fault_code r.failure.code) whole = place ∙ ap (position_or_len (has_fault_code r.failure.code)) is in
     let inside : k < length whole = omega (arith, within, size) in
     let same : is_among r runs ≡ true = sym (among_first runs r) ∙ found_among r runs (first_by_code runs) k spot inside in
     ap (set found k) (put ∙ ap (with_chain (chain_of r)) there) ∙ ap (λ l. set l k (with_chain (chain_of r) (get_or l k old))) is
@@ -280,23 +280,23 @@ chain_more r runs found k old new is place within there put =
 -- ---- at all words of all Subrs
 
 at_more : (runs : List FailedRun) (r : FailedRun) (n k : ℕ)
-    → faults_at (runs ++ r ∷ []) n k ≡ faults_by_code (cond (fails_at n k r) (filter (fails_at n k) runs ++ r ∷ []) (filter (fails_at n k) runs))
-at_more runs r n k = ap faults_by_code (filter-append (fails_at n k) runs (r ∷ []) ∙ by (fails_at n k r)) where
-  by : (b : Bool) → filter (fails_at n k) runs ++ cond b (r ∷ []) [] ≡ cond b (filter (fails_at n k) runs ++ r ∷ []) (filter (fails_at n k) runs)
+    → faults_at (runs ++ r ∷ []) n k ≡ faults_by_code (cond (fails_at_word n k r) (filter (fails_at_word n k) runs ++ r ∷ []) (filter (fails_at_word n k) runs))
+at_more runs r n k = ap faults_by_code (filter-append (fails_at_word n k) runs (r ∷ []) ∙ by (fails_at_word n k r)) where
+  by : (b : Bool) → filter (fails_at_word n k) runs ++ cond b (r ∷ []) [] ≡ cond b (filter (fails_at_word n k) runs ++ r ∷ []) (filter (fails_at_word n k) runs)
   by true = refl
-  by false = append-nil (filter (fails_at n k) runs)
+  by false = append-nil (filter (fails_at_word n k) runs)
 
 -- a run that fails in a Subr
 pub in_subr_more : (n k s : ℕ) (r : FailedRun) (runs : List FailedRun) (new : List RunFault) → last_entered r.failure.calls ≡ Some s
-    → new ≡ faults_by_code (cond (is_at n k (s, r.failure.word)) (filter (fails_at n k) runs ++ r ∷ []) (filter (fails_at n k) runs)) → new ≡ faults_at (runs ++ r ∷ []) n k
+    → new ≡ faults_by_code (cond (is_at n k (s, r.failure.word)) (filter (fails_at_word n k) runs ++ r ∷ []) (filter (fails_at_word n k) runs)) → new ≡ faults_at (runs ++ r ∷ []) n k
 in_subr_more n k s r runs new last put =
-    put ∙ ap (λ (o : Option ℕ). faults_by_code (cond (is_number n o && nat_eq k r.failure.word) (filter (fails_at n k) runs ++ r ∷ []) (filter (fails_at n k) runs))) (sym last)
+    put ∙ ap (λ (o : Option ℕ). faults_by_code (cond (is_this_number n o && nat_eq k r.failure.word) (filter (fails_at_word n k) runs ++ r ∷ []) (filter (fails_at_word n k) runs))) (sym last)
     ∙ sym (at_more runs r n k)
 
 -- a run that doesn't
 pub in_no_subr : (n k : ℕ) (r : FailedRun) (runs : List FailedRun) (old : List RunFault) → last_entered r.failure.calls ≡ None → old ≡ faults_at runs n k → old ≡ faults_at (runs ++ r ∷ []) n k
 in_no_subr n k r runs old last is =
-    is ∙ ap (λ (o : Option ℕ). faults_by_code (cond (is_number n o && nat_eq k r.failure.word) (filter (fails_at n k) runs ++ r ∷ []) (filter (fails_at n k) runs))) (sym last)
+    is ∙ ap (λ (o : Option ℕ). faults_by_code (cond (is_this_number n o && nat_eq k r.failure.word) (filter (fails_at_word n k) runs ++ r ∷ []) (filter (fails_at_word n k) runs))) (sym last)
     ∙ sym (at_more runs r n k)
 
 pub same_turned : (n s : ℕ) → nat_eq s n ≡ nat_eq n s

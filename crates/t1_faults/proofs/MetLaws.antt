@@ -29,8 +29,8 @@ use Rattle.t1_faults.specs.declared.call_chains.CallChain.{CallChain}
 use Rattle.t1_faults.specs.declared.run_fault.RunFault.{RunFault}
 use Rattle.t1_faults.specs.Entries.{Entry, placed_words}
 use Rattle.t1_faults.specs.Failing.{Failures}
-use Rattle.t1_faults.specs.Met.{FailedRun, chain_of, failed_run, failed_runs, fails_at, fails_in_glyph, faults_at, faults_by_code, first_by_code, have_one_code, last_entered, met_in, own_fault, run_fault, shared_fault}
-use Rattle.t1_faults.specs.Openings.{is_number}
+use Rattle.t1_faults.specs.Met.{FailedRun, chain_of, failed_run, failed_runs, fails_at_word, fails_in_glyph, faults_at, faults_by_code, first_by_code, have_one_code, last_entered, met_in, own_fault, run_fault, shared_fault}
+use Rattle.t1_faults.specs.Openings.{is_this_number}
 use Rattle.t1_faults.specs.Telling.{HasChain}
 use Rattle.t1_faults.proofs.SoundLaws.{long_as}
 use Rattle.t1_faults.proofs.TakenLaws.{AreOf}
@@ -248,16 +248,16 @@ shared_there r all there (x ∷ xs) (inl is) =
     inl (is, chain_there r (filter (have_one_code x) all) (still_there (have_one_code x) r (true_same the_type x.failure.code r.failure.code is) all there))
 shared_there r all there (x ∷ xs) (inr later) = inr (shared_there r all there xs later)
 
-fails_in : (n : ℕ) (r : FailedRun) → last_entered r.failure.calls ≡ Some n → fails_at n r.failure.word r ≡ true
+fails_in : (n : ℕ) (r : FailedRun) → last_entered r.failure.calls ≡ Some n → fails_at_word n r.failure.word r ≡ true
 fails_in n r last =
     let w = r.failure.word in
-    ap (λ (o : Option ℕ). is_number n o && nat_eq w w) last ∙ ap (λ b. b && nat_eq w w) (numbers_tell.itself n) ∙ numbers_tell.itself w
+    ap (λ (o : Option ℕ). is_this_number n o && nat_eq w w) last ∙ ap (λ b. b && nat_eq w w) (numbers_tell.itself n) ∙ numbers_tell.itself w
 
 -- the fault that a run met in a Subr is among those met there, with its chain
 pub met_there : (r : FailedRun) (n : ℕ) (runs : List FailedRun) → HasRun r runs → last_entered r.failure.calls ≡ Some n → HasMet r.failure.code r.glyph (faults_at runs n r.failure.word)
 met_there r n runs there last =
-    let here = filter (fails_at n r.failure.word) runs in
-    let kept = still_there (fails_at n r.failure.word) r (fails_in n r last) runs there in
+    let here = filter (fails_at_word n r.failure.word) runs in
+    let kept = still_there (fails_at_word n r.failure.word) r (fails_in n r last) runs there in
     shared_there r here kept (first_by_code here) (code_there r here kept)
 
 met_left : (code : Code) (g : List ℕ) (xs ys : List RunFault) → HasMet code g xs → HasMet code g (xs ++ ys)

@@ -14,7 +14,7 @@ use Rattle.t1_faults.specs.declared.call_chains.CallChain.{CallChain}
 use Rattle.t1_faults.specs.declared.run_fault.RunFault.{RunFault}
 use Rattle.t1_faults.specs.Entries.{Entry}
 use Rattle.t1_faults.specs.Failing.{Failures}
-use Rattle.t1_faults.specs.Openings.{is_number}
+use Rattle.t1_faults.specs.Openings.{is_this_number}
 
 -- profile, faults: a glyph whose run fails, and where and why
 pub record FailedRun : Type 0 where
@@ -55,8 +55,8 @@ abbrev pub chain_of : FailedRun → CallChain
 chain_of run = record { glyph = run.glyph; subrs = map (λ call. call.subr) run.failure.calls }
 
 -- profile, faults: whether a run fails in this Subr, at this word
-abbrev pub fails_at : ℕ → ℕ → FailedRun → Bool
-fails_at n word run = is_number n (last_entered run.failure.calls) && nat_eq word run.failure.word
+abbrev pub fails_at_word : ℕ → ℕ → FailedRun → Bool
+fails_at_word n word run = is_this_number n (last_entered run.failure.calls) && nat_eq word run.failure.word
 
 -- profile, faults: whether two runs fail by one code
 abbrev pub have_one_code : FailedRun → FailedRun → Bool
@@ -77,7 +77,7 @@ faults_by_code runs = map (shared_fault runs) (first_by_code runs)
 
 -- profile, faults: the faults that runs met in this Subr, at this word
 abbrev pub faults_at : List FailedRun → ℕ → ℕ → List RunFault
-faults_at runs n word = faults_by_code (filter (fails_at n word) runs)
+faults_at runs n word = faults_by_code (filter (fails_at_word n word) runs)
 
 -- ---- in an entry
 

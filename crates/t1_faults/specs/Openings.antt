@@ -27,9 +27,9 @@ key_opened F10 l = option_map Glyph (glyph_opened l)
 key_opened code l = None
 
 -- profile, entries: whether there is a number, and it is this one
-abbrev pub is_number : ℕ → Option ℕ → Bool
-is_number n None = false
-is_number n (Some m) = nat_eq n m
+abbrev pub is_this_number : ℕ → Option ℕ → Bool
+is_this_number n None = false
+is_this_number n (Some m) = nat_eq n m
 
 -- profile, entries: whether there is a name, and it is this one
 abbrev pub is_named : List ℕ → Option (List ℕ) → Bool
@@ -37,21 +37,21 @@ is_named g None = false
 is_named g (Some h) = bytes_eq g h
 
 -- profile, entries: whether a line opens the entry of this key
-abbrev pub opens : Key → List ℕ → Bool
-opens (Subr n) l = is_number n (subr_opened l)
-opens (Glyph g) l = is_named g (glyph_opened l)
+abbrev pub opens_entry_at : Key → List ℕ → Bool
+opens_entry_at (Subr n) l = is_this_number n (subr_opened l)
+opens_entry_at (Glyph g) l = is_named g (glyph_opened l)
 
 -- profile, sections: whether a line begins the section in which an entry of this key stands
-abbrev pub begins_section : Key → List ℕ → Bool
-begins_section (Subr n) l = is_some (subrs_line l)
-begins_section (Glyph g) l = is_some (glyphs_line l)
+abbrev pub begins_section_of : Key → List ℕ → Bool
+begins_section_of (Subr n) l = is_some (subrs_line l)
+begins_section_of (Glyph g) l = is_some (glyphs_line l)
 
 -- profile, entries: the number of the first of these lines that opens the entry of this key in its section, which may have begun; the
 -- first line has the number n
-abbrev pub first_opening : Key → Bool → ℕ → List (List ℕ) → Option ℕ
-first_opening key begun n [] = None
-first_opening key begun n (l ∷ ls) =
-    if begun && opens key l then Some n else first_opening key (begun || begins_section key l) (n + 1) ls
+abbrev pub first_line_opening : Key → Bool → ℕ → List (List ℕ) → Option ℕ
+first_line_opening key begun n [] = None
+first_line_opening key begun n (l ∷ ls) =
+    if begun && opens_entry_at key l then Some n else first_line_opening key (begun || begins_section_of key l) (n + 1) ls
 
 -- profile, faults: a line that is told, where there is one
 abbrev pub line_told : Option ℕ → Detail
@@ -60,4 +60,4 @@ line_told (Some n) = Line n
 
 -- profile, faults: what a fault on this line says beside its code: of an entry that is there twice, the line of the first one
 abbrev pub detail_on : List (List ℕ) → Code → List ℕ → Detail
-detail_on ls code l = line_told (option_and_then (λ key. first_opening key false 1 ls) (key_opened code l))
+detail_on ls code l = line_told (option_and_then (λ key. first_line_opening key false 1 ls) (key_opened code l))

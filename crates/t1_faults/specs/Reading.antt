@@ -12,8 +12,8 @@ use Rattle.t1_faults.specs.Openings.{detail_on}
 use Rattle.t1_faults.specs.declared.found.FoundFault.{FoundFault}
 
 -- profile, faults: a fault on a line of this number: all of the line but the blanks at both ends
-abbrev pub on_line : List (List ℕ) → Code → ℕ → FoundFault
-on_line ls code number =
+abbrev pub fault_on_line : List (List ℕ) → Code → ℕ → FoundFault
+fault_on_line ls code number =
     let l = slice_index_or ls (number - 1) [] in
     record {
       code = code;
@@ -41,7 +41,7 @@ at_front code place = record {
 
 -- profile, faults: a fault of reading these lines, where it stands
 abbrev pub placed_reading : List (List ℕ) → Code → Place → FoundFault
-placed_reading ls code (places.Line number) = on_line ls code number
+placed_reading ls code (places.Line number) = fault_on_line ls code number
 placed_reading ls code place = at_front code place
 
 -- profile, faults: the same of a fault with its place

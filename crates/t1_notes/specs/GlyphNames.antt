@@ -16,5 +16,5 @@ abbrev pub opened_name : List ℕ → Option (List ℕ)
 opened_name l = name_of (opens_glyph (tokens l))
 
 -- profile, notes: whether one of the lines opens the glyph of this name
-abbrev pub has_glyph : List Line → List ℕ → Bool
-has_glyph heads glyph = list_any (λ l. is_token glyph (opened_name l.text)) heads
+abbrev pub has_line_of_glyph : List Line → List ℕ → Bool
+has_line_of_glyph heads glyph = list_any (λ l. is_token glyph (opened_name l.text)) heads

@@ -10,5 +10,5 @@ abbrev pub rows_of : List (Bor (List ℕ) × Command) → List (List ℕ × Comm
 rows_of table = map (λ row. (row.0.now, row.1)) table
 
 -- word, notes: whether this name is among some
-abbrev pub has_name : List (Bor (List ℕ)) → List ℕ → Bool
-has_name names glyph = list_any (λ name. bytes_eq glyph name.now) names
+abbrev pub is_among_names : List (Bor (List ℕ)) → List ℕ → Bool
+is_among_names names glyph = list_any (λ name. bytes_eq glyph name.now) names

@@ -1,5 +1,5 @@
 -- What the code holds of a refused source.
-use Rattle.t1_chain.specs.Machine.{seen}
+use Rattle.t1_chain.specs.Machine.{failure_seen}
 use Rattle.t1_refusal.specs.declared.met.FailedRun.{FailedRun}
 use Rattle.t1_refusal.specs.Met.{GlyphFailure}
 use Rattle.std.specs.Prelude.{◌≡◌, List, Ok, Err}
@@ -10,7 +10,7 @@ use Rattle.t1_font.specs.Bodies.{bodies, bodies_check, SameBodies}
 
 -- word, refusals: the same, as the code holds it
 abbrev pub seen_of : FailedRun → GlyphFailure
-seen_of f = record { glyph = f.glyph; failure = seen f.failure }
+seen_of f = record { glyph = f.glyph; failure = failure_seen f.failure }
 
 -- word, refusals: a font with the bodies of these items, which have no fault
 abbrev pub AreBodiesOf : FontBodies → List Item → Type 0

@@ -66,8 +66,8 @@ step_kept (steps.InsertSubr n r) ks = ks
 step_kept (steps.InsertGlyph name r) ks = filter (λ k. not (bytes_eq name.items k.name)) ks ++ kept name.items r.run r.bbox ∷ []
 
 -- word: what is seen after a step
-abbrev pub after : Step → Seen → Seen
-after step x = record {
+abbrev pub seen_after : Step → Seen → Seen
+seen_after step x = record {
   bodies = λ k. if key_eq k (step_key step) then step_body step (x.bodies k) else x.bodies k;
   users = λ k. if key_eq k (step_key step) then step_users step (x.users k) else x.users k;
   kept = step_kept step x.kept;
@@ -76,7 +76,7 @@ after step x = record {
 -- word: what is seen after all of these steps, the last one first
 abbrev pub after_all : List Step → Seen → Seen
 after_all [] x = x
-after_all (step ∷ steps) x = after step (after_all steps x)
+after_all (step ∷ steps) x = seen_after step (after_all steps x)
 
 -- ---- what leaves its place
 

@@ -14,14 +14,14 @@ use Rattle.t1_cache.specs.declared.records.GlyphRecord.{GlyphRecord}
 use Rattle.t1_cache.specs.declared.records.Records.{Records}
 use Rattle.t1_cache.specs.declared.records.SubrRecord.{SubrRecord}
 use Rattle.t1_rerun.specs.Right.{IsRight}
-use Rattle.t1_session.specs.Users.{AreUsers, is_among, names_listed, user_table, users_row}
+use Rattle.t1_session.specs.Users.{AreUsers, is_among_users, names_listed, user_table, users_row}
 
 -- the names of a set, as a row has them
 row-has : (g : List ℕ) (names : List (Vec ℕ Global)) → list_any (bytes_eq g) (names_listed names) ≡ list_any (λ (k : Vec ℕ Global). bytes_eq g k.items) names
 row-has g [] = refl
 row-has g (name ∷ names) = rw (row-has g names) refl
 
-row-among : (found : Option UserSet) (g : List ℕ) → is_among (option_map (λ (set : UserSet). names_listed set.names) found) g ≡ among found g
+row-among : (found : Option UserSet) (g : List ℕ) → is_among_users (option_map (λ (set : UserSet). names_listed set.names) found) g ≡ among found g
 row-among None g = refl
 row-among (Some set) g = row-has g set.names
 
@@ -50,4 +50,4 @@ row-is records (Glyph g) =
 
 pub users_right : (s : SourceParts) (records : Records) → IsRight s records → AreUsers s (user_table records)
 users_right s records right k g =
-    ap (λ (row : Option (List (List ℕ))). is_among row g) (row-is records k) ∙ row-among (recorded_at records k) g ∙ right.users k g
+    ap (λ (row : Option (List (List ℕ))). is_among_users row g) (row-is records k) ∙ row-among (recorded_at records k) g ∙ right.users k g

@@ -11,7 +11,7 @@ use Rattle.t1_session.specs.declared.error.ServeError.{ServeError}
 use Rattle.t1_session.specs.declared.error.ServeError.TheVariants as errors
 use Rattle.t1_commands.specs.declared.command.Command.{Command}
 use Rattle.t1_commands.specs.Lines.{finished_lines}
-use Rattle.t1_commands.specs.Commands.{Opening, commands_of, ends_body}
+use Rattle.t1_commands.specs.Commands.{OpenCommand, commands_of, ends_body}
 use Rattle.t1_commands.specs.AnswerTexts.{answer_text}
 use Rattle.t1_commands.specs.Answers.{answers, answer_to}
 use Rattle.t1_session.specs.Flushing.{WritesAndFlushes}
@@ -23,7 +23,7 @@ use Rattle.t1_session.specs.State.{SessionState}
 -- and whether the byte before was a CR
 pub record Conversation : Type 0 where
   pub state : SessionState
-  pub opening : Option Opening
+  pub opening : Option OpenCommand
   pub line : List ℕ
   pub after_return : Bool
 
@@ -115,8 +115,8 @@ EndsCommandLine contents old new before after (Err errors.Read) = ⊥
 EndsCommandLine contents old new before after (Err (errors.Load fault)) = ⊥
 
 -- word: the line goes into a body
-pub record IsBodyLine (opening : Option Opening) (line : List ℕ) : Type 0 where
-  pub opened : Opening
+pub record IsBodyLine (opening : Option OpenCommand) (line : List ℕ) : Type 0 where
+  pub opened : OpenCommand
   pub is : opening ≡ Some opened
   pub goes_on : ends_body line ≡ false
 

@@ -2,11 +2,11 @@
 use Rattle.t1_session.specs.declared.dialogue.Dialogue.{Dialogue}
 use Rattle.t1_session.specs.declared.dialogue.Opened.{Opened}
 use Rattle.std.specs.Prelude.{option_map}
-use Rattle.t1_commands.specs.Commands.{Opening}
+use Rattle.t1_commands.specs.Commands.{OpenCommand}
 use Rattle.t1_session.specs.Conversation.{Conversation}
 
 -- word: the command whose body is being read
-abbrev pub opening_seen : Opened → Opening
+abbrev pub opening_seen : Opened → OpenCommand
 opening_seen o = record { heading = o.heading.items; body = o.body.items }
 
 -- word: a dialogue without where it lies in memory

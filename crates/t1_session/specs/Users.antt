@@ -35,11 +35,11 @@ users_row table (Subr n) = lookup (nat_eq n) table.subrs
 users_row table (Glyph g) = lookup (bytes_eq g) table.glyphs
 
 -- profile: a glyph is among these users; none is, where there is no row
-abbrev pub is_among : Option (List (List ℕ)) → List ℕ → Bool
-is_among None user = false
-is_among (Some users) user = list_any (bytes_eq user) users
+abbrev pub is_among_users : Option (List (List ℕ)) → List ℕ → Bool
+is_among_users None user = false
+is_among_users (Some users) user = list_any (bytes_eq user) users
 
 -- profile: the users of a Subr are exactly the glyphs whose own run from scratch enters it, and those of a glyph the
 -- glyphs whose own run stands on it
 abbrev pub AreUsers : SourceParts → UserTable → Type 0
-AreUsers s table = (k : Key) (g : List ℕ) → is_among (users_row table k) g ≡ is_user k (own (bodies s.items) g)
+AreUsers s table = (k : Key) (g : List ℕ) → is_among_users (users_row table k) g ≡ is_user k (own (bodies s.items) g)

@@ -6,7 +6,7 @@ ghost use Rattle.t1_pairs.specs.declared.pairs.Pair.{Pair};
 ghost use Rattle.t1_source.specs.Changes.{changed};
 ghost use Rattle.t1_source.specs.Editing.{edited};
 ghost use Rattle.t1_font.specs.SourceChecks.{source_check};
-ghost use Rattle.t1_refusal.specs.Telling.{fault_lines, fault_of, refusal_text};
+ghost use Rattle.t1_refusal.specs.Telling.{refused_fault_lines, fault_of, refusal_text};
 ghost use Rattle.t1_cache.specs.Recorded.{kept_of};
 ghost use Rattle.t1_held.specs.Edits.{IsPreparedEdit};
 ghost use Rattle.t1_held.specs.Held.{IsHeld};
@@ -147,7 +147,7 @@ fn fault_text(
     fault: &Fault,
 ) -> Result<Vec<u8>, AllocError>
     requires { IsEditOfHeld edit.now made.now held.now }
-    ensures { IfOk result (λ text. text.items ≡ fault_lines made.now.items fault.now) }
+    ensures { IfOk result (λ text. text.items ≡ refused_fault_lines made.now.items fault.now) }
 {
     match change_of_edit(alloc, edit) {
         Ok(change) => {
