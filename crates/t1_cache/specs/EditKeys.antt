@@ -1,5 +1,5 @@
 -- The keys of the entries that edits name.
-use Rattle.std.specs.Prelude.{ℤ, pos, negsuc, List, ◌∷◌}
+use Rattle.std.specs.Prelude.{ℤ, pos, negsuc, List, [], ◌∷◌}
 use Rattle.t1_source.specs.declared.edit.Edit.{Edit}
 use Rattle.t1_source.specs.declared.edit.Edit.TheVariants.{ReplaceGlyph, AddGlyph, RemoveGlyph, ReplaceSubr, AddSubr, RemoveSubr, Encode, Unencode, LenIv, Kern, Unkern}
 use Rattle.t1_run.specs.Run.{Key, Subr, Glyph}

@@ -1,5 +1,5 @@
 -- What is recorded of a glyph.
-use Rattle.std.specs.Prelude.{ℕ, List, Option, ◌≡◌, ◌⊎◌, true, ◌∷◌, Some, Ok}
+use Rattle.std.specs.Prelude.{ℕ, List, Option, ◌≡◌, ◌⊎◌, true, [], ◌∷◌, Some, Ok}
 use Rattle.std.specs.declared.alloc.Global.{Global}
 use Rattle.std.specs.declared.vec.Vec.{Vec}
 use Rattle.t1_extent.specs.Kept.{TracedRun, traces}

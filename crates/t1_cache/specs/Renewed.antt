@@ -1,5 +1,5 @@
 -- Records of glyphs, their users aside, found by name and renewed in their places.
-use Rattle.std.specs.Prelude.{ℕ, List, ◌∷◌, map, Option, Some, None, Result, Ok, if◌then◌else◌}
+use Rattle.std.specs.Prelude.{ℕ, List, [], ◌∷◌, map, Option, Some, None, Result, Ok, if◌then◌else◌}
 use Rattle.std.specs.List.{find}
 use Rattle.std.specs.Map.{lookup}
 use Rattle.std.specs.Option.{option_map}

@@ -1,5 +1,5 @@
 -- How a fault of a font's file is written.
-use Rattle.std.specs.Prelude.{ℕ, Bool, false, ◌==◌, ◌++◌, List, ◌∷◌, drop, codes, decimal, if◌then◌else◌}
+use Rattle.std.specs.Prelude.{ℕ, Bool, false, ◌==◌, ◌++◌, List, [], ◌∷◌, drop, codes, decimal, if◌then◌else◌}
 use Rattle.t1_disassemble.specs.declared.fault.FontCode.{FontCode}
 use Rattle.t1_disassemble.specs.declared.fault.FontCode.TheVariants.{D1, D2, D3, D4, D5, D6, D7, D8, D9, D10, D11, D12, D13}
 use Rattle.t1_disassemble.specs.declared.fault.FontFault.{FontFault}

@@ -40,7 +40,8 @@ use Rattle.t1_chain.proofs.LeadingLaws.{calls_lead}
 use Rattle.t1_faults.specs.Entries.{Entry, placed_words}
 use Rattle.t1_faults.specs.Failing.{failures_in, is_faulty_subr, is_some_and, missing_subr, told_failure}
 use Rattle.t1_faults.specs.Found.{refused_code}
-use Rattle.t1_faults.specs.Met.{FailedRun, failed_runs, faults_at, last_entered, met_in, own_fault, run_fault}
+use Rattle.t1_faults.specs.Met.{failed_runs, faults_at, last_entered, met_in, own_fault, run_fault}
+use Rattle.t1_chain.specs.GlyphFailures.{GlyphFailure}
 use Rattle.t1_faults.specs.Reading.{reading_fault}
 use Rattle.t1_faults.specs.Composites.{OwnRuns, composites_of, with_composites}
 use Rattle.t1_faults.specs.Judging.{checked, entries_in, entry_faults, faults_alone, faults_among, faults_of, faults_read, first_fault_of_run, file_faults, join_faults, source_faults}
@@ -156,7 +157,7 @@ leads items g f e = by (glyph_to_run items g) e where
   by (Some body) h = (length body, calls_lead (font_to_run items) body f (same_told (λ n. list_any (is_faulty_subr n) items) (failure_in (font_to_run items) body) f h))
 
 -- nothing was met in an entry
-abbrev MetNothing : List FailedRun → Entry → Type 0
+abbrev MetNothing : List GlyphFailure → Entry → Type 0
 MetNothing failed e = met_in (own_fault failed) (faults_at failed) e.place (length (placed_words e)) ≡ []
 
 -- where nothing was met in any entry, no glyph's run fails

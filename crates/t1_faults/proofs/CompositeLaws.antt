@@ -17,7 +17,8 @@ use Rattle.t1_font.proofs.Compiling.{or-assoc, or-none}
 use Rattle.t1_font.proofs.Lookups.{numbers_tell}
 use Rattle.t1_faults.specs.declared.call_chains.CallChain.{CallChain}
 use Rattle.t1_faults.specs.declared.found.FoundFault.{FoundFault}
-use Rattle.t1_faults.specs.Composites.{OwnRuns, composite_in, composites_of, each_with, faulty_of_run, faulty_under, faulty_within, found_of_parts, is_chain_of, is_first_naming, names_glyph, with_composites, with_names}
+use Rattle.t1_faults.specs.Composites.{OwnRuns, composites_of, each_with, faulty_of_run, faulty_under, faulty_within, found_of_parts, is_chain_of, is_first_naming, names_glyph, with_composites, with_names}
+use Rattle.t1_chain.specs.GlyphFailures.{parts_found}
 use Rattle.t1_faults.specs.GlyphRuns.{composites_on, each_numbered, first_naming, has_number, names_kept}
 use Rattle.t1_faults.specs.Telling.{IsAccountedFor, IsMet, IsTold, TellsWord}
 use Rattle.t1_faults.proofs.KeptLaws.{same_turned}
@@ -116,7 +117,7 @@ pub found_under : (numbers : List ℕ → Option ℕ) (run : OwnRuns) (g base ac
     → mid ≡ old ++ filter_map numbers (faulty_within run 3 base) → new ≡ mid ++ filter_map numbers (faulty_within run 3 accent) → new ≡ old ++ filter_map numbers (faulty_under run g)
 found_under numbers run g base accent d c old mid new there parts b a first second =
     let whole : faulty_under run g ≡ faulty_within run 3 c.base ++ faulty_within run 3 c.accent =
-    ap (λ r. found_of_parts (faulty_within run 3) (composite_in r)) there ∙ ap (found_of_parts (faulty_within run 3)) parts in
+    ap (λ r. found_of_parts (faulty_within run 3) (parts_found r)) there ∙ ap (found_of_parts (faulty_within run 3)) parts in
     both_added numbers (faulty_within run 3) base accent c old mid new b a first second ∙ ap (λ t. old ++ filter_map numbers t) (sym whole)
 
 -- ---- the composites by the numbers of faults

@@ -42,7 +42,8 @@ use Rattle.t1_faults.specs.declared.run_fault.RunFault.{RunFault}
 use Rattle.t1_faults.specs.Entries.{Entry, placed_words}
 use Rattle.t1_faults.specs.Failing.{failures_in}
 use Rattle.t1_faults.specs.Found.{at_entry, at_place, body_faults, refused_code, in_entry, length_faults, met_faults, word_faults}
-use Rattle.t1_faults.specs.Met.{FailedRun, failed_runs, faults_at, last_entered, met_in, own_fault, run_fault}
+use Rattle.t1_faults.specs.Met.{failed_runs, faults_at, last_entered, met_in, own_fault, run_fault}
+use Rattle.t1_chain.specs.GlyphFailures.{GlyphFailure}
 use Rattle.t1_faults.specs.Composites.{OwnRuns, composites_of}
 use Rattle.t1_faults.specs.Judging.{checked, entries_in, entry_faults, first_fault_of_run, faults_alone, faults_among, faults_read, file_faults, join_fault, join_faults, or_else, run_faults, sound_parts, sound_run, sound_within, source_faults}
 use Rattle.t1_faults.specs.Reading.{placed_reading, reading_fault}
@@ -187,11 +188,11 @@ met_told code p e ws (f ∷ fs) (inl h) =
 met_told code p e ws (f ∷ fs) (inr h) = inr (met_told code p e ws fs h)
 
 -- the faults of an entry, where these runs fail
-abbrev faults_with : List FailedRun → Entry → List FoundFault
+abbrev faults_with : List GlyphFailure → Entry → List FoundFault
 faults_with failed = entry_faults (own_fault failed) (faults_at failed)
 
 -- where the body has none, they are those that runs met
-met_listed : (failed : List FailedRun) (x : Entry) (place : Place) → body_faults x ≡ [] → x.place ≡ place
+met_listed : (failed : List GlyphFailure) (x : Entry) (place : Place) → body_faults x ≡ [] → x.place ≡ place
     → faults_with failed x ≡ met_faults x (met_in (own_fault failed) (faults_at failed) place (length (placed_words x)))
 met_listed failed x place sound stands =
     ap (λ fs. or_else fs (run_faults (own_fault failed) (faults_at failed) x)) sound

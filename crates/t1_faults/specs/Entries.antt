@@ -1,5 +1,5 @@
 -- The entries of a source where they stand.
-use Rattle.std.specs.Prelude.{ℕ, ◌+◌, Option, None, Some, List, ◌∷◌, ◌++◌, drop}
+use Rattle.std.specs.Prelude.{ℕ, ◌+◌, Option, None, Some, List, [], ◌∷◌, ◌++◌, drop}
 use Rattle.t1_frac.specs.declared.fault.Place.{Place}
 use Rattle.t1_frac.specs.declared.fault.Place.TheVariants as places
 use Rattle.t1_parts.specs.declared.body.EntryBody.{EntryBody}

@@ -16,7 +16,7 @@ use Rattle.t1_faults.specs.declared.glyph_runs.GlyphRuns.{GlyphRuns}
 use Rattle.t1_faults.specs.declared.run_fault.RunFault.{RunFault}
 use Rattle.t1_faults.specs.Composites.{OwnRuns, faulty_under, names_glyph, with_names}
 use Rattle.t1_faults.specs.Failing.{Failures, told_by}
-use Rattle.t1_faults.specs.Met.{FailedRun}
+use Rattle.t1_chain.specs.GlyphFailures.{GlyphFailure}
 
 -- word: a number is among these
 abbrev pub has_number : List ℕ → ℕ → Bool
@@ -31,7 +31,7 @@ abbrev pub failures_of : GlyphRuns → Failures
 failures_of runs = told_by (is_faulty runs) (plain_bodies runs.bodies)
 
 -- word: a failed run as the definitions see it
-abbrev pub seen_run : FailedFields → FailedRun
+abbrev pub seen_run : FailedFields → GlyphFailure
 seen_run run = record { glyph = run.glyph; failure = failure_seen run.failure }
 
 -- word: the fault that is kept for a glyph's own body

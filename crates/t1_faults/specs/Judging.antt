@@ -22,7 +22,8 @@ use Rattle.t1_faults.specs.Composites.{OwnRuns, with_composites}
 use Rattle.t1_faults.specs.Entries.{Entry, entries_from, placed_words}
 use Rattle.t1_faults.specs.Failing.{failures_in}
 use Rattle.t1_faults.specs.Found.{at_entry, body_faults, refused_code, met_faults}
-use Rattle.t1_faults.specs.Met.{FailedRun, failed_runs, faults_at, met_in, own_fault}
+use Rattle.t1_faults.specs.Met.{failed_runs, faults_at, met_in, own_fault}
+use Rattle.t1_chain.specs.GlyphFailures.{GlyphFailure}
 use Rattle.t1_faults.specs.Reading.{at_front, reading_fault}
 use Rattle.t1_faults.specs.declared.found.FoundFault.{FoundFault}
 use Rattle.t1_faults.specs.declared.run_fault.RunFault.{RunFault}
@@ -78,7 +79,7 @@ join_faults run e = option_to_list (option_map (at_entry e) (join_fault run e.pl
 
 -- profile, faults: every fault of a source by its entries and the runs of its glyphs, of which these fail: the entries' own faults,
 -- F23, and those of joins
-abbrev pub faults_by : List FailedRun → OwnRuns → SourceParts → List Entry → List FoundFault
+abbrev pub faults_by : List GlyphFailure → OwnRuns → SourceParts → List Entry → List FoundFault
 faults_by failed run s entries =
     flat_map (entry_faults (own_fault failed) (faults_at failed)) entries
     ++ (file_faults (bodies_check s.items) (file_check s) ++ flat_map (join_faults run) entries)

@@ -1,11 +1,10 @@
 -- The first entry of a number or of a name.
-use Rattle.std.specs.Prelude.{ℕ, Bool, false, nat_eq, is_some, ◌+◌, ◌&&◌, ◌||◌, if◌then◌else◌, Option, None, Some, List, ◌∷◌, option_map}
+use Rattle.std.specs.Prelude.{ℕ, Bool, false, nat_eq, is_some, ◌+◌, ◌&&◌, ◌||◌, if◌then◌else◌, Option, None, Some, List, [], ◌∷◌, option_map}
 use Rattle.std.specs.Option.{option_and_then}
-use Rattle.std.specs.Str.{bytes_eq}
 use Rattle.t1_frac.specs.declared.fault.Code.{Code}
 use Rattle.t1_frac.specs.declared.fault.Code.TheVariants.{F9, F10}
 use Rattle.t1_text.specs.Names.{decimal_of, name_of_token, up_to}
-use Rattle.t1_text.specs.Tokens.{tokens}
+use Rattle.t1_text.specs.Tokens.{tokens, is_token}
 use Rattle.t1_parts.specs.Entries.{opens_glyph, opens_subr}
 use Rattle.t1_parts.specs.Sections.{glyphs_line, subrs_line}
 use Rattle.t1_run.specs.Run.{Key, Subr, Glyph}
@@ -31,15 +30,10 @@ abbrev pub is_this_number : ℕ → Option ℕ → Bool
 is_this_number n None = false
 is_this_number n (Some m) = nat_eq n m
 
--- profile, entries: whether there is a name, and it is this one
-abbrev pub is_named : List ℕ → Option (List ℕ) → Bool
-is_named g None = false
-is_named g (Some h) = bytes_eq g h
-
 -- profile, entries: whether a line opens the entry of this key
 abbrev pub opens_entry_at : Key → List ℕ → Bool
 opens_entry_at (Subr n) l = is_this_number n (subr_opened l)
-opens_entry_at (Glyph g) l = is_named g (glyph_opened l)
+opens_entry_at (Glyph g) l = is_token g (glyph_opened l)
 
 -- profile, sections: whether a line begins the section in which an entry of this key stands
 abbrev pub begins_section_of : Key → List ℕ → Bool

@@ -1,5 +1,5 @@
 -- The fault of reading a source, where it stands.
-use Rattle.std.specs.Prelude.{ℕ, ◌+◌, ◌-◌, None, Some, List}
+use Rattle.std.specs.Prelude.{ℕ, ◌+◌, ◌-◌, None, Some, List, []}
 use Rattle.std.specs.List.{prefix_len, slice_index_or}
 use Rattle.t1_frac.specs.Words.{is_blank}
 use Rattle.t1_frac.specs.declared.fault.Code.{Code}

@@ -9,7 +9,8 @@ ghost use Rattle.t1_chain.specs.Machine.{failure_seen};
 ghost use Rattle.t1_faults.specs.GlyphRuns.{has_fault_code, is_at, faults_kept_at, own_kept};
 ghost use Rattle.t1_faults.specs.GlyphRuns.{seen_run};
 ghost use Rattle.t1_faults.specs.GlyphRuns.{with_chain};
-ghost use Rattle.t1_faults.specs.Met.{FailedRun as FailedRunOf, chain_of, fails_in_glyph};
+ghost use Rattle.t1_faults.specs.Met.{chain_of, fails_in_glyph};
+ghost use Rattle.t1_chain.specs.GlyphFailures.{GlyphFailure as FailedRunOf};
 ghost use Rattle.t1_faults.specs.Met.{faults_at, faults_by_code, last_entered, own_fault};
 ghost use Rattle.t1_faults.specs.Met.{run_fault};
 

@@ -4,7 +4,8 @@ ghost use Rattle.std.specs.Prelude.{◌≡◌, false, option_map};
 ghost use Rattle.t1_text.specs.Lines.{lines};
 ghost use Rattle.t1_faults.specs.Openings.{begins_section_of, detail_on, first_line_opening};
 ghost use Rattle.t1_faults.specs.Openings.{glyph_opened};
-ghost use Rattle.t1_faults.specs.Openings.{is_named, is_this_number, key_opened, line_told};
+ghost use Rattle.t1_faults.specs.Openings.{is_this_number, key_opened, line_told};
+ghost use Rattle.t1_text.specs.Tokens.{is_token};
 ghost use Rattle.t1_faults.specs.CodeForms.{key_found};
 ghost use Rattle.t1_faults.specs.Openings.{opens_entry_at, subr_opened};
 
@@ -69,7 +70,7 @@ fn opens_number(number: u32, line: &[u8]) -> bool
 
 /// Whether a line opens the glyph of this name.
 fn opens_name(name: &[u8], line: &[u8]) -> bool
-    ensures { result ≡ is_named name.now (glyph_opened line.now) }
+    ensures { result ≡ is_token name.now (glyph_opened line.now) }
 {
     match glyph_opened(line) {
         None => false,

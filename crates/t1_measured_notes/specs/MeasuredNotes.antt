@@ -1,5 +1,5 @@
 -- The notes that stand on runs of the glyphs.
-use Rattle.std.specs.Prelude.{ℕ, Bool, false, not, ◌-◌, ◌||◌, ◌&&◌, nat_eq, nat_lt, ℤ, pos, negsuc, int_le, List, ◌∷◌, ◌++◌, codes, Option, Some, None, Result, Ok, Err}
+use Rattle.std.specs.Prelude.{ℕ, Bool, false, not, ◌-◌, ◌||◌, ◌&&◌, nat_eq, nat_lt, ℤ, pos, negsuc, int_le, List, [], ◌∷◌, ◌++◌, codes, Option, Some, None, Result, Ok, Err}
 use Rattle.std.specs.List.{list_all, list_any}
 use Rattle.std.specs.Str.{bytes_eq}
 use Rattle.t1_frac.specs.Numbers.{is_number_word}

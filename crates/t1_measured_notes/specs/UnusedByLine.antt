@@ -1,5 +1,5 @@
 -- The notes on unused Subrs, as a loop over lines finds them.
-use Rattle.std.specs.Prelude.{ℕ, Bool, nat_eq, List, ◌∷◌, ◌++◌}
+use Rattle.std.specs.Prelude.{ℕ, Bool, nat_eq, List, [], ◌∷◌, ◌++◌}
 use Rattle.std.specs.List.{list_any}
 use Rattle.t1_notes.specs.declared.line.Line.{Line}
 use Rattle.t1_notes.specs.declared.note.Note.{Note}

@@ -1,5 +1,5 @@
 -- The lines of a section that don't stand inside an entry.
-use Rattle.std.specs.Prelude.{ℕ, Bool, false, not, ◌&&◌, ◌==◌, if◌then◌else◌, List, ◌∷◌, drop}
+use Rattle.std.specs.Prelude.{ℕ, Bool, false, not, ◌&&◌, ◌==◌, if◌then◌else◌, List, [], ◌∷◌, drop}
 use Rattle.std.specs.List.{list_any, position_or_len}
 use Rattle.t1_frac.specs.Ascii.{open_brace}
 use Rattle.t1_parts.specs.Entries.{has_brace}

@@ -1,5 +1,5 @@
 -- The heads of a section, as a loop over its lines finds them.
-use Rattle.std.specs.Prelude.{ℕ, Bool, if◌then◌else◌, List, ◌∷◌, ◌++◌}
+use Rattle.std.specs.Prelude.{ℕ, Bool, if◌then◌else◌, List, [], ◌∷◌, ◌++◌}
 use Rattle.t1_parts.specs.Entries.{has_brace}
 use Rattle.t1_notes.specs.declared.line.Line.{Line}
 use Rattle.t1_notes.specs.declared.sections.Section.{Section}

@@ -1,5 +1,5 @@
 -- The notes on a text: what is no fault and is most likely a mistake.
-use Rattle.std.specs.Prelude.{ℕ, Bool, false, not, ◌+◌, ◌||◌, ◌&&◌, ◌==◌, nat_le, max, if◌then◌else◌, Option, Some, None, is_none, is_some, List, ◌∷◌, ◌++◌, codes, filter_map, count_by}
+use Rattle.std.specs.Prelude.{ℕ, Bool, false, not, ◌+◌, ◌||◌, ◌&&◌, ◌==◌, nat_le, max, if◌then◌else◌, Option, Some, None, is_none, is_some, List, [], ◌∷◌, ◌++◌, codes, filter_map, count_by}
 use Rattle.std.specs.List.{starts_with}
 use Rattle.std.specs.Str.{bytes_eq}
 use Rattle.t1_frac.specs.Numbers.{decimal_value}

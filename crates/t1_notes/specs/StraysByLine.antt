@@ -1,5 +1,5 @@
 -- The notes on lines that belong to no glyph, as a loop over lines finds them.
-use Rattle.std.specs.Prelude.{ℕ, Bool, if◌then◌else◌, List, ◌∷◌, ◌++◌}
+use Rattle.std.specs.Prelude.{ℕ, Bool, if◌then◌else◌, List, [], ◌∷◌, ◌++◌}
 use Rattle.t1_notes.specs.declared.line.Line.{Line}
 use Rattle.t1_notes.specs.declared.note.Note.{Note}
 use Rattle.t1_notes.specs.Notes.{is_bare, is_stray, stray_note}

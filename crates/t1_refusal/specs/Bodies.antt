@@ -1,7 +1,7 @@
 -- What the code holds of a refused source.
 use Rattle.t1_chain.specs.Machine.{failure_seen}
 use Rattle.t1_refusal.specs.declared.met.FailedRun.{FailedRun}
-use Rattle.t1_refusal.specs.Met.{GlyphFailure}
+use Rattle.t1_chain.specs.GlyphFailures.{GlyphFailure}
 use Rattle.std.specs.Prelude.{◌≡◌, List, Ok, Err}
 use Rattle.t1_frac.specs.declared.fault.Fault.{Fault}
 use Rattle.t1_parts.specs.declared.item.Item.{Item}

@@ -1,5 +1,5 @@
 -- What is told of a source that is refused.
-use Rattle.std.specs.Prelude.{ℕ, ◌+◌, ◌-◌, Bool, true, false, is_ok, if◌then◌else◌, List, ◌∷◌, ◌++◌, length, flat_map, Option, Some, None, option_map, Result, Ok, Err, codes, decimal}
+use Rattle.std.specs.Prelude.{ℕ, ◌+◌, ◌-◌, Bool, true, false, is_ok, if◌then◌else◌, List, [], ◌∷◌, ◌++◌, length, flat_map, Option, Some, None, option_map, Result, Ok, Err, codes, decimal}
 use Rattle.std.specs.List.{slice_get}
 use Rattle.t1_frac.specs.Ascii.{line_feed, space}
 use Rattle.t1_frac.specs.declared.fault.Code.{Code}
@@ -15,7 +15,8 @@ use Rattle.t1_chain.specs.declared.failure.Call.{Call}
 use Rattle.t1_font.specs.Bodies.{bodies, bodies_check}
 use Rattle.t1_font.specs.SourceChecks.{source_check}
 use Rattle.t1_refusal.specs.Entries.{glyph_named, words_at_place, subr_of, words_of_found}
-use Rattle.t1_refusal.specs.Met.{GlyphFailure, met_within}
+use Rattle.t1_refusal.specs.Met.{met_within}
+use Rattle.t1_chain.specs.GlyphFailures.{GlyphFailure}
 
 -- ---- the word
 
