@@ -34,10 +34,11 @@ use crate::telling::{perform, tell_answer};
 use crate::texts::tell_fault;
 use std::alloc::Global;
 use std::mem;
-use t1_calls::{Talk, afm_of, blocks_of, check, pfa_of, pfb_of};
+use t1_calls::{Talk, afm_of, blocks_of, pfa_of, pfb_of};
 use t1_disassemble::disassemble;
 use t1_fault_texts::fault_rows;
 use t1_frac::Refusal;
+use t1_session::check_source;
 
 /// The version of these calls.
 const VERSION: u32 = 1;
@@ -229,7 +230,7 @@ pub extern "C" fn t1edit_check(
     ensures { Judged result (verdict source.now pairs.now) out.old out.new length.old
         length.new }
 {
-    tell_judgement(alloc, check(alloc, source, pairs), out, length)
+    tell_judgement(alloc, check_source(alloc, source, pairs), out, length)
 }
 
 /// Tells every fault of a source and its pairs, a line each.

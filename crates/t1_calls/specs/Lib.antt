@@ -1,4 +1,4 @@
 pub mod Framing
-pub mod Judging
+pub mod Refusing
 pub mod Shown
 pub mod Talking

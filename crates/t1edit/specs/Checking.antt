@@ -1,7 +1,5 @@
 -- What checking a source answers.
 use Rattle.std.specs.Prelude.{◌≡◌, ℕ, List, Result, Ok, Err}
-use Rattle.t1_frac.specs.declared.fault.Refusal.{Refusal}
-use Rattle.t1_frac.specs.declared.fault.Refusal.TheVariants as refusals
 use Rattle.t1_session.specs.declared.error.ServeError.{ServeError}
 use Rattle.t1_session.specs.declared.error.ServeError.TheVariants as errors
 use Rattle.t1_frac.specs.declared.fault.Fault.{Fault}
@@ -9,14 +7,6 @@ use Rattle.t1_session.specs.Files.{verdict}
 use Rattle.t1_disassemble.specs.declared.fault.FontFault.{FontFault}
 use Rattle.t1edit.specs.Sources.{AnswersAs, TellsFontFault}
 use Rattle.t1edit.specs.declared.file_error.FileError.{FileError}
-
--- word: what judging answers where measuring answers this
-abbrev pub judged_by : {T : Type 0} → Result T ServeError → Result (Unit {0}) Refusal
-judged_by (Ok done) = Ok tt
-judged_by (Err errors.Write) = Ok tt
-judged_by (Err (errors.Load fault)) = Err (refusals.Fault fault)
-judged_by (Err errors.Read) = Err refusals.Memory
-judged_by (Err errors.Memory) = Err refusals.Memory
 
 -- profile: what is judged passes where the verdict is so, and is refused by its fault, unless memory ran out
 abbrev pub Judges : {T : Type 0} → Result (Unit {0}) Fault → Result T ServeError → Type 0
