@@ -10,7 +10,8 @@ use Rattle.t1_source.specs.declared.edit.Edit.{Edit}
 use Rattle.t1_pairs.specs.declared.pairs.Pair.{Pair}
 use Rattle.t1_source.specs.Editing.{edited}
 use Rattle.t1_source.specs.WellFormed.{IsWellFormed}
-use Rattle.t1_font.specs.Bodies.{SameBodies, bodies}
+use Rattle.t1_font.specs.Bodies.{bodies}
+use Rattle.t1_font.specs.KeptBodies.{SameBodies}
 use Rattle.t1_cache.specs.Edited.{body_after}
 use Rattle.t1_cache.specs.EditKeys.{named}
 

@@ -26,7 +26,8 @@ use Rattle.t1_font.specs.declared.glyph_metrics.GlyphMetrics.{GlyphMetrics}
 use Rattle.t1_font.specs.Assembly.{file_check}
 use Rattle.t1_font.specs.Bodies.{bodies_check}
 use Rattle.t1_font.specs.Glyphs.{glyph_names}
-use Rattle.t1_font.specs.MeasuredGlyphs.{MeasuredFont, glyph_metrics_among, glyph_metrics_at, measured}
+use Rattle.t1_font.specs.MeasuredGlyphs.{MeasuredFont, glyph_metrics_at, measured}
+use Rattle.t1_font.specs.MetricsByRuns.{glyph_metrics_among}
 use Rattle.t1_font.specs.SourceChecks.{measured_source, source_check}
 use Rattle.t1_font.specs.ToRun.{font_to_run, glyph_to_run}
 use Rattle.t1_font.proofs.Compiling.{none-there}

@@ -7,7 +7,7 @@ use Rattle.std.specs.declared.vec.Vec.{Vec}
 use denote.Enum.Bare.{sameb}
 use Rattle.t1_frac.specs.contracts.fault.Code.{the_type}
 use Rattle.t1_frac.specs.declared.fault.Code.{Code}
-use Rattle.t1_font.specs.Bodies.{plain_bodies}
+use Rattle.t1_font.specs.KeptBodies.{plain_bodies}
 use Rattle.t1_chain.specs.Machine.{failure_seen}
 use Rattle.t1_faults.specs.declared.call_chains.CallChain.{CallChain}
 use Rattle.t1_faults.specs.declared.found.FoundFault.{FoundFault}

@@ -2,7 +2,7 @@
 
 ghost use Rattle.std.specs.Prelude.{◌≡◌, ◌++◌, is_some, map, option_map, IfOk, OnOk};
 ghost use Rattle.std.specs.Option.{option_to_list};
-ghost use Rattle.t1_font.specs.Bodies.{plain_bodies};
+ghost use Rattle.t1_font.specs.KeptBodies.{plain_bodies};
 ghost use Rattle.t1_font.specs.Runs.{drawing_in};
 ghost use Rattle.t1_chain.specs.Machine.{failure_seen};
 ghost use Rattle.t1_faults.specs.CodeForms.{entry_in_text};

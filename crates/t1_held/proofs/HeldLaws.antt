@@ -22,7 +22,8 @@ use Rattle.t1_source.proofs.WellFormedSourceLaws.{source_well_formed}
 use Rattle.t1_run.specs.Run.{Subr, Glyph, key_eq}
 use Rattle.t1_font.specs.Assembly.{file_check}
 use Rattle.t1_font.specs.Glyphs.{glyph_names}
-use Rattle.t1_font.specs.Runs.{counted, Counts}
+use Rattle.t1_font.specs.Runs.{Counts}
+use Rattle.t1_font.specs.RunCounts.{counted}
 use Rattle.t1_font.specs.SourceChecks.{source_check}
 use Rattle.t1_charstrings.specs.declared.entries.Charstrings.{Charstrings}
 use Rattle.t1_charstrings.specs.Changed.{AreSameCharstrings}

@@ -14,7 +14,7 @@ use Rattle.t1_run.specs.declared.outline.Composite.{Composite}
 use Rattle.t1_run.specs.Machine.{GivesOwn}
 use Rattle.t1_run.specs.Run.{FontBodies, Drawing, NumberedRun, font, own, own_of}
 use Rattle.t1_run.specs.Run as keys
-use Rattle.t1_font.specs.Bodies.{SameBodies}
+use Rattle.t1_font.specs.KeptBodies.{SameBodies}
 use Rattle.t1_refusal.specs.declared.met.FailedRun.{FailedRun}
 use Rattle.t1_refusal.specs.Met.{failed, met_in_parts, met_within}
 use Rattle.t1_chain.specs.GlyphFailures.{GlyphFailure, parts_found}

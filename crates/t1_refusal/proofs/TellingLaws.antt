@@ -12,7 +12,8 @@ use Rattle.t1_parts.specs.declared.item.Item.{Item}
 use Rattle.t1_parts.specs.SourceParts.{SourceParts}
 use Rattle.t1_commands.specs.AnswerTexts.{fault_text}
 use Rattle.t1_run.specs.Run.{FontBodies}
-use Rattle.t1_font.specs.Bodies.{SameBodies, bodies, bodies_check}
+use Rattle.t1_font.specs.Bodies.{bodies, bodies_check}
+use Rattle.t1_font.specs.KeptBodies.{SameBodies}
 use Rattle.t1_font.specs.MeasuredGlyphs.{MeasuredFont}
 use Rattle.t1_font.specs.SourceChecks.{measured_source, source_check}
 use Rattle.t1_refusal.specs.declared.met.FailedRun.{FailedRun}

@@ -6,7 +6,8 @@ use Rattle.std.specs.Prelude.{◌≡◌, List, Ok, Err}
 use Rattle.t1_frac.specs.declared.fault.Fault.{Fault}
 use Rattle.t1_parts.specs.declared.item.Item.{Item}
 use Rattle.t1_run.specs.Run.{FontBodies}
-use Rattle.t1_font.specs.Bodies.{bodies, bodies_check, SameBodies}
+use Rattle.t1_font.specs.Bodies.{bodies, bodies_check}
+use Rattle.t1_font.specs.KeptBodies.{SameBodies}
 
 -- word, refusals: the same, as the code holds it
 abbrev pub seen_of : FailedRun → GlyphFailure

@@ -16,7 +16,7 @@ use Rattle.t1_run.specs.Run.{FontBodies, Key, Subr, Glyph, body_at}
 use Rattle.t1_extent.specs.Kept.{TracedRun}
 use Rattle.t1_run.specs.Touched.{is_user}
 use Rattle.t1_font.specs.declared.glyph_metrics.GlyphMetrics.{GlyphMetrics}
-use Rattle.t1_font.specs.Bodies.{subr_body_kept, glyph_body_kept, SameBodies}
+use Rattle.t1_font.specs.KeptBodies.{subr_body_kept, glyph_body_kept, SameBodies}
 use Rattle.t1_font.specs.Runs.{NamedRun as KeptRun, run_kept, drawing_in as run_of}
 use Rattle.t1_cache.specs.declared.records.Records.{Records}
 use Rattle.t1_cache.specs.Bodies.{glyph_body, record_bodies}

@@ -13,7 +13,8 @@ use Rattle.t1_source.specs.declared.edit.Edit.{Edit}
 use Rattle.t1_run.specs.Footprint.{Includes}
 use Rattle.t1_run.specs.Overlay.{after_change}
 use Rattle.t1_run.specs.Run.{FontBodies, Key, Subr, Glyph, body_at, key_eq}
-use Rattle.t1_font.specs.Bodies.{bodies, SameBodies}
+use Rattle.t1_font.specs.Bodies.{bodies}
+use Rattle.t1_font.specs.KeptBodies.{SameBodies}
 use Rattle.t1_font.specs.Assembly.{file_check}
 use Rattle.t1_font.specs.Glyphs.{Glyph as Reported, glyphs, glyph_names}
 use Rattle.t1_font.specs.SourceChecks.{source_check, source_glyphs}

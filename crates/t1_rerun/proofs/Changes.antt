@@ -13,7 +13,8 @@ use Rattle.t1_run.specs.Run.{FontBodies, Key, Glyph, own, body_at, key_eq}
 use Rattle.t1_extent.specs.Kept.{TracedRun}
 use Rattle.t1_run.specs.Touched.{is_key_of, is_met, is_named, is_touched, is_user}
 use Rattle.t1_afm.specs.declared.bbox.BBox.{BBox}
-use Rattle.t1_font.specs.Bodies.{bodies, SameBodies}
+use Rattle.t1_font.specs.Bodies.{bodies}
+use Rattle.t1_font.specs.KeptBodies.{SameBodies}
 use Rattle.t1_font.specs.Glyphs.{glyph_names}
 use Rattle.t1_cache.specs.declared.records.Named.{Named}
 use Rattle.t1_cache.specs.declared.records.Named.TheVariants as named

@@ -15,8 +15,9 @@ use Rattle.t1_run.specs.Touched.{is_user, AreStale}
 use Rattle.t1_font.specs.declared.glyph_metrics.GlyphMetrics.{GlyphMetrics}
 use Rattle.t1_font.specs.Bodies.{bodies}
 use Rattle.t1_font.specs.Glyphs.{glyph_names}
-use Rattle.t1_font.specs.MeasuredGlyphs.{glyph_metrics_among}
-use Rattle.t1_font.specs.Runs.{NamedRun as KeptRun, run_kept, drawing_in as run_of, own_among, counted, AreTraced, Counts, IsNumberedAfter}
+use Rattle.t1_font.specs.MetricsByRuns.{glyph_metrics_among}
+use Rattle.t1_font.specs.Runs.{NamedRun as KeptRun, run_kept, drawing_in as run_of, own_among, AreTraced, Counts, IsNumberedAfter}
+use Rattle.t1_font.specs.RunCounts.{counted}
 use Rattle.t1_font.specs.SourceChecks.{source_check}
 use Rattle.t1_cache.specs.declared.records.Named.{Named}
 use Rattle.t1_cache.specs.declared.records.Records.{Records}

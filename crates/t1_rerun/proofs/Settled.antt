@@ -11,7 +11,8 @@ use Rattle.t1_run.specs.Composite.{outline}
 use Rattle.t1_run.specs.Run.{FontBodies, Key, own}
 use Rattle.t1_run.specs.Touched.{is_user}
 use Rattle.t1_frac.specs.declared.fault.Code.{Code}
-use Rattle.t1_font.specs.Bodies.{bodies, SameBodies}
+use Rattle.t1_font.specs.Bodies.{bodies}
+use Rattle.t1_font.specs.KeptBodies.{SameBodies}
 use Rattle.t1_font.specs.Glyphs.{Glyph as Reported, glyph_of, glyph_names}
 use Rattle.t1_font.specs.SourceChecks.{source_glyphs, source_check}
 use Rattle.t1_font.proofs.GlyphsOfSource.{check-by-glyphs}

@@ -7,7 +7,7 @@ use Rattle.t1_parts.specs.SourceParts.{SourceParts}
 use Rattle.t1_run.specs.Run.{FontBodies, Key, own}
 use Rattle.t1_font.specs.declared.glyph_metrics.GlyphMetrics.{GlyphMetrics}
 use Rattle.t1_font.specs.Assembly.{file_check}
-use Rattle.t1_font.specs.Bodies.{SameBodies}
+use Rattle.t1_font.specs.KeptBodies.{SameBodies}
 use Rattle.t1_font.specs.Glyphs.{glyph_names}
 use Rattle.t1_font.specs.Runs.{NamedRun as KeptRun, run_kept, drawing_in}
 use Rattle.t1_cache.specs.declared.records.Records.{Records}

@@ -1,6 +1,6 @@
 -- The numbers of the runs that records keep.
 use Rattle.std.specs.Prelude.{◌≤◌, ℕ}
-use Rattle.t1_font.specs.Runs.{counted}
+use Rattle.t1_font.specs.RunCounts.{counted}
 use Rattle.t1_cache.specs.Recorded.{Kept}
 
 -- profile: a record's run is after this count

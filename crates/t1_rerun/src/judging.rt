@@ -5,7 +5,7 @@ ghost use Rattle.t1_frac.specs.Outcome.{Gives};
 ghost use Rattle.t1_parts.specs.SourceParts.{SourceParts};
 ghost use Rattle.t1_run.specs.Run.{font, FontBodies};
 ghost use Rattle.t1_run.specs.Touched.{AreStale};
-ghost use Rattle.t1_font.specs.MeasuredGlyphs.{glyph_metrics_among};
+ghost use Rattle.t1_font.specs.MetricsByRuns.{glyph_metrics_among};
 ghost use Rattle.t1_font.specs.Runs.{own_among, drawing_in, run_kept, AreTraced, Counts};
 ghost use Rattle.t1_font.specs.Runs.{IsNumberedAfter};
 ghost use Rattle.t1_font.specs.SourceChecks.{source_check};

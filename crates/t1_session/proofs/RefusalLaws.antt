@@ -17,7 +17,7 @@ use Rattle.t1_session.specs.Machine.{without_batch, keeping, refusal_kept, outco
 use Rattle.t1_session.specs.Outcomes.{Takes, TookNoted, refused_source}
 use Rattle.t1_session.specs.Unnoted.{TakesUnnoted, Took, faulty_batch, with_refused}
 use Rattle.t1_session.specs.KeptRefusals.{refused_after, OnFault}
-use Rattle.t1_font.specs.Runs.{counted}
+use Rattle.t1_font.specs.RunCounts.{counted}
 use Rattle.t1_cache.specs.Edited.{stale}
 use Rattle.t1_rerun.specs.Renewing.{IsRunWhereStale}
 use Rattle.t1_session.specs.Reruns.{Edition, Reruns}

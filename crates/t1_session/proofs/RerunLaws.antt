@@ -15,7 +15,8 @@ use Rattle.t1_source.specs.declared.editing.change.Change.{Change}
 use Rattle.t1_source.specs.Changes.{changed, Serves}
 use Rattle.t1_run.specs.Run.{Key}
 use Rattle.t1_font.specs.Assembly.{file_check}
-use Rattle.t1_font.specs.Runs.{counted, Counts}
+use Rattle.t1_font.specs.Runs.{Counts}
+use Rattle.t1_font.specs.RunCounts.{counted}
 use Rattle.t1_font.specs.SourceChecks.{source_check}
 use Rattle.t1_cache.specs.Edited.{stale}
 use Rattle.t1_cache.specs.EditKeys.{named}

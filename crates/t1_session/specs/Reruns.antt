@@ -10,7 +10,7 @@ use Rattle.t1_run.specs.Run.{Key}
 use Rattle.t1_run.specs.Touched.{AreStale}
 use Rattle.t1_font.specs.Bodies.{bodies}
 use Rattle.t1_font.specs.Glyphs.{glyph_names}
-use Rattle.t1_font.specs.Runs.{counted}
+use Rattle.t1_font.specs.RunCounts.{counted}
 use Rattle.t1_outline.specs.Counting.{outline_runs}
 use Rattle.t1_cache.specs.EditKeys.{named}
 use Rattle.t1_cache.specs.Recorded.{IsOneOf, Kept}

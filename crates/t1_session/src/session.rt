@@ -52,7 +52,7 @@ ghost use Rattle.t1_parts.specs.Printing.{text};
 ghost use Rattle.t1_parts.specs.Reading.{reads};
 ghost use Rattle.t1_code.specs.Parts.{Prints};
 ghost use Rattle.t1_font.specs.Glyphs.{glyph_names};
-ghost use Rattle.t1_font.specs.Runs.{counted};
+ghost use Rattle.t1_font.specs.RunCounts.{counted};
 ghost use Rattle.t1_font.specs.SourceChecks.{measured_source, source_check};
 ghost use Rattle.t1_cache.specs.EditKeys.{named};
 ghost use Rattle.t1_held.specs.Batch.{entry_edit, keys};

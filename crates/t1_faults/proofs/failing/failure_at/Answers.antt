@@ -1,5 +1,5 @@
 use Rattle.std.proofs.Common.{◌≡◌, false, is_some, rules}
-use Rattle.t1_font.specs.Bodies.{plain_bodies}
+use Rattle.t1_font.specs.KeptBodies.{plain_bodies}
 use Rattle.t1_font.specs.Runs.{drawing_in}
 use Rattle.t1_faults.specs.Judging.{first_fault_of_run}
 use Rattle.t1_faults.proofs.FailureLaws.{no_failure}

@@ -2,7 +2,8 @@ use Rattle.std.proofs.Common.{◌≡◌, ◌∙◌, ap, filter, is_some, map, sy
 use Rattle.std.specs.Prelude.{◌&&◌}
 use Rattle.std.specs.Str.{bytes_eq}
 use Rattle.t1_run.specs.Touched.{is_user}
-use Rattle.t1_font.specs.Runs.{counted, drawing_in as run_of}
+use Rattle.t1_font.specs.Runs.{drawing_in as run_of}
+use Rattle.t1_font.specs.RunCounts.{counted}
 use Rattle.t1_cache.specs.Renewed.{recorded_run}
 use Rattle.std.proofs.lemmas.Result.{err_from_is_err_and}
 use Rattle.t1_run.specs.Run.{font}

@@ -3,7 +3,7 @@ use Rattle.std.specs.Prelude.{◌++◌, ◌∷◌, []}
 use Rattle.std.proofs.lemmas.List.{take_all}
 use Rattle.std.specs.Str.{bytes_eq}
 use Rattle.t1_run.specs.Run.{Glyph, body_at}
-use Rattle.t1_font.specs.Bodies.{glyph_body_kept}
+use Rattle.t1_font.specs.KeptBodies.{glyph_body_kept}
 use Rattle.t1_font.specs.Runs.{run_kept}
 use Rattle.t1_cache.specs.Bodies.{record_bodies}
 use Rattle.t1_cache.specs.Changed.{SetsBody}

@@ -1,6 +1,7 @@
 use Rattle.std.proofs.Common.{◌≡◌, Err, None, Ok, ap, map, rules, subst, sym, true}
 use Rattle.std.proofs.lemmas.Result.{err_from_is_err_and}
-use Rattle.t1_font.specs.Runs.{counted, Counts}
+use Rattle.t1_font.specs.Runs.{Counts}
+use Rattle.t1_font.specs.RunCounts.{counted}
 use Rattle.t1_font.specs.SourceChecks.{source_check}
 use Rattle.t1_cache.specs.Recorded.{kept_of}
 use Rattle.t1_held.specs.declared.held.ReadyHeld.{ReadyHeld}
