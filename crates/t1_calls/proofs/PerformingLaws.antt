@@ -22,7 +22,8 @@ use Rattle.t1_session.specs.Machine.{after_want, machine, may_want_memory, outco
 use Rattle.t1_session.specs.Outcomes.{Takes}
 use Rattle.t1_session.specs.State.{SessionState}
 use Rattle.t1_calls.specs.Framing.{call_commands, framed, is_call}
-use Rattle.t1_calls.specs.Talking.{Brings, IsCallAnswered, IsAnswerTo}
+use Rattle.t1_calls.specs.Talking.{Brings}
+use Rattle.t1_calls.specs.Performing.{IsCallAnswered, IsAnswerTo}
 use Rattle.t1_calls.proofs.FramingLaws.{of_call}
 
 -- what was performed, and how it is answered

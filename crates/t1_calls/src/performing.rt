@@ -1,6 +1,6 @@
 //! Commands performed on a session, each with its answer in memory.
 ghost use Rattle.t1_commands.specs.MadeCommands.{Makes};
-ghost use Rattle.t1_calls.specs.Talking.{IsCallAnswered, IsAnswerTo};
+ghost use Rattle.t1_calls.specs.Performing.{IsCallAnswered, IsAnswerTo};
 
 use crate::prints::{print_answer, show_answer};
 use std::alloc::{AllocError, Global};

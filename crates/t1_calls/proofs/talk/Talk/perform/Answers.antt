@@ -2,7 +2,8 @@ use Rattle.std.proofs.Common.{◌≡◌, true, false, [], subst, rules}
 use Rattle.t1_frac.specs.Words.{words}
 use Rattle.t1_commands.specs.Commands.{is_wordless, line_command, takes_body}
 use Rattle.t1_calls.specs.Framing.{framed, is_call}
-use Rattle.t1_calls.specs.Talking.{Brings, Spoken, IsAnswerTo}
+use Rattle.t1_calls.specs.Talking.{Brings, Spoken}
+use Rattle.t1_calls.specs.Performing.{IsAnswerTo}
 use Rattle.t1_calls.proofs.PerformingLaws.{spoken, unspoken}
 use Rattle.t1_calls.proofs.talk.Talk.perform.Goals as goal
 

@@ -3,7 +3,8 @@ use Rattle.t1_frac.specs.Words.{words}
 use Rattle.t1_text.specs.Lines.{joined, lines}
 use Rattle.t1_commands.specs.Commands.{body_command}
 use Rattle.t1_commands.specs.MadeCommands.{Makes}
-use Rattle.t1_calls.specs.Talking.{Spoken, IsAnswerTo}
+use Rattle.t1_calls.specs.Talking.{Spoken}
+use Rattle.t1_calls.specs.Performing.{IsAnswerTo}
 use Rattle.t1_calls.proofs.PerformingLaws.{spoken_with}
 use Rattle.t1_calls.proofs.talk.Talk.perform_with.Goals as goal
 
