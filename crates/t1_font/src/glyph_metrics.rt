@@ -3,7 +3,8 @@ ghost use Rattle.std.specs.Prelude.{◌≡◌, map, Ok, Err, MatchResult};
 ghost use Rattle.t1_frac.specs.Outcome.{Gives, reported_at};
 ghost use Rattle.t1_frac.specs.declared.fault.Place.TheVariants as places;
 ghost use Rattle.t1_afm.specs.Box.{united};
-ghost use Rattle.t1_font.specs.Glyphs.{placed_parts_of, run_there};
+ghost use Rattle.t1_font.specs.Glyphs.{placed_parts_of};
+ghost use Rattle.t1_extent.specs.FoundRuns.{run_there};
 ghost use Rattle.t1_font.specs.MeasuredGlyphs.{glyph_metrics_at};
 ghost use Rattle.t1_font.specs.MetricsByRuns.{glyph_metrics_among, glyph_metrics_by};
 
