@@ -3,9 +3,9 @@
 //!
 //! All of it is for users: [`serve`] answers commands from a reader, a [`Session`] has the same
 //! commands as calls, [`assemble_source`], [`assemble_blocks`], [`assemble_pfa`] and
-//! [`measure_source`] write the files of a source in one call, and [`check_source`] judges one. They
-//! take types of other crates: sources and edits of `t1_source`, pairs of `t1_pairs`, readers and
-//! writers as `Counted` of `t1_code`, and faults of `t1_frac`.
+//! [`measure_source`] write the files of a source in one call, and [`check_source`] judges one.
+//! They take types of other crates: sources and edits of `t1_source`, pairs of `t1_pairs`, readers
+//! and writers as `Counted` of `t1_code`, and faults of `t1_frac`.
 #![tactic(auto)]
 
 mod answering;
