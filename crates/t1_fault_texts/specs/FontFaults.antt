@@ -23,13 +23,13 @@ font_code_name D12 = codes "D12"
 font_code_name D13 = codes "D13"
 
 -- profile: whether an entry is that of a glyph, whose name stands after a slash
-abbrev pub is_of_glyph : List ℕ → Bool
-is_of_glyph [] = false
-is_of_glyph (byte ∷ rest) = byte == 47
+abbrev pub begins_with_slash : List ℕ → Bool
+begins_with_slash [] = false
+begins_with_slash (byte ∷ rest) = byte == 47
 
 -- profile: a glyph by its name, or a Subr by its number, which stands after 'dup '
 abbrev pub font_entry_text : List ℕ → List ℕ
-font_entry_text entry = if is_of_glyph entry then codes " glyph " ++ drop 1 entry else codes " subr " ++ drop 4 entry
+font_entry_text entry = if begins_with_slash entry then codes " glyph " ++ drop 1 entry else codes " subr " ++ drop 4 entry
 
 -- profile: where a fault stands, after its code
 abbrev pub font_place_text : FontPlace → List ℕ
