@@ -126,7 +126,7 @@ pub fn make_room(
     joins: &[(Named, Vec<u8>)],
 ) -> Result<(), AllocError>
     ensures room { OnOk result
-            ((k : Key) → MayJoin (pairs_of_key joins.now k) (users_at records.new k)) }
+        ((k : Key) → MayJoin (pairs_of_key joins.now k) (users_at records.new k)) }
     ensures users { (k : Key) (u : List ℕ) → lists records.new k u ≡ lists records.old k u }
     ensures sets { (k : Key) → IsRoomier (users_at records.old k) (users_at records.new k) }
     ensures rest { rest_of records.new ≡ rest_of records.old }

@@ -65,7 +65,7 @@ fn file_answer(
     requires some { 1 ≤ size }
     requires short { size ≤ 2 ^ 31 - 1 }
     ensures { IfOk result
-            (λ answer. answer ≡ file_answer (shown_file session.now.state size print)) }
+        (λ answer. answer ≡ file_answer (shown_file session.now.state size print)) }
 {
     let file = file_of(alloc, session, size, print)?;
     Ok(Answer::Data(Bytes::new(file)))

@@ -19,7 +19,7 @@ impl Model for Talk {
     ghost Value = { Spoken };
 
     ghost view = { λ talk.
-            record { state = talk.session.state; answer = kept_answer_text talk.answer } };
+        record { state = talk.session.state; answer = kept_answer_text talk.answer } };
 }
 
 /// Why a call performed nothing.

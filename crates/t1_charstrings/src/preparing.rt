@@ -81,7 +81,7 @@ fn len_after(
     requires prepared { IsPreparedByEdits made.now private_len }
     requires lead { may_set_lead made.now ≡ false }
     requires edits { AreEdits (source_before_edits made.now) (made_of made.now) charstrings.now
-            entries.now }
+        entries.now }
     ensures judged { MatchResult result (λ _. file_check (made_of made.now) ≡ Ok tt)
         (λ fault. file_check (made_of made.now) ≡ Err fault) }
     ensures len { IfOk result (IsPrivateLen (made_of made.now)) }
@@ -108,7 +108,7 @@ pub fn prepare_lines(
 ) -> Result<ReadyLines, Refusal>
     requires prepared { IsPreparedByEdits made.now private_len }
     requires edits { AreEdits (source_before_edits made.now) (made_of made.now) charstrings.old
-            entries }
+        entries }
     ensures same { AreSameCharstrings charstrings.old charstrings.new }
     ensures judged { Gives (λ _. tt) result (file_check (made_of made.now)) }
     ensures ready { IfOk result (IsReadyLines (made_of made.now) charstrings.new) }

@@ -96,7 +96,7 @@ fn misses_faulty(runs: &GlyphRuns, failure: &Failure) -> bool
 /// the words of a Subr have a fault is not.
 fn told_failure(alloc: Global, runs: &GlyphRuns, name: &[u8]) -> Result<Option<Failure>, AllocError>
     ensures { IfOk result
-            (λ failure. option_map failure_seen failure ≡ failures_of runs.now name.now) }
+        (λ failure. option_map failure_seen failure ≡ failures_of runs.now name.now) }
 {
     let Some(failure) = failure_at(alloc, runs, name)? else {
         return Ok(None);

@@ -26,7 +26,7 @@ fn in_entry<'a>(
     fault: &RunFault,
 ) -> Result<FoundFault<'a>, AllocError>
     ensures { IfOk result
-            (λ found. found ≡ in_entry (entry_in_text entry.now) placed.now fault.now) }
+        (λ found. found ≡ in_entry (entry_in_text entry.now) placed.now fault.now) }
 {
     let found = match placed.get(fault.word) {
         None => at_entry(alloc, entry, fault.code)?,
@@ -109,11 +109,11 @@ fn push_subr_faults<'a>(
     subr: u16,
 ) -> Result<(), AllocError>
     ensures { OnOk result
-            (found.new.items
-            ≡ found.old.items
-            ++ map (in_entry (entry_in_text entry.now) placed.now)
-                (flat_map (faults_kept_at in_subrs.now.entries subr)
-                    (range_with_len 0 (length placed.now)))) }
+        (found.new.items
+        ≡ found.old.items
+        ++ map (in_entry (entry_in_text entry.now) placed.now)
+        (flat_map (faults_kept_at in_subrs.now.entries subr)
+        (range_with_len 0 (length placed.now)))) }
 {
     for word in 0..placed.len() {
         push_faults_in(alloc, found, entry, placed, met_at(in_subrs, subr, word))?;

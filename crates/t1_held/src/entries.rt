@@ -24,9 +24,9 @@ fn put_fresh(
     change: &EntryChange,
 ) -> Result<(), AllocError>
     ensures { OnOk result
-            ((k : Key)
-            → charstring_at fresh.new k
-            ≡ option_or (fresh_one lead change.now k) (charstring_at fresh.old k)) }
+        ((k : Key)
+        → charstring_at fresh.new k
+        ≡ option_or (fresh_one lead change.now k) (charstring_at fresh.old k)) }
 {
     let Some(body) = &change.body else {
         return Ok(());
@@ -44,7 +44,7 @@ fn fresh_charstrings(
     changes: &[EntryChange],
 ) -> Result<Charstrings, AllocError>
     ensures { IfOk result
-            (λ fresh. (k : Key) → charstring_at fresh k ≡ fresh_in lead changes.now k) }
+        (λ fresh. (k : Key) → charstring_at fresh k ≡ fresh_in lead changes.now k) }
 {
     let mut fresh = no_charstrings(alloc);
     for change in changes {

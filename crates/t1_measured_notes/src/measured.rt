@@ -79,11 +79,11 @@ fn push_sound(
     lines: &[Line],
 ) -> Result<(), AllocError>
     ensures { OnOk result
-            (notes.new.items
-            ≡ notes.old.items
-            ++ (font_notes font.now.font_box (is_entered font.now.metrics)
-                (before (is_line_of_section Glyphs) lines.now)
-            ++ wide_notes (is_wide font.now.metrics) lines.now)) }
+        (notes.new.items
+        ≡ notes.old.items
+        ++ (font_notes font.now.font_box (is_entered font.now.metrics)
+        (before (is_line_of_section Glyphs) lines.now)
+        ++ wide_notes (is_wide font.now.metrics) lines.now)) }
 {
     let front = lines.split_at(section_place(Section::Glyphs, lines)).0;
     push_measured(alloc, notes, font, front)?;

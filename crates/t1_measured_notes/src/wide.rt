@@ -63,7 +63,7 @@ pub(crate) fn wide_names<'g>(
     glyphs: &'g [GlyphMetrics],
 ) -> Result<IndexSet<&'g [u8]>, AllocError>
     ensures { IfOk result
-            (λ names. (name : List ℕ) → is_among_names names.keys name ≡ is_wide glyphs.now name) }
+        (λ names. (name : List ℕ) → is_among_names names.keys name ≡ is_wide glyphs.now name) }
 {
     let mut names = IndexSet::new(alloc);
     for glyph in glyphs {

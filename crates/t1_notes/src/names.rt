@@ -45,9 +45,9 @@ pub fn glyph_names<'l, 'a>(
     heads: &'l [Line<'a>],
 ) -> Result<IndexSet<&'l [u8]>, AllocError>
     ensures { IfOk result
-            (λ names.
-                (glyph : List ℕ)
-                → is_among_names names.keys glyph ≡ has_line_of_glyph heads.now glyph) }
+        (λ names.
+        (glyph : List ℕ)
+        → is_among_names names.keys glyph ≡ has_line_of_glyph heads.now glyph) }
 {
     let mut names = IndexSet::new(alloc);
     for line in heads {

@@ -114,8 +114,8 @@ fn push_section_words(
     lines: &[Line],
 ) -> Result<(), AllocError>
     ensures { OnOk result
-            (notes.new.items
-            ≡ notes.old.items ++ body_notes (lines_past (is_line_of_section section) lines.now)) }
+        (notes.new.items
+        ≡ notes.old.items ++ body_notes (lines_past (is_line_of_section section) lines.now)) }
 {
     push_bodies(notes, past(lines, section_place(section, lines)))
 }

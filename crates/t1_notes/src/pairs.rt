@@ -32,8 +32,8 @@ fn push_name(
 ) -> Result<(), AllocError>
     requires { place < 2 ^ 63 }
     ensures { OnOk result
-            (notes.new.items
-            ≡ notes.old.items ++ name_note (is_among_names names.now.keys) line (place, name.now)) }
+        (notes.new.items
+        ≡ notes.old.items ++ name_note (is_among_names names.now.keys) line (place, name.now)) }
 {
     let note = Note {
         kind: NoteKind::NoSuchGlyph,
@@ -51,9 +51,9 @@ fn push_pair(
     line: &[u8],
 ) -> Result<(), AllocError>
     ensures { OnOk result
-            (notes.new.items
-            ≡ notes.old.items
-            ++ kpx_notes (is_among_names names.now.keys) number (places_from 0 line.now)) }
+        (notes.new.items
+        ≡ notes.old.items
+        ++ kpx_notes (is_among_names names.now.keys) number (places_from 0 line.now)) }
 {
     let Some((at, kpx, after)) = next_place(0, line) else {
         return Ok(());
@@ -96,8 +96,8 @@ fn push_lines(
     lines: &[Line],
 ) -> Result<(), AllocError>
     ensures { OnOk result
-            (notes.new.items
-            ≡ notes.old.items ++ lines_notes (has_line_of_glyph heads.now) lines.now) }
+        (notes.new.items
+        ≡ notes.old.items ++ lines_notes (has_line_of_glyph heads.now) lines.now) }
 {
     let names = glyph_names(alloc, heads)?;
     push_pairs(notes, &names, lines)

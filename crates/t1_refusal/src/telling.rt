@@ -99,7 +99,7 @@ fn push_lines<B: StoredBodies>(
 ) -> Result<(), AllocError>
     requires { AreBodiesOf (font (B.subrs bodies.now) (B.glyphs bodies.now)) items.now }
     ensures { OnOk result
-            (text.new.items ≡ text.old.items ++ refused_fault_lines items.now fault.now) }
+        (text.new.items ≡ text.old.items ++ refused_fault_lines items.now fault.now) }
 {
     push_fault(text, fault)?;
     if is_of_word(fault.code) {
@@ -117,7 +117,7 @@ fn push_word_lines(
 ) -> Result<(), AllocError>
     requires { HasFaultyBody items.now }
     ensures { OnOk result
-            (text.new.items ≡ text.old.items ++ refused_fault_lines items.now fault.now) }
+        (text.new.items ≡ text.old.items ++ refused_fault_lines items.now fault.now) }
 {
     push_fault(text, fault)?;
     if is_of_word(fault.code) {
